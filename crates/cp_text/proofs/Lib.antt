@@ -1,0 +1,9 @@
+pub mod FoundLaws
+pub mod LexemeLaws
+pub mod NextLaws
+pub mod Numbers
+pub mod PieceLaws
+pub mod ReadingLaws
+pub mod Runs
+pub mod ScanSteps
+pub mod StandsLaws

@@ -1,0 +1,9 @@
+pub mod Bytes
+pub mod Faults
+pub mod Kinds
+pub mod Lexemes
+pub mod Lines
+pub mod Pieces
+pub mod Reading
+pub mod Scanning
+pub mod Words

@@ -1,0 +1,176 @@
+-- The reading of a text: its tokens, or its first fault. A text is a list of bytes.
+use Rattle.std.specs.Prelude.{◌≡◌, ◌≢◌, ℕ, ◌+◌, ◌<◌, ◌≤◌, Bool, true, false, List, [], ◌∷◌, ◌++◌, length, codes, Contains, Ok, Err, ⊤}
+use Rattle.std.specs.List.{AllPass}
+use Rattle.cp_text.specs.declared.fault.ScanCause.{ScanCause}
+use Rattle.cp_text.specs.declared.fault.ScanCause.TheVariants.{TooLong, BadByte, OpenComment, OpenChar, BadChar, NumberTooLarge, NameTooLong, TooManyTokens}
+use Rattle.cp_text.specs.declared.fault.ScanFault.{ScanFault}
+use Rattle.cp_text.specs.declared.piece.Shape.{Shape}
+use Rattle.cp_text.specs.declared.piece.Shape.TheVariants as shape
+use Rattle.cp_text.specs.declared.token.Kind.{Kind}
+use Rattle.cp_text.specs.declared.token.Kind.TheVariants as kind
+use Rattle.cp_text.specs.declared.token.Mark.{Mark}
+use Rattle.cp_text.specs.declared.token.Mark.TheVariants as mark
+use Rattle.cp_text.specs.declared.token.Token.{Token}
+use Rattle.cp_text.specs.Bytes.{is_separator, is_digit, is_letter, is_word_byte, is_in_comment, is_in_character, is_printable}
+use Rattle.cp_text.specs.Faults.{fault_at}
+use Rattle.cp_text.specs.Lexemes.{number_of, word_kind, is_lexeme}
+use Rattle.cp_text.specs.Scanning.{Outcome, line_feeds}
+
+-- ---- shapes
+
+abbrev pub signs : List (List ℕ × Mark)
+signs =
+    (codes "+", mark.Plus)
+    ∷ (codes "-", mark.Minus)
+    ∷ (codes "*", mark.Times)
+    ∷ (codes "=", mark.Equal)
+    ∷ (codes "<>", mark.NotEqual)
+    ∷ (codes "<", mark.Less)
+    ∷ (codes ">", mark.Greater)
+    ∷ (codes "<=", mark.AtMost)
+    ∷ (codes ">=", mark.AtLeast)
+    ∷ (codes ":=", mark.Becomes)
+    ∷ (codes "(", mark.OpenParenthesis)
+    ∷ (codes ")", mark.CloseParenthesis)
+    ∷ (codes "[", mark.OpenBracket)
+    ∷ (codes "(.", mark.OpenBracket)
+    ∷ (codes "]", mark.CloseBracket)
+    ∷ (codes ".)", mark.CloseBracket)
+    ∷ (codes ",", mark.Comma)
+    ∷ (codes ";", mark.Semicolon)
+    ∷ (codes ":", mark.Colon)
+    ∷ (codes ".", mark.Period)
+    ∷ (codes "..", mark.DoublePeriod)
+    ∷ (codes "&", mark.And)
+    ∷ []
+
+-- one separator
+pub record IsSeparator (piece : List ℕ) : Type 0 where
+  pub byte : ℕ
+  pub is : piece ≡ byte ∷ []
+  pub separates : is_separator byte ≡ true
+
+-- a text of such bytes between two quotes
+pub record IsQuoted (quote : ℕ) (passes : ℕ → Bool) (piece : List ℕ) : Type 0 where
+  pub text : List ℕ
+  pub is : piece ≡ quote ∷ (text ++ quote ∷ [])
+  pub inside : AllPass passes text
+
+-- a letter, and then letters, digits and `_`
+pub record IsWord (piece : List ℕ) : Type 0 where
+  pub first : ℕ
+  pub more : List ℕ
+  pub is : piece ≡ first ∷ more
+  pub letter : is_letter first ≡ true
+  pub word : AllPass is_word_byte more
+
+-- a piece has this shape, whatever its value, its length or the text between its quotes
+abbrev pub Has : Shape → List ℕ → Type 0
+Has shape.Separator piece = IsSeparator piece
+Has shape.Comment piece = IsQuoted 34 is_in_comment piece
+Has shape.Number piece = (0 < length piece) × AllPass is_digit piece
+Has shape.Name piece = IsWord piece
+Has shape.Character piece = IsQuoted 39 is_in_character piece
+Has (shape.Sign m) piece = Contains signs (piece, m)
+
+-- ---- pieces
+
+-- The piece stands at the front of itself and the rest: no longer piece could stand there.
+pub record Stands (s : Shape) (piece rest : List ℕ) : Type 0 where
+  pub shaped : Has s piece
+  pub longest : (other : Shape) (longer more : List ℕ) → Has other longer → longer ++ more ≡ piece ++ rest → length longer ≤ length piece
+
+-- no piece stands at the front of the text
+abbrev pub NoneStands : List ℕ → Type 0
+NoneStands text = (s : Shape) (piece rest : List ℕ) → Has s piece → piece ++ rest ≢ text
+
+pub record Part : Type 0 where
+  pub shape : Shape
+  pub text : List ℕ
+
+-- the bytes of the parts before a rest
+abbrev pub joined : List Part → List ℕ → List ℕ
+joined [] rest = rest
+joined (p ∷ ps) rest = p.text ++ joined ps rest
+
+-- the parts are the pieces that a text is cut into, from the left up to the rest
+abbrev pub AreCut : List Part → List ℕ → Type 0
+AreCut [] rest = ⊤
+AreCut (p ∷ ps) rest = Stands p.shape p.text (joined ps rest) × AreCut ps rest
+
+-- ---- tokens
+
+-- the text between a character's quotes stands for the character of this code
+pub data IsCode (text : List ℕ) (code : ℕ) : Type 0 where
+  printable : text ≡ code ∷ [] → is_printable code ≡ true → IsCode text code
+  numbered : (digits : List ℕ) → text ≡ codes "(:" ++ digits ++ codes ":)" → 0 < length digits → AllPass is_digit digits → number_of digits ≡ code → code ≤ 127 → IsCode text code
+
+pub record IsCharacter (piece : List ℕ) (k : Kind) : Type 0 where
+  pub text : List ℕ
+  pub is : piece ≡ 39 ∷ (text ++ 39 ∷ [])
+  pub code : ℕ
+  pub stands_for : IsCode text code
+  pub kind : k ≡ kind.Character code
+
+pub record IsNoCharacter (piece : List ℕ) : Type 0 where
+  pub text : List ℕ
+  pub is : piece ≡ 39 ∷ (text ++ 39 ∷ [])
+  pub none : (code : ℕ) → IsCode text code → ⊥
+
+-- a piece of this shape is a lexeme of this kind
+abbrev pub IsLexeme : Shape → List ℕ → Kind → Type 0
+IsLexeme shape.Separator piece k = ⊥
+IsLexeme shape.Comment piece k = ⊥
+IsLexeme shape.Number piece k = (number_of piece ≤ 32767) × (k ≡ kind.Number (number_of piece))
+IsLexeme shape.Name piece k = (length piece ≤ 40) × (k ≡ word_kind piece)
+IsLexeme shape.Character piece k = IsCharacter piece k
+IsLexeme (shape.Sign m) piece k = k ≡ kind.Mark m
+
+-- a piece of this shape breaks the rule on its value, its length or its text
+abbrev pub Breaks : Shape → List ℕ → ScanCause → Type 0
+Breaks shape.Number piece cause = (32767 < number_of piece) × (cause ≡ NumberTooLarge)
+Breaks shape.Name piece cause = (40 < length piece) × (cause ≡ NameTooLong)
+Breaks shape.Character piece cause = IsNoCharacter piece × (cause ≡ BadChar)
+Breaks _ piece cause = ⊥
+
+-- These are the tokens of the parts, the first of which begins on this line: the lexemes.
+pub data AreTokens : ℕ → List Part → List Token → Type 0 where
+  no_more : {line : ℕ} → AreTokens line [] []
+  blank : {line : ℕ} {p : Part} {ps : List Part} {ts : List Token} → is_lexeme p.shape ≡ false
+      → AreTokens (line + line_feeds p.text) ps ts → AreTokens line (p ∷ ps) ts
+  lexeme : {line : ℕ} {p : Part} {t : Token} {ps : List Part} {ts : List Token} → IsLexeme p.shape p.text t.kind → t.line ≡ line
+      → AreTokens (line + line_feeds p.text) ps ts → AreTokens line (p ∷ ps) (t ∷ ts)
+
+-- ---- faults
+
+-- The fault at a place before which `count` tokens stand. A bad byte and a comment begin no token.
+pub data FaultAt (count : ℕ) (text : List ℕ) (cause : ScanCause) : Type 0 where
+  bad_byte : (b : ℕ) (more : List ℕ) → text ≡ b ∷ more → NoneStands text → b ≢ 34 → b ≢ 39 → cause ≡ BadByte → FaultAt count text cause
+  open_comment : (more : List ℕ) → text ≡ 34 ∷ more → NoneStands text → cause ≡ OpenComment → FaultAt count text cause
+  open_char : (more : List ℕ) → text ≡ 39 ∷ more → NoneStands text → count < 20000 → cause ≡ OpenChar → FaultAt count text cause
+  open_too_many : (more : List ℕ) → text ≡ 39 ∷ more → NoneStands text → 20000 ≤ count → cause ≡ TooManyTokens → FaultAt count text cause
+  breaks : (s : Shape) (piece rest : List ℕ) → text ≡ piece ++ rest → Stands s piece rest → count < 20000 → Breaks s piece cause → FaultAt count text cause
+  too_many : (s : Shape) (piece rest : List ℕ) → text ≡ piece ++ rest → Stands s piece rest → is_lexeme s ≡ true → 20000 ≤ count → cause ≡ TooManyTokens → FaultAt count text cause
+
+-- ---- texts
+
+-- the text is cut into the parts up to the rest, and these are their tokens, of which there are not too many
+pub record ReadsUpTo (text : List ℕ) (parts : List Part) (ts : List Token) (rest : List ℕ) : Type 0 where
+  pub whole : text ≡ joined parts rest
+  pub cut : AreCut parts rest
+  pub tokens : AreTokens 1 parts ts
+  pub few : length ts ≤ 20000
+
+pub record HasTokens (text : List ℕ) (ts : List Token) : Type 0 where
+  pub short : length text ≤ 65535
+  pub parts : List Part
+  pub reads : ReadsUpTo text parts ts []
+
+pub data HasFault (text : List ℕ) (f : ScanFault) : Type 0 where
+  too_long : 65535 < length text → f ≡ fault_at 0 TooLong → HasFault text f
+  faulty : (parts : List Part) (ts : List Token) (rest : List ℕ) (cause : ScanCause) → length text ≤ 65535 → ReadsUpTo text parts ts rest → FaultAt (length ts) rest cause
+      → f ≡ fault_at (1 + line_feeds (joined parts [])) cause → HasFault text f
+
+abbrev pub Reading : List ℕ → Outcome → Type 0
+Reading text (Ok ts) = HasTokens text ts
+Reading text (Err f) = HasFault text f

@@ -1,0 +1,46 @@
+-- Scanning from left to right, piece by piece.
+use Rattle.std.specs.Prelude.{◌≡◌, ◌≢◌, ℕ, zero, suc, ◌+◌, ◌-◌, ◌==◌, nat_lt, if◌then◌else◌, List, [], ◌∷◌, ◌++◌, length, count_by, Option, Some, None, Result, Ok, Err}
+use Rattle.cp_text.specs.declared.fault.ScanCause.{ScanCause}
+use Rattle.cp_text.specs.declared.fault.ScanCause.TheVariants.{TooLong, Memory}
+use Rattle.cp_text.specs.declared.fault.ScanFault.{ScanFault}
+use Rattle.cp_text.specs.declared.token.Kind.{Kind}
+use Rattle.cp_text.specs.declared.token.Token.{Token}
+use Rattle.cp_text.specs.Faults.{fault_at}
+use Rattle.cp_text.specs.Lexemes.{next}
+
+abbrev pub Outcome : Type 0
+Outcome = Result (List Token) ScanFault
+
+abbrev pub line_feeds : List ℕ → ℕ
+line_feeds text = count_by (λ b. b == 10) text
+
+abbrev pub fault : ℕ → ScanCause → ScanFault
+fault line Memory = fault_at 0 Memory
+fault line cause = fault_at line cause
+
+abbrev pub added : List Token → Option Kind → ℕ → List Token
+added found None line = found
+added found (Some k) line = found ++ record { kind = k; line = line } ∷ []
+
+abbrev pub after_line : ℕ → ℕ → ℕ
+after_line b line = if b == 10 then line + 1 else line
+
+-- on behind the piece at the front, by `go` on the bytes that are left of it and the tokens found
+abbrev pub go_on : ℕ → List Token → (ℕ → List Token → Outcome) → Result (Option Kind × ℕ) ScanCause → Outcome
+go_on line found go (Ok p) = go (p.1 - 1) (added found p.0 line)
+go_on line found go (Err e) = Err (fault_at line e)
+
+-- What a text reads to behind the tokens found. The first number counts the bytes that are left of a piece.
+unfoldable pub scan_from : ℕ → ℕ → List Token → List ℕ → Outcome
+scan_from left line found [] = Ok found
+scan_from (suc left) line found (b ∷ text) = scan_from left (after_line b line) found text
+scan_from zero line found (b ∷ text) = go_on line found (λ left ts. scan_from left (after_line b line) ts text) (next (length found) (b ∷ text))
+
+-- the tokens of a text, or its first fault
+unfoldable pub scan : List ℕ → Outcome
+scan text = if nat_lt 65535 (length text) then Err (fault_at 0 TooLong) else scan_from 0 1 [] text
+
+-- what the scanner ensures: this outcome, unless memory is refused
+abbrev pub Scans : Outcome → Outcome → Type 0
+Scans outcome (Ok ts) = outcome ≡ Ok ts
+Scans outcome (Err f) = f ≢ fault_at 0 Memory → outcome ≡ Err f

@@ -1,0 +1,86 @@
+//! From a text to its tokens.
+
+ghost use Rattle.std.specs.Prelude.{◌≡◌, ◌<◌, ◌≤◌, ◌^◌, ◌≢◌, [], length, OnOk, IfErr};
+ghost use Rattle.cp_text.specs.Reading.{Reading};
+ghost use Rattle.cp_text.specs.Faults.{fault_at};
+ghost use Rattle.cp_text.specs.Scanning as spec;
+ghost use Rattle.cp_text.specs.Scanning.{Outcome, Scans};
+
+use crate::fault::{ScanCause, ScanFault};
+use crate::lexeme::next;
+use crate::token::{Kind, Token, Tokens};
+use std::alloc::Global;
+
+const LONGEST_TEXT: usize = 65535;
+
+/// The tokens of a text, or its first fault.
+///
+/// # Errors
+/// The causes of [`ScanCause`]. `TooLong` is looked at first.
+pub fn scan(alloc: Global, source: &[u8]) -> Result<Tokens, ScanFault>
+    ensures reads { result ≢ Err (fault_at 0 ScanCause.Memory) → Reading source.now result }
+    ensures only { (other : Outcome) → Reading source.now other → result ≢ Err (fault_at 0 ScanCause.Memory) → result ≡ other }
+{
+    if source.len() > LONGEST_TEXT {
+        return Err(ScanFault {
+            line: 0,
+            cause: ScanCause::TooLong,
+        });
+    }
+    pieces(alloc, source)
+}
+
+/// Reads piece by piece.
+fn pieces(alloc: Global, source: &[u8]) -> Result<Tokens, ScanFault>
+    requires { length source.now ≤ 65535 }
+    ensures { Scans (spec.scan_from 0 1 [] source.now) result }
+{
+    let mut items = Vec::new(alloc);
+    let mut line = 1;
+    let mut rest = source;
+    while !rest.is_empty() {
+        let (kind, len) = match next(alloc, items.len(), rest) {
+            Ok(found) => found,
+            Err(cause) => return Err(fault(line, cause)),
+        };
+        add(&mut items, kind, line)?;
+        let (front, after) = rest.split_at(len);
+        line += line_feeds(front);
+        rest = after;
+    }
+    Ok(Tokens::new(items))
+}
+
+/// Adds the token of this kind, if there is one.
+fn add(items: &mut Vec<Token>, kind: Option<Kind>, line: u32) -> Result<(), ScanFault>
+    ensures ok { OnOk result (items.new.items ≡ spec.added items.old.items kind line) }
+    ensures err { IfErr result (λ e. e ≡ fault_at 0 ScanCause.Memory) }
+{
+    if let Some(kind) = kind {
+        items.push(Token { kind, line })?;
+    }
+    Ok(())
+}
+
+fn fault(line: u32, cause: ScanCause) -> ScanFault
+    ensures { result ≡ spec.fault line cause }
+{
+    match cause {
+        ScanCause::Memory => ScanFault { line: 0, cause },
+        _ => ScanFault { line, cause },
+    }
+}
+
+fn line_feeds(text: &[u8]) -> u32
+    requires { length text.now < 2 ^ 16 }
+    ensures value { result ≡ spec.line_feeds text.now }
+    ensures within { result ≤ length text.now }
+{
+    let mut count = 0;
+    for b in text {
+        if *b == b'\n' {
+            count += 1;
+        }
+    }
+    count
+}

@@ -1,0 +1,4 @@
+pub mod LineLaws
+pub mod Places
+pub mod Turns
+pub mod Views

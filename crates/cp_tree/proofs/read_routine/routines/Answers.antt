@@ -1,0 +1,37 @@
+use Rattle.std.proofs.Common.{rules, arith, ◌≡◌, ◌-◌, [], ◌∷◌, option_map}
+use Rattle.std.proofs.lemmas.Grind.{common_steps}
+use Rattle.cp_text.specs.declared.token.Mark.TheVariants as mark
+use Rattle.cp_tree.specs.Reading.{many_from, many_after, behind, separated, ended_from, ended_after, ended_list, where_named, identifier, identifiers, constant}
+use Rattle.cp_tree.proofs.Turns as turns
+use Rattle.std.proofs.Common.{map}
+use Rattle.cp_tree.specs.ReadingDeclarations.{one_or_more, constant_item, type_item, variable_item, part_item, parts, group_item, parameter_item, routine_item, routines, system_item, program_part_item}
+use Rattle.cp_tree.specs.View.{constant_definition_view, type_definition_view, variable_group_view, part_view, group_view, parameter_group_view, routine_view, system_definition_view, program_part_view}
+use Rattle.cp_tree.proofs.read_routine.routines.Goals as goal
+
+pub loop-turn-init : goal.loop-turn-init
+unfolding many_after
+loop-turn-init c = first_of (search rules, grind (arith, common_steps))
+
+pub returns-in_err-routine : goal.returns-in_err-routine
+unfolding routines many_from
+returns-in_err-routine c =
+    let e = turns.one_more (λ n. many_from routine_item n (map routine_view c.loop-turn.found.items) c.loop-turn.cursor) _ c.loop-turn._turn c.loop-turn-test.true c.loop-turn.invariant in
+    first_of (search rules, grind (arith, common_steps))
+
+pub returns-in-None : goal.returns-in-None
+unfolding routines many_from
+returns-in-None c =
+    let e = turns.one_more (λ n. many_from routine_item n (map routine_view c.loop-turn.found.items) c.loop-turn.cursor) _ c.loop-turn._turn c.loop-turn-test.true c.loop-turn.invariant in
+    first_of (search rules, grind (arith, common_steps))
+
+pub loop-turn-preserved : goal.loop-turn-preserved
+unfolding routines many_from
+loop-turn-preserved c =
+    let e = turns.one_more (λ n. many_from routine_item n (map routine_view c.loop-turn.found.items) c.loop-turn.cursor) _ c.loop-turn._turn c.loop-turn-test.true c.loop-turn.invariant in
+    first_of (search rules, grind (arith, common_steps))
+
+pub returns : goal.returns
+unfolding routines many_from
+returns c =
+    let e = turns.no_more (λ n. many_from routine_item n (map routine_view c.loop-turn.found.items) c.loop-turn.cursor) _ c.loop-turn._turn c.loop-turn-test.false c.loop-turn.invariant in
+    first_of (search rules, grind (arith, common_steps))

@@ -1,0 +1,11 @@
+pub mod Answer
+pub mod Input
+pub mod Place
+pub mod Reading
+pub mod ReadingDeclarations
+pub mod ReadingExpressions
+pub mod ReadingStatements
+pub mod ReadingTypes
+pub mod Syntax
+pub mod TreeView
+pub mod View

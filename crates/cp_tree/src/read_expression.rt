@@ -1,0 +1,364 @@
+//! Reading expressions. A budget is how many more levels are allowed below.
+
+ghost use Rattle.std.specs.Prelude.{◌≡◌, Ok, option_map};
+ghost use Rattle.cp_tree.specs.Input.{Reads};
+ghost use Rattle.cp_tree.specs.Reading as lists;
+ghost use Rattle.cp_tree.specs.ReadingExpressions as spec;
+ghost use Rattle.cp_tree.specs.View.{expression_view, sum_view, term_view, factor_view, designator_view, selector_view, expressions_view, selectors_view, factors_view, terms_view};
+
+use crate::cursor::Cursor;
+use crate::expression::{
+    Addition, Designator, Expression, Factor, FactorKind, Multiplication, Relation, Selector, Sum,
+    Term,
+};
+use crate::fault::ParseFault;
+use crate::read_constant::{identifier, sign};
+use cp_text::token::{Kind, Mark};
+use std::alloc::Global;
+
+fn relation_of(mark: Option<Mark>) -> Option<Relation>
+    ensures { result ≡ spec.relation_of mark }
+{
+    match mark {
+        Some(Mark::Equal) => Some(Relation::Equal),
+        Some(Mark::NotEqual) => Some(Relation::NotEqual),
+        Some(Mark::Less) => Some(Relation::Less),
+        Some(Mark::Greater) => Some(Relation::Greater),
+        Some(Mark::AtMost) => Some(Relation::AtMost),
+        Some(Mark::AtLeast) => Some(Relation::AtLeast),
+        Some(Mark::In) => Some(Relation::In),
+        _ => None,
+    }
+}
+
+fn addition_of(mark: Option<Mark>) -> Option<Addition>
+    ensures { result ≡ spec.addition_of mark }
+{
+    match mark {
+        Some(Mark::Plus) => Some(Addition::Plus),
+        Some(Mark::Minus) => Some(Addition::Minus),
+        Some(Mark::Or) => Some(Addition::Or),
+        _ => None,
+    }
+}
+
+fn multiplication_of(mark: Option<Mark>) -> Option<Multiplication>
+    ensures { result ≡ spec.multiplication_of mark }
+{
+    match mark {
+        Some(Mark::Times) => Some(Multiplication::Times),
+        Some(Mark::Div) => Some(Multiplication::Div),
+        Some(Mark::Mod) => Some(Multiplication::Mod),
+        Some(Mark::And) => Some(Multiplication::And),
+        _ => None,
+    }
+}
+
+#[tactic(auto, unfolding(crate::specs::ReadingExpressions::relation))]
+fn relation(cursor: &mut Cursor<'_>) -> Option<Relation>
+    ensures { spec.relation cursor.old ≡ Ok (result, cursor.new) }
+{
+    let found = relation_of(cursor.mark());
+    if found.is_some() {
+        cursor.advance();
+    }
+    found
+}
+
+#[tactic(auto, unfolding(crate::specs::ReadingExpressions::addition))]
+fn addition(cursor: &mut Cursor<'_>) -> Option<Addition>
+    ensures { spec.addition cursor.old ≡ Ok (result, cursor.new) }
+{
+    let found = addition_of(cursor.mark());
+    if found.is_some() {
+        cursor.advance();
+    }
+    found
+}
+
+#[tactic(auto, unfolding(crate::specs::ReadingExpressions::multiplication))]
+fn multiplication(cursor: &mut Cursor<'_>) -> Option<Multiplication>
+    ensures { spec.multiplication cursor.old ≡ Ok (result, cursor.new) }
+{
+    let found = multiplication_of(cursor.mark());
+    if found.is_some() {
+        cursor.advance();
+    }
+    found
+}
+
+/// An expression of at most `budget` levels.
+#[cycle(expression)]
+#[tactic(auto, unfolding(crate::specs::ReadingExpressions::expression, crate::specs::ReadingExpressions::factor_at))]
+pub fn expression(
+    alloc: Global,
+    cursor: &mut Cursor<'_>,
+    budget: usize,
+) -> Result<Expression, ParseFault>
+    ensures { Reads expression_view (spec.expression budget cursor.old) result cursor.new }
+{
+    if budget == 0 {
+        return Err(ParseFault::TooDeep(cursor.at()));
+    }
+    related(alloc, cursor, budget - 1)
+}
+
+// An expression whose inner ones have at most `budget` levels.
+#[cycle(expression)]
+#[tactic(auto, unfolding(crate::specs::ReadingExpressions::expression_with, crate::specs::ReadingExpressions::sum_at))]
+fn related(
+    alloc: Global,
+    cursor: &mut Cursor<'_>,
+    budget: usize,
+) -> Result<Expression, ParseFault>
+    ensures { Reads expression_view (spec.expression_with (spec.factor_at budget) cursor.old) result cursor.new }
+{
+    let at = cursor.at();
+    let left = sum(alloc, cursor, budget)?;
+    match relation(cursor) {
+        Some(relation) => {
+            let right = sum(alloc, cursor, budget)?;
+            Ok(Expression {
+                at,
+                left,
+                right: Some((relation, right)),
+            })
+        }
+        None => Ok(Expression {
+            at,
+            left,
+            right: None,
+        }),
+    }
+}
+
+#[cycle(expression)]
+#[tactic(auto, unfolding(crate::specs::ReadingExpressions::sum_at, crate::specs::ReadingExpressions::term_at, crate::specs::ReadingExpressions::sum_with))]
+fn sum(alloc: Global, cursor: &mut Cursor<'_>, budget: usize) -> Result<Sum, ParseFault>
+    ensures { Reads sum_view (spec.sum_at budget cursor.old) result cursor.new }
+{
+    let at = cursor.at();
+    let sign = sign(cursor);
+    let first = term(alloc, cursor, budget)?;
+    let more = added_terms(alloc, cursor, budget)?;
+    Ok(Sum {
+        at,
+        sign,
+        first,
+        more,
+    })
+}
+
+#[cycle(expression)]
+#[tactic(auto, unfolding(crate::specs::ReadingExpressions::term_at, crate::specs::ReadingExpressions::next_term))]
+fn added_terms(
+    alloc: Global,
+    cursor: &mut Cursor<'_>,
+    budget: usize,
+) -> Result<Vec<(Addition, Term)>, ParseFault>
+    ensures { Reads (λ v. terms_view v.items) (lists.many (spec.next_term (spec.factor_at budget)) cursor.old) result cursor.new }
+{
+    let mut found = Vec::new(alloc);
+    for _turn in 0..cursor.left() {
+        match addition(cursor) {
+            Some(operator) => found.push((operator, term(alloc, cursor, budget)?))?,
+            None => return Ok(found),
+        }
+    }
+    Ok(found)
+}
+
+#[cycle(expression)]
+#[tactic(auto, unfolding(crate::specs::ReadingExpressions::term_at, crate::specs::ReadingExpressions::term_with))]
+fn term(alloc: Global, cursor: &mut Cursor<'_>, budget: usize) -> Result<Term, ParseFault>
+    ensures { Reads term_view (spec.term_at budget cursor.old) result cursor.new }
+{
+    let at = cursor.at();
+    let first = factor(alloc, cursor, budget)?;
+    let more = multiplied_factors(alloc, cursor, budget)?;
+    Ok(Term { at, first, more })
+}
+
+#[cycle(expression)]
+#[tactic(auto, unfolding(crate::specs::ReadingExpressions::next_factor))]
+fn multiplied_factors(
+    alloc: Global,
+    cursor: &mut Cursor<'_>,
+    budget: usize,
+) -> Result<Vec<(Multiplication, Factor)>, ParseFault>
+    ensures { Reads (λ v. factors_view v.items) (lists.many (spec.next_factor (spec.factor_at budget)) cursor.old) result cursor.new }
+{
+    let mut found = Vec::new(alloc);
+    for _turn in 0..cursor.left() {
+        match multiplication(cursor) {
+            Some(operator) => found.push((operator, factor(alloc, cursor, budget)?))?,
+            None => return Ok(found),
+        }
+    }
+    Ok(found)
+}
+
+#[cycle(expression)]
+#[tactic(auto, unfolding(crate::specs::ReadingExpressions::factor_at, crate::specs::ReadingExpressions::factor_with, crate::specs::ReadingExpressions::designator_at, crate::specs::ReadingExpressions::arguments_at, crate::specs::ReadingExpressions::elements_at))]
+fn factor(alloc: Global, cursor: &mut Cursor<'_>, budget: usize) -> Result<Factor, ParseFault>
+    ensures { Reads factor_view (spec.factor_at budget cursor.old) result cursor.new }
+{
+    let at = cursor.at();
+    let kind = match cursor.peek() {
+        Some(Kind::Number(value)) => {
+            cursor.advance();
+            FactorKind::Number(*value)
+        }
+        Some(Kind::Character(code)) => {
+            cursor.advance();
+            FactorKind::Character(*code)
+        }
+        Some(Kind::Name(_)) => {
+            let designator = designator(alloc, cursor, budget)?;
+            FactorKind::Named(designator, arguments(alloc, cursor, budget)?)
+        }
+        Some(Kind::Mark(Mark::OpenParenthesis)) => {
+            cursor.advance();
+            let inner = expression(alloc, cursor, budget)?;
+            cursor.expect(Mark::CloseParenthesis)?;
+            FactorKind::Group(Box::new(alloc, inner)?)
+        }
+        Some(Kind::Mark(Mark::OpenBracket)) => {
+            cursor.advance();
+            FactorKind::Set(elements(alloc, cursor, budget)?)
+        }
+        Some(Kind::Mark(Mark::Not)) => {
+            cursor.advance();
+            let inner = deeper(alloc, cursor, budget)?;
+            FactorKind::Not(Box::new(alloc, inner)?)
+        }
+        _ => return Err(cursor.unexpected()),
+    };
+    Ok(Factor { at, kind })
+}
+
+// A factor behind `not`.
+#[cycle(expression)]
+#[tactic(auto, unfolding(crate::specs::ReadingExpressions::deeper, crate::specs::ReadingExpressions::factor_at))]
+fn deeper(alloc: Global, cursor: &mut Cursor<'_>, budget: usize) -> Result<Factor, ParseFault>
+    ensures { Reads factor_view (spec.deeper budget cursor.old) result cursor.new }
+{
+    if budget == 0 {
+        return Err(ParseFault::TooDeep(cursor.at()));
+    }
+    factor(alloc, cursor, budget - 1)
+}
+
+// The elements of a set constructor, behind its bracket.
+#[cycle(expression)]
+#[tactic(auto, unfolding(crate::specs::ReadingExpressions::elements_at, crate::specs::ReadingExpressions::elements_with, crate::specs::ReadingExpressions::expressions_at))]
+fn elements(
+    alloc: Global,
+    cursor: &mut Cursor<'_>,
+    budget: usize,
+) -> Result<Vec<Expression>, ParseFault>
+    ensures { Reads (λ v. expressions_view v.items) (spec.elements_at budget cursor.old) result cursor.new }
+{
+    if cursor.eat(Mark::CloseBracket) {
+        return Ok(Vec::new(alloc));
+    }
+    let found = expressions(alloc, cursor, budget)?;
+    cursor.expect(Mark::CloseBracket)?;
+    Ok(found)
+}
+
+/// The arguments behind a name, or none where no parenthesis opens.
+#[cycle(expression)]
+#[tactic(auto, unfolding(crate::specs::ReadingExpressions::arguments_at, crate::specs::ReadingExpressions::arguments_with, crate::specs::ReadingExpressions::expressions_at))]
+pub fn arguments(
+    alloc: Global,
+    cursor: &mut Cursor<'_>,
+    budget: usize,
+) -> Result<Vec<Expression>, ParseFault>
+    ensures { Reads (λ v. expressions_view v.items) (spec.arguments_at budget cursor.old) result cursor.new }
+{
+    if !cursor.eat(Mark::OpenParenthesis) {
+        return Ok(Vec::new(alloc));
+    }
+    let found = expressions(alloc, cursor, budget)?;
+    cursor.expect(Mark::CloseParenthesis)?;
+    Ok(found)
+}
+
+// Expressions with commas between them.
+#[cycle(expression)]
+#[tactic(auto, unfolding(crate::specs::ReadingExpressions::expressions_at, crate::specs::ReadingExpressions::expressions_with, crate::specs::Reading::separated))]
+fn expressions(
+    alloc: Global,
+    cursor: &mut Cursor<'_>,
+    budget: usize,
+) -> Result<Vec<Expression>, ParseFault>
+    ensures { Reads (λ v. expressions_view v.items) (spec.expressions_at budget cursor.old) result cursor.new }
+{
+    let mut found = Vec::new(alloc);
+    found.push(expression(alloc, cursor, budget)?)?;
+    for _turn in 0..cursor.left() {
+        if !cursor.eat(Mark::Comma) {
+            return Ok(found);
+        }
+        found.push(expression(alloc, cursor, budget)?)?;
+    }
+    Ok(found)
+}
+
+/// A name with its selectors.
+#[cycle(expression)]
+#[tactic(auto, unfolding(crate::specs::ReadingExpressions::designator_at, crate::specs::ReadingExpressions::designator_with))]
+pub fn designator(
+    alloc: Global,
+    cursor: &mut Cursor<'_>,
+    budget: usize,
+) -> Result<Designator, ParseFault>
+    ensures { Reads designator_view (spec.designator_at budget cursor.old) result cursor.new }
+{
+    let name = identifier(alloc, cursor)?;
+    let selectors = selectors(alloc, cursor, budget)?;
+    Ok(Designator { name, selectors })
+}
+
+#[cycle(expression)]
+fn selectors(
+    alloc: Global,
+    cursor: &mut Cursor<'_>,
+    budget: usize,
+) -> Result<Vec<Selector>, ParseFault>
+    ensures { Reads (λ v. selectors_view v.items) (lists.many (spec.selector_with (spec.expression budget)) cursor.old) result cursor.new }
+{
+    let mut found = Vec::new(alloc);
+    for _turn in 0..cursor.left() {
+        match selector(alloc, cursor, budget)? {
+            Some(selector) => found.push(selector)?,
+            None => return Ok(found),
+        }
+    }
+    Ok(found)
+}
+
+#[cycle(expression)]
+#[tactic(auto, unfolding(crate::specs::ReadingExpressions::selector_with))]
+fn selector(
+    alloc: Global,
+    cursor: &mut Cursor<'_>,
+    budget: usize,
+) -> Result<Option<Selector>, ParseFault>
+    ensures { Reads (λ s. option_map selector_view s) (spec.selector_with (spec.expression budget) cursor.old) result cursor.new }
+{
+    match cursor.mark() {
+        Some(Mark::Period) => {
+            cursor.advance();
+            Ok(Some(Selector::Field(identifier(alloc, cursor)?)))
+        }
+        Some(Mark::OpenBracket) => {
+            cursor.advance();
+            let index = expression(alloc, cursor, budget)?;
+            cursor.expect(Mark::CloseBracket)?;
+            Ok(Some(Selector::Index(index)))
+        }
+        _ => Ok(None),
+    }
+}

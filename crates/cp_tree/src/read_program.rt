@@ -1,0 +1,165 @@
+//! Reading system types and programs.
+
+ghost use Rattle.std.specs.Prelude.{◌≡◌, map, option_map};
+ghost use Rattle.cp_tree.specs.Input.{Reads};
+ghost use Rattle.cp_tree.specs.Reading as lists;
+ghost use Rattle.cp_tree.specs.ReadingDeclarations as spec;
+ghost use Rattle.cp_tree.specs.View.{system_view, definition_view, system_definition_view, program_part_view, program_view};
+
+use crate::cursor::Cursor;
+use crate::declaration::{
+    Definition, Program, ProgramPart, ProgramPartKind, System, SystemDefinition, SystemKind,
+};
+use crate::fault::ParseFault;
+use crate::read_constant::identifier;
+use crate::read_part::{constant_definitions, parts, variable_groups, MAX_LEVEL};
+use crate::read_routine::{body, groups, routines};
+use crate::read_type::type_term;
+use cp_text::token::Mark;
+use std::alloc::Global;
+
+#[tactic(auto, unfolding(crate::specs::ReadingDeclarations::system_with))]
+fn system(
+    alloc: Global,
+    cursor: &mut Cursor<'_>,
+    kind: SystemKind,
+    at: usize,
+) -> Result<System, ParseFault>
+    ensures { Reads system_view (spec.system_with kind at cursor.old) result cursor.new }
+{
+    let parameters = groups(alloc, cursor)?;
+    let has_semicolon = cursor.eat(Mark::Semicolon);
+    let parts = parts(alloc, cursor)?;
+    let routines = routines(alloc, cursor)?;
+    let body = body(alloc, cursor)?;
+    Ok(System {
+        at,
+        kind,
+        parameters,
+        has_semicolon,
+        parts,
+        routines,
+        body,
+    })
+}
+
+fn system_kind_of(mark: Option<Mark>) -> Option<SystemKind>
+    ensures { result ≡ spec.system_kind_of mark }
+{
+    match mark {
+        Some(Mark::Class) => Some(SystemKind::Class),
+        Some(Mark::Monitor) => Some(SystemKind::Monitor),
+        Some(Mark::Process) => Some(SystemKind::Process),
+        _ => None,
+    }
+}
+
+// A type or a system type.
+#[tactic(auto, unfolding(crate::specs::ReadingDeclarations::definition))]
+fn definition(alloc: Global, cursor: &mut Cursor<'_>) -> Result<Definition, ParseFault>
+    ensures { Reads definition_view (spec.definition cursor.old) result cursor.new }
+{
+    let at = cursor.at();
+    match system_kind_of(cursor.mark()) {
+        Some(kind) => {
+            cursor.advance();
+            Ok(Definition::System(system(alloc, cursor, kind, at)?))
+        }
+        None => Ok(Definition::Type(type_term(alloc, cursor, MAX_LEVEL)?)),
+    }
+}
+
+#[tactic(auto, unfolding(crate::specs::ReadingDeclarations::system_item))]
+fn system_definition(
+    alloc: Global,
+    cursor: &mut Cursor<'_>,
+) -> Result<SystemDefinition, ParseFault>
+    ensures { Reads system_definition_view (spec.system_item cursor.old) result cursor.new }
+{
+    let name = identifier(alloc, cursor)?;
+    cursor.expect(Mark::Equal)?;
+    let value = definition(alloc, cursor)?;
+    cursor.expect(Mark::Semicolon)?;
+    Ok(SystemDefinition { name, value })
+}
+
+#[tactic(auto, unfolding(crate::specs::ReadingDeclarations::one_or_more))]
+fn system_definitions(
+    alloc: Global,
+    cursor: &mut Cursor<'_>,
+) -> Result<Vec<SystemDefinition>, ParseFault>
+    ensures { Reads (λ v. map system_definition_view v.items) (spec.one_or_more spec.system_item cursor.old) result cursor.new }
+{
+    let mut found = Vec::new(alloc);
+    found.push(system_definition(alloc, cursor)?)?;
+    for _turn in 0..cursor.left() {
+        if !cursor.sees_name() {
+            return Ok(found);
+        }
+        found.push(system_definition(alloc, cursor)?)?;
+    }
+    Ok(found)
+}
+
+#[tactic(auto, unfolding(crate::specs::ReadingDeclarations::program_part_item))]
+fn program_part(
+    alloc: Global,
+    cursor: &mut Cursor<'_>,
+) -> Result<Option<ProgramPart>, ParseFault>
+    ensures { Reads (λ p. option_map program_part_view p) (spec.program_part_item cursor.old) result cursor.new }
+{
+    let at = cursor.at();
+    let kind = match cursor.mark() {
+        Some(Mark::Const) => {
+            cursor.advance();
+            ProgramPartKind::Constants(constant_definitions(alloc, cursor)?)
+        }
+        Some(Mark::Type) => {
+            cursor.advance();
+            ProgramPartKind::Types(system_definitions(alloc, cursor)?)
+        }
+        Some(Mark::Var) => {
+            cursor.advance();
+            ProgramPartKind::Variables(variable_groups(alloc, cursor)?)
+        }
+        _ => return Ok(None),
+    };
+    Ok(Some(ProgramPart { at, kind }))
+}
+
+fn program_parts(
+    alloc: Global,
+    cursor: &mut Cursor<'_>,
+) -> Result<Vec<ProgramPart>, ParseFault>
+    ensures { Reads (λ v. map program_part_view v.items) (lists.many spec.program_part_item cursor.old) result cursor.new }
+{
+    let mut found = Vec::new(alloc);
+    for _turn in 0..cursor.left() {
+        match program_part(alloc, cursor)? {
+            Some(part) => found.push(part)?,
+            None => return Ok(found),
+        }
+    }
+    Ok(found)
+}
+
+/// A whole program, with nothing behind its period.
+#[tactic(auto, unfolding(crate::specs::ReadingDeclarations::program))]
+pub fn program(alloc: Global, cursor: &mut Cursor<'_>) -> Result<Program, ParseFault>
+    ensures { Reads program_view (spec.program cursor.old) result cursor.new }
+{
+    let parts = program_parts(alloc, cursor)?;
+    let routines = routines(alloc, cursor)?;
+    let body = body(alloc, cursor)?;
+    let period = cursor.at();
+    cursor.expect(Mark::Period)?;
+    if cursor.left() > 0 {
+        return Err(cursor.unexpected());
+    }
+    Ok(Program {
+        parts,
+        routines,
+        body,
+        period,
+    })
+}

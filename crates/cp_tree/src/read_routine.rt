@@ -1,0 +1,204 @@
+//! Reading bodies, parameters and routines.
+
+ghost use Rattle.std.specs.Prelude.{◌≡◌, map, option_map};
+ghost use Rattle.cp_tree.specs.Input.{Reads};
+ghost use Rattle.cp_tree.specs.Reading as lists;
+ghost use Rattle.cp_tree.specs.ReadingDeclarations as spec;
+ghost use Rattle.cp_tree.specs.View.{body_view, group_view, parameter_group_view, routine_kind_view, routine_view};
+ghost use Rattle.cp_text.specs.declared.token.Mark.TheVariants as mark;
+
+use crate::cursor::Cursor;
+use crate::declaration::{Body, Group, ParameterGroup, Routine, RoutineKind};
+use crate::fault::ParseFault;
+use crate::read_constant::{identifier, identifiers};
+use crate::read_part::{parts, MAX_LEVEL};
+use crate::read_statement::statements;
+use cp_text::token::Mark;
+use std::alloc::Global;
+
+/// The statements between `begin` and `end`.
+#[tactic(auto, unfolding(crate::specs::ReadingDeclarations::body))]
+pub fn body(alloc: Global, cursor: &mut Cursor<'_>) -> Result<Body, ParseFault>
+    ensures { Reads body_view (spec.body cursor.old) result cursor.new }
+{
+    let at = cursor.at();
+    cursor.expect(Mark::Begin)?;
+    let statements = statements(alloc, cursor, MAX_LEVEL)?;
+    cursor.expect(Mark::End)?;
+    Ok(Body { at, statements })
+}
+
+#[tactic(auto, unfolding(crate::specs::ReadingDeclarations::group_item))]
+fn group(alloc: Global, cursor: &mut Cursor<'_>) -> Result<Group, ParseFault>
+    ensures { Reads group_view (spec.group_item cursor.old) result cursor.new }
+{
+    let names = identifiers(alloc, cursor)?;
+    cursor.expect(Mark::Colon)?;
+    let type_name = identifier(alloc, cursor)?;
+    Ok(Group { names, type_name })
+}
+
+#[tactic(auto, unfolding(crate::specs::Reading::separated))]
+fn group_list(alloc: Global, cursor: &mut Cursor<'_>) -> Result<Vec<Group>, ParseFault>
+    ensures { Reads (λ v. map group_view v.items) (lists.separated mark.Semicolon spec.group_item cursor.old) result cursor.new }
+{
+    let mut found = Vec::new(alloc);
+    found.push(group(alloc, cursor)?)?;
+    for _turn in 0..cursor.left() {
+        if !cursor.eat(Mark::Semicolon) {
+            return Ok(found);
+        }
+        found.push(group(alloc, cursor)?)?;
+    }
+    Ok(found)
+}
+
+/// Groups in parentheses, or none where no parenthesis opens.
+#[tactic(auto, unfolding(crate::specs::ReadingDeclarations::parenthesised))]
+pub fn groups(alloc: Global, cursor: &mut Cursor<'_>) -> Result<Vec<Group>, ParseFault>
+    ensures { Reads (λ v. map group_view v.items) (spec.parenthesised spec.group_item cursor.old) result cursor.new }
+{
+    if !cursor.eat(Mark::OpenParenthesis) {
+        return Ok(Vec::new(alloc));
+    }
+    let found = group_list(alloc, cursor)?;
+    cursor.expect(Mark::CloseParenthesis)?;
+    Ok(found)
+}
+
+#[tactic(auto, unfolding(crate::specs::ReadingDeclarations::parameter_item))]
+fn parameter_group(alloc: Global, cursor: &mut Cursor<'_>) -> Result<ParameterGroup, ParseFault>
+    ensures { Reads parameter_group_view (spec.parameter_item cursor.old) result cursor.new }
+{
+    let at = cursor.at();
+    let is_var = cursor.eat(Mark::Var);
+    let group = group(alloc, cursor)?;
+    Ok(ParameterGroup { at, is_var, group })
+}
+
+#[tactic(auto, unfolding(crate::specs::Reading::separated))]
+fn parameter_list(
+    alloc: Global,
+    cursor: &mut Cursor<'_>,
+) -> Result<Vec<ParameterGroup>, ParseFault>
+    ensures { Reads (λ v. map parameter_group_view v.items) (lists.separated mark.Semicolon spec.parameter_item cursor.old) result cursor.new }
+{
+    let mut found = Vec::new(alloc);
+    found.push(parameter_group(alloc, cursor)?)?;
+    for _turn in 0..cursor.left() {
+        if !cursor.eat(Mark::Semicolon) {
+            return Ok(found);
+        }
+        found.push(parameter_group(alloc, cursor)?)?;
+    }
+    Ok(found)
+}
+
+// Parameters in parentheses, or none where no parenthesis opens.
+#[tactic(auto, unfolding(crate::specs::ReadingDeclarations::parenthesised))]
+fn parameters(
+    alloc: Global,
+    cursor: &mut Cursor<'_>,
+) -> Result<Vec<ParameterGroup>, ParseFault>
+    ensures { Reads (λ v. map parameter_group_view v.items) (spec.parenthesised spec.parameter_item cursor.old) result cursor.new }
+{
+    if !cursor.eat(Mark::OpenParenthesis) {
+        return Ok(Vec::new(alloc));
+    }
+    let found = parameter_list(alloc, cursor)?;
+    cursor.expect(Mark::CloseParenthesis)?;
+    Ok(found)
+}
+
+#[tactic(auto, unfolding(crate::specs::ReadingDeclarations::procedure_kind))]
+fn procedure_kind(alloc: Global, cursor: &mut Cursor<'_>) -> Result<RoutineKind, ParseFault>
+    ensures { Reads routine_kind_view (spec.procedure_kind cursor.old) result cursor.new }
+{
+    let parameters = parameters(alloc, cursor)?;
+    Ok(RoutineKind::Procedure(parameters))
+}
+
+#[tactic(auto, unfolding(crate::specs::ReadingDeclarations::function_kind))]
+fn function_kind(alloc: Global, cursor: &mut Cursor<'_>) -> Result<RoutineKind, ParseFault>
+    ensures { Reads routine_kind_view (spec.function_kind cursor.old) result cursor.new }
+{
+    let parameters = groups(alloc, cursor)?;
+    cursor.expect(Mark::Colon)?;
+    let result_type = identifier(alloc, cursor)?;
+    Ok(RoutineKind::Function(parameters, result_type))
+}
+
+#[tactic(auto, unfolding(crate::specs::ReadingDeclarations::routine_with))]
+fn procedure(alloc: Global, cursor: &mut Cursor<'_>, at: usize) -> Result<Routine, ParseFault>
+    ensures { Reads routine_view (spec.routine_with spec.procedure_kind at cursor.old) result cursor.new }
+{
+    let is_entry = cursor.eat(Mark::Entry);
+    let name = identifier(alloc, cursor)?;
+    let kind = procedure_kind(alloc, cursor)?;
+    cursor.expect(Mark::Semicolon)?;
+    let parts = parts(alloc, cursor)?;
+    let body = body(alloc, cursor)?;
+    cursor.expect(Mark::Semicolon)?;
+    Ok(Routine {
+        at,
+        is_entry,
+        name,
+        kind,
+        parts,
+        body,
+    })
+}
+
+#[tactic(auto, unfolding(crate::specs::ReadingDeclarations::routine_with))]
+fn function(alloc: Global, cursor: &mut Cursor<'_>, at: usize) -> Result<Routine, ParseFault>
+    ensures { Reads routine_view (spec.routine_with spec.function_kind at cursor.old) result cursor.new }
+{
+    let is_entry = cursor.eat(Mark::Entry);
+    let name = identifier(alloc, cursor)?;
+    let kind = function_kind(alloc, cursor)?;
+    cursor.expect(Mark::Semicolon)?;
+    let parts = parts(alloc, cursor)?;
+    let body = body(alloc, cursor)?;
+    cursor.expect(Mark::Semicolon)?;
+    Ok(Routine {
+        at,
+        is_entry,
+        name,
+        kind,
+        parts,
+        body,
+    })
+}
+
+#[tactic(auto, unfolding(crate::specs::ReadingDeclarations::routine_item))]
+fn routine(alloc: Global, cursor: &mut Cursor<'_>) -> Result<Option<Routine>, ParseFault>
+    ensures { Reads (λ r. option_map routine_view r) (spec.routine_item cursor.old) result cursor.new }
+{
+    let at = cursor.at();
+    match cursor.mark() {
+        Some(Mark::Procedure) => {
+            cursor.advance();
+            Ok(Some(procedure(alloc, cursor, at)?))
+        }
+        Some(Mark::Function) => {
+            cursor.advance();
+            Ok(Some(function(alloc, cursor, at)?))
+        }
+        _ => Ok(None),
+    }
+}
+
+/// The routines that come next.
+#[tactic(auto, unfolding(crate::specs::ReadingDeclarations::routines))]
+pub fn routines(alloc: Global, cursor: &mut Cursor<'_>) -> Result<Vec<Routine>, ParseFault>
+    ensures { Reads (λ v. map routine_view v.items) (spec.routines cursor.old) result cursor.new }
+{
+    let mut found = Vec::new(alloc);
+    for _turn in 0..cursor.left() {
+        match routine(alloc, cursor)? {
+            Some(routine) => found.push(routine)?,
+            None => return Ok(found),
+        }
+    }
+    Ok(found)
+}

@@ -1,0 +1,388 @@
+//! Reading statements. A budget is how many more levels are allowed below.
+
+ghost use Rattle.std.specs.Prelude.{◌≡◌, map};
+ghost use Rattle.cp_tree.specs.Input.{Reads};
+ghost use Rattle.cp_tree.specs.Reading as lists;
+ghost use Rattle.cp_tree.specs.ReadingStatements as spec;
+ghost use Rattle.cp_tree.specs.View.{start_view, statement_view, statements_view, arm_view, arms_view};
+ghost use Rattle.cp_text.specs.declared.token.Mark.TheVariants as mark;
+
+use crate::constant::Constant;
+use crate::cursor::Cursor;
+use crate::fault::ParseFault;
+use crate::read_constant::{constant, identifier};
+use crate::read_expression::{arguments, designator, expression};
+use crate::statement::{Arm, Direction, Start, Statement, StatementKind};
+use cp_text::token::{Kind, Mark};
+use std::alloc::Global;
+
+/// A statement of at most `budget` levels.
+#[cycle(statement)]
+#[tactic(auto, unfolding(crate::specs::ReadingStatements::statement, crate::specs::ReadingStatements::statement_at))]
+pub fn statement(
+    alloc: Global,
+    cursor: &mut Cursor<'_>,
+    budget: usize,
+) -> Result<Statement, ParseFault>
+    ensures { Reads statement_view (spec.statement budget cursor.old) result cursor.new }
+{
+    if budget == 0 {
+        return Err(ParseFault::TooDeep(cursor.at()));
+    }
+    statement_within(alloc, cursor, budget - 1)
+}
+
+// A statement whose inner ones have at most `budget` levels.
+#[cycle(statement)]
+#[tactic(auto, unfolding(crate::specs::ReadingStatements::statement_at, crate::specs::ReadingStatements::statement_with, crate::specs::ReadingStatements::named_at, crate::specs::ReadingStatements::init_at, crate::specs::ReadingStatements::block_at, crate::specs::ReadingStatements::if_at, crate::specs::ReadingStatements::case_at, crate::specs::ReadingStatements::while_at, crate::specs::ReadingStatements::repeat_at, crate::specs::ReadingStatements::for_at, crate::specs::ReadingStatements::cycle_at))]
+fn statement_within(
+    alloc: Global,
+    cursor: &mut Cursor<'_>,
+    budget: usize,
+) -> Result<Statement, ParseFault>
+    ensures { Reads statement_view (spec.statement_at budget cursor.old) result cursor.new }
+{
+    let at = cursor.at();
+    match cursor.peek() {
+        Some(Kind::Name(_)) => named(alloc, cursor, budget, at),
+        Some(Kind::Mark(Mark::Begin)) => {
+            cursor.advance();
+            block(alloc, cursor, budget, at)
+        }
+        Some(Kind::Mark(Mark::If)) => {
+            cursor.advance();
+            choice(alloc, cursor, budget, at)
+        }
+        Some(Kind::Mark(Mark::Case)) => {
+            cursor.advance();
+            case(alloc, cursor, budget, at)
+        }
+        Some(Kind::Mark(Mark::While)) => {
+            cursor.advance();
+            while_loop(alloc, cursor, budget, at)
+        }
+        Some(Kind::Mark(Mark::Repeat)) => {
+            cursor.advance();
+            repeat_loop(alloc, cursor, budget, at)
+        }
+        Some(Kind::Mark(Mark::For)) => {
+            cursor.advance();
+            for_loop(alloc, cursor, budget, at)
+        }
+        Some(Kind::Mark(Mark::Cycle)) => {
+            cursor.advance();
+            cycle(alloc, cursor, budget, at)
+        }
+        Some(Kind::Mark(Mark::Init)) => {
+            cursor.advance();
+            init(alloc, cursor, budget, at)
+        }
+        _ => Ok(Statement {
+            at,
+            kind: StatementKind::Empty,
+        }),
+    }
+}
+
+// An assignment or a call.
+#[tactic(auto, unfolding(crate::specs::ReadingStatements::named_at, crate::specs::ReadingStatements::named_with, crate::specs::ReadingExpressions::designator_at, crate::specs::ReadingExpressions::arguments_at))]
+fn named(
+    alloc: Global,
+    cursor: &mut Cursor<'_>,
+    budget: usize,
+    at: usize,
+) -> Result<Statement, ParseFault>
+    ensures { Reads statement_view (spec.named_at budget at cursor.old) result cursor.new }
+{
+    let designator = designator(alloc, cursor, budget)?;
+    if cursor.eat(Mark::Becomes) {
+        let value = expression(alloc, cursor, budget)?;
+        return Ok(Statement {
+            at,
+            kind: StatementKind::Assign(designator, value),
+        });
+    }
+    let arguments = arguments(alloc, cursor, budget)?;
+    Ok(Statement {
+        at,
+        kind: StatementKind::Call(designator, arguments),
+    })
+}
+
+/// Statements with semicolons between them.
+#[cycle(statement)]
+#[tactic(auto, unfolding(crate::specs::ReadingStatements::statements_at, crate::specs::Reading::separated))]
+pub fn statements(
+    alloc: Global,
+    cursor: &mut Cursor<'_>,
+    budget: usize,
+) -> Result<Vec<Statement>, ParseFault>
+    ensures { Reads (λ v. statements_view v.items) (spec.statements_at budget cursor.old) result cursor.new }
+{
+    let mut found = Vec::new(alloc);
+    found.push(statement(alloc, cursor, budget)?)?;
+    for _turn in 0..cursor.left() {
+        if !cursor.eat(Mark::Semicolon) {
+            return Ok(found);
+        }
+        found.push(statement(alloc, cursor, budget)?)?;
+    }
+    Ok(found)
+}
+
+#[cycle(statement)]
+#[tactic(auto, unfolding(crate::specs::ReadingStatements::block_at, crate::specs::ReadingStatements::block_with, crate::specs::ReadingStatements::statements_at))]
+fn block(
+    alloc: Global,
+    cursor: &mut Cursor<'_>,
+    budget: usize,
+    at: usize,
+) -> Result<Statement, ParseFault>
+    ensures { Reads statement_view (spec.block_at budget at cursor.old) result cursor.new }
+{
+    let inner = statements(alloc, cursor, budget)?;
+    cursor.expect(Mark::End)?;
+    Ok(Statement {
+        at,
+        kind: StatementKind::Block(inner),
+    })
+}
+
+#[cycle(statement)]
+#[tactic(auto, unfolding(crate::specs::ReadingStatements::cycle_at, crate::specs::ReadingStatements::cycle_with, crate::specs::ReadingStatements::statements_at))]
+fn cycle(
+    alloc: Global,
+    cursor: &mut Cursor<'_>,
+    budget: usize,
+    at: usize,
+) -> Result<Statement, ParseFault>
+    ensures { Reads statement_view (spec.cycle_at budget at cursor.old) result cursor.new }
+{
+    let inner = statements(alloc, cursor, budget)?;
+    cursor.expect(Mark::End)?;
+    Ok(Statement {
+        at,
+        kind: StatementKind::Cycle(inner),
+    })
+}
+
+#[cycle(statement)]
+#[tactic(auto, unfolding(crate::specs::ReadingStatements::repeat_at, crate::specs::ReadingStatements::repeat_with, crate::specs::ReadingStatements::statements_at))]
+fn repeat_loop(
+    alloc: Global,
+    cursor: &mut Cursor<'_>,
+    budget: usize,
+    at: usize,
+) -> Result<Statement, ParseFault>
+    ensures { Reads statement_view (spec.repeat_at budget at cursor.old) result cursor.new }
+{
+    let inner = statements(alloc, cursor, budget)?;
+    cursor.expect(Mark::Until)?;
+    let test = expression(alloc, cursor, budget)?;
+    Ok(Statement {
+        at,
+        kind: StatementKind::Repeat(inner, test),
+    })
+}
+
+#[cycle(statement)]
+#[tactic(auto, unfolding(crate::specs::ReadingStatements::if_at, crate::specs::ReadingStatements::if_with))]
+fn choice(
+    alloc: Global,
+    cursor: &mut Cursor<'_>,
+    budget: usize,
+    at: usize,
+) -> Result<Statement, ParseFault>
+    ensures { Reads statement_view (spec.if_at budget at cursor.old) result cursor.new }
+{
+    let test = expression(alloc, cursor, budget)?;
+    cursor.expect(Mark::Then)?;
+    let chosen = statement(alloc, cursor, budget)?;
+    let chosen = Box::new(alloc, chosen)?;
+    if cursor.eat(Mark::Else) {
+        let other = statement(alloc, cursor, budget)?;
+        let other = Box::new(alloc, other)?;
+        return Ok(Statement {
+            at,
+            kind: StatementKind::If(test, chosen, Some(other)),
+        });
+    }
+    Ok(Statement {
+        at,
+        kind: StatementKind::If(test, chosen, None),
+    })
+}
+
+#[cycle(statement)]
+#[tactic(auto, unfolding(crate::specs::ReadingStatements::while_at, crate::specs::ReadingStatements::while_with))]
+fn while_loop(
+    alloc: Global,
+    cursor: &mut Cursor<'_>,
+    budget: usize,
+    at: usize,
+) -> Result<Statement, ParseFault>
+    ensures { Reads statement_view (spec.while_at budget at cursor.old) result cursor.new }
+{
+    let test = expression(alloc, cursor, budget)?;
+    cursor.expect(Mark::Do)?;
+    let body = statement(alloc, cursor, budget)?;
+    Ok(Statement {
+        at,
+        kind: StatementKind::While(test, Box::new(alloc, body)?),
+    })
+}
+
+#[cycle(statement)]
+#[tactic(auto, unfolding(crate::specs::ReadingStatements::for_at, crate::specs::ReadingStatements::for_with))]
+fn for_loop(
+    alloc: Global,
+    cursor: &mut Cursor<'_>,
+    budget: usize,
+    at: usize,
+) -> Result<Statement, ParseFault>
+    ensures { Reads statement_view (spec.for_at budget at cursor.old) result cursor.new }
+{
+    let variable = identifier(alloc, cursor)?;
+    cursor.expect(Mark::Becomes)?;
+    let first = expression(alloc, cursor, budget)?;
+    let direction = direction(cursor)?;
+    let last = expression(alloc, cursor, budget)?;
+    cursor.expect(Mark::Do)?;
+    let body = statement(alloc, cursor, budget)?;
+    let body = Box::new(alloc, body)?;
+    Ok(Statement {
+        at,
+        kind: StatementKind::For(variable, first, direction, last, body),
+    })
+}
+
+#[tactic(auto, unfolding(crate::specs::ReadingStatements::direction))]
+fn direction(cursor: &mut Cursor<'_>) -> Result<Direction, ParseFault>
+    ensures { Reads (λ d. d) (spec.direction cursor.old) result cursor.new }
+{
+    match cursor.mark() {
+        Some(Mark::To) => {
+            cursor.advance();
+            Ok(Direction::To)
+        }
+        Some(Mark::Downto) => {
+            cursor.advance();
+            Ok(Direction::Downto)
+        }
+        _ => Err(cursor.unexpected()),
+    }
+}
+
+#[cycle(statement)]
+#[tactic(auto, unfolding(crate::specs::ReadingStatements::case_at, crate::specs::ReadingStatements::case_with, crate::specs::ReadingStatements::arm_at))]
+fn case(
+    alloc: Global,
+    cursor: &mut Cursor<'_>,
+    budget: usize,
+    at: usize,
+) -> Result<Statement, ParseFault>
+    ensures { Reads statement_view (spec.case_at budget at cursor.old) result cursor.new }
+{
+    let selector = expression(alloc, cursor, budget)?;
+    cursor.expect(Mark::Of)?;
+    let (arms, ends_in_semicolon) = arms(alloc, cursor, budget)?;
+    cursor.expect(Mark::End)?;
+    Ok(Statement {
+        at,
+        kind: StatementKind::Case(selector, arms, ends_in_semicolon),
+    })
+}
+
+// Arms, and whether a semicolon stands before the `end`.
+#[cycle(statement)]
+#[tactic(auto, unfolding(crate::specs::Reading::ended_list))]
+fn arms(
+    alloc: Global,
+    cursor: &mut Cursor<'_>,
+    budget: usize,
+) -> Result<(Vec<Arm>, bool), ParseFault>
+    ensures { Reads (λ r. (arms_view r.0.items, r.1)) (lists.ended_list (spec.arm_at budget) cursor.old) result cursor.new }
+{
+    let mut found = Vec::new(alloc);
+    found.push(arm(alloc, cursor, budget)?)?;
+    for _turn in 0..cursor.left() {
+        if !cursor.eat(Mark::Semicolon) {
+            return Ok((found, false));
+        }
+        if cursor.sees(Mark::End) {
+            return Ok((found, true));
+        }
+        found.push(arm(alloc, cursor, budget)?)?;
+    }
+    Ok((found, false))
+}
+
+#[cycle(statement)]
+#[tactic(auto, unfolding(crate::specs::ReadingStatements::arm_at, crate::specs::ReadingStatements::arm_with))]
+fn arm(alloc: Global, cursor: &mut Cursor<'_>, budget: usize) -> Result<Arm, ParseFault>
+    ensures { Reads arm_view (spec.arm_at budget cursor.old) result cursor.new }
+{
+    let labels = labels(alloc, cursor)?;
+    cursor.expect(Mark::Colon)?;
+    let body = statement(alloc, cursor, budget)?;
+    Ok(Arm { labels, body })
+}
+
+#[tactic(auto, unfolding(crate::specs::ReadingStatements::labels, crate::specs::Reading::separated))]
+fn labels(alloc: Global, cursor: &mut Cursor<'_>) -> Result<Vec<Constant>, ParseFault>
+    ensures { Reads (λ v. v.items) (spec.labels cursor.old) result cursor.new }
+{
+    let mut found = Vec::new(alloc);
+    found.push(constant(alloc, cursor)?)?;
+    for _turn in 0..cursor.left() {
+        if !cursor.eat(Mark::Comma) {
+            return Ok(found);
+        }
+        found.push(constant(alloc, cursor)?)?;
+    }
+    Ok(found)
+}
+
+#[tactic(auto, unfolding(crate::specs::ReadingStatements::init_at, crate::specs::ReadingStatements::init_with, crate::specs::ReadingStatements::start_at))]
+fn init(
+    alloc: Global,
+    cursor: &mut Cursor<'_>,
+    budget: usize,
+    at: usize,
+) -> Result<Statement, ParseFault>
+    ensures { Reads statement_view (spec.init_at budget at cursor.old) result cursor.new }
+{
+    let starts = starts(alloc, cursor, budget)?;
+    Ok(Statement {
+        at,
+        kind: StatementKind::Init(starts),
+    })
+}
+
+#[tactic(auto, unfolding(crate::specs::Reading::separated))]
+fn starts(
+    alloc: Global,
+    cursor: &mut Cursor<'_>,
+    budget: usize,
+) -> Result<Vec<Start>, ParseFault>
+    ensures { Reads (λ v. map start_view v.items) (lists.separated mark.Comma (spec.start_at budget) cursor.old) result cursor.new }
+{
+    let mut found = Vec::new(alloc);
+    found.push(start(alloc, cursor, budget)?)?;
+    for _turn in 0..cursor.left() {
+        if !cursor.eat(Mark::Comma) {
+            return Ok(found);
+        }
+        found.push(start(alloc, cursor, budget)?)?;
+    }
+    Ok(found)
+}
+
+#[tactic(auto, unfolding(crate::specs::ReadingStatements::start_at, crate::specs::ReadingStatements::start_with, crate::specs::ReadingExpressions::designator_at, crate::specs::ReadingExpressions::arguments_at))]
+fn start(alloc: Global, cursor: &mut Cursor<'_>, budget: usize) -> Result<Start, ParseFault>
+    ensures { Reads start_view (spec.start_at budget cursor.old) result cursor.new }
+{
+    let target = designator(alloc, cursor, budget)?;
+    let arguments = arguments(alloc, cursor, budget)?;
+    Ok(Start { target, arguments })
+}
