@@ -14,7 +14,8 @@ use Rattle.cp_text.specs.declared.piece.Shape.TheVariants as shape
 use Rattle.cp_text.specs.declared.token.Kind.{Kind}
 use Rattle.cp_text.specs.declared.token.Kind.TheVariants as kinds
 use Rattle.cp_text.specs.Bytes.{is_digit, is_printable}
-use Rattle.cp_text.specs.Lexemes.{number_of, number, small, code, character, inside, word, word_kind, lexeme, kind, or_fault, is_lexeme}
+use Rattle.cp_text.specs.Values.{number_of, word_kind, is_lexeme}
+use Rattle.cp_text.specs.Lexemes.{number, small, code, character, inside, word, lexeme, kind, or_fault}
 use Rattle.cp_text.specs.Reading.{Has, IsCode, printable, numbered, IsLexeme, Breaks}
 
 pub below_eq : (a b : ℕ) → a ≤ b → nat_le a b ≡ true

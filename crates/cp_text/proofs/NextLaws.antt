@@ -9,7 +9,8 @@ use Rattle.cp_text.specs.declared.fault.ScanCause.TheVariants.{BadByte, OpenComm
 use Rattle.cp_text.specs.declared.piece.Piece.{Piece}
 use Rattle.cp_text.specs.declared.piece.Shape.{Shape}
 use Rattle.cp_text.specs.declared.token.Kind.{Kind}
-use Rattle.cp_text.specs.Lexemes.{next, is_lexeme, begins_token, kind, with_len, meaning}
+use Rattle.cp_text.specs.Values.{is_lexeme}
+use Rattle.cp_text.specs.Lexemes.{next, begins_token, kind, with_len, meaning}
 use Rattle.cp_text.specs.Pieces.{first_piece}
 use Rattle.cp_text.specs.Reading.{Stands, NoneStands, IsLexeme, FaultAt, bad_byte, open_comment, open_char, open_too_many, breaks, too_many}
 use Rattle.cp_text.proofs.FoundLaws.{Unread, Fits}
@@ -68,7 +69,7 @@ next_fault count text e (open_too_many more is none full cause) =
     ap (next count) is ∙ next_none count 39 more u.cause u.found ∙ rw (known, cause, below_eq 20000 count full) refl
 next_fault count text e (breaks s piece rest is stands below broken) =
     ap (next count) is ∙ next_piece count s piece rest stands ∙ rw (above_eq 20000 count below, kind_breaks s piece e broken) refl
-next_fault count text e (too_many s piece rest is stands lexeme full cause) =
+next_fault count text e (too_many s piece rest is stands full lexeme cause) =
     ap (next count) is ∙ next_piece count s piece rest stands ∙ rw (below_eq 20000 count full, lexeme, cause) refl
 
 some_rest : (piece rest : List ℕ) → 0 < length piece → 0 < length (piece ++ rest)
@@ -81,7 +82,7 @@ fault_somewhere count text e (open_comment more is none cause) = rw is (omega ar
 fault_somewhere count text e (open_char more is none below cause) = rw is (omega arith)
 fault_somewhere count text e (open_too_many more is none full cause) = rw is (omega arith)
 fault_somewhere count text e (breaks s piece rest is stands below broken) = rw is (some_rest piece rest (has_bytes s piece stands.shaped))
-fault_somewhere count text e (too_many s piece rest is stands lexeme full cause) = rw is (some_rest piece rest (has_bytes s piece stands.shaped))
+fault_somewhere count text e (too_many s piece rest is stands full lexeme cause) = rw is (some_rest piece rest (has_bytes s piece stands.shaped))
 
 -- ---- what the next piece tells
 
@@ -139,7 +140,7 @@ next_tells_at count b z (Ok p) is =
     cond_both (nat_le 20000 count && is_lexeme p.shape) (Err TooManyTokens) (with_len p.len (kind p.shape (take p.len (b ∷ z)))) (NextTells count (b ∷ z))
     (λ full.
     let parts = and_parts (nat_le 20000 count) (is_lexeme p.shape) full in
-    too_many p.shape (take p.len (b ∷ z)) (drop p.len (b ∷ z)) (sym (take-append-drop p.len (b ∷ z))) (stands_found b z p is) parts.1 (below_of 20000 count parts.0) refl)
+    too_many p.shape (take p.len (b ∷ z)) (drop p.len (b ∷ z)) (sym (take-append-drop p.len (b ∷ z))) (stands_found b z p is) (below_of 20000 count parts.0) parts.1 refl)
     (λ few. told_kind count b z p is few (kind p.shape (take p.len (b ∷ z))) (kind_tells p.shape (take p.len (b ∷ z)) f.2))
 next_tells_at count b z (Err e) is = told_none count b z e (none_found b z e is) (found_fits b z (Err e) is)
 

@@ -1,6 +1,6 @@
 -- The number that digits spell.
 use Rattle.std.proofs.Common.{ℕ, ◌≤◌, ◌+◌, ◌*◌, ◌-◌, List, [], ◌∷◌, arith}
-use Rattle.cp_text.specs.Lexemes.{number_from}
+use Rattle.cp_text.specs.Values.{number_from}
 
 pub number_over : (value : ℕ) (digits : List ℕ) → value ≤ number_from value digits
 number_over value [] = omega arith

@@ -5,16 +5,17 @@ use Rattle.std.proofs.lemmas.Bool.{cases_lt}
 use Rattle.std.proofs.lemmas.List.{take-append-drop, append-nil, length-drop, length-append}
 use Rattle.std.proofs.lemmas.List.Sums.{sum_by-append}
 use Rattle.std.proofs.Math.Seq.{take-append_seam, drop-append_seam}
+use Rattle.cp_text.specs.Bytes.{line_feeds}
 use Rattle.cp_text.specs.declared.fault.ScanCause.{ScanCause}
-use Rattle.cp_text.specs.declared.fault.ScanCause.TheVariants.{TooLong, Memory}
+use Rattle.cp_text.specs.declared.fault.ScanCause.TheVariants.{TooLong}
 use Rattle.cp_text.specs.declared.fault.ScanFault.{ScanFault}
 use Rattle.cp_text.specs.declared.piece.Shape.{Shape}
 use Rattle.cp_text.specs.declared.token.Kind.{Kind}
 use Rattle.cp_text.specs.declared.token.Token.{Token}
-use Rattle.cp_text.specs.Faults.{fault_at}
+use Rattle.cp_text.specs.Faults.{fault_at, Outcome, out_of_memory}
 use Rattle.cp_text.specs.Lexemes.{next}
 use Rattle.cp_text.specs.Reading.{Stands, Part, joined, AreCut, AreTokens, no_more, blank, lexeme, FaultAt, HasTokens, too_long, faulty, Reading}
-use Rattle.cp_text.specs.Scanning.{Outcome, line_feeds, added, scan_from, scan, Scans}
+use Rattle.cp_text.specs.Scanning.{added, scan_from, scan, Scans}
 use Rattle.cp_text.proofs.NextLaws.{next_stands, next_blank, next_fault, fault_somewhere, KindAfter, NextPiece, NextTells, next_tells}
 use Rattle.cp_text.proofs.ScanSteps.{scan_stops, scan_goes, scan_ends, scan_short, scan_long}
 use Rattle.cp_text.proofs.StandsLaws.{has_bytes}
@@ -190,10 +191,10 @@ long_reads text long = too_long long refl
 pub long_only : (text : List ℕ) → 65535 < length text → (other : Outcome) → Reading text other → Err (fault_at 0 TooLong) ≡ other
 long_only text long other reads = sym (scan_long text long) ∙ reading_is text other reads
 
-pub short_reads : (text : List ℕ) → length text ≤ 65535 → (o : Outcome) → Scans (scan_from 0 1 [] text) o → o ≢ Err (fault_at 0 Memory) → Reading text o
+pub short_reads : (text : List ℕ) → length text ≤ 65535 → (o : Outcome) → Scans (scan_from 0 1 [] text) o → o ≢ Err out_of_memory → Reading text o
 short_reads text short (Ok ts) h told = subst (Reading text) (scan_short text short ∙ h) (reading_holds text)
 short_reads text short (Err f) h told = subst (Reading text) (scan_short text short ∙ h (λ e. told (ap Err e))) (reading_holds text)
 
-pub short_only : (text : List ℕ) → length text ≤ 65535 → (o : Outcome) → Scans (scan_from 0 1 [] text) o → (other : Outcome) → Reading text other → o ≢ Err (fault_at 0 Memory) → o ≡ other
+pub short_only : (text : List ℕ) → length text ≤ 65535 → (o : Outcome) → Scans (scan_from 0 1 [] text) o → (other : Outcome) → Reading text other → o ≢ Err out_of_memory → o ≡ other
 short_only text short (Ok ts) h other reads told = sym h ∙ sym (scan_short text short) ∙ reading_is text other reads
 short_only text short (Err f) h other reads told = sym (h (λ e. told (ap Err e))) ∙ sym (scan_short text short) ∙ reading_is text other reads

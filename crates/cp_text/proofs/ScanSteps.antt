@@ -3,15 +3,16 @@ use Rattle.std.proofs.Common.{◌≡◌, ◌≢◌, ℕ, zero, suc, ◌<◌, ◌
 use Rattle.std.specs.Prelude.{◌==◌}
 use Rattle.std.proofs.lemmas.List.Sums.{sum_by-cons}
 use Rattle.std.proofs.lemmas.Grind.{common_steps}
+use Rattle.cp_text.specs.Bytes.{line_feeds}
 use Rattle.cp_text.specs.declared.fault.ScanCause.{ScanCause}
 use Rattle.cp_text.specs.declared.fault.ScanCause.TheVariants as cause
 use Rattle.cp_text.specs.declared.token.Kind.{Kind}
 use Rattle.cp_text.specs.declared.token.Token.{Token}
-use Rattle.cp_text.specs.Faults.{fault_at}
+use Rattle.cp_text.specs.Faults.{fault_at, out_of_memory}
 use Rattle.cp_text.specs.Lexemes.{next}
-use Rattle.cp_text.specs.Scanning.{fault, line_feeds, added, after_line, scan_from, scan}
+use Rattle.cp_text.specs.Scanning.{fault, added, after_line, scan_from, scan}
 
-pub fault_told : (line : ℕ) (e : ScanCause) → fault line e ≢ fault_at 0 cause.Memory → (e ≢ cause.Memory) × (fault line e ≡ fault_at line e)
+pub fault_told : (line : ℕ) (e : ScanCause) → fault line e ≢ out_of_memory → (e ≢ cause.Memory) × (fault line e ≡ fault_at line e)
 fault_told line cause.TooLong h = (λ q. cc, refl)
 fault_told line cause.BadByte h = (λ q. cc, refl)
 fault_told line cause.OpenComment h = (λ q. cc, refl)

@@ -1,5 +1,5 @@
 -- Classes of bytes.
-use Rattle.std.specs.Prelude.{ℕ, ◌==◌, Bool, not, ◌&&◌, ◌||◌, nat_le}
+use Rattle.std.specs.Prelude.{ℕ, ◌==◌, Bool, not, ◌&&◌, ◌||◌, nat_le, List, count_by}
 use Rattle.std.specs.Char.{is_ascii_digit, is_ascii_alphabetic, is_ascii_alphanumeric}
 
 -- space, tab, carriage return, line feed
@@ -26,3 +26,6 @@ is_in_character b = not (b == 39) && not (b == 10)
 
 abbrev pub is_printable : ℕ → Bool
 is_printable b = nat_le 32 b && nat_le b 126
+
+abbrev pub line_feeds : List ℕ → ℕ
+line_feeds text = count_by (λ b. b == 10) text

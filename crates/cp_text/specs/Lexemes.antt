@@ -1,6 +1,5 @@
--- What a lexeme means: its value, its word or its code.
-use Rattle.std.specs.Prelude.{◌≡◌, ◌≢◌, ℕ, ◌+◌, ◌-◌, ◌*◌, ◌==◌, nat_le, nat_lt, Bool, true, false, ◌&&◌, if◌then◌else◌, List, [], ◌∷◌, length, take, map, slice_index, slice_range, Option, Some, None, Result, Ok, Err}
-use Rattle.std.specs.Char.{to_ascii_lowercase}
+-- What a lexeme means, as it is computed: its value, its word or its code.
+use Rattle.std.specs.Prelude.{◌≡◌, ◌≢◌, ℕ, ◌-◌, ◌==◌, nat_le, nat_lt, Bool, true, false, ◌&&◌, if◌then◌else◌, List, length, take, slice_index, slice_range, Option, Some, None, Result, Ok, Err}
 use Rattle.std.specs.List.{list_all}
 use Rattle.cp_text.specs.declared.fault.ScanCause.{ScanCause}
 use Rattle.cp_text.specs.declared.fault.ScanCause.TheVariants.{BadChar, NumberTooLarge, NameTooLong, TooManyTokens, OpenChar, Memory}
@@ -9,10 +8,9 @@ use Rattle.cp_text.specs.declared.piece.Shape.{Shape}
 use Rattle.cp_text.specs.declared.piece.Shape.TheVariants as shape
 use Rattle.cp_text.specs.declared.token.Kind.{Kind}
 use Rattle.cp_text.specs.declared.token.Kind.TheVariants as kinds
-use Rattle.cp_text.specs.declared.token.Mark.{Mark}
 use Rattle.cp_text.specs.Bytes.{is_digit, is_printable}
 use Rattle.cp_text.specs.Pieces.{first_piece}
-use Rattle.cp_text.specs.Words.{reserved}
+use Rattle.cp_text.specs.Values.{number_of, word_kind, is_lexeme}
 
 -- what a function that takes memory ensures: this outcome, unless memory is refused
 abbrev pub Reads : {A : Type 0} → Result A ScanCause → Result A ScanCause → Type 0
@@ -20,14 +18,6 @@ Reads outcome (Ok x) = outcome ≡ Ok x
 Reads outcome (Err e) = e ≢ Memory → outcome ≡ Err e
 
 -- ---- numbers
-
-abbrev pub number_from : ℕ → List ℕ → ℕ
-number_from value [] = value
-number_from value (b ∷ bs) = number_from (value * 10 + (b - 48)) bs
-
--- the number that decimal digits spell
-abbrev pub number_of : List ℕ → ℕ
-number_of = number_from 0
 
 unfoldable pub number : List ℕ → Option ℕ
 number digits = if nat_le (number_of digits) 32767 then Some (number_of digits) else None
@@ -52,17 +42,6 @@ character text =
 
 -- ---- names and reserved words
 
-abbrev pub lower_case : List ℕ → List ℕ
-lower_case = map to_ascii_lowercase
-
-abbrev pub named : Option Mark → List ℕ → Kind
-named (Some m) spelling = kinds.Mark m
-named None spelling = kinds.Name spelling
-
--- a reserved word, or else a name, both in lower case
-abbrev pub word_kind : List ℕ → Kind
-word_kind text = named (reserved (lower_case text)) (lower_case text)
-
 unfoldable pub word : List ℕ → Result Kind ScanCause
 word text = if nat_lt 40 (length text) then Err NameTooLong else Ok (word_kind text)
 
@@ -85,11 +64,6 @@ kind shape.Character text = or_fault kinds.Character BadChar (character (inside 
 kind (shape.Sign m) text = Ok (Some (kinds.Mark m))
 
 -- ---- the piece at the front of a text
-
-abbrev pub is_lexeme : Shape → Bool
-is_lexeme shape.Separator = false
-is_lexeme shape.Comment = false
-is_lexeme _ = true
 
 -- a `'` without a closing one is the start of a token too
 abbrev pub begins_token : Result Piece ScanCause → Bool

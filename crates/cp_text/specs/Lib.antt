@@ -6,4 +6,5 @@ pub mod Lines
 pub mod Pieces
 pub mod Reading
 pub mod Scanning
+pub mod Values
 pub mod Words

@@ -1,4 +1,4 @@
--- The piece at the front of a text, found from its first bytes. A text reads as 0 past its end.
+-- The piece at the front of a text, as it is computed from the first bytes. A text reads as 0 past its end.
 use Rattle.std.specs.Prelude.{ℕ, ◌+◌, ◌==◌, Bool, ◌&&◌, if◌then◌else◌, List, drop, slice_index, Option, Some, None, Result, Ok, Err}
 use Rattle.cp_text.specs.Bytes.{is_separator, is_digit, is_letter, is_word_byte, is_in_comment, is_in_character}
 use Rattle.std.specs.List.{prefix_len}

@@ -1,4 +1,7 @@
--- The reading of a text: its tokens, or its first fault. A text is a list of bytes.
+-- The reading of a text: its tokens, or its first fault.
+-- A text is cut into pieces from the left. Each piece has the shape of a separator, a comment or a lexeme, and no longer piece could stand in its place.
+-- The tokens are the lexemes in order. The fault belongs to the first place where no piece stands, or where the one that stands breaks a rule or begins
+-- a 20,001st token. A text is a list of bytes; 34 is the byte `"`, and 39 is `'`.
 use Rattle.std.specs.Prelude.{◌≡◌, ◌≢◌, ℕ, ◌+◌, ◌<◌, ◌≤◌, Bool, true, false, List, [], ◌∷◌, ◌++◌, length, codes, Contains, Ok, Err, ⊤}
 use Rattle.std.specs.List.{AllPass}
 use Rattle.cp_text.specs.declared.fault.ScanCause.{ScanCause}
@@ -11,10 +14,9 @@ use Rattle.cp_text.specs.declared.token.Kind.TheVariants as kind
 use Rattle.cp_text.specs.declared.token.Mark.{Mark}
 use Rattle.cp_text.specs.declared.token.Mark.TheVariants as mark
 use Rattle.cp_text.specs.declared.token.Token.{Token}
-use Rattle.cp_text.specs.Bytes.{is_separator, is_digit, is_letter, is_word_byte, is_in_comment, is_in_character, is_printable}
-use Rattle.cp_text.specs.Faults.{fault_at}
-use Rattle.cp_text.specs.Lexemes.{number_of, word_kind, is_lexeme}
-use Rattle.cp_text.specs.Scanning.{Outcome, line_feeds}
+use Rattle.cp_text.specs.Bytes.{is_separator, is_digit, is_letter, is_word_byte, is_in_comment, is_in_character, is_printable, line_feeds}
+use Rattle.cp_text.specs.Faults.{fault_at, Outcome}
+use Rattle.cp_text.specs.Values.{number_of, word_kind, is_lexeme}
 
 -- ---- shapes
 
@@ -64,7 +66,7 @@ pub record IsWord (piece : List ℕ) : Type 0 where
   pub letter : is_letter first ≡ true
   pub word : AllPass is_word_byte more
 
--- a piece has this shape, whatever its value, its length or the text between its quotes
+-- a piece has this shape, whatever its value, its length or the text between its quotes; a reserved word has the shape of a name
 abbrev pub Has : Shape → List ℕ → Type 0
 Has shape.Separator piece = IsSeparator piece
 Has shape.Comment piece = IsQuoted 34 is_in_comment piece
@@ -84,6 +86,7 @@ pub record Stands (s : Shape) (piece rest : List ℕ) : Type 0 where
 abbrev pub NoneStands : List ℕ → Type 0
 NoneStands text = (s : Shape) (piece rest : List ℕ) → Has s piece → piece ++ rest ≢ text
 
+-- a piece of a text
 pub record Part : Type 0 where
   pub shape : Shape
   pub text : List ℕ
@@ -103,8 +106,10 @@ AreCut (p ∷ ps) rest = Stands p.shape p.text (joined ps rest) × AreCut ps res
 -- the text between a character's quotes stands for the character of this code
 pub data IsCode (text : List ℕ) (code : ℕ) : Type 0 where
   printable : text ≡ code ∷ [] → is_printable code ≡ true → IsCode text code
-  numbered : (digits : List ℕ) → text ≡ codes "(:" ++ digits ++ codes ":)" → 0 < length digits → AllPass is_digit digits → number_of digits ≡ code → code ≤ 127 → IsCode text code
+  numbered : (digits : List ℕ) → text ≡ codes "(:" ++ digits ++ codes ":)" → 0 < length digits → AllPass is_digit digits
+      → number_of digits ≡ code → code ≤ 127 → IsCode text code
 
+-- a piece in quotes is a character
 pub record IsCharacter (piece : List ℕ) (k : Kind) : Type 0 where
   pub text : List ℕ
   pub is : piece ≡ 39 ∷ (text ++ 39 ∷ [])
@@ -112,6 +117,7 @@ pub record IsCharacter (piece : List ℕ) (k : Kind) : Type 0 where
   pub stands_for : IsCode text code
   pub kind : k ≡ kind.Character code
 
+-- a piece in quotes is no character
 pub record IsNoCharacter (piece : List ℕ) : Type 0 where
   pub text : List ℕ
   pub is : piece ≡ 39 ∷ (text ++ 39 ∷ [])
@@ -133,7 +139,7 @@ Breaks shape.Name piece cause = (40 < length piece) × (cause ≡ NameTooLong)
 Breaks shape.Character piece cause = IsNoCharacter piece × (cause ≡ BadChar)
 Breaks _ piece cause = ⊥
 
--- These are the tokens of the parts, the first of which begins on this line: the lexemes.
+-- These are the tokens of the parts, the first of which begins on this line: the lexemes, each on the line that it begins on.
 pub data AreTokens : ℕ → List Part → List Token → Type 0 where
   no_more : {line : ℕ} → AreTokens line [] []
   blank : {line : ℕ} {p : Part} {ps : List Part} {ts : List Token} → is_lexeme p.shape ≡ false
@@ -143,14 +149,18 @@ pub data AreTokens : ℕ → List Part → List Token → Type 0 where
 
 -- ---- faults
 
--- The fault at a place before which `count` tokens stand. A bad byte and a comment begin no token.
+-- The fault at the front of a text before which `count` tokens stand. A bad byte and a comment begin no token; a `'` without a closing one does.
 pub data FaultAt (count : ℕ) (text : List ℕ) (cause : ScanCause) : Type 0 where
+  -- where no piece stands
   bad_byte : (b : ℕ) (more : List ℕ) → text ≡ b ∷ more → NoneStands text → b ≢ 34 → b ≢ 39 → cause ≡ BadByte → FaultAt count text cause
   open_comment : (more : List ℕ) → text ≡ 34 ∷ more → NoneStands text → cause ≡ OpenComment → FaultAt count text cause
   open_char : (more : List ℕ) → text ≡ 39 ∷ more → NoneStands text → count < 20000 → cause ≡ OpenChar → FaultAt count text cause
   open_too_many : (more : List ℕ) → text ≡ 39 ∷ more → NoneStands text → 20000 ≤ count → cause ≡ TooManyTokens → FaultAt count text cause
-  breaks : (s : Shape) (piece rest : List ℕ) → text ≡ piece ++ rest → Stands s piece rest → count < 20000 → Breaks s piece cause → FaultAt count text cause
-  too_many : (s : Shape) (piece rest : List ℕ) → text ≡ piece ++ rest → Stands s piece rest → is_lexeme s ≡ true → 20000 ≤ count → cause ≡ TooManyTokens → FaultAt count text cause
+  -- where a piece stands
+  breaks : (s : Shape) (piece rest : List ℕ) → text ≡ piece ++ rest → Stands s piece rest → count < 20000
+      → Breaks s piece cause → FaultAt count text cause
+  too_many : (s : Shape) (piece rest : List ℕ) → text ≡ piece ++ rest → Stands s piece rest → 20000 ≤ count
+      → is_lexeme s ≡ true → cause ≡ TooManyTokens → FaultAt count text cause
 
 -- ---- texts
 
@@ -161,16 +171,19 @@ pub record ReadsUpTo (text : List ℕ) (parts : List Part) (ts : List Token) (re
   pub tokens : AreTokens 1 parts ts
   pub few : length ts ≤ 20000
 
+-- the text has these tokens
 pub record HasTokens (text : List ℕ) (ts : List Token) : Type 0 where
   pub short : length text ≤ 65535
   pub parts : List Part
   pub reads : ReadsUpTo text parts ts []
 
+-- the text has this fault
 pub data HasFault (text : List ℕ) (f : ScanFault) : Type 0 where
   too_long : 65535 < length text → f ≡ fault_at 0 TooLong → HasFault text f
-  faulty : (parts : List Part) (ts : List Token) (rest : List ℕ) (cause : ScanCause) → length text ≤ 65535 → ReadsUpTo text parts ts rest → FaultAt (length ts) rest cause
-      → f ≡ fault_at (1 + line_feeds (joined parts [])) cause → HasFault text f
+  faulty : (parts : List Part) (ts : List Token) (rest : List ℕ) (cause : ScanCause) → length text ≤ 65535
+      → ReadsUpTo text parts ts rest → FaultAt (length ts) rest cause → f ≡ fault_at (1 + line_feeds (joined parts [])) cause → HasFault text f
 
+-- the text reads to this
 abbrev pub Reading : List ℕ → Outcome → Type 0
 Reading text (Ok ts) = HasTokens text ts
 Reading text (Err f) = HasFault text f

@@ -1,21 +1,15 @@
--- Scanning from left to right, piece by piece.
-use Rattle.std.specs.Prelude.{◌≡◌, ◌≢◌, ℕ, zero, suc, ◌+◌, ◌-◌, ◌==◌, nat_lt, if◌then◌else◌, List, [], ◌∷◌, ◌++◌, length, count_by, Option, Some, None, Result, Ok, Err}
+-- Scanning from left to right, piece by piece, as it is computed.
+use Rattle.std.specs.Prelude.{◌≡◌, ◌≢◌, ℕ, zero, suc, ◌+◌, ◌-◌, ◌==◌, nat_lt, if◌then◌else◌, List, [], ◌∷◌, ◌++◌, length, Option, Some, None, Result, Ok, Err}
 use Rattle.cp_text.specs.declared.fault.ScanCause.{ScanCause}
 use Rattle.cp_text.specs.declared.fault.ScanCause.TheVariants.{TooLong, Memory}
 use Rattle.cp_text.specs.declared.fault.ScanFault.{ScanFault}
 use Rattle.cp_text.specs.declared.token.Kind.{Kind}
 use Rattle.cp_text.specs.declared.token.Token.{Token}
-use Rattle.cp_text.specs.Faults.{fault_at}
+use Rattle.cp_text.specs.Faults.{Outcome, fault_at, out_of_memory}
 use Rattle.cp_text.specs.Lexemes.{next}
 
-abbrev pub Outcome : Type 0
-Outcome = Result (List Token) ScanFault
-
-abbrev pub line_feeds : List ℕ → ℕ
-line_feeds text = count_by (λ b. b == 10) text
-
 abbrev pub fault : ℕ → ScanCause → ScanFault
-fault line Memory = fault_at 0 Memory
+fault line Memory = out_of_memory
 fault line cause = fault_at line cause
 
 abbrev pub added : List Token → Option Kind → ℕ → List Token
@@ -43,4 +37,4 @@ scan text = if nat_lt 65535 (length text) then Err (fault_at 0 TooLong) else sca
 -- what the scanner ensures: this outcome, unless memory is refused
 abbrev pub Scans : Outcome → Outcome → Type 0
 Scans outcome (Ok ts) = outcome ≡ Ok ts
-Scans outcome (Err f) = f ≢ fault_at 0 Memory → outcome ≡ Err f
+Scans outcome (Err f) = f ≢ out_of_memory → outcome ≡ Err f

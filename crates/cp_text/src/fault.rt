@@ -2,7 +2,7 @@
 
 ghost use Rattle.std.specs.Prelude.{◌≡◌};
 ghost use Rattle.cp_text.specs.declared.fault.ScanCause.TheVariants.{Memory};
-ghost use Rattle.cp_text.specs.Faults.{fault_at};
+ghost use Rattle.cp_text.specs.Faults.{out_of_memory};
 
 use std::alloc::{AllocError, AllocFailed};
 
@@ -45,16 +45,8 @@ impl From<AllocError> for ScanCause {
     }
 }
 
-impl<T: Drop> From<AllocFailed<T>> for ScanCause {
-    ghost from_gives = { λ _ e. e ≡ Memory };
-
-    fn from(_e: AllocFailed<T>) -> ScanCause {
-        ScanCause::Memory
-    }
-}
-
 impl<T: Drop> From<AllocFailed<T>> for ScanFault {
-    ghost from_gives = { λ _ e. e ≡ fault_at 0 Memory };
+    ghost from_gives = { λ _ e. e ≡ out_of_memory };
 
     fn from(_e: AllocFailed<T>) -> ScanFault {
         ScanFault {

@@ -1,10 +1,11 @@
 //! From a text to its tokens.
 
 ghost use Rattle.std.specs.Prelude.{◌≡◌, ◌<◌, ◌≤◌, ◌^◌, ◌≢◌, [], length, OnOk, IfErr};
+ghost use Rattle.cp_text.specs.Bytes.{line_feeds};
 ghost use Rattle.cp_text.specs.Reading.{Reading};
-ghost use Rattle.cp_text.specs.Faults.{fault_at};
+ghost use Rattle.cp_text.specs.Faults.{out_of_memory, Outcome};
 ghost use Rattle.cp_text.specs.Scanning as spec;
-ghost use Rattle.cp_text.specs.Scanning.{Outcome, Scans};
+ghost use Rattle.cp_text.specs.Scanning.{Scans};
 
 use crate::fault::{ScanCause, ScanFault};
 use crate::lexeme::next;
@@ -18,8 +19,8 @@ const LONGEST_TEXT: usize = 65535;
 /// # Errors
 /// The causes of [`ScanCause`]. `TooLong` is looked at first.
 pub fn scan(alloc: Global, source: &[u8]) -> Result<Tokens, ScanFault>
-    ensures reads { result ≢ Err (fault_at 0 ScanCause.Memory) → Reading source.now result }
-    ensures only { (other : Outcome) → Reading source.now other → result ≢ Err (fault_at 0 ScanCause.Memory) → result ≡ other }
+    ensures reads { result ≢ Err out_of_memory → Reading source.now result }
+    ensures only { (other : Outcome) → Reading source.now other → result ≢ Err out_of_memory → result ≡ other }
 {
     if source.len() > LONGEST_TEXT {
         return Err(ScanFault {
@@ -54,7 +55,7 @@ fn pieces(alloc: Global, source: &[u8]) -> Result<Tokens, ScanFault>
 /// Adds the token of this kind, if there is one.
 fn add(items: &mut Vec<Token>, kind: Option<Kind>, line: u32) -> Result<(), ScanFault>
     ensures ok { OnOk result (items.new.items ≡ spec.added items.old.items kind line) }
-    ensures err { IfErr result (λ e. e ≡ fault_at 0 ScanCause.Memory) }
+    ensures err { IfErr result (λ e. e ≡ out_of_memory) }
 {
     if let Some(kind) = kind {
         items.push(Token { kind, line })?;
@@ -62,6 +63,7 @@ fn add(items: &mut Vec<Token>, kind: Option<Kind>, line: u32) -> Result<(), Scan
     Ok(())
 }
 
+/// The fault of the piece that begins on this line.
 fn fault(line: u32, cause: ScanCause) -> ScanFault
     ensures { result ≡ spec.fault line cause }
 {
@@ -71,9 +73,10 @@ fn fault(line: u32, cause: ScanCause) -> ScanFault
     }
 }
 
+/// How many line feeds the text has.
 fn line_feeds(text: &[u8]) -> u32
     requires { length text.now < 2 ^ 16 }
-    ensures value { result ≡ spec.line_feeds text.now }
+    ensures value { result ≡ line_feeds text.now }
     ensures within { result ≤ length text.now }
 {
     let mut count = 0;

@@ -1,5 +1,5 @@
 use Rattle.std.proofs.Common.{◌≡◌, ◌≤◌, drop}
-use Rattle.cp_text.specs.Lexemes.{number_from}
+use Rattle.cp_text.specs.Values.{number_from}
 use Rattle.cp_text.proofs.lexeme.number.Given as goal
 
 abbrev pub invariant-loop-b : goal.invariant-loop-b

@@ -1,5 +1,5 @@
 use Rattle.std.proofs.Common.{◌≡◌, take}
-use Rattle.cp_text.specs.Scanning.{line_feeds}
+use Rattle.cp_text.specs.Bytes.{line_feeds}
 use Rattle.cp_text.proofs.scan.line_feeds.Given as goal
 
 abbrev pub invariant-loop-b : goal.invariant-loop-b

@@ -1,6 +1,5 @@
 use Rattle.std.proofs.Common.{◌≡◌, length, arith, sym, ◌∙◌, ap, Ok, Err}
-use Rattle.cp_text.specs.declared.fault.ScanCause.TheVariants.{Memory}
-use Rattle.cp_text.specs.Faults.{fault_at}
+use Rattle.cp_text.specs.Faults.{out_of_memory}
 use Rattle.cp_text.specs.Lexemes.{next}
 use Rattle.cp_text.specs.Scanning.{fault}
 use Rattle.cp_text.proofs.ScanSteps.{fault_told, scan_stops, scan_goes, scan_ends}
@@ -8,7 +7,7 @@ use Rattle.cp_text.proofs.scan.pieces.Goals as goal
 
 pub returns-in-Err : goal.returns-in-Err
 returns-in-Err c = λ told.
-    let t = fault_told c.loop-rest.line c.in-Err.cause (λ (q : fault c.loop-rest.line c.in-Err.cause ≡ fault_at 0 Memory). told (c.fault.ensures ∙ q)) in
+    let t = fault_told c.loop-rest.line c.in-Err.cause (λ (q : fault c.loop-rest.line c.in-Err.cause ≡ out_of_memory). told (c.fault.ensures ∙ q)) in
     let count : c.len.result ≡ length c.loop-rest.items.items = grind arith in
     let h : next (length c.loop-rest.items.items) c.loop-rest.rest.now ≡ Err c.in-Err.cause = rw (← count) (c.in-Err.ensures.value t.0) in
     sym c.loop-rest.invariant.reads
