@@ -1,0 +1,25 @@
+-- The first fault of a node is that of its first part with one.
+use Rattle.std.proofs.Common.{List, [], ◌∷◌, ◌++◌, Ok, Err}
+use Rattle.cp_scope.specs.declared.fault.CheckFault.{CheckFault}
+use Rattle.cp_scope.specs.declared.fault.CheckFault.TheVariants.{Rule, LeftOut, Memory}
+use Rattle.cp_scope.specs.Judged.{Judged, both, ◌>>=◌, IsFirst, Refuses, IsFirstOf, RefusesList}
+
+pub first_both : {A B C : Type 0} (f : CheckFault) (a : Judged A) (b : Judged B) (k : A × B → Judged C) → IsFirst f a → IsFirst f (both a b >>= k)
+first_both f (Ok x) b k h = absurd h
+first_both f (Err []) b k h = absurd h
+first_both f (Err (g ∷ gs)) (Ok y) k h = h
+first_both f (Err (g ∷ gs)) (Err hs) k h = h
+
+pub refuses_both : {A B C : Type 0} (e : CheckFault) (a : Judged A) (b : Judged B) (k : A × B → Judged C) → Refuses e a → Refuses e (both a b >>= k)
+refuses_both Memory a b k h = tt
+refuses_both (Rule at rule) a b k h = first_both (Rule at rule) a b k h
+refuses_both (LeftOut at) a b k h = first_both (LeftOut at) a b k h
+
+first_of_append : (f : CheckFault) (fs gs : List CheckFault) → IsFirstOf f fs → IsFirstOf f (fs ++ gs)
+first_of_append f [] gs h = absurd h
+first_of_append f (g ∷ fs) gs h = h
+
+pub first_append : (e : CheckFault) (fs gs : List CheckFault) → RefusesList e fs → RefusesList e (fs ++ gs)
+first_append Memory fs gs h = tt
+first_append (Rule at rule) fs gs h = first_of_append (Rule at rule) fs gs h
+first_append (LeftOut at) fs gs h = first_of_append (LeftOut at) fs gs h

@@ -1,0 +1,8 @@
+use Rattle.std.proofs.Common.{◌≡◌, drop}
+use Rattle.cp_scope.specs.View.{scopes_of}
+use Rattle.cp_check.specs.Declarations as spec
+use Rattle.cp_check.proofs.declaration.reserve_names.Given as goal
+
+-- what is left leads where all lead
+abbrev pub invariant-loop-name : goal.invariant-loop-name
+invariant-loop-name l = spec.reserve_names (scopes_of l.fn.table) l.names ≡ spec.reserve_names (scopes_of l.table) (drop l.name-index l.names)

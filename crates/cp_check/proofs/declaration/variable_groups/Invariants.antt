@@ -1,0 +1,9 @@
+use Rattle.std.proofs.Common.{◌≡◌, drop, map}
+use Rattle.cp_scope.specs.View.{scopes_of}
+use Rattle.cp_tree.specs.View.{variable_group_view}
+use Rattle.cp_check.specs.Declarations as spec
+use Rattle.cp_check.proofs.declaration.variable_groups.Given as goal
+
+-- what is left leads where all lead
+abbrev pub invariant-loop-node : goal.invariant-loop-node
+invariant-loop-node l = spec.variable_groups (scopes_of l.fn.table) (map variable_group_view l.nodes) ≡ spec.variable_groups (scopes_of l.table) (map variable_group_view (drop l.node-index l.nodes))

@@ -1,0 +1,9 @@
+use Rattle.std.proofs.Common.{◌≡◌, drop, map}
+use Rattle.cp_scope.specs.View.{scopes_of}
+use Rattle.cp_tree.specs.View.{start_view}
+use Rattle.cp_check.specs.Statements as spec
+use Rattle.cp_check.proofs.statement.starts.Given as goal
+
+-- what is left has the faults of all
+abbrev pub invariant-loop-node : goal.invariant-loop-node
+invariant-loop-node l = spec.starts (scopes_of l.table) (map start_view l.nodes) ≡ spec.starts (scopes_of l.table) (map start_view (drop l.node-index l.nodes))

@@ -1,0 +1,5 @@
+pub mod Expressions
+pub mod Statements
+pub mod Declarations
+pub mod Faults
+pub mod View

@@ -1,0 +1,3 @@
+//! Which rule a program breaks, and where.
+
+pub use cp_scope::fault::{CheckFault, Rule};

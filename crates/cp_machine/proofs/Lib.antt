@@ -1,0 +1,4 @@
+pub mod Keeping
+pub mod ListLemmas
+pub mod OpeningFits
+pub mod ThreadLemmas

@@ -1,0 +1,7 @@
+use Rattle.std.proofs.Common.{◌≡◌, map}
+use Rattle.std.specs.Prelude.{replicate}
+use Rattle.cp_machine.specs.Machine.{monitor_of, no_monitor}
+use Rattle.cp_machine.proofs.start.free_guards.Given as goal
+
+abbrev pub invariant-loop-number : goal.invariant-loop-number
+invariant-loop-number l = map monitor_of l.guards.items ≡ replicate l._number no_monitor

@@ -1,0 +1,16 @@
+use Rattle.std.proofs.Common.{◌≡◌, ◌∙◌, ap, sym, subst}
+use Rattle.cp_machine.specs.declared.state.Status.TheVariants.{Ready}
+use Rattle.cp_machine.specs.Fits.{MachineFits}
+use Rattle.cp_machine.specs.Machine.{Machine, with_status, still}
+use Rattle.cp_machine.proofs.Keeping.{status_fits}
+use Rattle.cp_machine.proofs.OpeningFits.{still_fits}
+use Rattle.cp_machine.proofs.state.State.start.Goals as goal
+
+pub returns-clause-own : goal.returns-clause-own
+returns-clause-own c =
+    let r = c.args.program.now in
+    let P : Machine → Type 0 = λ m. MachineFits r (with_status m 0 Ready) in
+    record {
+      fits = subst (MachineFits r) (sym c.set_status.ensures.after) (subst P (sym c.in_ok-state.ensures.still) (status_fits r _ 0 Ready (still_fits r c.args.gates c.in_ok-state.ensures.sound)));
+      reserved = c.set_status.ensures.reserved r c.in_ok-state.ensures.reserved;
+    }

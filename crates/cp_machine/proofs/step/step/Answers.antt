@@ -1,0 +1,41 @@
+use Rattle.std.proofs.Common.{◌≡◌, ◌<◌, ap, length, refl, subst, sym, true}
+use Rattle.std.proofs.lemmas.List.{length-map}
+use Rattle.cp_machine.specs.declared.event.Event.{Event}
+use Rattle.cp_machine.specs.declared.event.Event.TheVariants.{Local, Kernel, Ended, Fault, OutputFull}
+use Rattle.cp_machine.specs.declared.event.RunError.{RunError}
+use Rattle.cp_machine.specs.Fits.{MachineFits, IsStateOf}
+use Rattle.cp_machine.specs.Machine.{Machine, Stepped, machine_of, succeeds}
+use Rattle.cp_machine.proofs.Keeping.{step_fits}
+use Rattle.cp_machine.proofs.step.step.Goals as goal
+
+counted : (e : Event) → ((x : RunError) → e ≡ Fault x → ⊥) → (e ≡ OutputFull → ⊥) → succeeds e ≡ true
+counted Local f o = refl
+counted (Kernel k) f o = refl
+counted Ended f o = refl
+counted (Fault x) f o = absurd (f x refl)
+counted OutputFull f o = absurd (o refl)
+
+pub returns-in_default : goal.returns-in_default
+returns-in_default g c =
+    let r = c.args.program.now in
+    let lt : c.args.pid < length (machine_of c.args.state.now).threads = rw length-map c.requires.pid in
+    let Fine : Stepped → Type 0 = λ x. MachineFits r x.machine in
+    let one : succeeds c.take_step-event.result ≡ true = counted _ c.in_default.not-Fault c.in_default.not-OutputFull in
+    record {
+      after = c.take_step-event.ensures.after;
+      own = record {
+        fits = subst Fine c.take_step-event.ensures.after (step_fits r _ c.args.pid lt c.take_step-event.ensures.sound c.requires.own.fits);
+        reserved = c.take_step-event.ensures.reserved;
+      };
+      ticks = rw one c.tick.ensures;
+    }
+
+pub returns-in-Fault-clause-own : goal.returns-in-Fault-clause-own
+returns-in-Fault-clause-own g c =
+    let r = c.args.program.now in
+    let lt : c.args.pid < length (machine_of c.args.state.now).threads = rw length-map c.requires.pid in
+    let Fine : Stepped → Type 0 = λ x. MachineFits r x.machine in
+    record {
+      fits = subst Fine c.take_step-event.ensures.after (step_fits r _ c.args.pid lt c.take_step-event.ensures.sound c.requires.own.fits);
+      reserved = c.take_step-event.ensures.reserved;
+    }

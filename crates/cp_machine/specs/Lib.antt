@@ -1,0 +1,5 @@
+pub mod Fits
+pub mod Machine
+pub mod Stack
+pub mod System
+pub mod Values

@@ -1,0 +1,12 @@
+//! Displayed values.
+
+/// A displayed value.
+#[derive(Clone, Copy, Debug, PartialEq, Eq)]
+pub enum Shown {
+    Integer(i16),
+    /// A character's code.
+    Char(u8),
+    Truth(bool),
+    /// The number of an enumeration constant.
+    Constant(u16),
+}

@@ -1,0 +1,4 @@
+pub mod Types
+pub mod Judged
+pub mod Scopes
+pub mod View

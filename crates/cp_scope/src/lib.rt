@@ -1,0 +1,7 @@
+//! What the checker knows of a program: types, what names stand for, and scopes.
+#![tactic(auto)]
+
+pub mod fault;
+pub mod scope;
+pub mod table;
+pub mod types;

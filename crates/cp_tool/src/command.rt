@@ -1,0 +1,100 @@
+//! The command of `cpx`, as `clap` knows it.
+ghost use Rattle.std.specs.Prelude.{◌≡◌, IfOk, codes, false};
+ghost use Rattle.clap.specs.Words.{app_of, new_app, rule_of};
+ghost use Rattle.cp_tool.specs.Command.{cpx, valued, flag};
+
+use clap::{Arg, ArgAction, Command};
+use std::alloc::{AllocError, Global};
+
+const ABOUT: &str =
+    "Reads a program in Concurrent Pascal from standard input, runs it under every schedule\nof at most K choices, and reports which outcomes are possible.";
+
+const USAGE: &str = "cpx [OPTIONS] < PROGRAM";
+
+const NOTES: &str =
+    "Example: cpx --choices 5 < program.cp\n\nStatus: 0 reported, 1 source refused, 2 options refused, 3 no memory, 4 read or write fault,\n5 too many rows";
+
+/// Seven options, each with a long name alone; `clap` adds `--help` and `-h`.
+pub fn command<'a>(alloc: Global) -> Result<Command<'a>, AllocError>
+    ensures { IfOk result (λ c. app_of c ≡ cpx) }
+{
+    let choices = option(
+        alloc,
+        "choices",
+        "K",
+        "Choices of a schedule, 0 to 20 [default: 8]",
+    );
+    let steps = option(
+        alloc,
+        "steps",
+        "L",
+        "Steps of a stretch between choices, 1 to 100000 [default: 1000]",
+    );
+    let workers = option(
+        alloc,
+        "workers",
+        "N",
+        "Threads that explore, 1 to 16 [default: 2]",
+    );
+    let cut = option(
+        alloc,
+        "cut",
+        "D",
+        "Choices that are dealt out to the threads, 0 to 20 [default: 2]",
+    );
+    let rows = switch(
+        alloc,
+        "rows",
+        "Write a line for each schedule, before the report",
+    );
+    let schedule = option(
+        alloc,
+        "schedule",
+        "WORD",
+        "Trace this one schedule: `none`, or up to 20 numbers 0 to 15 joined by periods",
+    );
+    let gates = option(
+        alloc,
+        "gates",
+        "WHO",
+        "Who enters a monitor that becomes free: `first` in line, or `any` [default: first]",
+    );
+    let command = described(alloc)
+        .arg(choices)?
+        .arg(steps)?
+        .arg(workers)?
+        .arg(cut)?
+        .arg(rows)?
+        .arg(schedule)?
+        .arg(gates)?;
+    Ok(command)
+}
+
+fn described<'a>(alloc: Global) -> Command<'a>
+    ensures { app_of result ≡ new_app (codes "cpx") }
+{
+    Command::new(alloc, "cpx")
+        .about(ABOUT)
+        .override_usage(USAGE)
+        .after_help(NOTES)
+}
+
+fn option<'a>(alloc: Global, name: &'a str, value: &'a str, help: &'a str) -> Arg<'a>
+    ensures rule { rule_of result ≡ valued name.entry.now }
+    ensures local { result.global ≡ false }
+{
+    Arg::new(alloc, name)
+        .long(name)
+        .value_name(value)
+        .help(help)
+}
+
+fn switch<'a>(alloc: Global, name: &'a str, help: &'a str) -> Arg<'a>
+    ensures rule { rule_of result ≡ flag name.entry.now }
+    ensures local { result.global ≡ false }
+{
+    Arg::new(alloc, name)
+        .long(name)
+        .action(ArgAction::SetTrue)
+        .help(help)
+}

@@ -1,0 +1,99 @@
+//! The options of the words.
+ghost use Rattle.std.specs.Prelude.{IfErr, IfOk, option_map, map};
+ghost use Rattle.clap.specs.Words.{rows_of, found_of};
+ghost use Rattle.cp_tool.specs.Finds.{Finds};
+ghost use Rattle.cp_tool.specs.Options.{Gives, HasOptions, IsScheduled, IsFaultFor, IsGated};
+
+#[cfg(test)]
+mod tests;
+
+use crate::command::command;
+use crate::numbers::chosen;
+use crate::options::{OptionFault, Options};
+use crate::schedule::word_of;
+use arrayvec::ArrayVec;
+use clap::ArgMatches;
+use clap::error::ErrorKind;
+use cp_machine::gates::Gates;
+use std::alloc::{AllocError, Global};
+
+/// The options, as `clap` matches the words, of which the first is the program's name.
+pub fn read_options<'a>(alloc: Global, words: &'a [&'a str]) -> Result<Options, OptionFault>
+    ensures options { IfOk result (Gives (map (λ s. s.now) words.entry.now)) }
+    ensures fault { IfErr result (IsFaultFor (map (λ s. s.now) words.entry.now)) }
+{
+    let command = command(alloc)?;
+    match command.try_get_matches_from(words) {
+        Ok(matches) => {
+            let Some(options) = options_of(alloc, &matches)? else {
+                return Err(OptionFault::Refused);
+            };
+            Ok(options)
+        }
+        Err(error) => match error.kind() {
+            ErrorKind::OutOfMemory => Err(OptionFault::Memory),
+            ErrorKind::DisplayHelp => Err(OptionFault::Help(format!(in alloc; "{error}")?)),
+            _ => Err(OptionFault::Refused),
+        },
+    }
+}
+
+fn options_of(alloc: Global, matches: &ArgMatches<'_>) -> Result<Option<Options>, AllocError>
+    ensures { IfOk result (Finds (HasOptions (rows_of (found_of matches.now)))) }
+{
+    let Some(choices) = chosen(matches.get_str("choices"), 8, 0, 20) else {
+        return Ok(None);
+    };
+    let Some(steps) = chosen(matches.get_str("steps"), 1_000, 1, 100_000) else {
+        return Ok(None);
+    };
+    let Some(workers) = chosen(matches.get_str("workers"), 2, 1, 16) else {
+        return Ok(None);
+    };
+    let Some(cut) = chosen(matches.get_str("cut"), 2, 0, 20) else {
+        return Ok(None);
+    };
+    let Some(gates) = gates_of(matches.get_str("gates")) else {
+        return Ok(None);
+    };
+    let Some(schedule) = schedule_of(alloc, matches.get_str("schedule"))? else {
+        return Ok(None);
+    };
+    Ok(Some(Options {
+        choices: choices as u8,
+        steps,
+        workers: workers as u8,
+        cut: cut as u8,
+        rows: matches.get_flag("rows"),
+        schedule,
+        gates,
+    }))
+}
+
+fn schedule_of(
+    alloc: Global,
+    text: Option<&str>,
+) -> Result<Option<Option<ArrayVec<u8, 20>>>, AllocError>
+    ensures { IfOk result (Finds (IsScheduled (option_map (λ s. s.now) text.entry))) }
+{
+    let Some(text) = text else {
+        return Ok(Some(None));
+    };
+    let Some(word) = word_of(alloc, text)? else {
+        return Ok(None);
+    };
+    Ok(Some(Some(word)))
+}
+
+fn gates_of(text: Option<&str>) -> Option<Gates>
+    ensures { Finds (IsGated (option_map (λ s. s.now) text.entry)) result }
+{
+    let Some(text) = text else {
+        return Some(Gates::First);
+    };
+    match text {
+        "first" => Some(Gates::First),
+        "any" => Some(Gates::Any),
+        _ => None,
+    }
+}

@@ -1,0 +1,56 @@
+//! The options and their ranges, and why there are none.
+ghost use Rattle.std.specs.Prelude.{◌≤◌};
+ghost use Rattle.std.specs.Option.{ForSome};
+ghost use Rattle.cp_tool.specs.Words.{IsWord};
+
+use arrayvec::ArrayVec;
+use cp_machine::gates::Gates;
+use std::alloc::AllocError;
+
+/// What the words of a call ask for, each in its range.
+#[derive(Drop)]
+pub struct Options {
+    /// The most choices of a schedule.
+    pub choices: u8,
+    /// The most steps of a stretch.
+    pub steps: u32,
+    /// How many threads explore.
+    pub workers: u8,
+    /// To how many choices the schedules are dealt out to the threads.
+    pub cut: u8,
+    /// Whether the report has a line for each row.
+    pub rows: bool,
+    /// The one schedule to be traced, if any.
+    pub schedule: Option<ArrayVec<u8, 20>>,
+    /// Who goes into a monitor that becomes free.
+    pub gates: Gates,
+    ghost choices_range: { choices ≤ 20 },
+    ghost steps_range: { steps ≤ 100000 },
+    ghost some_step: { 1 ≤ steps },
+    ghost workers_range: { workers ≤ 16 },
+    ghost some_worker: { 1 ≤ workers },
+    ghost cut_range: { cut ≤ 20 },
+    ghost schedule_range: { ForSome schedule (λ w. IsWord w.items) },
+}
+
+/// Why there are no options.
+#[derive(Drop)]
+pub enum OptionFault {
+    /// The words are refused.
+    Refused,
+    /// Memory was refused.
+    Memory,
+    /// The words ask for help, and this is its text.
+    Help(String),
+}
+
+impl From<AllocError> for OptionFault {
+    ghost use Rattle.std.specs.Prelude.{◌≡◌};
+    ghost use Rattle.cp_tool.specs.declared.options.OptionFault.TheVariants.{Memory};
+
+    ghost from_gives = { λ _ e. e ≡ Memory };
+
+    fn from(_: AllocError) -> OptionFault {
+        OptionFault::Memory
+    }
+}

@@ -1,0 +1,57 @@
+//! Schedule words and their texts.
+ghost use Rattle.std.specs.Prelude.{◌≡◌, ℕ, List, IfOk, IfSome, IsSomeAnd, string_bytes};
+ghost use Rattle.cp_tool.specs.Finds.{Finds};
+ghost use Rattle.cp_tool.specs.Words.{IsWord, spelled};
+
+use arrayvec::ArrayVec;
+use std::alloc::{AllocError, Global};
+
+/// The word that the text spells, or `None` where it spells none. The text is read leniently, and
+/// what was read is spelled again: where that is another text, the first spells no word.
+pub fn word_of(alloc: Global, text: &str) -> Result<Option<ArrayVec<u8, 20>>, AllocError>
+    ensures { IfOk result (Finds (λ w. IsWord w.items × (spelled w.items ≡ text.now))) }
+{
+    let Some(word) = numbers_of(text) else {
+        return Ok(None);
+    };
+    let again = spell(alloc, word.as_slice())?;
+    if again.as_str() == text {
+        Ok(Some(word))
+    } else {
+        Ok(None)
+    }
+}
+
+fn numbers_of(text: &str) -> Option<ArrayVec<u8, 20>>
+    ensures word { IfSome result (λ v. IsWord v.items) }
+    ensures reads { (w : List ℕ) → IsWord w → spelled w ≡ text.now
+        → IsSomeAnd result (λ v. v.items ≡ w) }
+{
+    let mut word = ArrayVec::new();
+    if text == "none" {
+        return Some(word);
+    }
+    for part in text.split('.') {
+        let Ok(number) = part.parse::<u8>() else {
+            return None;
+        };
+        if number > 15 || word.is_full() {
+            return None;
+        }
+        word.push(number);
+    }
+    Some(word)
+}
+
+fn spell(alloc: Global, word: &[u8]) -> Result<String, AllocError>
+    ensures { IfOk result (λ s. string_bytes s ≡ spelled word.now) }
+{
+    let Some((first, rest)) = word.split_first() else {
+        return format!(in alloc; "none");
+    };
+    let mut text = format!(in alloc; "{first}")?;
+    for number in rest {
+        write!(text, ".{number}")?;
+    }
+    Ok(text)
+}

@@ -1,0 +1,92 @@
+//! Readers and writers that take or give one byte at a time, and fail at a call of choice.
+
+use std::alloc::Global;
+use std::io::{Error, ErrorKind, Read, Result, Write};
+
+/// Gives one byte a read. The read of number `fails_at`, counted from 1, fails.
+#[derive(Drop)]
+pub struct OneByteReader<'a> {
+    rest: &'a [u8],
+    calls: u32,
+    fails_at: u32,
+}
+
+impl<'a> OneByteReader<'a> {
+    pub fn new(bytes: &'a [u8], fails_at: u32) -> OneByteReader<'a> {
+        OneByteReader {
+            rest: bytes,
+            calls: 0,
+            fails_at,
+        }
+    }
+}
+
+impl<'a> Read for OneByteReader<'a> {
+    fn read(&mut self, buffer: &mut [u8]) -> Result<usize> {
+        self.calls = self.calls.saturating_add(1);
+        if self.calls == self.fails_at {
+            return Err(Error::from(ErrorKind::Other));
+        }
+        match self.rest.split_first() {
+            Some((byte, rest)) => {
+                if buffer.is_empty() {
+                    return Ok(0);
+                }
+                buffer[0] = *byte;
+                self.rest = rest;
+                Ok(1)
+            }
+            None => Ok(0),
+        }
+    }
+}
+
+/// What a writer does at the call of its choice.
+#[derive(Clone, Copy, PartialEq, Eq)]
+pub enum Refusal {
+    Fails,
+    TakesNothing,
+}
+
+/// Takes one byte a write. The write of number `refuses_at`, counted from 1, is refused.
+#[derive(Drop)]
+pub struct OneByteWriter {
+    pub taken: Vec<u8>,
+    calls: u32,
+    refuses_at: u32,
+    refusal: Refusal,
+}
+
+impl OneByteWriter {
+    pub fn new(alloc: Global, refuses_at: u32, refusal: Refusal) -> OneByteWriter {
+        OneByteWriter {
+            taken: Vec::new(alloc),
+            calls: 0,
+            refuses_at,
+            refusal,
+        }
+    }
+}
+
+impl Write for OneByteWriter {
+    fn write(&mut self, bytes: &[u8]) -> Result<usize> {
+        self.calls = self.calls.saturating_add(1);
+        if self.calls == self.refuses_at {
+            return match self.refusal {
+                Refusal::Fails => Err(Error::from(ErrorKind::Other)),
+                Refusal::TakesNothing => Ok(0),
+            };
+        }
+        match bytes.first() {
+            Some(byte) => match self.taken.push(*byte) {
+                Ok(()) => Ok(1),
+                Err(_) => Err(Error::from(ErrorKind::OutOfMemory)),
+            },
+            None => Ok(0),
+        }
+    }
+
+    fn flush(&mut self) -> Result<()> {
+        Ok(())
+    }
+}
