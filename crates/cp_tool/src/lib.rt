@@ -3,6 +3,7 @@
 
 mod command;
 pub mod command_line;
+pub mod explore_stream;
 mod numbers;
 pub mod options;
 mod refusal;

@@ -4,7 +4,6 @@ ghost use Rattle.std.specs.declared.option.Option.{Option};
 ghost use Rattle.std.specs.Io.KnownBytes.{ReadConsumes, WriteAppends};
 ghost use Rattle.cp_tool.specs.Calls.{one_if_failed, one_if_nothing};
 
-
 /// A read or a write that failed.
 #[derive(Clone, Copy, Debug, PartialEq, Eq)]
 pub struct Failed;
@@ -15,6 +14,7 @@ pub trait Source {
     ghost remaining: { Self → Option (List ℕ) } = { λ _. None };
     // How many reads were made, and how many of them failed.
     ghost reads: { Self → ℕ };
+
     ghost failed_reads: { Self → ℕ };
 
     /// Reads some bytes into the buffer, and answers how many; 0 only at the end, or where the buffer is empty.
@@ -31,7 +31,9 @@ pub trait Sink {
     ghost contents: { Self → Option (List ℕ) } = { λ _. None };
     // How many writes were made, how many of them failed, and how many of one byte or more took none.
     ghost writes: { Self → ℕ };
+
     ghost failed_writes: { Self → ℕ };
+
     ghost empty_writes: { Self → ℕ };
 
     /// Writes some of the bytes, from the first on, and answers how many.

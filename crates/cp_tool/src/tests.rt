@@ -1,4 +1,5 @@
 //! What no clause says: printed texts, readers and writers that give little or fail, and the worked rows.
 
 mod fakes;
-mod transfers;
+mod rows;
+mod streams;

@@ -1,6 +1,5 @@
 //! Reading a whole source and writing a whole text.
 ghost use Rattle.std.specs.Prelude.{◌≡◌, ◌+◌, ◌≤◌, ◌<◌, ◌≢◌, ◌++◌, ℕ, List, vec_len, take, min, length, IfOk, IfSome, MatchResult, Some};
-
 ghost use Rattle.std.specs.Io.KnownBytes.{Appends};
 ghost use Rattle.cp_tool.specs.Calls.{one_if_failed, one_if_refused};
 ghost use Rattle.cp_tool.specs.Transfer.{one_if_read_failed};

@@ -1,34 +1,44 @@
 //! A reader or a writer of std, with counts of its calls.
-ghost use Rattle.std.specs.Prelude.{◌≡◌};
+ghost use Rattle.std.specs.Prelude.{◌≡◌, ◌<◌};
 
 use crate::stream::{Failed, Sink, Source};
-use cp_machine::ticks::Ticks;
 use std::io::{Read, Write};
-use std::sync::ledger::{Blank, Ledger};
+use std::sync::ledger::{Blank, Book, Ledger, Share};
 
 /// A reader or a writer with three counts that take no bytes: calls, failed calls, and writes that took nothing.
+/// Each count is the amount of a share of one ledger.
 #[derive(Drop)]
-pub struct Wrapped<T: Drop, A: Ledger, B: Ledger, C: Ledger> {
+pub struct Wrapped<T: Drop, L: Ledger> {
     inner: T,
-    calls: Ticks<A>,
-    failed: Ticks<B>,
-    empty: Ticks<C>,
+    book: Book<L>,
+    calls: Share<L>,
+    failed: Share<L>,
+    empty: Share<L>,
+    ghost calls_part: { 0 < calls.parts },
+    ghost failed_part: { 0 < failed.parts },
+    ghost empty_part: { 0 < empty.parts },
 }
 
-impl<T: Drop, A: Ledger, B: Ledger, C: Ledger> Wrapped<T, A, B, C> {
+impl<T: Drop, L: Ledger> Wrapped<T, L> {
     /// The reader or writer, with counts of 0.
-    pub fn new(inner: T, calls: Blank, failed: Blank, empty: Blank) -> Wrapped<T, A, B, C>
-        requires calls { (calls.name ≡ A.name) × (calls.parts ≡ A.parts) × (A.parts ≡ 1) }
-        requires failed { (failed.name ≡ B.name) × (failed.parts ≡ B.parts) × (B.parts ≡ 1) }
-        requires empty { (empty.name ≡ C.name) × (empty.parts ≡ C.parts) × (C.parts ≡ 1) }
+    pub fn new(inner: T, blank: Blank) -> Wrapped<T, L>
+        requires name { blank.name ≡ L.name }
+        requires parts { blank.parts ≡ L.parts }
+        requires three { L.parts ≡ 3 }
         ensures inner { result.inner ≡ inner }
-        ensures counts { (result.calls ≡ 0) × (result.failed ≡ 0) × (result.empty ≡ 0) }
+        ensures calls { result.calls.amount ≡ 0 }
+        ensures failed { result.failed.amount ≡ 0 }
+        ensures empty { result.empty.amount ≡ 0 }
     {
+        let (book, mut calls) = blank.open();
+        let failed = calls.split_off(1, 0);
+        let empty = calls.split_off(1, 0);
         Wrapped {
             inner,
-            calls: Ticks::new(calls),
-            failed: Ticks::new(failed),
-            empty: Ticks::new(empty),
+            book,
+            calls,
+            failed,
+            empty,
         }
     }
 
@@ -40,41 +50,46 @@ impl<T: Drop, A: Ledger, B: Ledger, C: Ledger> Wrapped<T, A, B, C> {
     }
 }
 
-impl<T: Read + Drop, A: Ledger, B: Ledger, C: Ledger> Source for Wrapped<T, A, B, C> {
+impl<T: Read + Drop, L: Ledger> Source for Wrapped<T, L> {
     ghost remaining = { λ w. T.remaining w.inner };
-    ghost reads = { λ w. w.calls };
-    ghost failed_reads = { λ w. w.failed };
+
+    ghost reads = { λ w. w.calls.amount };
+
+    ghost failed_reads = { λ w. w.failed.amount };
 
     fn read(&mut self, buffer: &mut [u8]) -> Result<usize, Failed> {
-        self.calls.tick();
+        self.book.add(&mut self.calls, 1);
         match self.inner.read(buffer) {
             Ok(count) => Ok(count),
             Err(_) => {
-                self.failed.tick();
+                self.book.add(&mut self.failed, 1);
                 Err(Failed)
             }
         }
     }
 }
 
-impl<T: Write + Drop, A: Ledger, B: Ledger, C: Ledger> Sink for Wrapped<T, A, B, C> {
+impl<T: Write + Drop, L: Ledger> Sink for Wrapped<T, L> {
     ghost contents = { λ w. T.contents w.inner };
-    ghost writes = { λ w. w.calls };
-    ghost failed_writes = { λ w. w.failed };
-    ghost empty_writes = { λ w. w.empty };
+
+    ghost writes = { λ w. w.calls.amount };
+
+    ghost failed_writes = { λ w. w.failed.amount };
+
+    ghost empty_writes = { λ w. w.empty.amount };
 
     fn write(&mut self, bytes: &[u8]) -> Result<usize, Failed> {
-        self.calls.tick();
+        self.book.add(&mut self.calls, 1);
         match self.inner.write(bytes) {
             Ok(0) => {
                 if !bytes.is_empty() {
-                    self.empty.tick();
+                    self.book.add(&mut self.empty, 1);
                 }
                 Ok(0)
             }
             Ok(count) => Ok(count),
             Err(_) => {
-                self.failed.tick();
+                self.book.add(&mut self.failed, 1);
                 Err(Failed)
             }
         }

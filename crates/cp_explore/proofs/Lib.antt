@@ -1,0 +1,6 @@
+mod Branches
+mod Errors
+mod Grouping
+mod Joining
+mod Walks
+mod Whole

@@ -1,0 +1,4 @@
+pub mod Walk
+pub mod Report
+pub mod Rows
+pub mod Text

@@ -1,0 +1,18 @@
+-- What rows and faults of the code stand for.
+use Rattle.std.specs.Prelude.{List, map}
+use Rattle.std.specs.Borrow.{Bor}
+use Rattle.cp_run.specs.Table.{Line}
+use Rattle.cp_explore.specs.declared.row.Row.{Row}
+use Rattle.cp_explore.specs.declared.fault.ExploreFault.{ExploreFault}
+use Rattle.cp_explore.specs.declared.fault.ExploreFault.TheVariants.{Memory, TooManyRows}
+
+abbrev pub line_of : Row → Line
+line_of r = record { word = r.word.items; outcome = r.outcome }
+
+abbrev pub IsTooMany : ExploreFault → Type 0
+IsTooMany Memory = ⊥
+IsTooMany TooManyRows = Unit {0}
+
+-- the rows that references point to
+abbrev pub lines_at : List (Bor Row) → List Line
+lines_at rows = map (λ r. line_of r.now) rows

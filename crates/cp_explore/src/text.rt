@@ -1,0 +1,143 @@
+//! The texts of numbers, words and outcomes.
+
+ghost use Rattle.std.specs.Prelude.{◌≡◌, ◌++◌, ◌∷◌, [], ◌==◌, IfOk, string_bytes, decimal, codes};
+ghost use Rattle.std.specs.Fmt.{signed_decimal};
+ghost use Rattle.cp_explore.specs.Text.{word_text, char_text, shown_text, output_text, error_text, kind_text, outcome_text};
+
+use cp_machine::event::ErrorName;
+use cp_machine::shown::Shown;
+use cp_run::outcome::{Outcome, OutcomeKind};
+use cp_slots::resolved::Resolved;
+use std::alloc::{AllocError, Global};
+
+/// Appends a number in decimal.
+pub fn push_number(alloc: Global, text: &mut String, number: u64) -> Result<(), AllocError>
+    ensures { IfOk result (λ _. string_bytes text.new ≡ string_bytes text.old ++ decimal number) }
+{
+    let digits = format!(in alloc; "{number}")?;
+    text.push_str(digits.as_str())
+}
+
+/// Appends a word: its numbers joined by periods, or a hyphen.
+pub fn push_word(alloc: Global, text: &mut String, word: &[u8]) -> Result<(), AllocError>
+    ensures { IfOk result (λ _. string_bytes text.new ≡ string_bytes text.old ++ word_text word.now) }
+{
+    let Some((first, rest)) = word.split_first() else {
+        return text.push_str("-");
+    };
+    push_number(alloc, text, u64::from(*first))?;
+    for number in rest {
+        text.push_str(".")?;
+        push_number(alloc, text, u64::from(*number))?;
+    }
+    Ok(())
+}
+
+fn push_signed(alloc: Global, text: &mut String, number: i16) -> Result<(), AllocError>
+    ensures { IfOk result (λ _. string_bytes text.new ≡ string_bytes text.old ++ signed_decimal number) }
+{
+    let digits = format!(in alloc; "{number}")?;
+    text.push_str(digits.as_str())
+}
+
+fn push_char(alloc: Global, text: &mut String, code: u8) -> Result<(), AllocError>
+    ensures { IfOk result (λ _. string_bytes text.new ≡ string_bytes text.old ++ char_text code) }
+{
+    if code >= 33 && code <= 126 && code != 39 {
+        text.push_str("'")?;
+        text.push(char::from(code))?;
+        text.push_str("'")
+    } else {
+        text.push_str("'(:")?;
+        push_number(alloc, text, u64::from(code))?;
+        text.push_str(":)'")
+    }
+}
+
+fn push_shown(
+    alloc: Global,
+    text: &mut String,
+    program: &Resolved,
+    value: Shown,
+) -> Result<(), AllocError>
+    ensures { IfOk result (λ _. string_bytes text.new ≡ string_bytes text.old ++ shown_text program.now value) }
+{
+    match value {
+        Shown::Integer(number) => push_signed(alloc, text, number),
+        Shown::Char(code) => push_char(alloc, text, code),
+        Shown::Truth(true) => text.push_str("true"),
+        Shown::Truth(false) => text.push_str("false"),
+        Shown::Constant(number) => text.push_str(program.name(number)),
+    }
+}
+
+fn push_output(
+    alloc: Global,
+    text: &mut String,
+    program: &Resolved,
+    values: &[Shown],
+) -> Result<(), AllocError>
+    ensures { IfOk result (λ _. string_bytes text.new ≡ string_bytes text.old ++ output_text program.now values.now) }
+{
+    let Some((first, rest)) = values.split_first() else {
+        return text.push_str("-");
+    };
+    push_shown(alloc, text, program, *first)?;
+    for value in rest {
+        text.push_str(" ")?;
+        push_shown(alloc, text, program, *value)?;
+    }
+    Ok(())
+}
+
+fn error_name(name: ErrorName) -> &'static str
+    ensures { result.now ≡ error_text name }
+{
+    match name {
+        ErrorName::Overflow => "overflow",
+        ErrorName::ZeroDivisor => "zero-divisor",
+        ErrorName::Range => "range",
+        ErrorName::NoCase => "no-case",
+        ErrorName::QueueInUse => "queue-in-use",
+        ErrorName::NotInit => "not-init",
+        ErrorName::InitTwice => "init-twice",
+    }
+}
+
+fn push_kind(alloc: Global, text: &mut String, kind: OutcomeKind) -> Result<(), AllocError>
+    ensures { IfOk result (λ _. string_bytes text.new ≡ string_bytes text.old ++ kind_text kind) }
+{
+    match kind {
+        OutcomeKind::Finished => text.push_str("finished"),
+        OutcomeKind::AllWaiting => text.push_str("all-waiting"),
+        OutcomeKind::RunError {
+            name,
+            process,
+            line,
+        } => {
+            text.push_str("run-error ")?;
+            text.push_str(error_name(name))?;
+            text.push_str(" process ")?;
+            push_number(alloc, text, u64::from(process))?;
+            text.push_str(" line ")?;
+            push_number(alloc, text, u64::from(line))
+        }
+        OutcomeKind::ChoiceLimit => text.push_str("choice-limit"),
+        OutcomeKind::StepLimit => text.push_str("step-limit"),
+        OutcomeKind::OutputLimit => text.push_str("output-limit"),
+    }
+}
+
+/// Appends an outcome: its kind and what was displayed.
+pub fn push_outcome(
+    alloc: Global,
+    text: &mut String,
+    program: &Resolved,
+    outcome: &Outcome,
+) -> Result<(), AllocError>
+    ensures { IfOk result (λ _. string_bytes text.new ≡ string_bytes text.old ++ outcome_text program.now outcome.now) }
+{
+    push_kind(alloc, text, outcome.kind)?;
+    text.push_str(" output ")?;
+    push_output(alloc, text, program, outcome.output.as_slice())
+}

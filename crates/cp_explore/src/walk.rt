@@ -1,0 +1,106 @@
+//! The walk over the tree of words.
+
+ghost use Rattle.std.specs.Prelude.{◌≡◌, ◌<◌, ◌≤◌, ◌+◌, ◌++◌, [], ◌∷◌, length, map, All, IfOk, IfErr};
+ghost use Rattle.arrayvec.specs.ArrayVec.{array_vec_len};
+ghost use Rattle.cp_machine.specs.System.{machine_of, output_of, IsStateOf};
+ghost use Rattle.cp_run.specs.Slots.{slots};
+ghost use Rattle.cp_run.specs.Code.{node_of};
+ghost use Rattle.cp_explore.specs.Walk.{behind, walk};
+ghost use Rattle.cp_explore.specs.Rows.{line_of, IsTooMany};
+
+use crate::fault::ExploreFault;
+use crate::row::Row;
+use arrayvec::ArrayVec;
+use cp_machine::state::State;
+use cp_machine::ticks::Ticks;
+use cp_run::choice::{choose, may};
+use cp_run::limits::Limits;
+use cp_run::outcome::{Halt, OutcomeKind};
+use cp_run::run::outcome_at;
+use cp_slots::resolved::Resolved;
+use std::alloc::Global;
+use std::sync::ledger::Ledger;
+
+/// The most rows of a table.
+pub const MOST_ROWS: usize = 50_000;
+
+fn add_row(
+    alloc: Global,
+    state: &State,
+    kind: OutcomeKind,
+    word: &ArrayVec<u8, 20>,
+    rows: &mut Vec<Row>,
+) -> Result<(), ExploreFault>
+    ensures row { IfOk result (λ _. map line_of rows.new.items ≡ map line_of rows.old.items ++ record { word = word.now.items; outcome = record { kind = kind; output = output_of (machine_of state.now) } } ∷ []) }
+    ensures few { IfOk result (λ _. length rows.new.items ≤ 50000) }
+    ensures many { IfErr result (λ e. IsTooMany e → 50000 ≤ length rows.old.items) }
+{
+    if rows.len() >= MOST_ROWS {
+        return Err(ExploreFault::TooManyRows);
+    }
+    let Ok(outcome) = outcome_at(alloc, kind, state) else {
+        return Err(ExploreFault::Memory);
+    };
+    let row = Row {
+        word: word_of(word.as_slice()),
+        outcome,
+    };
+    match rows.push(row) {
+        Ok(()) => Ok(()),
+        Err(_) => Err(ExploreFault::Memory),
+    }
+}
+
+/// These numbers as a word.
+fn word_of(numbers: &[u8]) -> ArrayVec<u8, 20>
+    requires { length numbers.now ≤ 20 }
+    ensures { result.items ≡ numbers.now }
+{
+    let mut word = ArrayVec::new();
+    let _ = word.try_extend_from_slice(numbers);
+    word
+}
+
+/// Walks from a node, at the end of `word`; there is a kept state for each choice left.
+pub fn walk_from<S: Ledger, C: Ledger>(
+    alloc: Global,
+    program: &Resolved,
+    limits: Limits,
+    state: &State,
+    halt: Halt,
+    kept: &mut [State],
+    word: &mut ArrayVec<u8, 20>,
+    rows: &mut Vec<Row>,
+    steps: &mut Ticks<S>,
+    calls: &mut Ticks<C>,
+) -> Result<(), ExploreFault>
+    requires own { IsStateOf program.now state.now }
+    requires kept { All (IsStateOf program.now) kept.old }
+    requires room { array_vec_len word.old + length kept.old ≤ 20 }
+    requires rows { length rows.old.items ≤ 50000 }
+    ensures rows { IfOk result (λ _. map line_of rows.new.items ≡ map line_of rows.old.items ++ map (behind word.old.items) (walk (slots program.now limits.gates) limits.steps (length kept.old) (node_of halt (machine_of state.now)))) }
+    ensures word { IfOk result (λ _. word.new.items ≡ word.old.items) }
+    ensures kept { All (IsStateOf program.now) kept.new }
+    ensures few { IfOk result (λ _. length rows.new.items ≤ 50000) }
+    ensures many { IfErr result (λ e. IsTooMany e → 50000 < length rows.old.items + length (walk (slots program.now limits.gates) limits.steps (length kept.old) (node_of halt (machine_of state.now)))) }
+{
+    if let Halt::Ended(kind) = halt {
+        return add_row(alloc, state, kind, word, rows);
+    }
+    let Some((next, deeper)) = kept.split_first_mut() else {
+        return add_row(alloc, state, OutcomeKind::ChoiceLimit, word, rows);
+    };
+    let depth = word.len();
+    for process in 0..program.processes() {
+        if may(program, limits, state, process) {
+            next.take_from(state);
+            let halt = choose(program, limits, next, process, steps, calls);
+            word.push(process);
+            walk_from(
+                alloc, program, limits, next, halt, deeper, word, rows, steps, calls,
+            )?;
+            word.truncate(depth);
+        }
+    }
+    Ok(())
+}

@@ -1,0 +1,9 @@
+use Rattle.std.proofs.Common.{◌∙◌, ap, ◌==◌}
+use Rattle.std.specs.List.{list_any}
+use Rattle.cp_machine.specs.System.{machine_of}
+use Rattle.cp_run.specs.Slots.{slots}
+use Rattle.cp_run.proofs.Wanted.{any_wanted}
+use Rattle.cp_run.proofs.choice.may.Goals as goal
+
+pub returns : goal.returns
+returns c = c.contains.ensures.value ∙ ap (list_any (λ y. y == c.args.process)) (c.deref.ensures.0 ∙ c.wanted.ensures) ∙ any_wanted (slots c.args.program.now c.args.limits.gates) (machine_of c.args.state.now) c.args.process

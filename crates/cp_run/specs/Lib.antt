@@ -1,0 +1,5 @@
+pub mod System
+pub mod Run
+pub mod Slots
+pub mod Code
+pub mod Table

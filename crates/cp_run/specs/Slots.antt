@@ -1,0 +1,29 @@
+-- The slot machine of a program, as a system.
+use Rattle.std.specs.Prelude.{ℕ, length}
+use Rattle.cp_slots.specs.Tables.{Tables}
+use Rattle.cp_machine.specs.declared.gates.Gates.{Gates}
+use Rattle.cp_machine.specs.System.{Machine, opening, step_at, is_ready, in_line, is_pending, waits, admitted, output_of, monitor_at}
+use Rattle.cp_run.specs.System.{System}
+
+abbrev pub processes_of : Tables → ℕ
+processes_of r = length r.processes
+
+abbrev pub monitors_of : Tables → ℕ
+monitors_of r = 0
+
+abbrev pub slots : Tables → Gates → System Machine
+slots r gates =
+    record {
+      processes = processes_of r;
+      monitors = monitors_of r;
+      start = opening r gates;
+      step = λ m p. (step_at r m p).machine;
+      event = λ m p. (step_at r m p).event;
+      admit = admitted;
+      is_ready = is_ready;
+      is_pending = is_pending;
+      in_line = in_line;
+      waits = waits;
+      holder = λ m n. (monitor_at m n).holder;
+      output = output_of;
+    }

@@ -1,0 +1,61 @@
+//! What comes before the next step of a run.
+
+ghost use Rattle.std.specs.Prelude.{◌≡◌, true, false};
+ghost use Rattle.cp_machine.specs.System.{Machine, machine_of, is_ready, is_pending, IsStateOf};
+ghost use Rattle.cp_run.specs.Run.{settled_turn, turn_at};
+ghost use Rattle.cp_run.specs.Slots.{slots};
+ghost use Rattle.cp_run.specs.Code.{IfGoes};
+
+use crate::limits::Limits;
+use crate::outcome::{OutcomeKind, Turn};
+use cp_machine::state::State;
+use cp_slots::resolved::Resolved;
+
+/// Nobody ready, choice of process, going on: what comes before the next step, where no gate choice is due. The last step was one of
+/// `process`, and `kernel` says that it was a kernel call or a process end.
+pub fn settled_turn(
+    program: &Resolved,
+    limits: Limits,
+    state: &State,
+    kernel: bool,
+    process: u8,
+) -> Turn
+    requires own { IsStateOf program.now state.now }
+    requires goes_on { kernel ≡ false → is_ready (machine_of state.now) process ≡ true }
+    ensures turn { result ≡ settled_turn (slots program.now limits.gates) (machine_of state.now) kernel process }
+    ensures ready { IfGoes result (λ q. is_ready (machine_of state.now) q ≡ true) }
+{
+    let ready = state.ready();
+    match ready.as_slice() {
+        [] => {
+            if state.waits() {
+                Turn::Over(OutcomeKind::AllWaiting)
+            } else {
+                Turn::Over(OutcomeKind::Finished)
+            }
+        }
+        [one] => Turn::Goes(*one),
+        [_, _, ..] => {
+            if kernel {
+                Turn::Due
+            } else {
+                Turn::Goes(process)
+            }
+        }
+    }
+}
+
+/// Gate choice, and then these.
+pub fn turn_at(program: &Resolved, limits: Limits, state: &State, kernel: bool, process: u8) -> Turn
+    requires own { IsStateOf program.now state.now }
+    requires goes_on { kernel ≡ false → is_ready (machine_of state.now) process ≡ true }
+    ensures turn { result ≡ turn_at (slots program.now limits.gates) (machine_of state.now) kernel process }
+    ensures ready { IfGoes result (λ q. is_ready (machine_of state.now) q ≡ true) }
+    ensures free { IfGoes result (λ q. is_pending (machine_of state.now) ≡ false) }
+{
+    if state.pending().is_some() {
+        Turn::Due
+    } else {
+        settled_turn(program, limits, state, kernel, process)
+    }
+}
