@@ -106,11 +106,7 @@ pub fn expression(
 // An expression whose inner ones have at most `budget` levels.
 #[cycle(expression)]
 #[tactic(auto, unfolding(crate::specs::ReadingExpressions::expression_with, crate::specs::ReadingExpressions::sum_at))]
-fn related(
-    alloc: Global,
-    cursor: &mut Cursor<'_>,
-    budget: usize,
-) -> Result<Expression, ParseFault>
+fn related(alloc: Global, cursor: &mut Cursor<'_>, budget: usize) -> Result<Expression, ParseFault>
     ensures { Reads expression_view (spec.expression_with (spec.factor_at budget) cursor.old) result cursor.new }
 {
     let at = cursor.at();

@@ -148,4 +148,3 @@ pub fn parts(alloc: Global, cursor: &mut Cursor<'_>) -> Result<Vec<Part>, ParseF
     }
     Ok(found)
 }
-

@@ -12,7 +12,7 @@ use crate::declaration::{
 };
 use crate::fault::ParseFault;
 use crate::read_constant::identifier;
-use crate::read_part::{constant_definitions, parts, variable_groups, MAX_LEVEL};
+use crate::read_part::{MAX_LEVEL, constant_definitions, parts, variable_groups};
 use crate::read_routine::{body, groups, routines};
 use crate::read_type::type_term;
 use cp_text::token::Mark;
@@ -70,10 +70,7 @@ fn definition(alloc: Global, cursor: &mut Cursor<'_>) -> Result<Definition, Pars
 }
 
 #[tactic(auto, unfolding(crate::specs::ReadingDeclarations::system_item))]
-fn system_definition(
-    alloc: Global,
-    cursor: &mut Cursor<'_>,
-) -> Result<SystemDefinition, ParseFault>
+fn system_definition(alloc: Global, cursor: &mut Cursor<'_>) -> Result<SystemDefinition, ParseFault>
     ensures { Reads system_definition_view (spec.system_item cursor.old) result cursor.new }
 {
     let name = identifier(alloc, cursor)?;
@@ -102,10 +99,7 @@ fn system_definitions(
 }
 
 #[tactic(auto, unfolding(crate::specs::ReadingDeclarations::program_part_item))]
-fn program_part(
-    alloc: Global,
-    cursor: &mut Cursor<'_>,
-) -> Result<Option<ProgramPart>, ParseFault>
+fn program_part(alloc: Global, cursor: &mut Cursor<'_>) -> Result<Option<ProgramPart>, ParseFault>
     ensures { Reads (λ p. option_map program_part_view p) (spec.program_part_item cursor.old) result cursor.new }
 {
     let at = cursor.at();
@@ -127,10 +121,7 @@ fn program_part(
     Ok(Some(ProgramPart { at, kind }))
 }
 
-fn program_parts(
-    alloc: Global,
-    cursor: &mut Cursor<'_>,
-) -> Result<Vec<ProgramPart>, ParseFault>
+fn program_parts(alloc: Global, cursor: &mut Cursor<'_>) -> Result<Vec<ProgramPart>, ParseFault>
     ensures { Reads (λ v. map program_part_view v.items) (lists.many spec.program_part_item cursor.old) result cursor.new }
 {
     let mut found = Vec::new(alloc);

@@ -11,7 +11,7 @@ use crate::cursor::Cursor;
 use crate::declaration::{Body, Group, ParameterGroup, Routine, RoutineKind};
 use crate::fault::ParseFault;
 use crate::read_constant::{identifier, identifiers};
-use crate::read_part::{parts, MAX_LEVEL};
+use crate::read_part::{MAX_LEVEL, parts};
 use crate::read_statement::statements;
 use cp_text::token::Mark;
 use std::alloc::Global;
@@ -77,10 +77,7 @@ fn parameter_group(alloc: Global, cursor: &mut Cursor<'_>) -> Result<ParameterGr
 }
 
 #[tactic(auto, unfolding(crate::specs::Reading::separated))]
-fn parameter_list(
-    alloc: Global,
-    cursor: &mut Cursor<'_>,
-) -> Result<Vec<ParameterGroup>, ParseFault>
+fn parameter_list(alloc: Global, cursor: &mut Cursor<'_>) -> Result<Vec<ParameterGroup>, ParseFault>
     ensures { Reads (λ v. map parameter_group_view v.items) (lists.separated mark.Semicolon spec.parameter_item cursor.old) result cursor.new }
 {
     let mut found = Vec::new(alloc);
@@ -96,10 +93,7 @@ fn parameter_list(
 
 // Parameters in parentheses, or none where no parenthesis opens.
 #[tactic(auto, unfolding(crate::specs::ReadingDeclarations::parenthesised))]
-fn parameters(
-    alloc: Global,
-    cursor: &mut Cursor<'_>,
-) -> Result<Vec<ParameterGroup>, ParseFault>
+fn parameters(alloc: Global, cursor: &mut Cursor<'_>) -> Result<Vec<ParameterGroup>, ParseFault>
     ensures { Reads (λ v. map parameter_group_view v.items) (spec.parenthesised spec.parameter_item cursor.old) result cursor.new }
 {
     if !cursor.eat(Mark::OpenParenthesis) {

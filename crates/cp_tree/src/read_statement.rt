@@ -360,11 +360,7 @@ fn init(
 }
 
 #[tactic(auto, unfolding(crate::specs::Reading::separated))]
-fn starts(
-    alloc: Global,
-    cursor: &mut Cursor<'_>,
-    budget: usize,
-) -> Result<Vec<Start>, ParseFault>
+fn starts(alloc: Global, cursor: &mut Cursor<'_>, budget: usize) -> Result<Vec<Start>, ParseFault>
     ensures { Reads (λ v. map start_view v.items) (lists.separated mark.Comma (spec.start_at budget) cursor.old) result cursor.new }
 {
     let mut found = Vec::new(alloc);

@@ -60,11 +60,7 @@ fn simple_from(
 /// A type of at most `budget` levels.
 #[cycle(types)]
 #[tactic(auto, unfolding(crate::specs::ReadingTypes::type_term, crate::specs::ReadingTypes::type_at))]
-pub fn type_term(
-    alloc: Global,
-    cursor: &mut Cursor<'_>,
-    budget: usize,
-) -> Result<Type, ParseFault>
+pub fn type_term(alloc: Global, cursor: &mut Cursor<'_>, budget: usize) -> Result<Type, ParseFault>
     ensures { Reads type_view (spec.type_term budget cursor.old) result cursor.new }
 {
     if budget == 0 {
@@ -76,11 +72,7 @@ pub fn type_term(
 // A type whose inner ones have at most `budget` levels.
 #[cycle(types)]
 #[tactic(auto, unfolding(crate::specs::ReadingTypes::type_at, crate::specs::ReadingTypes::type_with, crate::specs::ReadingTypes::array_at, crate::specs::ReadingTypes::record_at))]
-fn type_within(
-    alloc: Global,
-    cursor: &mut Cursor<'_>,
-    budget: usize,
-) -> Result<Type, ParseFault>
+fn type_within(alloc: Global, cursor: &mut Cursor<'_>, budget: usize) -> Result<Type, ParseFault>
     ensures { Reads type_view (spec.type_at budget cursor.old) result cursor.new }
 {
     let at = cursor.at();

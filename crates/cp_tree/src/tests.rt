@@ -9,10 +9,15 @@ use cp_text::scan::scan;
 use cp_text::token::{Kind, Mark, Token, Tokens};
 use std::test::Fail;
 
-const BUFFER: &str = "type buffer = monitor; var full: boolean; slot: integer; sender, receiver: queue; procedure entry put(x: integer); begin if full then delay(sender); slot := x; full := true; continue(receiver) end; procedure entry get(var x: integer); begin if not full then delay(receiver); x := slot; full := false; continue(sender) end; begin full := false end; producer = process(b: buffer); begin b.put(7) end; consumer = process(b: buffer); var v: integer; begin b.get(v); display(v) end; var b: buffer; p: producer; c: consumer; begin init b, p(b), c(b) end.";
+const BUFFER: &str =
+    "type buffer = monitor; var full: boolean; slot: integer; sender, receiver: queue; procedure entry put(x: integer); begin if full then delay(sender); slot := x; full := true; continue(receiver) end; procedure entry get(var x: integer); begin if not full then delay(receiver); x := slot; full := false; continue(sender) end; begin full := false end; producer = process(b: buffer); begin b.put(7) end; consumer = process(b: buffer); var v: integer; begin b.get(v); display(v) end; var b: buffer; p: producer; c: consumer; begin init b, p(b), c(b) end.";
 
 fn scanned(rt: &HostRuntime, source: &str) -> Result<Tokens, Fail> {
-    Ok(scan(rt.alloc(), source.as_bytes()).ok().ok_or("it is scanned")?)
+    Ok(
+        scan(rt.alloc(), source.as_bytes())
+            .ok()
+            .ok_or("it is scanned")?,
+    )
 }
 
 fn parsed(rt: &HostRuntime, source: &str) -> Result<Result<Tree, ParseFault>, Fail> {
@@ -56,16 +61,27 @@ fn copied(rt: &HostRuntime, tokens: &Tokens, count: usize, at: usize) -> Result<
 #[test]
 fn worked_rows(rt: HostRuntime) -> Result<(), Fail> {
     assert!(rt; matches!(fault(&rt, "")?, ParseFault::Unexpected(0)));
-    assert!(rt; matches!(fault(&rt, "begin with x do end.")?, ParseFault::OutsideProfile(1)));
+    assert!(rt;
+        matches!(
+            fault(&rt, "begin with x do end.")?,
+            ParseFault::OutsideProfile(1)
+        )
+    );
     assert!(rt; matches!(fault(&rt, "begin cycle end.")?, ParseFault::Unexpected(3)));
     Ok(())
 }
 
 #[test]
 fn dangling_else(rt: HostRuntime) -> Result<(), Fail> {
-    let source = "var a, b: boolean; x: integer; begin a := true; if a then if b then x := 1 else x := 2; display(x) end.";
+    let source =
+        "var a, b: boolean; x: integer; begin a := true; if a then if b then x := 1 else x := 2; display(x) end.";
     let tree = parsed(&rt, source)?.ok().ok_or("it is a program")?;
-    let outer = tree.program.body.statements.get(1).ok_or("the second statement")?;
+    let outer = tree
+        .program
+        .body
+        .statements
+        .get(1)
+        .ok_or("the second statement")?;
     match &outer.kind {
         StatementKind::If(_, chosen, None) => {
             assert!(rt; matches!(chosen.kind, StatementKind::If(_, _, Some(_))));
@@ -106,39 +122,119 @@ fn cut_at_each_token(rt: HostRuntime) -> Result<(), Fail> {
 #[test]
 fn levels(rt: HostRuntime) -> Result<(), Fail> {
     assert!(rt; parsed(&rt, nested(&rt, 50)?.as_str())?.is_ok());
-    assert!(rt; matches!(fault(&rt, nested(&rt, 51)?.as_str())?, ParseFault::TooDeep(51)));
+    assert!(rt;
+        matches!(
+            fault(&rt, nested(&rt, 51)?.as_str())?,
+            ParseFault::TooDeep(51)
+        )
+    );
     Ok(())
 }
 
 #[test]
 fn refused_elsewhere(rt: HostRuntime) -> Result<(), Fail> {
-    assert!(rt; matches!(fault(&rt, "const c = -'a'; begin end.")?, ParseFault::Unexpected(4)));
+    assert!(rt;
+        matches!(
+            fault(&rt, "const c = -'a'; begin end.")?,
+            ParseFault::Unexpected(4)
+        )
+    );
     assert!(rt; matches!(fault(&rt, "begin set end.")?, ParseFault::Unexpected(1)));
-    assert!(rt; matches!(fault(&rt, "begin end. with")?, ParseFault::OutsideProfile(3)));
+    assert!(rt;
+        matches!(
+            fault(&rt, "begin end. with")?,
+            ParseFault::OutsideProfile(3)
+        )
+    );
     assert!(rt; matches!(fault(&rt, "begin end. begin")?, ParseFault::Unexpected(3)));
-    assert!(rt; matches!(fault(&rt, "begin x := 1 = 2 = 3 end.")?, ParseFault::Unexpected(6)));
-    assert!(rt; matches!(fault(&rt, "begin x := - - 1 end.")?, ParseFault::Unexpected(4)));
-    assert!(rt; matches!(fault(&rt, "begin if x then y; else z end.")?, ParseFault::Unexpected(6)));
-    assert!(rt; matches!(fault(&rt, "begin case x of end end.")?, ParseFault::Unexpected(4)));
-    assert!(rt; matches!(fault(&rt, "begin case x of 1: ; ; end end.")?, ParseFault::Unexpected(7)));
+    assert!(rt;
+        matches!(
+            fault(&rt, "begin x := 1 = 2 = 3 end.")?,
+            ParseFault::Unexpected(6)
+        )
+    );
+    assert!(rt;
+        matches!(
+            fault(&rt, "begin x := - - 1 end.")?,
+            ParseFault::Unexpected(4)
+        )
+    );
+    assert!(rt;
+        matches!(
+            fault(&rt, "begin if x then y; else z end.")?,
+            ParseFault::Unexpected(6)
+        )
+    );
+    assert!(rt;
+        matches!(
+            fault(&rt, "begin case x of end end.")?,
+            ParseFault::Unexpected(4)
+        )
+    );
+    assert!(rt;
+        matches!(
+            fault(&rt, "begin case x of 1: ; ; end end.")?,
+            ParseFault::Unexpected(7)
+        )
+    );
     assert!(rt; matches!(fault(&rt, "begin init end.")?, ParseFault::Unexpected(2)));
-    assert!(rt; matches!(fault(&rt, "begin x.y[1, 2] := 1 end.")?, ParseFault::Unexpected(6)));
+    assert!(rt;
+        matches!(
+            fault(&rt, "begin x.y[1, 2] := 1 end.")?,
+            ParseFault::Unexpected(6)
+        )
+    );
     assert!(rt; matches!(fault(&rt, "begin f() end.")?, ParseFault::Unexpected(3)));
     assert!(rt; matches!(fault(&rt, "type begin end.")?, ParseFault::Unexpected(1)));
-    assert!(rt; matches!(fault(&rt, "type a = record end; begin end.")?, ParseFault::Unexpected(4)));
-    assert!(rt; matches!(fault(&rt, "var x: +y; begin end.")?, ParseFault::Unexpected(5)));
-    assert!(rt; matches!(fault(&rt, "var x: class; begin end.")?, ParseFault::Unexpected(3)));
-    assert!(rt; matches!(fault(&rt, "procedure p begin end; begin end.")?, ParseFault::Unexpected(2)));
-    assert!(rt; matches!(fault(&rt, "begin for i := 1 do end.")?, ParseFault::Unexpected(5)));
+    assert!(rt;
+        matches!(
+            fault(&rt, "type a = record end; begin end.")?,
+            ParseFault::Unexpected(4)
+        )
+    );
+    assert!(rt;
+        matches!(
+            fault(&rt, "var x: +y; begin end.")?,
+            ParseFault::Unexpected(5)
+        )
+    );
+    assert!(rt;
+        matches!(
+            fault(&rt, "var x: class; begin end.")?,
+            ParseFault::Unexpected(3)
+        )
+    );
+    assert!(rt;
+        matches!(
+            fault(&rt, "procedure p begin end; begin end.")?,
+            ParseFault::Unexpected(2)
+        )
+    );
+    assert!(rt;
+        matches!(
+            fault(&rt, "begin for i := 1 do end.")?,
+            ParseFault::Unexpected(5)
+        )
+    );
     Ok(())
 }
 
 #[test]
 fn accepted_forms(rt: HostRuntime) -> Result<(), Fail> {
-    let source = "const c = -1; d = 'a'; type t = (a, b); u = array [t] of set of 1..c; v = record x, y: t; z: 0..+9; end; var q: v; function f(n: t): t; begin end; begin case c of 1, -d: ; 'x': begin end; end; repeat until not [] = [1, 2] * [q.x]; for i := 1 downto 2 do while x in y do; if a then else begin end end.";
+    let source =
+        "const c = -1; d = 'a'; type t = (a, b); u = array [t] of set of 1..c; v = record x, y: t; z: 0..+9; end; var q: v; function f(n: t): t; begin end; begin case c of 1, -d: ; 'x': begin end; end; repeat until not [] = [1, 2] * [q.x]; for i := 1 downto 2 do while x in y do; if a then else begin end end.";
     assert!(rt; parsed(&rt, source)?.is_ok());
-    let tree = parsed(&rt, "begin x := -(1) end.")?.ok().ok_or("it is a program")?;
-    match &tree.program.body.statements.get(0).ok_or("a statement")?.kind {
+    let tree = parsed(&rt, "begin x := -(1) end.")?
+        .ok()
+        .ok_or("it is a program")?;
+    match &tree
+        .program
+        .body
+        .statements
+        .get(0)
+        .ok_or("a statement")?
+        .kind
+    {
         StatementKind::Assign(_, value) => {
             assert!(rt; value.left.sign.is_some());
             assert!(rt; matches!(value.left.first.first.kind, FactorKind::Group(_)));

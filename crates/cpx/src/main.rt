@@ -18,7 +18,15 @@ use std::thread::Threads;
 fn main(rt: HostRuntime) -> ExitCode {
     let code = match options(&rt) {
         Ok(options) => {
-            explored::<HostRuntime, Brand, Brand>(&rt, rt.alloc(), &options, rt.stdin(), Blank::new(3), rt.stdout(), Blank::new(3))
+            explored::<HostRuntime, Brand, Brand>(
+                &rt,
+                rt.alloc(),
+                &options,
+                rt.stdin(),
+                Blank::new(3),
+                rt.stdout(),
+                Blank::new(3),
+            )
         }
         Err(OptionFault::Refused) => {
             let _ = eprintln!(rt; "options refused");
@@ -51,7 +59,12 @@ fn options(rt: &HostRuntime) -> Result<Options, OptionFault> {
             return Err(OptionFault::Memory);
         }
     }
-    read_options(rt.alloc(), &texts)
+    let options = read_options(rt.alloc(), &texts)?;
+    // A schedule is read, and not traced yet.
+    if options.schedule.is_some() {
+        return Err(OptionFault::Refused);
+    }
+    Ok(options)
 }
 
 /// The status of exploring standard input; the blanks are for the counts of the streams' calls.
