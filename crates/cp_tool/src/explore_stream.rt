@@ -1,5 +1,6 @@
 //! From the bytes of a source to the bytes of an answer.
-ghost use Rattle.std.specs.Prelude.{◌≡◌};
+ghost use Rattle.std.specs.Prelude.{◌≡◌, IfOk, option_map};
+ghost use Rattle.cp_tool.specs.Answered as spec;
 
 use crate::options::Options;
 use crate::refusal::{check_reason, parse_reason, refusal, scan_reason};
@@ -18,6 +19,7 @@ use cp_slots::resolved::Resolved;
 use cp_text::scan::scan;
 use cp_text::token::Tokens;
 use cp_tree::parse::parse;
+use cp_tree::tree::Tree;
 use std::alloc::{AllocError, Global};
 use std::marker::Brand;
 use std::sync::ledger::{Blank, Ledger};
@@ -63,73 +65,96 @@ pub fn explore_stream<X: Threads + Sync, R: Source, W: Sink>(
 }
 
 /// What is answered to a source.
-fn answered(alloc: Global, options: &Options, source: &[u8]) -> Result<Answer, AllocError> {
-    let tokens = match scan(alloc, source) {
-        Ok(tokens) => tokens,
-        Err(fault) => {
-            return match scan_reason(fault.cause) {
-                Some(reason) => refused(alloc, fault.line, reason),
-                None => Err(AllocError),
-            };
-        }
-    };
-    let tree = match parse(alloc, &tokens) {
-        Ok(tree) => tree,
-        Err(fault) => {
-            return match parse_reason(&fault) {
-                Some((at, reason)) => refused(alloc, line_at(&tokens, at), reason),
-                None => Err(AllocError),
-            };
-        }
-    };
-    let checked = match check(alloc, tree) {
-        Ok(checked) => checked,
-        Err((fault, _)) => {
-            return match check_reason(&fault) {
-                Some((at, reason)) => refused(alloc, line_at(&tokens, at), reason),
-                None => Err(AllocError),
-            };
-        }
-    };
-    explored(alloc, options, &resolve(alloc, &checked)?)
+fn answered(alloc: Global, options: &Options, source: &[u8]) -> Result<Answer, AllocError>
+    ensures { IfOk result (λ a. spec.AnswersSource options.now source.now a.code a.text) }
+{
+    match scan(alloc, source) {
+        Ok(tokens) => parsed(alloc, options, &tokens),
+        Err(fault) => refused(alloc, fault.line, scan_reason(fault.cause)),
+    }
 }
 
-fn refused(alloc: Global, line: u32, reason: &str) -> Result<Answer, AllocError> {
+/// What is answered to the tokens of a source.
+fn parsed(alloc: Global, options: &Options, tokens: &Tokens) -> Result<Answer, AllocError>
+    ensures { IfOk result (λ a. spec.AnswersTokens options.now tokens.now a.code a.text) }
+{
+    match parse(alloc, tokens) {
+        Ok(tree) => checked(alloc, options, tokens, tree),
+        Err(fault) => refused_at(alloc, tokens, parse_reason(&fault)),
+    }
+}
+
+/// What is answered to a tree.
+fn checked(
+    alloc: Global,
+    options: &Options,
+    tokens: &Tokens,
+    tree: Tree,
+) -> Result<Answer, AllocError>
+    ensures { IfOk result (λ a. spec.AnswersTree options.now tokens.now tree a.code a.text) }
+{
+    match check(alloc, tree) {
+        Ok(checked) => explored(alloc, options, &resolve(alloc, &checked)?),
+        Err((fault, _tree)) => refused_at(alloc, tokens, check_reason(&fault)),
+    }
+}
+
+fn refused(alloc: Global, line: u32, reason: Option<&str>) -> Result<Answer, AllocError>
+    ensures { IfOk result (λ a. spec.IsRefusedIn line (option_map (λ s. s.now) reason.entry) a.code a.text) }
+{
+    let Some(reason) = reason else {
+        return Err(AllocError);
+    };
     Ok(Answer {
         code: 1,
         text: Text::new(refusal(alloc, line, reason)?),
     })
 }
 
-/// The line of a token, or the last token's for the end of the source.
-fn line_at(tokens: &Tokens, at: usize) -> u32 {
-    tokens.line(at.min(tokens.count()))
+/// The refusal at a token, or at the last one for the end of the source.
+fn refused_at(
+    alloc: Global,
+    tokens: &Tokens,
+    reason: Option<(usize, &str)>,
+) -> Result<Answer, AllocError>
+    ensures { IfOk result (λ a. spec.IsRefusedAt tokens.now (option_map (λ r. (r.0, r.1.now)) reason.entry) a.code a.text) }
+{
+    let Some((at, reason)) = reason else {
+        return Err(AllocError);
+    };
+    let line = tokens.line(at.min(tokens.count()));
+    Ok(Answer {
+        code: 1,
+        text: Text::new(refusal(alloc, line, reason)?),
+    })
 }
 
 /// The report of a program's table, or that it has too many rows.
-fn explored(alloc: Global, options: &Options, program: &Resolved) -> Result<Answer, AllocError> {
-    let Some(limits) = Limits::new(options.choices, options.steps, options.gates) else {
-        unreachable!()
-    };
-    let job = Job { program, limits };
-    counted::<Brand>(alloc, options.rows, job, Blank::new(1))
+fn explored(alloc: Global, options: &Options, program: &Resolved) -> Result<Answer, AllocError>
+    ensures { IfOk result (λ a. spec.IsReported options.now program.now a.code a.text) }
+{
+    counted::<Brand>(alloc, options, program, Blank::new(1))
 }
 
 fn counted<L: Ledger>(
     alloc: Global,
-    rows: bool,
-    job: Job,
+    options: &Options,
+    program: &Resolved,
     blank: Blank,
 ) -> Result<Answer, AllocError>
     requires name { blank.name ≡ L.name }
     requires parts { blank.parts ≡ L.parts }
     requires one { L.parts ≡ 1 }
+    ensures { IfOk result (λ a. spec.IsReported options.now program.now a.code a.text) }
 {
+    let Some(limits) = Limits::new(options.choices, options.steps, options.gates) else {
+        unreachable!()
+    };
     let mut calls: Ticks<L> = Ticks::new(blank);
-    match explore_one(alloc, job, &mut calls) {
+    match explore_one(alloc, Job { program, limits }, &mut calls) {
         Ok(table) => Ok(Answer {
             code: 0,
-            text: report(alloc, job.program, &table, rows)?.text,
+            text: report(alloc, program, &table, options.rows)?.text,
         }),
         Err(ExploreFault::TooManyRows) => Ok(Answer {
             code: 5,

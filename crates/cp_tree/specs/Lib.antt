@@ -6,6 +6,9 @@ pub mod ReadingDeclarations
 pub mod ReadingExpressions
 pub mod ReadingStatements
 pub mod ReadingTypes
+pub mod Spelling
+pub mod SpellingIndexed
+pub mod SpellingLevel
 pub mod Syntax
 pub mod TreeView
 pub mod View

@@ -8,9 +8,8 @@ use Rattle.cp_tree.specs.declared.constant.Identifier.{Identifier}
 use Rattle.cp_tree.specs.declared.constant.Sign.{Sign}
 use Rattle.cp_tree.specs.declared.constant.Sign.TheVariants as signs
 use Rattle.cp_tree.specs.declared.constant.Constant.{Constant}
-use Rattle.cp_tree.specs.declared.constant.ConstantKind.{ConstantKind}
 use Rattle.cp_tree.specs.declared.constant.ConstantKind.TheVariants as constant_kind
-use Rattle.cp_tree.specs.Input.{Parser, ◌>>=◌, ◌>>◌, pure, refuse, place, peek, peek_mark, skip, seen, seen_name, eat, expect}
+use Rattle.cp_tree.specs.Input.{Parser, ◌>>=◌, ◌>>◌, pure, refuse, place, peek, peek_mark, skip, seen, seen_name, eat}
 
 -- Items one after the other, up to the first None. The number bounds the turns.
 abbrev pub many_on : {A : Type 0} → List A → (List A → Parser (List A)) → Option A → Parser (List A)

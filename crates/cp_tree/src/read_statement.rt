@@ -1,7 +1,7 @@
 //! Reading statements. A budget is how many more levels are allowed below.
 
 ghost use Rattle.std.specs.Prelude.{◌≡◌, map};
-ghost use Rattle.cp_tree.specs.Input.{Reads};
+ghost use Rattle.cp_tree.specs.Input.{Reads, advance};
 ghost use Rattle.cp_tree.specs.Reading as lists;
 ghost use Rattle.cp_tree.specs.ReadingStatements as spec;
 ghost use Rattle.cp_tree.specs.View.{start_view, statement_view, statements_view, arm_view, arms_view};
@@ -42,43 +42,18 @@ fn statement_within(
 ) -> Result<Statement, ParseFault>
     ensures { Reads statement_view (spec.statement_at budget cursor.old) result cursor.new }
 {
-    let at = cursor.at();
     match cursor.peek() {
-        Some(Kind::Name(_)) => named(alloc, cursor, budget, at),
-        Some(Kind::Mark(Mark::Begin)) => {
-            cursor.advance();
-            block(alloc, cursor, budget, at)
-        }
-        Some(Kind::Mark(Mark::If)) => {
-            cursor.advance();
-            choice(alloc, cursor, budget, at)
-        }
-        Some(Kind::Mark(Mark::Case)) => {
-            cursor.advance();
-            case(alloc, cursor, budget, at)
-        }
-        Some(Kind::Mark(Mark::While)) => {
-            cursor.advance();
-            while_loop(alloc, cursor, budget, at)
-        }
-        Some(Kind::Mark(Mark::Repeat)) => {
-            cursor.advance();
-            repeat_loop(alloc, cursor, budget, at)
-        }
-        Some(Kind::Mark(Mark::For)) => {
-            cursor.advance();
-            for_loop(alloc, cursor, budget, at)
-        }
-        Some(Kind::Mark(Mark::Cycle)) => {
-            cursor.advance();
-            cycle(alloc, cursor, budget, at)
-        }
-        Some(Kind::Mark(Mark::Init)) => {
-            cursor.advance();
-            init(alloc, cursor, budget, at)
-        }
+        Some(Kind::Name(_)) => named(alloc, cursor, budget),
+        Some(Kind::Mark(Mark::Begin)) => block(alloc, cursor, budget),
+        Some(Kind::Mark(Mark::If)) => choice(alloc, cursor, budget),
+        Some(Kind::Mark(Mark::Case)) => case(alloc, cursor, budget),
+        Some(Kind::Mark(Mark::While)) => while_loop(alloc, cursor, budget),
+        Some(Kind::Mark(Mark::Repeat)) => repeat_loop(alloc, cursor, budget),
+        Some(Kind::Mark(Mark::For)) => for_loop(alloc, cursor, budget),
+        Some(Kind::Mark(Mark::Cycle)) => cycle(alloc, cursor, budget),
+        Some(Kind::Mark(Mark::Init)) => init(alloc, cursor, budget),
         _ => Ok(Statement {
-            at,
+            at: cursor.at(),
             kind: StatementKind::Empty,
         }),
     }
@@ -86,14 +61,10 @@ fn statement_within(
 
 // An assignment or a call.
 #[tactic(auto, unfolding(crate::specs::ReadingStatements::named_at, crate::specs::ReadingStatements::named_with, crate::specs::ReadingExpressions::designator_at, crate::specs::ReadingExpressions::arguments_at))]
-fn named(
-    alloc: Global,
-    cursor: &mut Cursor<'_>,
-    budget: usize,
-    at: usize,
-) -> Result<Statement, ParseFault>
-    ensures { Reads statement_view (spec.named_at budget at cursor.old) result cursor.new }
+fn named(alloc: Global, cursor: &mut Cursor<'_>, budget: usize) -> Result<Statement, ParseFault>
+    ensures { Reads statement_view (spec.named_at budget cursor.old.at cursor.old) result cursor.new }
 {
+    let at = cursor.at();
     let designator = designator(alloc, cursor, budget)?;
     if cursor.eat(Mark::Becomes) {
         let value = expression(alloc, cursor, budget)?;
@@ -130,16 +101,14 @@ pub fn statements(
     Ok(found)
 }
 
+// `begin .. end`, whose word comes next.
 #[cycle(statement)]
 #[tactic(auto, unfolding(crate::specs::ReadingStatements::block_at, crate::specs::ReadingStatements::block_with, crate::specs::ReadingStatements::statements_at))]
-fn block(
-    alloc: Global,
-    cursor: &mut Cursor<'_>,
-    budget: usize,
-    at: usize,
-) -> Result<Statement, ParseFault>
-    ensures { Reads statement_view (spec.block_at budget at cursor.old) result cursor.new }
+fn block(alloc: Global, cursor: &mut Cursor<'_>, budget: usize) -> Result<Statement, ParseFault>
+    ensures { Reads statement_view (spec.block_at budget cursor.old.at (advance cursor.old)) result cursor.new }
 {
+    let at = cursor.at();
+    cursor.advance();
     let inner = statements(alloc, cursor, budget)?;
     cursor.expect(Mark::End)?;
     Ok(Statement {
@@ -148,16 +117,14 @@ fn block(
     })
 }
 
+// `cycle .. end`, whose word comes next.
 #[cycle(statement)]
 #[tactic(auto, unfolding(crate::specs::ReadingStatements::cycle_at, crate::specs::ReadingStatements::cycle_with, crate::specs::ReadingStatements::statements_at))]
-fn cycle(
-    alloc: Global,
-    cursor: &mut Cursor<'_>,
-    budget: usize,
-    at: usize,
-) -> Result<Statement, ParseFault>
-    ensures { Reads statement_view (spec.cycle_at budget at cursor.old) result cursor.new }
+fn cycle(alloc: Global, cursor: &mut Cursor<'_>, budget: usize) -> Result<Statement, ParseFault>
+    ensures { Reads statement_view (spec.cycle_at budget cursor.old.at (advance cursor.old)) result cursor.new }
 {
+    let at = cursor.at();
+    cursor.advance();
     let inner = statements(alloc, cursor, budget)?;
     cursor.expect(Mark::End)?;
     Ok(Statement {
@@ -166,16 +133,18 @@ fn cycle(
     })
 }
 
+// `repeat .. until`, whose word comes next.
 #[cycle(statement)]
 #[tactic(auto, unfolding(crate::specs::ReadingStatements::repeat_at, crate::specs::ReadingStatements::repeat_with, crate::specs::ReadingStatements::statements_at))]
 fn repeat_loop(
     alloc: Global,
     cursor: &mut Cursor<'_>,
     budget: usize,
-    at: usize,
 ) -> Result<Statement, ParseFault>
-    ensures { Reads statement_view (spec.repeat_at budget at cursor.old) result cursor.new }
+    ensures { Reads statement_view (spec.repeat_at budget cursor.old.at (advance cursor.old)) result cursor.new }
 {
+    let at = cursor.at();
+    cursor.advance();
     let inner = statements(alloc, cursor, budget)?;
     cursor.expect(Mark::Until)?;
     let test = expression(alloc, cursor, budget)?;
@@ -185,16 +154,14 @@ fn repeat_loop(
     })
 }
 
+// `if .. then .. else`, whose word comes next.
 #[cycle(statement)]
 #[tactic(auto, unfolding(crate::specs::ReadingStatements::if_at, crate::specs::ReadingStatements::if_with))]
-fn choice(
-    alloc: Global,
-    cursor: &mut Cursor<'_>,
-    budget: usize,
-    at: usize,
-) -> Result<Statement, ParseFault>
-    ensures { Reads statement_view (spec.if_at budget at cursor.old) result cursor.new }
+fn choice(alloc: Global, cursor: &mut Cursor<'_>, budget: usize) -> Result<Statement, ParseFault>
+    ensures { Reads statement_view (spec.if_at budget cursor.old.at (advance cursor.old)) result cursor.new }
 {
+    let at = cursor.at();
+    cursor.advance();
     let test = expression(alloc, cursor, budget)?;
     cursor.expect(Mark::Then)?;
     let chosen = statement(alloc, cursor, budget)?;
@@ -213,16 +180,18 @@ fn choice(
     })
 }
 
+// `while .. do`, whose word comes next.
 #[cycle(statement)]
 #[tactic(auto, unfolding(crate::specs::ReadingStatements::while_at, crate::specs::ReadingStatements::while_with))]
 fn while_loop(
     alloc: Global,
     cursor: &mut Cursor<'_>,
     budget: usize,
-    at: usize,
 ) -> Result<Statement, ParseFault>
-    ensures { Reads statement_view (spec.while_at budget at cursor.old) result cursor.new }
+    ensures { Reads statement_view (spec.while_at budget cursor.old.at (advance cursor.old)) result cursor.new }
 {
+    let at = cursor.at();
+    cursor.advance();
     let test = expression(alloc, cursor, budget)?;
     cursor.expect(Mark::Do)?;
     let body = statement(alloc, cursor, budget)?;
@@ -232,16 +201,14 @@ fn while_loop(
     })
 }
 
+// `for .. do`, whose word comes next.
 #[cycle(statement)]
 #[tactic(auto, unfolding(crate::specs::ReadingStatements::for_at, crate::specs::ReadingStatements::for_with))]
-fn for_loop(
-    alloc: Global,
-    cursor: &mut Cursor<'_>,
-    budget: usize,
-    at: usize,
-) -> Result<Statement, ParseFault>
-    ensures { Reads statement_view (spec.for_at budget at cursor.old) result cursor.new }
+fn for_loop(alloc: Global, cursor: &mut Cursor<'_>, budget: usize) -> Result<Statement, ParseFault>
+    ensures { Reads statement_view (spec.for_at budget cursor.old.at (advance cursor.old)) result cursor.new }
 {
+    let at = cursor.at();
+    cursor.advance();
     let variable = identifier(alloc, cursor)?;
     cursor.expect(Mark::Becomes)?;
     let first = expression(alloc, cursor, budget)?;
@@ -273,16 +240,14 @@ fn direction(cursor: &mut Cursor<'_>) -> Result<Direction, ParseFault>
     }
 }
 
+// `case .. of .. end`, whose word comes next.
 #[cycle(statement)]
 #[tactic(auto, unfolding(crate::specs::ReadingStatements::case_at, crate::specs::ReadingStatements::case_with, crate::specs::ReadingStatements::arm_at))]
-fn case(
-    alloc: Global,
-    cursor: &mut Cursor<'_>,
-    budget: usize,
-    at: usize,
-) -> Result<Statement, ParseFault>
-    ensures { Reads statement_view (spec.case_at budget at cursor.old) result cursor.new }
+fn case(alloc: Global, cursor: &mut Cursor<'_>, budget: usize) -> Result<Statement, ParseFault>
+    ensures { Reads statement_view (spec.case_at budget cursor.old.at (advance cursor.old)) result cursor.new }
 {
+    let at = cursor.at();
+    cursor.advance();
     let selector = expression(alloc, cursor, budget)?;
     cursor.expect(Mark::Of)?;
     let (arms, ends_in_semicolon) = arms(alloc, cursor, budget)?;
@@ -343,15 +308,13 @@ fn labels(alloc: Global, cursor: &mut Cursor<'_>) -> Result<Vec<Constant>, Parse
     Ok(found)
 }
 
+// `init ..`, whose word comes next.
 #[tactic(auto, unfolding(crate::specs::ReadingStatements::init_at, crate::specs::ReadingStatements::init_with, crate::specs::ReadingStatements::start_at))]
-fn init(
-    alloc: Global,
-    cursor: &mut Cursor<'_>,
-    budget: usize,
-    at: usize,
-) -> Result<Statement, ParseFault>
-    ensures { Reads statement_view (spec.init_at budget at cursor.old) result cursor.new }
+fn init(alloc: Global, cursor: &mut Cursor<'_>, budget: usize) -> Result<Statement, ParseFault>
+    ensures { Reads statement_view (spec.init_at budget cursor.old.at (advance cursor.old)) result cursor.new }
 {
+    let at = cursor.at();
+    cursor.advance();
     let starts = starts(alloc, cursor, budget)?;
     Ok(Statement {
         at,

@@ -135,87 +135,35 @@ fn levels(rt: HostRuntime) -> Result<(), Fail> {
 fn refused_elsewhere(rt: HostRuntime) -> Result<(), Fail> {
     assert!(rt;
         matches!(
-            fault(&rt, "const c = -'a'; begin end.")?,
-            ParseFault::Unexpected(4)
-        )
-    );
-    assert!(rt; matches!(fault(&rt, "begin set end.")?, ParseFault::Unexpected(1)));
-    assert!(rt;
-        matches!(
             fault(&rt, "begin end. with")?,
             ParseFault::OutsideProfile(3)
         )
     );
-    assert!(rt; matches!(fault(&rt, "begin end. begin")?, ParseFault::Unexpected(3)));
-    assert!(rt;
-        matches!(
-            fault(&rt, "begin x := 1 = 2 = 3 end.")?,
-            ParseFault::Unexpected(6)
-        )
-    );
-    assert!(rt;
-        matches!(
-            fault(&rt, "begin x := - - 1 end.")?,
-            ParseFault::Unexpected(4)
-        )
-    );
-    assert!(rt;
-        matches!(
-            fault(&rt, "begin if x then y; else z end.")?,
-            ParseFault::Unexpected(6)
-        )
-    );
-    assert!(rt;
-        matches!(
-            fault(&rt, "begin case x of end end.")?,
-            ParseFault::Unexpected(4)
-        )
-    );
-    assert!(rt;
-        matches!(
-            fault(&rt, "begin case x of 1: ; ; end end.")?,
-            ParseFault::Unexpected(7)
-        )
-    );
-    assert!(rt; matches!(fault(&rt, "begin init end.")?, ParseFault::Unexpected(2)));
-    assert!(rt;
-        matches!(
-            fault(&rt, "begin x.y[1, 2] := 1 end.")?,
-            ParseFault::Unexpected(6)
-        )
-    );
-    assert!(rt; matches!(fault(&rt, "begin f() end.")?, ParseFault::Unexpected(3)));
-    assert!(rt; matches!(fault(&rt, "type begin end.")?, ParseFault::Unexpected(1)));
-    assert!(rt;
-        matches!(
-            fault(&rt, "type a = record end; begin end.")?,
-            ParseFault::Unexpected(4)
-        )
-    );
-    assert!(rt;
-        matches!(
-            fault(&rt, "var x: +y; begin end.")?,
-            ParseFault::Unexpected(5)
-        )
-    );
-    assert!(rt;
-        matches!(
-            fault(&rt, "var x: class; begin end.")?,
-            ParseFault::Unexpected(3)
-        )
-    );
-    assert!(rt;
-        matches!(
-            fault(&rt, "procedure p begin end; begin end.")?,
-            ParseFault::Unexpected(2)
-        )
-    );
-    assert!(rt;
-        matches!(
-            fault(&rt, "begin for i := 1 do end.")?,
-            ParseFault::Unexpected(5)
-        )
-    );
+    let refused = [
+        ("const c = -'a'; begin end.", 4),
+        ("begin set end.", 1),
+        ("begin end. begin", 3),
+        ("begin x := 1 = 2 = 3 end.", 6),
+        ("begin x := - - 1 end.", 4),
+        ("begin if x then y; else z end.", 6),
+        ("begin case x of end end.", 4),
+        ("begin case x of 1: ; ; end end.", 7),
+        ("begin init end.", 2),
+        ("begin x.y[1, 2] := 1 end.", 6),
+        ("begin f() end.", 3),
+        ("type begin end.", 1),
+        ("type a = record end; begin end.", 4),
+        ("var x: +y; begin end.", 5),
+        ("var x: class; begin end.", 3),
+        ("procedure p begin end; begin end.", 2),
+        ("begin for i := 1 do end.", 5),
+    ];
+    for (source, place) in refused {
+        match fault(&rt, source)? {
+            ParseFault::Unexpected(at) => assert_eq!(rt; at, place),
+            _ => assert!(rt; false, "{source}"),
+        }
+    }
     Ok(())
 }
 

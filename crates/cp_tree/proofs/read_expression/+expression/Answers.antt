@@ -1,10 +1,10 @@
-use Rattle.std.proofs.Common.{rules, arith, ◌≡◌, ◌-◌, [], ◌∷◌, option_map}
+use Rattle.std.proofs.Common.{rules, arith}
 use Rattle.std.proofs.lemmas.Grind.{common_steps}
 use Rattle.cp_text.specs.declared.token.Mark.TheVariants as mark
-use Rattle.cp_tree.specs.Reading.{many_from, many_after, behind, separated, ended_from, ended_after, ended_list, where_named, identifier, identifiers, constant}
+use Rattle.cp_tree.specs.Reading.{many_from, many_after, behind, separated}
 use Rattle.cp_tree.proofs.Turns as turns
 use Rattle.cp_tree.specs.declared.expression.FactorKind.{the_lemmas}
-use Rattle.cp_tree.specs.ReadingExpressions.{expression, deeper, factor_at, expression_with, factor_with, sum_at, sum_with, term_at, term_with, next_term, next_factor, expressions_at, expressions_with, arguments_at, designator_at, selector_with}
+use Rattle.cp_tree.specs.ReadingExpressions.{expression, deeper, factor_at, term_at, next_term, next_factor, expressions_at, expressions_with, selector_with}
 use Rattle.cp_tree.specs.View.{expressions_view, factors_view, terms_view, selectors_view}
 use Rattle.cp_tree.proofs.read_expression.+expression.Goals as goal
 

@@ -1,6 +1,6 @@
 use Rattle.std.proofs.Common.{◌≡◌, ◌+◌, ◌-◌, ◌*◌, []}
 use Rattle.cp_text.specs.declared.token.Mark.TheVariants as mark
-use Rattle.cp_tree.specs.Reading.{many_from, many_after, behind, ended_from, ended_after, where_named, identifier, constant}
+use Rattle.cp_tree.specs.Reading.{many_from, many_after, behind}
 use Rattle.cp_tree.specs.ReadingExpressions.{expression, factor_at, next_term, next_factor, selector_with}
 use Rattle.cp_tree.specs.View.{expressions_view, factors_view, terms_view, selectors_view}
 use Rattle.cp_tree.proofs.read_expression.+expression.Given as goal

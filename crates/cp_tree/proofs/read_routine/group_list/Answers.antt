@@ -1,11 +1,11 @@
-use Rattle.std.proofs.Common.{rules, arith, ◌≡◌, ◌-◌, [], ◌∷◌, option_map}
+use Rattle.std.proofs.Common.{rules, arith}
 use Rattle.std.proofs.lemmas.Grind.{common_steps}
 use Rattle.cp_text.specs.declared.token.Mark.TheVariants as mark
-use Rattle.cp_tree.specs.Reading.{many_from, many_after, behind, separated, ended_from, ended_after, ended_list, where_named, identifier, identifiers, constant}
+use Rattle.cp_tree.specs.Reading.{many_from, many_after, behind, separated}
 use Rattle.cp_tree.proofs.Turns as turns
 use Rattle.std.proofs.Common.{map}
-use Rattle.cp_tree.specs.ReadingDeclarations.{one_or_more, constant_item, type_item, variable_item, part_item, parts, group_item, parameter_item, routine_item, routines, system_item, program_part_item}
-use Rattle.cp_tree.specs.View.{constant_definition_view, type_definition_view, variable_group_view, part_view, group_view, parameter_group_view, routine_view, system_definition_view, program_part_view}
+use Rattle.cp_tree.specs.ReadingDeclarations.{group_item}
+use Rattle.cp_tree.specs.View.{group_view}
 use Rattle.cp_tree.proofs.read_routine.group_list.Goals as goal
 
 pub loop-turn-init : goal.loop-turn-init

@@ -1,7 +1,7 @@
-use Rattle.std.proofs.Common.{rules, arith, ◌≡◌, ◌-◌, [], ◌∷◌, option_map}
+use Rattle.std.proofs.Common.{rules, arith}
 use Rattle.std.proofs.lemmas.Grind.{common_steps}
 use Rattle.cp_text.specs.declared.token.Mark.TheVariants as mark
-use Rattle.cp_tree.specs.Reading.{many_from, many_after, behind, separated, ended_from, ended_after, ended_list, where_named, identifier, identifiers, constant}
+use Rattle.cp_tree.specs.Reading.{many_from, many_after, behind, separated, ended_from, ended_after, ended_list}
 use Rattle.cp_tree.proofs.Turns as turns
 use Rattle.cp_tree.specs.declared.statement.StatementKind.{the_lemmas}
 use Rattle.cp_tree.specs.ReadingStatements.{statement, statement_at, statements_at, if_at, if_with, arm_at}
@@ -16,13 +16,13 @@ statement-returns t c = rw (turns.deeper (λ n. statement n c.args.cursor.now) c
 pub choice-returns-then-eat : goal.choice-returns-then-eat
 unfolding if_at if_with
 choice-returns-then-eat t c =
-    let v = if_else_view c.args.at c.in_ok-test.test c.in_ok-chosen-2.chosen c.in_ok-other-2.other in
+    let v = if_else_view c.at-at.result c.in_ok-test.test c.in_ok-chosen-2.chosen c.in_ok-other-2.other in
     rw v (first_of (search rules, grind (arith, common_steps)))
 
 pub choice-returns : goal.choice-returns
 unfolding if_at if_with
 choice-returns t c =
-    let v = if_then_view c.args.at c.in_ok-test.test c.in_ok-chosen-2.chosen in
+    let v = if_then_view c.at-at.result c.in_ok-test.test c.in_ok-chosen-2.chosen in
     rw v (first_of (search rules, grind (arith, common_steps)))
 
 pub statements-loop-turn-init : goal.statements-loop-turn-init

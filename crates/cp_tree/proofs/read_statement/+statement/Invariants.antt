@@ -1,6 +1,6 @@
-use Rattle.std.proofs.Common.{◌≡◌, ◌+◌, ◌-◌, ◌*◌, []}
+use Rattle.std.proofs.Common.{◌≡◌, ◌+◌, ◌-◌, ◌*◌}
 use Rattle.cp_text.specs.declared.token.Mark.TheVariants as mark
-use Rattle.cp_tree.specs.Reading.{many_from, many_after, behind, ended_from, ended_after, where_named, identifier, constant}
+use Rattle.cp_tree.specs.Reading.{many_from, many_after, behind, ended_from, ended_after}
 use Rattle.cp_tree.specs.ReadingStatements.{statement, arm_at}
 use Rattle.cp_tree.specs.View.{statements_view, arms_view}
 use Rattle.cp_tree.proofs.read_statement.+statement.Given as goal

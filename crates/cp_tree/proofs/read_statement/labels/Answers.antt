@@ -1,7 +1,7 @@
-use Rattle.std.proofs.Common.{rules, arith, ◌≡◌, ◌-◌, [], ◌∷◌, option_map}
+use Rattle.std.proofs.Common.{rules, arith}
 use Rattle.std.proofs.lemmas.Grind.{common_steps}
 use Rattle.cp_text.specs.declared.token.Mark.TheVariants as mark
-use Rattle.cp_tree.specs.Reading.{many_from, many_after, behind, separated, ended_from, ended_after, ended_list, where_named, identifier, identifiers, constant}
+use Rattle.cp_tree.specs.Reading.{many_from, many_after, behind, separated, constant}
 use Rattle.cp_tree.proofs.Turns as turns
 use Rattle.cp_tree.specs.ReadingStatements.{labels}
 use Rattle.cp_tree.proofs.read_statement.labels.Goals as goal

@@ -1,6 +1,6 @@
-use Rattle.std.proofs.Common.{◌≡◌, ◌+◌, ◌-◌, ◌*◌, []}
+use Rattle.std.proofs.Common.{◌≡◌, ◌-◌}
 use Rattle.cp_text.specs.declared.token.Mark.TheVariants as mark
-use Rattle.cp_tree.specs.Reading.{many_from, many_after, behind, ended_from, ended_after, where_named, identifier, constant}
+use Rattle.cp_tree.specs.Reading.{many_from, many_after, behind, constant}
 use Rattle.cp_tree.proofs.read_statement.labels.Given as goal
 
 abbrev pub invariant-loop-turn : goal.invariant-loop-turn

@@ -1,6 +1,5 @@
-use Rattle.std.proofs.Common.{◌≡◌, ◌+◌, ◌-◌, ◌*◌, []}
-use Rattle.cp_text.specs.declared.token.Mark.TheVariants as mark
-use Rattle.cp_tree.specs.Reading.{many_from, many_after, behind, ended_from, ended_after, where_named, identifier, constant}
+use Rattle.std.proofs.Common.{◌≡◌, ◌+◌, ◌-◌, ◌*◌}
+use Rattle.cp_tree.specs.Reading.{ended_from, ended_after}
 use Rattle.cp_tree.specs.ReadingTypes.{field_group_at}
 use Rattle.cp_tree.specs.View.{field_groups_view}
 use Rattle.cp_tree.proofs.read_type.+types.Given as goal

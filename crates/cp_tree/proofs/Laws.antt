@@ -1,0 +1,213 @@
+-- What the outcome of reading a whole program says about the trees that its tokens spell.
+use Rattle.std.proofs.Common.{◌≡◌, ◌≢◌, ℕ, ◌<◌, ◌≤◌, true, false, cond, List, [], ◌∷◌, length, Result, Ok, Err, refl, sym, ap, subst, ◌∙◌, arith}
+use Rattle.std.specs.Prelude.{IfOk, slice_get}
+use Rattle.cp_text.specs.declared.token.Kind.{Kind}
+use Rattle.cp_text.specs.declared.token.Kind.TheVariants as kind
+use Rattle.cp_text.specs.declared.token.Mark.TheVariants as mark
+use Rattle.cp_tree.specs.declared.fault.ParseFault.{ParseFault}
+use Rattle.cp_tree.specs.declared.fault.ParseFault.TheVariants.{Unexpected, OutsideProfile, TooDeep, Memory}
+use Rattle.cp_tree.specs.declared.tree.Tree as tree_tree
+use Rattle.cp_tree.specs.Answer.{is_left_out, answer_of, answer, Answers}
+use Rattle.cp_tree.specs.Input.{Input, Outcome, Parser, ◌>>=◌, expect, start_of}
+use Rattle.cp_tree.specs.Syntax.{Routine, Body, ProgramPart, Program}
+use Rattle.cp_tree.specs.View.{program_view}
+use Rattle.cp_tree.specs.Reading.{many}
+use Rattle.cp_tree.specs.ReadingDeclarations.{body, routines, program_part_item, ended, program}
+use Rattle.cp_tree.specs.Spelling.{put_all, put_routine, put_body, spell}
+use Rattle.cp_tree.specs.SpellingIndexed.{IsIndexedProgram, IsIndexed}
+use Rattle.cp_tree.specs.SpellingLevel.{body_depth, deepest, program_part_depth, routine_depth, program_depth, IsProper}
+use Rattle.cp_tree.proofs.Steps.{Found}
+use Rattle.cp_tree.proofs.FoundDeclarations.{IsRead, program_found}
+use Rattle.cp_tree.proofs.Lands.{on, Lands, lands_then, expect_lands}
+use Rattle.cp_tree.proofs.AgainDeclarations.{routines_start, body_lands, routines_land, program_parts_land}
+
+-- ---- the tokens of a program are read as that program
+
+pub program_lands : (p : Program) → IsIndexed p → Lands (length (spell p)) (50 < program_depth p) p [] (program (start_of (spell p)))
+unfolding program
+program_lands p indexed =
+    let total = length (spell p) in
+    let D = 50 < program_depth p in
+    let period = kind.Mark mark.Period ∷ [] in
+    let last = put_body p.body period in
+    let most = put_all put_routine p.routines last in
+    let made : List ProgramPart → List Routine → Body → ℕ → Program = λ ps rs d at. record { parts = ps; routines = rs; body = d; period = at } in
+    let end : List ProgramPart → List Routine → Body → Parser Program = λ ps rs d m. (expect mark.Period >>= (λ u n. ended (made ps rs d m.at) n n.rest)) m in
+    lands_then total (50 < deepest program_part_depth p.parts) D (many program_part_item (on 0 (spell p))) (λ ps. routines >>= (λ rs. body >>= (λ d. end ps rs d))) p.parts most p []
+    (program_parts_land total p.parts 0 most (omega arith) (indexed.0, routines_start total p.routines last refl)) (λ d. omega arith) (λ k here.
+    lands_then total (50 < deepest routine_depth p.routines) D (routines (on k most)) (λ rs. body >>= (λ d. end p.parts rs d)) p.routines last p [] (routines_land total p.routines k last here (indexed.1, refl)) (λ d. omega arith) (λ l q.
+    lands_then total (50 < body_depth p.body) D (body (on l last)) (end p.parts p.routines) p.body period p [] (body_lands total p.body l period q indexed.2) (λ d. omega arith) (λ m r.
+    let same_period : m ≡ p.period = omega (arith, indexed.3) in
+    lands_then total (50 < 0) D (expect mark.Period (on m period)) (λ u n. ended (made p.parts p.routines p.body m) n n.rest) tt [] p [] (expect_lands total 50 mark.Period tt m [] r tt) (λ d. absurd (omega arith)) (λ n s.
+    (ap (made p.parts p.routines p.body) same_period, refl, s)))))
+
+-- the outcome for the tokens of a tree
+lands : (ks : List Kind) (other : Program) (outcome : Outcome Program) → IsIndexed other → ks ≡ spell other → program (start_of ks) ≡ outcome → Lands (length (spell other)) (50 < program_depth other) other [] outcome
+lands ks other outcome indexed e is =
+    let T : Outcome Program → Type 0 = Lands (length (spell other)) (50 < program_depth other) other [] in
+    subst T (sym (ap (λ (l : List Kind). program (start_of l)) e) ∙ is) (program_lands other indexed)
+
+-- ---- the outcome
+
+proper_read : (ks : List Kind) (p : Program) → IsRead ks p → IsProper p × (ks ≡ spell p)
+proper_read ks p r = (record { indexed = subst (λ (n : ℕ). IsIndexedProgram n p) (ap (λ (l : List Kind). length l) r.spelled) r.indexed; shallow = r.shallow }, r.spelled)
+
+-- what an outcome says
+pub record Says (ks : List Kind) (outcome : Outcome Program) : Type 0 where
+  pub found : Found (length ks) (λ p j. IsRead ks p) outcome
+  pub other : (q : Program) → IsIndexed q → ks ≡ spell q → Lands (length (spell q)) (50 < program_depth q) q [] outcome
+
+says : (ks : List Kind) → Says ks (program (start_of ks))
+says ks = record { found = program_found ks; other = λ q indexed e. lands ks q (program (start_of ks)) indexed e refl }
+
+-- ---- what is answered
+
+-- The answer is the tree that spells the tokens, or a fault that tells why there is none.
+pub record Answered (ks : List Kind) (r : Result Program ParseFault) : Type 0 where
+  pub proper : IfOk r (λ p. IsProper p × (ks ≡ spell p))
+  pub only : IfOk r (λ p. (other : Program) → IsIndexed other → ks ≡ spell other → p ≡ other)
+  pub unexpected : (at : ℕ) → r ≡ Err (Unexpected at) → (other : Program) → IsIndexed other → ks ≢ spell other
+  pub outside : (at : ℕ) → r ≡ Err (OutsideProfile at) → (other : Program) → IsIndexed other → ks ≢ spell other
+  pub left_out : (at : ℕ) → r ≡ Err (OutsideProfile at) → is_left_out (slice_get ks at) ≡ true
+  pub not_left_out : (at : ℕ) → r ≡ Err (Unexpected at) → is_left_out (slice_get ks at) ≡ false
+  pub too_deep : (at : ℕ) → r ≡ Err (TooDeep at) → (other : Program) → IsProper other → ks ≢ spell other
+  pub within : (at : ℕ) → r ≡ Err (Unexpected at) → at ≤ length ks
+  pub outside_within : (at : ℕ) → r ≡ Err (OutsideProfile at) → at ≤ length ks
+
+found_answered : (ks : List Kind) (p : Program) (j : Input) → Says ks (Ok (p, j)) → Answered ks (Ok p)
+found_answered ks p j s = record {
+  proper = proper_read ks p s.found;
+  only = λ other indexed e. (s.other other indexed e).0;
+  unexpected = λ at e. absurd cc;
+  outside = λ at e. absurd cc;
+  left_out = λ at e. absurd cc;
+  not_left_out = λ at e. absurd cc;
+  too_deep = λ at e. absurd cc;
+  within = λ at e. absurd cc;
+  outside_within = λ at e. absurd cc;
+}
+
+deep_answered : (ks : List Kind) (n : ℕ) → Says ks (Err (TooDeep n)) → Answered ks (Err (TooDeep n))
+deep_answered ks n s = record {
+  proper = tt;
+  only = tt;
+  unexpected = λ at e. absurd cc;
+  outside = λ at e. absurd cc;
+  left_out = λ at e. absurd cc;
+  not_left_out = λ at e. absurd cc;
+  too_deep = λ at e other proper is. let deep : 50 < program_depth other = s.other other proper.indexed is in omega (arith, proper.shallow, deep);
+  within = λ at e. absurd cc;
+  outside_within = λ at e. absurd cc;
+}
+
+same_place : (n at : ℕ) → ◌≡◌ {A = Result Program ParseFault} (Err (Unexpected n)) (Err (Unexpected at)) → n ≡ at
+same_place n at e = cc
+
+same_outside : (n at : ℕ) → ◌≡◌ {A = Result Program ParseFault} (Err (OutsideProfile n)) (Err (OutsideProfile at)) → n ≡ at
+same_outside n at e = cc
+
+unexpected_answered : (ks : List Kind) (n : ℕ) → Says ks (Err (Unexpected n)) → is_left_out (slice_get ks n) ≡ false → Answered ks (Err (Unexpected n))
+unexpected_answered ks n s out = record {
+  proper = tt;
+  only = tt;
+  unexpected = λ at e other indexed is. s.other other indexed is;
+  outside = λ at e. absurd cc;
+  left_out = λ at e. absurd cc;
+  not_left_out = λ at e. subst (λ (m : ℕ). is_left_out (slice_get ks m) ≡ false) (same_place n at e) out;
+  too_deep = λ at e. absurd cc;
+  within = λ at e. subst (λ (m : ℕ). m ≤ length ks) (same_place n at e) s.found;
+  outside_within = λ at e. absurd cc;
+}
+
+outside_answered : (ks : List Kind) (n : ℕ) → Says ks (Err (Unexpected n)) → is_left_out (slice_get ks n) ≡ true → Answered ks (Err (OutsideProfile n))
+outside_answered ks n s out = record {
+  proper = tt;
+  only = tt;
+  unexpected = λ at e. absurd cc;
+  outside = λ at e other indexed is. s.other other indexed is;
+  left_out = λ at e. subst (λ (m : ℕ). is_left_out (slice_get ks m) ≡ true) (same_outside n at e) out;
+  not_left_out = λ at e. absurd cc;
+  too_deep = λ at e. absurd cc;
+  within = λ at e. absurd cc;
+  outside_within = λ at e. subst (λ (m : ℕ). m ≤ length ks) (same_outside n at e) s.found;
+}
+
+answered_of : (ks : List Kind) (outcome : Outcome Program) → Says ks outcome → Answered ks (answer_of ks outcome)
+answered_of ks (Ok p) s = found_answered ks p.0 p.1 s
+answered_of ks (Err (TooDeep n)) s = deep_answered ks n s
+answered_of ks (Err (OutsideProfile n)) s = absurd s.found
+answered_of ks (Err Memory) s = absurd s.found
+answered_of ks (Err (Unexpected n)) s =
+    elim (is_left_out (slice_get ks n)) as (λ c. is_left_out (slice_get ks n) ≡ c → Answered ks (Err (cond c (OutsideProfile n) (Unexpected n)))) [
+      | true ↦ λ e. outside_answered ks n s e
+      | false ↦ λ e. unexpected_answered ks n s e
+    ] refl
+
+pub answered : (ks : List Kind) → Answered ks (answer ks)
+answered ks = answered_of ks (program (start_of ks)) (says ks)
+
+-- ---- the clauses of a parser that answers so, unless memory fails
+
+abbrev Faults : List Kind → Result tree_tree.Tree ParseFault → ParseFault → Type 0
+Faults ks r e = r ≡ Err e → Answered ks (Err e)
+
+not_memory : (ks : List Kind) (r : Result tree_tree.Tree ParseFault) (e : ParseFault) → Answers ks r → r ≡ Err e → e ≢ Memory → Answered ks (Err e)
+not_memory ks r e h is known =
+    let g : Answers ks (Err e) = subst (λ (r : Result tree_tree.Tree ParseFault). Answers ks r) is h in
+    subst (λ (a : Result Program ParseFault). Answered ks a) (g known) (answered ks)
+
+tree_answered : (ks : List Kind) (t : tree_tree.Tree) → Answers ks (Ok t) → Answered ks (Ok (program_view t.program))
+tree_answered ks t h = subst (λ (a : Result Program ParseFault). Answered ks a) h (answered ks)
+
+unexpected_known : (at : ℕ) → Unexpected at ≢ Memory
+unexpected_known at e = cc
+
+outside_known : (at : ℕ) → OutsideProfile at ≢ Memory
+outside_known at e = cc
+
+deep_known : (at : ℕ) → TooDeep at ≢ Memory
+deep_known at e = cc
+
+module _ (ks : List Kind) where
+  pub proper : (r : Result tree_tree.Tree ParseFault) → Answers ks r → IfOk r (λ t. IsProper (program_view t.program) × (ks ≡ spell (program_view t.program)))
+  proper (Ok t) h = (tree_answered ks t h).proper
+  proper (Err e) h = tt
+
+  pub only : (r : Result tree_tree.Tree ParseFault) → Answers ks r → IfOk r (λ t. (other : Program) → IsIndexed other → ks ≡ spell other → program_view t.program ≡ other)
+  only (Ok t) h = (tree_answered ks t h).only
+  only (Err e) h = tt
+
+  pub unexpected : (r : Result tree_tree.Tree ParseFault) → Answers ks r → (at : ℕ) → r ≡ Err (Unexpected at) → (other : Program) → IsIndexed other → ks ≢ spell other
+  unexpected r h at is = (not_memory ks r (Unexpected at) h is (unexpected_known at)).unexpected at refl
+
+  pub outside : (r : Result tree_tree.Tree ParseFault) → Answers ks r → (at : ℕ) → r ≡ Err (OutsideProfile at) → (other : Program) → IsIndexed other → ks ≢ spell other
+  outside r h at is = (not_memory ks r (OutsideProfile at) h is (outside_known at)).outside at refl
+
+  pub left_out : (r : Result tree_tree.Tree ParseFault) → Answers ks r → (at : ℕ) → r ≡ Err (OutsideProfile at) → is_left_out (slice_get ks at) ≡ true
+  left_out r h at is = (not_memory ks r (OutsideProfile at) h is (outside_known at)).left_out at refl
+
+  pub not_left_out : (r : Result tree_tree.Tree ParseFault) → Answers ks r → (at : ℕ) → r ≡ Err (Unexpected at) → is_left_out (slice_get ks at) ≡ false
+  not_left_out r h at is = (not_memory ks r (Unexpected at) h is (unexpected_known at)).not_left_out at refl
+
+  pub too_deep : (r : Result tree_tree.Tree ParseFault) → Answers ks r → (at : ℕ) → r ≡ Err (TooDeep at) → (other : Program) → IsProper other → ks ≢ spell other
+  too_deep r h at is = (not_memory ks r (TooDeep at) h is (deep_known at)).too_deep at refl
+
+  pub within : (r : Result tree_tree.Tree ParseFault) → Answers ks r → (at : ℕ) → r ≡ Err (Unexpected at) → at ≤ length ks
+  within r h at is = (not_memory ks r (Unexpected at) h is (unexpected_known at)).within at refl
+
+  pub outside_within : (r : Result tree_tree.Tree ParseFault) → Answers ks r → (at : ℕ) → r ≡ Err (OutsideProfile at) → at ≤ length ks
+  outside_within r h at is = (not_memory ks r (OutsideProfile at) h is (outside_known at)).outside_within at refl
+
+-- ---- trees and their spelling
+
+both_land : (p q : Program) (n m : ℕ) (outcome : Outcome Program) → program_depth p ≤ 50 → Lands n (50 < program_depth p) p [] outcome → Lands m (50 < program_depth q) q [] outcome → p ≡ q
+both_land p q n m (Ok x) shallow h g = sym h.0 ∙ g.0
+both_land p q n m (Err (TooDeep k)) shallow h g = absurd (omega (arith, shallow, h))
+both_land p q n m (Err (Unexpected k)) shallow h g = absurd h
+both_land p q n m (Err (OutsideProfile k)) shallow h g = absurd h
+both_land p q n m (Err Memory) shallow h g = absurd h
+
+-- Two proper trees with one spelling are equal.
+pub one_tree : (p q : Program) → IsProper p → IsProper q → spell p ≡ spell q → p ≡ q
+one_tree p q one two e =
+    both_land p q (length (spell p)) (length (spell q)) (program (start_of (spell p))) one.shallow (program_lands p one.indexed) (lands (spell p) q (program (start_of (spell p))) two.indexed e refl)
