@@ -1,5 +1,6 @@
--- What is answered to a source: a status and a text. Refused memory is no answer.
-use Rattle.std.specs.Prelude.{◌≡◌, ℕ, ◌<◌, ◌≤◌, ◌⊎◌, List, [], length, min, Result, Ok, Err, Option, Some, None, codes}
+-- What is answered to a source: a verdict and a text. Refused memory is no answer.
+use Rattle.std.specs.Prelude.{◌≡◌, ℕ, ◌<◌, ◌≤◌, ◌⊎◌, ◌++◌, take, List, [], length, min, Result, Ok, Err, Option, Some, None, codes}
+use Rattle.std.specs.Io.KnownBytes.{Appends}
 use Rattle.cp_text.specs.Kinds.{kinds}
 use Rattle.cp_text.specs.Lines.{line_of}
 use Rattle.cp_text.specs.Reading.{Reading}
@@ -18,41 +19,83 @@ use Rattle.cp_run.specs.Table.{table}
 use Rattle.cp_explore.specs.Report.{report_text}
 use Rattle.cp_tool.specs.Refusals.{refusal, scan_reason, parse_reason, check_reason}
 use Rattle.cp_tool.specs.declared.options.Options.{Options}
+use Rattle.cp_tool.specs.declared.explore_stream.Verdict.{Verdict}
+use Rattle.cp_tool.specs.declared.explore_stream.Verdict.TheVariants.{Reported, Refused, TooManyRows}
+use Rattle.cp_tool.specs.declared.explore_stream.Ending.{Ending}
+use Rattle.cp_tool.specs.declared.explore_stream.Ending.TheVariants.{Told, OutOfMemory, ReadFailed, WriteFailed}
 
--- status 1, and the line of the token of this number, if there is a reason
-abbrev pub IsRefusedAt : List Token → Option (ℕ × List ℕ) → ℕ → List ℕ → Type 0
-IsRefusedAt tokens None code text = ⊥
-IsRefusedAt tokens (Some r) code text = (code ≡ 1) × (text ≡ refusal (line_of tokens (min r.0 (length tokens))) r.1)
+-- refused with the line of the token of this number, if there is a reason
+abbrev pub IsRefusedAt : List Token → Option (ℕ × List ℕ) → Verdict → List ℕ → Type 0
+IsRefusedAt tokens None verdict text = ⊥
+IsRefusedAt tokens (Some r) verdict text = (verdict ≡ Refused) × (text ≡ refusal (line_of tokens (min r.0 (length tokens))) r.1)
 
-abbrev pub IsRefusedIn : ℕ → Option (List ℕ) → ℕ → List ℕ → Type 0
-IsRefusedIn line None code text = ⊥
-IsRefusedIn line (Some reason) code text = (code ≡ 1) × (text ≡ refusal line reason)
+abbrev pub IsRefusedIn : ℕ → Option (List ℕ) → Verdict → List ℕ → Type 0
+IsRefusedIn line None verdict text = ⊥
+IsRefusedIn line (Some reason) verdict text = (verdict ≡ Refused) × (text ≡ refusal line reason)
 
 -- the report of the whole table, or that it has more rows than are shown
-abbrev pub IsReported : Options → Tables → ℕ → List ℕ → Type 0
-IsReported o program code text =
+abbrev pub IsReported : Options → Tables → Verdict → List ℕ → Type 0
+IsReported o program verdict text =
     let rows = table (slots program o.gates) o.choices o.steps in
-    ((code ≡ 0) × (length rows ≤ 50000) × (text ≡ report_text program rows o.rows))
-    ⊎ ((code ≡ 5) × (50000 < length rows) × (text ≡ codes "too many rows\n"))
+    ((verdict ≡ Reported) × (length rows ≤ 50000) × (text ≡ report_text program rows o.rows))
+    ⊎ ((verdict ≡ TooManyRows) × (50000 < length rows) × (text ≡ codes "too many rows\n"))
 
 -- A tree is refused for the first rule that it breaks, or its program's table is reported.
-abbrev pub AnswersTree : Options → List Token → tree.Tree → ℕ → List ℕ → Type 0
-AnswersTree o tokens t code text =
-    ((faults_of (tree_view t) ≡ []) × (program : Tables) × IsReported o program code text)
-    ⊎ ((fault : CheckFault) × RefusesList fault (faults_of (tree_view t)) × IsRefusedAt tokens (check_reason fault) code text)
+abbrev pub AnswersTree : Options → List Token → tree.Tree → Verdict → List ℕ → Type 0
+AnswersTree o tokens t verdict text =
+    ((faults_of (tree_view t) ≡ []) × (program : Tables) × IsReported o program verdict text)
+    ⊎ ((fault : CheckFault) × RefusesList fault (faults_of (tree_view t)) × IsRefusedAt tokens (check_reason fault) verdict text)
 
-abbrev pub AnswersParsed : Options → List Token → Result tree.Tree ParseFault → ℕ → List ℕ → Type 0
-AnswersParsed o tokens (Ok t) code text = AnswersTree o tokens t code text
-AnswersParsed o tokens (Err fault) code text = IsRefusedAt tokens (parse_reason fault) code text
+abbrev pub AnswersParsed : Options → List Token → Result tree.Tree ParseFault → Verdict → List ℕ → Type 0
+AnswersParsed o tokens (Ok t) verdict text = AnswersTree o tokens t verdict text
+AnswersParsed o tokens (Err fault) verdict text = IsRefusedAt tokens (parse_reason fault) verdict text
 
 -- Tokens are refused as no program, or their tree is answered.
-abbrev pub AnswersTokens : Options → List Token → ℕ → List ℕ → Type 0
-AnswersTokens o tokens code text = (read : Result tree.Tree ParseFault) × Answers (kinds tokens) read × AnswersParsed o tokens read code text
+abbrev pub AnswersTokens : Options → List Token → Verdict → List ℕ → Type 0
+AnswersTokens o tokens verdict text = (read : Result tree.Tree ParseFault) × Answers (kinds tokens) read × AnswersParsed o tokens read verdict text
 
-abbrev pub AnswersScanned : Options → Result (List Token) ScanFault → ℕ → List ℕ → Type 0
-AnswersScanned o (Ok tokens) code text = AnswersTokens o tokens code text
-AnswersScanned o (Err fault) code text = IsRefusedIn fault.line (scan_reason fault.cause) code text
+abbrev pub AnswersScanned : Options → Result (List Token) ScanFault → Verdict → List ℕ → Type 0
+AnswersScanned o (Ok tokens) verdict text = AnswersTokens o tokens verdict text
+AnswersScanned o (Err fault) verdict text = IsRefusedIn fault.line (scan_reason fault.cause) verdict text
 
 -- A text is refused as it is scanned, or its tokens are answered.
-abbrev pub AnswersSource : Options → List ℕ → ℕ → List ℕ → Type 0
-AnswersSource o source code text = (scanned : Result (List Token) ScanFault) × Reading source scanned × AnswersScanned o scanned code text
+abbrev pub AnswersSource : Options → List ℕ → Verdict → List ℕ → Type 0
+AnswersSource o source verdict text = (scanned : Result (List Token) ScanFault) × Reading source scanned × AnswersScanned o scanned verdict text
+
+-- the exit code
+abbrev pub code_of : Ending → ℕ
+code_of (Told Reported) = 0
+code_of (Told Refused) = 1
+code_of (Told TooManyRows) = 5
+code_of OutOfMemory = 3
+code_of ReadFailed = 4
+code_of WriteFailed = 4
+
+-- how many calls failed, or were writes that took nothing
+abbrev pub faults_of_ending : Ending → ℕ
+faults_of_ending (Told verdict) = 0
+faults_of_ending OutOfMemory = 0
+faults_of_ending ReadFailed = 1
+faults_of_ending WriteFailed = 1
+
+-- What a writer holds after an answer was written: the whole text, or a prefix of it after a failed write.
+abbrev pub IsWritten : Option (List ℕ) → Option (List ℕ) → Verdict → List ℕ → Ending → Type 0
+IsWritten old new verdict text (Told told) = (told ≡ verdict) × Appends old new text
+IsWritten old new verdict text WriteFailed = (done : List ℕ) × (rest : List ℕ) × (text ≡ done ++ rest) × Appends old new done
+IsWritten old new verdict text OutOfMemory = ⊥
+IsWritten old new verdict text ReadFailed = ⊥
+
+-- the answer to these bytes, of which no more than one beyond a source's limit are read
+abbrev pub AnswersThen : Options → List ℕ → (Verdict → List ℕ → Type 0) → Type 0
+AnswersThen o bytes P = (verdict : Verdict) × (text : List ℕ) × AnswersSource o (take 65536 bytes) verdict text × P verdict text
+
+-- What stands after a call, where the bytes that the reader gives are known; nothing is written without an answer.
+abbrev pub TellsOf : Options → List ℕ → Option (List ℕ) → Option (List ℕ) → Ending → Type 0
+TellsOf o bytes old new (Told told) = AnswersThen o bytes (λ verdict text. IsWritten old new verdict text (Told told))
+TellsOf o bytes old new WriteFailed = AnswersThen o bytes (λ verdict text. IsWritten old new verdict text WriteFailed)
+TellsOf o bytes old new OutOfMemory = new ≡ old
+TellsOf o bytes old new ReadFailed = new ≡ old
+
+abbrev pub Tells : Options → Option (List ℕ) → Option (List ℕ) → Option (List ℕ) → Ending → Type 0
+Tells o None old new ending = Unit {0}
+Tells o (Some bytes) old new ending = TellsOf o bytes old new ending

@@ -1,6 +1,7 @@
 //! From the bytes of a source to the bytes of an answer.
-ghost use Rattle.std.specs.Prelude.{◌≡◌, IfOk, option_map};
+ghost use Rattle.std.specs.Prelude.{◌≡◌, ◌+◌, ◌≤◌, IfOk, option_map};
 ghost use Rattle.cp_tool.specs.Answered as spec;
+ghost use Rattle.cp_tool.specs.declared.explore_stream.Ending.{Ending};
 
 use crate::options::Options;
 use crate::refusal::{check_reason, parse_reason, refusal, scan_reason};
@@ -32,11 +33,45 @@ pub struct Status {
     pub code: u8,
 }
 
-/// A text, and the status with which it is written.
+/// What an answer tells.
+#[derive(Clone, Copy)]
+pub enum Verdict {
+    Reported,
+    Refused,
+    TooManyRows,
+}
+
+/// How an exploration of a stream ended.
+#[derive(Clone, Copy)]
+pub enum Ending {
+    /// The whole answer was written.
+    Told(Verdict),
+    /// Memory was refused.
+    OutOfMemory,
+    /// A read failed.
+    ReadFailed,
+    /// A write failed or took nothing.
+    WriteFailed,
+}
+
+/// A text, and what it tells.
 #[derive(Drop)]
 struct Answer {
-    code: u8,
+    verdict: Verdict,
     text: Text,
+}
+
+fn code_of(ending: Ending) -> u8
+    ensures { result ≡ spec.code_of ending }
+{
+    match ending {
+        Ending::Told(Verdict::Reported) => 0,
+        Ending::Told(Verdict::Refused) => 1,
+        Ending::Told(Verdict::TooManyRows) => 5,
+        Ending::OutOfMemory => 3,
+        Ending::ReadFailed => 4,
+        Ending::WriteFailed => 4,
+    }
 }
 
 /// Reads a source, explores it as the options say, and writes the answer.
@@ -44,29 +79,56 @@ struct Answer {
 /// The whole text is built before the first write. Nothing is written after a failed read or where memory is refused, and a prefix of
 /// the text after a failed write.
 pub fn explore_stream<X: Threads + Sync, R: Source, W: Sink>(
+    rt: &X,
+    alloc: Global,
+    options: &Options,
+    source: &mut R,
+    sink: &mut W,
+) -> Status
+    // What is written is the answer to what was read, and nothing else; status 4 comes exactly where a call failed or took nothing.
+    ensures told { (ending : Ending) × (result.code ≡ spec.code_of ending) × spec.Tells options.now (R.remaining source.old) (W.contents sink.old) (W.contents sink.new) ending × (R.failed_reads source.new + (W.failed_writes sink.new + W.empty_writes sink.new) ≡ R.failed_reads source.old + (W.failed_writes sink.old + W.empty_writes sink.old) + spec.faults_of_ending ending) }
+    ensures reads { R.reads source.new ≤ R.reads source.old + 65536 }
+{
+    Status {
+        code: code_of(streamed(rt, alloc, options, source, sink)),
+    }
+}
+
+fn streamed<X: Threads + Sync, R: Source, W: Sink>(
     _rt: &X,
     alloc: Global,
     options: &Options,
     source: &mut R,
     sink: &mut W,
-) -> Status {
-    let bytes = match read_source(alloc, source, MOST_BYTES) {
-        Ok(bytes) => bytes,
-        Err(ReadFault::Memory) => return Status { code: 3 },
-        Err(ReadFault::Failed) => return Status { code: 4 },
-    };
-    let Ok(answer) = answered(alloc, options, &bytes) else {
-        return Status { code: 3 };
-    };
+) -> Ending
+    ensures told { spec.Tells options.now (R.remaining source.old) (W.contents sink.old) (W.contents sink.new) result }
+    ensures faults { R.failed_reads source.new + (W.failed_writes sink.new + W.empty_writes sink.new) ≡ R.failed_reads source.old + (W.failed_writes sink.old + W.empty_writes sink.old) + spec.faults_of_ending result }
+    ensures reads { R.reads source.new ≤ R.reads source.old + 65536 }
+{
+    match read_source(alloc, source, MOST_BYTES) {
+        Ok(bytes) => match answered(alloc, options, &bytes) {
+            Ok(answer) => written(sink, &answer),
+            Err(_) => Ending::OutOfMemory,
+        },
+        Err(ReadFault::Memory) => Ending::OutOfMemory,
+        Err(ReadFault::Failed) => Ending::ReadFailed,
+    }
+}
+
+/// Writes an answer.
+fn written<W: Sink>(sink: &mut W, answer: &Answer) -> Ending
+    ensures written { spec.IsWritten (W.contents sink.old) (W.contents sink.new) answer.now.verdict answer.now.text result }
+    ensures faults { W.failed_writes sink.new + W.empty_writes sink.new ≡ W.failed_writes sink.old + W.empty_writes sink.old + spec.faults_of_ending result }
+{
     match write_text(sink, answer.text.as_str().as_bytes()) {
-        Ok(()) => Status { code: answer.code },
-        Err(_) => Status { code: 4 },
+        Ok(()) => Ending::Told(answer.verdict),
+        Err(_) => Ending::WriteFailed,
     }
 }
 
 /// What is answered to a source.
 fn answered(alloc: Global, options: &Options, source: &[u8]) -> Result<Answer, AllocError>
-    ensures { IfOk result (λ a. spec.AnswersSource options.now source.now a.code a.text) }
+    ensures { IfOk result (λ a. spec.AnswersSource options.now source.now a.verdict a.text) }
 {
     match scan(alloc, source) {
         Ok(tokens) => parsed(alloc, options, &tokens),
@@ -76,7 +138,7 @@ fn answered(alloc: Global, options: &Options, source: &[u8]) -> Result<Answer, A
 
 /// What is answered to the tokens of a source.
 fn parsed(alloc: Global, options: &Options, tokens: &Tokens) -> Result<Answer, AllocError>
-    ensures { IfOk result (λ a. spec.AnswersTokens options.now tokens.now a.code a.text) }
+    ensures { IfOk result (λ a. spec.AnswersTokens options.now tokens.now a.verdict a.text) }
 {
     match parse(alloc, tokens) {
         Ok(tree) => checked(alloc, options, tokens, tree),
@@ -91,7 +153,7 @@ fn checked(
     tokens: &Tokens,
     tree: Tree,
 ) -> Result<Answer, AllocError>
-    ensures { IfOk result (λ a. spec.AnswersTree options.now tokens.now tree a.code a.text) }
+    ensures { IfOk result (λ a. spec.AnswersTree options.now tokens.now tree a.verdict a.text) }
 {
     match check(alloc, tree) {
         Ok(checked) => explored(alloc, options, &resolve(alloc, &checked)?),
@@ -100,13 +162,13 @@ fn checked(
 }
 
 fn refused(alloc: Global, line: u32, reason: Option<&str>) -> Result<Answer, AllocError>
-    ensures { IfOk result (λ a. spec.IsRefusedIn line (option_map (λ s. s.now) reason.entry) a.code a.text) }
+    ensures { IfOk result (λ a. spec.IsRefusedIn line (option_map (λ s. s.now) reason.entry) a.verdict a.text) }
 {
     let Some(reason) = reason else {
         return Err(AllocError);
     };
     Ok(Answer {
-        code: 1,
+        verdict: Verdict::Refused,
         text: Text::new(refusal(alloc, line, reason)?),
     })
 }
@@ -117,21 +179,21 @@ fn refused_at(
     tokens: &Tokens,
     reason: Option<(usize, &str)>,
 ) -> Result<Answer, AllocError>
-    ensures { IfOk result (λ a. spec.IsRefusedAt tokens.now (option_map (λ r. (r.0, r.1.now)) reason.entry) a.code a.text) }
+    ensures { IfOk result (λ a. spec.IsRefusedAt tokens.now (option_map (λ r. (r.0, r.1.now)) reason.entry) a.verdict a.text) }
 {
     let Some((at, reason)) = reason else {
         return Err(AllocError);
     };
     let line = tokens.line(at.min(tokens.count()));
     Ok(Answer {
-        code: 1,
+        verdict: Verdict::Refused,
         text: Text::new(refusal(alloc, line, reason)?),
     })
 }
 
 /// The report of a program's table, or that it has too many rows.
 fn explored(alloc: Global, options: &Options, program: &Resolved) -> Result<Answer, AllocError>
-    ensures { IfOk result (λ a. spec.IsReported options.now program.now a.code a.text) }
+    ensures { IfOk result (λ a. spec.IsReported options.now program.now a.verdict a.text) }
 {
     counted::<Brand>(alloc, options, program, Blank::new(1))
 }
@@ -145,7 +207,7 @@ fn counted<L: Ledger>(
     requires name { blank.name ≡ L.name }
     requires parts { blank.parts ≡ L.parts }
     requires one { L.parts ≡ 1 }
-    ensures { IfOk result (λ a. spec.IsReported options.now program.now a.code a.text) }
+    ensures { IfOk result (λ a. spec.IsReported options.now program.now a.verdict a.text) }
 {
     let Some(limits) = Limits::new(options.choices, options.steps, options.gates) else {
         unreachable!()
@@ -153,11 +215,11 @@ fn counted<L: Ledger>(
     let mut calls: Ticks<L> = Ticks::new(blank);
     match explore_one(alloc, Job { program, limits }, &mut calls) {
         Ok(table) => Ok(Answer {
-            code: 0,
+            verdict: Verdict::Reported,
             text: report(alloc, program, &table, options.rows)?.text,
         }),
         Err(ExploreFault::TooManyRows) => Ok(Answer {
-            code: 5,
+            verdict: Verdict::TooManyRows,
             text: Text::new("too many rows\n".to_string(alloc)?),
         }),
         Err(ExploreFault::Memory) => Err(AllocError),

@@ -67,7 +67,7 @@ fn fill<R: Source>(source: &mut R, buffer: &mut [u8]) -> Result<usize, Failed>
         match source.read(&mut buffer[filled..]) {
             Ok(0) => break,
             Ok(n) => filled += n,
-            Err(_) => return Err(Failed),
+            Err(failed) => return Err(failed),
         }
     }
     Ok(filled)
