@@ -1,5 +1,5 @@
 -- Too many rows.
-use Rattle.std.proofs.Common.{◌≡◌, ℕ, ◌+◌, ◌<◌, ◌≤◌, Result, Ok, Err, IfErr, arith}
+use Rattle.std.proofs.Common.{◌≡◌, ℕ, ◌+◌, ◌<◌, ◌≤◌, Result, Ok, Err, IfOk, IfErr, arith}
 use Rattle.std.specs.Result.{IsErrAnd}
 use Rattle.cp_explore.specs.declared.fault.ExploreFault.{ExploreFault}
 use Rattle.cp_explore.specs.Rows.{IsTooMany}
@@ -11,3 +11,12 @@ err_more (Err e) n m one h = λ many. omega (arith, one, h many)
 pub err_as : {A : Type 0} (r : Result A ExploreFault) (P Q : ExploreFault → Type 0) → IsErrAnd r P → ((f : ExploreFault) → P f → Q f) → IfErr r Q
 err_as (Ok x) P Q h q = tt
 err_as (Err e) P Q h q = q e h
+
+-- what holds of an answer, from two things that hold of it
+pub ok_both : {A : Type 0} (r : Result A ExploreFault) (P Q R : A → Type 0) → IfOk r P → IfOk r Q → ((a : A) → P a → Q a → R a) → IfOk r R
+ok_both (Ok a) P Q R h k f = f a h k
+ok_both (Err e) P Q R h k f = h
+
+pub err_then : {A : Type 0} (r : Result A ExploreFault) (P Q : ExploreFault → Type 0) → IfErr r P → ((e : ExploreFault) → P e → Q e) → IfErr r Q
+err_then (Ok a) P Q h f = h
+err_then (Err e) P Q h f = f e h

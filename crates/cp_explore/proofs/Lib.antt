@@ -1,6 +1,11 @@
-mod Branches
-mod Errors
-mod Grouping
-mod Joining
-mod Walks
-mod Whole
+pub mod Branches
+pub mod Errors
+pub mod Grouping
+pub mod Joining
+pub mod Deciding
+pub mod Doing
+pub mod Gathering
+pub mod Replaying
+pub mod MemberTables
+pub mod Walks
+pub mod Whole

@@ -6,7 +6,7 @@ use Rattle.cp_run.specs.Table.{Line, table}
 use Rattle.cp_explore.specs.Walk.{behind, walk}
 use Rattle.cp_explore.proofs.Walks.{table_walk}
 
-behind_none : (lines : List Line) → map (behind []) lines ≡ lines
+pub behind_none : (lines : List Line) → map (behind []) lines ≡ lines
 behind_none [] = refl
 behind_none (l ∷ ls) = ap (λ m. l ∷ m) (behind_none ls)
 

@@ -1,4 +1,9 @@
 pub mod Walk
+pub mod Cutting
+pub mod Ends
+pub mod Members
 pub mod Report
 pub mod Rows
+pub mod Tables
 pub mod Text
+pub mod TraceText

@@ -75,7 +75,7 @@ fn explore_counted<S: Ledger, C: Ledger>(
 }
 
 /// So many copies of a state.
-fn copies(
+pub fn copies(
     alloc: Global,
     program: &Resolved,
     state: &State,

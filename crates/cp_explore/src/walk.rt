@@ -52,7 +52,7 @@ fn add_row(
 }
 
 /// These numbers as a word.
-fn word_of(numbers: &[u8]) -> ArrayVec<u8, 20>
+pub fn word_of(numbers: &[u8]) -> ArrayVec<u8, 20>
     requires { length numbers.now ≤ 20 }
     ensures { result.items ≡ numbers.now }
 {

@@ -1,8 +1,11 @@
-mod Choosing
-mod LocalSteps
-mod Owning
-mod Prefixes
-mod Running
-mod Stretching
-mod Turning
-mod Wanted
+pub mod Choosing
+pub mod LocalSteps
+pub mod Owning
+pub mod Prefixes
+pub mod Running
+pub mod Stretching
+pub mod TraceBounds
+pub mod TraceRuns
+pub mod Tracing
+pub mod Turning
+pub mod Wanted

@@ -13,15 +13,9 @@ use Rattle.cp_machine.specs.declared.shown.Shown.{Shown}
 use Rattle.cp_machine.specs.declared.shown.Shown.TheVariants.{Integer}
 use Rattle.cp_machine.specs.declared.state.TheConstants.{LIMIT}
 use Rattle.cp_machine.specs.Machine.{Machine, Stepped, Thread, thread_at, no_thread, is_ready, is_ready_status, is_unstarted, with_stack, local, fault, with_value, show_value, start_process, act, take_top, step_at}
+use Rattle.cp_run.specs.Code.{IsLocal}
 use Rattle.cp_machine.specs.Stack.{rest_of}
 use Rattle.cp_machine.specs.Values.{values_at, value_at}
-
-abbrev IsLocal : Event → Type 0
-IsLocal Local = Unit {0}
-IsLocal (Kernel k) = ⊥
-IsLocal Ended = ⊥
-IsLocal (Fault e) = ⊥
-IsLocal OutputFull = ⊥
 
 abbrev KeepsReady : ℕ → Stepped → Type 0
 KeepsReady p x = IsLocal x.event → is_ready x.machine p ≡ true
@@ -59,5 +53,7 @@ takes : (r : Tables) (m : Machine) (p : ℕ) (stack : List Entry) → p < length
 takes r m p [] lt h i = absurd i
 takes r m p (Rest at ∷ es) lt h i = acts r m p at (item_at r at) (item_at r at).action es lt h i
 
-pub local_ready : (r : Tables) (m n : Machine) (p : ℕ) → p < length m.threads → is_ready m p ≡ true → step_at r m p ≡ record { machine = n; event = Local } → is_ready n p ≡ true
-local_ready r m n p lt h e = let Keeps : Stepped → Type 0 = λ x. KeepsReady p x in subst Keeps e (takes r m p (thread_at m.threads p).stack lt h) tt
+pub local_ready : (r : Tables) (m n : Machine) (p : ℕ) (e : Event) → p < length m.threads → is_ready m p ≡ true → step_at r m p ≡ record { machine = n; event = e } → IsLocal e → is_ready n p ≡ true
+local_ready r m n p event lt h e i =
+    let Keeps : Stepped → Type 0 = λ x. KeepsReady p x in
+    subst Keeps e (takes r m p (thread_at m.threads p).stack lt h) i

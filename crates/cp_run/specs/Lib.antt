@@ -3,3 +3,4 @@ pub mod Run
 pub mod Slots
 pub mod Code
 pub mod Table
+pub mod Trace

@@ -9,7 +9,7 @@ abbrev pub processes_of : Tables → ℕ
 processes_of r = length r.processes
 
 abbrev pub monitors_of : Tables → ℕ
-monitors_of r = 0
+monitors_of r = r.monitors
 
 abbrev pub slots : Tables → Gates → System Machine
 slots r gates =

@@ -4,7 +4,9 @@
 pub mod choice;
 pub mod law;
 pub mod limits;
+pub mod line;
 pub mod outcome;
 pub mod run;
 pub mod stretch;
+pub mod trace;
 pub mod turn;

@@ -87,7 +87,7 @@ fn run_counted<L: Ledger, C: Ledger>(
 }
 
 /// The end of a run whose word is used up.
-fn end_of_word(
+pub fn end_of_word(
     alloc: Global,
     program: &Resolved,
     limits: Limits,

@@ -2,12 +2,13 @@
 
 ghost use Rattle.std.specs.Prelude.{◌≡◌, true, false};
 ghost use Rattle.cp_machine.specs.System.{Machine, machine_of, is_ready, is_pending, IsStateOf};
-ghost use Rattle.cp_run.specs.Run.{settled_turn, turn_at};
+ghost use Rattle.cp_run.specs.Run.{settled_turn, turn_at, turn_after};
 ghost use Rattle.cp_run.specs.Slots.{slots};
-ghost use Rattle.cp_run.specs.Code.{IfGoes};
+ghost use Rattle.cp_run.specs.Code.{IfGoes, IsLocal};
 
 use crate::limits::Limits;
 use crate::outcome::{OutcomeKind, Turn};
+use cp_machine::event::Event;
 use cp_machine::state::State;
 use cp_slots::resolved::Resolved;
 
@@ -57,5 +58,32 @@ pub fn turn_at(program: &Resolved, limits: Limits, state: &State, kernel: bool, 
         Turn::Due
     } else {
         settled_turn(program, limits, state, kernel, process)
+    }
+}
+
+/// Error end, and then the rules that follow, after a step of `pid` that came to this state.
+pub fn turn_of(
+    program: &Resolved,
+    limits: Limits,
+    state: &State,
+    pid: u8,
+    event: Event,
+) -> Turn
+    requires own { IsStateOf program.now state.now }
+    requires goes_on { IsLocal event → is_ready (machine_of state.now) pid ≡ true }
+    ensures turn { result ≡ turn_after (slots program.now limits.gates) (machine_of state.now) pid event }
+    ensures ready { IfGoes result (λ q. is_ready (machine_of state.now) q ≡ true) }
+    ensures free { IfGoes result (λ q. is_pending (machine_of state.now) ≡ false) }
+{
+    match event {
+        Event::Local => turn_at(program, limits, state, false, pid),
+        Event::Kernel(_) => turn_at(program, limits, state, true, pid),
+        Event::Ended => turn_at(program, limits, state, true, pid),
+        Event::Fault(error) => Turn::Over(OutcomeKind::RunError {
+            name: error.name,
+            process: error.process,
+            line: error.line,
+        }),
+        Event::OutputFull => Turn::Over(OutcomeKind::OutputLimit),
     }
 }
