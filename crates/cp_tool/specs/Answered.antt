@@ -1,5 +1,5 @@
 -- What is answered to a source: a verdict and a text. Refused memory is no answer.
-use Rattle.std.specs.Prelude.{◌≡◌, ℕ, ◌<◌, ◌≤◌, ◌⊎◌, ◌++◌, take, List, [], length, min, Result, Ok, Err, Option, Some, None, codes}
+use Rattle.std.specs.Prelude.{◌≡◌, ℕ, ◌<◌, ◌≤◌, ◌⊎◌, ◌++◌, take, List, [], length, min, Result, Ok, Err, Option, Some, None, MatchOption, codes}
 use Rattle.std.specs.Io.KnownBytes.{Appends}
 use Rattle.cp_text.specs.Kinds.{kinds}
 use Rattle.cp_text.specs.Lines.{line_of}
@@ -15,8 +15,11 @@ use Rattle.cp_scope.specs.Judged.{RefusesList}
 use Rattle.cp_check.specs.Faults.{faults_of}
 use Rattle.cp_slots.specs.Tables.{Tables}
 use Rattle.cp_run.specs.Slots.{slots}
+use Rattle.cp_run.specs.Run.{run}
 use Rattle.cp_run.specs.Table.{table}
+use Rattle.cp_run.specs.Trace.{trace}
 use Rattle.cp_explore.specs.Report.{report_text}
+use Rattle.cp_explore.specs.TraceText.{trace_text}
 use Rattle.cp_tool.specs.Refusals.{refusal, scan_reason, parse_reason, check_reason}
 use Rattle.cp_tool.specs.declared.options.Options.{Options}
 use Rattle.cp_tool.specs.declared.explore_stream.Verdict.{Verdict}
@@ -40,10 +43,20 @@ IsReported o program verdict text =
     ((verdict ≡ Reported) × (length rows ≤ 50000) × (text ≡ report_text program rows o.rows))
     ⊎ ((verdict ≡ TooManyRows) × (50000 < length rows) × (text ≡ codes "too many rows\n"))
 
+-- the trace of this schedule
+abbrev pub IsTraced : Options → Tables → List ℕ → Verdict → List ℕ → Type 0
+IsTraced o program word verdict text =
+    let sys = slots program o.gates in
+    (verdict ≡ Reported) × (text ≡ trace_text program (trace sys o.choices o.steps word) (run sys o.choices o.steps word) word)
+
+-- one schedule is traced, or all are reported
+abbrev pub IsExplored : Options → Tables → Verdict → List ℕ → Type 0
+IsExplored o program verdict text = MatchOption o.schedule (IsReported o program verdict text) (λ word. IsTraced o program word.items verdict text)
+
 -- A tree is refused for the first rule that it breaks, or its program's table is reported.
 abbrev pub AnswersTree : Options → List Token → tree.Tree → Verdict → List ℕ → Type 0
 AnswersTree o tokens t verdict text =
-    ((faults_of (tree_view t) ≡ []) × (program : Tables) × IsReported o program verdict text)
+    ((faults_of (tree_view t) ≡ []) × (program : Tables) × IsExplored o program verdict text)
     ⊎ ((fault : CheckFault) × RefusesList fault (faults_of (tree_view t)) × IsRefusedAt tokens (check_reason fault) verdict text)
 
 abbrev pub AnswersParsed : Options → List Token → Result tree.Tree ParseFault → Verdict → List ℕ → Type 0

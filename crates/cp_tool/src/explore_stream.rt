@@ -1,5 +1,5 @@
 //! From the bytes of a source to the bytes of an answer.
-ghost use Rattle.std.specs.Prelude.{◌≡◌, ◌+◌, ◌≤◌, IfOk, option_map};
+ghost use Rattle.std.specs.Prelude.{◌≡◌, ◌+◌, ◌≤◌, length, IfOk, option_map};
 ghost use Rattle.cp_tool.specs.Answered as spec;
 ghost use Rattle.cp_tool.specs.declared.explore_stream.Ending.{Ending};
 
@@ -13,8 +13,10 @@ use cp_explore::fault::ExploreFault;
 use cp_explore::job::Job;
 use cp_explore::printed::Text;
 use cp_explore::report::report;
+use cp_explore::trace_report::trace_report;
 use cp_machine::ticks::Ticks;
 use cp_run::limits::Limits;
+use cp_run::trace::trace;
 use cp_slots::resolve::resolve;
 use cp_slots::resolved::Resolved;
 use cp_text::scan::scan;
@@ -191,13 +193,42 @@ fn refused_at(
     })
 }
 
-/// The report of a program's table, or that it has too many rows.
+/// The trace of the schedule that the options name, or the report of all schedules.
 fn explored(alloc: Global, options: &Options, program: &Resolved) -> Result<Answer, AllocError>
-    ensures { IfOk result (λ a. spec.IsReported options.now program.now a.verdict a.text) }
+    ensures { IfOk result (λ a. spec.IsExplored options.now program.now a.verdict a.text) }
 {
-    counted::<Brand>(alloc, options, program, Blank::new(1))
+    match &options.schedule {
+        Some(word) => traced::<Brand>(alloc, options, program, word.as_slice(), Blank::new(1)),
+        None => counted::<Brand>(alloc, options, program, Blank::new(1)),
+    }
 }
 
+fn traced<L: Ledger>(
+    alloc: Global,
+    options: &Options,
+    program: &Resolved,
+    word: &[u8],
+    blank: Blank,
+) -> Result<Answer, AllocError>
+    requires name { blank.name ≡ L.name }
+    requires parts { blank.parts ≡ L.parts }
+    requires one { L.parts ≡ 1 }
+    requires word { length word.now ≤ 20 }
+    ensures { IfOk result (λ a. spec.IsTraced options.now program.now word.now a.verdict a.text) }
+{
+    let Some(limits) = Limits::new(options.choices, options.steps, options.gates) else {
+        unreachable!()
+    };
+    let mut ticks: Ticks<L> = Ticks::new(blank);
+    let (lines, end) = trace(alloc, program, limits, word, &mut ticks)?;
+    let report = trace_report(alloc, program, &lines, &end, word)?;
+    Ok(Answer {
+        verdict: Verdict::Reported,
+        text: report.text,
+    })
+}
+
+/// The report of a program's table, or that it has too many rows.
 fn counted<L: Ledger>(
     alloc: Global,
     options: &Options,

@@ -59,12 +59,7 @@ fn options(rt: &HostRuntime) -> Result<Options, OptionFault> {
             return Err(OptionFault::Memory);
         }
     }
-    let options = read_options(rt.alloc(), &texts)?;
-    // A schedule is read, and not traced yet.
-    if options.schedule.is_some() {
-        return Err(OptionFault::Refused);
-    }
-    Ok(options)
+    read_options(rt.alloc(), &texts)
 }
 
 /// The status of exploring standard input; the blanks are for the counts of the streams' calls.

@@ -1,4 +1,7 @@
 use Rattle.cp_tool.proofs.explore_stream.explored.Given as goal
 
+abbrev pub ghosts-traced : goal.ghosts-traced
+ghosts-traced a = record { name = a.blank.name; parts = a.blank.parts }
+
 abbrev pub ghosts-counted : goal.ghosts-counted
 ghosts-counted a = record { name = a.blank.name; parts = a.blank.parts }
