@@ -28,7 +28,14 @@ pub fn explore<X: Threads + Sync, G: Gate + Sync>(
     ensures few { IfOk result (λ t. length t.rows ≤ 50000) }
     ensures many { result ≡ Err ExploreFault.TooManyRows → 50000 < length (table (slots cutting.now.job.program.now cutting.now.job.limits.gates) cutting.now.job.limits.choices cutting.now.job.limits.steps) }
 {
-    match explore_tasks(rt, alloc, cutting, cutting.words.len() as u32, workers, gate) {
+    match explore_tasks(
+        rt,
+        alloc,
+        cutting,
+        cutting.words.len() as u32,
+        workers,
+        gate,
+    ) {
         Ok(rows) => Ok(Table {
             rows: Rows::new(rows),
         }),

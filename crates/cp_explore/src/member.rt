@@ -52,7 +52,9 @@ pub fn member_rows<S: Ledger, C: Ledger>(
         if !may(program, limits, &state, *process) {
             return Ok(rows);
         }
-        halt = choose(program, limits, &mut state, *process, &mut steps, &mut calls);
+        halt = choose(
+            program, limits, &mut state, *process, &mut steps, &mut calls,
+        );
     }
     let left = limits.choices - word.len() as u8;
     let Ok(mut kept) = copies(alloc, program, &state, left) else {

@@ -39,11 +39,7 @@ fn push_holder(alloc: Global, text: &mut String, holder: Option<u8>) -> Result<(
     }
 }
 
-fn push_holders(
-    alloc: Global,
-    text: &mut String,
-    holders: &[Option<u8>],
-) -> Result<(), AllocError>
+fn push_holders(alloc: Global, text: &mut String, holders: &[Option<u8>]) -> Result<(), AllocError>
     ensures { IfOk result (λ _. string_bytes text.new ≡ string_bytes text.old ++ behind_each 32 holder_text holders.now) }
 {
     for holder in holders {
@@ -75,11 +71,7 @@ fn push_line(alloc: Global, text: &mut String, line: &TraceLine) -> Result<(), A
     text.push_str("\n")
 }
 
-fn push_lines(
-    alloc: Global,
-    text: &mut String,
-    lines: &[TraceLine],
-) -> Result<(), AllocError>
+fn push_lines(alloc: Global, text: &mut String, lines: &[TraceLine]) -> Result<(), AllocError>
     ensures { IfOk result (λ _. string_bytes text.new ≡ string_bytes text.old ++ each trace_line_text lines.now) }
 {
     for line in lines {

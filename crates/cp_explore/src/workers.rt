@@ -5,9 +5,9 @@ ghost use Rattle.cp_board.specs.Seats.{IsSeatOf, view_of, tasks_of};
 ghost use Rattle.cp_explore.specs.Tables.{table_of};
 ghost use Rattle.cp_explore.specs.Ends.{HasWorked};
 
+use crate::collect::{collected, gathered};
 use crate::fault::ExploreFault;
 use crate::row::Row;
-use crate::collect::{collected, gathered};
 use crate::running::worked;
 use crate::worker::{Gate, MOST_NOTED, Work, Worked};
 use cp_board::{Board, BoardFault, Seat};

@@ -228,13 +228,7 @@ pub fn trace<L: Ledger>(
             return Ok((lines, RunEnd::NotReady { place }));
         }
         halt = trace_choice(
-            alloc,
-            program,
-            limits,
-            &mut state,
-            *process,
-            ticks,
-            &mut lines,
+            alloc, program, limits, &mut state, *process, ticks, &mut lines,
         )?;
     }
     let end = end_of_word(alloc, program, limits, halt, &state, word.len())?;

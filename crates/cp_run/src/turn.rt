@@ -62,13 +62,7 @@ pub fn turn_at(program: &Resolved, limits: Limits, state: &State, kernel: bool, 
 }
 
 /// Error end, and then the rules that follow, after a step of `pid` that came to this state.
-pub fn turn_of(
-    program: &Resolved,
-    limits: Limits,
-    state: &State,
-    pid: u8,
-    event: Event,
-) -> Turn
+pub fn turn_of(program: &Resolved, limits: Limits, state: &State, pid: u8, event: Event) -> Turn
     requires own { IsStateOf program.now state.now }
     requires goes_on { IsLocal event → is_ready (machine_of state.now) pid ≡ true }
     ensures turn { result ≡ turn_after (slots program.now limits.gates) (machine_of state.now) pid event }

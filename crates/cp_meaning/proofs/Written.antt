@@ -1,0 +1,11 @@
+-- Short words for writing a program as syntax.
+use Rattle.std.specs.Prelude.{ℕ, List, None}
+use Rattle.cp_tree.specs.declared.constant.Identifier.{Identifier}
+use Rattle.cp_tree.specs.Syntax.{Expression, alone, sum, no_terms, term, no_factors, Factor}
+
+abbrev pub named_at : ℕ → List ℕ → Identifier
+named_at at x = record { at = at; name = x }
+
+-- an expression that is a factor alone
+abbrev pub just : ℕ → Factor → Expression
+just at f = alone at (sum at None (term at f no_factors) no_terms)

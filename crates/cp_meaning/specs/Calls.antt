@@ -1,0 +1,143 @@
+-- Calls and starts: what is bound, and what is done then (the book, chapter 9).
+use Rattle.std.specs.Prelude.{ℕ, ◌==◌, Bool, true, false, if◌then◌else◌, List, [], ◌∷◌, ◌++◌, length, Option, Some, None, Ok, Err, pos, slice_set}
+use Rattle.cp_tree.specs.declared.declaration.SystemKind.{SystemKind}
+use Rattle.cp_tree.specs.declared.declaration.SystemKind.TheVariants as system_kind
+use Rattle.cp_tree.specs.Syntax.{Expression, Expressions, more_expressions, Designator, Start}
+use Rattle.cp_meaning.specs.Names.{Name, result_name}
+use Rattle.cp_meaning.specs.Outcome.{Outcome, ◌>>=◌, not_init, init_twice}
+use Rattle.cp_meaning.specs.Types.{Ty, component_of, has_components}
+use Rattle.cp_meaning.specs.Values.{number_value, least}
+use Rattle.cp_meaning.specs.Scopes.{Meaning, routine_meaning}
+use Rattle.cp_meaning.specs.Declarations.{Variable, Parameter, RoutineMeaning}
+use Rattle.cp_meaning.specs.Systems.{SystemMeaning, system_of}
+use Rattle.cp_meaning.specs.State.{Content, holds, refers, knows, Environment, ComponentStatus, uninitialised, initialising, initialised, Component, component_at, CallKind, initial_statement, local_routine, entry_routine, Call, current, Item, return, init_end}
+use Rattle.cp_meaning.specs.Places.{View, Target, component_there, this_component}
+use Rattle.cp_meaning.specs.Operations.{checked}
+use Rattle.cp_meaning.specs.Expressions.{value, target_value, variable_in, routine_called, meaning_here}
+use Rattle.cp_meaning.specs.Lifting.{items_of_all}
+use Rattle.cp_meaning.specs.Move.{Doing, Move, stays, enters, starts}
+
+-- ---- arguments, from left to right
+
+abbrev pub refers_to : Outcome Target → Outcome Content
+refers_to target = target >>= λ t. Ok (refers t.place)
+
+-- the component, if it is of system type k, as every argument of an accepted program is
+abbrev pub of_system : View → ℕ → ℕ → ℕ
+of_system v k n = if (component_at v.components n).system == k then n else length v.components
+
+abbrev pub knows_of : View → ℕ → Outcome Target → Outcome Content
+knows_of v k target = target >>= λ t. Ok (knows (of_system v k (component_there v t.place)))
+
+abbrev pub bound_variable : View → (Outcome Target → Outcome Content) → Option Designator → Outcome Content
+bound_variable v bind (Some d) = bind (target_value v d)
+bound_variable v bind None = Ok (holds (number_value (pos 0)))
+
+abbrev pub bound_value : View → Ty → Expression → Outcome Content
+bound_value v (component_of k) e = bound_variable v (knows_of v k) (variable_in e)
+bound_value v t e = value v e >>= λ x. checked t x.value >>= λ w. Ok (holds w)
+
+-- a `var` parameter is bound to a place, a component to a component, and another one to a value in its range
+abbrev pub bound_argument : View → Parameter → Expression → Outcome Content
+bound_argument v q e = if q.is_var then bound_variable v refers_to (variable_in e) else bound_value v q.ty e
+
+abbrev pub bound : View → List Parameter → Expressions → Outcome Environment
+bound v (q ∷ qs) (more_expressions e es) = bound_argument v q e >>= λ c. bound v qs es >>= λ rest. Ok ((q.name, c) ∷ rest)
+bound v qs es = Ok []
+
+-- component variables have no value
+abbrev pub least_of : List Variable → Environment
+least_of [] = []
+least_of (x ∷ xs) = if has_components x.ty then least_of xs else (x.name, holds (least x.ty)) ∷ least_of xs
+
+abbrev pub least_result : Option Ty → Environment
+least_result None = []
+least_result (Some t) = (result_name, holds (least t)) ∷ []
+
+-- ---- a call; a function's result will go to the name o
+
+-- opened in the component d
+abbrev pub opened : View → ℕ → CallKind → RoutineMeaning → Option Name → List Item → Environment → Doing
+opened v d kind r o items e =
+    record {
+      calls = (let c : Call = record { component = d; kind = kind; scope = r.scope; environment = e ++ least_of r.variables ++ least_result r.result } in c) ∷ v.calls;
+      items = items_of_all r.scope r.body ++ return o ∷ items;
+      components = v.components;
+      move = stays;
+    }
+
+abbrev pub is_initialised : ComponentStatus → Bool
+is_initialised initialised = true
+is_initialised s = false
+
+abbrev pub is_uninitialised : ComponentStatus → Bool
+is_uninitialised uninitialised = true
+is_uninitialised s = false
+
+abbrev pub with_move : Doing → Move → Doing
+with_move d m = record { calls = d.calls; items = d.items; components = d.components; move = m }
+
+-- what no accepted program does
+abbrev pub nothing : View → List Item → Doing
+nothing v items = record { calls = v.calls; items = items; components = v.components; move = stays }
+
+-- the event of an entry call of a monitor is the kernel's; a process has no entries
+abbrev pub entered_as : SystemKind → View → ℕ → RoutineMeaning → Option Name → List Item → Environment → Doing
+entered_as system_kind.Monitor v d r o items e = with_move (opened v d entry_routine r o items e) (enters d)
+entered_as system_kind.Class v d r o items e = opened v d entry_routine r o items e
+entered_as system_kind.Process v d r o items e = nothing v items
+
+-- the arguments first, and then whether the component is initialised
+abbrev pub entered : View → ℕ → RoutineMeaning → Option Name → Expressions → List Item → Outcome Doing
+entered v d r o es items =
+    bound v r.parameters es >>= λ e.
+    if is_initialised (component_at v.components d).status
+    then Ok (entered_as (component_at v.components d).kind v d r o items e)
+    else Err not_init
+
+abbrev pub called_as : View → Option Meaning → Designator → Option RoutineMeaning → Option Name → Expressions → List Item → Outcome Doing
+called_as v m d None o es items = Ok (nothing v items)
+called_as v (Some (routine_meaning q)) d (Some r) o es items = bound v r.parameters es >>= λ e. Ok (opened v (this_component v) local_routine r o items e)
+called_as v m d (Some r) o es items = target_value v d >>= λ t. entered v (component_there v t.place) r o es items
+
+-- a call of a routine of the component itself, or of an entry of another component, whose place comes first
+abbrev pub called : View → Designator → Expressions → Option Name → List Item → Outcome Doing
+called v d es o items = called_as v (meaning_here v d) d (routine_called v.program (current v.calls).scope d) o es items
+
+-- ---- the start of a component
+
+abbrev pub with_status : List Component → ℕ → ComponentStatus → Environment → List Component
+with_status cs n s e =
+    let c = component_at cs n in
+    slice_set cs n (record { path = c.path; system = c.system; kind = c.kind; status = s; environment = e; line = c.line })
+
+-- the initial statement of a class or monitor, in the process that initialises it
+abbrev pub initial : View → ℕ → SystemMeaning → List Item → Environment → Doing
+initial v d s items e =
+    record {
+      calls = (let c : Call = record { component = d; kind = initial_statement; scope = s.scope; environment = [] } in c) ∷ v.calls;
+      items = items_of_all s.scope s.body ++ init_end d ∷ items;
+      components = with_status v.components d initialising (e ++ (component_at v.components d).environment);
+      move = stays;
+    }
+
+abbrev pub initialised_in : View → ℕ → SystemMeaning → List Item → Environment → Outcome Doing
+initialised_in v d s items e =
+    if is_uninitialised (component_at v.components d).status
+    then Ok (initial v d s items e)
+    else Err init_twice
+
+-- by the kind of the component; that a process is not started twice is looked at by the kernel
+abbrev pub started_as : SystemKind → View → ℕ → SystemMeaning → List Item → Environment → Outcome Doing
+started_as system_kind.Class v d s items e = initialised_in v d s items e
+started_as system_kind.Monitor v d s items e = initialised_in v d s items e
+started_as system_kind.Process v d s items e = Ok (with_move (nothing v items) (starts d e))
+
+abbrev pub started_at : View → ℕ → SystemMeaning → Expressions → List Item → Outcome Doing
+started_at v d s es items = bound v s.parameters es >>= λ e. started_as (component_at v.components d).kind v d s items e
+
+abbrev pub started : View → Start → List Item → Outcome Doing
+started v t items =
+    target_value v t.target >>= λ u.
+    let d = component_there v u.place in
+    started_at v d (system_of v.program (component_at v.components d).system) t.arguments items

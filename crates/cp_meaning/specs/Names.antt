@@ -1,0 +1,16 @@
+-- Names, as lists of their letters' codes in lower case.
+use Rattle.std.specs.Prelude.{ℕ, Bool, List, [], ◌∷◌, bytes_eq}
+
+abbrev pub Name : Type 0
+Name = List ℕ
+
+abbrev pub same_name : Name → Name → Bool
+same_name = bytes_eq
+
+-- the temporary name of the function call that has this many tokens before it; no program can spell it
+abbrev pub temporary : ℕ → Name
+temporary at = 0 ∷ at ∷ []
+
+-- the name under which the environment of a function's call has the result
+abbrev pub result_name : Name
+result_name = 0 ∷ []

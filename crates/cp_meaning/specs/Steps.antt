@@ -1,0 +1,137 @@
+-- Steps, admissions, and the states that are reached.
+use Rattle.std.specs.Prelude.{◌≡◌, ℕ, suc, ◌<◌, ◌==◌, true, if◌then◌else◌, List, [], ◌∷◌, map, length, Option, Some, None, Ok, Err, slice_index}
+use Rattle.cp_tree.specs.declared.declaration.SystemKind.{SystemKind}
+use Rattle.cp_tree.specs.declared.declaration.SystemKind.TheVariants as system_kind
+use Rattle.cp_tree.specs.Syntax.{Expression, alone, related, Designator, designator, Statement, empty, assign, invoke, block, if_then, if_else, case_of, while_do, repeat_until, for_do, cycle, init, Program, Tree}
+use Rattle.cp_meaning.specs.Outcome.{Outcome}
+use Rattle.cp_meaning.specs.Values.{is_member}
+use Rattle.cp_meaning.specs.Systems.{system_of}
+use Rattle.cp_meaning.specs.Components.{Listed, components_of}
+use Rattle.cp_meaning.specs.State.{uninitialised, Component, Item, statement_item, function_call, start_item, until, successor, return, init_end, end, unstarted, ready, Process, process_at, Gates, State}
+use Rattle.cp_meaning.specs.Places.{View}
+use Rattle.cp_meaning.specs.Calls.{least_of}
+use Rattle.cp_meaning.specs.Move.{Doing}
+use Rattle.cp_meaning.specs.LocalRules.{takes}
+use Rattle.cp_meaning.specs.Kernel.{fault_event, Stepped, with_line_of, with_pending, made_ready, line_of, begun, settles}
+
+-- ---- the opening state
+
+abbrev pub first_component : Program → Listed → Component
+first_component p l =
+    record {
+      path = l.path;
+      system = l.system;
+      kind = (system_of p l.system).kind;
+      status = uninitialised;
+      environment = least_of (system_of p l.system).variables;
+      line = [];
+    }
+
+-- the processes among the components from the number n on
+abbrev pub unstarted_process : ℕ → Process
+unstarted_process n = record { component = n; status = unstarted; calls = []; items = [] }
+
+abbrev pub process_first : SystemKind → ℕ → List Process → List Process
+process_first system_kind.Process n ps = unstarted_process n ∷ ps
+process_first system_kind.Class n ps = ps
+process_first system_kind.Monitor n ps = ps
+
+abbrev pub processes_from : ℕ → List Component → List Process
+processes_from n [] = []
+processes_from n (c ∷ cs) = process_first c.kind n (processes_from (suc n) cs)
+
+abbrev pub with_first : Program → List Component → List Process → Gates → State
+with_first p cs ps g = record { processes = ps; components = cs; output = []; gates = g; pending = None }
+
+-- the program itself runs from the start
+abbrev pub own_begun : Program → List Component → List Process → List Process
+own_begun p (c ∷ cs) (q ∷ ps) = begun 0 (system_of p c.system) ∷ ps
+own_begun p cs ps = ps
+
+abbrev pub first_components : Program → List Component
+first_components p = map (first_component p) (components_of p)
+
+abbrev pub opening : Program → Gates → State
+opening p g = with_first p (first_components p) (own_begun p (first_components p) (processes_from 0 (first_components p))) g
+
+-- ---- one step
+
+abbrev pub view_of : Program → State → ℕ → View
+view_of p s pid = record { program = p; calls = (process_at s.processes pid).calls; components = s.components }
+
+abbrev pub settled : Program → State → ℕ → Outcome Doing → Stepped
+settled p s pid (Ok d) = settles p s pid d d.move
+settled p s pid (Err e) = record { state = s; event = fault_event e }
+
+-- one step of a process that is ready, where nothing is pending
+abbrev pub step_of : Program → State → ℕ → Stepped
+step_of p s pid = settled p s pid (takes (view_of p s pid) pid (process_at s.processes pid).items)
+
+-- ---- the line of an item: that of its first token
+
+abbrev pub at_expression : Expression → ℕ
+at_expression (alone at a) = at
+at_expression (related at a r b) = at
+
+abbrev pub at_statement : Statement → ℕ
+at_statement (empty at) = at
+at_statement (assign at d e) = at
+at_statement (invoke at d es) = at
+at_statement (block at ss) = at
+at_statement (if_then at e s) = at
+at_statement (if_else at e s t) = at
+at_statement (case_of at e as' b) = at
+at_statement (while_do at e s) = at
+at_statement (repeat_until at ss e) = at
+at_statement (for_do at i e d f s) = at
+at_statement (cycle at ss) = at
+at_statement (init at ts) = at
+
+abbrev pub at_designator : Designator → ℕ
+at_designator (designator i ss) = i.at
+
+abbrev pub at_item : Item → ℕ
+at_item (statement_item s) = at_statement s
+at_item (function_call at d es) = at
+at_item (start_item t) = at_designator t.target
+at_item (until ss e) = at_expression e
+at_item (successor at i z d b s) = at
+at_item (return o) = 0
+at_item (init_end m) = 0
+at_item end = 0
+
+abbrev pub at_items : List Item → ℕ
+at_items [] = 0
+at_items (i ∷ items) = at_item i
+
+-- the line that a run error of the process names
+abbrev pub line_at : Tree → State → ℕ → ℕ
+line_at t s pid = slice_index t.lines (at_items (process_at s.processes pid).items)
+
+-- ---- admission of a process of a line, under the gates Any
+
+abbrev pub without : ℕ → List ℕ → List ℕ
+without q [] = []
+without q (r ∷ line) = if r == q then line else r ∷ without q line
+
+abbrev pub admitted_to : Option ℕ → State → ℕ → State
+admitted_to None s q = s
+admitted_to (Some m) s q = with_pending (with_line_of (made_ready s q) m (without q (line_of s m))) None
+
+abbrev pub admitted : State → ℕ → State
+admitted s q = admitted_to s.pending s q
+
+-- ---- reached states
+
+-- the opening state, and what steps of ready processes and admissions lead to
+pub data IsReached (p : Program) (g : Gates) : State → Type 0 where
+  at_first : IsReached p g (opening p g)
+  by_step : (s : State) (pid : ℕ) → IsReached p g s → s.pending ≡ None → pid < length s.processes → (process_at s.processes pid).status ≡ ready → IsReached p g (step_of p s pid).state
+  by_admission : (s : State) (m q : ℕ) → IsReached p g s → s.pending ≡ Some m → is_member q (line_of s m) ≡ true → IsReached p g (admitted s q)
+
+-- ---- several steps
+
+-- the state after these processes took a step each, in order
+abbrev pub follow : Program → State → List ℕ → State
+follow p s [] = s
+follow p s (pid ∷ word) = follow p (step_of p s pid).state word
