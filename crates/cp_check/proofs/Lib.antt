@@ -1,7 +1,12 @@
-pub mod Judging
-pub mod Fronts
 pub mod Arguments
+pub mod Branches
+pub mod Elements
+pub mod Expressions
+pub mod Folded
+pub mod Fronts
+pub mod Judging
+pub mod Lists
 pub mod Statements
 pub mod Steps
-pub mod Lists
-pub mod Folded
+pub mod Systems
+pub mod Members

@@ -1,19 +1,21 @@
 -- Lists of declarations: what is left leads where all lead.
-use Rattle.std.proofs.Common.{◌≡◌, ℕ, ◌+◌, ◌<◌, ◌≤◌, List, [], ◌∷◌, length, get_or, drop, map, refl, sym, ap, subst, ◌∙◌, add-one}
+use Rattle.std.proofs.Common.{◌≡◌, ℕ, suc, ◌+◌, ◌<◌, ◌≤◌, Bool, true, false, List, [], ◌∷◌, ◌++◌, length, get_or, drop, map, Option, refl, sym, ap, subst, ◌∙◌, add-one, arith}
 use Rattle.std.proofs.Math.Seq.{drop-cons}
 use Rattle.std.proofs.lemmas.List.{drop_all}
 use Rattle.cp_scope.specs.declared.fault.CheckFault.{CheckFault}
+use Rattle.cp_scope.specs.declared.types.Meaning.{Meaning}
 use Rattle.cp_tree.specs.declared.constant.Identifier.{Identifier}
-use Rattle.cp_tree.specs.declared.declaration.VariableGroup as tree_variable_group
-use Rattle.cp_tree.specs.declared.declaration.Group as tree_group
-use Rattle.cp_tree.specs.declared.declaration.SystemDefinition as tree_system_definition
-use Rattle.cp_tree.specs.declared.declaration.ProgramPart as tree_program_part
-use Rattle.cp_tree.specs.Syntax.{VariableGroup, Group, SystemDefinition, ProgramPart}
-use Rattle.cp_tree.specs.View.{variable_group_view, group_view, system_definition_view, program_part_view}
-use Rattle.cp_scope.specs.Types.{Meaning}
+use Rattle.cp_tree.specs.declared.declaration.ConstantDefinition as tree_constant
+use Rattle.cp_tree.specs.declared.declaration.TypeDefinition as tree_type
+use Rattle.cp_tree.specs.declared.declaration.VariableGroup as tree_variable
+use Rattle.cp_tree.specs.declared.declaration.Part as tree_part
+use Rattle.cp_tree.specs.Syntax.{ConstantDefinition, TypeDefinition, VariableGroup, Part}
+use Rattle.cp_tree.specs.View.{constant_definition_view, type_definition_view, variable_group_view, part_view}
 use Rattle.cp_scope.specs.Scopes.{Scopes, add}
 use Rattle.cp_scope.specs.Judged.{RefusesList}
-use Rattle.cp_check.specs.Declarations.{Step, then_step, nothing, reserve_name, reserve_names, add_names, variable_group, variable_groups, group_step, groups, definition_step, definitions, program_part, program_parts}
+use Rattle.cp_check.specs.declared.types.Spot.{Spot}
+use Rattle.cp_check.specs.Types.{Step, then_step, nothing}
+use Rattle.cp_check.specs.Declarations.{reserve_name, reserve_names, add_names, constant_step, constant_steps, type_step, type_steps, variable_step, variable_steps, part_step, part_steps}
 use Rattle.cp_check.proofs.Judging.{first_append}
 
 module _ {D : Type 0} (step : Scopes → D → Step) (all : Scopes → List D → Step) (splits : (s : Scopes) (d : D) (ds : List D) → all s (d ∷ ds) ≡ then_step (step s d) (λ after. all after ds)) (ends : (s : Scopes) → all s [] ≡ nothing s) where
@@ -45,7 +47,7 @@ module _ (s : Scopes) (xs : List Identifier) (i : ℕ) (x : Identifier) (within 
   pub names_refused : (e : CheckFault) → RefusesList e (reserve_name s x).faults → RefusesList e (reserve_names s (drop i xs)).faults
   names_refused e h = subst (λ (t : Step). RefusesList e t.faults) (sym names_split) (first_append e (reserve_name s x).faults _ h)
 
-  pub added_split : (m : Meaning) → add_names s (drop i xs) m ≡ add_names (add s x.name m) (drop (i + 1) xs) m
+  pub added_split : (m : Option Meaning) → add_names s (drop i xs) m ≡ add_names (add s x.name m) (drop (i + 1) xs) m
   unfolding add_names
   added_split m = rw (add-one, drop-cons xs i x, ← here) refl
 
@@ -53,86 +55,86 @@ pub names_none : (s : Scopes) (xs : List Identifier) (i : ℕ) → length xs ≤
 unfolding reserve_names
 names_none s xs i h = rw (drop_all i xs h) refl
 
-pub added_none : (s : Scopes) (xs : List Identifier) (i : ℕ) (m : Meaning) → length xs ≤ i → add_names s (drop i xs) m ≡ s
+pub added_none : (s : Scopes) (xs : List Identifier) (i : ℕ) (m : Option Meaning) → length xs ≤ i → add_names s (drop i xs) m ≡ s
 unfolding add_names
 added_none s xs i m h = rw (drop_all i xs h) refl
 
--- ---- groups of variables
+-- ---- constants
 
-variables_splits : (s : Scopes) (d : VariableGroup) (ds : List VariableGroup) → variable_groups s (d ∷ ds) ≡ then_step (variable_group s d) (λ after. variable_groups after ds)
-unfolding variable_groups
-variables_splits s d ds = refl
+constants_splits : (s : Scopes) (d : ConstantDefinition) (ds : List ConstantDefinition) → constant_steps s (d ∷ ds) ≡ then_step (constant_step s d) (λ after. constant_steps after ds)
+unfolding constant_steps
+constants_splits s d ds = refl
 
-variables_end : (s : Scopes) → variable_groups s [] ≡ nothing s
-unfolding variable_groups
-variables_end s = refl
+constants_end : (s : Scopes) → constant_steps s [] ≡ nothing s
+unfolding constant_steps
+constants_end s = refl
 
-module _ (s : Scopes) (xs : List tree_variable_group.VariableGroup) (i : ℕ) (x : tree_variable_group.VariableGroup) (within : i < length xs) (here : x ≡ get_or xs i x) where
-  pub variables_passed : (new : Scopes) → (variable_group s (variable_group_view x)).faults ≡ [] → new ≡ (variable_group s (variable_group_view x)).scopes → variable_groups s (map variable_group_view (drop i xs)) ≡ variable_groups new (map variable_group_view (drop (i + 1) xs))
-  variables_passed = passed variable_group variable_groups variables_splits variables_end variable_group_view s xs i x within here
+module _ (s : Scopes) (xs : List tree_constant.ConstantDefinition) (i : ℕ) (x : tree_constant.ConstantDefinition) (within : i < length xs) (here : x ≡ get_or xs i x) where
+  pub constants_passed : (new : Scopes) → (constant_step s (constant_definition_view x)).faults ≡ [] → new ≡ (constant_step s (constant_definition_view x)).scopes → constant_steps s (map constant_definition_view (drop i xs)) ≡ constant_steps new (map constant_definition_view (drop (i + 1) xs))
+  constants_passed = passed constant_step constant_steps constants_splits constants_end constant_definition_view s xs i x within here
 
-  pub variables_refused : (e : CheckFault) → RefusesList e (variable_group s (variable_group_view x)).faults → RefusesList e (variable_groups s (map variable_group_view (drop i xs))).faults
-  variables_refused = refused variable_group variable_groups variables_splits variables_end variable_group_view s xs i x within here
+  pub constants_refused : (e : CheckFault) → RefusesList e (constant_step s (constant_definition_view x)).faults → RefusesList e (constant_steps s (map constant_definition_view (drop i xs))).faults
+  constants_refused = refused constant_step constant_steps constants_splits constants_end constant_definition_view s xs i x within here
 
-pub variables_none : (s : Scopes) (xs : List tree_variable_group.VariableGroup) (i : ℕ) → length xs ≤ i → variable_groups s (map variable_group_view (drop i xs)) ≡ nothing s
-variables_none = none variable_group variable_groups variables_splits variables_end variable_group_view
+pub constants_none : (s : Scopes) (xs : List tree_constant.ConstantDefinition) (i : ℕ) → length xs ≤ i → constant_steps s (map constant_definition_view (drop i xs)) ≡ nothing s
+constants_none = none constant_step constant_steps constants_splits constants_end constant_definition_view
 
--- ---- groups of parameters
+-- ---- types
 
-groups_splits : (s : Scopes) (d : Group) (ds : List Group) → groups s (d ∷ ds) ≡ then_step (group_step s d) (λ after. groups after ds)
-unfolding groups
-groups_splits s d ds = refl
+types_splits : (s : Scopes) (d : TypeDefinition) (ds : List TypeDefinition) → type_steps s (d ∷ ds) ≡ then_step (type_step s d) (λ after. type_steps after ds)
+unfolding type_steps
+types_splits s d ds = refl
 
-groups_end : (s : Scopes) → groups s [] ≡ nothing s
-unfolding groups
-groups_end s = refl
+types_end : (s : Scopes) → type_steps s [] ≡ nothing s
+unfolding type_steps
+types_end s = refl
 
-module _ (s : Scopes) (xs : List tree_group.Group) (i : ℕ) (x : tree_group.Group) (within : i < length xs) (here : x ≡ get_or xs i x) where
-  pub groups_passed : (new : Scopes) → (group_step s (group_view x)).faults ≡ [] → new ≡ (group_step s (group_view x)).scopes → groups s (map group_view (drop i xs)) ≡ groups new (map group_view (drop (i + 1) xs))
-  groups_passed = passed group_step groups groups_splits groups_end group_view s xs i x within here
+module _ (s : Scopes) (xs : List tree_type.TypeDefinition) (i : ℕ) (x : tree_type.TypeDefinition) (within : i < length xs) (here : x ≡ get_or xs i x) where
+  pub types_passed : (new : Scopes) → (type_step s (type_definition_view x)).faults ≡ [] → new ≡ (type_step s (type_definition_view x)).scopes → type_steps s (map type_definition_view (drop i xs)) ≡ type_steps new (map type_definition_view (drop (i + 1) xs))
+  types_passed = passed type_step type_steps types_splits types_end type_definition_view s xs i x within here
 
-  pub groups_refused : (e : CheckFault) → RefusesList e (group_step s (group_view x)).faults → RefusesList e (groups s (map group_view (drop i xs))).faults
-  groups_refused = refused group_step groups groups_splits groups_end group_view s xs i x within here
+  pub types_refused : (e : CheckFault) → RefusesList e (type_step s (type_definition_view x)).faults → RefusesList e (type_steps s (map type_definition_view (drop i xs))).faults
+  types_refused = refused type_step type_steps types_splits types_end type_definition_view s xs i x within here
 
-pub groups_none : (s : Scopes) (xs : List tree_group.Group) (i : ℕ) → length xs ≤ i → groups s (map group_view (drop i xs)) ≡ nothing s
-groups_none = none group_step groups groups_splits groups_end group_view
+pub types_none : (s : Scopes) (xs : List tree_type.TypeDefinition) (i : ℕ) → length xs ≤ i → type_steps s (map type_definition_view (drop i xs)) ≡ nothing s
+types_none = none type_step type_steps types_splits types_end type_definition_view
 
--- ---- definitions of types
+-- ---- variables
 
-definitions_splits : (s : Scopes) (d : SystemDefinition) (ds : List SystemDefinition) → definitions s (d ∷ ds) ≡ then_step (definition_step s d) (λ after. definitions after ds)
-unfolding definitions
-definitions_splits s d ds = refl
+variables_splits : (p : Spot) (s : Scopes) (d : VariableGroup) (ds : List VariableGroup) → variable_steps p s (d ∷ ds) ≡ then_step (variable_step p s d) (λ after. variable_steps p after ds)
+unfolding variable_steps
+variables_splits p s d ds = refl
 
-definitions_end : (s : Scopes) → definitions s [] ≡ nothing s
-unfolding definitions
-definitions_end s = refl
+variables_end : (p : Spot) (s : Scopes) → variable_steps p s [] ≡ nothing s
+unfolding variable_steps
+variables_end p s = refl
 
-module _ (s : Scopes) (xs : List tree_system_definition.SystemDefinition) (i : ℕ) (x : tree_system_definition.SystemDefinition) (within : i < length xs) (here : x ≡ get_or xs i x) where
-  pub definitions_passed : (new : Scopes) → (definition_step s (system_definition_view x)).faults ≡ [] → new ≡ (definition_step s (system_definition_view x)).scopes → definitions s (map system_definition_view (drop i xs)) ≡ definitions new (map system_definition_view (drop (i + 1) xs))
-  definitions_passed = passed definition_step definitions definitions_splits definitions_end system_definition_view s xs i x within here
+module _ (p : Spot) (s : Scopes) (xs : List tree_variable.VariableGroup) (i : ℕ) (x : tree_variable.VariableGroup) (within : i < length xs) (here : x ≡ get_or xs i x) where
+  pub variables_passed : (new : Scopes) → (variable_step p s (variable_group_view x)).faults ≡ [] → new ≡ (variable_step p s (variable_group_view x)).scopes → variable_steps p s (map variable_group_view (drop i xs)) ≡ variable_steps p new (map variable_group_view (drop (i + 1) xs))
+  variables_passed = passed (variable_step p) (variable_steps p) (variables_splits p) (variables_end p) variable_group_view s xs i x within here
 
-  pub definitions_refused : (e : CheckFault) → RefusesList e (definition_step s (system_definition_view x)).faults → RefusesList e (definitions s (map system_definition_view (drop i xs))).faults
-  definitions_refused = refused definition_step definitions definitions_splits definitions_end system_definition_view s xs i x within here
+  pub variables_refused : (e : CheckFault) → RefusesList e (variable_step p s (variable_group_view x)).faults → RefusesList e (variable_steps p s (map variable_group_view (drop i xs))).faults
+  variables_refused = refused (variable_step p) (variable_steps p) (variables_splits p) (variables_end p) variable_group_view s xs i x within here
 
-pub definitions_none : (s : Scopes) (xs : List tree_system_definition.SystemDefinition) (i : ℕ) → length xs ≤ i → definitions s (map system_definition_view (drop i xs)) ≡ nothing s
-definitions_none = none definition_step definitions definitions_splits definitions_end system_definition_view
+pub variables_none : (p : Spot) (s : Scopes) (xs : List tree_variable.VariableGroup) (i : ℕ) → length xs ≤ i → variable_steps p s (map variable_group_view (drop i xs)) ≡ nothing s
+variables_none p = none (variable_step p) (variable_steps p) (variables_splits p) (variables_end p) variable_group_view
 
--- ---- parts of the program
+-- ---- parts
 
-parts_splits : (s : Scopes) (d : ProgramPart) (ds : List ProgramPart) → program_parts s (d ∷ ds) ≡ then_step (program_part s d) (λ after. program_parts after ds)
-unfolding program_parts
-parts_splits s d ds = refl
+parts_splits : (p : Spot) (s : Scopes) (d : Part) (ds : List Part) → part_steps p s (d ∷ ds) ≡ then_step (part_step p s d) (λ after. part_steps p after ds)
+unfolding part_steps
+parts_splits p s d ds = refl
 
-parts_end : (s : Scopes) → program_parts s [] ≡ nothing s
-unfolding program_parts
-parts_end s = refl
+parts_end : (p : Spot) (s : Scopes) → part_steps p s [] ≡ nothing s
+unfolding part_steps
+parts_end p s = refl
 
-module _ (s : Scopes) (xs : List tree_program_part.ProgramPart) (i : ℕ) (x : tree_program_part.ProgramPart) (within : i < length xs) (here : x ≡ get_or xs i x) where
-  pub parts_passed : (new : Scopes) → (program_part s (program_part_view x)).faults ≡ [] → new ≡ (program_part s (program_part_view x)).scopes → program_parts s (map program_part_view (drop i xs)) ≡ program_parts new (map program_part_view (drop (i + 1) xs))
-  parts_passed = passed program_part program_parts parts_splits parts_end program_part_view s xs i x within here
+module _ (p : Spot) (s : Scopes) (xs : List tree_part.Part) (i : ℕ) (x : tree_part.Part) (within : i < length xs) (here : x ≡ get_or xs i x) where
+  pub parts_passed : (new : Scopes) → (part_step p s (part_view x)).faults ≡ [] → new ≡ (part_step p s (part_view x)).scopes → part_steps p s (map part_view (drop i xs)) ≡ part_steps p new (map part_view (drop (i + 1) xs))
+  parts_passed = passed (part_step p) (part_steps p) (parts_splits p) (parts_end p) part_view s xs i x within here
 
-  pub parts_refused : (e : CheckFault) → RefusesList e (program_part s (program_part_view x)).faults → RefusesList e (program_parts s (map program_part_view (drop i xs))).faults
-  parts_refused = refused program_part program_parts parts_splits parts_end program_part_view s xs i x within here
+  pub parts_refused : (e : CheckFault) → RefusesList e (part_step p s (part_view x)).faults → RefusesList e (part_steps p s (map part_view (drop i xs))).faults
+  parts_refused = refused (part_step p) (part_steps p) (parts_splits p) (parts_end p) part_view s xs i x within here
 
-pub parts_none : (s : Scopes) (xs : List tree_program_part.ProgramPart) (i : ℕ) → length xs ≤ i → program_parts s (map program_part_view (drop i xs)) ≡ nothing s
-parts_none = none program_part program_parts parts_splits parts_end program_part_view
+pub parts_none : (p : Spot) (s : Scopes) (xs : List tree_part.Part) (i : ℕ) → length xs ≤ i → part_steps p s (map part_view (drop i xs)) ≡ nothing s
+parts_none p = none (part_step p) (part_steps p) (parts_splits p) (parts_end p) part_view

@@ -1,84 +1,139 @@
 -- The rules of expressions.
-use Rattle.std.specs.Prelude.{ℕ, Bool, true, false, ◌&&◌, if◌then◌else◌, List, [], ◌∷◌, Option, Some, None, Ok}
-use Rattle.cp_tree.specs.declared.constant.Identifier.{Identifier}
-use Rattle.cp_tree.specs.Syntax.{Expression, alone, related, Sum, sum, Terms, no_terms, more_terms, Term, term, Factors, no_factors, more_factors, Factor, number, character, named, group, negated, set_of, Expressions, no_expressions, more_expressions, Designator, designator, Selectors, no_selectors, more_selectors}
-use Rattle.cp_scope.specs.declared.fault.Rule.TheVariants.{C1, C5}
-use Rattle.cp_scope.specs.Types.{Ty, ordinal, integers, Meaning, constant, kind, variable, parameter, predeclared, faulty}
-use Rattle.cp_scope.specs.Scopes.{Scopes, look}
-use Rattle.cp_scope.specs.Judged.{Judged, broken, left_out, silent, both, ◌>>=◌}
-
--- a value, and where its expression begins
-pub record Operand : Type 0 where
-  pub at : ℕ
-  pub type : Ty
-
--- ---- names
-
-abbrev pub found : ℕ → Option Meaning → Judged Meaning
-found at None = broken at C1
-found at (Some m) = Ok m
-
-unfoldable pub visible : Scopes → ℕ → List ℕ → Judged Meaning
-visible s at n = found at (look n s)
-
-abbrev pub name_of : Designator → Identifier
-name_of (designator n ss) = n
-
-abbrev pub has_no_selectors : Selectors → Bool
-has_no_selectors no_selectors = true
-has_no_selectors (more_selectors s ss) = false
-
-abbrev pub is_bare : Designator → Bool
-is_bare (designator n ss) = has_no_selectors ss
-
-abbrev pub has_no_factors : Factors → Bool
-has_no_factors no_factors = true
-has_no_factors (more_factors m f fs) = false
-
-abbrev pub has_no_terms : Terms → Bool
-has_no_terms no_terms = true
-has_no_terms (more_terms a t ts) = false
+use Rattle.std.specs.Prelude.{ℕ, ◌+◌, Bool, true, false, ◌&&◌, if◌then◌else◌, List, [], ◌∷◌, slice_get, Option, Some, None, Result, Ok, Err}
+use Rattle.cp_tree.specs.declared.constant.Sign.{Sign}
+use Rattle.cp_tree.specs.declared.expression.Addition.{Addition}
+use Rattle.cp_tree.specs.declared.expression.Multiplication.{Multiplication}
+use Rattle.cp_tree.specs.Syntax.{Expression, alone, related, Sum, sum, Terms, no_terms, more_terms as terms_more, Term, term, Factors, no_factors, more_factors as factors_more, Factor, number, character, named, group, negated, set_of, Expressions, no_expressions, more_expressions, Designator, designator as name_with, Selectors, no_selectors, more_selectors, Selector, field, index}
+use Rattle.cp_scope.specs.declared.fault.Rule.TheVariants.{C5}
+use Rattle.cp_scope.specs.declared.types.Base.{Base}
+use Rattle.cp_scope.specs.declared.types.Base.TheVariants.{Integer, Char}
+use Rattle.cp_scope.specs.declared.types.ValueType.{ValueType}
+use Rattle.cp_scope.specs.declared.types.ValueType.TheVariants as types
+use Rattle.cp_scope.specs.declared.types.Parameter.{Parameter}
+use Rattle.cp_scope.specs.declared.count.Use.{Use}
+use Rattle.cp_scope.specs.Types.{is_of, values_of, whole}
+use Rattle.cp_scope.specs.Counts.{no_use}
+use Rattle.cp_scope.specs.Scopes.{Scopes}
+use Rattle.cp_scope.specs.Judged.{Judged, broken, left_out, both, ◌>>=◌}
+use Rattle.cp_check.specs.declared.operand.Context.{Context}
+use Rattle.cp_check.specs.declared.operand.Operand.{Operand}
+use Rattle.cp_check.specs.declared.operand.Designated.{Designated}
+use Rattle.cp_check.specs.Operands.{value}
+use Rattle.cp_check.specs.Operations as operations
+use Rattle.cp_check.specs.Names.{begun, selected, indexed, known}
+use Rattle.cp_check.specs.Calls.{value_of, variable_of, total_use}
 
 abbrev pub has_none : Expressions → Bool
 has_none no_expressions = true
 has_none (more_expressions e es) = false
 
--- ---- expressions
+abbrev pub has_no_factors : Factors → Bool
+has_no_factors no_factors = true
+has_no_factors (factors_more m f fs) = false
 
--- a name as a value
-abbrev pub value_of : ℕ → Meaning → Judged Ty
-value_of at (parameter t) = Ok t
-value_of at (variable t) = Ok t
-value_of at (kind t) = broken at C5
-value_of at faulty = silent
-value_of at (constant b v) = left_out at
-value_of at (predeclared p) = left_out at
+abbrev pub has_no_terms : Terms → Bool
+has_no_terms no_terms = true
+has_no_terms (terms_more a t ts) = false
 
-unfoldable pub factor : Scopes → Factor → Judged Ty
-factor s (number at v) = Ok (ordinal integers)
-factor s (named at d es) = if is_bare d && has_none es then visible s (name_of d).at (name_of d).name >>= value_of at else left_out at
-factor s (character at c) = left_out at
-factor s (group at e) = left_out at
-factor s (negated at f) = left_out at
-factor s (set_of at es) = left_out at
+abbrev pub is_unsigned : Option Sign → Bool
+is_unsigned None = true
+is_unsigned (Some s) = false
 
-unfoldable pub term_type : Scopes → Term → Judged Ty
-term_type s (term at f fs) = if has_no_factors fs then factor s f else left_out at
+abbrev pub grouped : ℕ → Operand → Operand
+grouped at o = value at o.value_type o.uses
 
-unfoldable pub sum_type : Scopes → Sum → Judged Ty
-sum_type s (sum at None t us) = if has_no_terms us then term_type s t else left_out at
-sum_type s (sum at (Some sign) t us) = left_out at
+abbrev pub to_group : ℕ → Operand → Judged Operand
+to_group at o = Ok (grouped at o)
 
-abbrev pub operand : ℕ → Ty → Judged Operand
-operand at t = Ok (record { at = at; type = t })
+-- ---- set constructors
 
-unfoldable pub expression : Scopes → Expression → Judged Operand
-expression s (alone at a) = sum_type s a >>= operand at
-expression s (related at a r b) = left_out at
+abbrev pub are_elements : Base → List Operand → Bool
+are_elements b [] = true
+are_elements b (o ∷ os) = is_of b o.value_type && are_elements b os
+
+abbrev pub set_like : ℕ → List Operand → ValueType → Judged Operand
+set_like at os (types.Ordinal r) = if are_elements r.base os then left_out at else broken at C5
+set_like at os _ = broken at C5
+
+-- a set is not run yet
+abbrev pub constructed : ℕ → List Operand → Judged Operand
+constructed at [] = left_out at
+constructed at (o ∷ os) = set_like at (o ∷ os) o.value_type
+
+-- ---- parts of expressions
+
+abbrev pub is_var_of : Option Parameter → Bool
+is_var_of (Some p) = p.is_var
+is_var_of None = false
+
+-- whether the argument at a place is that of a `var` parameter
+abbrev pub is_var_at : List Parameter → ℕ → Bool
+is_var_at ps k = is_var_of (slice_get ps k)
 
 abbrev pub before : Operand × List Operand → Judged (List Operand)
 before p = Ok (p.0 ∷ p.1)
 
-unfoldable pub arguments : Scopes → Expressions → Judged (List Operand)
-arguments s no_expressions = Ok []
-arguments s (more_expressions e es) = both (expression s e) (arguments s es) >>= before
+abbrev pub added : ℕ → Addition → Option Operand × Operand → Judged (Option Operand)
+added at a p = Ok (operations.added at a p.0 p.1)
+
+abbrev pub multiplied : ℕ → Multiplication → Option Operand × Operand → Judged (Option Operand)
+multiplied at m p = Ok (operations.multiplied at m p.0 p.1)
+
+abbrev pub some_operand : Operand → Judged (Option Operand)
+some_operand o = Ok (Some o)
+
+abbrev pub signed : ℕ → Option Sign → Operand → Judged (Option Operand)
+signed at s o = Ok (operations.signed at s o)
+
+abbrev pub at_index : Scopes → Designated × Operand → Judged Designated
+at_index s p = Ok (indexed s p.0 p.1)
+
+-- a name with its arguments; alone in the place of a `var` argument
+abbrev pub named_value : Scopes → Context → Bool → ℕ → Judged Designated → Judged (List Operand) → Judged Operand
+named_value s w v at d os = if v then d >>= variable_of s w at else both d os >>= value_of s w at
+
+-- In the place of a `var` argument a function's name alone is no call.
+unfoldable mutual
+  pub expression : Scopes → Context → Bool → Expression → Judged Operand
+  expression s w v (alone at a) = sum_value s w v a
+  expression s w v (related at a r b) = both (sum_value s w false a) (sum_value s w false b) >>= operations.related at r
+
+  -- a sum is one node, however many terms it has
+  pub sum_value : Scopes → Context → Bool → Sum → Judged Operand
+  sum_value s w v (sum at sign t ts) =
+      more_terms s w at (term_value s w (v && (is_unsigned sign && has_no_terms ts)) t >>= signed at sign) ts >>= operations.agreed at
+
+  pub more_terms : Scopes → Context → ℕ → Judged (Option Operand) → Terms → Judged (Option Operand)
+  more_terms s w at j no_terms = j
+  more_terms s w at j (terms_more a t ts) = more_terms s w at (both j (term_value s w false t) >>= added at a) ts
+
+  pub term_value : Scopes → Context → Bool → Term → Judged Operand
+  term_value s w v (term at f fs) =
+      more_factors s w at (factor s w (v && has_no_factors fs) f >>= some_operand) fs >>= operations.agreed at
+
+  pub more_factors : Scopes → Context → ℕ → Judged (Option Operand) → Factors → Judged (Option Operand)
+  more_factors s w at j no_factors = j
+  more_factors s w at j (factors_more m f fs) = more_factors s w at (both j (factor s w false f) >>= multiplied at m) fs
+
+  pub factor : Scopes → Context → Bool → Factor → Judged Operand
+  factor s w v (number at n) = Ok (value at (values_of Integer) no_use)
+  factor s w v (character at c) = Ok (value at (values_of Char) no_use)
+  factor s w v (named at d es) = named_value s w (v && has_none es) at (designator s w d) (arguments s w [] 0 es)
+  factor s w v (group at e) = expression s w false e >>= to_group at
+  factor s w v (negated at f) = factor s w false f >>= operations.negated at
+  factor s w v (set_of at es) = arguments s w [] 0 es >>= constructed at
+
+  pub designator : Scopes → Context → Designator → Judged Designated
+  designator s w (name_with n ss) = selectors s w (begun s n) ss >>= known n.at
+
+  pub selectors : Scopes → Context → Judged Designated → Selectors → Judged Designated
+  selectors s w j no_selectors = j
+  selectors s w j (more_selectors x ss) = selectors s w (selector s w j x) ss
+
+  pub selector : Scopes → Context → Judged Designated → Selector → Judged Designated
+  selector s w j (field i) = j >>= selected s i
+  selector s w j (index e) = both j (expression s w false e) >>= at_index s
+
+  pub arguments : Scopes → Context → List Parameter → ℕ → Expressions → Judged (List Operand)
+  arguments s w ps k no_expressions = Ok []
+  arguments s w ps k (more_expressions e es) = both (expression s w (is_var_at ps k) e) (arguments s w ps (k + 1) es) >>= before

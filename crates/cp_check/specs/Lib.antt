@@ -1,5 +1,11 @@
-pub mod Expressions
-pub mod Statements
+pub mod Calls
+pub mod Constants
 pub mod Declarations
+pub mod Expressions
 pub mod Faults
-pub mod View
+pub mod Names
+pub mod Operands
+pub mod Operations
+pub mod Statements
+pub mod Systems
+pub mod Types

@@ -1,73 +1,226 @@
 -- The rules of statements.
-use Rattle.std.specs.Prelude.{ℕ, nat_eq, Bool, true, ◌&&◌, if◌then◌else◌, List, [], ◌∷◌, length, ◌+◌, Ok}
-use Rattle.cp_tree.specs.Syntax.{Expressions, Designator, Start, Statement, empty, assign, invoke, block, if_then, if_else, case_of, while_do, repeat_until, for_do, cycle, init, Statements, no_statements, more_statements}
-use Rattle.cp_scope.specs.declared.fault.Rule.TheVariants.{C5, C7, C17, C21}
-use Rattle.cp_scope.specs.declared.types.Predeclared.TheVariants.{Display}
-use Rattle.cp_scope.specs.Types.{component, is_ordinal, agree, Tys, no_types, more_types, Meaning, variable, predeclared, faulty}
-use Rattle.cp_scope.specs.Scopes.{Scopes}
-use Rattle.cp_scope.specs.Judged.{Judged, broken, left_out, silent, both, ◌>>=◌}
-use Rattle.cp_check.specs.Expressions.{Operand, visible, name_of, is_bare, arguments}
+use Rattle.std.specs.Prelude.{ℕ, ◌+◌, nat_eq, Bool, true, false, ◌&&◌, not, if◌then◌else◌, List, [], ◌∷◌, ◌++◌, length, Option, Some, None, is_some, Result, Ok, Err}
+use Rattle.cp_tree.specs.declared.constant.Identifier.{Identifier}
+use Rattle.cp_tree.specs.declared.declaration.SystemKind.{SystemKind}
+use Rattle.cp_tree.specs.declared.declaration.SystemKind.TheVariants.{Monitor, Process}
+use Rattle.cp_tree.specs.Syntax.{Expression, Expressions, no_expressions, more_expressions, Designator, designator as name_with, Start, Statement, empty, assign, invoke, block, if_then, if_else, case_of, while_do, repeat_until, for_do, cycle, init, Statements, no_statements, more_statements}
+use Rattle.cp_scope.specs.declared.fault.Rule.TheVariants.{C5, C6, C7, C12, C16, C17, C21}
+use Rattle.cp_scope.specs.declared.fault.CheckFault.{CheckFault}
+use Rattle.cp_scope.specs.declared.types.Base.TheVariants.{Boolean}
+use Rattle.cp_scope.specs.declared.types.ValueType.{ValueType}
+use Rattle.cp_scope.specs.declared.types.ValueType.TheVariants as types
+use Rattle.cp_scope.specs.declared.types.Predeclared.{Predeclared}
+use Rattle.cp_scope.specs.declared.types.Predeclared.TheVariants as predeclared
+use Rattle.cp_scope.specs.declared.types.Parameter as parameter
+use Rattle.cp_scope.specs.declared.count.Use.{Use}
+use Rattle.cp_scope.specs.Types.{agree, is_of, is_ordinal, values_of}
+use Rattle.cp_scope.specs.Counts.{no_use, both_uses}
+use Rattle.cp_scope.specs.Scopes.{Scopes, Heading, heading_at, shape_in, as_need}
+use Rattle.cp_scope.specs.Judged.{Judged, broken, left_out, both, ◌>>=◌}
+use Rattle.cp_check.specs.declared.operand.Context.{Context}
+use Rattle.cp_check.specs.declared.operand.Operand.{Operand}
+use Rattle.cp_check.specs.declared.operand.Named.{Named}
+use Rattle.cp_check.specs.declared.operand.Named.TheVariants.{Nothing, Constant, Variable, Parameter, Kind, Routine, Entry, Predeclared as Predeclared'}
+use Rattle.cp_check.specs.declared.operand.Designated.{Designated}
+use Rattle.cp_check.specs.declared.statement.Target.{Target}
+use Rattle.cp_check.specs.declared.statement.Target.TheVariants as target
+use Rattle.cp_check.specs.Operands.{is_queue, is_assignable}
+use Rattle.cp_check.specs.Operations.{is_function}
+use Rattle.cp_check.specs.Names.{begun}
+use Rattle.cp_check.specs.Calls.{called, fit_faults, fault, unless, is_own, place_of, total_use}
+use Rattle.cp_check.specs.Expressions.{expression, designator, arguments}
 
-abbrev pub displayed : ℕ → List Operand → Judged (Unit {0})
-displayed at [] = broken at C7
-displayed at (o ∷ []) = if is_ordinal o.type then Ok tt else broken o.at C21
-displayed at (o ∷ p ∷ ps) = broken at C7
+-- ---- targets
 
-abbrev pub called : ℕ → Meaning × List Operand → Judged (Unit {0})
-called at (predeclared Display, os) = displayed at os
-called at (predeclared _, os) = left_out at
-called at (faulty, os) = silent
-called at (_, os) = broken at C5
+abbrev pub result_target : Scopes → Context → ℕ → Bool → Option ValueType → Target
+result_target s w n is_local None = target.Kind
+result_target s w n is_local (Some t) = if is_local && is_own w n then target.Assignable t else target.Fixed None
 
-unfoldable pub call : Scopes → ℕ → Designator → Expressions → Judged (Unit {0})
-call s at d es = if is_bare d then both (visible s (name_of d).at (name_of d).name) (arguments s es) >>= called at else left_out at
+-- in a function its own name is its result
+abbrev pub function_target : Scopes → Context → ℕ → Bool → Target
+function_target s w n is_local = result_target s w n is_local (heading_at n s).result
 
-abbrev pub count : Tys → ℕ
-count no_types = 0
-count (more_types t ts) = 1 + count ts
+abbrev pub target_of : Scopes → Context → Named → Target
+target_of s w (Variable t) = if is_assignable (place_of s t) then target.Assignable t else target.Fixed (Some t)
+target_of s w (Parameter t) = target.Fixed (Some t)
+target_of s w (Constant b) = target.Fixed (Some (values_of b))
+target_of s w (Routine n) = function_target s w n true
+target_of s w (Entry n) = function_target s w n false
+target_of s w (Predeclared' p) = if is_function p then target.Fixed None else target.Kind
+target_of s w Kind = target.Kind
+target_of s w Nothing = target.Kind
 
-abbrev pub all_agree : Tys → List Operand → Bool
-all_agree no_types os = true
-all_agree (more_types t ts) [] = true
-all_agree (more_types t ts) (o ∷ os) = agree t o.type && all_agree ts os
+abbrev pub aimed : ℕ → Target → Judged Target
+aimed at target.Kind = broken at C5
+aimed at t = Ok t
 
--- arguments in the places of parameters
-abbrev pub fitted : ℕ → Tys → List Operand → Judged (Unit {0})
-fitted at ts os =
-    if nat_eq (count ts) (length os)
-    then (if all_agree ts os then Ok tt else broken at C5)
-    else broken at C7
+-- ---- assignments
 
-abbrev pub started : ℕ → Meaning × List Operand → Judged (Unit {0})
-started at (variable (component n k ts), os) = fitted at ts os
-started at (faulty, os) = silent
-started at (_, os) = broken at C17
+abbrev pub assigned : ℕ → Target → Operand → Use → Judged Use
+assigned at (target.Assignable t) o u = if agree t o.value_type then Ok u else broken at C5
+assigned at (target.Fixed (Some t)) o u = if agree t o.value_type then broken at C6 else broken at C5
+assigned at (target.Fixed None) o u = broken at C6
+assigned at target.Kind o u = broken at C5
 
-unfoldable pub start : Scopes → Start → Judged (Unit {0})
-start s i = if is_bare i.target then both (visible s (name_of i.target).at (name_of i.target).name) (arguments s i.arguments) >>= started (name_of i.target).at else left_out (name_of i.target).at
+abbrev pub name_at : Designator → ℕ
+name_at (name_with n ss) = n.at
 
-abbrev pub done : Unit {0} × Unit {0} → Judged (Unit {0})
-done p = Ok tt
+abbrev pub with_target : Scopes → Context → ℕ → Designated → Judged (Target × Use)
+with_target s w at d = aimed at (target_of s w d.named) >>= (λ t. Ok (t, d.uses))
 
-unfoldable pub starts : Scopes → List Start → Judged (Unit {0})
-starts s [] = Ok tt
-starts s (i ∷ is) = both (start s i) (starts s is) >>= done
+abbrev pub finish_assignment : ℕ → (Target × Use) × Operand → Judged Use
+finish_assignment at p = assigned at p.0.0 p.1 (both_uses p.0.1 p.1.uses)
+
+unfoldable pub assignment : Scopes → Context → ℕ → Designator → Expression → Judged Use
+assignment s w at d e = both (designator s w d >>= with_target s w (name_at d)) (expression s w false e) >>= finish_assignment at
+
+-- ---- calls
+
+abbrev pub may_wait_in : Scopes → Predeclared → Option SystemKind → Option ℕ → Bool
+may_wait_in s predeclared.Delay (Some Monitor) (Some n) = true
+may_wait_in s _ (Some Monitor) (Some n) = (heading_at n s).is_entry && not (is_some (heading_at n s).result)
+may_wait_in s _ _ _ = false
+
+-- `delay` stands in a monitor's routine, `continue` in an entry procedure of one
+abbrev pub may_wait : Scopes → Context → Predeclared → Bool
+may_wait s w p = may_wait_in s p w.owner w.routine
+
+abbrev pub queue_faults : ℕ → List Operand → List CheckFault
+queue_faults at (o ∷ []) = if is_queue o then [] else fault at C5
+queue_faults at _ = fault at C7
+
+abbrev pub wait_faults : Scopes → Context → ℕ → Predeclared → List CheckFault
+wait_faults s w at p = if may_wait s w p then [] else fault at C12
+
+abbrev pub waiting_faults : Scopes → Context → ℕ → Predeclared → List Operand → List CheckFault
+waiting_faults s w at p os = queue_faults at os ++ wait_faults s w at p
+
+abbrev pub display_faults : ℕ → List Operand → List CheckFault
+display_faults at (o ∷ []) = if is_ordinal o.value_type then [] else fault o.at C21
+display_faults at _ = fault at C7
+
+abbrev pub one_delay : Use
+one_delay = record { calls = 0; need = 0; delays = true }
+
+abbrev pub performed : Scopes → Context → ℕ → Predeclared → List Operand → Use → Judged Use
+performed s w at predeclared.Display os u = unless (display_faults at os) u
+performed s w at predeclared.Delay os u = unless (waiting_faults s w at predeclared.Delay os) (both_uses u one_delay)
+performed s w at predeclared.Continue os u = unless (waiting_faults s w at predeclared.Continue os) u
+performed s w at _ os u = broken at C5
+
+abbrev pub procedure_of : Scopes → Context → ℕ → ℕ → Bool → ℕ → List Operand → Use → Option ValueType → Judged Use
+procedure_of s w at name_at is_local n os u (Some t) = broken at C5
+procedure_of s w at name_at is_local n os u None = called s w at name_at is_local n os u
+
+unfoldable pub procedure_called : Scopes → Context → ℕ → ℕ → Bool → ℕ → List Operand → Use → Judged Use
+procedure_called s w at name_at is_local n os u = procedure_of s w at name_at is_local n os u (heading_at n s).result
+
+abbrev pub invoked_named : Scopes → Context → ℕ → Designated → List Operand → Named → Judged Use
+invoked_named s w at d os (Predeclared' p) = performed s w at p os (total_use d.uses os)
+invoked_named s w at d os (Routine n) = procedure_called s w at d.name_at true n os d.uses
+invoked_named s w at d os (Entry n) = procedure_called s w at d.name_at false n os d.uses
+invoked_named s w at d os _ = broken at C5
+
+unfoldable pub invoked : Scopes → Context → ℕ → Designated × List Operand → Judged Use
+invoked s w at p = invoked_named s w at p.0 p.1 p.0.named
+
+abbrev pub as_many : List parameter.Parameter → ℕ → Option ValueType → List parameter.Parameter
+as_many ps k (Some t) = []
+as_many ps k None = if nat_eq (length ps) k then ps else []
+
+abbrev pub procedure_parameters : Scopes → ℕ → ℕ → List parameter.Parameter
+procedure_parameters s n k = as_many (heading_at n s).parameters k (heading_at n s).result
+
+-- the parameters of what is called, where as many arguments stand
+abbrev pub parameters_of : Scopes → Named → ℕ → List parameter.Parameter
+parameters_of s (Routine n) k = procedure_parameters s n k
+parameters_of s (Entry n) k = procedure_parameters s n k
+parameters_of s _ k = []
+
+abbrev pub number_of : Expressions → ℕ
+number_of no_expressions = 0
+number_of (more_expressions e es) = 1 + number_of es
+
+abbrev pub parameters_named : Scopes → ℕ → Judged Designated → List parameter.Parameter
+parameters_named s k (Ok d) = parameters_of s d.named k
+parameters_named s k (Err fs) = []
+
+unfoldable pub call : Scopes → Context → ℕ → Designator → Expressions → Judged Use
+call s w at d es = both (designator s w d) (arguments s w (parameters_named s (number_of es) (designator s w d)) 0 es) >>= invoked s w at
+
+-- ---- tests and bounds
+
+abbrev pub tested : ℕ → Operand → Use → Judged Use
+tested at o u = if is_of Boolean o.value_type then Ok u else broken at C5
+
+abbrev pub counts : ValueType → Operand → Operand → Bool
+counts t a b = is_ordinal t && agree t a.value_type && agree t b.value_type
+
+abbrev pub counted : ℕ → ℕ → Target → Operand → Operand → Use → Judged Use
+counted at n target.Kind a b u = broken at C5
+counted at n (target.Assignable t) a b u = if counts t a b then Ok u else broken at C5
+counted at n (target.Fixed (Some t)) a b u = if counts t a b then broken n C6 else broken at C5
+counted at n (target.Fixed None) a b u = if counts a.value_type a b then broken n C6 else broken at C5
+
+abbrev pub test_then : ℕ → Operand × Use → Judged Use
+test_then at p = tested at p.0 (both_uses p.0.uses p.1)
+
+abbrev pub test_last : ℕ → Use × Operand → Judged Use
+test_last at p = tested at p.1 (both_uses p.0 p.1.uses)
+
+abbrev pub count_over : Scopes → Context → ℕ → ℕ → ((Designated × Operand) × Operand) × Use → Judged Use
+count_over s w at n p = counted at n (target_of s w p.0.0.0.named) p.0.0.1 p.0.1 (both_uses (both_uses p.0.0.1.uses p.0.1.uses) p.1)
+
+abbrev pub together : Use × Use → Judged Use
+together p = Ok (both_uses p.0 p.1)
+
+-- ---- starts
+
+abbrev pub start_need : SystemKind → ℕ → ℕ
+start_need Process need = 0
+start_need k need = need
+
+abbrev pub start_use : ℕ → Use
+start_use need = record { calls = 0; need = need; delays = false }
+
+abbrev pub started_named : Scopes → ℕ → Designated → List Operand → Named → Judged Use
+started_named s at d os (Variable (types.Component k n)) = unless (fit_faults at (heading_at n s).parameters os) (both_uses (total_use d.uses os) (start_use (start_need k (as_need (shape_in n s.shapes)))))
+started_named s at d os _ = broken at C17
+
+unfoldable pub started : Scopes → ℕ → Designated × List Operand → Judged Use
+started s at p = started_named s at p.0 p.1 p.0.named
+
+unfoldable pub start : Scopes → Context → Start → Judged Use
+start s w i = both (designator s w i.target) (arguments s w [] 0 i.arguments) >>= started s (name_at i.target)
+
+unfoldable pub starts : Scopes → Context → Judged Use → List Start → Judged Use
+starts s w j [] = j
+starts s w j (i ∷ is) = starts s w (both j (start s w i) >>= together) is
+
+abbrev pub initial_in : ℕ → Option ℕ → Use → Judged Use
+initial_in at None u = Ok u
+initial_in at (Some n) u = broken at C16
+
+abbrev pub initial : ℕ → Context → Use → Judged Use
+initial at w u = initial_in at w.routine u
+
+-- ---- statements, and what they take
 
 unfoldable mutual
-  pub statement : Scopes → Statement → Judged (Unit {0})
-  statement s (empty at) = Ok tt
-  statement s (invoke at d es) = call s at d es
-  statement s (block at ss) = statements s ss
-  statement s (cycle at ss) = statements s ss
-  statement s (init at is) = starts s is
-  statement s (assign at d e) = left_out at
-  statement s (if_then at e t) = left_out at
-  statement s (if_else at e t u) = left_out at
-  statement s (case_of at e as' b) = left_out at
-  statement s (while_do at e t) = left_out at
-  statement s (repeat_until at ss e) = left_out at
-  statement s (for_do at v a d b t) = left_out at
+  pub statement : Scopes → Context → Statement → Judged Use
+  statement s w (empty at) = Ok no_use
+  statement s w (assign at d e) = assignment s w at d e
+  statement s w (invoke at d es) = call s w at d es
+  statement s w (block at ss) = statements s w (Ok no_use) ss
+  statement s w (cycle at ss) = statements s w (Ok no_use) ss
+  statement s w (if_then at e t) = both (expression s w false e) (statement s w t) >>= test_then at
+  statement s w (if_else at e t u) = both (expression s w false e) (both (statement s w t) (statement s w u) >>= together) >>= test_then at
+  statement s w (while_do at e t) = both (expression s w false e) (statement s w t) >>= test_then at
+  statement s w (repeat_until at ss e) = both (statements s w (Ok no_use) ss) (expression s w false e) >>= test_last at
+  statement s w (for_do at i a d b t) = both (both (both (begun s i) (expression s w false a)) (expression s w false b)) (statement s w t) >>= count_over s w at i.at
+  statement s w (init at is) = starts s w (Ok no_use) is >>= initial at w
+  statement s w (case_of at e as' b) = left_out at
 
-  pub statements : Scopes → Statements → Judged (Unit {0})
-  statements s no_statements = Ok tt
-  statements s (more_statements t ts) = both (statement s t) (statements s ts) >>= done
+  pub statements : Scopes → Context → Judged Use → Statements → Judged Use
+  statements s w j no_statements = j
+  statements s w j (more_statements t ts) = statements s w (both j (statement s w t) >>= together) ts

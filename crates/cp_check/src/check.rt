@@ -1,13 +1,22 @@
 //! The check of a whole program.
 
-ghost use Rattle.std.specs.Prelude.{◌≡◌, [], IfOk, IfErr};
-ghost use Rattle.cp_scope.specs.Judged.{Finds, RefusesList};
+ghost use Rattle.std.specs.Prelude.{◌≡◌, [], IfOk, IfErr, OnOk};
+ghost use Rattle.cp_scope.specs.Judged.{Judges, Finds};
+ghost use Rattle.cp_scope.specs.View.{scopes_of};
 ghost use Rattle.cp_tree.specs.TreeView.{tree_view};
+ghost use Rattle.cp_tree.specs.View.{program_view};
+ghost use Rattle.cp_check.specs.Faults as spec;
 ghost use Rattle.cp_check.specs.Faults.{faults_of};
 
-use crate::system::program;
+use crate::left_out::first;
+use crate::operand::Context;
+use crate::statement::statements;
+use crate::system::{need_of, program_parts, routines};
+use cp_scope::count::Use;
 use cp_scope::fault::{CheckFault, Rule, broken};
+use cp_scope::shape::Census;
 use cp_scope::table::Table;
+use cp_tree::declaration::Program;
 use cp_tree::tree::Tree;
 use std::alloc::Global;
 
@@ -26,16 +35,60 @@ impl Checked {
     }
 }
 
+/// The declarations of a program.
+#[tactic(auto, unfolding(crate::specs::Faults::declarations), using(crate::proofs::Judging::first_append))]
+fn declarations(alloc: Global, table: &mut Table, node: &Program) -> Result<(), CheckFault>
+    ensures faults { Finds (spec.declarations (scopes_of table.old) (program_view node.now)).faults result }
+    ensures scopes { OnOk result (scopes_of table.new ≡ (spec.declarations (scopes_of table.old) (program_view node.now)).scopes) }
+{
+    program_parts(alloc, table, &node.parts)?;
+    routines(table, &node.routines)
+}
+
+/// The program's declarations and its initial statement.
+#[tactic(auto, unfolding(crate::specs::Faults::opened), using(crate::proofs::Judging::first_append))]
+fn opened(alloc: Global, table: &mut Table, node: &Program) -> Result<Use, CheckFault>
+    ensures judged { Judges (λ u. u) (spec.opened (scopes_of table.old) (program_view node.now)).uses result }
+    ensures scopes { OnOk result (scopes_of table.new ≡ (spec.opened (scopes_of table.old) (program_view node.now)).scopes) }
+{
+    declarations(alloc, table, node)?;
+    let context = Context {
+        owner: None,
+        routine: None,
+    };
+    statements(alloc, table, context, &node.body.statements)
+}
+
 /// The processes that a program may have besides its own.
-const PROCESSES: usize = 15;
+const PROCESSES: u32 = 15;
+
+/// The components that a program may have.
+const COMPONENTS: u32 = 64;
+
+/// The permanent cells of a program.
+const PERMANENT: u32 = 8192;
+
+/// The frame cells of a process.
+const FRAME: u32 = 4096;
+
+/// Whether a program passes a limit.
+fn is_too_large(census: Census, uses: Use) -> bool
+    ensures { result ≡ spec.is_too_large census uses }
+{
+    PROCESSES < census.processes
+        || COMPONENTS < census.components
+        || PERMANENT < census.cells
+        || FRAME < census.need
+        || FRAME < need_of(uses)
+}
 
 #[tactic(auto, unfolding(crate::specs::Faults::faults_of))]
 fn whole(alloc: Global, tree: &Tree) -> Result<(), CheckFault>
     ensures { Finds (faults_of (tree_view tree.now)) result }
 {
     let mut table = Table::new(alloc)?;
-    program(alloc, &mut table, &tree.program)?;
-    if table.processes() > PROCESSES {
+    let uses = opened(alloc, &mut table, &tree.program)?;
+    if is_too_large(table.census(), uses) {
         return broken(tree.program.period, Rule::C20);
     }
     Ok(())
@@ -46,11 +99,14 @@ fn whole(alloc: Global, tree: &Tree) -> Result<(), CheckFault>
 pub fn check(alloc: Global, tree: Tree) -> Result<Checked, (CheckFault, Tree)>
     ensures accepted { IfOk result (λ c. faults_of (tree_view tree) ≡ []) }
     ensures same { IfOk result (λ c. c.tree ≡ tree) }
-    ensures refused { IfErr result (λ e. RefusesList e.0 (faults_of (tree_view tree))) }
+    ensures refused { IfErr result (λ e. spec.RefusesProgram e.0 (faults_of (tree_view tree))) }
     ensures back { IfErr result (λ e. e.1 ≡ tree) }
 {
     match whole(alloc, &tree) {
-        Ok(()) => Ok(Checked { tree }),
+        Ok(()) => match first(&tree.program) {
+            None => Ok(Checked { tree }),
+            Some(at) => Err((CheckFault::LeftOut { at }, tree)),
+        },
         Err(fault) => Err((fault, tree)),
     }
 }

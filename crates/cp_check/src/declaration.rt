@@ -1,20 +1,19 @@
-//! Declarations.
+//! Declarations of constants, types and variables.
 
-ghost use Rattle.std.specs.Prelude.{◌≡◌, map, OnOk, IfErr};
+ghost use Rattle.std.specs.Prelude.{◌≡◌, map, OnOk, IfErr, Some};
 ghost use Rattle.cp_scope.specs.Judged.{Judges, Finds};
-ghost use Rattle.cp_scope.specs.View.{meaning_view, scopes_of, type_view};
-ghost use Rattle.cp_tree.specs.View.{simple_view, type_view as term_view, variable_group_view};
+ghost use Rattle.cp_scope.specs.View.{scopes_of};
 ghost use Rattle.cp_scope.specs.declared.fault.CheckFault.TheVariants as check_fault;
+ghost use Rattle.cp_tree.specs.View.{constant_definition_view, type_definition_view, variable_group_view, part_view};
 ghost use Rattle.cp_check.specs.Declarations as spec;
 
-use crate::expression::visible;
-use cp_scope::fault::{CheckFault, Rule, broken, left_out};
+use crate::constant::constant;
+use crate::types::{Spot, typed};
+use cp_scope::fault::{CheckFault, Rule, broken};
 use cp_scope::table::Table;
-use cp_scope::types::{Meaning, Type};
-use cp_text::token::Name;
+use cp_scope::types::Meaning;
 use cp_tree::constant::Identifier;
-use cp_tree::declaration::VariableGroup;
-use cp_tree::types::{SimpleKind, Type as TypeTerm, TypeKind};
+use cp_tree::declaration::{ConstantDefinition, Part, PartKind, TypeDefinition, VariableGroup};
 use std::alloc::Global;
 
 /// A name is being declared.
@@ -51,62 +50,112 @@ pub fn add_all(
     alloc: Global,
     table: &mut Table,
     names: &[Identifier],
-    meaning: &Meaning,
+    meaning: Meaning,
 ) -> Result<(), CheckFault>
-    ensures ok { OnOk result (scopes_of table.new ≡ spec.add_all (scopes_of table.old) names.now (meaning_view meaning.now)) }
+    ensures ok { OnOk result (scopes_of table.new ≡ spec.add_all (scopes_of table.old) names.now (Some meaning)) }
     ensures memory { IfErr result (λ e. e ≡ check_fault.Memory) }
 {
     for name in names {
-        table.add(alloc, name.name.as_str(), meaning.share()?)?;
+        table.add(alloc, name.name.as_str(), meaning)?;
     }
     table.settle();
     Ok(())
 }
 
-/// The type of a name.
-#[tactic(auto, unfolding(crate::specs::Declarations::type_named))]
-pub fn type_named(table: &Table, at: usize, name: &Name) -> Result<Type, CheckFault>
-    ensures { Judges type_view (spec.type_named (scopes_of table.now) at name.now) result }
+/// A name of a meaning is declared.
+#[tactic(auto, unfolding(crate::specs::Declarations::add_one))]
+pub fn add_one(
+    alloc: Global,
+    table: &mut Table,
+    name: &Identifier,
+    meaning: Meaning,
+) -> Result<(), CheckFault>
+    ensures ok { OnOk result (scopes_of table.new ≡ spec.add_one (scopes_of table.old) name.now (Some meaning)) }
+    ensures memory { IfErr result (λ e. e ≡ check_fault.Memory) }
 {
-    match visible(table, at, name)? {
-        Meaning::Kind(kind) => Ok(kind.share()?),
-        _ => broken(at, Rule::C4),
-    }
+    table.add(alloc, name.name.as_str(), meaning)?;
+    table.settle();
+    Ok(())
 }
 
-/// A variable of a type, where one may stand.
-fn as_variable(at: usize, value_type: Type) -> Result<Meaning, CheckFault>
-    ensures { Judges meaning_view (spec.as_variable at (type_view value_type)) result }
+#[tactic(auto, unfolding(crate::specs::Declarations::constant_step), using(crate::proofs::Judging::first_append))]
+fn constant_definition(
+    alloc: Global,
+    table: &mut Table,
+    node: &ConstantDefinition,
+) -> Result<(), CheckFault>
+    ensures faults { Finds (spec.constant_step (scopes_of table.old) (constant_definition_view node.now)).faults result }
+    ensures scopes { OnOk result (scopes_of table.new ≡ (spec.constant_step (scopes_of table.old) (constant_definition_view node.now)).scopes) }
 {
-    match value_type {
-        Type::Component(system) => Ok(Meaning::Variable(Type::Component(system))),
-        Type::Queue => broken(at, Rule::C11),
-        Type::Ordinal(_) => left_out(at),
-    }
+    reserve_name(alloc, table, &node.name)?;
+    let number = constant(table, &node.value)?;
+    add_one(
+        alloc,
+        table,
+        &node.name,
+        Meaning::Constant(number.base, number.value),
+    )
 }
 
-#[tactic(auto, unfolding(crate::specs::Declarations::variable_type))]
-fn variable_type(table: &Table, node: &TypeTerm) -> Result<Meaning, CheckFault>
-    ensures { Judges meaning_view (spec.variable_type (scopes_of table.now) (term_view node.now)) result }
+/// Definitions of constants.
+#[tactic(auto, using(crate::proofs::Steps::constants_passed, crate::proofs::Steps::constants_refused, crate::proofs::Steps::constants_none))]
+pub fn constant_definitions(
+    alloc: Global,
+    table: &mut Table,
+    nodes: &[ConstantDefinition],
+) -> Result<(), CheckFault>
+    ensures faults { Finds (spec.constant_steps (scopes_of table.old) (map constant_definition_view nodes.now)).faults result }
+    ensures scopes { OnOk result (scopes_of table.new ≡ (spec.constant_steps (scopes_of table.old) (map constant_definition_view nodes.now)).scopes) }
 {
-    match &node.kind {
-        TypeKind::Simple(simple) => match &simple.kind {
-            SimpleKind::Name(name) => as_variable(simple.at, type_named(table, simple.at, name)?),
-            SimpleKind::Enumeration(_) => left_out(simple.at),
-            SimpleKind::Subrange(_, _) => left_out(simple.at),
-        },
-        _ => left_out(node.at),
+    for node in nodes {
+        constant_definition(alloc, table, node)?;
     }
+    Ok(())
 }
 
-#[tactic(auto, unfolding(crate::specs::Declarations::variable_group), using(crate::proofs::Judging::first_append))]
-fn variable_group(alloc: Global, table: &mut Table, node: &VariableGroup) -> Result<(), CheckFault>
-    ensures faults { Finds (spec.variable_group (scopes_of table.old) (variable_group_view node.now)).faults result }
-    ensures scopes { OnOk result (scopes_of table.new ≡ (spec.variable_group (scopes_of table.old) (variable_group_view node.now)).scopes) }
+#[tactic(auto, unfolding(crate::specs::Declarations::type_step), using(crate::proofs::Judging::first_append))]
+fn type_definition(
+    alloc: Global,
+    table: &mut Table,
+    node: &TypeDefinition,
+) -> Result<(), CheckFault>
+    ensures faults { Finds (spec.type_step (scopes_of table.old) (type_definition_view node.now)).faults result }
+    ensures scopes { OnOk result (scopes_of table.new ≡ (spec.type_step (scopes_of table.old) (type_definition_view node.now)).scopes) }
+{
+    reserve_name(alloc, table, &node.name)?;
+    let value_type = typed(alloc, table, Spot::Definition, &node.value)?;
+    add_one(alloc, table, &node.name, Meaning::Kind(value_type))
+}
+
+/// Definitions of types.
+#[tactic(auto, using(crate::proofs::Steps::types_passed, crate::proofs::Steps::types_refused, crate::proofs::Steps::types_none))]
+pub fn type_definitions(
+    alloc: Global,
+    table: &mut Table,
+    nodes: &[TypeDefinition],
+) -> Result<(), CheckFault>
+    ensures faults { Finds (spec.type_steps (scopes_of table.old) (map type_definition_view nodes.now)).faults result }
+    ensures scopes { OnOk result (scopes_of table.new ≡ (spec.type_steps (scopes_of table.old) (map type_definition_view nodes.now)).scopes) }
+{
+    for node in nodes {
+        type_definition(alloc, table, node)?;
+    }
+    Ok(())
+}
+
+#[tactic(auto, unfolding(crate::specs::Declarations::variable_step), using(crate::proofs::Judging::first_append))]
+fn variable_group(
+    alloc: Global,
+    table: &mut Table,
+    spot: Spot,
+    node: &VariableGroup,
+) -> Result<(), CheckFault>
+    ensures faults { Finds (spec.variable_step spot (scopes_of table.old) (variable_group_view node.now)).faults result }
+    ensures scopes { OnOk result (scopes_of table.new ≡ (spec.variable_step spot (scopes_of table.old) (variable_group_view node.now)).scopes) }
 {
     reserve_names(alloc, table, &node.names)?;
-    let meaning = variable_type(table, &node.variable_type)?;
-    add_all(alloc, table, &node.names, &meaning)
+    let value_type = typed(alloc, table, spot, &node.variable_type)?;
+    add_all(alloc, table, &node.names, Meaning::Variable(value_type))
 }
 
 /// Groups of variables.
@@ -114,13 +163,38 @@ fn variable_group(alloc: Global, table: &mut Table, node: &VariableGroup) -> Res
 pub fn variable_groups(
     alloc: Global,
     table: &mut Table,
+    spot: Spot,
     nodes: &[VariableGroup],
 ) -> Result<(), CheckFault>
-    ensures faults { Finds (spec.variable_groups (scopes_of table.old) (map variable_group_view nodes.now)).faults result }
-    ensures scopes { OnOk result (scopes_of table.new ≡ (spec.variable_groups (scopes_of table.old) (map variable_group_view nodes.now)).scopes) }
+    ensures faults { Finds (spec.variable_steps spot (scopes_of table.old) (map variable_group_view nodes.now)).faults result }
+    ensures scopes { OnOk result (scopes_of table.new ≡ (spec.variable_steps spot (scopes_of table.old) (map variable_group_view nodes.now)).scopes) }
 {
     for node in nodes {
-        variable_group(alloc, table, node)?;
+        variable_group(alloc, table, spot, node)?;
+    }
+    Ok(())
+}
+
+#[tactic(auto, unfolding(crate::specs::Declarations::part_step))]
+fn part(alloc: Global, table: &mut Table, spot: Spot, node: &Part) -> Result<(), CheckFault>
+    ensures faults { Finds (spec.part_step spot (scopes_of table.old) (part_view node.now)).faults result }
+    ensures scopes { OnOk result (scopes_of table.new ≡ (spec.part_step spot (scopes_of table.old) (part_view node.now)).scopes) }
+{
+    match &node.kind {
+        PartKind::Constants(nodes) => constant_definitions(alloc, table, nodes),
+        PartKind::Types(nodes) => type_definitions(alloc, table, nodes),
+        PartKind::Variables(nodes) => variable_groups(alloc, table, spot, nodes),
+    }
+}
+
+/// The declarations of a system type or a routine, whose variables stand at a spot.
+#[tactic(auto, using(crate::proofs::Steps::parts_passed, crate::proofs::Steps::parts_refused, crate::proofs::Steps::parts_none))]
+pub fn parts(alloc: Global, table: &mut Table, spot: Spot, nodes: &[Part]) -> Result<(), CheckFault>
+    ensures faults { Finds (spec.part_steps spot (scopes_of table.old) (map part_view nodes.now)).faults result }
+    ensures scopes { OnOk result (scopes_of table.new ≡ (spec.part_steps spot (scopes_of table.old) (map part_view nodes.now)).scopes) }
+{
+    for node in nodes {
+        part(alloc, table, spot, node)?;
     }
     Ok(())
 }

@@ -1,43 +1,30 @@
 //! Expressions.
 
-ghost use Rattle.std.specs.Prelude.{◌≡◌, map};
+ghost use Rattle.std.specs.Prelude.{◌≡◌, ◌&&◌, [], Ok, Some};
 ghost use Rattle.cp_scope.specs.Judged.{Judges};
-ghost use Rattle.cp_scope.specs.View.{meaning_view, scopes_of, type_view};
-ghost use Rattle.cp_tree.specs.View.{expression_view, expressions_view, expressions_of, sum_view, term_view, factor_view, designator_view, selectors_of, selectors_view, factors_of, factors_view, terms_of, terms_view};
+ghost use Rattle.cp_scope.specs.View.{scopes_of};
+ghost use Rattle.cp_tree.specs.View.{expression_view, expressions_view, expressions_of, sum_view, term_view, terms_view, terms_of, factor_view, factors_view, factors_of, designator_view, selector_view, selectors_view, selectors_of};
+ghost use Rattle.cp_check.specs.Names.{begun};
 ghost use Rattle.cp_check.specs.Expressions as spec;
-ghost use Rattle.cp_check.specs.View.{operand_view};
 
+use crate::call::{value_of, variable_of};
+use crate::name::{begun, indexed, known, selected};
+use crate::operand::{Context, Designated, Operand, base_value, value};
+use crate::operation::{added, agreed, multiplied, negated, related, signed};
+use cp_scope::count::Use;
 use cp_scope::fault::{CheckFault, Rule, broken, left_out};
 use cp_scope::table::Table;
-use cp_scope::types::{Meaning, Type, integers};
-use cp_text::token::Name;
+use cp_scope::types::{Base, Parameter, ValueType};
+use cp_tree::constant::{Identifier, Sign};
 use cp_tree::expression::{
     Addition, Designator, Expression, Factor, FactorKind, Multiplication, Selector, Sum, Term,
 };
 use std::alloc::Global;
 
-/// A value, and where its expression begins.
-#[derive(Drop)]
-pub struct Operand {
-    pub at: usize,
-    pub value_type: Type,
-}
-
-/// What a name stands for.
-#[tactic(auto, unfolding(crate::specs::Expressions::visible))]
-pub fn visible<'a>(table: &'a Table, at: usize, name: &Name) -> Result<&'a Meaning, CheckFault>
-    ensures { Judges (λ m. meaning_view m.now) (spec.visible (scopes_of table.now) at name.now) result }
-{
-    match table.look(name) {
-        Some(meaning) => Ok(meaning),
-        None => broken(at, Rule::C1),
-    }
-}
-
-/// Whether there are no selectors.
-#[tactic(auto, using(crate::proofs::Lists::selected))]
-fn has_no_selectors(nodes: &[Selector]) -> bool
-    ensures { result ≡ spec.has_no_selectors (selectors_of (selectors_view nodes.now)) }
+/// Whether there are no arguments.
+#[tactic(auto, using(crate::proofs::Lists::some_expressions))]
+fn has_none(nodes: &[Expression]) -> bool
+    ensures { result ≡ spec.has_none (expressions_of (expressions_view nodes.now)) }
 {
     match nodes {
         [] => true,
@@ -45,15 +32,8 @@ fn has_no_selectors(nodes: &[Selector]) -> bool
     }
 }
 
-/// Whether a name stands without selectors.
-pub fn is_bare(node: &Designator) -> bool
-    ensures { result ≡ spec.is_bare (designator_view node.now) }
-{
-    has_no_selectors(&node.selectors)
-}
-
 /// Whether a factor stands alone.
-#[tactic(auto, using(crate::proofs::Lists::more_factors_there))]
+#[tactic(auto, using(crate::proofs::Lists::some_factors))]
 fn has_no_factors(nodes: &[(Multiplication, Factor)]) -> bool
     ensures { result ≡ spec.has_no_factors (factors_of (factors_view nodes.now)) }
 {
@@ -64,7 +44,7 @@ fn has_no_factors(nodes: &[(Multiplication, Factor)]) -> bool
 }
 
 /// Whether a term stands alone.
-#[tactic(auto, using(crate::proofs::Lists::more_terms_there))]
+#[tactic(auto, using(crate::proofs::Lists::some_terms))]
 fn has_no_terms(nodes: &[(Addition, Term)]) -> bool
     ensures { result ≡ spec.has_no_terms (terms_of (terms_view nodes.now)) }
 {
@@ -74,103 +54,294 @@ fn has_no_terms(nodes: &[(Addition, Term)]) -> bool
     }
 }
 
-/// Whether there are no arguments.
-#[tactic(auto, using(crate::proofs::Lists::some_arguments))]
-fn has_none(nodes: &[Expression]) -> bool
-    ensures { result ≡ spec.has_none (expressions_of (expressions_view nodes.now)) }
+/// Whether a factor stands alone in the place of a `var` argument.
+fn is_factor_alone(is_var: bool, nodes: &[(Multiplication, Factor)]) -> bool
+    ensures { result ≡ (is_var && spec.has_no_factors (factors_of (factors_view nodes.now))) }
 {
-    match nodes {
-        [] => true,
-        [_, ..] => false,
+    is_var && has_no_factors(nodes)
+}
+
+/// Whether a term stands alone in the place of a `var` argument.
+fn is_term_alone(is_var: bool, sign: Option<Sign>, nodes: &[(Addition, Term)]) -> bool
+    ensures { result ≡ (is_var && (spec.is_unsigned sign && spec.has_no_terms (terms_of (terms_view nodes.now)))) }
+{
+    match sign {
+        None => is_var && has_no_terms(nodes),
+        Some(_) => false,
     }
 }
 
-fn value_of(at: usize, meaning: &Meaning) -> Result<Type, CheckFault>
-    ensures { Judges type_view (spec.value_of at (meaning_view meaning.now)) result }
+/// An expression in parentheses.
+fn grouped(at: usize, operand: Operand) -> Operand
+    ensures { result ≡ spec.grouped at operand }
 {
-    match meaning {
-        Meaning::Parameter(parameter) => Ok(parameter.share()?),
-        Meaning::Variable(variable) => Ok(variable.share()?),
-        Meaning::Kind(_) => broken(at, Rule::C5),
-        Meaning::Constant(_, _) => left_out(at),
-        Meaning::Predeclared(_) => left_out(at),
+    value(at, operand.value_type, operand.uses)
+}
+
+/// Whether elements agree with a base.
+#[tactic(auto, using(crate::proofs::Elements::elements_split, crate::proofs::Elements::elements_none))]
+fn are_elements(base: Base, operands: &[Operand]) -> bool
+    ensures { result ≡ spec.are_elements base operands.now }
+{
+    for operand in operands {
+        if !operand.value_type.is_of(base) {
+            return false;
+        }
+    }
+    true
+}
+
+/// A set constructor, which is not run yet.
+fn constructed(at: usize, operands: &[Operand]) -> Result<Operand, CheckFault>
+    ensures { Judges (λ o. o) (spec.constructed at operands.now) result }
+{
+    match operands {
+        [] => left_out(at),
+        [first, ..] => match first.value_type {
+            ValueType::Ordinal(range) => {
+                if are_elements(range.base, operands) {
+                    left_out(at)
+                } else {
+                    broken(at, Rule::C5)
+                }
+            }
+            _ => broken(at, Rule::C5),
+        },
     }
 }
 
+/// Whether the argument at a place is that of a `var` parameter.
+fn is_var_at(parameters: &[Parameter], place: usize) -> bool
+    ensures { result ≡ spec.is_var_at parameters.now place }
+{
+    match parameters.get(place) {
+        Some(parameter) => parameter.is_var,
+        None => false,
+    }
+}
+
+#[cycle(expression)]
+#[tactic(auto, using(crate::proofs::Expressions::selectors_passed, crate::proofs::Expressions::selectors_refused, crate::proofs::Expressions::selectors_none))]
+fn selectors(
+    alloc: Global,
+    table: &Table,
+    context: Context,
+    start: Designated,
+    nodes: &[Selector],
+) -> Result<Designated, CheckFault>
+    ensures { Judges (λ d. d) (spec.selectors (scopes_of table.now) context (Ok start) (selectors_of (selectors_view nodes.now))) result }
+{
+    let mut whole = start;
+    for node in nodes {
+        whole = selector(alloc, table, context, whole, node)?;
+    }
+    Ok(whole)
+}
+
+#[cycle(expression)]
+#[tactic(auto, unfolding(crate::specs::Expressions::selector))]
+fn selector(
+    alloc: Global,
+    table: &Table,
+    context: Context,
+    whole: Designated,
+    node: &Selector,
+) -> Result<Designated, CheckFault>
+    ensures { Judges (λ d. d) (spec.selector (scopes_of table.now) context (Ok whole) (selector_view node.now)) result }
+{
+    match node {
+        Selector::Field(name) => selected(table, name, whole),
+        Selector::Index(index) => {
+            let index = expression(alloc, table, context, false, index)?;
+            Ok(indexed(table, whole, index))
+        }
+    }
+}
+
+#[cycle(expression)]
+#[tactic(auto, using(crate::proofs::Expressions::selectors_refuse))]
+fn chosen(
+    alloc: Global,
+    table: &Table,
+    context: Context,
+    name: &Identifier,
+    nodes: &[Selector],
+) -> Result<Designated, CheckFault>
+    ensures { Judges (λ d. d) (spec.selectors (scopes_of table.now) context (begun (scopes_of table.now) name.now) (selectors_of (selectors_view nodes.now))) result }
+{
+    match begun(table, name) {
+        Ok(start) => selectors(alloc, table, context, start, nodes),
+        Err(fault) => Err(fault),
+    }
+}
+
+/// A name with its selectors.
+#[cycle(expression)]
+#[tactic(auto, unfolding(crate::specs::Expressions::designator))]
+pub fn designator(
+    alloc: Global,
+    table: &Table,
+    context: Context,
+    node: &Designator,
+) -> Result<Designated, CheckFault>
+    ensures { Judges (λ d. d) (spec.designator (scopes_of table.now) context (designator_view node.now)) result }
+{
+    let whole = chosen(alloc, table, context, &node.name, &node.selectors)?;
+    known(node.name.at, whole)
+}
+
+#[cycle(expression)]
 #[tactic(auto, unfolding(crate::specs::Expressions::factor))]
-fn factor(table: &Table, node: &Factor) -> Result<Type, CheckFault>
-    ensures { Judges type_view (spec.factor (scopes_of table.now) (factor_view node.now)) result }
+fn factor(
+    alloc: Global,
+    table: &Table,
+    context: Context,
+    is_var: bool,
+    node: &Factor,
+) -> Result<Operand, CheckFault>
+    ensures { Judges (λ o. o) (spec.factor (scopes_of table.now) context is_var (factor_view node.now)) result }
 {
+    let at = node.at;
     match &node.kind {
-        FactorKind::Number(_) => Ok(Type::Ordinal(integers())),
-        FactorKind::Character(_) => left_out(node.at),
-        FactorKind::Named(designator, arguments) => {
-            if is_bare(designator) && has_none(arguments) {
-                let name = &designator.name;
-                value_of(node.at, visible(table, name.at, &name.name)?)
+        FactorKind::Number(_) => Ok(base_value(at, Base::Integer, Use::nothing())),
+        FactorKind::Character(_) => Ok(base_value(at, Base::Char, Use::nothing())),
+        FactorKind::Named(name, nodes) => {
+            let name = designator(alloc, table, context, name)?;
+            if is_var && has_none(nodes) {
+                variable_of(table, context, at, name)
             } else {
-                left_out(node.at)
+                let operands = arguments(alloc, table, context, &[], nodes)?;
+                value_of(table, context, at, name, &operands)
             }
         }
-        FactorKind::Group(_) => left_out(node.at),
-        FactorKind::Not(_) => left_out(node.at),
-        FactorKind::Set(_) => left_out(node.at),
-    }
-}
-
-#[tactic(auto, unfolding(crate::specs::Expressions::term_type))]
-fn term(table: &Table, node: &Term) -> Result<Type, CheckFault>
-    ensures { Judges type_view (spec.term_type (scopes_of table.now) (term_view node.now)) result }
-{
-    if has_no_factors(&node.more) {
-        factor(table, &node.first)
-    } else {
-        left_out(node.at)
-    }
-}
-
-#[tactic(auto, unfolding(crate::specs::Expressions::sum_type))]
-fn sum(table: &Table, node: &Sum) -> Result<Type, CheckFault>
-    ensures { Judges type_view (spec.sum_type (scopes_of table.now) (sum_view node.now)) result }
-{
-    match node.sign {
-        Some(_) => left_out(node.at),
-        None => {
-            if has_no_terms(&node.more) {
-                term(table, &node.first)
-            } else {
-                left_out(node.at)
-            }
+        FactorKind::Group(inner) => {
+            Ok(grouped(at, expression(alloc, table, context, false, inner)?))
+        }
+        FactorKind::Not(inner) => negated(at, factor(alloc, table, context, false, inner)?),
+        FactorKind::Set(nodes) => {
+            let operands = arguments(alloc, table, context, &[], nodes)?;
+            constructed(at, &operands)
         }
     }
 }
 
-/// An expression's value.
+#[cycle(expression)]
+#[tactic(auto, using(crate::proofs::Expressions::factors_passed, crate::proofs::Expressions::factors_refused, crate::proofs::Expressions::factors_none))]
+fn more_factors(
+    alloc: Global,
+    table: &Table,
+    context: Context,
+    at: usize,
+    first: Operand,
+    nodes: &[(Multiplication, Factor)],
+) -> Result<Option<Operand>, CheckFault>
+    ensures { Judges (λ o. o) (spec.more_factors (scopes_of table.now) context at (Ok (Some first)) (factors_of (factors_view nodes.now))) result }
+{
+    let mut total = Some(first);
+    for (operation, node) in nodes {
+        let next = factor(alloc, table, context, false, node)?;
+        total = multiplied(at, *operation, total, next);
+    }
+    Ok(total)
+}
+
+#[cycle(expression)]
+#[tactic(auto, using(crate::proofs::Expressions::term_first, crate::proofs::Expressions::term_more, crate::proofs::Expressions::term_passed))]
+fn term(
+    alloc: Global,
+    table: &Table,
+    context: Context,
+    is_var: bool,
+    node: &Term,
+) -> Result<Operand, CheckFault>
+    ensures { Judges (λ o. o) (spec.term_value (scopes_of table.now) context is_var (term_view node.now)) result }
+{
+    let is_alone = is_factor_alone(is_var, &node.more);
+    let first = factor(alloc, table, context, is_alone, &node.first)?;
+    agreed(
+        node.at,
+        more_factors(alloc, table, context, node.at, first, &node.more)?,
+    )
+}
+
+#[cycle(expression)]
+#[tactic(auto, using(crate::proofs::Expressions::terms_passed, crate::proofs::Expressions::terms_refused, crate::proofs::Expressions::terms_none))]
+fn more_terms(
+    alloc: Global,
+    table: &Table,
+    context: Context,
+    at: usize,
+    first: Option<Operand>,
+    nodes: &[(Addition, Term)],
+) -> Result<Option<Operand>, CheckFault>
+    ensures { Judges (λ o. o) (spec.more_terms (scopes_of table.now) context at (Ok first) (terms_of (terms_view nodes.now))) result }
+{
+    let mut total = first;
+    for (operation, node) in nodes {
+        let next = term(alloc, table, context, false, node)?;
+        total = added(at, *operation, total, next);
+    }
+    Ok(total)
+}
+
+#[cycle(expression)]
+#[tactic(auto, using(crate::proofs::Expressions::sum_first, crate::proofs::Expressions::sum_more, crate::proofs::Expressions::sum_passed))]
+fn sum(
+    alloc: Global,
+    table: &Table,
+    context: Context,
+    is_var: bool,
+    node: &Sum,
+) -> Result<Operand, CheckFault>
+    ensures { Judges (λ o. o) (spec.sum_value (scopes_of table.now) context is_var (sum_view node.now)) result }
+{
+    let is_alone = is_term_alone(is_var, node.sign, &node.more);
+    let first = term(alloc, table, context, is_alone, &node.first)?;
+    let first = signed(node.at, node.sign, first);
+    agreed(
+        node.at,
+        more_terms(alloc, table, context, node.at, first, &node.more)?,
+    )
+}
+
+/// An expression; in the place of a `var` argument a function's name alone is no call.
+#[cycle(expression)]
 #[tactic(auto, unfolding(crate::specs::Expressions::expression))]
-pub fn expression(table: &Table, node: &Expression) -> Result<Operand, CheckFault>
-    ensures { Judges operand_view (spec.expression (scopes_of table.now) (expression_view node.now)) result }
+pub fn expression(
+    alloc: Global,
+    table: &Table,
+    context: Context,
+    is_var: bool,
+    node: &Expression,
+) -> Result<Operand, CheckFault>
+    ensures { Judges (λ o. o) (spec.expression (scopes_of table.now) context is_var (expression_view node.now)) result }
 {
     match &node.right {
-        Some(_) => left_out(node.at),
-        None => Ok(Operand {
-            at: node.at,
-            value_type: sum(table, &node.left)?,
-        }),
+        None => sum(alloc, table, context, is_var, &node.left),
+        Some((relation, right)) => {
+            let left = sum(alloc, table, context, false, &node.left)?;
+            let right = sum(alloc, table, context, false, right)?;
+            related(node.at, *relation, left, right)
+        }
     }
 }
 
-/// The values of arguments.
-#[tactic(auto, using(crate::proofs::Arguments::arguments_passed, crate::proofs::Arguments::arguments_refused, crate::proofs::Arguments::arguments_none))]
+/// The arguments of a call of a routine with these parameters.
+#[cycle(expression)]
+#[tactic(auto, using(crate::proofs::Expressions::arguments_passed, crate::proofs::Expressions::arguments_refused, crate::proofs::Expressions::arguments_none))]
 pub fn arguments(
     alloc: Global,
     table: &Table,
+    context: Context,
+    parameters: &[Parameter],
     nodes: &[Expression],
 ) -> Result<Vec<Operand>, CheckFault>
-    ensures { Judges (λ v. map operand_view v.items) (spec.arguments (scopes_of table.now) (expressions_of (expressions_view nodes.now))) result }
+    ensures { Judges (λ v. v.items) (spec.arguments (scopes_of table.now) context parameters.now 0 (expressions_of (expressions_view nodes.now))) result }
 {
     let mut operands = Vec::new(alloc);
-    for node in nodes {
-        operands.push(expression(table, node)?)?;
+    for place in 0..nodes.len() {
+        let is_var = is_var_at(parameters, place);
+        operands.push(expression(alloc, table, context, is_var, &nodes[place])?)?;
     }
     Ok(operands)
 }

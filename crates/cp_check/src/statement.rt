@@ -1,24 +1,180 @@
 //! Statements.
 
-ghost use Rattle.std.specs.Prelude.{◌≡◌, map, length};
-ghost use Rattle.cp_scope.specs.Judged.{Judges};
-ghost use Rattle.cp_scope.specs.View.{meaning_view, scopes_of, type_view, types_of};
-ghost use Rattle.cp_tree.specs.View.{statement_view, statements_view, statements_of, start_view, designator_view, expressions_of, expressions_view};
-ghost use Rattle.cp_check.specs.Expressions as expressions;
+ghost use Rattle.std.specs.Prelude.{◌≡◌, map, Ok};
+ghost use Rattle.cp_scope.specs.Judged.{Judges, Finds};
+ghost use Rattle.cp_scope.specs.View.{scopes_of};
+ghost use Rattle.cp_tree.specs.View.{statement_view, statements_view, statements_of, start_view, designator_view, expression_view, expressions_of, expressions_view};
+ghost use Rattle.cp_scope.specs.Counts.{no_use};
 ghost use Rattle.cp_check.specs.Statements as spec;
-ghost use Rattle.cp_check.specs.View.{operand_view};
 
-use crate::expression::{Operand, arguments, is_bare, visible};
+use crate::call::{called, fitted, is_own, place_of, total_use};
+use crate::expression::{arguments, designator, expression};
+use crate::name::begun;
+use crate::operand::{Context, Designated, Named, Operand};
+use crate::operation::is_function;
+use cp_scope::count::Use;
 use cp_scope::fault::{CheckFault, Rule, broken, left_out};
 use cp_scope::table::Table;
-use cp_scope::types::{Meaning, Predeclared, Type};
+use cp_scope::types::{Base, Parameter, Predeclared, ValueType, values_of};
+use cp_tree::constant::Identifier;
+use cp_tree::declaration::SystemKind;
 use cp_tree::expression::{Designator, Expression};
 use cp_tree::statement::{Start, Statement, StatementKind};
 use std::alloc::Global;
 
+/// What stands on the left of an assignment.
+#[derive(Clone, Copy)]
+pub enum Target {
+    /// A variable.
+    Assignable(ValueType),
+    /// What is not assignable, and its type, if it has one.
+    Fixed(Option<ValueType>),
+    /// A procedure or a type.
+    Kind,
+}
+
+/// What a function's name on the left stands for.
+fn function_target(table: &Table, context: Context, routine: usize, is_local: bool) -> Target
+    ensures { result ≡ spec.function_target (scopes_of table.now) context routine is_local }
+{
+    match table.shapes().result(routine) {
+        None => Target::Kind,
+        Some(result) => {
+            if is_local && is_own(context, routine) {
+                Target::Assignable(result)
+            } else {
+                Target::Fixed(None)
+            }
+        }
+    }
+}
+
+/// What a name on the left stands for.
+fn target_of(table: &Table, context: Context, named: Named) -> Target
+    ensures { result ≡ spec.target_of (scopes_of table.now) context named }
+{
+    match named {
+        Named::Variable(value_type) => {
+            if place_of(table, value_type).is_assignable() {
+                Target::Assignable(value_type)
+            } else {
+                Target::Fixed(Some(value_type))
+            }
+        }
+        Named::Parameter(value_type) => Target::Fixed(Some(value_type)),
+        Named::Constant(base) => Target::Fixed(Some(values_of(base))),
+        Named::Routine(routine) => function_target(table, context, routine, true),
+        Named::Entry(routine) => function_target(table, context, routine, false),
+        Named::Predeclared(routine) => {
+            if is_function(routine) {
+                Target::Fixed(None)
+            } else {
+                Target::Kind
+            }
+        }
+        Named::Kind | Named::Nothing => Target::Kind,
+    }
+}
+
+/// No procedure and no type stands on the left.
+fn aimed(at: usize, target: Target) -> Result<Target, CheckFault>
+    ensures { Judges (λ t. t) (spec.aimed at target) result }
+{
+    match target {
+        Target::Kind => broken(at, Rule::C5),
+        _ => Ok(target),
+    }
+}
+
+/// The rules of an assignment itself.
+fn assigned(at: usize, target: Target, value: Operand, uses: Use) -> Result<Use, CheckFault>
+    ensures { Judges (λ u. u) (spec.assigned at target value uses) result }
+{
+    match target {
+        Target::Assignable(value_type) => {
+            if value_type.agrees(value.value_type) {
+                Ok(uses)
+            } else {
+                broken(at, Rule::C5)
+            }
+        }
+        Target::Fixed(Some(value_type)) => {
+            if value_type.agrees(value.value_type) {
+                broken(at, Rule::C6)
+            } else {
+                broken(at, Rule::C5)
+            }
+        }
+        Target::Fixed(None) => broken(at, Rule::C6),
+        Target::Kind => broken(at, Rule::C5),
+    }
+}
+
+#[tactic(auto, unfolding(crate::specs::Statements::assignment))]
+fn assignment(
+    alloc: Global,
+    table: &Table,
+    context: Context,
+    at: usize,
+    left: &Designator,
+    right: &Expression,
+) -> Result<Use, CheckFault>
+    ensures { Judges (λ u. u) (spec.assignment (scopes_of table.now) context at (designator_view left.now) (expression_view right.now)) result }
+{
+    let name = designator(alloc, table, context, left)?;
+    let target = aimed(left.name.at, target_of(table, context, name.named))?;
+    let value = expression(alloc, table, context, false, right)?;
+    assigned(at, target, value, name.uses.and(value.uses))
+}
+
+/// Whether `delay` or `continue` may stand here.
+fn may_wait(table: &Table, context: Context, routine: Predeclared) -> bool
+    ensures { result ≡ spec.may_wait (scopes_of table.now) context routine }
+{
+    match (context.owner, context.routine) {
+        (Some(SystemKind::Monitor), Some(own)) => match routine {
+            Predeclared::Delay => true,
+            _ => table.shapes().is_entry(own) && table.shapes().result(own).is_none(),
+        },
+        _ => false,
+    }
+}
+
+/// The queue on which a process waits.
+fn queued(at: usize, operands: &[Operand]) -> Result<(), CheckFault>
+    ensures { Finds (spec.queue_faults at operands.now) result }
+{
+    match operands {
+        [operand] => {
+            if operand.is_queue() {
+                Ok(())
+            } else {
+                broken(at, Rule::C5)
+            }
+        }
+        _ => broken(at, Rule::C7),
+    }
+}
+
+/// A process waits only where it may.
+fn waited(
+    table: &Table,
+    context: Context,
+    at: usize,
+    routine: Predeclared,
+) -> Result<(), CheckFault>
+    ensures { Finds (spec.wait_faults (scopes_of table.now) context at routine) result }
+{
+    if may_wait(table, context, routine) {
+        Ok(())
+    } else {
+        broken(at, Rule::C12)
+    }
+}
+
 /// The rules of `display`.
 fn displayed(at: usize, operands: &[Operand]) -> Result<(), CheckFault>
-    ensures { Judges (λ u. u) (spec.displayed at (map operand_view operands.now)) result }
+    ensures { Finds (spec.display_faults at operands.now) result }
 {
     match operands {
         [operand] => {
@@ -32,120 +188,349 @@ fn displayed(at: usize, operands: &[Operand]) -> Result<(), CheckFault>
     }
 }
 
-/// The rules of a call itself.
-fn called(at: usize, meaning: &Meaning, operands: &[Operand]) -> Result<(), CheckFault>
-    ensures { Judges (λ u. u) (spec.called at (meaning_view meaning.now, map operand_view operands.now)) result }
+/// The rules of `delay` and `continue`.
+#[tactic(auto, using(crate::proofs::Judging::first_append))]
+fn waiting(
+    table: &Table,
+    context: Context,
+    at: usize,
+    routine: Predeclared,
+    operands: &[Operand],
+) -> Result<(), CheckFault>
+    ensures { Finds (spec.waiting_faults (scopes_of table.now) context at routine operands.now) result }
 {
-    match meaning {
-        Meaning::Predeclared(Predeclared::Display) => displayed(at, operands),
-        Meaning::Predeclared(_) => left_out(at),
+    queued(at, operands)?;
+    waited(table, context, at, routine)
+}
+
+/// A call of a predeclared routine as a statement.
+fn performed(
+    table: &Table,
+    context: Context,
+    at: usize,
+    routine: Predeclared,
+    operands: &[Operand],
+    uses: Use,
+) -> Result<Use, CheckFault>
+    ensures { Judges (λ u. u) (spec.performed (scopes_of table.now) context at routine operands.now uses) result }
+{
+    match routine {
+        Predeclared::Display => {
+            displayed(at, operands)?;
+            Ok(uses)
+        }
+        Predeclared::Delay => {
+            waiting(table, context, at, routine, operands)?;
+            Ok(uses.and(Use {
+                calls: 0,
+                need: 0,
+                delays: true,
+            }))
+        }
+        Predeclared::Continue => {
+            waiting(table, context, at, routine, operands)?;
+            Ok(uses)
+        }
         _ => broken(at, Rule::C5),
     }
 }
 
-#[tactic(auto, unfolding(crate::specs::Statements::call))]
+/// A call of a routine as a statement.
+#[tactic(auto, unfolding(crate::specs::Statements::procedure_called))]
+fn procedure_called(
+    table: &Table,
+    context: Context,
+    at: usize,
+    name_at: usize,
+    is_local: bool,
+    routine: usize,
+    operands: &[Operand],
+    uses: Use,
+) -> Result<Use, CheckFault>
+    ensures { Judges (λ u. u) (spec.procedure_called (scopes_of table.now) context at name_at is_local routine operands.now uses) result }
+{
+    match table.shapes().result(routine) {
+        Some(_) => broken(at, Rule::C5),
+        None => called(
+            table, context, at, name_at, is_local, routine, operands, uses,
+        ),
+    }
+}
+
+/// The rules of a call statement itself.
+#[tactic(auto, unfolding(crate::specs::Statements::invoked))]
+fn invoked(
+    table: &Table,
+    context: Context,
+    at: usize,
+    name: Designated,
+    operands: &[Operand],
+) -> Result<Use, CheckFault>
+    ensures { Judges (λ u. u) (spec.invoked (scopes_of table.now) context at (name, operands.now)) result }
+{
+    let uses = name.uses;
+    match name.named {
+        Named::Predeclared(routine) => {
+            let uses = total_use(uses, operands);
+            performed(table, context, at, routine, operands, uses)
+        }
+        Named::Routine(routine) => procedure_called(
+            table,
+            context,
+            at,
+            name.name_at,
+            true,
+            routine,
+            operands,
+            uses,
+        ),
+        Named::Entry(routine) => procedure_called(
+            table,
+            context,
+            at,
+            name.name_at,
+            false,
+            routine,
+            operands,
+            uses,
+        ),
+        _ => broken(at, Rule::C5),
+    }
+}
+
+/// The parameters of what is called, where as many arguments stand.
+fn parameters_of(table: &Table, named: Named, number: usize) -> &[Parameter]
+    ensures { result.now ≡ spec.parameters_of (scopes_of table.now) named number }
+{
+    match named {
+        Named::Routine(routine) => procedure_parameters(table, routine, number),
+        Named::Entry(routine) => procedure_parameters(table, routine, number),
+        _ => &[],
+    }
+}
+
+/// The parameters of a procedure, where as many arguments stand.
+fn procedure_parameters(table: &Table, routine: usize, number: usize) -> &[Parameter]
+    ensures { result.now ≡ spec.procedure_parameters (scopes_of table.now) routine number }
+{
+    let parameters = table.shapes().parameters(routine);
+    match table.shapes().result(routine) {
+        Some(_) => &[],
+        None => {
+            if parameters.len() == number {
+                parameters
+            } else {
+                &[]
+            }
+        }
+    }
+}
+
+#[tactic(auto, unfolding(crate::specs::Statements::call), using(crate::proofs::Statements::number_is))]
 fn call(
     alloc: Global,
     table: &Table,
+    context: Context,
     at: usize,
     target: &Designator,
     nodes: &[Expression],
-) -> Result<(), CheckFault>
-    ensures { Judges (λ u. u) (spec.call (scopes_of table.now) at (designator_view target.now) (expressions_of (expressions_view nodes.now))) result }
+) -> Result<Use, CheckFault>
+    ensures { Judges (λ u. u) (spec.call (scopes_of table.now) context at (designator_view target.now) (expressions_of (expressions_view nodes.now))) result }
 {
-    if !is_bare(target) {
-        return left_out(at);
-    }
-    let meaning = visible(table, target.name.at, &target.name.name)?;
-    let operands = arguments(alloc, table, nodes)?;
-    called(at, meaning, &operands)
+    let name = designator(alloc, table, context, target)?;
+    let parameters = parameters_of(table, name.named, nodes.len());
+    let operands = arguments(alloc, table, context, parameters, nodes)?;
+    invoked(table, context, at, name, &operands)
 }
 
-/// Whether arguments fit parameters; both are as many.
-#[tactic(auto, using(crate::proofs::Arguments::agree_split, crate::proofs::Arguments::agree_end))]
-fn all_agree(parameters: &[Type], operands: &[Operand]) -> bool
-    requires { length parameters.now ≡ length operands.now }
-    ensures { result ≡ spec.all_agree (types_of (map type_view parameters.now)) (map operand_view operands.now) }
+/// A test is a truth value; what its statement takes.
+fn tested(at: usize, test: Operand, uses: Use) -> Result<Use, CheckFault>
+    ensures { Judges (λ u. u) (spec.tested at test uses) result }
 {
-    for i in 0..parameters.len() {
-        if !parameters[i].agrees(&operands[i].value_type) {
-            return false;
-        }
-    }
-    true
-}
-
-/// The rules of arguments.
-#[tactic(auto, using(crate::proofs::Arguments::fitted_same, crate::proofs::Arguments::fitted_other))]
-fn fitted(at: usize, parameters: &[Type], operands: &[Operand]) -> Result<(), CheckFault>
-    ensures { Judges (λ u. u) (spec.fitted at (types_of (map type_view parameters.now)) (map operand_view operands.now)) result }
-{
-    if parameters.len() != operands.len() {
-        broken(at, Rule::C7)
-    } else if all_agree(parameters, operands) {
-        Ok(())
+    if test.value_type.is_of(Base::Boolean) {
+        Ok(uses)
     } else {
         broken(at, Rule::C5)
     }
 }
 
-/// The rules of a start itself.
-fn started(at: usize, meaning: &Meaning, operands: &[Operand]) -> Result<(), CheckFault>
-    ensures { Judges (λ u. u) (spec.started at (meaning_view meaning.now, map operand_view operands.now)) result }
+/// Whether the variable and the bounds of a `for` agree.
+fn counts(first: ValueType, from: Operand, to: Operand) -> bool
+    ensures { result ≡ spec.counts first from to }
 {
-    match meaning {
-        Meaning::Variable(Type::Component(system)) => fitted(at, &system.parameters, operands),
+    first.is_ordinal() && first.agrees(from.value_type) && first.agrees(to.value_type)
+}
+
+/// The rules of a `for` itself.
+fn counted(
+    at: usize,
+    name_at: usize,
+    target: Target,
+    from: Operand,
+    to: Operand,
+    uses: Use,
+) -> Result<Use, CheckFault>
+    ensures { Judges (λ u. u) (spec.counted at name_at target from to uses) result }
+{
+    match target {
+        Target::Kind => broken(at, Rule::C5),
+        Target::Assignable(value_type) => {
+            if counts(value_type, from, to) {
+                Ok(uses)
+            } else {
+                broken(at, Rule::C5)
+            }
+        }
+        Target::Fixed(Some(value_type)) => {
+            if counts(value_type, from, to) {
+                broken(name_at, Rule::C6)
+            } else {
+                broken(at, Rule::C5)
+            }
+        }
+        Target::Fixed(None) => {
+            if counts(from.value_type, from, to) {
+                broken(name_at, Rule::C6)
+            } else {
+                broken(at, Rule::C5)
+            }
+        }
+    }
+}
+
+/// A start of a component variable.
+#[tactic(auto, unfolding(crate::specs::Statements::started), using(crate::proofs::Judging::first_append))]
+fn started(
+    table: &Table,
+    at: usize,
+    name: Designated,
+    operands: &[Operand],
+) -> Result<Use, CheckFault>
+    ensures { Judges (λ u. u) (spec.started (scopes_of table.now) at (name, operands.now)) result }
+{
+    match name.named {
+        Named::Variable(ValueType::Component(kind, system)) => {
+            let shapes = table.shapes();
+            fitted(at, shapes.parameters(system), operands)?;
+            let need = match kind {
+                SystemKind::Process => 0,
+                _ => shapes.initial_need(system),
+            };
+            Ok(total_use(name.uses, operands).and(Use {
+                calls: 0,
+                need,
+                delays: false,
+            }))
+        }
         _ => broken(at, Rule::C17),
     }
 }
 
 #[tactic(auto, unfolding(crate::specs::Statements::start))]
-fn start(alloc: Global, table: &Table, node: &Start) -> Result<(), CheckFault>
-    ensures { Judges (λ u. u) (spec.start (scopes_of table.now) (start_view node.now)) result }
+fn start(alloc: Global, table: &Table, context: Context, node: &Start) -> Result<Use, CheckFault>
+    ensures { Judges (λ u. u) (spec.start (scopes_of table.now) context (start_view node.now)) result }
 {
-    let at = node.target.name.at;
-    if !is_bare(&node.target) {
-        return left_out(at);
-    }
-    let meaning = visible(table, at, &node.target.name.name)?;
-    let operands = arguments(alloc, table, &node.arguments)?;
-    started(at, meaning, &operands)
+    let name = designator(alloc, table, context, &node.target)?;
+    let operands = arguments(alloc, table, context, &[], &node.arguments)?;
+    started(table, node.target.name.at, name, &operands)
 }
 
 #[tactic(auto, using(crate::proofs::Statements::starts_passed, crate::proofs::Statements::starts_refused, crate::proofs::Statements::starts_none))]
-fn starts(alloc: Global, table: &Table, nodes: &[Start]) -> Result<(), CheckFault>
-    ensures { Judges (λ u. u) (spec.starts (scopes_of table.now) (map start_view nodes.now)) result }
+fn starts(
+    alloc: Global,
+    table: &Table,
+    context: Context,
+    nodes: &[Start],
+) -> Result<Use, CheckFault>
+    ensures { Judges (λ u. u) (spec.starts (scopes_of table.now) context (Ok no_use) (map start_view nodes.now)) result }
 {
+    let mut total = Use::nothing();
     for node in nodes {
-        start(alloc, table, node)?;
+        total = total.and(start(alloc, table, context, node)?);
     }
-    Ok(())
+    Ok(total)
+}
+
+/// `init` stands in an initial statement.
+fn initial(at: usize, context: Context, uses: Use) -> Result<Use, CheckFault>
+    ensures { Judges (λ u. u) (spec.initial at context uses) result }
+{
+    match context.routine {
+        None => Ok(uses),
+        Some(_) => broken(at, Rule::C16),
+    }
 }
 
 #[cycle(statement)]
-#[tactic(auto, unfolding(crate::specs::Statements::statement))]
-fn statement(alloc: Global, table: &Table, node: &Statement) -> Result<(), CheckFault>
-    ensures { Judges (λ u. u) (spec.statement (scopes_of table.now) (statement_view node.now)) result }
+#[tactic(auto, unfolding(crate::specs::Statements::statement), using(crate::proofs::Judging::refuses_both, crate::proofs::Branches::else_first, crate::proofs::Branches::else_second))]
+fn statement(
+    alloc: Global,
+    table: &Table,
+    context: Context,
+    node: &Statement,
+) -> Result<Use, CheckFault>
+    ensures { Judges (λ u. u) (spec.statement (scopes_of table.now) context (statement_view node.now)) result }
 {
     let at = node.at;
     match &node.kind {
-        StatementKind::Empty => Ok(()),
-        StatementKind::Call(target, nodes) => call(alloc, table, at, target, nodes),
-        StatementKind::Block(inner) => statements(alloc, table, inner),
-        StatementKind::Cycle(inner) => statements(alloc, table, inner),
-        StatementKind::Init(nodes) => starts(alloc, table, nodes),
-        _ => left_out(at),
+        StatementKind::Empty => Ok(Use::nothing()),
+        StatementKind::Assign(left, right) => { assignment(alloc, table, context, at, left, right) }
+        StatementKind::Call(target, nodes) => call(alloc, table, context, at, target, nodes),
+        StatementKind::Block(inner) => statements(alloc, table, context, inner),
+        StatementKind::Cycle(inner) => statements(alloc, table, context, inner),
+        StatementKind::If(test, first, second) => match second {
+            None => {
+                let test = expression(alloc, table, context, false, test)?;
+                let uses = statement(alloc, table, context, first)?;
+                tested(at, test, test.uses.and(uses))
+            }
+            Some(second) => {
+                let test = expression(alloc, table, context, false, test)?;
+                let uses = statement(alloc, table, context, first)?;
+                let uses = uses.and(statement(alloc, table, context, second)?);
+                tested(at, test, test.uses.and(uses))
+            }
+        },
+        StatementKind::While(test, inner) => {
+            let test = expression(alloc, table, context, false, test)?;
+            let uses = statement(alloc, table, context, inner)?;
+            tested(at, test, test.uses.and(uses))
+        }
+        StatementKind::Repeat(inner, test) => {
+            let uses = statements(alloc, table, context, inner)?;
+            let test = expression(alloc, table, context, false, test)?;
+            tested(at, test, uses.and(test.uses))
+        }
+        StatementKind::For(name, from, _, to, inner) => {
+            let variable = begun(table, name)?;
+            let from = expression(alloc, table, context, false, from)?;
+            let to = expression(alloc, table, context, false, to)?;
+            let uses = statement(alloc, table, context, inner)?;
+            let target = target_of(table, context, variable.named);
+            let uses = from.uses.and(to.uses).and(uses);
+            counted(at, name.at, target, from, to, uses)
+        }
+        StatementKind::Init(nodes) => {
+            initial(at, context, starts(alloc, table, context, nodes)?)
+        }
+        StatementKind::Case(_, _, _) => left_out(at),
     }
 }
 
 /// Statements in their order.
 #[cycle(statement)]
 #[tactic(auto, using(crate::proofs::Statements::statements_passed, crate::proofs::Statements::statements_refused, crate::proofs::Statements::statements_none))]
-pub fn statements(alloc: Global, table: &Table, nodes: &[Statement]) -> Result<(), CheckFault>
-    ensures { Judges (λ u. u) (spec.statements (scopes_of table.now) (statements_of (statements_view nodes.now))) result }
+pub fn statements(
+    alloc: Global,
+    table: &Table,
+    context: Context,
+    nodes: &[Statement],
+) -> Result<Use, CheckFault>
+    ensures { Judges (λ u. u) (spec.statements (scopes_of table.now) context (Ok no_use) (statements_of (statements_view nodes.now))) result }
 {
+    let mut total = Use::nothing();
     for node in nodes {
-        statement(alloc, table, node)?;
+        total = total.and(statement(alloc, table, context, node)?);
     }
-    Ok(())
+    Ok(total)
 }

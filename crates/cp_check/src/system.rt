@@ -1,75 +1,97 @@
-//! System types and the parts of a program.
+//! System types.
 
-ghost use Rattle.std.specs.Prelude.{◌≡◌, map, OnOk, IfErr, IfOk};
+ghost use Rattle.std.specs.Prelude.{◌≡◌, map, OnOk, IfErr, Ok};
 ghost use Rattle.cp_scope.specs.Judged.{Judges, Finds};
-ghost use Rattle.cp_scope.specs.View.{meaning_view, scopes_of, type_view, types_of};
+ghost use Rattle.cp_scope.specs.View.{scopes_of};
+ghost use Rattle.cp_tree.specs.View.{group_view, routine_view, system_view, definition_view, system_definition_view, program_part_view};
 ghost use Rattle.cp_scope.specs.declared.fault.CheckFault.TheVariants as check_fault;
-ghost use Rattle.cp_tree.specs.View.{group_view, part_view, routine_view, system_view, definition_view, system_definition_view, program_part_view, program_view};
-ghost use Rattle.cp_check.specs.Declarations as spec;
+ghost use Rattle.cp_check.specs.Systems as spec;
 
-use crate::declaration::{add_all, reserve_name, reserve_names, type_named, variable_groups};
+use crate::declaration::{
+    add_all, add_one, constant_definitions, parts, reserve_name, reserve_names, variable_groups,
+};
+use crate::operand::Context;
 use crate::statement::statements;
+use crate::types::{Holding, Spot, held_by, type_named, typed};
+use cp_scope::count::{Use, plus};
 use cp_scope::fault::{CheckFault, Rule, broken, left_out};
+use cp_scope::shape::{Heading, Shape};
 use cp_scope::table::Table;
-use cp_scope::types::{Base, Meaning, SystemType, Type};
+use cp_scope::types::{Meaning, ValueType};
 use cp_tree::declaration::{
-    Definition, Group, Part, Program, ProgramPart, ProgramPartKind, Routine, System,
-    SystemDefinition, SystemKind,
+    Definition, Group, ProgramPart, ProgramPartKind, Routine, System, SystemDefinition, SystemKind,
 };
 use std::alloc::Global;
-use std::rc::Rc;
 
-/// A parameter of a type, where one may stand.
-fn as_parameter(at: usize, value_type: Type) -> Result<Meaning, CheckFault>
-    ensures { Judges meaning_view (spec.as_parameter at (type_view value_type)) result }
+/// The type of a parameter of a system type, where it may be one.
+fn admitted(
+    at: usize,
+    owner: SystemKind,
+    held: Holding,
+    value_type: ValueType,
+) -> Result<ValueType, CheckFault>
+    ensures { Judges (λ t. t) (spec.admitted at owner held value_type) result }
 {
-    match value_type {
-        Type::Ordinal(range) => match range.base {
-            Base::Integer => Ok(Meaning::Parameter(Type::Ordinal(range))),
-            _ => left_out(at),
-        },
-        Type::Queue => broken(at, Rule::C15),
-        Type::Component(system) => match system.kind {
+    match held {
+        Holding::Plain => Ok(value_type),
+        Holding::Queue => broken(at, Rule::C15),
+        Holding::Queues => broken(at, Rule::C11),
+        Holding::Component(kind) => match kind {
             SystemKind::Process => broken(at, Rule::C15),
-            _ => left_out(at),
+            SystemKind::Monitor => Ok(value_type),
+            SystemKind::Class => match owner {
+                SystemKind::Class => Ok(value_type),
+                _ => broken(at, Rule::C14),
+            },
         },
+        Holding::Components(_) => broken(at, Rule::C13),
     }
 }
 
-#[tactic(auto, unfolding(crate::specs::Declarations::group_step, crate::specs::Declarations::parameter_type), using(crate::proofs::Judging::first_append))]
-fn group(alloc: Global, table: &mut Table, node: &Group) -> Result<(), CheckFault>
-    ensures faults { Finds (spec.group_step (scopes_of table.old) (group_view node.now)).faults result }
-    ensures scopes { OnOk result (scopes_of table.new ≡ (spec.group_step (scopes_of table.old) (group_view node.now)).scopes) }
+#[tactic(auto, unfolding(crate::specs::Systems::parameter_type))]
+fn parameter_type(table: &Table, owner: SystemKind, node: &Group) -> Result<ValueType, CheckFault>
+    ensures { Judges (λ t. t) (spec.parameter_type owner (scopes_of table.now) (group_view node.now)) result }
 {
-    reserve_names(alloc, table, &node.names)?;
     let at = node.type_name.at;
-    let meaning = as_parameter(at, type_named(table, at, &node.type_name.name)?)?;
-    add_all(alloc, table, &node.names, &meaning)
+    let value_type = type_named(table, at, &node.type_name.name)?;
+    admitted(at, owner, held_by(table, value_type), value_type)
 }
 
-#[tactic(auto, using(crate::proofs::Steps::groups_passed, crate::proofs::Steps::groups_refused, crate::proofs::Steps::groups_none))]
-fn groups(alloc: Global, table: &mut Table, nodes: &[Group]) -> Result<(), CheckFault>
-    ensures faults { Finds (spec.groups (scopes_of table.old) (map group_view nodes.now)).faults result }
-    ensures scopes { OnOk result (scopes_of table.new ≡ (spec.groups (scopes_of table.old) (map group_view nodes.now)).scopes) }
+#[tactic(auto, unfolding(crate::specs::Systems::group_step), using(crate::proofs::Judging::first_append))]
+fn group(
+    alloc: Global,
+    table: &mut Table,
+    owner: SystemKind,
+    node: &Group,
+) -> Result<(), CheckFault>
+    ensures faults { Finds (spec.group_step owner (scopes_of table.old) (group_view node.now)).faults result }
+    ensures scopes { OnOk result (scopes_of table.new ≡ (spec.group_step owner (scopes_of table.old) (group_view node.now)).scopes) }
+{
+    reserve_names(alloc, table, &node.names)?;
+    let value_type = parameter_type(table, owner, node)?;
+    add_all(alloc, table, &node.names, Meaning::Parameter(value_type))
+}
+
+/// The parameters of a system type.
+#[tactic(auto, using(crate::proofs::Systems::groups_passed, crate::proofs::Systems::groups_refused, crate::proofs::Systems::groups_none))]
+fn groups(
+    alloc: Global,
+    table: &mut Table,
+    owner: SystemKind,
+    nodes: &[Group],
+) -> Result<(), CheckFault>
+    ensures faults { Finds (spec.group_steps owner (scopes_of table.old) (map group_view nodes.now)).faults result }
+    ensures scopes { OnOk result (scopes_of table.new ≡ (spec.group_steps owner (scopes_of table.old) (map group_view nodes.now)).scopes) }
 {
     for node in nodes {
-        group(alloc, table, node)?;
+        group(alloc, table, owner, node)?;
     }
     Ok(())
 }
 
-#[tactic(auto, using(crate::proofs::Lists::some_parts))]
-fn parts(table: &Table, nodes: &[Part]) -> Result<(), CheckFault>
-    ensures { Finds (spec.parts (scopes_of table.now) (map part_view nodes.now)).faults result }
-{
-    match nodes {
-        [] => Ok(()),
-        [node, ..] => left_out(node.at),
-    }
-}
-
-#[tactic(auto, using(crate::proofs::Lists::some_routines))]
-fn routines(table: &Table, nodes: &[Routine]) -> Result<(), CheckFault>
+/// No routine is run yet.
+#[tactic(auto, using(crate::proofs::Systems::some_routines))]
+pub fn routines(table: &Table, nodes: &[Routine]) -> Result<(), CheckFault>
     ensures { Finds (spec.routines (scopes_of table.now) (map routine_view nodes.now)).faults result }
 {
     match nodes {
@@ -78,68 +100,95 @@ fn routines(table: &Table, nodes: &[Routine]) -> Result<(), CheckFault>
     }
 }
 
-/// A process type; the variables around it are not visible in it.
-#[tactic(auto, unfolding(crate::specs::Declarations::inside), using(crate::proofs::Judging::first_append))]
+/// The declarations of a system type.
+#[tactic(auto, unfolding(crate::specs::Systems::inside), using(crate::proofs::Judging::first_append))]
 fn inside(alloc: Global, table: &mut Table, node: &System) -> Result<(), CheckFault>
     ensures faults { Finds (spec.inside (scopes_of table.old) (system_view node.now)).faults result }
     ensures scopes { OnOk result (scopes_of table.new ≡ (spec.inside (scopes_of table.old) (system_view node.now)).scopes) }
 {
-    groups(alloc, table, &node.parameters)?;
-    parts(table, &node.parts)?;
-    routines(table, &node.routines)?;
-    statements(alloc, table, &node.body.statements)
+    groups(alloc, table, node.kind, &node.parameters)?;
+    parts(alloc, table, Spot::Permanent(Some(node.kind)), &node.parts)?;
+    routines(table, &node.routines)
 }
 
-#[tactic(auto, unfolding(crate::specs::Declarations::process_type))]
-fn process_type(alloc: Global, table: &mut Table, node: &System) -> Result<Type, CheckFault>
-    ensures judged { Judges type_view (spec.process_type (scopes_of table.old) (system_view node.now)).type result }
-    ensures scopes { OnOk result (scopes_of table.new ≡ (spec.process_type (scopes_of table.old) (system_view node.now)).scopes) }
+/// What an initial statement needs.
+pub fn need_of(uses: Use) -> u32
+    ensures { result ≡ spec.need_of uses }
+{
+    plus(uses.calls, uses.need)
+}
+
+/// A system type in a scope of its own.
+#[tactic(auto, unfolding(crate::specs::Systems::opened), using(crate::proofs::Judging::first_append))]
+fn opened(alloc: Global, table: &mut Table, node: &System) -> Result<Use, CheckFault>
+    ensures judged { Judges (λ u. u) (spec.opened (scopes_of table.old) (system_view node.now)).uses result }
+    ensures scopes { OnOk result (scopes_of table.new ≡ (spec.opened (scopes_of table.old) (system_view node.now)).scopes) }
+{
+    inside(alloc, table, node)?;
+    let context = Context {
+        owner: Some(node.kind),
+        routine: None,
+    };
+    statements(alloc, table, context, &node.body.statements)
+}
+
+/// A system type is closed.
+#[tactic(auto, unfolding(crate::specs::Systems::closed))]
+fn closed(alloc: Global, table: &mut Table, at: usize, uses: Use) -> Result<(), CheckFault>
+    ensures ok { OnOk result (scopes_of table.new ≡ spec.closed (scopes_of table.old) at uses) }
+    ensures memory { IfErr result (λ e. e ≡ check_fault.Memory) }
+{
+    let heading = Heading {
+        is_entry: false,
+        parameters: table.parameters(alloc)?,
+        result: None,
+    };
+    let census = table.census();
+    let members = table.leave(alloc);
+    table.keep(at, Shape::System(members, heading, census, need_of(uses)))
+}
+
+/// A system type; the variables around it are not visible in it.
+#[tactic(auto, unfolding(crate::specs::Systems::system_typed))]
+fn system(alloc: Global, table: &mut Table, node: &System) -> Result<ValueType, CheckFault>
+    ensures judged { Judges (λ t. t) (spec.system_typed (scopes_of table.old) (system_view node.now)).type result }
+    ensures scopes { OnOk result (scopes_of table.new ≡ (spec.system_typed (scopes_of table.old) (system_view node.now)).scopes) }
 {
     table.enter(alloc, true)?;
-    inside(alloc, table, node)?;
-    let system = SystemType {
-        at: node.at,
-        kind: node.kind,
-        parameters: table.parameters(alloc)?,
-    };
-    table.leave();
-    Ok(Type::Component(Rc::new(alloc, system)?))
+    let uses = opened(alloc, table, node)?;
+    closed(alloc, table, node.at, uses)?;
+    Ok(ValueType::Component(node.kind, node.at))
 }
 
-#[tactic(auto, unfolding(crate::specs::Declarations::defined))]
-fn defined(alloc: Global, table: &mut Table, node: &Definition) -> Result<Type, CheckFault>
-    ensures judged { Judges type_view (spec.defined (scopes_of table.old) (definition_view node.now)).type result }
+#[tactic(auto, unfolding(crate::specs::Systems::defined))]
+fn defined(alloc: Global, table: &mut Table, node: &Definition) -> Result<ValueType, CheckFault>
+    ensures judged { Judges (λ t. t) (spec.defined (scopes_of table.old) (definition_view node.now)).type result }
     ensures scopes { OnOk result (scopes_of table.new ≡ (spec.defined (scopes_of table.old) (definition_view node.now)).scopes) }
 {
     match node {
-        Definition::Type(written) => left_out(written.at),
-        Definition::System(system) => match system.kind {
-            SystemKind::Process => process_type(alloc, table, system),
-            _ => left_out(system.at),
-        },
+        Definition::Type(written) => typed(alloc, table, Spot::Definition, written),
+        Definition::System(written) => system(alloc, table, written),
     }
 }
 
-#[tactic(auto, unfolding(crate::specs::Declarations::definition_step), using(crate::proofs::Judging::first_append))]
+#[tactic(auto, unfolding(crate::specs::Systems::definition_step), using(crate::proofs::Judging::first_append))]
 fn definition(alloc: Global, table: &mut Table, node: &SystemDefinition) -> Result<(), CheckFault>
     ensures faults { Finds (spec.definition_step (scopes_of table.old) (system_definition_view node.now)).faults result }
     ensures scopes { OnOk result (scopes_of table.new ≡ (spec.definition_step (scopes_of table.old) (system_definition_view node.now)).scopes) }
 {
     reserve_name(alloc, table, &node.name)?;
-    let kind = defined(alloc, table, &node.value)?;
-    table.add(alloc, node.name.name.as_str(), Meaning::Kind(kind))?;
-    table.settle();
-    Ok(())
+    let value_type = defined(alloc, table, &node.value)?;
+    add_one(alloc, table, &node.name, Meaning::Kind(value_type))
 }
 
-#[tactic(auto, using(crate::proofs::Steps::definitions_passed, crate::proofs::Steps::definitions_refused, crate::proofs::Steps::definitions_none))]
+#[tactic(auto, using(crate::proofs::Systems::definitions_passed, crate::proofs::Systems::definitions_refused, crate::proofs::Systems::definitions_none))]
 fn definitions(
     alloc: Global,
     table: &mut Table,
     nodes: &[SystemDefinition],
 ) -> Result<(), CheckFault>
-    ensures faults { Finds (spec.definitions (scopes_of table.old) (map system_definition_view nodes.now)).faults result }
-    ensures scopes { OnOk result (scopes_of table.new ≡ (spec.definitions (scopes_of table.old) (map system_definition_view nodes.now)).scopes) }
+    ensures faults { Finds (spec.definition_steps (scopes_of table.old) (map system_definition_view nodes.now)).faults result }
+    ensures scopes { OnOk result (scopes_of table.new ≡ (spec.definition_steps (scopes_of table.old) (map system_definition_view nodes.now)).scopes) }
 {
     for node in nodes {
         definition(alloc, table, node)?;
@@ -147,36 +196,32 @@ fn definitions(
     Ok(())
 }
 
-#[tactic(auto, unfolding(crate::specs::Declarations::program_part))]
+#[tactic(auto, unfolding(crate::specs::Systems::program_part_step))]
 fn program_part(alloc: Global, table: &mut Table, node: &ProgramPart) -> Result<(), CheckFault>
-    ensures faults { Finds (spec.program_part (scopes_of table.old) (program_part_view node.now)).faults result }
-    ensures scopes { OnOk result (scopes_of table.new ≡ (spec.program_part (scopes_of table.old) (program_part_view node.now)).scopes) }
+    ensures faults { Finds (spec.program_part_step (scopes_of table.old) (program_part_view node.now)).faults result }
+    ensures scopes { OnOk result (scopes_of table.new ≡ (spec.program_part_step (scopes_of table.old) (program_part_view node.now)).scopes) }
 {
     match &node.kind {
-        ProgramPartKind::Constants(_) => left_out(node.at),
+        ProgramPartKind::Constants(nodes) => constant_definitions(alloc, table, nodes),
         ProgramPartKind::Types(nodes) => definitions(alloc, table, nodes),
-        ProgramPartKind::Variables(nodes) => variable_groups(alloc, table, nodes),
+        ProgramPartKind::Variables(nodes) => {
+            variable_groups(alloc, table, Spot::Permanent(None), nodes)
+        }
     }
 }
 
-#[tactic(auto, using(crate::proofs::Steps::parts_passed, crate::proofs::Steps::parts_refused, crate::proofs::Steps::parts_none))]
-fn program_parts(alloc: Global, table: &mut Table, nodes: &[ProgramPart]) -> Result<(), CheckFault>
-    ensures faults { Finds (spec.program_parts (scopes_of table.old) (map program_part_view nodes.now)).faults result }
-    ensures scopes { OnOk result (scopes_of table.new ≡ (spec.program_parts (scopes_of table.old) (map program_part_view nodes.now)).scopes) }
+/// The declarations at the program's top.
+#[tactic(auto, using(crate::proofs::Systems::parts_passed, crate::proofs::Systems::parts_refused, crate::proofs::Systems::parts_none))]
+pub fn program_parts(
+    alloc: Global,
+    table: &mut Table,
+    nodes: &[ProgramPart],
+) -> Result<(), CheckFault>
+    ensures faults { Finds (spec.program_part_steps (scopes_of table.old) (map program_part_view nodes.now)).faults result }
+    ensures scopes { OnOk result (scopes_of table.new ≡ (spec.program_part_steps (scopes_of table.old) (map program_part_view nodes.now)).scopes) }
 {
     for node in nodes {
         program_part(alloc, table, node)?;
     }
     Ok(())
-}
-
-/// The declarations and statements of a program.
-#[tactic(auto, unfolding(crate::specs::Declarations::program_step), using(crate::proofs::Judging::first_append))]
-pub fn program(alloc: Global, table: &mut Table, node: &Program) -> Result<(), CheckFault>
-    ensures faults { Finds (spec.program_step (scopes_of table.old) (program_view node.now)).faults result }
-    ensures scopes { OnOk result (scopes_of table.new ≡ (spec.program_step (scopes_of table.old) (program_view node.now)).scopes) }
-{
-    program_parts(alloc, table, &node.parts)?;
-    routines(table, &node.routines)?;
-    statements(alloc, table, &node.body.statements)
 }

@@ -1,12 +1,14 @@
 //! The names of one scope.
 
-ghost use Rattle.std.specs.Prelude.{◌≡◌, option_map, map, IfErr, IfOk, OnOk};
+ghost use Rattle.std.specs.Prelude.{◌≡◌, option_map, Some, IfErr, IfOk, OnOk};
 ghost use Rattle.cp_scope.specs.Scopes as spec;
-ghost use Rattle.cp_scope.specs.View.{meaning_view, type_view, scope_of};
+ghost use Rattle.cp_scope.specs.View.{scope_of, shapes_of};
 ghost use Rattle.cp_scope.specs.declared.fault.CheckFault.TheVariants as check_fault;
 
 use crate::fault::CheckFault;
-use crate::types::{Meaning, Type};
+use crate::shape::Census;
+use crate::shapes::Shapes;
+use crate::types::{Meaning, Parameter};
 use indexmap::IndexMap;
 use std::alloc::Global;
 
@@ -33,10 +35,10 @@ impl Scope {
 
     /// What the name stands for in this scope, as the scopes inside see it.
     #[tactic(auto, using(crate::proofs::Names::looked_none))]
-    pub fn look(&self, name: &str) -> Option<&Meaning>
-        ensures { option_map (λ m. meaning_view m.now) result ≡ spec.look_in name.now (scope_of self.now) }
+    pub fn look(&self, name: &str) -> Option<Meaning>
+        ensures { option_map (λ m. Some m) result ≡ spec.look_in name.now (scope_of self.now) }
     {
-        let found = self.names.get(name)?;
+        let found = *self.names.get(name)?;
         if !self.is_sealed {
             return Some(found);
         }
@@ -53,7 +55,7 @@ impl Scope {
 
     /// Declares a name that is not there yet; another keeps its meaning.
     pub fn add(&mut self, alloc: Global, name: &str, meaning: Meaning) -> Result<(), CheckFault>
-        ensures ok { OnOk result (scope_of self.new ≡ spec.with_name (scope_of self.old) name.now (meaning_view meaning)) }
+        ensures ok { OnOk result (scope_of self.new ≡ spec.with_name (scope_of self.old) name.now (Some meaning)) }
         ensures memory { IfErr result (λ e. e ≡ check_fault.Memory) }
     {
         if !self.names.contains_key(name) {
@@ -89,30 +91,28 @@ impl Scope {
         self.is_sealed = is_sealed;
     }
 
-    /// The types of the parameters, in their order.
-    pub fn parameters(&self, alloc: Global) -> Result<Vec<Type>, CheckFault>
-        ensures ok { IfOk result (λ v. map type_view v.items ≡ spec.parameters_in (scope_of self.now).names) }
+    /// The parameters, in their order.
+    pub fn parameters(&self, alloc: Global) -> Result<Vec<Parameter>, CheckFault>
+        ensures ok { IfOk result (λ v. v.items ≡ spec.parameters_in (scope_of self.now).names) }
         ensures memory { IfErr result (λ e. e ≡ check_fault.Memory) }
     {
-        let mut types = Vec::new(alloc);
+        let mut parameters = Vec::new(alloc);
         for meaning in self.names.values() {
-            if let Some(parameter) = meaning.parameter_type() {
-                types.push(parameter.share()?)?;
+            if let Some(parameter) = meaning.as_parameter() {
+                parameters.push(parameter)?;
             }
         }
-        Ok(types)
+        Ok(parameters)
     }
 
-    /// How many processes are declared.
-    pub fn processes(&self) -> usize
-        ensures { result ≡ spec.processes (scope_of self.now).names }
+    /// What the names take.
+    pub fn census(&self, shapes: &Shapes) -> Census
+        ensures { result ≡ spec.census (scope_of self.now).names (shapes_of shapes.now) }
     {
-        let mut count = 0;
+        let mut total = Census::nothing();
         for meaning in self.names.values() {
-            if meaning.is_process_variable() {
-                count += 1;
-            }
+            total = total.and(shapes.census_of(*meaning));
         }
-        count
+        total
     }
 }

@@ -1,22 +1,25 @@
 //! What is known while a program is checked.
 
-ghost use Rattle.std.specs.Prelude.{◌≡◌, option_map, map, IfErr, IfOk, OnOk, [], codes};
+ghost use Rattle.std.specs.Prelude.{◌≡◌, option_map, map, Some, IfErr, IfOk, OnOk};
 ghost use Rattle.cp_scope.specs.Scopes as spec;
-ghost use Rattle.cp_scope.specs.View.{meaning_view, type_view, scopes_of, scope_of};
+ghost use Rattle.cp_scope.specs.View.{scopes_of, scope_of, shapes_of, shape_view};
 ghost use Rattle.cp_scope.specs.declared.fault.CheckFault.TheVariants as check_fault;
 
 use crate::fault::CheckFault;
 use crate::scope::Scope;
-use crate::types::{Base, Meaning, Predeclared, Type, booleans, characters, integers};
+use crate::shape::{Census, Shape};
+use crate::shapes::Shapes;
+use crate::types::{Base, Meaning, Parameter, Predeclared, ValueType, values_of};
 use cp_text::token::Name;
 use std::alloc::Global;
 use std::mem;
 
-/// The innermost scope, and those around it, outermost first.
+/// The innermost scope, those around it, outermost first, and what is written at tokens.
 #[derive(Drop)]
 pub struct Table {
     outer: Vec<Scope>,
     inner: Scope,
+    shapes: Shapes,
 }
 
 impl Table {
@@ -28,7 +31,16 @@ impl Table {
         Table {
             outer: Vec::new(alloc),
             inner: Scope::new(alloc),
+            shapes: Shapes::new(alloc),
         }
+    }
+
+    /// What is written at tokens.
+    #[tactic(auto, unfolding(crate::specs::View::scopes_of))]
+    pub fn shapes(&self) -> &Shapes
+        ensures { shapes_of result.now ≡ (scopes_of self.now).shapes }
+    {
+        &self.shapes
     }
 
     /// The predeclared names alone.
@@ -49,10 +61,10 @@ impl Table {
         ensures ok { OnOk result (scopes_of self.new ≡ spec.with_types (scopes_of self.old)) }
         ensures memory { IfErr result (λ e. e ≡ check_fault.Memory) }
     {
-        self.add(alloc, "integer", Meaning::Kind(Type::Ordinal(integers())))?;
-        self.add(alloc, "boolean", Meaning::Kind(Type::Ordinal(booleans())))?;
-        self.add(alloc, "char", Meaning::Kind(Type::Ordinal(characters())))?;
-        self.add(alloc, "queue", Meaning::Kind(Type::Queue))
+        self.add(alloc, "integer", Meaning::Kind(values_of(Base::Integer)))?;
+        self.add(alloc, "boolean", Meaning::Kind(values_of(Base::Boolean)))?;
+        self.add(alloc, "char", Meaning::Kind(values_of(Base::Char)))?;
+        self.add(alloc, "queue", Meaning::Kind(ValueType::Queue))
     }
 
     fn add_constants(&mut self, alloc: Global) -> Result<(), CheckFault>
@@ -89,8 +101,9 @@ impl Table {
     }
 
     /// What the name stands for.
-    pub fn look(&self, name: &Name) -> Option<&Meaning>
-        ensures { option_map (λ m. meaning_view m.now) result ≡ spec.look name.now (scopes_of self.now) }
+    #[tactic(auto, unfolding(crate::specs::View::scopes_of))]
+    pub fn look(&self, name: &Name) -> Option<Meaning>
+        ensures { option_map (λ m. Some m) result ≡ spec.look name.now (scopes_of self.now) }
     {
         let mut found = None;
         for scope in &self.outer {
@@ -110,7 +123,7 @@ impl Table {
     /// Declares a name in the innermost scope; one that is there keeps its meaning.
     #[tactic(auto, unfolding(crate::specs::View::scopes_of, crate::specs::Scopes::add))]
     pub fn add(&mut self, alloc: Global, name: &str, meaning: Meaning) -> Result<(), CheckFault>
-        ensures ok { OnOk result (scopes_of self.new ≡ spec.add (scopes_of self.old) name.now (meaning_view meaning)) }
+        ensures ok { OnOk result (scopes_of self.new ≡ spec.add (scopes_of self.old) name.now (Some meaning)) }
         ensures memory { IfErr result (λ e. e ≡ check_fault.Memory) }
     {
         self.inner.add(alloc, name, meaning)
@@ -145,31 +158,71 @@ impl Table {
         Ok(())
     }
 
-    /// Closes the innermost scope.
-    #[tactic(auto, unfolding(crate::specs::View::scopes_of, crate::specs::Scopes::leave))]
-    pub fn leave(&mut self)
-        ensures { scopes_of self.new ≡ spec.leave (scopes_of self.old) }
+    /// The scope around the innermost one is taken out.
+    #[tactic(auto, using(crate::proofs::Names::popped, crate::proofs::Names::popped_none))]
+    fn take_around(&mut self, alloc: Global) -> Scope
+        ensures inner { self.new.inner ≡ self.old.inner }
+        ensures shapes { self.new.shapes ≡ self.old.shapes }
+        ensures outer { map scope_of self.new.outer.items ≡ (spec.last_of (map scope_of self.old.outer.items)).outer }
+        ensures taken { scope_of result ≡ (spec.last_of (map scope_of self.old.outer.items)).inner }
     {
-        if let Some(mut outer) = self.outer.pop() {
-            outer.seal(false);
-            self.inner = outer;
+        match self.outer.pop() {
+            Some(scope) => scope,
+            None => Scope::new(alloc),
         }
     }
 
-    /// The types of the parameters in the innermost scope, in their order.
+    /// Closes the innermost scope, and answers it.
+    #[tactic(auto, unfolding(crate::specs::View::scopes_of, crate::specs::Scopes::leave))]
+    pub fn leave(&mut self, alloc: Global) -> Scope
+        ensures scopes { scopes_of self.new ≡ spec.leave (scopes_of self.old) }
+        ensures left { scope_of result ≡ (scopes_of self.old).inner }
+    {
+        let mut around = self.take_around(alloc);
+        around.seal(false);
+        mem::replace(&mut self.inner, around)
+    }
+
+    /// Declares a name in the scope around the innermost one.
+    #[tactic(auto, unfolding(crate::specs::View::scopes_of, crate::specs::Scopes::add_around), using(crate::proofs::Names::map_push))]
+    pub fn add_around(
+        &mut self,
+        alloc: Global,
+        name: &str,
+        meaning: Meaning,
+    ) -> Result<(), CheckFault>
+        ensures ok { OnOk result (scopes_of self.new ≡ spec.add_around (scopes_of self.old) name.now (Some meaning)) }
+        ensures memory { IfErr result (λ e. e ≡ check_fault.Memory) }
+    {
+        let mut around = self.take_around(alloc);
+        around.add(alloc, name, meaning)?;
+        self.outer.push(around)?;
+        Ok(())
+    }
+
+    /// Keeps what is written at a token, where nothing was kept.
+    #[tactic(auto, unfolding(crate::specs::View::scopes_of, crate::specs::Scopes::keep))]
+    pub fn keep(&mut self, at: usize, shape: Shape) -> Result<(), CheckFault>
+        ensures ok { OnOk result (scopes_of self.new ≡ spec.keep (scopes_of self.old) at (shape_view shape)) }
+        ensures memory { IfErr result (λ e. e ≡ check_fault.Memory) }
+    {
+        self.shapes.keep(at, shape)
+    }
+
+    /// The parameters in the innermost scope, in their order.
     #[tactic(auto, unfolding(crate::specs::View::scopes_of))]
-    pub fn parameters(&self, alloc: Global) -> Result<Vec<Type>, CheckFault>
-        ensures ok { IfOk result (λ v. map type_view v.items ≡ spec.parameters_in (scopes_of self.now).inner.names) }
+    pub fn parameters(&self, alloc: Global) -> Result<Vec<Parameter>, CheckFault>
+        ensures ok { IfOk result (λ v. v.items ≡ spec.parameters_in (scopes_of self.now).inner.names) }
         ensures memory { IfErr result (λ e. e ≡ check_fault.Memory) }
     {
         self.inner.parameters(alloc)
     }
 
-    /// How many processes the innermost scope declares.
+    /// What the names of the innermost scope take.
     #[tactic(auto, unfolding(crate::specs::View::scopes_of))]
-    pub fn processes(&self) -> usize
-        ensures { result ≡ spec.processes (scopes_of self.now).inner.names }
+    pub fn census(&self) -> Census
+        ensures { result ≡ spec.census (scopes_of self.now).inner.names (scopes_of self.now).shapes }
     {
-        self.inner.processes()
+        self.inner.census(&self.shapes)
     }
 }

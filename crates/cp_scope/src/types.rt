@@ -1,21 +1,26 @@
 //! Types and what names stand for, as the checker keeps them.
 
-ghost use Rattle.std.specs.Prelude.{◌≡◌, IfOk, option_map};
+ghost use Rattle.std.specs.Prelude.{◌≡◌};
 ghost use Rattle.cp_scope.specs.Types as spec;
-ghost use Rattle.cp_scope.specs.View.{type_view, meaning_view};
 
 use cp_tree::declaration::SystemKind;
-use std::alloc::AllocError;
-use std::rc::Rc;
 
 /// What the values of an ordinal type are counted in.
-#[derive(Clone, Copy, Debug, PartialEq, Eq)]
+#[derive(Clone, Copy)]
 pub enum Base {
     Integer,
     Boolean,
     Char,
-    /// The enumeration that is written at this token.
-    Enumeration(usize),
+    /// The enumeration that is written at this token, and the number of its last constant.
+    Enumeration(usize, i64),
+}
+
+/// The values of an ordinal type, by their numbers.
+#[derive(Clone, Copy)]
+pub struct Range {
+    pub base: Base,
+    pub low: i64,
+    pub high: i64,
 }
 
 impl Base {
@@ -27,105 +32,119 @@ impl Base {
             (Base::Integer, Base::Integer) => true,
             (Base::Boolean, Base::Boolean) => true,
             (Base::Char, Base::Char) => true,
-            (Base::Enumeration(m), Base::Enumeration(n)) => m == n,
+            (Base::Enumeration(m, _), Base::Enumeration(n, _)) => m == n,
             _ => false,
         }
     }
-}
 
-/// The values of an ordinal type, by their numbers.
-#[derive(Clone, Copy, Debug, PartialEq, Eq)]
-pub struct Range {
-    pub base: Base,
-    pub low: i64,
-    pub high: i64,
-}
-
-/// All integers.
-pub fn integers() -> Range
-    ensures { result ≡ spec.integers }
-{
-    Range {
-        base: Base::Integer,
-        low: -32768,
-        high: 32767,
-    }
-}
-
-/// Both truth values.
-pub fn booleans() -> Range
-    ensures { result ≡ spec.booleans }
-{
-    Range {
-        base: Base::Boolean,
-        low: 0,
-        high: 1,
-    }
-}
-
-/// All characters.
-pub fn characters() -> Range
-    ensures { result ≡ spec.characters }
-{
-    Range {
-        base: Base::Char,
-        low: 0,
-        high: 127,
-    }
-}
-
-/// A type. Copies share their parts.
-#[cycle(types)]
-#[derive(Drop)]
-pub enum Type {
-    Ordinal(Range),
-    Queue,
-    Component(Rc<SystemType>),
-}
-
-/// A class, a monitor or a process: the token where it is written, and the types of its parameters.
-#[cycle(types)]
-#[derive(Drop)]
-pub struct SystemType {
-    pub at: usize,
-    pub kind: SystemKind,
-    pub parameters: Vec<Type>,
-}
-
-impl Type {
-    /// The same type once more.
-    pub fn share(&self) -> Result<Type, AllocError>
-        ensures { IfOk result (λ t. type_view t ≡ type_view self.now) }
+    /// All values of the base.
+    pub fn whole(self) -> Range
+        ensures { result ≡ spec.whole self }
     {
         match self {
-            Type::Ordinal(range) => Ok(Type::Ordinal(*range)),
-            Type::Queue => Ok(Type::Queue),
-            Type::Component(system) => Ok(Type::Component(system.clone()?)),
+            Base::Integer => Range {
+                base: self,
+                low: -32768,
+                high: 32767,
+            },
+            Base::Boolean => Range {
+                base: self,
+                low: 0,
+                high: 1,
+            },
+            Base::Char => Range {
+                base: self,
+                low: 0,
+                high: 127,
+            },
+            Base::Enumeration(_, last) => Range {
+                base: self,
+                low: 0,
+                high: last,
+            },
+        }
+    }
+}
+
+/// A type. Arrays, records and components are told apart by the token where they are written.
+#[derive(Clone, Copy)]
+pub enum ValueType {
+    Ordinal(Range),
+    Queue,
+    /// A set of values of its base; `[]` has none.
+    Set(Option<Range>),
+    Array(usize),
+    Record(usize),
+    Component(SystemKind, usize),
+}
+
+/// The type of the values of a base.
+pub fn values_of(base: Base) -> ValueType
+    ensures { result ≡ spec.values_of base }
+{
+    ValueType::Ordinal(base.whole())
+}
+
+impl ValueType {
+    /// Whether values of the two types agree.
+    pub fn agrees(self, other: ValueType) -> bool
+        ensures { result ≡ spec.agree self other }
+    {
+        match (self, other) {
+            (ValueType::Ordinal(a), ValueType::Ordinal(b)) => a.base.is_same(b.base),
+            (ValueType::Queue, ValueType::Queue) => true,
+            (ValueType::Set(Some(a)), ValueType::Set(Some(b))) => a.base.is_same(b.base),
+            (ValueType::Set(_), ValueType::Set(_)) => true,
+            (ValueType::Array(m), ValueType::Array(n)) => m == n,
+            (ValueType::Record(m), ValueType::Record(n)) => m == n,
+            (ValueType::Component(_, m), ValueType::Component(_, n)) => m == n,
+            _ => false,
         }
     }
 
-    /// Whether values of the two types agree.
-    pub fn agrees(&self, other: &Type) -> bool
-        ensures { result ≡ spec.agree (type_view self.now) (type_view other.now) }
+    /// Whether the two types are one, as those of a `var` parameter and its argument have to be.
+    pub fn is_same(self, other: ValueType) -> bool
+        ensures { result ≡ spec.same self other }
     {
         match (self, other) {
-            (Type::Ordinal(a), Type::Ordinal(b)) => a.base.is_same(b.base),
-            (Type::Queue, Type::Queue) => true,
-            (Type::Component(a), Type::Component(b)) => a.at == b.at,
+            (ValueType::Ordinal(a), ValueType::Ordinal(b)) => same_range(a, b),
+            (ValueType::Set(Some(a)), ValueType::Set(Some(b))) => same_range(a, b),
+            (ValueType::Set(None), ValueType::Set(Some(_))) => false,
+            (ValueType::Set(Some(_)), ValueType::Set(None)) => false,
+            _ => self.agrees(other),
+        }
+    }
+
+    /// Whether the values are numbers of this base.
+    pub fn is_of(self, base: Base) -> bool
+        ensures { result ≡ spec.is_of base self }
+    {
+        match self {
+            ValueType::Ordinal(range) => range.base.is_same(base),
             _ => false,
         }
     }
 
     /// Whether the values of the type are ordered.
-    pub fn is_ordinal(&self) -> bool
-        ensures { result ≡ spec.is_ordinal (type_view self.now) }
+    pub fn is_ordinal(self) -> bool
+        ensures { result ≡ spec.is_ordinal self }
     {
-        matches!(self, Type::Ordinal(_))
+        match self {
+            ValueType::Ordinal(_) => true,
+            _ => false,
+        }
     }
 }
 
+/// Whether two ordinal types have the same values.
+fn same_range(left: Range, right: Range) -> bool
+    ensures { result ≡ spec.same_range left right }
+{
+    left.base.is_same(right.base) && left.low == right.low && left.high == right.high
+}
+
 /// A routine that each program has.
-#[derive(Clone, Copy, Debug, PartialEq, Eq)]
+#[derive(Clone, Copy)]
 pub enum Predeclared {
     Succ,
     Pred,
@@ -139,57 +158,55 @@ pub enum Predeclared {
 }
 
 /// What a name stands for.
-#[derive(Drop)]
+#[derive(Clone, Copy)]
 pub enum Meaning {
     /// A constant, by its number.
     Constant(Base, i64),
-    Kind(Type),
-    Variable(Type),
-    Parameter(Type),
+    Kind(ValueType),
+    Variable(ValueType),
+    Parameter(ValueType),
+    /// A `var` parameter.
+    Reference(ValueType),
+    /// The routine whose name stands at this token.
+    Routine(usize),
     Predeclared(Predeclared),
 }
 
 impl Meaning {
-    /// The same meaning once more.
-    pub fn share(&self) -> Result<Meaning, AllocError>
-        ensures { IfOk result (λ m. meaning_view m ≡ meaning_view self.now) }
-    {
-        match self {
-            Meaning::Constant(base, value) => Ok(Meaning::Constant(*base, *value)),
-            Meaning::Kind(kind) => Ok(Meaning::Kind(kind.share()?)),
-            Meaning::Variable(variable) => Ok(Meaning::Variable(variable.share()?)),
-            Meaning::Parameter(parameter) => Ok(Meaning::Parameter(parameter.share()?)),
-            Meaning::Predeclared(routine) => Ok(Meaning::Predeclared(*routine)),
-        }
-    }
-
     /// Whether it is visible from a system type where it is the program's.
-    pub fn is_open(&self) -> bool
-        ensures { result ≡ spec.is_open (meaning_view self.now) }
-    {
-        !matches!(self, Meaning::Variable(_))
-    }
-
-    /// The type of a parameter.
-    pub fn parameter_type(&self) -> Option<&Type>
-        ensures { option_map (λ t. type_view t.now) result ≡ spec.parameter_type (meaning_view self.now) }
+    pub fn is_open(self) -> bool
+        ensures { result ≡ spec.is_open self }
     {
         match self {
-            Meaning::Parameter(parameter) => Some(parameter),
-            _ => None,
+            Meaning::Variable(_) => false,
+            Meaning::Routine(_) => false,
+            _ => true,
         }
     }
+}
 
-    /// Whether a process is declared.
-    pub fn is_process_variable(&self) -> bool
-        ensures { result ≡ spec.is_process_variable (meaning_view self.now) }
+/// A parameter of a routine or of a system type.
+#[derive(Clone, Copy)]
+pub struct Parameter {
+    pub is_var: bool,
+    pub value_type: ValueType,
+}
+
+impl Meaning {
+    /// The parameter that it is, if it is one.
+    pub fn as_parameter(self) -> Option<Parameter>
+        ensures { result ≡ spec.parameter_of self }
     {
         match self {
-            Meaning::Variable(Type::Component(system)) => match system.kind {
-                SystemKind::Process => true,
-                _ => false,
-            },
-            _ => false,
+            Meaning::Parameter(value_type) => Some(Parameter {
+                is_var: false,
+                value_type,
+            }),
+            Meaning::Reference(value_type) => Some(Parameter {
+                is_var: true,
+                value_type,
+            }),
+            _ => None,
         }
     }
 }

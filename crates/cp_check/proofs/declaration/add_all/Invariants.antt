@@ -1,8 +1,8 @@
-use Rattle.std.proofs.Common.{◌≡◌, drop}
-use Rattle.cp_scope.specs.View.{scopes_of, meaning_view}
+use Rattle.std.proofs.Common.{◌≡◌, drop, Some}
+use Rattle.cp_scope.specs.View.{scopes_of}
 use Rattle.cp_check.specs.Declarations as spec
 use Rattle.cp_check.proofs.declaration.add_all.Given as goal
 
 -- what is left leads where all lead
 abbrev pub invariant-loop-name : goal.invariant-loop-name
-invariant-loop-name l = spec.add_names (scopes_of l.fn.table) l.names (meaning_view l.meaning) ≡ spec.add_names (scopes_of l.table) (drop l.name-index l.names) (meaning_view l.meaning)
+invariant-loop-name l = spec.add_names (scopes_of l.fn.table) l.names (Some l.meaning) ≡ spec.add_names (scopes_of l.table) (drop l.name-index l.names) (Some l.meaning)

@@ -6,4 +6,4 @@ use Rattle.cp_check.proofs.declaration.variable_groups.Given as goal
 
 -- what is left leads where all lead
 abbrev pub invariant-loop-node : goal.invariant-loop-node
-invariant-loop-node l = spec.variable_groups (scopes_of l.fn.table) (map variable_group_view l.nodes) ≡ spec.variable_groups (scopes_of l.table) (map variable_group_view (drop l.node-index l.nodes))
+invariant-loop-node l = spec.variable_steps l.spot (scopes_of l.fn.table) (map variable_group_view l.nodes) ≡ spec.variable_steps l.spot (scopes_of l.table) (map variable_group_view (drop l.node-index l.nodes))

@@ -1,8 +1,8 @@
 use Rattle.std.proofs.Common.{◌≡◌, ◌∙◌, ap, sym, map, option_map, Option, arith}
-use Rattle.cp_scope.specs.Types.{Meaning}
+use Rattle.cp_scope.specs.declared.types.Meaning.{Meaning}
 use Rattle.cp_scope.specs.Scopes.{look_outer, look_in, or_else}
 use Rattle.cp_scope.specs.View.{scopes_of, scope_of}
-use Rattle.cp_scope.proofs.Names.{seen, or_none, look_more, look_none, or_map}
+use Rattle.cp_scope.proofs.Names.{shown, or_none, look_more, look_none, or_map}
 use Rattle.cp_scope.proofs.table.Table.look.Goals as goal
 
 pub loop-scope-init : goal.loop-scope-init
@@ -13,7 +13,7 @@ loop-scope-init c = record {
 
 pub loop-scope-preserved : goal.loop-scope-preserved
 loop-scope-preserved c =
-    let got : option_map seen c.look.result ≡ look_in c.args.name.now (scope_of c.scope-item.result) = rw (← c.as_str.ensures) c.look.ensures in
+    let got : option_map shown c.look.result ≡ look_in c.args.name.now (scope_of c.scope-item.result) = rw (← c.as_str.ensures) c.look.ensures in
     record {
       same = c.loop-scope.invariant.same;
       found = c.loop-scope.invariant.found ∙ look_more c.args.name.now c.deref-scope-items.result.now c.loop-scope.scope-index c.scope-item.result c.loop-scope.found c.look.result c.or-found.result c.loop-scope-test.true c.scope-item.is got c.or-found.ensures;
@@ -22,10 +22,10 @@ loop-scope-preserved c =
 pub returns : goal.returns
 unfolding scopes_of
 returns c =
-    let got : option_map seen c.look-2.result ≡ look_in c.args.name.now (scope_of c.args.self.now.inner) = rw (← c.as_str-2.ensures) c.look-2.ensures in
-    let outer : look_outer c.args.name.now (map scope_of c.args.self.now.outer.items) ≡ option_map seen c.loop-scope.found =
+    let got : option_map shown c.look-2.result ≡ look_in c.args.name.now (scope_of c.args.self.now.inner) = rw (← c.as_str-2.ensures) c.look-2.ensures in
+    let outer : look_outer c.args.name.now (map scope_of c.args.self.now.outer.items) ≡ option_map shown c.loop-scope.found =
     c.loop-scope.invariant.found ∙ look_none scope_of c.args.name.now c.deref-scope-items.result.now c.loop-scope.scope-index _ (omega arith) in
-    ap (option_map seen) c.or.ensures
-    ∙ or_map seen c.look-2.result c.loop-scope.found
-    ∙ ap (λ (m : Option Meaning). or_else m (option_map seen c.loop-scope.found)) got
+    ap (option_map shown) c.or.ensures
+    ∙ or_map shown c.look-2.result c.loop-scope.found
+    ∙ ap (λ (m : Option (Option Meaning)). or_else m (option_map shown c.loop-scope.found)) got
     ∙ ap (or_else _) (sym outer)

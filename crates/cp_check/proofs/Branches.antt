@@ -1,0 +1,41 @@
+-- An `if` with two branches.
+use Rattle.std.proofs.Common.{◌≡◌, ◌∙◌, ℕ, Bool, false, Option, Some, Box, Global, rules, ap, sym, subst, Result, Ok, Err}
+use Rattle.cp_tree.specs.declared.expression.Expression as tree_expression
+use Rattle.cp_tree.specs.declared.statement.Statement as tree_statement
+use Rattle.cp_tree.specs.declared.statement.StatementKind as tree_kind
+use Rattle.cp_tree.specs.declared.statement.StatementKind.{the_lemmas}
+use Rattle.cp_tree.specs.declared.statement.StatementKind.TheVariants as kinds
+use Rattle.cp_tree.specs.Syntax.{Statement, if_else}
+use Rattle.cp_tree.specs.View.{expression_view, statement_view}
+use Rattle.cp_scope.specs.declared.fault.CheckFault.{CheckFault}
+use Rattle.cp_scope.specs.declared.fault.CheckFault.TheVariants.{Rule, LeftOut, Memory}
+use Rattle.cp_scope.specs.Scopes.{Scopes}
+use Rattle.cp_scope.specs.Judged.{Judged, both, ◌>>=◌, Refuses}
+use Rattle.cp_scope.specs.declared.count.Use.{Use}
+use Rattle.cp_check.specs.declared.operand.Context.{Context}
+use Rattle.cp_check.specs.declared.operand.Operand.{Operand}
+use Rattle.cp_check.specs.Expressions.{expression}
+use Rattle.cp_check.specs.Statements.{statement, together, test_then}
+use Rattle.cp_check.proofs.Judging.{refuses_both}
+
+shown : (at : ℕ) (e : tree_expression.Expression) (s t : Box tree_statement.Statement Global) → statement_view (record { at = at; kind = kinds.If e s (Some t) }) ≡ if_else at (expression_view e) (statement_view s.value) (statement_view t.value)
+shown at e s t = search (rules, the_lemmas)
+
+second_refuses : {A B C : Type 0} (e : CheckFault) (x : A) (b : Judged B) (k : A × B → Judged C) → Refuses e b → Refuses e (both (Ok x) b >>= k)
+second_refuses Memory x b k h = tt
+second_refuses (Rule at rule) x (Ok y) k h = absurd h
+second_refuses (Rule at rule) x (Err fs) k h = h
+second_refuses (LeftOut at) x (Ok y) k h = absurd h
+second_refuses (LeftOut at) x (Err fs) k h = h
+
+module _ (s : Scopes) (w : Context) (n : tree_statement.Statement) (test : tree_expression.Expression) (first second : Box tree_statement.Statement Global) (o : Option (Box tree_statement.Statement Global)) (is_if : n.kind ≡ kinds.If test first o) (is_some : o ≡ Some second) where
+  is_else : statement_view n ≡ if_else n.at (expression_view test) (statement_view first.value) (statement_view second.value)
+  is_else = ap (λ (k : tree_kind.StatementKind). statement_view (record { at = n.at; kind = k })) (is_if ∙ ap (λ (p : Option (Box tree_statement.Statement Global)). kinds.If test first p) is_some) ∙ shown n.at test first second
+
+  pub else_first : (e : CheckFault) → Refuses e (expression s w false (expression_view test)) → Refuses e (statement s w (statement_view n))
+  unfolding statement
+  else_first e h = rw is_else (refuses_both e _ _ (test_then n.at) h)
+
+  pub else_second : (e : CheckFault) (x : Operand) → expression s w false (expression_view test) ≡ Ok x → Refuses e (statement s w (statement_view first.value)) → Refuses e (statement s w (statement_view n))
+  unfolding statement
+  else_second e x i h = rw (is_else, i) (second_refuses e x _ (test_then n.at) (refuses_both e _ _ together h))

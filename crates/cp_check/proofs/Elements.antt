@@ -1,0 +1,14 @@
+-- Elements of a set constructor.
+use Rattle.std.proofs.Common.{◌≡◌, ℕ, ◌+◌, ◌<◌, ◌≤◌, Bool, true, ◌&&◌, List, length, get_or, drop, refl, add-one}
+use Rattle.std.proofs.Math.Seq.{drop-cons}
+use Rattle.std.proofs.lemmas.List.{drop_all}
+use Rattle.cp_scope.specs.declared.types.Base.{Base}
+use Rattle.cp_scope.specs.Types.{is_of}
+use Rattle.cp_check.specs.declared.operand.Operand.{Operand}
+use Rattle.cp_check.specs.Expressions.{are_elements}
+
+pub elements_split : (b : Base) (os : List Operand) (i : ℕ) (o : Operand) → i < length os → o ≡ get_or os i o → are_elements b (drop i os) ≡ is_of b o.value_type && are_elements b (drop (i + 1) os)
+elements_split b os i o within here = rw (add-one, drop-cons os i o, ← here) refl
+
+pub elements_none : (b : Base) (os : List Operand) (i : ℕ) → length os ≤ i → are_elements b (drop i os) ≡ true
+elements_none b os i h = rw (drop_all i os h) refl

@@ -1,0 +1,14 @@
+use Rattle.std.proofs.Common.{◌≡◌, rules, arith}
+use Rattle.cp_scope.specs.View.{scopes_of}
+use Rattle.cp_check.proofs.Branches.{else_first, else_second}
+use Rattle.cp_check.proofs.statement.+statement.Goals as goal
+
+pub statement-returns-in_err-test-in-Some : goal.statement-returns-in_err-test-in-Some
+statement-returns-in_err-test-in-Some t c =
+    let h = else_first (scopes_of c.args.table.now) c.args.context c.args.node.now c.in-If.test c.in-If.first c.in-Some.second c.in-If.second c.in-If.is c.in-Some.is c.in_err-test-in-Some.field-0.0 c.in_err-test-in-Some.ensures in
+    first_of (search (rules, h), grind (arith, h))
+
+pub statement-returns-in_err-uses-in-Some : goal.statement-returns-in_err-uses-in-Some
+statement-returns-in_err-uses-in-Some t c =
+    let h = else_second (scopes_of c.args.table.now) c.args.context c.args.node.now c.in-If.test c.in-If.first c.in-Some.second c.in-If.second c.in-If.is c.in-Some.is c.in_err-uses-in-Some.field-0.0 c.in_ok-test-in-Some.test c.in_ok-test-in-Some.ensures (rw c.deref-in-Some.ensures at c.in_err-uses-in-Some.ensures) in
+    first_of (search (rules, h), grind (arith, h))

@@ -1,0 +1,108 @@
+-- The rules of names with selectors.
+use Rattle.std.specs.Prelude.{ℕ, Bool, if◌then◌else◌, List, Option, Some, None, Result, Ok, Err}
+use Rattle.cp_tree.specs.declared.constant.Identifier.{Identifier}
+use Rattle.cp_scope.specs.declared.fault.Rule.TheVariants.{C1, C5, C8}
+use Rattle.cp_scope.specs.declared.types.ValueType.{ValueType}
+use Rattle.cp_scope.specs.declared.types.ValueType.TheVariants.{Ordinal, Array, Record, Component}
+use Rattle.cp_scope.specs.declared.types.Meaning.{Meaning}
+use Rattle.cp_scope.specs.declared.types.Meaning.TheVariants as meaning
+use Rattle.cp_scope.specs.declared.shape.ArrayShape.{ArrayShape}
+use Rattle.cp_scope.specs.declared.count.Use.{Use}
+use Rattle.cp_scope.specs.Types.{agree}
+use Rattle.cp_scope.specs.Counts.{no_use, both_uses}
+use Rattle.cp_scope.specs.Scopes.{Scopes, look, field_at, member_at, array_at}
+use Rattle.cp_scope.specs.Judged.{Judged, broken, silent, ◌>>=◌}
+use Rattle.cp_check.specs.declared.operand.Operand.{Operand}
+use Rattle.cp_check.specs.declared.operand.Named.{Named}
+use Rattle.cp_check.specs.declared.operand.Named.TheVariants.{Nothing, Constant, Variable, Parameter, Kind, Routine, Entry, Predeclared}
+use Rattle.cp_check.specs.declared.operand.Designated.{Designated}
+
+-- a name whose declaration has a fault breaks no rule
+abbrev pub found : ℕ → Option (Option Meaning) → Judged Meaning
+found at None = broken at C1
+found at (Some None) = silent
+found at (Some (Some m)) = Ok m
+
+unfoldable pub visible : Scopes → ℕ → List ℕ → Judged Meaning
+visible s at n = found at (look n s)
+
+abbrev pub named_of : Meaning → Named
+named_of (meaning.Constant b v) = Constant b
+named_of (meaning.Kind t) = Kind
+named_of (meaning.Variable t) = Variable t
+named_of (meaning.Parameter t) = Parameter t
+named_of (meaning.Reference t) = Variable t
+named_of (meaning.Routine n) = Routine n
+named_of (meaning.Predeclared p) = Predeclared p
+
+abbrev pub designated : ℕ → Use → Named → Designated
+designated at u n = record { named = n; name_at = at; uses = u }
+
+abbrev pub unselected : ℕ → Meaning → Judged Designated
+unselected at m = Ok (designated at no_use (named_of m))
+
+unfoldable pub begun : Scopes → Identifier → Judged Designated
+begun s i = visible s i.at i.name >>= unselected i.at
+
+abbrev pub type_of : Named → Option ValueType
+type_of (Variable t) = Some t
+type_of (Parameter t) = Some t
+type_of _ = None
+
+-- a part of a variable is a variable
+abbrev pub part_of : Named → ValueType → Named
+part_of (Variable u) t = Variable t
+part_of (Parameter u) t = Parameter t
+part_of _ t = Nothing
+
+-- ---- fields and routines
+
+abbrev pub with_field : ℕ → Designated → Option (Option Meaning) → Judged Designated
+with_field at d (Some (Some (meaning.Variable t))) = Ok (designated at d.uses (part_of d.named t))
+with_field at d _ = broken at C1
+
+abbrev pub field : Scopes → Identifier → Designated → ℕ → Judged Designated
+field s i d n = with_field i.at d (field_at n i.name s)
+
+abbrev pub with_entry : ℕ → Designated → Option (Option Meaning) → Judged Designated
+with_entry at d (Some (Some (meaning.Routine r))) = Ok (designated at d.uses (Entry r))
+with_entry at d _ = broken at C8
+
+abbrev pub entry : Scopes → Identifier → Designated → ℕ → Judged Designated
+entry s i d n = with_entry i.at d (member_at n i.name s)
+
+-- of parts that do not agree
+abbrev pub nothing : ℕ → Use → Designated
+nothing at u = designated at u Nothing
+
+abbrev pub selected_of : Scopes → Identifier → Designated → Option ValueType → Judged Designated
+selected_of s i d (Some (Record n)) = field s i d n
+selected_of s i d (Some (Component k n)) = entry s i d n
+selected_of s i d _ = Ok (nothing i.at d.uses)
+
+abbrev pub selected : Scopes → Identifier → Designated → Judged Designated
+selected s i d = selected_of s i d (type_of d.named)
+
+-- ---- elements
+
+abbrev pub element_of : Designated → Operand → Option ArrayShape → Named
+element_of d o (Some a) = if agree (Ordinal a.index) o.value_type then part_of d.named a.element else Nothing
+element_of d o None = Nothing
+
+abbrev pub element : Scopes → Designated → Operand → ℕ → Named
+element s d o n = element_of d o (array_at n s)
+
+abbrev pub indexed_of : Scopes → Designated → Operand → Option ValueType → Named
+indexed_of s d o (Some (Array n)) = element s d o n
+indexed_of s d o _ = Nothing
+
+abbrev pub indexed : Scopes → Designated → Operand → Designated
+indexed s d o = designated d.name_at (both_uses d.uses o.uses) (indexed_of s d o (type_of d.named))
+
+abbrev pub known_named : ℕ → Designated → Named → Judged Designated
+known_named at d Nothing = broken at C5
+known_named at d _ = Ok d
+
+-- the selectors fit what they select from
+abbrev pub known : ℕ → Designated → Judged Designated
+known at d = known_named at d d.named

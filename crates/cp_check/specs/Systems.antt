@@ -1,0 +1,133 @@
+-- The rules of system types and programs.
+use Rattle.std.specs.Prelude.{ℕ, Bool, true, false, if◌then◌else◌, List, [], ◌∷◌, ◌++◌, Option, Some, None, Result, Ok, Err}
+use Rattle.cp_tree.specs.declared.declaration.SystemKind.{SystemKind}
+use Rattle.cp_tree.specs.declared.declaration.SystemKind.TheVariants.{Class, Monitor, Process}
+use Rattle.cp_tree.specs.Syntax.{Group, Routine, System, Definition, type_definition, system_definition, SystemDefinition, ProgramPart, program_constants, program_types, program_variables}
+use Rattle.cp_scope.specs.declared.fault.CheckFault.{CheckFault}
+use Rattle.cp_scope.specs.declared.fault.CheckFault.TheVariants as check_fault
+use Rattle.cp_scope.specs.declared.fault.Rule.TheVariants.{C11, C13, C14, C15}
+use Rattle.cp_scope.specs.declared.types.ValueType.{ValueType}
+use Rattle.cp_scope.specs.declared.types.ValueType.TheVariants.{Component}
+use Rattle.cp_scope.specs.declared.types.Meaning.{Meaning}
+use Rattle.cp_scope.specs.declared.types.Meaning.TheVariants as meaning
+use Rattle.cp_scope.specs.declared.count.Use.{Use}
+use Rattle.cp_scope.specs.Counts.{plus, no_use}
+use Rattle.cp_scope.specs.Scopes.{Scopes, Heading, system_shape, census, parameters_in, enter, leave, keep}
+use Rattle.cp_scope.specs.Judged.{Judged, broken, left_out, ◌>>=◌, faults}
+use Rattle.cp_check.specs.declared.operand.Context.{Context}
+use Rattle.cp_check.specs.declared.types.Spot.TheVariants.{Permanent, Definition as Definition'}
+use Rattle.cp_check.specs.declared.types.Holding.{Holding}
+use Rattle.cp_check.specs.declared.types.Holding.TheVariants as holds
+use Rattle.cp_check.specs.Types.{Step, then_step, nothing, Typed, typed, type_named, holding}
+use Rattle.cp_check.specs.Statements.{statements}
+use Rattle.cp_check.specs.Declarations.{reserve_name, reserve_names, declared_all, kind_declared, constant_steps, variable_steps, part_steps}
+
+-- ---- parameters
+
+abbrev pub component_admitted : ℕ → SystemKind → SystemKind → ValueType → Judged ValueType
+component_admitted at owner Process t = broken at C15
+component_admitted at owner Monitor t = Ok t
+component_admitted at Class Class t = Ok t
+component_admitted at owner Class t = broken at C14
+
+-- the type of a parameter of a system type
+abbrev pub admitted : ℕ → SystemKind → Holding → ValueType → Judged ValueType
+admitted at owner holds.Plain t = Ok t
+admitted at owner holds.Queue t = broken at C15
+admitted at owner holds.Queues t = broken at C11
+admitted at owner (holds.Component k) t = component_admitted at owner k t
+admitted at owner (holds.Components k) t = broken at C13
+
+abbrev pub admitted_in : Scopes → ℕ → SystemKind → ValueType → Judged ValueType
+admitted_in s at owner t = admitted at owner (holding s t) t
+
+unfoldable pub parameter_type : SystemKind → Scopes → Group → Judged ValueType
+parameter_type owner s g = type_named s g.type_name.at g.type_name.name >>= admitted_in s g.type_name.at owner
+
+abbrev pub to_parameter : ValueType → Judged Meaning
+to_parameter t = Ok (meaning.Parameter t)
+
+unfoldable pub group_step : SystemKind → Scopes → Group → Step
+group_step owner s g = then_step (reserve_names s g.names) (λ after. declared_all g.names (parameter_type owner after g >>= to_parameter) after)
+
+unfoldable pub group_steps : SystemKind → Scopes → List Group → Step
+group_steps owner s [] = nothing s
+group_steps owner s (g ∷ gs) = then_step (group_step owner s g) (λ after. group_steps owner after gs)
+
+-- ---- system types
+
+abbrev pub routines : Scopes → List Routine → Step
+routines s [] = nothing s
+routines s (r ∷ rs) = record { faults = check_fault.LeftOut r.at ∷ []; scopes = s }
+
+-- the declarations of a system type
+unfoldable pub inside : Scopes → System → Step
+inside s y =
+    then_step (group_steps y.kind s y.parameters) (λ a.
+    then_step (part_steps (Permanent (Some y.kind)) a y.parts) (λ b.
+    routines b y.routines))
+
+-- an initial statement takes its function calls, and the greatest need of what it calls
+abbrev pub need_of : Use → ℕ
+need_of u = plus u.calls u.need
+
+-- what an initial statement takes, and what is visible there
+pub record Opened : Type 0 where
+  pub uses : Judged Use
+  pub scopes : Scopes
+
+abbrev pub after_faults : {A : Type 0} → List CheckFault → Judged A → Judged A
+after_faults [] j = j
+after_faults (f ∷ fs) j = Err ((f ∷ fs) ++ faults j)
+
+abbrev pub initial_context : SystemKind → Context
+initial_context k = record { owner = Some k; routine = None }
+
+abbrev pub opened_step : System → Step → Opened
+opened_step y d = record { uses = after_faults d.faults (statements d.scopes (initial_context y.kind) (Ok no_use) y.body.statements); scopes = d.scopes }
+
+unfoldable pub opened : Scopes → System → Opened
+opened s y = opened_step y (inside s y)
+
+abbrev pub system_heading : Scopes → Heading
+system_heading s = record { is_entry = false; parameters = parameters_in s.inner.names; result = None }
+
+-- out of a system type, which is written at a token
+unfoldable pub closed : Scopes → ℕ → Use → Scopes
+closed s at u = keep (leave s) at (system_shape s.inner (system_heading s) (census s.inner.names s.shapes) (need_of u))
+
+abbrev pub use_of : Judged Use → Use
+use_of (Ok u) = u
+use_of (Err fs) = no_use
+
+abbrev pub to_component : SystemKind → ℕ → Use → Judged ValueType
+to_component k at u = Ok (Component k at)
+
+abbrev pub closed_type : System → Opened → Typed
+closed_type y o = record { type = o.uses >>= to_component y.kind y.at; scopes = closed o.scopes y.at (use_of o.uses) }
+
+-- the variables around a system type are not visible in it
+unfoldable pub system_typed : Scopes → System → Typed
+system_typed s y = closed_type y (opened (enter true s) y)
+
+unfoldable pub defined : Scopes → Definition → Typed
+defined s (type_definition t) = typed s Definition' t
+defined s (system_definition y) = system_typed s y
+
+-- ---- the program's declarations
+
+unfoldable pub definition_step : Scopes → SystemDefinition → Step
+definition_step s d = then_step (reserve_name s d.name) (λ after. kind_declared d.name (defined after d.value))
+
+unfoldable pub definition_steps : Scopes → List SystemDefinition → Step
+definition_steps s [] = nothing s
+definition_steps s (d ∷ ds) = then_step (definition_step s d) (λ after. definition_steps after ds)
+
+unfoldable pub program_part_step : Scopes → ProgramPart → Step
+program_part_step s (program_constants at ds) = constant_steps s ds
+program_part_step s (program_types at ds) = definition_steps s ds
+program_part_step s (program_variables at gs) = variable_steps (Permanent None) s gs
+
+unfoldable pub program_part_steps : Scopes → List ProgramPart → Step
+program_part_steps s [] = nothing s
+program_part_steps s (d ∷ ds) = then_step (program_part_step s d) (λ after. program_part_steps after ds)

@@ -1,0 +1,75 @@
+//! Constants.
+
+ghost use Rattle.std.specs.Prelude.{◌≡◌};
+ghost use Rattle.cp_scope.specs.Judged.{Judges};
+ghost use Rattle.cp_scope.specs.View.{scopes_of};
+ghost use Rattle.cp_check.specs.Constants as spec;
+
+use crate::name::visible;
+use cp_scope::fault::{CheckFault, Rule, broken};
+use cp_scope::table::Table;
+use cp_scope::types::{Base, Meaning};
+use cp_tree::constant::{Constant, ConstantKind, Identifier, Sign};
+
+/// A constant's base and number.
+#[derive(Clone, Copy)]
+pub struct Number {
+    pub base: Base,
+    pub value: i64,
+}
+
+/// A number with its sign.
+fn signed(at: usize, sign: Option<Sign>, number: Number) -> Result<Number, CheckFault>
+    ensures { Judges (λ n. n) (spec.signed at sign number) result }
+{
+    match sign {
+        None => Ok(number),
+        Some(sign) => {
+            if number.base.is_same(Base::Integer) {
+                Ok(Number {
+                    base: number.base,
+                    value: match sign {
+                        Sign::Plus => number.value,
+                        Sign::Minus => number.value.wrapping_neg(),
+                    },
+                })
+            } else {
+                broken(at, Rule::C5)
+            }
+        }
+    }
+}
+
+/// A name in a constant's place.
+#[tactic(auto, unfolding(crate::specs::Constants::named))]
+fn named(table: &Table, name: &Identifier) -> Result<Number, CheckFault>
+    ensures { Judges (λ n. n) (spec.named (scopes_of table.now) name.now) result }
+{
+    match visible(table, name.at, &name.name)? {
+        Meaning::Constant(base, value) => Ok(Number { base, value }),
+        _ => broken(name.at, Rule::C3),
+    }
+}
+
+/// A constant.
+#[tactic(auto, unfolding(crate::specs::Constants::constant))]
+pub fn constant(table: &Table, node: &Constant) -> Result<Number, CheckFault>
+    ensures { Judges (λ n. n) (spec.constant (scopes_of table.now) node.now) result }
+{
+    let at = node.at;
+    match &node.kind {
+        ConstantKind::Number(sign, value) => signed(
+            at,
+            *sign,
+            Number {
+                base: Base::Integer,
+                value: *value as i64,
+            },
+        ),
+        ConstantKind::Name(sign, name) => signed(at, *sign, named(table, name)?),
+        ConstantKind::Character(code) => Ok(Number {
+            base: Base::Char,
+            value: *code as i64,
+        }),
+    }
+}

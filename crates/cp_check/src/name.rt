@@ -1,0 +1,181 @@
+//! Names with their selectors.
+
+ghost use Rattle.std.specs.Prelude.{◌≡◌};
+ghost use Rattle.cp_scope.specs.Judged.{Judges};
+ghost use Rattle.cp_scope.specs.View.{scopes_of};
+ghost use Rattle.cp_check.specs.Names as spec;
+
+use crate::operand::{Designated, Named, Operand};
+use cp_scope::count::Use;
+use cp_scope::fault::{CheckFault, Rule, broken};
+use cp_scope::table::Table;
+use cp_scope::types::{Meaning, ValueType};
+use cp_text::token::Name;
+use cp_tree::constant::Identifier;
+
+/// What a name stands for.
+#[tactic(auto, unfolding(crate::specs::Names::visible))]
+pub fn visible(table: &Table, at: usize, name: &Name) -> Result<Meaning, CheckFault>
+    ensures { Judges (λ m. m) (spec.visible (scopes_of table.now) at name.now) result }
+{
+    match table.look(name) {
+        Some(meaning) => Ok(meaning),
+        None => broken(at, Rule::C1),
+    }
+}
+
+/// What a meaning is without selectors.
+fn named(meaning: Meaning) -> Named
+    ensures { result ≡ spec.named_of meaning }
+{
+    match meaning {
+        Meaning::Constant(base, _) => Named::Constant(base),
+        Meaning::Kind(_) => Named::Kind,
+        Meaning::Variable(value_type) => Named::Variable(value_type),
+        Meaning::Parameter(value_type) => Named::Parameter(value_type),
+        Meaning::Reference(value_type) => Named::Variable(value_type),
+        Meaning::Routine(at) => Named::Routine(at),
+        Meaning::Predeclared(routine) => Named::Predeclared(routine),
+    }
+}
+
+/// A name without selectors.
+#[tactic(auto, unfolding(crate::specs::Names::begun))]
+pub fn begun(table: &Table, name: &Identifier) -> Result<Designated, CheckFault>
+    ensures { Judges (λ d. d) (spec.begun (scopes_of table.now) name.now) result }
+{
+    let meaning = visible(table, name.at, &name.name)?;
+    Ok(Designated {
+        named: named(meaning),
+        name_at: name.at,
+        uses: Use::nothing(),
+    })
+}
+
+impl Named {
+    /// The type of a variable or a parameter.
+    fn value_type(self) -> Option<ValueType>
+        ensures { result ≡ spec.type_of self }
+    {
+        match self {
+            Named::Variable(value_type) => Some(value_type),
+            Named::Parameter(value_type) => Some(value_type),
+            _ => None,
+        }
+    }
+
+    /// A part of this type.
+    fn part(self, value_type: ValueType) -> Named
+        ensures { result ≡ spec.part_of self value_type }
+    {
+        match self {
+            Named::Variable(_) => Named::Variable(value_type),
+            Named::Parameter(_) => Named::Parameter(value_type),
+            _ => Named::Nothing,
+        }
+    }
+}
+
+/// A field of a record.
+fn field(
+    table: &Table,
+    name: &Identifier,
+    whole: Designated,
+    written: usize,
+) -> Result<Designated, CheckFault>
+    ensures { Judges (λ d. d) (spec.field (scopes_of table.now) name.now whole written) result }
+{
+    match table.shapes().field(written, &name.name) {
+        Some(Meaning::Variable(value_type)) => Ok(Designated {
+            named: whole.named.part(value_type),
+            name_at: name.at,
+            uses: whole.uses,
+        }),
+        _ => broken(name.at, Rule::C1),
+    }
+}
+
+/// A routine of a component.
+fn entry(
+    table: &Table,
+    name: &Identifier,
+    whole: Designated,
+    system: usize,
+) -> Result<Designated, CheckFault>
+    ensures { Judges (λ d. d) (spec.entry (scopes_of table.now) name.now whole system) result }
+{
+    match table.shapes().member(system, &name.name) {
+        Some(Meaning::Routine(at)) => Ok(Designated {
+            named: Named::Entry(at),
+            name_at: name.at,
+            uses: whole.uses,
+        }),
+        _ => broken(name.at, Rule::C8),
+    }
+}
+
+fn nothing(at: usize, uses: Use) -> Designated
+    ensures { result ≡ spec.nothing at uses }
+{
+    Designated {
+        named: Named::Nothing,
+        name_at: at,
+        uses,
+    }
+}
+
+/// What stands behind a period.
+pub fn selected(
+    table: &Table,
+    name: &Identifier,
+    whole: Designated,
+) -> Result<Designated, CheckFault>
+    ensures { Judges (λ d. d) (spec.selected (scopes_of table.now) name.now whole) result }
+{
+    match whole.named.value_type() {
+        Some(ValueType::Record(written)) => field(table, name, whole, written),
+        Some(ValueType::Component(_, system)) => entry(table, name, whole, system),
+        _ => Ok(nothing(name.at, whole.uses)),
+    }
+}
+
+/// An element of an array.
+fn element(table: &Table, whole: Designated, index: Operand, array: usize) -> Named
+    ensures { result ≡ spec.element (scopes_of table.now) whole index array }
+{
+    match table.shapes().array(array) {
+        Some(shape) => {
+            if ValueType::Ordinal(shape.index).agrees(index.value_type) {
+                whole.named.part(shape.element)
+            } else {
+                Named::Nothing
+            }
+        }
+        None => Named::Nothing,
+    }
+}
+
+/// What an index selects.
+pub fn indexed(table: &Table, whole: Designated, index: Operand) -> Designated
+    ensures { result ≡ spec.indexed (scopes_of table.now) whole index }
+{
+    let named = match whole.named.value_type() {
+        Some(ValueType::Array(array)) => element(table, whole, index, array),
+        _ => Named::Nothing,
+    };
+    Designated {
+        named,
+        name_at: whole.name_at,
+        uses: whole.uses.and(index.uses),
+    }
+}
+
+/// The selectors fit what they select from.
+pub fn known(at: usize, designated: Designated) -> Result<Designated, CheckFault>
+    ensures { Judges (λ d. d) (spec.known at designated) result }
+{
+    match designated.named {
+        Named::Nothing => broken(at, Rule::C5),
+        _ => Ok(designated),
+    }
+}

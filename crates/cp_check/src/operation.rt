@@ -1,0 +1,239 @@
+//! The rules of operations.
+
+ghost use Rattle.std.specs.Prelude.{◌≡◌};
+ghost use Rattle.cp_scope.specs.Judged.{Judges};
+ghost use Rattle.cp_check.specs.Operations as spec;
+
+use crate::operand::{Operand, base_value, value};
+use cp_scope::count::Use;
+use cp_scope::fault::{CheckFault, Rule, broken};
+use cp_scope::types::{Base, Predeclared, Range, ValueType};
+use cp_tree::constant::Sign;
+use cp_tree::expression::{Addition, Multiplication, Relation};
+
+/// A number where both are numbers.
+fn number(at: usize, left: Operand, right: Operand) -> Option<Operand>
+    ensures { result ≡ spec.number at left right }
+{
+    if left.value_type.is_of(Base::Integer) && right.value_type.is_of(Base::Integer) {
+        Some(base_value(at, Base::Integer, left.uses.and(right.uses)))
+    } else {
+        None
+    }
+}
+
+/// The type of an operation on two sets, which agree.
+fn set_type(left: Option<Range>, right: Option<Range>) -> ValueType
+    ensures { result ≡ spec.set_type left right }
+{
+    match left {
+        Some(_) => ValueType::Set(left),
+        None => ValueType::Set(right),
+    }
+}
+
+/// A set where both are sets that agree.
+fn set(at: usize, left: Operand, right: Operand) -> Option<Operand>
+    ensures { result ≡ spec.set at left right }
+{
+    match (left.value_type, right.value_type) {
+        (ValueType::Set(a), ValueType::Set(b)) => {
+            if left.value_type.agrees(right.value_type) {
+                Some(value(at, set_type(a, b), left.uses.and(right.uses)))
+            } else {
+                None
+            }
+        }
+        _ => None,
+    }
+}
+
+/// A truth value or a set where both are such.
+fn truth_or_set(at: usize, left: Operand, right: Operand) -> Option<Operand>
+    ensures { result ≡ spec.truth_or_set at left right }
+{
+    if left.value_type.is_of(Base::Boolean) && right.value_type.is_of(Base::Boolean) {
+        Some(base_value(at, Base::Boolean, left.uses.and(right.uses)))
+    } else {
+        set(at, left, right)
+    }
+}
+
+/// A term more in a sum; nothing where the operands do not agree.
+pub fn added(
+    at: usize,
+    operation: Addition,
+    left: Option<Operand>,
+    right: Operand,
+) -> Option<Operand>
+    ensures { result ≡ spec.added at operation left right }
+{
+    let left = left?;
+    match operation {
+        Addition::Plus => number(at, left, right),
+        Addition::Minus => number(at, left, right).or(set(at, left, right)),
+        Addition::Or => truth_or_set(at, left, right),
+    }
+}
+
+/// A factor more in a term; nothing where the operands do not agree.
+pub fn multiplied(
+    at: usize,
+    operation: Multiplication,
+    left: Option<Operand>,
+    right: Operand,
+) -> Option<Operand>
+    ensures { result ≡ spec.multiplied at operation left right }
+{
+    let left = left?;
+    match operation {
+        Multiplication::And => truth_or_set(at, left, right),
+        _ => number(at, left, right),
+    }
+}
+
+/// The first term of a sum with its sign.
+pub fn signed(at: usize, sign: Option<Sign>, operand: Operand) -> Option<Operand>
+    ensures { result ≡ spec.signed at sign operand }
+{
+    match sign {
+        None => Some(operand),
+        Some(_) => {
+            if operand.value_type.is_of(Base::Integer) {
+                Some(base_value(at, Base::Integer, operand.uses))
+            } else {
+                None
+            }
+        }
+    }
+}
+
+/// The operands of a node agree.
+pub fn agreed(at: usize, operand: Option<Operand>) -> Result<Operand, CheckFault>
+    ensures { Judges (λ o. o) (spec.agreed at operand) result }
+{
+    match operand {
+        Some(operand) => Ok(operand),
+        None => broken(at, Rule::C5),
+    }
+}
+
+/// Whether a relation stands between two operands.
+fn relates(relation: Relation, left: ValueType, right: ValueType) -> bool
+    ensures { result ≡ spec.relates relation left right }
+{
+    match relation {
+        Relation::In => match (left, right) {
+            (ValueType::Ordinal(a), ValueType::Set(Some(b))) => a.base.is_same(b.base),
+            (ValueType::Ordinal(_), ValueType::Set(None)) => true,
+            _ => false,
+        },
+        Relation::Equal | Relation::NotEqual => match (left, right) {
+            (ValueType::Ordinal(_), ValueType::Ordinal(_)) => left.agrees(right),
+            (ValueType::Set(_), ValueType::Set(_)) => left.agrees(right),
+            _ => false,
+        },
+        _ => match (left, right) {
+            (ValueType::Ordinal(_), ValueType::Ordinal(_)) => left.agrees(right),
+            _ => false,
+        },
+    }
+}
+
+/// The truth of a relation.
+pub fn related(
+    at: usize,
+    relation: Relation,
+    left: Operand,
+    right: Operand,
+) -> Result<Operand, CheckFault>
+    ensures { Judges (λ o. o) (spec.related at relation (left, right)) result }
+{
+    if relates(relation, left.value_type, right.value_type) {
+        Ok(base_value(at, Base::Boolean, left.uses.and(right.uses)))
+    } else {
+        broken(at, Rule::C5)
+    }
+}
+
+/// The contrary of a truth value.
+pub fn negated(at: usize, operand: Operand) -> Result<Operand, CheckFault>
+    ensures { Judges (λ o. o) (spec.negated at operand) result }
+{
+    if operand.value_type.is_of(Base::Boolean) {
+        Ok(base_value(at, Base::Boolean, operand.uses))
+    } else {
+        broken(at, Rule::C5)
+    }
+}
+
+/// A call of a predeclared function with its one argument.
+fn applied_to(
+    at: usize,
+    function: Predeclared,
+    operand: Operand,
+    uses: Use,
+) -> Result<Operand, CheckFault>
+    ensures { Judges (λ o. o) (spec.applied_to at function operand uses) result }
+{
+    match function {
+        Predeclared::Succ | Predeclared::Pred => match operand.value_type {
+            ValueType::Ordinal(range) => Ok(base_value(at, range.base, uses)),
+            _ => broken(at, Rule::C5),
+        },
+        Predeclared::Ord => match operand.value_type {
+            ValueType::Ordinal(_) => Ok(base_value(at, Base::Integer, uses)),
+            _ => broken(at, Rule::C5),
+        },
+        Predeclared::Chr => {
+            if operand.value_type.is_of(Base::Integer) {
+                Ok(base_value(at, Base::Char, uses))
+            } else {
+                broken(at, Rule::C5)
+            }
+        }
+        Predeclared::Abs => {
+            if operand.value_type.is_of(Base::Integer) {
+                Ok(base_value(at, Base::Integer, uses))
+            } else {
+                broken(at, Rule::C5)
+            }
+        }
+        Predeclared::Empty => {
+            if operand.is_queue() {
+                Ok(base_value(at, Base::Boolean, uses))
+            } else {
+                broken(at, Rule::C5)
+            }
+        }
+        _ => broken(at, Rule::C5),
+    }
+}
+
+/// Whether a predeclared routine is a function.
+pub fn is_function(routine: Predeclared) -> bool
+    ensures { result ≡ spec.is_function routine }
+{
+    match routine {
+        Predeclared::Delay | Predeclared::Continue | Predeclared::Display => false,
+        _ => true,
+    }
+}
+
+/// A call of a predeclared routine as a value.
+pub fn applied(
+    at: usize,
+    function: Predeclared,
+    operands: &[Operand],
+    uses: Use,
+) -> Result<Operand, CheckFault>
+    ensures { Judges (λ o. o) (spec.applied at function operands.now uses) result }
+{
+    if !is_function(function) {
+        return broken(at, Rule::C5);
+    }
+    match operands {
+        [operand] => applied_to(at, function, *operand, uses),
+        _ => broken(at, Rule::C7),
+    }
+}

@@ -1,0 +1,390 @@
+//! Types as they are written.
+
+ghost use Rattle.std.specs.Prelude.{◌≡◌, ◌<◌, ◌^◌, OnOk, length};
+ghost use Rattle.cp_scope.specs.Judged.{Judges, Finds};
+ghost use Rattle.cp_scope.specs.View.{scopes_of};
+ghost use Rattle.cp_tree.specs.View.{type_view, simple_view};
+ghost use Rattle.cp_check.specs.Types as spec;
+
+use crate::constant::{Number, constant};
+use crate::name::visible;
+use cp_scope::count::times;
+use cp_scope::fault::{CheckFault, Rule, broken, left_out};
+use cp_scope::shape::{ArrayShape, Shape};
+use cp_scope::table::Table;
+use cp_scope::types::{Base, Meaning, Range, ValueType};
+use cp_text::token::Name;
+use cp_tree::constant::Identifier;
+use cp_tree::declaration::SystemKind;
+use cp_tree::types::{Simple, SimpleKind, Type, TypeKind};
+use std::alloc::Global;
+
+/// Where a type stands.
+#[derive(Clone, Copy)]
+pub enum Spot {
+    /// Of a permanent variable of the program or of a system type.
+    Permanent(Option<SystemKind>),
+    /// In a type definition.
+    Definition,
+    /// Of an array's elements.
+    Element,
+    /// Of a set's values.
+    Base,
+    Other,
+}
+
+/// What queues and components a type holds.
+#[derive(Clone, Copy)]
+pub enum Holding {
+    Plain,
+    Queue,
+    Queues,
+    Component(SystemKind),
+    Components(SystemKind),
+}
+
+/// What queues and components a type holds.
+pub fn held_by(table: &Table, value_type: ValueType) -> Holding
+    ensures { result ≡ spec.holding (scopes_of table.now) value_type }
+{
+    match value_type {
+        ValueType::Queue => Holding::Queue,
+        ValueType::Component(kind, _) => Holding::Component(kind),
+        ValueType::Array(at) => match table.shapes().array(at) {
+            Some(array) => match array.element {
+                ValueType::Queue => Holding::Queues,
+                ValueType::Component(kind, _) => Holding::Components(kind),
+                _ => Holding::Plain,
+            },
+            None => Holding::Plain,
+        },
+        _ => Holding::Plain,
+    }
+}
+
+/// Whether components of a kind stand among the variables of an owner.
+fn may_own(owner: Option<SystemKind>, kind: SystemKind) -> bool
+    ensures { result ≡ spec.may_own owner kind }
+{
+    match kind {
+        SystemKind::Class => true,
+        SystemKind::Monitor => match owner {
+            Some(SystemKind::Class) => false,
+            _ => true,
+        },
+        SystemKind::Process => match owner {
+            None => true,
+            Some(_) => false,
+        },
+    }
+}
+
+/// Whether a queue stands at a spot.
+fn may_queue(spot: Spot) -> bool
+    ensures { result ≡ spec.may_queue spot }
+{
+    match spot {
+        Spot::Permanent(Some(SystemKind::Monitor)) => true,
+        Spot::Element => true,
+        _ => false,
+    }
+}
+
+/// Whether an array of queues stands at a spot.
+fn may_queues(spot: Spot) -> bool
+    ensures { result ≡ spec.may_queues spot }
+{
+    match spot {
+        Spot::Permanent(Some(SystemKind::Monitor)) => true,
+        Spot::Definition => true,
+        _ => false,
+    }
+}
+
+/// Whether a component stands at a spot.
+fn may_component(spot: Spot, kind: SystemKind) -> bool
+    ensures { result ≡ spec.may_component spot kind }
+{
+    match spot {
+        Spot::Permanent(owner) => may_own(owner, kind),
+        Spot::Element => true,
+        _ => false,
+    }
+}
+
+/// Whether an array of components stands at a spot.
+fn may_components(spot: Spot, kind: SystemKind) -> bool
+    ensures { result ≡ spec.may_components spot kind }
+{
+    match spot {
+        Spot::Permanent(owner) => may_own(owner, kind),
+        Spot::Definition => true,
+        _ => false,
+    }
+}
+
+/// Queues and components stand only where they may; what is no base of a set is looked at later.
+fn spotted(
+    at: usize,
+    spot: Spot,
+    held: Holding,
+    value_type: ValueType,
+) -> Result<ValueType, CheckFault>
+    ensures { Judges (λ t. t) (spec.spotted at spot held value_type) result }
+{
+    match spot {
+        Spot::Base => return Ok(value_type),
+        _ => {}
+    }
+    match held {
+        Holding::Plain => Ok(value_type),
+        Holding::Queue => {
+            if may_queue(spot) {
+                Ok(value_type)
+            } else {
+                broken(at, Rule::C11)
+            }
+        }
+        Holding::Queues => {
+            if may_queues(spot) {
+                Ok(value_type)
+            } else {
+                broken(at, Rule::C11)
+            }
+        }
+        Holding::Component(kind) => {
+            if may_component(spot, kind) {
+                Ok(value_type)
+            } else {
+                broken(at, Rule::C13)
+            }
+        }
+        Holding::Components(kind) => {
+            if may_components(spot, kind) {
+                Ok(value_type)
+            } else {
+                broken(at, Rule::C13)
+            }
+        }
+    }
+}
+
+/// The type of a name.
+#[tactic(auto, unfolding(crate::specs::Types::type_named))]
+pub fn type_named(table: &Table, at: usize, name: &Name) -> Result<ValueType, CheckFault>
+    ensures { Judges (λ t. t) (spec.type_named (scopes_of table.now) at name.now) result }
+{
+    match visible(table, at, name)? {
+        Meaning::Kind(value_type) => Ok(value_type),
+        _ => broken(at, Rule::C4),
+    }
+}
+
+/// The type of a name where it stands at a spot.
+#[tactic(auto, unfolding(crate::specs::Types::type_spotted))]
+pub fn type_spotted(
+    table: &Table,
+    spot: Spot,
+    at: usize,
+    name: &Name,
+) -> Result<ValueType, CheckFault>
+    ensures { Judges (λ t. t) (spec.type_spotted (scopes_of table.now) spot at name.now) result }
+{
+    let value_type = type_named(table, at, name)?;
+    spotted(at, spot, held_by(table, value_type), value_type)
+}
+
+/// A subrange.
+fn ranged(at: usize, low: Number, high: Number) -> Result<ValueType, CheckFault>
+    ensures { Judges (λ t. t) (spec.ranged at (low, high)) result }
+{
+    if !low.base.is_same(high.base) {
+        broken(at, Rule::C5)
+    } else if high.value < low.value {
+        broken(at, Rule::C18)
+    } else {
+        Ok(ValueType::Ordinal(Range {
+            base: low.base,
+            low: low.value,
+            high: high.value,
+        }))
+    }
+}
+
+/// A constant of an enumeration.
+#[tactic(auto, unfolding(crate::specs::Types::member))]
+fn member(
+    alloc: Global,
+    table: &mut Table,
+    base: Base,
+    number: usize,
+    node: &Identifier,
+) -> Result<(), CheckFault>
+    requires { number < 2 ^ 63 }
+    ensures faults { Finds (spec.member (scopes_of table.old) base number node.now).faults result }
+    ensures scopes { OnOk result (scopes_of table.new ≡ (spec.member (scopes_of table.old) base number node.now).scopes) }
+{
+    if table.is_declared(&node.name) {
+        return broken(node.at, Rule::C2);
+    }
+    table.add(
+        alloc,
+        node.name.as_str(),
+        Meaning::Constant(base, number as i64),
+    )
+}
+
+/// The constants of an enumeration.
+#[tactic(auto, using(crate::proofs::Members::members_passed, crate::proofs::Members::members_refused, crate::proofs::Members::members_none))]
+fn members(
+    alloc: Global,
+    table: &mut Table,
+    base: Base,
+    nodes: &[Identifier],
+) -> Result<(), CheckFault>
+    requires { length nodes.now < 2 ^ 63 }
+    ensures faults { Finds (spec.members (scopes_of table.old) base 0 nodes.now).faults result }
+    ensures scopes { OnOk result (scopes_of table.new ≡ (spec.members (scopes_of table.old) base 0 nodes.now).scopes) }
+{
+    for number in 0..nodes.len() {
+        member(alloc, table, base, number, &nodes[number])?;
+    }
+    Ok(())
+}
+
+/// A type that is written on its own.
+#[tactic(auto, unfolding(crate::specs::Types::simple_typed), using(crate::proofs::Judging::first_append))]
+fn simple(
+    alloc: Global,
+    table: &mut Table,
+    spot: Spot,
+    node: &Simple,
+) -> Result<ValueType, CheckFault>
+    ensures judged { Judges (λ t. t) (spec.simple_typed (scopes_of table.old) spot (simple_view node.now)).type result }
+    ensures scopes { OnOk result (scopes_of table.new ≡ (spec.simple_typed (scopes_of table.old) spot (simple_view node.now)).scopes) }
+{
+    let at = node.at;
+    match &node.kind {
+        SimpleKind::Name(name) => type_spotted(table, spot, at, name),
+        SimpleKind::Enumeration(names) => {
+            let base = Base::Enumeration(at, names.len() as i64 - 1);
+            members(alloc, table, base, names)?;
+            Ok(ValueType::Ordinal(base.whole()))
+        }
+        SimpleKind::Subrange(low, high) => {
+            let low = constant(table, low)?;
+            let high = constant(table, high)?;
+            ranged(at, low, high)
+        }
+    }
+}
+
+/// What queues and components an array of such elements holds.
+fn holding_array(element: ValueType) -> Holding
+    ensures { result ≡ spec.holding_array element }
+{
+    match element {
+        ValueType::Queue => Holding::Queues,
+        ValueType::Component(kind, _) => Holding::Components(kind),
+        _ => Holding::Plain,
+    }
+}
+
+/// The cells of a type, as many as the program may have.
+const CELLS: u32 = 8192;
+
+/// A type is not too large.
+fn limited(at: usize, cells: u32) -> Result<(), CheckFault>
+    ensures { Judges (λ u. u) (spec.limited at cells) result }
+{
+    if cells > CELLS {
+        broken(at, Rule::C20)
+    } else {
+        Ok(())
+    }
+}
+
+/// Arrays of components are not run yet.
+fn runnable(at: usize, shape: ArrayShape) -> Result<ArrayShape, CheckFault>
+    ensures { Judges (λ a. a) (spec.runnable at shape) result }
+{
+    match shape.element {
+        ValueType::Component(_, _) => left_out(at),
+        _ => Ok(shape),
+    }
+}
+
+/// The rules of an array type itself.
+#[tactic(auto, unfolding(crate::specs::Types::arrayed), using(crate::proofs::Judging::refuses_bind))]
+fn arrayed(
+    table: &Table,
+    spot: Spot,
+    at: usize,
+    index: ValueType,
+    element: ValueType,
+) -> Result<ArrayShape, CheckFault>
+    ensures { Judges (λ a. a) (spec.arrayed (scopes_of table.now) spot at (index, element)) result }
+{
+    match index {
+        ValueType::Ordinal(range) => {
+            let cells = times(range.count(), table.shapes().cells_of(element));
+            let _ = spotted(at, spot, holding_array(element), ValueType::Array(at))?;
+            limited(at, cells)?;
+            runnable(
+                at,
+                ArrayShape {
+                    index: range,
+                    element,
+                    cells,
+                },
+            )
+        }
+        _ => broken(at, Rule::C5),
+    }
+}
+
+/// The rules of a set type itself.
+fn set_of(at: usize, base_at: usize, base: ValueType) -> Result<ValueType, CheckFault>
+    ensures { Judges (λ t. t) (spec.set_of at base_at base) result }
+{
+    match base {
+        ValueType::Ordinal(range) => {
+            if range.low < 0 || 127 < range.high {
+                broken(at, Rule::C20)
+            } else {
+                Ok(ValueType::Set(Some(range)))
+            }
+        }
+        _ => broken(base_at, Rule::C5),
+    }
+}
+
+/// A type.
+#[tactic(auto, unfolding(crate::specs::Types::typed))]
+pub fn typed(
+    alloc: Global,
+    table: &mut Table,
+    spot: Spot,
+    node: &Type,
+) -> Result<ValueType, CheckFault>
+    ensures judged { Judges (λ t. t) (spec.typed (scopes_of table.old) spot (type_view node.now)).type result }
+    ensures scopes { OnOk result (scopes_of table.new ≡ (spec.typed (scopes_of table.old) spot (type_view node.now)).scopes) }
+{
+    let at = node.at;
+    match &node.kind {
+        TypeKind::Simple(inner) => simple(alloc, table, spot, inner),
+        TypeKind::Array(index, element) => {
+            let index = simple(alloc, table, Spot::Other, index)?;
+            let element = typed(alloc, table, Spot::Element, element)?;
+            let shape = arrayed(table, spot, at, index, element)?;
+            table.keep(at, Shape::Array(shape))?;
+            Ok(ValueType::Array(at))
+        }
+        TypeKind::Set(base) => {
+            let base_at = base.at;
+            let base = simple(alloc, table, Spot::Base, base)?;
+            set_of(at, base_at, base)
+        }
+        TypeKind::Record(_, _) => left_out(at),
+    }
+}
