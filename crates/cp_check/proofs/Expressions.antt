@@ -1,9 +1,8 @@
 -- Loops over the parts of expressions: what is left leads where all lead.
-use Rattle.std.proofs.Common.{◌≡◌, ℕ, suc, ◌+◌, ◌<◌, ◌≤◌, List, [], ◌∷◌, ◌++◌, length, get_or, drop, map, Bool, false, ◌&&◌, Option, Some, Result, Ok, Err, refl, sym, ap, subst, ◌∙◌, add-one, append_assoc}
+use Rattle.std.proofs.Common.{◌≡◌, ℕ, suc, ◌+◌, ◌<◌, ◌≤◌, List, [], ◌∷◌, ◌++◌, length, get_or, drop, Bool, false, ◌&&◌, Option, Some, Ok, Err, refl, sym, ap, subst, ◌∙◌, add-one, append_assoc}
 use Rattle.std.proofs.Math.Seq.{drop-cons}
 use Rattle.std.proofs.lemmas.List.{drop_all, append-nil}
 use Rattle.cp_scope.specs.declared.fault.CheckFault.{CheckFault}
-use Rattle.cp_scope.specs.declared.fault.CheckFault.TheVariants.{Rule, LeftOut, Memory}
 use Rattle.cp_scope.specs.declared.types.Parameter.{Parameter}
 use Rattle.cp_tree.specs.declared.expression.Addition.{Addition}
 use Rattle.cp_tree.specs.declared.expression.Multiplication.{Multiplication}
@@ -13,7 +12,7 @@ use Rattle.cp_tree.specs.declared.expression.Factor as tree_factor
 use Rattle.cp_tree.specs.declared.expression.Sum as tree_sum
 use Rattle.cp_check.proofs.Folded.{sum_shown, term_shown}
 use Rattle.cp_tree.specs.declared.expression.Selector as tree_selector
-use Rattle.cp_tree.specs.Syntax.{Terms, no_terms, more_terms as terms_more, Factors, no_factors, more_factors as factors_more, Selectors, no_selectors, more_selectors, Selector, field, index, designator as name_with}
+use Rattle.cp_tree.specs.Syntax.{Terms, no_terms, more_terms as terms_more, Factors, no_factors, more_factors as factors_more, Selectors, no_selectors, more_selectors, Selector, field, index}
 use Rattle.cp_tree.specs.View.{expression_view, expressions_view, expressions_of, sum_view, term_view, terms_view, terms_of, factor_view, factors_view, factors_of, selector_view, selectors_view, selectors_of}
 use Rattle.cp_scope.specs.Scopes.{Scopes}
 use Rattle.cp_scope.specs.Judged.{Judged, both, ◌>>=◌, Refuses}
@@ -21,11 +20,10 @@ use Rattle.cp_check.specs.declared.operand.Context.{Context}
 use Rattle.cp_check.specs.declared.operand.Operand.{Operand}
 use Rattle.cp_check.specs.declared.operand.Designated.{Designated}
 use Rattle.cp_check.specs.Operations as operations
-use Rattle.cp_check.specs.Names.{selected, known, begun}
-use Rattle.cp_tree.specs.declared.constant.Identifier.{Identifier}
-use Rattle.cp_check.specs.Expressions.{expression, designator, sum_value, is_unsigned, has_no_terms, has_no_factors, term_value, more_terms, factor, more_factors, selectors, selector, arguments, is_var_at, before, added, multiplied, at_index}
+use Rattle.cp_check.specs.Names.{selected}
+use Rattle.cp_check.specs.Expressions.{expression, sum_value, is_unsigned, has_no_terms, has_no_factors, term_value, more_terms, factor, more_factors, selectors, selector, arguments, is_var_at, before, added, multiplied, at_index}
 use Rattle.cp_check.proofs.Judging.{refuses_both, refuses_bind}
-use Rattle.cp_check.proofs.Fronts.{with_front}
+use Rattle.cp_check.proofs.Fronts.{with_front, front_refuses}
 
 -- ---- selectors
 
@@ -111,15 +109,6 @@ terms_none s w at total xs i h = rw (drop_all i xs h) refl
 with_more : (front : List Operand) (o : Operand) (j : Judged (List Operand)) → with_front front (both (Ok o) j >>= before) ≡ with_front (front ++ o ∷ []) j
 with_more front o (Ok ts) = ap (λ (us : List Operand). Ok us) (sym (append_assoc front (o ∷ []) ts))
 with_more front o (Err fs) = refl
-
-front_refuses : (e : CheckFault) (front : List Operand) (j : Judged (List Operand)) → Refuses e j → Refuses e (with_front front j)
-front_refuses Memory front j h = tt
-front_refuses (Rule at r) front (Ok ts) h = absurd h
-front_refuses (Rule at r) front (Err []) h = absurd h
-front_refuses (Rule at r) front (Err (g ∷ gs)) h = h
-front_refuses (LeftOut at) front (Ok ts) h = absurd h
-front_refuses (LeftOut at) front (Err []) h = absurd h
-front_refuses (LeftOut at) front (Err (g ∷ gs)) h = h
 
 module _ (s : Scopes) (w : Context) (ps : List Parameter) (front : List Operand) (xs : List tree_expression.Expression) (i : ℕ) (x : tree_expression.Expression) (within : i < length xs) (here : x ≡ get_or xs i x) where
   here_first : drop i xs ≡ x ∷ drop (i + 1) xs

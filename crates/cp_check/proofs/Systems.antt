@@ -3,21 +3,15 @@ use Rattle.std.proofs.Common.{◌≡◌, ℕ, suc, ◌+◌, ◌<◌, ◌≤◌, 
 use Rattle.cp_scope.specs.declared.fault.CheckFault.{CheckFault}
 use Rattle.cp_tree.specs.declared.declaration.SystemKind.{SystemKind}
 use Rattle.cp_tree.specs.declared.declaration.Group as tree_group
-use Rattle.cp_tree.specs.declared.declaration.Routine as tree_routine
 use Rattle.cp_tree.specs.declared.declaration.SystemDefinition as tree_definition
 use Rattle.cp_tree.specs.declared.declaration.ProgramPart as tree_part
-use Rattle.cp_tree.specs.Syntax.{Group, Routine, SystemDefinition, ProgramPart}
-use Rattle.cp_tree.specs.View.{group_view, routine_view, system_definition_view, program_part_view}
+use Rattle.cp_tree.specs.Syntax.{Group, SystemDefinition, ProgramPart}
+use Rattle.cp_tree.specs.View.{group_view, system_definition_view, program_part_view}
 use Rattle.cp_scope.specs.Scopes.{Scopes}
 use Rattle.cp_scope.specs.Judged.{RefusesList}
-use Rattle.cp_scope.specs.declared.fault.CheckFault.TheVariants as check_fault
 use Rattle.cp_check.specs.Types.{Step, then_step, nothing}
-use Rattle.cp_check.specs.Systems.{group_step, group_steps, routines, definition_step, definition_steps, program_part_step, program_part_steps}
+use Rattle.cp_check.specs.Systems.{group_step, group_steps, definition_step, definition_steps, program_part_step, program_part_steps}
 use Rattle.cp_check.proofs.Steps.{passed, refused, none}
-
-pub some_routines : (s : Scopes) (x : tree_routine.Routine) (xs : List tree_routine.Routine) → 1 ≤ length xs → x ≡ get_or xs 0 x → (routines s (map routine_view xs)).faults ≡ check_fault.LeftOut x.at ∷ []
-some_routines s x [] h e = absurd (omega (arith, h))
-some_routines s x (y ∷ ys) h e = ap (λ (z : tree_routine.Routine). check_fault.LeftOut z.at ∷ []) (sym e)
 
 -- ---- parameters
 

@@ -1,5 +1,5 @@
 -- The rules of constants.
-use Rattle.std.specs.Prelude.{ℕ, ℤ, pos, Bool, if◌then◌else◌, List, Option, Some, None, Result, Ok, Err}
+use Rattle.std.specs.Prelude.{ℕ, ℤ, pos, Bool, ◌&&◌, if◌then◌else◌, Option, Some, None, Ok}
 use Rattle.cp_tree.specs.declared.constant.Identifier.{Identifier}
 use Rattle.cp_tree.specs.declared.constant.Sign.{Sign}
 use Rattle.cp_tree.specs.declared.constant.Sign.TheVariants.{Plus, Minus}
@@ -16,6 +16,11 @@ use Rattle.cp_scope.specs.Judged.{Judged, broken, ◌>>=◌}
 use Rattle.cp_check.specs.declared.constant.Number.{Number}
 use Rattle.cp_check.specs.Names.{visible}
 use Rattle.std.specs.Int.{int_wrapping_neg, w64}
+use Rattle.std.specs.Ordering.{int_eq}
+
+-- two constants are one value
+abbrev pub same_number : Number → Number → Bool
+same_number m n = same_base m.base n.base && int_eq m.value n.value
 
 abbrev pub with_sign : Sign → ℤ → ℤ
 with_sign Plus v = v

@@ -1,5 +1,5 @@
 -- The rules of expressions.
-use Rattle.std.specs.Prelude.{ℕ, ◌+◌, Bool, true, false, ◌&&◌, if◌then◌else◌, List, [], ◌∷◌, slice_get, Option, Some, None, Result, Ok, Err}
+use Rattle.std.specs.Prelude.{ℕ, ◌+◌, Bool, true, false, ◌&&◌, if◌then◌else◌, List, [], ◌∷◌, slice_get, Option, Some, None, Ok}
 use Rattle.cp_tree.specs.declared.constant.Sign.{Sign}
 use Rattle.cp_tree.specs.declared.expression.Addition.{Addition}
 use Rattle.cp_tree.specs.declared.expression.Multiplication.{Multiplication}
@@ -10,11 +10,10 @@ use Rattle.cp_scope.specs.declared.types.Base.TheVariants.{Integer, Char}
 use Rattle.cp_scope.specs.declared.types.ValueType.{ValueType}
 use Rattle.cp_scope.specs.declared.types.ValueType.TheVariants as types
 use Rattle.cp_scope.specs.declared.types.Parameter.{Parameter}
-use Rattle.cp_scope.specs.declared.count.Use.{Use}
 use Rattle.cp_scope.specs.Types.{is_of, values_of, whole}
 use Rattle.cp_scope.specs.Counts.{no_use}
 use Rattle.cp_scope.specs.Scopes.{Scopes}
-use Rattle.cp_scope.specs.Judged.{Judged, broken, left_out, both, ◌>>=◌}
+use Rattle.cp_scope.specs.Judged.{Judged, broken, both, ◌>>=◌}
 use Rattle.cp_check.specs.declared.operand.Context.{Context}
 use Rattle.cp_check.specs.declared.operand.Operand.{Operand}
 use Rattle.cp_check.specs.declared.operand.Designated.{Designated}
@@ -52,12 +51,12 @@ are_elements b [] = true
 are_elements b (o ∷ os) = is_of b o.value_type && are_elements b os
 
 abbrev pub set_like : ℕ → List Operand → ValueType → Judged Operand
-set_like at os (types.Ordinal r) = if are_elements r.base os then left_out at else broken at C5
+set_like at os (types.Ordinal r) = if are_elements r.base os then Ok (value at (types.Set (Some (whole r.base))) (total_use no_use os)) else broken at C5
 set_like at os _ = broken at C5
 
--- a set is not run yet
+-- the elements are ordinal and agree; without elements it agrees with every set
 abbrev pub constructed : ℕ → List Operand → Judged Operand
-constructed at [] = left_out at
+constructed at [] = Ok (value at (types.Set None) no_use)
 constructed at (o ∷ os) = set_like at (o ∷ os) o.value_type
 
 -- ---- parts of expressions

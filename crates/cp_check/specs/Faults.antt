@@ -12,10 +12,12 @@ use Rattle.cp_scope.specs.Judged.{Judged, faults, IsFirstOf}
 use Rattle.cp_check.specs.declared.operand.Context.{Context}
 use Rattle.cp_check.specs.Types.{Step, then_step}
 use Rattle.cp_check.specs.Statements.{statements}
-use Rattle.cp_check.specs.Systems.{Opened, after_faults, need_of, routines, program_part_steps}
+use Rattle.cp_check.specs.Headings.{after_faults}
+use Rattle.cp_check.specs.Routines.{Opened, need_of, routine_steps}
+use Rattle.cp_check.specs.Systems.{program_part_steps}
 
 unfoldable pub declarations : Scopes → Program → Step
-declarations s p = then_step (program_part_steps s p.parts) (λ a. routines a p.routines)
+declarations s p = then_step (program_part_steps s p.parts) (λ a. routine_steps None a p.routines)
 
 abbrev pub program_context : Context
 program_context = record { owner = None; routine = None }

@@ -1,11 +1,15 @@
 pub mod Calls
+pub mod Cases
 pub mod Constants
 pub mod Declarations
 pub mod Expressions
 pub mod Faults
+pub mod Headings
 pub mod Names
 pub mod Operands
 pub mod Operations
+pub mod Routines
+pub mod Records
 pub mod Statements
 pub mod Systems
 pub mod Types

@@ -1,9 +1,8 @@
 -- The rules of statements.
-use Rattle.std.specs.Prelude.{ℕ, ◌+◌, nat_eq, Bool, true, false, ◌&&◌, not, if◌then◌else◌, List, [], ◌∷◌, ◌++◌, length, Option, Some, None, is_some, Result, Ok, Err}
-use Rattle.cp_tree.specs.declared.constant.Identifier.{Identifier}
+use Rattle.std.specs.Prelude.{ℕ, ◌+◌, nat_eq, Bool, true, false, ◌&&◌, not, if◌then◌else◌, List, [], ◌∷◌, ◌++◌, length, Option, Some, None, is_some, Ok, Err}
 use Rattle.cp_tree.specs.declared.declaration.SystemKind.{SystemKind}
 use Rattle.cp_tree.specs.declared.declaration.SystemKind.TheVariants.{Monitor, Process}
-use Rattle.cp_tree.specs.Syntax.{Expression, Expressions, no_expressions, more_expressions, Designator, designator as name_with, Start, Statement, empty, assign, invoke, block, if_then, if_else, case_of, while_do, repeat_until, for_do, cycle, init, Statements, no_statements, more_statements}
+use Rattle.cp_tree.specs.Syntax.{Expression, Expressions, no_expressions, more_expressions, Designator, designator as name_with, Start, Statement, empty, assign, invoke, block, if_then, if_else, case_of, while_do, repeat_until, for_do, cycle, init, Statements, no_statements, more_statements, Arms, no_arms, more_arms, Arm, arm}
 use Rattle.cp_scope.specs.declared.fault.Rule.TheVariants.{C5, C6, C7, C12, C16, C17, C21}
 use Rattle.cp_scope.specs.declared.fault.CheckFault.{CheckFault}
 use Rattle.cp_scope.specs.declared.types.Base.TheVariants.{Boolean}
@@ -15,19 +14,21 @@ use Rattle.cp_scope.specs.declared.types.Parameter as parameter
 use Rattle.cp_scope.specs.declared.count.Use.{Use}
 use Rattle.cp_scope.specs.Types.{agree, is_of, is_ordinal, values_of}
 use Rattle.cp_scope.specs.Counts.{no_use, both_uses}
-use Rattle.cp_scope.specs.Scopes.{Scopes, Heading, heading_at, shape_in, as_need}
-use Rattle.cp_scope.specs.Judged.{Judged, broken, left_out, both, ◌>>=◌}
+use Rattle.cp_scope.specs.Scopes.{Scopes, heading_at, shape_in, as_need}
+use Rattle.cp_scope.specs.Judged.{Judged, broken, both, ◌>>=◌}
 use Rattle.cp_check.specs.declared.operand.Context.{Context}
 use Rattle.cp_check.specs.declared.operand.Operand.{Operand}
 use Rattle.cp_check.specs.declared.operand.Named.{Named}
 use Rattle.cp_check.specs.declared.operand.Named.TheVariants.{Nothing, Constant, Variable, Parameter, Kind, Routine, Entry, Predeclared as Predeclared'}
 use Rattle.cp_check.specs.declared.operand.Designated.{Designated}
+use Rattle.cp_check.specs.declared.case.Label.{Label}
 use Rattle.cp_check.specs.declared.statement.Target.{Target}
 use Rattle.cp_check.specs.declared.statement.Target.TheVariants as target
 use Rattle.cp_check.specs.Operands.{is_queue, is_assignable}
 use Rattle.cp_check.specs.Operations.{is_function}
 use Rattle.cp_check.specs.Names.{begun}
 use Rattle.cp_check.specs.Calls.{called, fit_faults, fault, unless, is_own, place_of, total_use}
+use Rattle.cp_check.specs.Cases.{labels, joined, chosen}
 use Rattle.cp_check.specs.Expressions.{expression, designator, arguments}
 
 -- ---- targets
@@ -219,7 +220,15 @@ unfoldable mutual
   statement s w (repeat_until at ss e) = both (statements s w (Ok no_use) ss) (expression s w false e) >>= test_last at
   statement s w (for_do at i a d b t) = both (both (both (begun s i) (expression s w false a)) (expression s w false b)) (statement s w t) >>= count_over s w at i.at
   statement s w (init at is) = starts s w (Ok no_use) is >>= initial at w
-  statement s w (case_of at e as' b) = left_out at
+  statement s w (case_of at e as' b) = both (expression s w false e) (arms s w (Ok ([], no_use)) as') >>= chosen at
+
+  -- the labels of the arms, and what the arms take
+  pub arms : Scopes → Context → Judged (List Label × Use) → Arms → Judged (List Label × Use)
+  arms s w j no_arms = j
+  arms s w j (more_arms a as') = arms s w (both j (labelled s w a) >>= joined) as'
+
+  pub labelled : Scopes → Context → Arm → Judged (List Label × Use)
+  labelled s w (arm cs t) = both (labels s cs) (statement s w t)
 
   pub statements : Scopes → Context → Judged Use → Statements → Judged Use
   statements s w j no_statements = j

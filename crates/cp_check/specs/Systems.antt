@@ -2,24 +2,24 @@
 use Rattle.std.specs.Prelude.{ℕ, Bool, true, false, if◌then◌else◌, List, [], ◌∷◌, ◌++◌, Option, Some, None, Result, Ok, Err}
 use Rattle.cp_tree.specs.declared.declaration.SystemKind.{SystemKind}
 use Rattle.cp_tree.specs.declared.declaration.SystemKind.TheVariants.{Class, Monitor, Process}
-use Rattle.cp_tree.specs.Syntax.{Group, Routine, System, Definition, type_definition, system_definition, SystemDefinition, ProgramPart, program_constants, program_types, program_variables}
-use Rattle.cp_scope.specs.declared.fault.CheckFault.{CheckFault}
-use Rattle.cp_scope.specs.declared.fault.CheckFault.TheVariants as check_fault
+use Rattle.cp_tree.specs.Syntax.{Group, System, Definition, type_definition, system_definition, SystemDefinition, ProgramPart, program_constants, program_types, program_variables}
 use Rattle.cp_scope.specs.declared.fault.Rule.TheVariants.{C11, C13, C14, C15}
 use Rattle.cp_scope.specs.declared.types.ValueType.{ValueType}
 use Rattle.cp_scope.specs.declared.types.ValueType.TheVariants.{Component}
 use Rattle.cp_scope.specs.declared.types.Meaning.{Meaning}
 use Rattle.cp_scope.specs.declared.types.Meaning.TheVariants as meaning
 use Rattle.cp_scope.specs.declared.count.Use.{Use}
-use Rattle.cp_scope.specs.Counts.{plus, no_use}
+use Rattle.cp_scope.specs.Counts.{no_use}
 use Rattle.cp_scope.specs.Scopes.{Scopes, Heading, system_shape, census, parameters_in, enter, leave, keep}
-use Rattle.cp_scope.specs.Judged.{Judged, broken, left_out, ◌>>=◌, faults}
+use Rattle.cp_scope.specs.Judged.{Judged, broken, ◌>>=◌}
 use Rattle.cp_check.specs.declared.operand.Context.{Context}
 use Rattle.cp_check.specs.declared.types.Spot.TheVariants.{Permanent, Definition as Definition'}
 use Rattle.cp_check.specs.declared.types.Holding.{Holding}
 use Rattle.cp_check.specs.declared.types.Holding.TheVariants as holds
 use Rattle.cp_check.specs.Types.{Step, then_step, nothing, Typed, typed, type_named, holding}
 use Rattle.cp_check.specs.Statements.{statements}
+use Rattle.cp_check.specs.Headings.{after_faults}
+use Rattle.cp_check.specs.Routines.{Opened, need_of, routine_steps}
 use Rattle.cp_check.specs.Declarations.{reserve_name, reserve_names, declared_all, kind_declared, constant_steps, variable_steps, part_steps}
 
 -- ---- parameters
@@ -56,29 +56,12 @@ group_steps owner s (g ∷ gs) = then_step (group_step owner s g) (λ after. gro
 
 -- ---- system types
 
-abbrev pub routines : Scopes → List Routine → Step
-routines s [] = nothing s
-routines s (r ∷ rs) = record { faults = check_fault.LeftOut r.at ∷ []; scopes = s }
-
 -- the declarations of a system type
 unfoldable pub inside : Scopes → System → Step
 inside s y =
     then_step (group_steps y.kind s y.parameters) (λ a.
     then_step (part_steps (Permanent (Some y.kind)) a y.parts) (λ b.
-    routines b y.routines))
-
--- an initial statement takes its function calls, and the greatest need of what it calls
-abbrev pub need_of : Use → ℕ
-need_of u = plus u.calls u.need
-
--- what an initial statement takes, and what is visible there
-pub record Opened : Type 0 where
-  pub uses : Judged Use
-  pub scopes : Scopes
-
-abbrev pub after_faults : {A : Type 0} → List CheckFault → Judged A → Judged A
-after_faults [] j = j
-after_faults (f ∷ fs) j = Err ((f ∷ fs) ++ faults j)
+    routine_steps (Some y.kind) b y.routines))
 
 abbrev pub initial_context : SystemKind → Context
 initial_context k = record { owner = Some k; routine = None }

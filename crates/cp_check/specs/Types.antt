@@ -1,23 +1,23 @@
 -- The rules of types.
-use Rattle.std.specs.Prelude.{ℕ, ℤ, pos, ◌-ℤ◌, ◌+◌, nat_lt, int_lt, Bool, true, false, ◌||◌, if◌then◌else◌, List, [], ◌∷◌, ◌++◌, length, Option, Some, None, Result, Ok, Err}
+use Rattle.std.specs.Prelude.{ℕ, pos, ◌-ℤ◌, ◌+◌, nat_lt, int_lt, Bool, true, false, ◌||◌, if◌then◌else◌, List, [], ◌∷◌, ◌++◌, length, Option, Some, None, Ok, Err}
 use Rattle.cp_tree.specs.declared.constant.Identifier.{Identifier}
 use Rattle.cp_tree.specs.declared.declaration.SystemKind.{SystemKind}
 use Rattle.cp_tree.specs.declared.declaration.SystemKind.TheVariants.{Class, Monitor, Process}
-use Rattle.cp_tree.specs.Syntax.{Simple, type_name, enumeration, subrange, TypeTerm, simple, array_of, set_type, record_of}
+use Rattle.cp_tree.specs.Syntax.{Simple, type_name, enumeration, subrange, TypeTerm, simple, array_of, set_type, record_of, FieldGroups, no_fields, more_fields, FieldGroup, fields}
 use Rattle.cp_scope.specs.declared.fault.CheckFault.{CheckFault}
 use Rattle.cp_scope.specs.declared.fault.CheckFault.TheVariants as check_fault
 use Rattle.cp_scope.specs.declared.fault.Rule.TheVariants.{C2, C4, C5, C11, C13, C18, C20}
 use Rattle.cp_scope.specs.declared.types.Base.{Base}
 use Rattle.cp_scope.specs.declared.types.Base.TheVariants.{Enumeration}
 use Rattle.cp_scope.specs.declared.types.ValueType.{ValueType}
-use Rattle.cp_scope.specs.declared.types.ValueType.TheVariants.{Ordinal, Queue, Set, Array, Component}
+use Rattle.cp_scope.specs.declared.types.ValueType.TheVariants.{Ordinal, Queue, Set, Array, Record, Component}
 use Rattle.cp_scope.specs.declared.types.Meaning.{Meaning}
 use Rattle.cp_scope.specs.declared.types.Meaning.TheVariants as meaning
 use Rattle.cp_scope.specs.declared.shape.ArrayShape.{ArrayShape}
 use Rattle.cp_scope.specs.Types.{same_base, whole}
 use Rattle.cp_scope.specs.Counts.{times}
-use Rattle.cp_scope.specs.Scopes.{Scopes, array_shape, array_at, cells_of, count_of, is_declared, add, keep}
-use Rattle.cp_scope.specs.Judged.{Judged, broken, left_out, both, ◌>>=◌}
+use Rattle.cp_scope.specs.Scopes.{Scope, new_scope, Scopes, Shape, array_shape, record_shape, array_at, cells_of, census, count_of, is_declared, add, keep}
+use Rattle.cp_scope.specs.Judged.{Judged, broken, both, ◌>>=◌, faults}
 use Rattle.cp_check.specs.declared.constant.Number.{Number}
 use Rattle.cp_check.specs.declared.types.Spot.{Spot}
 use Rattle.cp_check.specs.declared.types.Spot.TheVariants as spot
@@ -25,6 +25,7 @@ use Rattle.cp_check.specs.declared.types.Holding.{Holding}
 use Rattle.cp_check.specs.declared.types.Holding.TheVariants as holds
 use Rattle.cp_check.specs.Names.{visible}
 use Rattle.cp_check.specs.Constants.{constant}
+use Rattle.cp_check.specs.Records.{Reserved, reserve_fields, add_fields, Fields, declared, then_fields, sound}
 
 -- ---- steps
 
@@ -154,19 +155,11 @@ simple_typed s p (subrange at a b) = record { type = both (constant s a) (consta
 abbrev pub limited : ℕ → ℕ → Judged (Unit {0})
 limited at n = if nat_lt 8192 n then broken at C20 else Ok tt
 
-abbrev pub runnable_of : ℕ → ArrayShape → ValueType → Judged ArrayShape
-runnable_of at a (Component k n) = left_out at
-runnable_of at a t = Ok a
-
--- an array of components is not run yet
-abbrev pub runnable : ℕ → ArrayShape → Judged ArrayShape
-runnable at a = runnable_of at a a.element
-
 abbrev pub array_of_range : Scopes → Spot → ℕ → ValueType → ValueType → Judged ArrayShape
 array_of_range s p at (Ordinal r) e =
     spotted at p (holding_array e) (Array at) >>= (λ t.
     limited at (times (count_of r) (cells_of e s.shapes)) >>= (λ u.
-    runnable at (record { index = r; element = e; cells = times (count_of r) (cells_of e s.shapes) })))
+    Ok (record { index = r; element = e; cells = times (count_of r) (cells_of e s.shapes) })))
 array_of_range s p at _ e = broken at C5
 
 unfoldable pub arrayed : Scopes → Spot → ℕ → ValueType × ValueType → Judged ArrayShape
@@ -194,8 +187,49 @@ simple_at (subrange at a b) = at
 abbrev pub set_typed : ℕ → ℕ → Typed → Typed
 set_typed at base_at b = record { type = b.type >>= set_of at base_at; scopes = b.scopes }
 
-unfoldable pub typed : Scopes → Spot → TypeTerm → Typed
-typed s p (simple at t) = simple_typed s p t
-typed s p (array_of at i e) = array_typed p at (simple_typed s spot.Other i).type (typed (simple_typed s spot.Other i).scopes spot.Element e)
-typed s p (set_type at b) = set_typed at (simple_at b) (simple_typed s spot.Base b)
-typed s p (record_of at gs b) = record { type = left_out at; scopes = s }
+-- ---- records
+
+abbrev pub as_field : Judged ValueType → Option Meaning
+as_field (Ok t) = Some (meaning.Variable t)
+as_field (Err fs) = None
+
+abbrev pub fields_declared : List Identifier → Reserved → Typed → Fields
+fields_declared is r t = record { faults = r.faults ++ faults t.type; fields = add_fields r.fields is (as_field t.type); scopes = t.scopes }
+
+-- a record takes what its fields take
+abbrev pub cells_in : Scope → Scopes → ℕ
+cells_in f s = (census f.names s.shapes).cells
+
+abbrev pub shaped : Scopes → ℕ → Scope → Judged Shape
+shaped s at f = limited at (cells_in f s) >>= (λ u. Ok (record_shape f (cells_in f s)))
+
+-- what is written at the word `record`
+abbrev pub recorded : ℕ → Fields → Judged Shape
+recorded at f = sound f >>= shaped f.scopes at
+
+abbrev pub keep_record : Scopes → ℕ → Judged Shape → Scopes
+keep_record s at (Ok d) = keep s at d
+keep_record s at (Err fs) = s
+
+abbrev pub to_record : ℕ → Shape → Judged ValueType
+to_record at d = Ok (Record at)
+
+abbrev pub record_typed : ℕ → Fields → Typed
+record_typed at f = record { type = recorded at f >>= to_record at; scopes = keep_record f.scopes at (recorded at f) }
+
+-- ---- types
+
+unfoldable mutual
+  pub typed : Scopes → Spot → TypeTerm → Typed
+  typed s p (simple at t) = simple_typed s p t
+  typed s p (array_of at i e) = array_typed p at (simple_typed s spot.Other i).type (typed (simple_typed s spot.Other i).scopes spot.Element e)
+  typed s p (set_type at b) = set_typed at (simple_at b) (simple_typed s spot.Base b)
+  typed s p (record_of at gs b) = record_typed at (groups_typed new_scope s gs)
+
+  -- fields that are declared behind others
+  pub groups_typed : Scope → Scopes → FieldGroups → Fields
+  groups_typed f s no_fields = declared f s
+  groups_typed f s (more_fields g gs) = then_fields (group_typed f s g) (λ before after. groups_typed before after gs)
+
+  pub group_typed : Scope → Scopes → FieldGroup → Fields
+  group_typed f s (fields is t) = fields_declared is (reserve_fields f is) (typed s spot.Other t)

@@ -10,8 +10,9 @@ ghost use Rattle.cp_check.specs.Faults.{faults_of};
 
 use crate::left_out::first;
 use crate::operand::Context;
+use crate::routine::{need_of, routines};
 use crate::statement::statements;
-use crate::system::{need_of, program_parts, routines};
+use crate::system::program_parts;
 use cp_scope::count::Use;
 use cp_scope::fault::{CheckFault, Rule, broken};
 use cp_scope::shape::Census;
@@ -42,7 +43,7 @@ fn declarations(alloc: Global, table: &mut Table, node: &Program) -> Result<(), 
     ensures scopes { OnOk result (scopes_of table.new ≡ (spec.declarations (scopes_of table.old) (program_view node.now)).scopes) }
 {
     program_parts(alloc, table, &node.parts)?;
-    routines(table, &node.routines)
+    routines(alloc, table, None, &node.routines)
 }
 
 /// The program's declarations and its initial statement.

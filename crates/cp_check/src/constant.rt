@@ -18,6 +18,15 @@ pub struct Number {
     pub value: i64,
 }
 
+impl Number {
+    /// Whether two constants are one value.
+    pub fn is_same(self, other: Number) -> bool
+        ensures { result ≡ spec.same_number self other }
+    {
+        self.base.is_same(other.base) && self.value == other.value
+    }
+}
+
 /// A number with its sign.
 fn signed(at: usize, sign: Option<Sign>, number: Number) -> Result<Number, CheckFault>
     ensures { Judges (λ n. n) (spec.signed at sign number) result }

@@ -7,12 +7,12 @@ ghost use Rattle.cp_tree.specs.View.{expression_view, expressions_view, expressi
 ghost use Rattle.cp_check.specs.Names.{begun};
 ghost use Rattle.cp_check.specs.Expressions as spec;
 
-use crate::call::{value_of, variable_of};
+use crate::call::{total_use, value_of, variable_of};
 use crate::name::{begun, indexed, known, selected};
 use crate::operand::{Context, Designated, Operand, base_value, value};
 use crate::operation::{added, agreed, multiplied, negated, related, signed};
 use cp_scope::count::Use;
-use cp_scope::fault::{CheckFault, Rule, broken, left_out};
+use cp_scope::fault::{CheckFault, Rule, broken};
 use cp_scope::table::Table;
 use cp_scope::types::{Base, Parameter, ValueType};
 use cp_tree::constant::{Identifier, Sign};
@@ -91,16 +91,17 @@ fn are_elements(base: Base, operands: &[Operand]) -> bool
     true
 }
 
-/// A set constructor, which is not run yet.
+/// A set constructor.
 fn constructed(at: usize, operands: &[Operand]) -> Result<Operand, CheckFault>
     ensures { Judges (λ o. o) (spec.constructed at operands.now) result }
 {
     match operands {
-        [] => left_out(at),
+        [] => Ok(value(at, ValueType::Set(None), Use::nothing())),
         [first, ..] => match first.value_type {
             ValueType::Ordinal(range) => {
                 if are_elements(range.base, operands) {
-                    left_out(at)
+                    let uses = total_use(Use::nothing(), operands);
+                    Ok(value(at, ValueType::Set(Some(range.base.whole())), uses))
                 } else {
                     broken(at, Rule::C5)
                 }

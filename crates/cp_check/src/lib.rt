@@ -2,15 +2,19 @@
 #![tactic(auto)]
 
 mod call;
+mod case;
 pub mod check;
 mod constant;
 mod declaration;
 mod expression;
 pub mod fault;
+mod heading;
 mod left_out;
 mod name;
 mod operand;
 mod operation;
+mod record;
+mod routine;
 mod statement;
 mod system;
 mod types;

@@ -1,25 +1,26 @@
 //! Statements.
 
-ghost use Rattle.std.specs.Prelude.{◌≡◌, map, Ok};
+ghost use Rattle.std.specs.Prelude.{◌≡◌, [], map, Ok};
 ghost use Rattle.cp_scope.specs.Judged.{Judges, Finds};
 ghost use Rattle.cp_scope.specs.View.{scopes_of};
-ghost use Rattle.cp_tree.specs.View.{statement_view, statements_view, statements_of, start_view, designator_view, expression_view, expressions_of, expressions_view};
+ghost use Rattle.cp_tree.specs.View.{statement_view, statements_view, statements_of, arm_view, arms_view, arms_of, start_view, designator_view, expression_view, expressions_of, expressions_view};
 ghost use Rattle.cp_scope.specs.Counts.{no_use};
 ghost use Rattle.cp_check.specs.Statements as spec;
 
 use crate::call::{called, fitted, is_own, place_of, total_use};
+use crate::case::{Label, chosen, labels};
 use crate::expression::{arguments, designator, expression};
 use crate::name::begun;
 use crate::operand::{Context, Designated, Named, Operand};
 use crate::operation::is_function;
 use cp_scope::count::Use;
-use cp_scope::fault::{CheckFault, Rule, broken, left_out};
+use cp_scope::fault::{CheckFault, Rule, broken};
 use cp_scope::table::Table;
 use cp_scope::types::{Base, Parameter, Predeclared, ValueType, values_of};
 use cp_tree::constant::Identifier;
 use cp_tree::declaration::SystemKind;
 use cp_tree::expression::{Designator, Expression};
-use cp_tree::statement::{Start, Statement, StatementKind};
+use cp_tree::statement::{Arm, Start, Statement, StatementKind};
 use std::alloc::Global;
 
 /// What stands on the left of an assignment.
@@ -513,8 +514,49 @@ fn statement(
         StatementKind::Init(nodes) => {
             initial(at, context, starts(alloc, table, context, nodes)?)
         }
-        StatementKind::Case(_, _, _) => left_out(at),
+        StatementKind::Case(selector, nodes, _) => {
+            let selector = expression(alloc, table, context, false, selector)?;
+            let (labels, uses) = arms(alloc, table, context, nodes)?;
+            chosen(at, selector, &labels, uses)
+        }
     }
+}
+
+/// The labels of an arm, and what it takes.
+#[cycle(statement)]
+#[tactic(auto, unfolding(crate::specs::Statements::labelled))]
+fn arm(
+    alloc: Global,
+    table: &Table,
+    context: Context,
+    node: &Arm,
+) -> Result<(Vec<Label>, Use), CheckFault>
+    ensures { Judges (λ p. (p.0.items, p.1)) (spec.labelled (scopes_of table.now) context (arm_view node.now)) result }
+{
+    let labels = labels(alloc, table, &node.labels)?;
+    let uses = statement(alloc, table, context, &node.body)?;
+    Ok((labels, uses))
+}
+
+/// The labels of arms, and what the arms take.
+#[cycle(statement)]
+#[tactic(auto, using(crate::proofs::Arms::arms_passed, crate::proofs::Arms::arms_refused, crate::proofs::Arms::arms_none))]
+fn arms(
+    alloc: Global,
+    table: &Table,
+    context: Context,
+    nodes: &[Arm],
+) -> Result<(Vec<Label>, Use), CheckFault>
+    ensures { Judges (λ p. (p.0.items, p.1)) (spec.arms (scopes_of table.now) context (Ok ([], no_use)) (arms_of (arms_view nodes.now))) result }
+{
+    let mut all = Vec::new(alloc);
+    let mut total = Use::nothing();
+    for node in nodes {
+        let (labels, uses) = arm(alloc, table, context, node)?;
+        all.extend_from_slice(&labels)?;
+        total = total.and(uses);
+    }
+    Ok((all, total))
 }
 
 /// Statements in their order.

@@ -3,7 +3,7 @@
 ghost use Rattle.std.specs.Prelude.{◌≡◌, map, OnOk, IfErr, Ok};
 ghost use Rattle.cp_scope.specs.Judged.{Judges, Finds};
 ghost use Rattle.cp_scope.specs.View.{scopes_of};
-ghost use Rattle.cp_tree.specs.View.{group_view, routine_view, system_view, definition_view, system_definition_view, program_part_view};
+ghost use Rattle.cp_tree.specs.View.{group_view, system_view, definition_view, system_definition_view, program_part_view};
 ghost use Rattle.cp_scope.specs.declared.fault.CheckFault.TheVariants as check_fault;
 ghost use Rattle.cp_check.specs.Systems as spec;
 
@@ -11,15 +11,16 @@ use crate::declaration::{
     add_all, add_one, constant_definitions, parts, reserve_name, reserve_names, variable_groups,
 };
 use crate::operand::Context;
+use crate::routine::{need_of, routines};
 use crate::statement::statements;
 use crate::types::{Holding, Spot, held_by, type_named, typed};
-use cp_scope::count::{Use, plus};
-use cp_scope::fault::{CheckFault, Rule, broken, left_out};
+use cp_scope::count::Use;
+use cp_scope::fault::{CheckFault, Rule, broken};
 use cp_scope::shape::{Heading, Shape};
 use cp_scope::table::Table;
 use cp_scope::types::{Meaning, ValueType};
 use cp_tree::declaration::{
-    Definition, Group, ProgramPart, ProgramPartKind, Routine, System, SystemDefinition, SystemKind,
+    Definition, Group, ProgramPart, ProgramPartKind, System, SystemDefinition, SystemKind,
 };
 use std::alloc::Global;
 
@@ -89,17 +90,6 @@ fn groups(
     Ok(())
 }
 
-/// No routine is run yet.
-#[tactic(auto, using(crate::proofs::Systems::some_routines))]
-pub fn routines(table: &Table, nodes: &[Routine]) -> Result<(), CheckFault>
-    ensures { Finds (spec.routines (scopes_of table.now) (map routine_view nodes.now)).faults result }
-{
-    match nodes {
-        [] => Ok(()),
-        [node, ..] => left_out(node.at),
-    }
-}
-
 /// The declarations of a system type.
 #[tactic(auto, unfolding(crate::specs::Systems::inside), using(crate::proofs::Judging::first_append))]
 fn inside(alloc: Global, table: &mut Table, node: &System) -> Result<(), CheckFault>
@@ -108,14 +98,7 @@ fn inside(alloc: Global, table: &mut Table, node: &System) -> Result<(), CheckFa
 {
     groups(alloc, table, node.kind, &node.parameters)?;
     parts(alloc, table, Spot::Permanent(Some(node.kind)), &node.parts)?;
-    routines(table, &node.routines)
-}
-
-/// What an initial statement needs.
-pub fn need_of(uses: Use) -> u32
-    ensures { result ≡ spec.need_of uses }
-{
-    plus(uses.calls, uses.need)
+    routines(alloc, table, Some(node.kind), &node.routines)
 }
 
 /// A system type in a scope of its own.

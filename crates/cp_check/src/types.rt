@@ -2,21 +2,24 @@
 
 ghost use Rattle.std.specs.Prelude.{◌≡◌, ◌<◌, ◌^◌, OnOk, length};
 ghost use Rattle.cp_scope.specs.Judged.{Judges, Finds};
-ghost use Rattle.cp_scope.specs.View.{scopes_of};
-ghost use Rattle.cp_tree.specs.View.{type_view, simple_view};
+ghost use Rattle.cp_scope.specs.Scopes.{new_scope};
+ghost use Rattle.cp_scope.specs.View.{scope_of, scopes_of, shape_view};
+ghost use Rattle.cp_tree.specs.View.{type_view, simple_view, field_group_view, field_groups_of, field_groups_view};
 ghost use Rattle.cp_check.specs.Types as spec;
 
 use crate::constant::{Number, constant};
 use crate::name::visible;
+use crate::record::{add_fields, reserve_fields};
 use cp_scope::count::times;
-use cp_scope::fault::{CheckFault, Rule, broken, left_out};
+use cp_scope::fault::{CheckFault, Rule, broken};
+use cp_scope::scope::Scope;
 use cp_scope::shape::{ArrayShape, Shape};
 use cp_scope::table::Table;
 use cp_scope::types::{Base, Meaning, Range, ValueType};
 use cp_text::token::Name;
 use cp_tree::constant::Identifier;
 use cp_tree::declaration::SystemKind;
-use cp_tree::types::{Simple, SimpleKind, Type, TypeKind};
+use cp_tree::types::{FieldGroup, Simple, SimpleKind, Type, TypeKind};
 use std::alloc::Global;
 
 /// Where a type stands.
@@ -304,16 +307,6 @@ fn limited(at: usize, cells: u32) -> Result<(), CheckFault>
     }
 }
 
-/// Arrays of components are not run yet.
-fn runnable(at: usize, shape: ArrayShape) -> Result<ArrayShape, CheckFault>
-    ensures { Judges (λ a. a) (spec.runnable at shape) result }
-{
-    match shape.element {
-        ValueType::Component(_, _) => left_out(at),
-        _ => Ok(shape),
-    }
-}
-
 /// The rules of an array type itself.
 #[tactic(auto, unfolding(crate::specs::Types::arrayed), using(crate::proofs::Judging::refuses_bind))]
 fn arrayed(
@@ -330,14 +323,11 @@ fn arrayed(
             let cells = times(range.count(), table.shapes().cells_of(element));
             let _ = spotted(at, spot, holding_array(element), ValueType::Array(at))?;
             limited(at, cells)?;
-            runnable(
-                at,
-                ArrayShape {
-                    index: range,
-                    element,
-                    cells,
-                },
-            )
+            Ok(ArrayShape {
+                index: range,
+                element,
+                cells,
+            })
         }
         _ => broken(at, Rule::C5),
     }
@@ -359,7 +349,64 @@ fn set_of(at: usize, base_at: usize, base: ValueType) -> Result<ValueType, Check
     }
 }
 
+/// Fields of one type.
+#[cycle(types)]
+#[tactic(auto, unfolding(crate::specs::Types::group_typed), using(crate::proofs::Judging::first_append))]
+fn field_group(
+    alloc: Global,
+    table: &mut Table,
+    fields: &mut Scope,
+    node: &FieldGroup,
+) -> Result<(), CheckFault>
+    ensures faults { Finds (spec.group_typed (scope_of fields.old) (scopes_of table.old) (field_group_view node.now)).faults result }
+    ensures fields { OnOk result (scope_of fields.new ≡ (spec.group_typed (scope_of fields.old) (scopes_of table.old) (field_group_view node.now)).fields) }
+    ensures scopes { OnOk result (scopes_of table.new ≡ (spec.group_typed (scope_of fields.old) (scopes_of table.old) (field_group_view node.now)).scopes) }
+{
+    reserve_fields(alloc, fields, &node.names)?;
+    let value_type = typed(alloc, table, Spot::Other, &node.field_type)?;
+    add_fields(alloc, fields, &node.names, Meaning::Variable(value_type))
+}
+
+/// The fields of a record.
+#[cycle(types)]
+#[tactic(auto, using(crate::proofs::Fields::groups_passed, crate::proofs::Fields::groups_refused, crate::proofs::Fields::groups_none))]
+fn field_groups(
+    alloc: Global,
+    table: &mut Table,
+    fields: &mut Scope,
+    nodes: &[FieldGroup],
+) -> Result<(), CheckFault>
+    ensures faults { Finds (spec.groups_typed (scope_of fields.old) (scopes_of table.old) (field_groups_of (field_groups_view nodes.now))).faults result }
+    ensures fields { OnOk result (scope_of fields.new ≡ (spec.groups_typed (scope_of fields.old) (scopes_of table.old) (field_groups_of (field_groups_view nodes.now))).fields) }
+    ensures scopes { OnOk result (scopes_of table.new ≡ (spec.groups_typed (scope_of fields.old) (scopes_of table.old) (field_groups_of (field_groups_view nodes.now))).scopes) }
+{
+    for node in nodes {
+        field_group(alloc, table, fields, node)?;
+    }
+    Ok(())
+}
+
+/// A record type.
+#[cycle(types)]
+#[tactic(auto, using(crate::proofs::Fields::sound_refuses))]
+fn record(
+    alloc: Global,
+    table: &mut Table,
+    at: usize,
+    nodes: &[FieldGroup],
+) -> Result<Shape, CheckFault>
+    ensures judged { Judges shape_view (spec.recorded at (spec.groups_typed new_scope (scopes_of table.old) (field_groups_of (field_groups_view nodes.now)))) result }
+    ensures scopes { OnOk result (scopes_of table.new ≡ (spec.groups_typed new_scope (scopes_of table.old) (field_groups_of (field_groups_view nodes.now))).scopes) }
+{
+    let mut fields = Scope::new(alloc);
+    field_groups(alloc, table, &mut fields, nodes)?;
+    let cells = fields.census(table.shapes()).cells;
+    limited(at, cells)?;
+    Ok(Shape::Record(fields, cells))
+}
+
 /// A type.
+#[cycle(types)]
 #[tactic(auto, unfolding(crate::specs::Types::typed))]
 pub fn typed(
     alloc: Global,
@@ -385,6 +432,10 @@ pub fn typed(
             let base = simple(alloc, table, Spot::Base, base)?;
             set_of(at, base_at, base)
         }
-        TypeKind::Record(_, _) => left_out(at),
+        TypeKind::Record(groups, _) => {
+            let shape = record(alloc, table, at, groups)?;
+            table.keep(at, shape)?;
+            Ok(ValueType::Record(at))
+        }
     }
 }

@@ -1,17 +1,16 @@
 -- A step keeps each process inside what was reserved for it.
-use Rattle.std.proofs.Common.{◌≡◌, ℕ, zero, suc, ◌+◌, ◌-◌, ◌<◌, ◌≤◌, ◌∙◌, ◌⊎◌, inl, inr, List, [], ◌∷◌, ◌++◌, length, Option, Some, None, Result, Ok, Err, Bool, true, false, ap, sym, refl, subst, arith, get_or-set_same, get_or-set_other, if◌then◌else◌}
+use Rattle.std.proofs.Common.{◌≡◌, ℕ, zero, suc, ◌+◌, ◌-◌, ◌<◌, ◌≤◌, ◌∙◌, ◌⊎◌, inl, inr, List, [], ◌∷◌, length, Option, Some, None, Result, Ok, Err, Bool, true, false, sym, refl, subst, arith, get_or-set_same, get_or-set_other, if◌then◌else◌}
 use Rattle.std.specs.Prelude.{ℤ, pos, slice_set, slice_index_or, ◌==◌}
 use Rattle.std.proofs.lemmas.Bool.{cases_eq}
 use Rattle.std.proofs.lemmas.List.{length-set}
-use Rattle.cp_slots.specs.Tables.{Tables, item_at, routine_at, process_at}
-use Rattle.cp_slots.specs.Fits.{IsSound, Nests, ListFits, InnerFits, ActionFits, ReadsWithin, AllRead}
+use Rattle.cp_slots.specs.Tables.{Tables, item_at, process_at}
+use Rattle.cp_slots.specs.Fits.{IsSound, ListFits, InnerFits, ActionFits, ReadsWithin, AllRead}
 use Rattle.cp_slots.specs.declared.expression.Expression.{Expression}
 use Rattle.cp_slots.specs.declared.expression.Expression.TheVariants.{Number, Permanent}
 use Rattle.cp_slots.specs.declared.item.Action.{Action}
 use Rattle.cp_slots.specs.declared.item.Action.TheVariants.{Empty, Block, Cycle, Start, Display}
 use Rattle.cp_machine.specs.declared.event.ErrorName.{ErrorName}
 use Rattle.cp_machine.specs.declared.shown.Shown.{Shown}
-use Rattle.cp_machine.specs.declared.shown.Shown.TheVariants.{Integer}
 use Rattle.cp_machine.specs.declared.state.Entry.{Entry}
 use Rattle.cp_machine.specs.declared.state.Entry.TheVariants.{Rest}
 use Rattle.cp_machine.specs.declared.state.Frame.{Frame}
@@ -19,7 +18,7 @@ use Rattle.cp_machine.specs.declared.state.Status.{Status}
 use Rattle.cp_machine.specs.declared.state.Status.TheVariants.{Ready, Ended}
 use Rattle.cp_machine.specs.declared.state.TheConstants.{LIMIT}
 use Rattle.cp_machine.specs.Fits.{FrameFits, MachineFits, StackFits}
-use Rattle.cp_machine.specs.Machine.{Machine, Thread, Stepped, thread_at, no_thread, with_thread, with_stack, with_status, with_cells, with_output, with_value, show_value, start_process, fault, act, take_top, step_at, is_unstarted, admitted, admitted_at}
+use Rattle.cp_machine.specs.Machine.{Machine, Thread, Stepped, thread_at, no_thread, with_thread, with_stack, with_status, with_cells, with_output, with_value, act, take_top, step_at, is_unstarted, admitted, admitted_at}
 use Rattle.cp_machine.specs.Stack.{rest_of}
 use Rattle.cp_machine.specs.Values.{value_at, values_at, written, Reads, AllReads}
 

@@ -1,12 +1,12 @@
 -- The opening state is the program's.
-use Rattle.std.proofs.Common.{◌≡◌, ℕ, ◌+◌, ◌-◌, ◌<◌, ◌≤◌, ◌∙◌, List, [], ◌∷◌, length, map, ap, sym, refl, subst, arith}
-use Rattle.std.specs.Prelude.{replicate, pos, slice_index_or}
+use Rattle.std.proofs.Common.{◌≡◌, ◌-◌, ◌<◌, [], length, map, sym, subst, arith}
+use Rattle.std.specs.Prelude.{pos}
 use Rattle.std.proofs.lemmas.List.{length-map, length-replicate, get_or-map}
 use Rattle.cp_slots.specs.Tables.{Tables, routine_at, process_at, no_process}
 use Rattle.cp_slots.specs.Fits.{IsSound}
 use Rattle.cp_machine.specs.declared.gates.Gates.{Gates}
 use Rattle.cp_machine.specs.Fits.{FrameFits, MachineFits, StackFits}
-use Rattle.cp_machine.specs.Machine.{Thread, thread_at, no_monitor, no_thread, unstarted_thread, still, opening}
+use Rattle.cp_machine.specs.Machine.{Thread, thread_at, no_monitor, no_thread, unstarted_thread, still}
 use Rattle.cp_machine.proofs.Keeping.{rest_fits}
 
 pub still_fits : (r : Tables) (gates : Gates) → IsSound r → MachineFits r (still r gates)

@@ -2,7 +2,7 @@
 use Rattle.std.proofs.Common.{◌≡◌, ℕ, ◌+◌, ◌<◌, ◌≤◌, ◌∙◌, ◌⊎◌, inl, inr, suc, subst, get_or-set_same, get_or-set_other, List, [], ◌∷◌, length, map, ap, sym, refl, arith}
 use Rattle.std.specs.Prelude.{slice_index_or, slice_set, vec_len, vec_capacity}
 use Rattle.std.proofs.lemmas.Bool.{cases_eq}
-use Rattle.std.proofs.lemmas.List.{get_or-map, get_or_default, get_or_read, length-set, length-map, length-reverse}
+use Rattle.std.proofs.lemmas.List.{get_or-map, get_or_read, length-set, length-map, length-reverse}
 use Rattle.cp_machine.specs.declared.state.Guard.{Guard}
 use Rattle.cp_machine.specs.declared.state.Process.{Process}
 use Rattle.cp_machine.specs.Machine.{Machine, Thread, monitor_of, thread_of, thread_at, no_thread}

@@ -1,14 +1,14 @@
 -- When a state is a program's: each process stays inside what was reserved for it.
-use Rattle.std.specs.Prelude.{◌≡◌, ◌+◌, ◌-◌, ◌<◌, ◌≤◌, ℕ, [], ◌∷◌, List, length, Option, Some, slice_index_or, vec_capacity, vec_len, None, IfSome}
-use Rattle.cp_slots.specs.Tables.{Tables, item_at, routine_at, process_at}
-use Rattle.cp_slots.specs.Fits.{Nests, ListFits}
+use Rattle.std.specs.Prelude.{◌≡◌, ◌+◌, ◌<◌, ◌≤◌, ℕ, [], ◌∷◌, List, length, Option, Some, slice_index_or, vec_capacity, vec_len, None, IfSome}
+use Rattle.cp_slots.specs.Tables.{Tables, item_at, routine_at}
+use Rattle.cp_slots.specs.Fits.{Nests}
 use Rattle.cp_machine.specs.declared.state.Entry.{Entry}
 use Rattle.cp_machine.specs.declared.state.Entry.TheVariants.{Rest}
 use Rattle.cp_machine.specs.declared.state.Frame.{Frame}
 use Rattle.cp_machine.specs.declared.state.Process.{Process}
 use Rattle.cp_machine.specs.declared.state.State.{State}
 use Rattle.cp_machine.specs.declared.state.TheConstants.{LIMIT}
-use Rattle.cp_machine.specs.Machine.{Machine, Thread, thread_at, machine_of}
+use Rattle.cp_machine.specs.Machine.{Machine, thread_at, machine_of}
 
 -- the routine is there, and so are the permanent cells that it may use
 pub record FrameFits (r : Tables) (f : Frame) : Type 0 where

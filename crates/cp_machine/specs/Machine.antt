@@ -1,8 +1,7 @@
 -- The slot machine as plain data, and one step of it.
-use Rattle.std.specs.Prelude.{position, remove, ◌≡◌, ◌+◌, ℕ, ◌∷◌, [], ◌++◌, List, length, Option, Some, None, Result, Ok, Err, ℤ, pos, Bool, true, false, map, replicate, slice_set, slice_index_or, ◌==◌, ◌&&◌, if◌then◌else◌}
+use Rattle.std.specs.Prelude.{position, remove, ℕ, ◌∷◌, [], ◌++◌, List, length, Option, Some, None, Result, Ok, Err, ℤ, pos, Bool, true, false, map, replicate, slice_set, slice_index_or, ◌==◌, if◌then◌else◌}
 use Rattle.std.specs.List.{filter, range_with_len, list_any}
 use Rattle.cp_slots.specs.Tables.{Tables, item_at, process_at, routine_at}
-use Rattle.cp_slots.specs.declared.expression.Expression.{Expression}
 use Rattle.cp_slots.specs.declared.item.Action.{Action}
 use Rattle.cp_slots.specs.declared.item.Action.TheVariants.{Empty, Block, Cycle, Start, Display}
 use Rattle.cp_slots.specs.declared.item.Item.{Item}
@@ -220,6 +219,11 @@ take_top r m pid (Rest at ∷ es) = act r m pid at (item_at r at) (item_at r at)
 -- one step of a process: the first of its remaining items is taken
 abbrev pub step_at : Tables → Machine → ℕ → Stepped
 step_at r m pid = take_top r m pid (thread_at m.threads pid).stack
+
+-- whether a step was no kernel call and no end
+abbrev pub is_local : Event → Bool
+is_local Local = true
+is_local _ = false
 
 -- whether a step counts
 abbrev pub succeeds : Event → Bool

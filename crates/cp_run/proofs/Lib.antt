@@ -1,5 +1,4 @@
 pub mod Choosing
-pub mod LocalSteps
 pub mod Owning
 pub mod Prefixes
 pub mod Running

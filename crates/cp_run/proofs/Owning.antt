@@ -1,15 +1,11 @@
--- What is known of a program's own state.
-use Rattle.std.proofs.Common.{◌≡◌, ◌∙◌, ℕ, zero, suc, ◌+◌, ◌<◌, ◌≤◌, Bool, true, false, List, [], ◌∷◌, ◌++◌, length, is_some as std_is_some, Option, None, Some, if◌then◌else◌, refl, sym, ap, arith, filter}
+-- Who is ready or in line in a program's own state.
+use Rattle.std.proofs.Common.{◌≡◌, ◌∙◌, ℕ, zero, suc, ◌+◌, Bool, true, false, [], ◌∷◌, ◌++◌, length, Some, if◌then◌else◌, refl, ap, arith, filter}
 use Rattle.std.specs.List.{range_with_len}
-use Rattle.std.proofs.lemmas.List.{length-map, get_or-set_same}
 use Rattle.std.proofs.lemmas.List.Elements.{filter-append}
 use Rattle.cp_slots.specs.Tables.{Tables}
-use Rattle.cp_machine.specs.declared.gates.Gates.{Gates}
 use Rattle.cp_machine.specs.declared.state.State.{State}
-use Rattle.cp_machine.specs.declared.state.Status.{Status}
-use Rattle.cp_machine.specs.declared.state.Status.TheVariants.{Ready}
-use Rattle.cp_machine.specs.Machine.{thread_of, Thread, thread_at, no_thread, is_ready_status, in_line_of, admitted_at, still, unstarted_thread, is_some}
-use Rattle.cp_machine.specs.System.{Machine, machine_of, opening, is_ready, ready_of, in_line, waiting_of, is_pending, admitted, IsStateOf}
+use Rattle.cp_machine.specs.System.{machine_of, is_ready, ready_of, in_line, waiting_of, IsStateOf}
+use Rattle.cp_machine.proofs.CallerLemmas.{threads_count, line_pending}
 use Rattle.cp_run.specs.Run.{those_below}
 use Rattle.cp_run.specs.Slots.{processes_of}
 
@@ -31,57 +27,9 @@ filtered f (suc n) =
 
 pub own_ready : (r : Tables) (s : State) → IsStateOf r s → ready_of (machine_of s) ≡ those_below (processes_of r) (is_ready (machine_of s))
 own_ready r s own =
-    filtered (is_ready (machine_of s)) (length (machine_of s).threads) ∙ ap (λ n. those_below n (is_ready (machine_of s))) own.fits.threads
+    filtered (is_ready (machine_of s)) (length (machine_of s).threads) ∙ ap (λ n. those_below n (is_ready (machine_of s))) (threads_count r s own)
 
 pub own_line : (r : Tables) (s : State) (monitor : ℕ) → IsStateOf r s → (machine_of s).pending ≡ Some monitor → waiting_of (machine_of s) monitor ≡ those_below (processes_of r) (in_line (machine_of s))
 own_line r s monitor own e =
     let m = machine_of s in
-    ap (λ o. filter (λ pid. in_line_of o (thread_at m.threads pid).status) (range_with_len 0 (length m.threads))) (sym e) ∙ filtered (in_line m) (length m.threads) ∙ ap (λ n. those_below n (in_line m)) own.fits.threads
-
-ready_status_within : (ts : List Thread) (p : ℕ) → is_ready_status (thread_at ts p).status ≡ true → p < length ts
-ready_status_within [] p h = absurd (cc)
-ready_status_within (t ∷ ts) zero h = omega arith
-ready_status_within (t ∷ ts) (suc p) h = omega (arith, ready_status_within ts p h)
-
--- who is ready is one of the processes
-pub ready_within : (s : State) (p : ℕ) → is_ready (machine_of s) p ≡ true → p < length s.processes.items
-ready_within s p h = let lt = ready_status_within (machine_of s).threads p h in omega (arith, lt, length-map s.processes.items thread_of)
-
-in_line_within : (pending : Option ℕ) (ts : List Thread) (p : ℕ) → in_line_of pending (thread_at ts p).status ≡ true → p < length ts
-in_line_within None ts p h = absurd (cc)
-in_line_within (Some monitor) [] p h = absurd (cc)
-in_line_within (Some monitor) (t ∷ ts) zero h = omega arith
-in_line_within (Some monitor) (t ∷ ts) (suc p) h = omega (arith, in_line_within (Some monitor) ts p h)
-
--- who is in the line is one of the processes
-pub line_within : (s : State) (p : ℕ) → in_line (machine_of s) p ≡ true → p < length s.processes.items
-line_within s p h = let lt = in_line_within (machine_of s).pending (machine_of s).threads p h in omega (arith, lt, length-map s.processes.items thread_of)
-
--- after an admission its process is ready, and nothing is pending
-admitted_at_ready : (pending : Option ℕ) (m : Machine) (p : ℕ) → p < length m.threads → in_line_of pending (thread_at m.threads p).status ≡ true → is_ready (admitted_at pending m p) p ≡ true
-admitted_at_ready None m p lt h = absurd (cc)
-admitted_at_ready (Some monitor) m p lt h = ap (λ t. is_ready_status t.status) (get_or-set_same m.threads p (record { status = Ready; frame = (thread_at m.threads p).frame; stack = (thread_at m.threads p).stack }) no_thread lt)
-
-admitted_at_free : (pending : Option ℕ) (m : Machine) (p : ℕ) (status : Status) → in_line_of pending status ≡ true → is_pending (admitted_at pending m p) ≡ false
-admitted_at_free None m p status h = absurd (cc)
-admitted_at_free (Some monitor) m p status h = refl
-
-pub admitted_ready : (m n : Machine) (p : ℕ) → in_line m p ≡ true → n ≡ admitted m p → is_ready n p ≡ true
-admitted_ready m n p h e = ap (λ x. is_ready x p) e ∙ admitted_at_ready m.pending m p (in_line_within m.pending m.threads p h) h
-
-pub admitted_free : (m n : Machine) (p : ℕ) → in_line m p ≡ true → n ≡ admitted m p → is_pending n ≡ false
-admitted_free m n p h e = ap is_pending e ∙ admitted_at_free m.pending m p (thread_at m.threads p).status h
-
--- in the opening state process 0 is ready
-pub opening_ready : (r : Tables) (gates : Gates) (m : Machine) → 1 ≤ length r.processes → m ≡ opening r gates → is_ready m 0 ≡ true
-opening_ready r gates m some e =
-    let n : 0 < length (still r gates).threads = omega (arith, some, length-map r.processes (unstarted_thread r)) in
-    ap (λ x. is_ready x 0) e ∙ ap (λ t. is_ready_status t.status) (get_or-set_same (still r gates).threads 0 (record { status = Ready; frame = (thread_at (still r gates).threads 0).frame; stack = (thread_at (still r gates).threads 0).stack }) no_thread n)
-
--- whether a monitor is pending, by the answer of a reading
-pending_as : (o : Option ℕ) (b : Bool) → std_is_some o ≡ b → is_some o ≡ b
-pending_as None b h = h
-pending_as (Some monitor) b h = h
-
-pub pending_is : (m : Machine) (o : Option ℕ) (b : Bool) → o ≡ m.pending → std_is_some o ≡ b → is_pending m ≡ b
-pending_is m o b e h = ap is_some (sym e) ∙ pending_as o b h
+    line_pending m monitor e ∙ filtered (in_line m) (length m.threads) ∙ ap (λ n. those_below n (in_line m)) (threads_count r s own)

@@ -1,14 +1,12 @@
 -- A traced run, number by number.
-use Rattle.std.proofs.Common.{◌≡◌, ◌≢◌, ℕ, zero, suc, ◌-◌, ◌+◌, ◌*◌, ◌<◌, ◌≤◌, ◌⊎◌, ⊎_elim, Bool, true, false, if◌then◌else◌, List, [], ◌∷◌, ◌++◌, length, ◌==◌, ap, refl, sym, ◌∙◌, arith}
+use Rattle.std.proofs.Common.{◌≡◌, ℕ, zero, suc, ◌-◌, ◌+◌, ◌<◌, ◌≤◌, ◌⊎◌, ⊎_elim, true, false, if◌then◌else◌, List, [], ◌∷◌, ◌++◌, ◌==◌, ap, refl, sym, ◌∙◌, arith}
 use Rattle.std.proofs.lemmas.Bool.{eq-eqb, ne_eqb, eqb-true, cases_order}
-use Rattle.std.proofs.lemmas.List.{length-append, append_assoc}
-use Rattle.cp_run.specs.declared.line.TraceLine.{TraceLine}
 use Rattle.cp_run.specs.declared.outcome.Halt.{Halt}
 use Rattle.cp_run.specs.declared.outcome.Halt.TheVariants.{Choice, Ended as HasEnded}
 use Rattle.cp_run.specs.System.{System}
-use Rattle.cp_run.specs.Run.{Node, Halted, Choosing, Answer, may, chosen, opened, run_from}
+use Rattle.cp_run.specs.Run.{Node, Halted, Choosing, may, chosen, run_from}
 use Rattle.cp_run.specs.Code.{node_of, is_over}
-use Rattle.cp_run.specs.Trace.{opened_lines, chosen_lines, trace_from, trace}
+use Rattle.cp_run.specs.Trace.{chosen_lines, trace_from}
 
 pub none_left : (choices used : ℕ) → used ≤ choices → (used == choices) ≡ (choices - used == 0)
 none_left choices used le =

@@ -1,7 +1,5 @@
 -- What the values of the code stand for.
 use Rattle.std.specs.Prelude.{ℕ, ◌+◌, ◌==◌, Bool, true}
-use Rattle.cp_machine.specs.declared.event.Event.{Event}
-use Rattle.cp_machine.specs.declared.event.Event.TheVariants.{Local, Kernel, Ended as ProcessEnded, Fault, OutputFull}
 use Rattle.cp_run.specs.declared.outcome.Turn.{Turn}
 use Rattle.cp_run.specs.declared.outcome.Turn.TheVariants.{Over, Due, Goes}
 use Rattle.cp_run.specs.declared.outcome.Halt.{Halt}
@@ -30,13 +28,6 @@ abbrev pub further : ℕ → Answer → Answer
 further n (Ended outcome used) = Ended outcome (n + used)
 further n (Wants ready) = Wants ready
 further n (NotReady place) = NotReady (n + place)
-
-abbrev pub IsLocal : Event → Type 0
-IsLocal Local = Unit {0}
-IsLocal (Kernel call) = ⊥
-IsLocal ProcessEnded = ⊥
-IsLocal (Fault e) = ⊥
-IsLocal OutputFull = ⊥
 
 -- whether a run is over where its stretch halted, with so many choices left
 abbrev pub is_over : ℕ → Halt → Bool

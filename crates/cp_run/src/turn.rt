@@ -1,10 +1,10 @@
 //! What comes before the next step of a run.
 
 ghost use Rattle.std.specs.Prelude.{◌≡◌, true, false};
-ghost use Rattle.cp_machine.specs.System.{Machine, machine_of, is_ready, is_pending, IsStateOf};
+ghost use Rattle.cp_machine.specs.System.{Machine, machine_of, is_local, is_ready, is_pending, IsStateOf};
 ghost use Rattle.cp_run.specs.Run.{settled_turn, turn_at, turn_after};
 ghost use Rattle.cp_run.specs.Slots.{slots};
-ghost use Rattle.cp_run.specs.Code.{IfGoes, IsLocal};
+ghost use Rattle.cp_run.specs.Code.{IfGoes};
 
 use crate::limits::Limits;
 use crate::outcome::{OutcomeKind, Turn};
@@ -64,7 +64,7 @@ pub fn turn_at(program: &Resolved, limits: Limits, state: &State, kernel: bool, 
 /// Error end, and then the rules that follow, after a step of `pid` that came to this state.
 pub fn turn_of(program: &Resolved, limits: Limits, state: &State, pid: u8, event: Event) -> Turn
     requires own { IsStateOf program.now state.now }
-    requires goes_on { IsLocal event → is_ready (machine_of state.now) pid ≡ true }
+    requires goes_on { is_local event ≡ true → is_ready (machine_of state.now) pid ≡ true }
     ensures turn { result ≡ turn_after (slots program.now limits.gates) (machine_of state.now) pid event }
     ensures ready { IfGoes result (λ q. is_ready (machine_of state.now) q ≡ true) }
     ensures free { IfGoes result (λ q. is_pending (machine_of state.now) ≡ false) }

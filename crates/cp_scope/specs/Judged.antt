@@ -11,10 +11,6 @@ Judged A = Result A (List CheckFault)
 abbrev pub broken : {A : Type 0} → ℕ → Rule → Judged A
 broken at rule = Err (check_fault.Rule at rule ∷ [])
 
--- a construct that is not run yet
-abbrev pub left_out : {A : Type 0} → ℕ → Judged A
-left_out at = Err (check_fault.LeftOut at ∷ [])
-
 -- no fault here, since what is named has one where it is declared
 abbrev pub silent : {A : Type 0} → Judged A
 silent = Err []

@@ -70,7 +70,8 @@ pub data Shape : Type 0 where
   record_shape : Scope → ℕ → Shape
   -- the names in a system type, its heading, what its variables take, and what its initial statement takes
   system_shape : Scope → Heading → Census → ℕ → Shape
-  heading_shape : Heading → Shape
+  -- a routine's heading, and where its body is written
+  heading_shape : Heading → ℕ → Shape
   -- what a routine's body takes
   body_shape : Use → Shape
 
@@ -107,13 +108,17 @@ abbrev pub no_heading : Heading
 no_heading = record { is_entry = false; parameters = []; result = None }
 
 abbrev pub as_heading : Option Shape → Heading
-as_heading (Some (heading_shape h)) = h
+as_heading (Some (heading_shape h n)) = h
 as_heading (Some (system_shape m h c u)) = h
 as_heading _ = no_heading
 
 abbrev pub as_body : Option Shape → Use
 as_body (Some (body_shape u)) = u
 as_body _ = no_use
+
+abbrev pub body_of : Option Shape → Shapes → Use
+body_of (Some (heading_shape h n)) s = as_body (shape_in n s)
+body_of _ s = no_use
 
 abbrev pub as_need : Option Shape → ℕ
 as_need (Some (system_shape m h c u)) = u
@@ -137,8 +142,9 @@ member_at n name s = as_member name (shape_in n s.shapes)
 abbrev pub heading_at : ℕ → Scopes → Heading
 heading_at n s = as_heading (shape_in n s.shapes)
 
+-- what the body of the routine takes whose name stands at a token
 abbrev pub body_at : ℕ → Scopes → Use
-body_at n s = as_body (shape_in n s.shapes)
+body_at n s = body_of (shape_in n s.shapes) s.shapes
 
 -- ---- cells
 
@@ -290,6 +296,14 @@ with_around a n m = a.outer ++ with_name a.inner n m ∷ []
 -- a name in the scope around the innermost one
 unfoldable pub add_around : Scopes → List ℕ → Option Meaning → Scopes
 add_around s n m = record { outer = with_around (last_of s.outer) n m; inner = s.inner; shapes = s.shapes }
+
+-- a routine's name stands for nothing where its body has a fault
+abbrev pub without_meaning : List ℕ → Names → Names
+without_meaning n [] = []
+without_meaning n (d ∷ ds) = (if bytes_eq n d.0 then (d.0, None) else d) ∷ without_meaning n ds
+
+abbrev pub withdraw : Scopes → List ℕ → Scopes
+withdraw s n = record { outer = s.outer; inner = record { names = without_meaning n s.inner.names; pending = s.inner.pending; is_sealed = s.inner.is_sealed }; shapes = s.shapes }
 
 unfoldable pub keep : Scopes → ℕ → Shape → Scopes
 keep s n d = record { outer = s.outer; inner = s.inner; shapes = with_shape s.shapes n d }

@@ -34,7 +34,7 @@ abbrev pub shape_view : code_shape.Shape → Shape
 shape_view (shape.Array a) = array_shape a
 shape_view (shape.Record fields cells) = record_shape (scope_of fields) cells
 shape_view (shape.System members h c u) = system_shape (scope_of members) (heading_view h) c u
-shape_view (shape.Heading h) = heading_shape (heading_view h)
+shape_view (shape.Heading h n) = heading_shape (heading_view h) n
 shape_view (shape.Body u) = body_shape u
 
 abbrev pub shape_entry : ℕ × code_shape.Shape → ℕ × Shape

@@ -86,10 +86,3 @@ pub fn broken<T>(at: usize, rule: Rule) -> Result<T, CheckFault>
 {
     Err(CheckFault::Rule { at, rule })
 }
-
-/// The construct that begins at a token is not run yet.
-pub fn left_out<T>(at: usize) -> Result<T, CheckFault>
-    ensures { result ≡ Err (check_fault.LeftOut at) }
-{
-    Err(CheckFault::LeftOut { at })
-}

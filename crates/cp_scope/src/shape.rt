@@ -41,7 +41,8 @@ pub enum Shape {
     Record(Scope, u32),
     /// The names in a system type, its heading, what its variables take, and what its initial statement takes.
     System(Scope, Heading, Census, u32),
-    Heading(Heading),
+    /// A routine's heading, and where its body is written.
+    Heading(Heading, usize),
     /// What a routine's body takes.
     Body(Use),
 }

@@ -85,7 +85,7 @@ impl Shapes {
         ensures { result ≡ (spec.as_heading (spec.shape_in at (shapes_of self.now))).is_entry }
     {
         match self.at(at) {
-            Some(Shape::Heading(heading)) => heading.is_entry,
+            Some(Shape::Heading(heading, _)) => heading.is_entry,
             Some(Shape::System(_, heading, _, _)) => heading.is_entry,
             _ => false,
         }
@@ -96,7 +96,7 @@ impl Shapes {
         ensures { result ≡ (spec.as_heading (spec.shape_in at (shapes_of self.now))).result }
     {
         match self.at(at) {
-            Some(Shape::Heading(heading)) => heading.result,
+            Some(Shape::Heading(heading, _)) => heading.result,
             Some(Shape::System(_, heading, _, _)) => heading.result,
             _ => None,
         }
@@ -107,14 +107,23 @@ impl Shapes {
         ensures { result.now ≡ (spec.as_heading (spec.shape_in at (shapes_of self.now))).parameters }
     {
         match self.at(at) {
-            Some(Shape::Heading(heading)) => &heading.parameters,
+            Some(Shape::Heading(heading, _)) => &heading.parameters,
             Some(Shape::System(_, heading, _, _)) => &heading.parameters,
             _ => &[],
         }
     }
 
-    /// What a routine's body takes.
+    /// What the body of the routine takes whose name stands at a token.
     pub fn body(&self, at: usize) -> Use
+        ensures { result ≡ spec.body_of (spec.shape_in at (shapes_of self.now)) (shapes_of self.now) }
+    {
+        match self.at(at) {
+            Some(Shape::Heading(_, body)) => self.body_written(*body),
+            _ => Use::nothing(),
+        }
+    }
+
+    fn body_written(&self, at: usize) -> Use
         ensures { result ≡ spec.as_body (spec.shape_in at (shapes_of self.now)) }
     {
         match self.at(at) {

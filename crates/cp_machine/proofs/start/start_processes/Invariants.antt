@@ -1,5 +1,4 @@
 use Rattle.std.proofs.Common.{◌≡◌, map, take}
-use Rattle.cp_slots.specs.Fits.{IsSound}
 use Rattle.cp_machine.specs.Fits.{AreReserved}
 use Rattle.cp_machine.specs.Machine.{thread_of, unstarted_thread}
 use Rattle.cp_machine.proofs.start.start_processes.Given as goal

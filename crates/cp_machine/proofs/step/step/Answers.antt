@@ -1,10 +1,10 @@
-use Rattle.std.proofs.Common.{◌≡◌, ◌<◌, ap, length, refl, subst, sym, true}
+use Rattle.std.proofs.Common.{◌≡◌, ◌<◌, length, refl, subst, true}
 use Rattle.std.proofs.lemmas.List.{length-map}
 use Rattle.cp_machine.specs.declared.event.Event.{Event}
 use Rattle.cp_machine.specs.declared.event.Event.TheVariants.{Local, Kernel, Ended, Fault, OutputFull}
 use Rattle.cp_machine.specs.declared.event.RunError.{RunError}
-use Rattle.cp_machine.specs.Fits.{MachineFits, IsStateOf}
-use Rattle.cp_machine.specs.Machine.{Machine, Stepped, machine_of, succeeds}
+use Rattle.cp_machine.specs.Fits.{MachineFits}
+use Rattle.cp_machine.specs.Machine.{Stepped, machine_of, succeeds}
 use Rattle.cp_machine.proofs.Keeping.{step_fits}
 use Rattle.cp_machine.proofs.step.step.Goals as goal
 

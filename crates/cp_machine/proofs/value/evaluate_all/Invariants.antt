@@ -1,4 +1,4 @@
-use Rattle.std.proofs.Common.{◌≡◌, ◌≤◌, drop, vec_len, length}
+use Rattle.std.proofs.Common.{◌≡◌, ◌≤◌, drop, vec_len}
 use Rattle.std.specs.Prelude.{vec_capacity}
 use Rattle.cp_machine.specs.Values.{values_at, values_after}
 use Rattle.cp_machine.proofs.value.evaluate_all.Given as goal

@@ -2,7 +2,8 @@ use Rattle.std.proofs.Common.{◌∙◌, sym, ap, true, false, is_some}
 use Rattle.cp_machine.specs.System.{machine_of}
 use Rattle.cp_run.specs.Slots.{slots}
 use Rattle.cp_run.proofs.Choosing.{wanted_line, wanted_ready}
-use Rattle.cp_run.proofs.Owning.{own_ready, own_line, pending_is}
+use Rattle.cp_machine.proofs.CallerLemmas.{pending_is}
+use Rattle.cp_run.proofs.Owning.{own_ready, own_line}
 use Rattle.cp_run.proofs.choice.wanted.Goals as goal
 
 pub returns-in-Some : goal.returns-in-Some

@@ -1,4 +1,4 @@
-use Rattle.std.proofs.Common.{◌≡◌, ◌∙◌, ◌-◌, ap, sym}
+use Rattle.std.proofs.Common.{◌∙◌, ◌-◌, ap, sym}
 use Rattle.cp_run.specs.Code.{is_over}
 use Rattle.cp_run.proofs.TraceRuns.{none_left}
 use Rattle.cp_run.proofs.trace.is_over.Goals as goal

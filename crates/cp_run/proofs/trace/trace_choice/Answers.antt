@@ -3,7 +3,7 @@ use Rattle.cp_machine.specs.System.{machine_of, is_pending}
 use Rattle.cp_run.specs.declared.outcome.Turn.TheVariants.{Over, Due, Goes}
 use Rattle.cp_run.specs.Slots.{slots}
 use Rattle.cp_run.proofs.Choosing.{may_in_line, may_be_ready, chosen_free, chosen_at_gate}
-use Rattle.cp_run.proofs.Owning.{pending_is, line_within, admitted_free}
+use Rattle.cp_machine.proofs.CallerLemmas.{pending_is, line_within, admitted_free}
 use Rattle.cp_run.proofs.Tracing.{ok_as, behind_admission, none_added, chosen_free_lines}
 use Rattle.cp_run.proofs.trace.trace_choice.Goals as goal
 

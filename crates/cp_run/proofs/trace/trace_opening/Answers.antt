@@ -3,7 +3,7 @@ use Rattle.cp_machine.specs.System.{machine_of}
 use Rattle.cp_run.specs.declared.outcome.Turn.TheVariants.{Over, Due, Goes}
 use Rattle.cp_run.specs.Slots.{slots}
 use Rattle.cp_run.proofs.Choosing.{opened_at}
-use Rattle.cp_run.proofs.Owning.{opening_ready}
+use Rattle.cp_machine.proofs.CallerLemmas.{opening_ready}
 use Rattle.cp_run.proofs.Tracing.{ok_as, none_added, opened_at_lines}
 use Rattle.cp_run.proofs.trace.trace_opening.Goals as goal
 

@@ -1,21 +1,17 @@
-use Rattle.std.proofs.Common.{◌≡◌, ◌<◌, ◌+◌, ◌-◌, ◌++◌, ◌∙◌, ap, sym, arith, length}
-use Rattle.std.proofs.lemmas.List.{length-map}
-use Rattle.cp_machine.specs.Machine.{Stepped, thread_of}
-use Rattle.cp_machine.specs.System.{machine_of, succeeds}
+use Rattle.std.proofs.Common.{◌≡◌, ◌<◌, ◌-◌, ◌++◌, ◌∙◌, ap, sym, arith}
+use Rattle.cp_machine.specs.System.{machine_of, succeeds, Stepped}
+use Rattle.cp_machine.proofs.CallerLemmas.{local_ready, ready_thread}
 use Rattle.cp_run.specs.declared.outcome.Turn.TheVariants.{Over, Due, Goes}
-use Rattle.cp_run.specs.Run.{stretch, turn_after}
+use Rattle.cp_run.specs.Run.{turn_after}
 use Rattle.cp_run.specs.Slots.{slots}
 use Rattle.cp_run.specs.Trace.{stretch_lines}
-use Rattle.cp_run.proofs.LocalSteps.{local_ready}
-use Rattle.cp_run.proofs.Owning.{ready_within}
 use Rattle.cp_run.proofs.Stretching.{step_on, used_up}
 use Rattle.cp_run.proofs.Tracing.{counted, lines_further, lines_used_up, no_more}
 use Rattle.cp_run.proofs.trace.trace_stretch.Goals as goal
 
 pub turn_of-requires-clause-goes_on : goal.turn_of-requires-clause-goes_on
 turn_of-requires-clause-goes_on g c =
-    let lt : c.loop.going < length (machine_of c.loop.state).threads = omega (arith, length-map c.loop.state.processes.items thread_of, ready_within c.loop.state c.loop.going c.loop.invariant.ready) in
-    local_ready c.args.program.now (machine_of c.loop.state) (machine_of c.step-event.new.state) c.loop.going c.step-event.result lt c.loop.invariant.ready c.step-event.ensures.after
+    local_ready c.args.program.now (machine_of c.loop.state) (machine_of c.step-event.new.state) c.loop.going c.step-event.result (ready_thread (machine_of c.loop.state) c.loop.going c.loop.invariant.ready) c.loop.invariant.ready c.step-event.ensures.after
 
 pub returns-in-Over-clause-node : goal.returns-in-Over-clause-node
 returns-in-Over-clause-node g c =

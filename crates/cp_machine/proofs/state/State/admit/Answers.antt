@@ -1,7 +1,5 @@
-use Rattle.std.proofs.Common.{◌≡◌, ap, length, map, subst, sym}
-use Rattle.std.proofs.lemmas.List.{length-map}
+use Rattle.std.proofs.Common.{subst, sym}
 use Rattle.cp_machine.specs.Fits.{MachineFits}
-use Rattle.cp_machine.specs.Machine.{machine_of, monitor_of}
 use Rattle.cp_machine.proofs.Keeping.{admitted_fits}
 use Rattle.cp_machine.proofs.state.State.admit.Goals as goal
 

@@ -1,7 +1,7 @@
-use Rattle.std.proofs.Common.{◌≡◌, ◌∙◌, ap, sym, subst}
+use Rattle.std.proofs.Common.{sym, subst}
 use Rattle.cp_machine.specs.declared.state.Status.TheVariants.{Ready}
 use Rattle.cp_machine.specs.Fits.{MachineFits}
-use Rattle.cp_machine.specs.Machine.{Machine, with_status, still}
+use Rattle.cp_machine.specs.Machine.{Machine, with_status}
 use Rattle.cp_machine.proofs.Keeping.{status_fits}
 use Rattle.cp_machine.proofs.OpeningFits.{still_fits}
 use Rattle.cp_machine.proofs.state.State.start.Goals as goal

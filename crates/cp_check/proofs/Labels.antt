@@ -1,0 +1,75 @@
+-- Labels of a `case`: what is left leads where all lead.
+use Rattle.std.proofs.Common.{◌≡◌, ℕ, ◌+◌, ◌<◌, ◌≤◌, true, false, ◌&&◌, ◌||◌, List, [], ◌∷◌, ◌++◌, length, get_or, drop, take, Ok, Err, refl, sym, ap, subst, ◌∙◌, add-one, append_assoc}
+use Rattle.std.proofs.Math.Seq.{drop-cons, take-add}
+use Rattle.std.proofs.lemmas.List.{drop_all, append-nil}
+use Rattle.cp_scope.specs.declared.fault.CheckFault.{CheckFault}
+use Rattle.cp_scope.specs.declared.types.Base.{Base}
+use Rattle.cp_tree.specs.declared.constant.Constant.{Constant}
+use Rattle.cp_scope.specs.Types.{same_base}
+use Rattle.cp_scope.specs.Scopes.{Scopes}
+use Rattle.cp_scope.specs.Judged.{Judged, both, ◌>>=◌, Refuses, RefusesList}
+use Rattle.cp_check.specs.declared.case.Label.{Label}
+use Rattle.cp_check.specs.Constants.{same_number}
+use Rattle.cp_check.specs.Cases.{one_label, labels, before, are_labels, is_label, again_faults, twice_faults}
+use Rattle.cp_check.proofs.Judging.{refuses_both, first_append}
+use Rattle.cp_check.proofs.Fronts.{with_front, front_refuses}
+
+-- ---- labels of an arm
+
+with_more : (front : List Label) (l : Label) (j : Judged (List Label)) → with_front front (both (Ok l) j >>= before) ≡ with_front (front ++ l ∷ []) j
+with_more front l (Ok ls) = ap (λ (ms : List Label). Ok ms) (sym (append_assoc front (l ∷ []) ls))
+with_more front l (Err fs) = refl
+
+module _ (s : Scopes) (front : List Label) (xs : List Constant) (i : ℕ) (x : Constant) (within : i < length xs) (here : x ≡ get_or xs i x) where
+  labels_split : labels s (drop i xs) ≡ both (one_label s x) (labels s (drop (i + 1) xs)) >>= before
+  unfolding labels
+  labels_split = rw (add-one, drop-cons xs i x, ← here) refl
+
+  pub labels_passed : (l : Label) → one_label s x ≡ Ok l → with_front front (labels s (drop i xs)) ≡ with_front (front ++ l ∷ []) (labels s (drop (i + 1) xs))
+  labels_passed l h = ap (with_front front) (labels_split ∙ ap (λ (j : Judged Label). both j (labels s (drop (i + 1) xs)) >>= before) h) ∙ with_more front l (labels s (drop (i + 1) xs))
+
+  pub labels_refused : (e : CheckFault) → Refuses e (one_label s x) → Refuses e (with_front front (labels s (drop i xs)))
+  labels_refused e h = front_refuses e front _ (subst (λ (j : Judged (List Label)). Refuses e j) (sym labels_split) (refuses_both e _ _ before h))
+
+pub labels_none : (s : Scopes) (front : List Label) (xs : List Constant) (i : ℕ) → length xs ≤ i → with_front front (labels s (drop i xs)) ≡ Ok front
+unfolding labels
+labels_none s front xs i h = rw (drop_all i xs h, append-nil front) refl
+
+-- ---- labels of a `case`
+
+module _ (ls : List Label) (i : ℕ) (l : Label) (within : i < length ls) (here : l ≡ get_or ls i l) where
+  label_here : drop i ls ≡ l ∷ drop (i + 1) ls
+  label_here = rw (add-one, drop-cons ls i l, ← here) refl
+
+  pub agree_split : (b : Base) → are_labels b (drop i ls) ≡ same_base l.number.base b && are_labels b (drop (i + 1) ls)
+  agree_split b = ap (are_labels b) label_here
+
+  pub among_split : (m : Label) → is_label m (drop i ls) ≡ same_number m.number l.number || is_label m (drop (i + 1) ls)
+  among_split m = ap (is_label m) label_here
+
+pub agree_none : (b : Base) (ls : List Label) (i : ℕ) → length ls ≤ i → are_labels b (drop i ls) ≡ true
+agree_none b ls i h = rw (drop_all i ls h) refl
+
+pub among_none : (m : Label) (ls : List Label) (i : ℕ) → length ls ≤ i → is_label m (drop i ls) ≡ false
+among_none m ls i h = rw (drop_all i ls h) refl
+
+module _ (ls : List Label) (i : ℕ) (d : Label) (within : i < length ls) where
+  next : drop i ls ≡ get_or ls i d ∷ drop (i + 1) ls
+  next = rw (add-one, drop-cons ls i d) refl
+
+  taken : take (i + 1) ls ≡ take i ls ++ get_or ls i d ∷ []
+  taken = take-add i 1 ls ∙ ap (λ (ys : List Label). take i ls ++ take 1 ys) next
+
+  twice_split : twice_faults (take i ls) (drop i ls) ≡ again_faults (get_or ls i d) (take i ls) ++ twice_faults (take (i + 1) ls) (drop (i + 1) ls)
+  unfolding twice_faults
+  twice_split = ap (twice_faults (take i ls)) next ∙ ap (λ (ms : List Label). again_faults (get_or ls i d) (take i ls) ++ twice_faults ms (drop (i + 1) ls)) (sym taken)
+
+  pub twice_passed : again_faults (get_or ls i d) (take i ls) ≡ [] → twice_faults (take i ls) (drop i ls) ≡ twice_faults (take (i + 1) ls) (drop (i + 1) ls)
+  twice_passed h = twice_split ∙ ap (λ (fs : List CheckFault). fs ++ twice_faults (take (i + 1) ls) (drop (i + 1) ls)) h
+
+  pub twice_refused : (e : CheckFault) → RefusesList e (again_faults (get_or ls i d) (take i ls)) → RefusesList e (twice_faults (take i ls) (drop i ls))
+  twice_refused e h = subst (λ (fs : List CheckFault). RefusesList e fs) (sym twice_split) (first_append e (again_faults (get_or ls i d) (take i ls)) _ h)
+
+pub twice_none : (ms ls : List Label) (i : ℕ) → length ls ≤ i → twice_faults ms (drop i ls) ≡ []
+unfolding twice_faults
+twice_none ms ls i h = rw (drop_all i ls h) refl

@@ -1,0 +1,8 @@
+use Rattle.std.proofs.Common.{◌≡◌, drop, Some}
+use Rattle.cp_scope.specs.View.{scope_of}
+use Rattle.cp_check.specs.Records as spec
+use Rattle.cp_check.proofs.record.add_fields.Given as goal
+
+-- what is left leads where all lead
+abbrev pub invariant-loop-name : goal.invariant-loop-name
+invariant-loop-name l = spec.with_fields (scope_of l.fn.fields) l.names (Some l.meaning) ≡ spec.with_fields (scope_of l.fields) (drop l.name-index l.names) (Some l.meaning)

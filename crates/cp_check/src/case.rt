@@ -1,0 +1,119 @@
+//! The labels of a `case`.
+
+ghost use Rattle.std.specs.Prelude.{◌≡◌, []};
+ghost use Rattle.cp_scope.specs.Judged.{Judges, Finds};
+ghost use Rattle.cp_scope.specs.View.{scopes_of};
+ghost use Rattle.cp_check.specs.Cases as spec;
+
+use crate::constant::{Number, constant};
+use crate::operand::Operand;
+use cp_scope::count::Use;
+use cp_scope::fault::{CheckFault, Rule, broken};
+use cp_scope::table::Table;
+use cp_scope::types::{Base, ValueType};
+use cp_tree::constant::Constant;
+use std::alloc::Global;
+
+/// A label, and where it stands.
+#[derive(Clone, Copy)]
+pub struct Label {
+    pub at: usize,
+    pub number: Number,
+}
+
+#[tactic(auto, unfolding(crate::specs::Cases::one_label))]
+fn one_label(table: &Table, node: &Constant) -> Result<Label, CheckFault>
+    ensures { Judges (λ l. l) (spec.one_label (scopes_of table.now) node.now) result }
+{
+    let number = constant(table, node)?;
+    Ok(Label {
+        at: node.at,
+        number,
+    })
+}
+
+/// The labels of an arm.
+#[tactic(auto, using(crate::proofs::Labels::labels_passed, crate::proofs::Labels::labels_refused, crate::proofs::Labels::labels_none))]
+pub fn labels(alloc: Global, table: &Table, nodes: &[Constant]) -> Result<Vec<Label>, CheckFault>
+    ensures { Judges (λ v. v.items) (spec.labels (scopes_of table.now) nodes.now) result }
+{
+    let mut labels = Vec::new(alloc);
+    for node in nodes {
+        labels.push(one_label(table, node)?)?;
+    }
+    Ok(labels)
+}
+
+/// Whether labels agree with a base.
+#[tactic(auto, using(crate::proofs::Labels::agree_split, crate::proofs::Labels::agree_none))]
+fn are_labels(base: Base, labels: &[Label]) -> bool
+    ensures { result ≡ spec.are_labels base labels.now }
+{
+    for label in labels {
+        if !label.number.base.is_same(base) {
+            return false;
+        }
+    }
+    true
+}
+
+/// The selector is ordinal, and the labels agree with it.
+fn labelled(at: usize, selector: ValueType, labels: &[Label]) -> Result<(), CheckFault>
+    ensures { Finds (spec.label_faults at selector labels.now) result }
+{
+    match selector {
+        ValueType::Ordinal(range) => {
+            if are_labels(range.base, labels) {
+                Ok(())
+            } else {
+                broken(at, Rule::C5)
+            }
+        }
+        _ => broken(at, Rule::C5),
+    }
+}
+
+/// Whether a label is one of others.
+#[tactic(auto, using(crate::proofs::Labels::among_split, crate::proofs::Labels::among_none))]
+fn is_label(label: Label, others: &[Label]) -> bool
+    ensures { result ≡ spec.is_label label others.now }
+{
+    for other in others {
+        if label.number.is_same(other.number) {
+            return true;
+        }
+    }
+    false
+}
+
+/// A label stands once.
+fn once(label: Label, before: &[Label]) -> Result<(), CheckFault>
+    ensures { Finds (spec.again_faults label before.now) result }
+{
+    if is_label(label, before) {
+        broken(label.at, Rule::C19)
+    } else {
+        Ok(())
+    }
+}
+
+/// Each label stands once.
+#[tactic(auto, using(crate::proofs::Labels::twice_passed, crate::proofs::Labels::twice_refused, crate::proofs::Labels::twice_none))]
+fn all_once(labels: &[Label]) -> Result<(), CheckFault>
+    ensures { Finds (spec.twice_faults [] labels.now) result }
+{
+    for place in 0..labels.len() {
+        once(labels[place], &labels[..place])?;
+    }
+    Ok(())
+}
+
+/// The rules of a `case` itself; what it takes.
+#[tactic(auto, using(crate::proofs::Judging::first_append))]
+pub fn chosen(at: usize, selector: Operand, labels: &[Label], uses: Use) -> Result<Use, CheckFault>
+    ensures { Judges (λ u. u) (spec.chosen at (selector, (labels.now, uses))) result }
+{
+    labelled(at, selector.value_type, labels)?;
+    all_once(labels)?;
+    Ok(selector.uses.and(uses))
+}
