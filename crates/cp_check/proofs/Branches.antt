@@ -8,7 +8,7 @@ use Rattle.cp_tree.specs.declared.statement.StatementKind.TheVariants as kinds
 use Rattle.cp_tree.specs.Syntax.{Statement, if_else}
 use Rattle.cp_tree.specs.View.{expression_view, statement_view}
 use Rattle.cp_scope.specs.declared.fault.CheckFault.{CheckFault}
-use Rattle.cp_scope.specs.declared.fault.CheckFault.TheVariants.{Rule, LeftOut, Memory}
+use Rattle.cp_scope.specs.declared.fault.CheckFault.TheVariants.{Rule, Memory}
 use Rattle.cp_scope.specs.Scopes.{Scopes}
 use Rattle.cp_scope.specs.Judged.{Judged, both, ◌>>=◌, Refuses}
 use Rattle.cp_scope.specs.declared.count.Use.{Use}
@@ -25,8 +25,6 @@ second_refuses : {A B C : Type 0} (e : CheckFault) (x : A) (b : Judged B) (k : A
 second_refuses Memory x b k h = tt
 second_refuses (Rule at rule) x (Ok y) k h = absurd h
 second_refuses (Rule at rule) x (Err fs) k h = h
-second_refuses (LeftOut at) x (Ok y) k h = absurd h
-second_refuses (LeftOut at) x (Err fs) k h = h
 
 module _ (s : Scopes) (w : Context) (n : tree_statement.Statement) (test : tree_expression.Expression) (first second : Box tree_statement.Statement Global) (o : Option (Box tree_statement.Statement Global)) (is_if : n.kind ≡ kinds.If test first o) (is_some : o ≡ Some second) where
   is_else : statement_view n ≡ if_else n.at (expression_view test) (statement_view first.value) (statement_view second.value)

@@ -3,7 +3,7 @@ use Rattle.std.proofs.Common.{◌≡◌, ℕ, ◌+◌, ◌<◌, ◌≤◌, List,
 use Rattle.std.proofs.Math.Seq.{drop-cons}
 use Rattle.std.proofs.lemmas.List.{drop_all}
 use Rattle.cp_scope.specs.declared.fault.CheckFault.{CheckFault}
-use Rattle.cp_scope.specs.declared.fault.CheckFault.TheVariants.{Rule, LeftOut, Memory}
+use Rattle.cp_scope.specs.declared.fault.CheckFault.TheVariants.{Rule, Memory}
 use Rattle.cp_scope.specs.declared.types.Meaning.{Meaning}
 use Rattle.cp_tree.specs.declared.constant.Identifier.{Identifier}
 use Rattle.cp_tree.specs.declared.types.FieldGroup as tree_group
@@ -62,5 +62,3 @@ pub sound_refuses : {A : Type 0} (e : CheckFault) (fs : List CheckFault) (f : Sc
 sound_refuses Memory fs f k h = tt
 sound_refuses (Rule at r) [] f k h = absurd h
 sound_refuses (Rule at r) (g ∷ gs) f k h = h
-sound_refuses (LeftOut at) [] f k h = absurd h
-sound_refuses (LeftOut at) (g ∷ gs) f k h = h

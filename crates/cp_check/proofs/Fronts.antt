@@ -1,7 +1,7 @@
 -- What is known already, before what is still to come.
 use Rattle.std.proofs.Common.{List, [], ◌∷◌, ◌++◌, Ok, Err}
 use Rattle.cp_scope.specs.declared.fault.CheckFault.{CheckFault}
-use Rattle.cp_scope.specs.declared.fault.CheckFault.TheVariants.{Rule, LeftOut, Memory}
+use Rattle.cp_scope.specs.declared.fault.CheckFault.TheVariants.{Rule, Memory}
 use Rattle.cp_scope.specs.Judged.{Judged, Refuses}
 
 abbrev pub with_front : {A : Type 0} → List A → Judged (List A) → Judged (List A)
@@ -13,6 +13,3 @@ front_refuses Memory front j h = tt
 front_refuses (Rule at r) front (Ok ts) h = absurd h
 front_refuses (Rule at r) front (Err []) h = absurd h
 front_refuses (Rule at r) front (Err (g ∷ gs)) h = h
-front_refuses (LeftOut at) front (Ok ts) h = absurd h
-front_refuses (LeftOut at) front (Err []) h = absurd h
-front_refuses (LeftOut at) front (Err (g ∷ gs)) h = h

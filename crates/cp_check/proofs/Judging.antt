@@ -1,7 +1,7 @@
 -- The first fault of a node is that of its first part with one.
 use Rattle.std.proofs.Common.{◌≡◌, ℕ, List, [], ◌∷◌, ◌++◌, Result, Ok, Err, refl}
 use Rattle.cp_scope.specs.declared.fault.CheckFault.{CheckFault}
-use Rattle.cp_scope.specs.declared.fault.CheckFault.TheVariants.{Rule, LeftOut, Memory}
+use Rattle.cp_scope.specs.declared.fault.CheckFault.TheVariants.{Rule, Memory}
 use Rattle.cp_scope.specs.Judged.{Judged, both, ◌>>=◌, IsFirst, Refuses, IsFirstOf, RefusesList}
 
 first_both : {A B C : Type 0} (f : CheckFault) (a : Judged A) (b : Judged B) (k : A × B → Judged C) → IsFirst f a → IsFirst f (both a b >>= k)
@@ -13,7 +13,6 @@ first_both f (Err (g ∷ gs)) (Err hs) k h = h
 pub refuses_both : {A B C : Type 0} (e : CheckFault) (a : Judged A) (b : Judged B) (k : A × B → Judged C) → Refuses e a → Refuses e (both a b >>= k)
 refuses_both Memory a b k h = tt
 refuses_both (Rule at rule) a b k h = first_both (Rule at rule) a b k h
-refuses_both (LeftOut at) a b k h = first_both (LeftOut at) a b k h
 
 first_bind : {A B : Type 0} (f : CheckFault) (a : Judged A) (k : A → Judged B) → IsFirst f a → IsFirst f (a >>= k)
 first_bind f (Ok x) k h = absurd h
@@ -23,7 +22,6 @@ first_bind f (Err (g ∷ gs)) k h = h
 pub refuses_bind : {A B : Type 0} (e : CheckFault) (a : Judged A) (k : A → Judged B) → Refuses e a → Refuses e (a >>= k)
 refuses_bind Memory a k h = tt
 refuses_bind (Rule at rule) a k h = first_bind (Rule at rule) a k h
-refuses_bind (LeftOut at) a k h = first_bind (LeftOut at) a k h
 
 first_of_append : (f : CheckFault) (fs gs : List CheckFault) → IsFirstOf f fs → IsFirstOf f (fs ++ gs)
 first_of_append f [] gs h = absurd h
@@ -32,7 +30,6 @@ first_of_append f (g ∷ fs) gs h = h
 pub first_append : (e : CheckFault) (fs gs : List CheckFault) → RefusesList e fs → RefusesList e (fs ++ gs)
 first_append Memory fs gs h = tt
 first_append (Rule at rule) fs gs h = first_of_append (Rule at rule) fs gs h
-first_append (LeftOut at) fs gs h = first_of_append (LeftOut at) fs gs h
 
 pub refuses_twice : {A B C : Type 0} (e : CheckFault) (a : Judged A) (k : A → Judged B) (l : B → Judged C) → Refuses e a → Refuses e (a >>= k >>= l)
 refuses_twice e a k l h = refuses_bind e (a >>= k) l (refuses_bind e a k h)

@@ -9,8 +9,8 @@ pub mod Fronts
 pub mod Judging
 pub mod Labels
 pub mod Lists
+pub mod Members
 pub mod Routines
 pub mod Statements
 pub mod Steps
 pub mod Systems
-pub mod Members

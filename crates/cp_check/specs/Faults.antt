@@ -8,7 +8,7 @@ use Rattle.cp_scope.specs.declared.count.Use.{Use}
 use Rattle.cp_scope.specs.declared.shape.Census.{Census}
 use Rattle.cp_scope.specs.Counts.{no_use}
 use Rattle.cp_scope.specs.Scopes.{Scopes, census, start}
-use Rattle.cp_scope.specs.Judged.{Judged, faults, IsFirstOf}
+use Rattle.cp_scope.specs.Judged.{Judged, faults}
 use Rattle.cp_check.specs.declared.operand.Context.{Context}
 use Rattle.cp_check.specs.Types.{Step, then_step}
 use Rattle.cp_check.specs.Statements.{statements}
@@ -42,9 +42,3 @@ with_limits at o = limit_faults at o.scopes o.uses
 
 unfoldable pub faults_of : Tree → List CheckFault
 faults_of t = with_limits t.program.period (opened start t.program)
-
--- the first fault, unless memory fails or a construct is not run yet
-abbrev pub RefusesProgram : CheckFault → List CheckFault → Type 0
-RefusesProgram check_fault.Memory fs = Unit {0}
-RefusesProgram (check_fault.Rule at rule) fs = IsFirstOf (check_fault.Rule at rule) fs
-RefusesProgram (check_fault.LeftOut at) fs = Unit {0}

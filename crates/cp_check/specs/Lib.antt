@@ -8,8 +8,8 @@ pub mod Headings
 pub mod Names
 pub mod Operands
 pub mod Operations
-pub mod Routines
 pub mod Records
+pub mod Routines
 pub mod Statements
 pub mod Systems
 pub mod Types

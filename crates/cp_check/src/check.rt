@@ -1,14 +1,13 @@
 //! The check of a whole program.
 
 ghost use Rattle.std.specs.Prelude.{◌≡◌, [], IfOk, IfErr, OnOk};
-ghost use Rattle.cp_scope.specs.Judged.{Judges, Finds};
+ghost use Rattle.cp_scope.specs.Judged.{Judges, Finds, RefusesList};
 ghost use Rattle.cp_scope.specs.View.{scopes_of};
 ghost use Rattle.cp_tree.specs.TreeView.{tree_view};
 ghost use Rattle.cp_tree.specs.View.{program_view};
 ghost use Rattle.cp_check.specs.Faults as spec;
 ghost use Rattle.cp_check.specs.Faults.{faults_of};
 
-use crate::left_out::first;
 use crate::operand::Context;
 use crate::routine::{need_of, routines};
 use crate::statement::statements;
@@ -100,14 +99,11 @@ fn whole(alloc: Global, tree: &Tree) -> Result<(), CheckFault>
 pub fn check(alloc: Global, tree: Tree) -> Result<Checked, (CheckFault, Tree)>
     ensures accepted { IfOk result (λ c. faults_of (tree_view tree) ≡ []) }
     ensures same { IfOk result (λ c. c.tree ≡ tree) }
-    ensures refused { IfErr result (λ e. spec.RefusesProgram e.0 (faults_of (tree_view tree))) }
+    ensures refused { IfErr result (λ e. RefusesList e.0 (faults_of (tree_view tree))) }
     ensures back { IfErr result (λ e. e.1 ≡ tree) }
 {
     match whole(alloc, &tree) {
-        Ok(()) => match first(&tree.program) {
-            None => Ok(Checked { tree }),
-            Some(at) => Err((CheckFault::LeftOut { at }, tree)),
-        },
+        Ok(()) => Ok(Checked { tree }),
         Err(fault) => Err((fault, tree)),
     }
 }

@@ -9,7 +9,6 @@ mod declaration;
 mod expression;
 pub mod fault;
 mod heading;
-mod left_out;
 mod name;
 mod operand;
 mod operation;

@@ -1,20 +1,17 @@
 -- The rows of all members are the table.
-use Rattle.std.proofs.Common.{◌≡◌, ℕ, zero, suc, ◌+◌, ◌≤◌, List, [], ◌∷◌, ◌++◌, length, map, take, flat_map, ◌<◌, get_or, Option, None, Some, slice_get, refl, sym, ap, ◌∙◌, arith}
+use Rattle.std.proofs.Common.{◌≡◌, ℕ, zero, suc, ◌+◌, ◌≤◌, List, [], ◌∷◌, ◌++◌, length, map, take, flat_map, ◌<◌, get_or, Some, slice_get, refl, sym, ap, ◌∙◌, arith}
 use Rattle.std.specs.List.{range_with_len}
 use Rattle.std.proofs.lemmas.List.{take_all, map-append, length-map}
 use Rattle.arrayvec.specs.ArrayVec.{ArrayVec}
 use Rattle.cp_slots.specs.Tables.{Tables}
 use Rattle.cp_run.specs.declared.limits.Limits.{Limits}
 use Rattle.cp_run.specs.Slots.{slots}
-use Rattle.cp_run.specs.Run.{opened}
 use Rattle.cp_run.specs.Table.{Line, each, table}
 use Rattle.cp_explore.specs.declared.row.Row.{Row}
-use Rattle.cp_explore.specs.Cutting.{rows_behind, rows_from, IsCutting}
+use Rattle.cp_explore.specs.Cutting.{rows_behind}
 use Rattle.cp_explore.specs.Members.{words_of, row_of, lines_behind, member_rows, CutsTable}
 use Rattle.cp_explore.specs.Rows.{line_of}
 use Rattle.cp_explore.specs.Tables.{table_of}
-use Rattle.cp_explore.specs.Walk.{walk}
-use Rattle.cp_explore.proofs.Walks.{table_walk}
 
 back : (rows : List Row) → rows ≡ map row_of (map line_of rows)
 back [] = refl
@@ -53,31 +50,10 @@ members_lines r l (w ∷ words) =
     ap (λ k. map line_of (map row_of here ++ k)) shifted ∙ map-append line_of (map row_of here) (table_of (member_rows r l words) (length words)) ∙ ap (λ k. k ++ map line_of (table_of (member_rows r l words) (length words))) (lines_back here) ∙ ap (λ k. here ++ k) (members_lines r l words)
 
 pub members_table : (r : Tables) (l : Limits) (words : List (ArrayVec ℕ)) (n : ℕ) (rows : List Row) → CutsTable r l words → n ≡ length words → rows ≡ table_of (member_rows r l words) n → map line_of rows ≡ table (slots r l.gates) l.choices l.steps
-members_table r l words n rows cuts e is = ap (map line_of) (is ∙ ap (table_of (member_rows r l words)) e) ∙ members_lines r l words ∙ cuts.cutting
+members_table r l words n rows cuts e is = ap (map line_of) (is ∙ ap (table_of (member_rows r l words)) e) ∙ members_lines r l words ∙ cuts.parts.rows
 
 pub members_length : (r : Tables) (l : Limits) (words : List (ArrayVec ℕ)) (n : ℕ) → CutsTable r l words → n ≡ length words → length (table_of (member_rows r l words) n) ≡ length (table (slots r l.gates) l.choices l.steps)
 members_length r l words n cuts e = sym (length-map (table_of (member_rows r l words) n) line_of) ∙ ap length (members_table r l words n (table_of (member_rows r l words) n) cuts e refl)
-
--- the one empty word is a cutting
-whole_from : (r : Tables) (l : Limits) (k : ℕ) → rows_from (slots r l.gates) l.steps k [] (opened (slots r l.gates) l.steps) ≡ walk (slots r l.gates) l.steps k (opened (slots r l.gates) l.steps)
-unfolding rows_from
-whole_from r l zero = refl
-whole_from r l (suc k) = refl
-
-append_none : {A : Type 0} (l : List A) → l ++ [] ≡ l
-append_none [] = refl
-append_none (x ∷ xs) = ap (λ l. x ∷ l) (append_none xs)
-
-whole_cuts : (r : Tables) (l : Limits) → rows_behind (slots r l.gates) l.choices l.steps [] ≡ table (slots r l.gates) l.choices l.steps
-unfolding rows_behind
-whole_cuts r l = whole_from r l l.choices ∙ sym (table_walk (slots r l.gates) l.choices l.steps)
-
-pub whole_cutting : (r : Tables) (l : Limits) (w : ArrayVec ℕ) (words : List (ArrayVec ℕ)) → w.items ≡ [] → words ≡ w ∷ [] → CutsTable r l words
-whole_cutting r l w words e is =
-    record {
-      few = let one = ap length is in omega (arith, one);
-      cutting = ap (λ ws. each (rows_behind (slots r l.gates) l.choices l.steps) (words_of ws)) is ∙ ap (λ x. rows_behind (slots r l.gates) l.choices l.steps x ++ []) e ∙ append_none (rows_behind (slots r l.gates) l.choices l.steps []) ∙ whole_cuts r l;
-    }
 
 pub get_at : {A : Type 0} (xs : List A) (i : ℕ) (d : A) → i < length xs → slice_get xs i ≡ Some (get_or xs i d)
 get_at [] i d lt = absurd (omega (arith, lt))

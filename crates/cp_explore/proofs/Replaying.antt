@@ -1,18 +1,17 @@
 -- The rows behind a word, number by number.
-use Rattle.std.proofs.Common.{◌≡◌, ℕ, zero, suc, ◌+◌, ◌-◌, ◌<◌, ◌≤◌, Bool, true, false, if◌then◌else◌, List, [], ◌∷◌, ◌++◌, length, map, take, drop, get_or, refl, sym, ap, ◌∙◌, arith, take-suc}
+use Rattle.std.proofs.Common.{◌≡◌, ℕ, zero, suc, ◌+◌, ◌-◌, ◌<◌, true, false, if◌then◌else◌, List, [], ◌∷◌, ◌++◌, length, map, take, drop, get_or, refl, sym, ap, ◌∙◌, arith, take-suc}
 use Rattle.std.proofs.lemmas.List.{append_assoc}
 use Rattle.cp_run.specs.declared.outcome.Halt.{Halt}
 use Rattle.cp_run.specs.declared.outcome.Halt.TheVariants.{Choice, Ended as HasEnded}
 use Rattle.cp_run.specs.Code.{node_of, is_over}
 use Rattle.cp_run.specs.System.{System}
 use Rattle.cp_run.specs.Run.{Node, Halted, Choosing, may, chosen, opened}
-use Rattle.cp_run.specs.Table.{Line, each, table}
+use Rattle.cp_run.specs.Table.{Line}
 use Rattle.cp_run.proofs.Running.{drop_next, drop_all}
 use Rattle.cp_run.proofs.TraceRuns.{not_over, some_left}
 use Rattle.cp_explore.specs.Walk.{behind, walk}
-use Rattle.cp_explore.specs.Cutting.{rows_from, rows_behind, IsCutting}
+use Rattle.cp_explore.specs.Cutting.{rows_from, rows_behind}
 use Rattle.cp_explore.proofs.Whole.{behind_none}
-use Rattle.cp_explore.proofs.Walks.{table_walk}
 use Rattle.cp_explore.proofs.Joining.{take_whole}
 use Rattle.std.proofs.lemmas.Bool.{eqb-true}
 

@@ -25,7 +25,7 @@ pub each_map : {A B C : Type 0} (f : B → List C) (h : A → B) (xs : List A) �
 each_map f h [] = refl
 each_map f h (x ∷ xs) = ap (λ l. f (h x) ++ l) (each_map f h xs)
 
-each_same : {A B : Type 0} (f g : A → List B) (xs : List A) → ((x : A) → f x ≡ g x) → each f xs ≡ each g xs
+pub each_same : {A B : Type 0} (f g : A → List B) (xs : List A) → ((x : A) → f x ≡ g x) → each f xs ≡ each g xs
 each_same f g [] h = refl
 each_same f g (x ∷ xs) h = ap (λ l. l ++ each f xs) (h x) ∙ ap (λ l. g x ++ l) (each_same f g xs h)
 

@@ -1,11 +1,11 @@
 -- The words of a cutting, and the rows behind each.
-use Rattle.std.specs.Prelude.{◌≡◌, ◌≤◌, ℕ, List, [], length, map, Option, None, Some, slice_get}
+use Rattle.std.specs.Prelude.{◌≤◌, ℕ, List, [], length, map, Option, None, Some, slice_get}
 use Rattle.arrayvec.specs.ArrayVec.{ArrayVec}
 use Rattle.cp_slots.specs.Tables.{Tables}
 use Rattle.cp_run.specs.declared.limits.Limits.{Limits}
 use Rattle.cp_run.specs.Slots.{slots}
 use Rattle.cp_run.specs.Table.{Line}
-use Rattle.cp_explore.specs.Cutting.{rows_behind, IsCutting}
+use Rattle.cp_explore.specs.Cutting.{rows_behind, IsCutting, Parts}
 use Rattle.cp_explore.specs.declared.row.Row.{Row}
 
 abbrev pub words_of : List (ArrayVec ℕ) → List (List ℕ)
@@ -26,3 +26,4 @@ member_rows r l words i = map row_of (lines_behind r l (slice_get words i))
 pub record CutsTable (r : Tables) (l : Limits) (words : List (ArrayVec ℕ)) : Type 0 where
   pub few : length words ≤ 4096
   pub cutting : IsCutting (slots r l.gates) l.choices l.steps (words_of words)
+  pub parts : Parts (slots r l.gates) l.choices l.steps (words_of words)

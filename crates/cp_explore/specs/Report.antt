@@ -1,35 +1,27 @@
 -- The report of a table.
-use Rattle.std.specs.Prelude.{ℕ, List, [], ◌∷◌, ◌++◌, length, count_by, ◌&&◌, not, ◌==◌, Bool, true, false, decimal, codes, if◌then◌else◌}
+use Rattle.std.specs.Prelude.{ℕ, List, [], ◌∷◌, ◌++◌, length, count_by, nat_eq, unsigned_abs, Bool, decimal, codes, if◌then◌else◌}
+use Rattle.std.specs.Int.{is_negative}
 use Rattle.std.specs.List.{list_any}
-use Rattle.std.specs.Ordering.{int_eq}
+use lib.Pointwise.{pointwise}
 use Rattle.cp_slots.specs.Tables.{Tables}
 use Rattle.cp_machine.specs.declared.shown.Shown.{Shown}
 use Rattle.cp_machine.specs.declared.shown.Shown.TheVariants.{Integer, Char, Truth, Constant}
-use Rattle.cp_machine.specs.declared.event.ErrorName.{ErrorName}
-use Rattle.cp_machine.specs.declared.event.ErrorName.TheVariants.{Overflow, ZeroDivisor, Range, NoCase, QueueInUse, NotInit, InitTwice}
+use Rattle.cp_store.specs.declared.error.ErrorName.{ErrorName}
+use Rattle.cp_store.specs.declared.error.ErrorName.TheVariants.{Overflow, ZeroDivisor, Range, NoCase, QueueInUse, NotInit, InitTwice}
 use Rattle.cp_run.specs.declared.outcome.Outcome.{Outcome}
 use Rattle.cp_run.specs.declared.outcome.OutcomeKind.{OutcomeKind}
 use Rattle.cp_run.specs.declared.outcome.OutcomeKind.TheVariants.{Finished, AllWaiting, RunError, ChoiceLimit, StepLimit, OutputLimit}
 use Rattle.cp_run.specs.Table.{Line, each}
 use Rattle.cp_explore.specs.Text.{word_text, outcome_text}
 
--- whether two outcomes are equal; enumeration constants are told apart by their numbers
+-- An outcome as a list of numbers: outcomes are the same where their numbers are. Each part begins with what tells its kind, so no
+-- two outcomes have one list.
 
-abbrev pub same_truth : Bool → Bool → Bool
-same_truth true b = b
-same_truth false b = not b
-
-abbrev pub same_shown : Shown → Shown → Bool
-same_shown (Integer a) (Integer b) = int_eq a b
-same_shown (Char a) (Char b) = a == b
-same_shown (Truth a) (Truth b) = same_truth a b
-same_shown (Constant a) (Constant b) = a == b
-same_shown _ _ = false
-
-abbrev pub same_output : List Shown → List Shown → Bool
-same_output [] [] = true
-same_output (a ∷ xs) (b ∷ ys) = same_shown a b && same_output xs ys
-same_output _ _ = false
+abbrev pub shown_numbers : Shown → List ℕ
+shown_numbers (Integer z) = (if is_negative z then 1 else 0) ∷ unsigned_abs z ∷ []
+shown_numbers (Char c) = 2 ∷ c ∷ []
+shown_numbers (Truth b) = 3 ∷ (if b then 1 else 0) ∷ []
+shown_numbers (Constant n) = 4 ∷ n ∷ []
 
 abbrev pub number_of : ErrorName → ℕ
 number_of Overflow = 0
@@ -40,17 +32,19 @@ number_of QueueInUse = 4
 number_of NotInit = 5
 number_of InitTwice = 6
 
-abbrev pub same_kind : OutcomeKind → OutcomeKind → Bool
-same_kind Finished Finished = true
-same_kind AllWaiting AllWaiting = true
-same_kind (RunError name process line) (RunError other q m) = number_of name == number_of other && (process == q && line == m)
-same_kind ChoiceLimit ChoiceLimit = true
-same_kind StepLimit StepLimit = true
-same_kind OutputLimit OutputLimit = true
-same_kind _ _ = false
+abbrev pub kind_numbers : OutcomeKind → List ℕ
+kind_numbers Finished = 0 ∷ []
+kind_numbers AllWaiting = 1 ∷ []
+kind_numbers (RunError name process line) = 2 ∷ number_of name ∷ process ∷ line ∷ []
+kind_numbers ChoiceLimit = 3 ∷ []
+kind_numbers StepLimit = 4 ∷ []
+kind_numbers OutputLimit = 5 ∷ []
+
+abbrev pub outcome_numbers : Outcome → List ℕ
+outcome_numbers o = kind_numbers o.kind ++ each shown_numbers o.output
 
 abbrev pub same_outcome : Outcome → Outcome → Bool
-same_outcome a b = same_kind a.kind b.kind && same_output a.output b.output
+same_outcome a b = pointwise nat_eq (outcome_numbers a) (outcome_numbers b)
 
 -- the first row of each outcome, after those found before
 abbrev pub firsts : List Line → List Line → List Line

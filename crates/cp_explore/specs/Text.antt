@@ -1,9 +1,9 @@
 -- The texts of words and outcomes, as lists of bytes.
 use Rattle.std.specs.Prelude.{ℕ, List, [], ◌∷◌, ◌++◌, ◌&&◌, not, ◌==◌, nat_le, decimal, codes, if◌then◌else◌}
 use Rattle.std.specs.Fmt.{signed_decimal}
-use Rattle.cp_slots.specs.Tables.{Tables}
-use Rattle.cp_machine.specs.declared.event.ErrorName.{ErrorName}
-use Rattle.cp_machine.specs.declared.event.ErrorName.TheVariants.{Overflow, ZeroDivisor, Range, NoCase, QueueInUse, NotInit, InitTwice}
+use Rattle.cp_slots.specs.Tables.{Tables, name_at}
+use Rattle.cp_store.specs.declared.error.ErrorName.{ErrorName}
+use Rattle.cp_store.specs.declared.error.ErrorName.TheVariants.{Overflow, ZeroDivisor, Range, NoCase, QueueInUse, NotInit, InitTwice}
 use Rattle.cp_machine.specs.declared.shown.Shown.{Shown}
 use Rattle.cp_machine.specs.declared.shown.Shown.TheVariants.{Integer, Char, Truth, Constant}
 use Rattle.cp_run.specs.declared.outcome.Outcome.{Outcome}
@@ -27,15 +27,11 @@ word_text word = joined_by 46 decimal word
 abbrev pub char_text : ℕ → List ℕ
 char_text c = if nat_le 33 c && (nat_le c 126 && not (c == 39)) then codes "'" ++ c ∷ [] ++ codes "'" else codes "'(:" ++ decimal c ++ codes ":)'"
 
--- the name of an enumeration constant
-abbrev pub name_text : Tables → ℕ → List ℕ
-name_text r number = []
-
 abbrev pub shown_text : Tables → Shown → List ℕ
 shown_text r (Integer z) = signed_decimal z
 shown_text r (Char c) = char_text c
 shown_text r (Truth b) = if b then codes "true" else codes "false"
-shown_text r (Constant number) = name_text r number
+shown_text r (Constant number) = name_at r number
 
 -- its values, joined by spaces
 abbrev pub output_text : Tables → List Shown → List ℕ

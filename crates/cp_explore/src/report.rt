@@ -1,47 +1,19 @@
 //! The report of a table.
 
 ghost use Rattle.std.specs.Prelude.{◌≡◌, ◌++◌, map, IfOk, string_bytes, decimal, codes};
-ghost use Rattle.std.specs.List.{list_any};
-ghost use Rattle.cp_explore.specs.Report.{same_outcome, count_of, outcomes_of, report_text, row_text, rows_text, group_text, groups_text};
-ghost use Rattle.cp_explore.specs.Rows.{line_of, lines_at};
+ghost use Rattle.indexmap.specs.IndexMap.{values};
+ghost use Rattle.cp_run.specs.Table.{each};
+ghost use Rattle.cp_explore.specs.Groups.{tally, tally_text};
+ghost use Rattle.cp_explore.specs.Report.{report_text, row_text, rows_text};
+ghost use Rattle.cp_explore.specs.Rows.{line_of};
 
+use crate::groups::{Group, grouped};
 use crate::printed::{Report, Text};
 use crate::row::{Row, Table};
-use crate::same::same_outcome;
 use crate::text::{push_number, push_outcome, push_word};
 use cp_slots::resolved::Resolved;
+use indexmap::IndexMap;
 use std::alloc::{AllocError, Global};
-
-/// The first rows of the distinct outcomes, in order.
-fn outcomes<'a>(alloc: Global, rows: &'a [Row]) -> Result<Vec<&'a Row>, AllocError>
-    ensures { IfOk result (λ v. lines_at v.items ≡ outcomes_of (map line_of rows.now)) }
-{
-    let mut firsts: Vec<&Row> = Vec::new(alloc);
-    for row in rows {
-        if !is_found(firsts.as_slice(), row) {
-            firsts.push(row)?;
-        }
-    }
-    Ok(firsts)
-}
-
-/// Whether one of these rows has the outcome of this one.
-fn is_found(firsts: &[&Row], row: &Row) -> bool
-    ensures { result ≡ list_any (λ first. same_outcome first.now.outcome row.now.outcome) firsts.now }
-{
-    firsts
-        .iter()
-        .any(|first| same_outcome(&first.outcome, &row.outcome))
-}
-
-/// How many rows have the outcome of this one.
-fn count(rows: &[Row], first: &Row) -> usize
-    ensures { result ≡ count_of (map line_of rows.now) (line_of first.now) }
-{
-    rows.iter()
-        .filter(|row| same_outcome(&row.outcome, &first.outcome))
-        .count()
-}
 
 fn push_row(
     alloc: Global,
@@ -76,16 +48,15 @@ fn push_group(
     alloc: Global,
     text: &mut String,
     program: &Resolved,
-    rows: &[Row],
-    first: &Row,
+    group: &Group,
 ) -> Result<(), AllocError>
-    ensures { IfOk result (λ _. string_bytes text.new ≡ string_bytes text.old ++ group_text program.now (map line_of rows.now) (line_of first.now)) }
+    ensures { IfOk result (λ _. string_bytes text.new ≡ string_bytes text.old ++ tally_text program.now (tally group.now)) }
 {
-    push_number(alloc, text, count(rows, first) as u64)?;
+    push_number(alloc, text, group.count as u64)?;
     text.push_str(" first ")?;
-    push_word(alloc, text, first.word.as_slice())?;
+    push_word(alloc, text, group.first.word.as_slice())?;
     text.push_str(" ")?;
-    push_outcome(alloc, text, program, &first.outcome)?;
+    push_outcome(alloc, text, program, &group.first.outcome)?;
     text.push_str("\n")
 }
 
@@ -93,13 +64,12 @@ fn push_groups(
     alloc: Global,
     text: &mut String,
     program: &Resolved,
-    rows: &[Row],
-    firsts: &[&Row],
+    groups: &IndexMap<Vec<u32>, Group>,
 ) -> Result<(), AllocError>
-    ensures { IfOk result (λ _. string_bytes text.new ≡ string_bytes text.old ++ groups_text program.now (map line_of rows.now) (lines_at firsts.now)) }
+    ensures { IfOk result (λ _. string_bytes text.new ≡ string_bytes text.old ++ each (tally_text program.now) (map tally (values groups.now))) }
 {
-    for first in firsts {
-        push_group(alloc, text, program, rows, first)?;
+    for group in groups.values() {
+        push_group(alloc, text, program, group)?;
     }
     Ok(())
 }
@@ -123,14 +93,14 @@ pub fn report(
     ensures { IfOk result (λ r. r.text ≡ report_text program.now (map line_of table.now.rows) rows) }
 {
     let all = table.rows.as_slice();
-    let firsts = outcomes(alloc, all)?;
+    let groups = grouped(alloc, all)?;
     let mut lines = String::new(alloc);
     if rows {
         push_rows(alloc, &mut lines, program, all)?;
     }
     push_line(alloc, &mut lines, "schedules ", all.len())?;
-    push_line(alloc, &mut lines, "outcomes ", firsts.len())?;
-    push_groups(alloc, &mut lines, program, all, firsts.as_slice())?;
+    push_line(alloc, &mut lines, "outcomes ", groups.len())?;
+    push_groups(alloc, &mut lines, program, &groups)?;
     Ok(Report {
         text: Text::new(lines),
     })

@@ -10,6 +10,7 @@ ghost use Rattle.cp_explore.specs.Rows.{line_of, IsTooMany};
 
 use crate::fault::ExploreFault;
 use crate::row::Row;
+use crate::word::word_of;
 use arrayvec::ArrayVec;
 use cp_machine::state::State;
 use cp_machine::ticks::Ticks;
@@ -49,16 +50,6 @@ fn add_row(
         Ok(()) => Ok(()),
         Err(_) => Err(ExploreFault::Memory),
     }
-}
-
-/// These numbers as a word.
-pub fn word_of(numbers: &[u8]) -> ArrayVec<u8, 20>
-    requires { length numbers.now ≤ 20 }
-    ensures { result.items ≡ numbers.now }
-{
-    let mut word = ArrayVec::new();
-    let _ = word.try_extend_from_slice(numbers);
-    word
 }
 
 /// Walks from a node, at the end of `word`; there is a kept state for each choice left.

@@ -1,35 +1,27 @@
--- What the crates above know of a machine.
-use Rattle.std.proofs.Common.{◌≡◌, ◌∙◌, ℕ, zero, suc, ◌<◌, ◌≤◌, Bool, true, false, List, [], ◌∷◌, length, is_some as std_is_some, Option, None, Some, refl, sym, ap, subst, arith, filter}
+-- What the crates above need of the machine.
+use Rattle.std.proofs.Common.{◌≡◌, ◌∙◌, ℕ, zero, suc, ◌+◌, ◌<◌, ◌≤◌, Bool, true, false, List, [], ◌∷◌, length, is_some as std_is_some, Option, None, Some, refl, sym, ap, arith, filter}
 use Rattle.std.specs.List.{range_with_len}
 use Rattle.std.proofs.lemmas.List.{length-map, get_or-set_same}
 use Rattle.cp_slots.specs.Tables.{Tables}
-use Rattle.cp_machine.specs.declared.event.Event.{Event}
 use Rattle.cp_machine.specs.declared.gates.Gates.{Gates}
 use Rattle.cp_machine.specs.declared.state.State.{State}
-use Rattle.cp_machine.specs.declared.state.Status.{Status}
-use Rattle.cp_machine.specs.declared.state.Status.TheVariants.{Ready}
-use Rattle.cp_machine.specs.Fits.{IsStateOf}
-use Rattle.cp_machine.specs.Machine.{Machine, Stepped, Thread, machine_of, thread_of, thread_at, no_thread, is_ready_status, in_line_of, admitted_at, still, unstarted_thread, is_some, opening, step_at, is_local, is_ready, in_line, waiting_of, is_pending, admitted}
-use Rattle.cp_machine.proofs.LocalSteps.{KeepsReady, takes}
+use Rattle.cp_machine.specs.declared.process.Status.{Status}
+use Rattle.cp_machine.specs.declared.process.Status.TheVariants.{Ready}
+use Rattle.cp_machine.specs.Machine.{thread_of, Thread, thread_at, no_thread, is_ready_status, in_line_of, is_some}
+use Rattle.cp_machine.specs.Opening.{admitted_at, still, unstarted_thread}
+use Rattle.cp_machine.specs.System.{Machine, machine_of, opening, is_ready, in_line, waiting_of, is_pending, admitted, IsStateOf}
+pub use Rattle.cp_machine.proofs.LocalReady.{local_ready}
 
--- after a local step its process is ready
-pub local_ready : (r : Tables) (m n : Machine) (p : ℕ) (e : Event) → p < length m.threads → is_ready m p ≡ true → step_at r m p ≡ record { machine = n; event = e } → is_local e ≡ true → is_ready n p ≡ true
-local_ready r m n p event lt h e i =
-    let Keeps : Stepped → Type 0 = λ x. KeepsReady p x in
-    subst Keeps e (takes r m p (thread_at m.threads p).stack lt h) i
-
+-- a state has the program's processes
 pub threads_count : (r : Tables) (s : State) → IsStateOf r s → length (machine_of s).threads ≡ length r.processes
 threads_count r s own = own.fits.threads
-
--- the line of the pending monitor
-pub line_pending : (m : Machine) (monitor : ℕ) → m.pending ≡ Some monitor → waiting_of m monitor ≡ filter (in_line m) (range_with_len 0 (length m.threads))
-line_pending m monitor e = ap (λ o. filter (λ pid. in_line_of o (thread_at m.threads pid).status) (range_with_len 0 (length m.threads))) (sym e)
 
 ready_status_within : (ts : List Thread) (p : ℕ) → is_ready_status (thread_at ts p).status ≡ true → p < length ts
 ready_status_within [] p h = absurd (cc)
 ready_status_within (t ∷ ts) zero h = omega arith
 ready_status_within (t ∷ ts) (suc p) h = omega (arith, ready_status_within ts p h)
 
+-- who is ready is one of the threads
 pub ready_thread : (m : Machine) (p : ℕ) → is_ready m p ≡ true → p < length m.threads
 ready_thread m p h = ready_status_within m.threads p h
 
@@ -47,10 +39,14 @@ in_line_within (Some monitor) (t ∷ ts) (suc p) h = omega (arith, in_line_withi
 pub line_within : (s : State) (p : ℕ) → in_line (machine_of s) p ≡ true → p < length s.processes.items
 line_within s p h = let lt = in_line_within (machine_of s).pending (machine_of s).threads p h in omega (arith, lt, length-map s.processes.items thread_of)
 
+-- who waits at the gate of the pending monitor is in the line
+pub line_pending : (m : Machine) (monitor : ℕ) → m.pending ≡ Some monitor → waiting_of m monitor ≡ filter (in_line m) (range_with_len 0 (length m.threads))
+line_pending m monitor e = ap (λ o. filter (λ pid. in_line_of o (thread_at m.threads pid).status) (range_with_len 0 (length m.threads))) (sym e)
+
 -- after an admission its process is ready, and nothing is pending
 admitted_at_ready : (pending : Option ℕ) (m : Machine) (p : ℕ) → p < length m.threads → in_line_of pending (thread_at m.threads p).status ≡ true → is_ready (admitted_at pending m p) p ≡ true
 admitted_at_ready None m p lt h = absurd (cc)
-admitted_at_ready (Some monitor) m p lt h = ap (λ t. is_ready_status t.status) (get_or-set_same m.threads p (record { status = Ready; frame = (thread_at m.threads p).frame; stack = (thread_at m.threads p).stack }) no_thread lt)
+admitted_at_ready (Some monitor) m p lt h = ap (λ t. is_ready_status t.status) (get_or-set_same m.threads p (record (thread_at m.threads p) { status = Ready }) no_thread lt)
 
 admitted_at_free : (pending : Option ℕ) (m : Machine) (p : ℕ) (status : Status) → in_line_of pending status ≡ true → is_pending (admitted_at pending m p) ≡ false
 admitted_at_free None m p status h = absurd (cc)
@@ -66,7 +62,7 @@ admitted_free m n p h e = ap is_pending e ∙ admitted_at_free m.pending m p (th
 pub opening_ready : (r : Tables) (gates : Gates) (m : Machine) → 1 ≤ length r.processes → m ≡ opening r gates → is_ready m 0 ≡ true
 opening_ready r gates m some e =
     let n : 0 < length (still r gates).threads = omega (arith, some, length-map r.processes (unstarted_thread r)) in
-    ap (λ x. is_ready x 0) e ∙ ap (λ t. is_ready_status t.status) (get_or-set_same (still r gates).threads 0 (record { status = Ready; frame = (thread_at (still r gates).threads 0).frame; stack = (thread_at (still r gates).threads 0).stack }) no_thread n)
+    ap (λ x. is_ready x 0) e ∙ ap (λ t. is_ready_status t.status) (get_or-set_same (still r gates).threads 0 (record (thread_at (still r gates).threads 0) { status = Ready }) no_thread n)
 
 -- whether a monitor is pending, by the answer of a reading
 pending_as : (o : Option ℕ) (b : Bool) → std_is_some o ≡ b → is_some o ≡ b

@@ -1,153 +1,179 @@
 -- A step keeps each process inside what was reserved for it.
-use Rattle.std.proofs.Common.{◌≡◌, ℕ, zero, suc, ◌+◌, ◌-◌, ◌<◌, ◌≤◌, ◌∙◌, ◌⊎◌, inl, inr, List, [], ◌∷◌, length, Option, Some, None, Result, Ok, Err, Bool, true, false, sym, refl, subst, arith, get_or-set_same, get_or-set_other, if◌then◌else◌}
-use Rattle.std.specs.Prelude.{ℤ, pos, slice_set, slice_index_or, ◌==◌}
-use Rattle.std.proofs.lemmas.Bool.{cases_eq}
-use Rattle.std.proofs.lemmas.List.{length-set}
-use Rattle.cp_slots.specs.Tables.{Tables, item_at, process_at}
-use Rattle.cp_slots.specs.Fits.{IsSound, ListFits, InnerFits, ActionFits, ReadsWithin, AllRead}
-use Rattle.cp_slots.specs.declared.expression.Expression.{Expression}
-use Rattle.cp_slots.specs.declared.expression.Expression.TheVariants.{Number, Permanent}
+use Rattle.std.proofs.Common.{◌≡◌, ℕ, zero, suc, ◌+◌, ◌-◌, ◌<◌, ◌≤◌, ◌∙◌, ◌⊎◌, inl, inr, List, [], ◌∷◌, ◌++◌, length, take, Option, Some, None, Result, Ok, Err, Bool, true, false, ap, sym, refl, subst, arith, get_or-set_same, get_or-set_other, length-append, if◌then◌else◌}
+use Rattle.std.specs.Prelude.{ℤ, pos, slice_set, slice_index_or, ◌==◌, nat_lt, int_lt, IfSome, replicate}
+use Rattle.std.specs.Ordering.{int_eq}
+use Rattle.std.proofs.lemmas.Bool.{cases_eq, cases_lt}
+use Rattle.std.proofs.lemmas.List.{get_or_past, length-set, length-take, length-replicate}
+use Rattle.cp_slots.specs.Tables.{Tables, RoutineView, item_at, routine_at, component_at, process_at, no_component}
+use Rattle.cp_slots.specs.Fits.{IsSound, Nests, ListFits, InnerFits, ArmsFit, CallFits, ActionFits, KindFits}
 use Rattle.cp_slots.specs.declared.item.Action.{Action}
-use Rattle.cp_slots.specs.declared.item.Action.TheVariants.{Empty, Block, Cycle, Start, Display}
-use Rattle.cp_machine.specs.declared.event.ErrorName.{ErrorName}
+use Rattle.cp_slots.specs.declared.item.Action.TheVariants.{Empty, Assign, AssignSet, Copy, Block, If, Case, While, Until, For, Cycle, Call, Start, Delay, Continue, Display}
+use Rattle.cp_slots.specs.declared.item.Arm.{Arm}
+use Rattle.cp_slots.specs.declared.place.Argument.{Argument}
+use Rattle.cp_slots.specs.declared.place.Origin.{Origin}
+use Rattle.cp_slots.specs.declared.tables.Component.{Component}
+use Rattle.cp_slots.specs.declared.tables.ComponentKind.{ComponentKind}
+use Rattle.cp_slots.specs.declared.tables.ComponentKind.TheVariants as kind
+use Rattle.cp_store.specs.declared.argument.Bound.{Bound}
+use Rattle.cp_store.specs.declared.error.ErrorName.{ErrorName}
+use Rattle.cp_store.specs.declared.memory.Address.{Address}
+use Rattle.cp_store.specs.declared.memory.Address.TheVariants as address
+use Rattle.cp_store.specs.declared.memory.Frame.{Frame}
+use Rattle.cp_store.specs.Memory.{Memory, nowhere, onward}
+use Rattle.cp_store.specs.Values.{ranged, is_true}
+use Rattle.cp_machine.specs.declared.gates.Gates.{Gates}
+use Rattle.cp_machine.specs.declared.gates.Gates.TheVariants.{First, Any}
 use Rattle.cp_machine.specs.declared.shown.Shown.{Shown}
-use Rattle.cp_machine.specs.declared.state.Entry.{Entry}
-use Rattle.cp_machine.specs.declared.state.Entry.TheVariants.{Rest}
-use Rattle.cp_machine.specs.declared.state.Frame.{Frame}
-use Rattle.cp_machine.specs.declared.state.Status.{Status}
-use Rattle.cp_machine.specs.declared.state.Status.TheVariants.{Ready, Ended}
+use Rattle.cp_machine.specs.declared.process.Entry.{Entry}
+use Rattle.cp_machine.specs.declared.process.Entry.TheVariants.{Rest, Successor, Return, InitEnd}
+use Rattle.cp_machine.specs.declared.process.Status.{Status}
+use Rattle.cp_machine.specs.declared.process.Status.TheVariants.{Ready, Ended, AtGate, Delayed}
+use Rattle.cp_machine.specs.declared.state.Phase.{Phase}
+use Rattle.cp_machine.specs.declared.state.Phase.TheVariants.{Initialising, Initialised}
 use Rattle.cp_machine.specs.declared.state.TheConstants.{LIMIT}
-use Rattle.cp_machine.specs.Fits.{FrameFits, MachineFits, StackFits}
-use Rattle.cp_machine.specs.Machine.{Machine, Thread, Stepped, thread_at, no_thread, with_thread, with_stack, with_status, with_cells, with_output, with_value, act, take_top, step_at, is_unstarted, admitted, admitted_at}
-use Rattle.cp_machine.specs.Stack.{rest_of}
-use Rattle.cp_machine.specs.Values.{value_at, values_at, written, Reads, AllReads}
+use Rattle.cp_machine.specs.Calls.{frame_behind, opened, with_result, given_up, left, called, called_in, called_by, call, start_process, start_inside, started, start, returned, init_ended, delayed_in, delay_at, delay, continued_from, continue_at, continue}
+use Rattle.cp_machine.specs.Fits.{FrameFits, Follows, EntryFits, StackFits, ThreadFits, MachineFits, size_of}
+use Rattle.cp_machine.specs.Machine.{Machine, Thread, Monitor, thread_at, no_thread, monitor_at, phase_at, is_initialised, is_uninitialised, is_unstarted, is_some, with_permanents, with_bindings, with_phase, with_thread, with_stack, with_status, with_monitor, with_pending, with_output}
+use Rattle.cp_machine.specs.Memory.{memory_at, with_memory, value_of, set_of, address_of, origin_of, component_of, arguments_of, number_put, set_put, cells_put, frame_opened, frame_bound, parameters_bound}
+use Rattle.cp_machine.specs.Opening.{admitted, admitted_at}
+use Rattle.cp_machine.specs.Stack.{rest_of, from_end}
+use Rattle.cp_machine.specs.Statements as statements
+use Rattle.cp_machine.specs.Statements.{Stepped, local, fault, with_value}
+use Rattle.cp_machine.specs.Step.{act, take_top, step_at}
+use Rattle.cp_machine.proofs.KernelFits.{thread_fits, permanents_fit}
+use Rattle.cp_machine.proofs.StoreLemmas.{Kept, kept_number, kept_set, kept_copy, kept_frame, kept_component, length-bindings}
+
+-- ---- control stacks
 
 pub frame_fits : (r : Tables) (f : Frame) (es : List Entry) → StackFits r f es → FrameFits r f
 frame_fits r f [] h = h
-frame_fits r f (Rest at ∷ es) h = frame_fits r f es h.2
+frame_fits r f (Rest at ∷ es) h = frame_fits r f es h.1
+frame_fits r f (Successor at value last ∷ es) h = frame_fits r f es h.1
+frame_fits r f (Return caller slot monitor ∷ es) h = h.0.fits
+frame_fits r f (InitEnd caller component ∷ es) h = h.0.fits
 
 pub rest_fits : (r : Tables) (f : Frame) (list : Option ℕ) (need : ℕ) (es : List Entry) → ListFits r f.routine need list → length es + 1 + need ≤ r.depth → StackFits r f es → StackFits r f (rest_of list es)
 rest_fits r f None need es n d h = h
 rest_fits r f (Some at) need es n d h =
     let same : (item_at r at).need ≤ (item_at r at).need = omega arith in
     let fits : (item_at r at).need ≤ need = n.fits in
-    (record { place = n.place; same = n.same; fits = same }, omega arith, h)
+    (record { nests = record { place = n.place; same = n.same; fits = same }; deep = omega arith }, h)
 
-length_rest : (list : Option ℕ) (es : List Entry) → length (rest_of list es) ≤ length es + 1
+pub length_rest : (list : Option ℕ) (es : List Entry) → length (rest_of list es) ≤ length es + 1
 length_rest None es = omega arith
 length_rest (Some at) es = omega arith
 
 -- a list inside an item, above at most one more entry
-inner_fits : (r : Tables) (f : Frame) (list : Option ℕ) (need n : ℕ) (es : List Entry) → InnerFits r f.routine need list → length es ≤ n + 1 → n + 1 + need ≤ r.depth → StackFits r f es → StackFits r f (rest_of list es)
+pub inner_fits : (r : Tables) (f : Frame) (list : Option ℕ) (need n : ℕ) (es : List Entry) → InnerFits r f.routine need list → length es ≤ n + 1 → n + 1 + need ≤ r.depth → StackFits r f es → StackFits r f (rest_of list es)
 inner_fits r f None need n es i l d h = h
 inner_fits r f (Some at) need n es i l d h = rest_fits r f (Some at) (need - 1) es i.1 (let some : 1 ≤ need = i.0 in omega arith) h
 
-written_length : (cells : List ℤ) (base : ℕ) (vs : List ℤ) (n : ℕ) → length (written cells base vs n) ≡ length cells
-written_length cells base vs zero = refl
-written_length cells base vs (suc n) = length-set (written cells base vs n) (base + n) (slice_index_or vs n (pos 0)) ∙ written_length cells base vs n
-
-abbrev Fit : Tables → Stepped → Type 0
-Fit r x = MachineFits r x.machine
-
-value_fits : {A : Type 0} (r : Tables) (o : Result A ErrorName) (failed : ErrorName → Stepped) (go : A → Stepped) → ((e : ErrorName) → Fit r (failed e)) → ((v : A) → Fit r (go v)) → Fit r (with_value o failed go)
-value_fits r (Ok v) failed go f g = g v
-value_fits r (Err e) failed go f g = f e
-
-either_fits : (r : Tables) (b : Bool) (x y : Stepped) → Fit r x → Fit r y → Fit r (if b then x else y)
-either_fits r true x y h k = h
-either_fits r false x y h k = k
-
--- a thread is replaced by one that fits
-replaced : (r : Tables) (m : Machine) (pid : ℕ) (x : Thread) → (pid < length m.threads → StackFits r x.frame x.stack) → MachineFits r m → MachineFits r (with_thread m pid x)
-replaced r m pid x fit h =
-    let long = length-set m.threads pid x in
-    record {
-      threads = long ∙ h.threads;
-      cells = h.cells;
-      monitors = h.monitors;
-      pending = h.pending;
-      stacks = λ q lt. (let within : q < length m.threads = omega (arith, long) in go q within (cases_eq q pid));
-    }
-  where
-    go : (q : ℕ) → q < length m.threads → (q ≡ pid) ⊎ (q ≡ pid → ⊥) → StackFits r (thread_at (slice_set m.threads pid x) q).frame (thread_at (slice_set m.threads pid x) q).stack
-    go q lt (inl e) =
-        let P : ℕ → Type 0 = λ k. StackFits r (thread_at (slice_set m.threads pid x) k).frame (thread_at (slice_set m.threads pid x) k).stack in
-        let within : pid < length m.threads = omega arith in
-        let same = get_or-set_same m.threads pid x no_thread within in
-        let Q : Thread → Type 0 = λ t. StackFits r t.frame t.stack in
-        subst P (sym e) (subst Q (sym same) (fit within))
-    go q lt (inr ne) =
-        let Q : Thread → Type 0 = λ t. StackFits r t.frame t.stack in
-        subst Q (sym (get_or-set_other m.threads pid q x no_thread ne)) (h.stacks q lt)
-
-stack_fits : (r : Tables) (m : Machine) (pid : ℕ) (stack : List Entry) → StackFits r (thread_at m.threads pid).frame stack → MachineFits r m → MachineFits r (with_stack m pid stack)
-stack_fits r m pid stack fit h = replaced r m pid _ (λ lt. fit) h
-
-pub status_fits : (r : Tables) (m : Machine) (pid : ℕ) (status : Status) → MachineFits r m → MachineFits r (with_status m pid status)
-status_fits r m pid status h = replaced r m pid _ (λ lt. h.stacks pid lt) h
-
-cells_fit : (r : Tables) (m : Machine) (cells : List ℤ) → length cells ≡ length m.cells → MachineFits r m → MachineFits r (with_cells m cells)
-cells_fit r m cells same h = record { threads = h.threads; cells = same ∙ h.cells; monitors = h.monitors; pending = h.pending; stacks = h.stacks }
-
-output_fits : (r : Tables) (m : Machine) (output : List Shown) → MachineFits r m → MachineFits r (with_output m output)
-output_fits r m output h = record { threads = h.threads; cells = h.cells; monitors = h.monitors; pending = h.pending; stacks = h.stacks }
-
-module _ (r : Tables) (m : Machine) (pid : ℕ) (at : ℕ) (es : List Entry) (h : MachineFits r m) (s : StackFits r (thread_at m.threads pid).frame (Rest at ∷ es)) (n : ListFits r (thread_at m.threads pid).frame.routine (item_at r at).need (item_at r at).next) where
-  next_fits : StackFits r (thread_at m.threads pid).frame (rest_of (item_at r at).next es)
-  next_fits = rest_fits r _ (item_at r at).next (item_at r at).need es n s.1 s.2
-
-  act_fits : (a : Action) → ActionFits r (thread_at m.threads pid).frame.routine (item_at r at).need a → Fit r (act r m pid at (item_at r at) a es)
-  act_fits Empty a = stack_fits r m pid _ next_fits h
-  act_fits (Block list) a = stack_fits r m pid _ (inner_fits r _ list (item_at r at).need (length es) _ a (length_rest (item_at r at).next es) s.1 next_fits) h
-  act_fits (Cycle list) a =
-      let one : length (Rest at ∷ es) ≤ length es + 1 = omega arith in
-      stack_fits r m pid _ (inner_fits r _ list (item_at r at).need (length es) _ a one s.1 s) h
-  act_fits (Start q arguments) a =
-      value_fits r (values_at m.cells (thread_at m.threads pid).frame.own arguments.items) _ _ (λ e. h) (λ vs. either_fits r (is_unstarted (thread_at m.threads q).status) _ _ (status_fits r _ q Ready (cells_fit r _ _ (written_length m.cells (process_at r q).base vs (length vs)) (stack_fits r m pid _ next_fits h))) h)
-  act_fits (Display e) a =
-      value_fits r (value_at m.cells (thread_at m.threads pid).frame.own e) _ _ (λ e. h) (λ v. either_fits r (length m.output == LIMIT) _ _ h (output_fits r _ _ (stack_fits r m pid _ next_fits h)))
-
-top_fits : (r : Tables) (m : Machine) (pid : ℕ) (es : List Entry) → IsSound r → MachineFits r m → StackFits r (thread_at m.threads pid).frame es → Fit r (take_top r m pid es)
-top_fits r m pid [] sound h s = status_fits r m pid Ended h
-top_fits r m pid (Rest at ∷ es) sound h s =
-    let fits = sound.items at s.0.place in
-    let Acts : ℕ → Type 0 = λ k. ActionFits r k (item_at r at).need (item_at r at).action in
-    let Goes : ℕ → Type 0 = λ k. ListFits r k (item_at r at).need (item_at r at).next in
-    act_fits r m pid at es h s (subst Goes s.0.same fits.next) (item_at r at).action (subst Acts s.0.same fits.action)
-
--- a step keeps each process inside what was reserved for it
-pub step_fits : (r : Tables) (m : Machine) (pid : ℕ) → pid < length m.threads → IsSound r → MachineFits r m → MachineFits r (step_at r m pid).machine
-step_fits r m pid lt sound h = top_fits r m pid _ sound h (h.stacks pid lt)
-
-pub top_frame : (r : Tables) (m : Machine) (pid : ℕ) → pid < length m.threads → MachineFits r m → FrameFits r (thread_at m.threads pid).frame
-top_frame r m pid lt h = frame_fits r _ (thread_at m.threads pid).stack (h.stacks pid lt)
-
--- the action of the topmost item fits
-pub action_fits : (r : Tables) (m : Machine) (pid at : ℕ) (es : List Entry) (a : Action) → IsSound r → MachineFits r m → pid < length m.threads → (thread_at m.threads pid).stack ≡ Rest at ∷ es → (item_at r at).action ≡ a → ActionFits r (thread_at m.threads pid).frame.routine (item_at r at).need a
-action_fits r m pid at es a sound h lt top e =
-    let Q : List Entry → Type 0 = λ es. StackFits r (thread_at m.threads pid).frame es in
-    let s : StackFits r (thread_at m.threads pid).frame (Rest at ∷ es) = subst Q top (h.stacks pid lt) in
-    let Acts : ℕ → Type 0 = λ k. ActionFits r k (item_at r at).need (item_at r at).action in
-    subst (ActionFits r (thread_at m.threads pid).frame.routine (item_at r at).need) e (subst Acts s.0.same (sound.items at s.0.place).action)
-
-pub reads : (own size n : ℕ) (e : Expression) → own + size ≤ n → ReadsWithin size e → Reads own n e
-reads own size n (Number z) f h = tt
-reads own size n (Permanent slot) f h = omega arith
-
-pub all_reads : (own size n : ℕ) (es : List Expression) → own + size ≤ n → AllRead size es → AllReads own n es
-all_reads own size n es f h = λ k d lt. reads own size n (slice_index_or es k d) f (h k d lt)
+pub end_fits : (r : Tables) (f : Frame) (es : List Entry) → StackFits r f es → StackFits r f (from_end es)
+end_fits r f [] h = h
+end_fits r f (Rest at ∷ es) h = end_fits r f es h.1
+end_fits r f (Successor at value last ∷ es) h = end_fits r f es h.1
+end_fits r f (Return caller slot monitor ∷ es) h = h
+end_fits r f (InitEnd caller component ∷ es) h = h
 
 -- a control stack has at most the entries that were reserved
 pub stack_within : (r : Tables) (f : Frame) (es : List Entry) → StackFits r f es → length es ≤ r.depth
 stack_within r f [] h = omega arith
-stack_within r f (Rest at ∷ es) h = omega (arith, h.1)
+stack_within r f (Rest at ∷ es) h = omega (arith, h.0.deep)
+stack_within r f (Successor at value last ∷ es) h = omega (arith, h.0.deep)
+stack_within r f (Return caller slot monitor ∷ es) h = omega (arith, h.1)
+stack_within r f (InitEnd caller component ∷ es) h = omega (arith, h.1)
 
-admitted_at_fits : (r : Tables) (m : Machine) (pid : ℕ) (pending : Option ℕ) → MachineFits r m → MachineFits r (admitted_at pending m pid)
-admitted_at_fits r m pid None h = h
-admitted_at_fits r m pid (Some monitor) h =
-    let s = status_fits r m pid Ready h in
-    record { threads = s.threads; cells = s.cells; monitors = length-set m.monitors monitor _ ∙ h.monitors; pending = tt; stacks = s.stacks }
+-- ---- parts of a machine
 
--- an admission keeps each process inside what was reserved for it
-pub admitted_fits : (r : Tables) (m : Machine) (pid : ℕ) → MachineFits r m → MachineFits r (admitted m pid)
-admitted_fits r m pid h = admitted_at_fits r m pid m.pending h
+abbrev pub Fit : Tables → Stepped → Type 0
+Fit r x = MachineFits r x.machine
+
+pub value_fits : {A : Type 0} (r : Tables) (o : Result A ErrorName) (failed : ErrorName → Stepped) (go : A → Stepped) → ((e : ErrorName) → Fit r (failed e)) → ((v : A) → Fit r (go v)) → Fit r (with_value o failed go)
+value_fits r (Ok v) failed go f g = g v
+value_fits r (Err e) failed go f g = f e
+
+pub either_fits : (r : Tables) (b : Bool) (x y : Stepped) → Fit r x → Fit r y → Fit r (if b then x else y)
+either_fits r true x y h k = h
+either_fits r false x y h k = k
+
+pub either_machine : (r : Tables) (b : Bool) (m n : Machine) → MachineFits r m → MachineFits r n → MachineFits r (if b then m else n)
+either_machine r true m n h k = h
+either_machine r false m n h k = k
+
+pub either_stack : (r : Tables) (f : Frame) (b : Bool) (es fs : List Entry) → StackFits r f es → StackFits r f fs → StackFits r f (if b then es else fs)
+either_stack r f true es fs h k = h
+either_stack r f false es fs h k = k
+
+pub stack_fits : (r : Tables) (m : Machine) (pid : ℕ) (stack : List Entry) → StackFits r (thread_at m.threads pid).frame stack → MachineFits r m → MachineFits r (with_stack m pid stack)
+stack_fits r m pid stack fit h = thread_fits r m pid _ (λ lt. record { stack = fit; cells = (h.each pid lt).cells; references = (h.each pid lt).references }) h
+
+bindings_fit : (r : Tables) (m : Machine) (bindings : List ℕ) → length bindings ≡ length m.bindings → MachineFits r m → MachineFits r (with_bindings m bindings)
+bindings_fit r m bindings same h = record { threads = h.threads; permanents = h.permanents; bindings = same ∙ h.bindings; phases = h.phases; monitors = h.monitors; pending = h.pending; each = h.each }
+
+pub phase_fits : (r : Tables) (m : Machine) (component : ℕ) (phase : Phase) → MachineFits r m → MachineFits r (with_phase m component phase)
+phase_fits r m component phase h = record { threads = h.threads; permanents = h.permanents; bindings = h.bindings; phases = length-set m.phases component phase ∙ h.phases; monitors = h.monitors; pending = h.pending; each = h.each }
+
+pub output_fits : (r : Tables) (m : Machine) (output : List Shown) → MachineFits r m → MachineFits r (with_output m output)
+output_fits r m output h = record { threads = h.threads; permanents = h.permanents; bindings = h.bindings; phases = h.phases; monitors = h.monitors; pending = h.pending; each = h.each }
+
+-- what a process writes keeps its cells and references
+pub memory_fits : (r : Tables) (m : Machine) (pid : ℕ) (x : Memory) → Kept x (memory_at m pid) → MachineFits r m → MachineFits r (with_memory m pid x)
+memory_fits r m pid x k h =
+    let p = permanents_fit r m x.permanents k.permanents h in
+    thread_fits r _ pid _ (λ lt. record { stack = (h.each pid lt).stack; cells = omega (arith, k.cells, (h.each pid lt).cells); references = omega (arith, k.references, (h.each pid lt).references) }) p
+
+pub parameters_fit : (r : Tables) (m : Machine) (pid base : ℕ) (arguments : List Argument) (bounds : List Bound) → MachineFits r m → MachineFits r (parameters_bound m pid base arguments bounds)
+parameters_fit r m pid base arguments bounds h =
+    bindings_fit r _ _ (length-bindings m.bindings base arguments bounds) (memory_fits r m pid _ (kept_component (memory_at m pid) base arguments bounds) h)
+
+-- ---- frames
+
+-- the kind of a component, also of one that is not there
+pub kind_fits : (r : Tables) (component : ℕ) → IsSound r → KindFits r (component_at r component).kind
+kind_fits r component sound = go (cases_lt component (length r.components))
+  where
+    go : (component < length r.components) ⊎ (length r.components ≤ component) → KindFits r (component_at r component).kind
+    go (inl lt) = sound.components component lt
+    go (inr ge) =
+        let P : Component → Type 0 = λ c. KindFits r c.kind in
+        subst P (sym (get_or_past r.components component no_component ge)) tt
+
+module _ (r : Tables) (t : Thread) (h : ThreadFits r t) (routine component : ℕ) (need : ℕ) (arguments : List Argument) (c : CallFits r t.frame.routine need routine arguments) where
+  pub behind_follows : Follows r (frame_behind r t routine component) t.frame
+  behind_follows =
+      let f = frame_fits r t.frame t.stack h.stack in
+      record {
+        fits = record {
+          routine = c.routine;
+          cells = omega (arith, h.cells, c.cells, f.cells);
+          references = omega (arith, h.references, c.references, f.references);
+        };
+        cells = h.cells;
+        references = h.references;
+      }
+
+  -- the frame is opened, and its end stands above the rest of the caller
+  pub opened_thread : (end : Entry) (rest : List Entry) (n : ℕ) → length rest ≤ n + 1 → n + 1 + need ≤ r.depth → StackFits r (frame_behind r t routine component) (end ∷ rest) → ThreadFits r (frame_opened (record t { frame = frame_behind r t routine component; stack = rest_of (routine_at r routine).body (end ∷ rest) }) (routine_at r routine))
+  opened_thread end rest n few deep s =
+      let two : 2 ≤ need = c.deep in
+      record {
+        stack = rest_fits r (frame_behind r t routine component) (routine_at r routine).body (need - 2) (end ∷ rest) c.body (omega arith) s;
+        cells = omega (arith, length-append t.cells (routine_at r routine).image);
+        references = omega (arith, length-append t.references (replicate (routine_at r routine).references nowhere), length-replicate (routine_at r routine).references nowhere);
+      }
+
+result_length : (slot : Option ℕ) (z : ℤ) (caller : Frame) (cells : List ℤ) → length (with_result slot z caller cells) ≡ length cells
+result_length None z caller cells = refl
+result_length (Some slot) z caller cells = length-set cells _ z
+
+given_up_fits : (r : Tables) (t : Thread) (caller : Frame) (slot : Option ℕ) (es : List Entry) → Follows r t.frame caller → StackFits r caller es → ThreadFits r (given_up r t caller slot es)
+given_up_fits r t caller slot es f s =
+    let z = slice_index_or t.cells (onward t.frame.base (routine_at r t.frame.routine).result) (pos 0) in
+    record {
+      stack = s;
+      cells = omega (arith, result_length slot z caller (take t.frame.base t.cells), length-take t.frame.base t.cells, f.cells);
+      references = omega (arith, length-take t.frame.references t.references, f.references);
+    }
+
+pub left_fits : (r : Tables) (m : Machine) (pid : ℕ) (caller : Frame) (slot : Option ℕ) (es : List Entry) → Follows r (thread_at m.threads pid).frame caller → StackFits r caller es → MachineFits r m → MachineFits r (left r m pid caller slot es)
+left_fits r m pid caller slot es f s h = thread_fits r m pid _ (λ lt. given_up_fits r (thread_at m.threads pid) caller slot es f s) h

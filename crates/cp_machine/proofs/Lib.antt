@@ -1,6 +1,15 @@
 pub mod CallerLemmas
+pub mod CopyLemmas
 pub mod Keeping
+pub mod KeepingAct
+pub mod KeepingSteps
+pub mod KernelFits
+pub mod KernelLemmas
 pub mod ListLemmas
-pub mod LocalSteps
+pub mod LocalReady
 pub mod OpeningFits
+pub mod RoomLemmas
+pub mod StackLemmas
+pub mod StoreLemmas
+pub mod TakeLemmas
 pub mod ThreadLemmas

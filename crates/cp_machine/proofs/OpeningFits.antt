@@ -1,27 +1,79 @@
 -- The opening state is the program's.
-use Rattle.std.proofs.Common.{◌≡◌, ◌-◌, ◌<◌, [], length, map, sym, subst, arith}
-use Rattle.std.specs.Prelude.{pos}
-use Rattle.std.proofs.lemmas.List.{length-map, length-replicate, get_or-map}
-use Rattle.cp_slots.specs.Tables.{Tables, routine_at, process_at, no_process}
-use Rattle.cp_slots.specs.Fits.{IsSound}
+use Rattle.std.proofs.Common.{◌≡◌, ℕ, ◌+◌, ◌-◌, ◌<◌, ◌≤◌, ◌∙◌, List, [], ◌∷◌, Option, None, Some, length, map, ap, sym, refl, subst, arith, ◌⊎◌, inl, inr}
+use Rattle.std.specs.Prelude.{replicate, slice_set, slice_index_or}
+use Rattle.std.proofs.lemmas.Bool.{cases_eq}
+use Rattle.std.proofs.lemmas.List.{length-map, length-replicate, length-set, get_or-map, get_or-set_same, get_or-set_other}
+use Rattle.cp_slots.specs.Tables.{Tables, item_at, routine_at, process_at, no_process}
+use Rattle.cp_slots.specs.Fits.{IsSound, ListFits}
+use Rattle.cp_store.specs.Memory.{nowhere}
+use Rattle.cp_store.specs.declared.memory.Frame.{Frame}
 use Rattle.cp_machine.specs.declared.gates.Gates.{Gates}
-use Rattle.cp_machine.specs.Fits.{FrameFits, MachineFits, StackFits}
-use Rattle.cp_machine.specs.Machine.{Thread, thread_at, no_monitor, no_thread, unstarted_thread, still}
-use Rattle.cp_machine.proofs.Keeping.{rest_fits}
+use Rattle.cp_machine.specs.declared.process.Status.{Status}
+use Rattle.cp_machine.specs.declared.state.Phase.TheVariants.{Uninitialised}
+use Rattle.cp_machine.specs.Fits.{FrameFits, EntryFits, MachineFits, StackFits, ThreadFits}
+use Rattle.cp_machine.specs.Machine.{Machine, Thread, thread_at, no_monitor, no_thread, with_status}
+use Rattle.cp_machine.specs.Opening.{unstarted_thread, still, opening}
+use Rattle.cp_machine.specs.Stack.{rest_of}
+
+first_fits : (r : Tables) (f : Frame) (list : Option ℕ) → ListFits r f.routine (r.depth - 1) list → 1 ≤ r.depth → FrameFits r f → StackFits r f (rest_of list [])
+first_fits r f None n d h = h
+first_fits r f (Some at) n d h =
+    let same : (item_at r at).need ≤ (item_at r at).need = omega arith in
+    let fits : (item_at r at).need ≤ r.depth - 1 = n.fits in
+    let entry : EntryFits r f at 0 = record { nests = record { place = n.place; same = n.same; fits = same }; deep = omega (arith, fits, d) } in
+    (entry, h)
+
+unstarted_fits : (r : Tables) (q : ℕ) → q < length r.processes → IsSound r → ThreadFits r (unstarted_thread r (process_at r q))
+unstarted_fits r q within sound =
+    let fits = sound.processes q within in
+    let t = unstarted_thread r (process_at r q) in
+    let frame : FrameFits r t.frame = record { routine = fits.routine; cells = omega (arith, fits.cells); references = omega (arith, fits.references) } in
+    record {
+      stack = first_fits r t.frame (routine_at r (process_at r q).routine).body fits.body fits.some frame;
+      cells = omega arith;
+      references = (let long = length-replicate (routine_at r (process_at r q).routine).references nowhere in omega (arith, long));
+    }
 
 pub still_fits : (r : Tables) (gates : Gates) → IsSound r → MachineFits r (still r gates)
 still_fits r gates sound =
     record {
       threads = length-map r.processes (unstarted_thread r);
-      cells = length-replicate r.permanents (pos 0);
+      permanents = refl;
+      bindings = length-replicate (length r.permanents) 0;
+      phases = length-replicate (length r.components) Uninitialised;
       monitors = length-replicate r.monitors no_monitor;
       pending = tt;
-      stacks = λ q lt. (
+      each = λ q lt. (
           let within : q < length r.processes = (let long = length-map r.processes (unstarted_thread r) in omega arith) in
           let same : thread_at (map (unstarted_thread r) r.processes) q ≡ unstarted_thread r (process_at r q) = get_or-map (unstarted_thread r) r.processes q no_process no_thread within in
-          let P : Thread → Type 0 = λ t. StackFits r t.frame t.stack in
-          let fits = sound.processes q within in
-          let frame : FrameFits r (unstarted_thread r (process_at r q)).frame = record { routine = fits.routine; cells = omega (arith, fits.own, fits.cells) } in
-          subst P (sym same) (rest_fits r _ (routine_at r (process_at r q).routine).body (r.depth - 1) [] fits.body (omega (arith, fits.some)) frame)
+          subst (ThreadFits r) (sym same) (unstarted_fits r q within sound)
           );
     }
+
+-- a status is no matter of room
+pub restatused : (r : Tables) (m : Machine) (pid : ℕ) (status : Status) → MachineFits r m → MachineFits r (with_status m pid status)
+restatused r m pid status h =
+    let x : Thread = record (thread_at m.threads pid) { status = status } in
+    let long = length-set m.threads pid x in
+    record {
+      threads = long ∙ h.threads;
+      permanents = h.permanents;
+      bindings = h.bindings;
+      phases = h.phases;
+      monitors = h.monitors;
+      pending = h.pending;
+      each = λ q lt. (let within : q < length m.threads = omega (arith, long) in go q within (cases_eq q pid));
+    }
+  where
+    go : (q : ℕ) → q < length m.threads → (q ≡ pid) ⊎ (q ≡ pid → ⊥) → ThreadFits r (thread_at (with_status m pid status).threads q)
+    go q lt (inl e) =
+        let x : Thread = record (thread_at m.threads pid) { status = status } in
+        let within : pid < length m.threads = omega arith in
+        let same = get_or-set_same m.threads pid x no_thread within in
+        let old = h.each pid within in
+        let new : ThreadFits r x = record { stack = old.stack; cells = old.cells; references = old.references } in
+        let P : ℕ → Type 0 = λ k. ThreadFits r (thread_at (slice_set m.threads pid x) k) in
+        subst P (sym e) (subst (ThreadFits r) (sym same) new)
+    go q lt (inr ne) =
+        let x : Thread = record (thread_at m.threads pid) { status = status } in
+        subst (ThreadFits r) (sym (get_or-set_other m.threads pid q x no_thread ne)) (h.each q lt)

@@ -1,45 +1,81 @@
 -- When a state is a program's: each process stays inside what was reserved for it.
-use Rattle.std.specs.Prelude.{◌≡◌, ◌+◌, ◌<◌, ◌≤◌, ℕ, [], ◌∷◌, List, length, Option, Some, slice_index_or, vec_capacity, vec_len, None, IfSome}
-use Rattle.cp_slots.specs.Tables.{Tables, item_at, routine_at}
-use Rattle.cp_slots.specs.Fits.{Nests}
-use Rattle.cp_machine.specs.declared.state.Entry.{Entry}
-use Rattle.cp_machine.specs.declared.state.Entry.TheVariants.{Rest}
-use Rattle.cp_machine.specs.declared.state.Frame.{Frame}
-use Rattle.cp_machine.specs.declared.state.Process.{Process}
+use Rattle.std.specs.Prelude.{◌≡◌, ◌+◌, ◌-◌, ◌<◌, ◌≤◌, ℕ, [], ◌∷◌, List, length, Option, Some, slice_index_or, vec_capacity, vec_len, None, IfSome}
+use Rattle.cp_slots.specs.Tables.{Tables, item_at, routine_at, process_at}
+use Rattle.cp_slots.specs.Fits.{IsSound, Nests}
+use Rattle.cp_store.specs.declared.memory.Frame.{Frame}
+use Rattle.cp_machine.specs.declared.process.Entry.{Entry}
+use Rattle.cp_machine.specs.declared.process.Entry.TheVariants.{Rest, Successor, Return, InitEnd}
+use Rattle.cp_machine.specs.declared.process.Process.{Process}
 use Rattle.cp_machine.specs.declared.state.State.{State}
 use Rattle.cp_machine.specs.declared.state.TheConstants.{LIMIT}
-use Rattle.cp_machine.specs.Machine.{Machine, thread_at, machine_of}
+use Rattle.cp_machine.specs.Machine.{Machine, Thread, thread_at, machine_of}
 
--- the routine is there, and so are the permanent cells that it may use
+abbrev pub size_of : Tables → ℕ → ℕ
+size_of r routine = length (routine_at r routine).image
+
+-- the routine is there, and there is room for its frame and for those above it
 pub record FrameFits (r : Tables) (f : Frame) : Type 0 where
   pub routine : f.routine < length r.routines
-  pub cells : f.own + (routine_at r f.routine).own ≤ r.permanents
+  pub cells : f.base + (routine_at r f.routine).room ≤ r.cells
+  pub references : f.references + (routine_at r f.routine).reference_room ≤ r.references
+
+-- the frame follows that of its caller
+pub record Follows (r : Tables) (f caller : Frame) : Type 0 where
+  pub fits : FrameFits r f
+  pub cells : f.base ≤ caller.base + size_of r caller.routine
+  pub references : f.references ≤ caller.references + (routine_at r caller.routine).references
+
+-- an item whose list fits above so many entries
+pub record EntryFits (r : Tables) (f : Frame) (at below : ℕ) : Type 0 where
+  pub nests : Nests r f.routine (item_at r at).need at
+  pub deep : below + 1 + (item_at r at).need ≤ r.depth
 
 -- the entries, from the topmost, stay inside what was reserved
 abbrev pub StackFits : Tables → Frame → List Entry → Type 0
 StackFits r f [] = FrameFits r f
-StackFits r f (Rest at ∷ es) = Nests r f.routine (item_at r at).need at × (length es + 1 + (item_at r at).need ≤ r.depth) × StackFits r f es
+StackFits r f (Rest at ∷ es) = EntryFits r f at (length es) × StackFits r f es
+StackFits r f (Successor at value last ∷ es) = EntryFits r f at (length es) × StackFits r f es
+StackFits r f (Return caller result monitor ∷ es) = Follows r f caller × (length es + 1 ≤ r.depth) × IfSome monitor (λ number. number < r.monitors) × StackFits r caller es
+StackFits r f (InitEnd caller component ∷ es) = Follows r f caller × (length es + 1 ≤ r.depth) × StackFits r caller es
+
+-- a process stays inside its control stack, its cells and its references
+pub record ThreadFits (r : Tables) (t : Thread) : Type 0 where
+  pub stack : StackFits r t.frame t.stack
+  pub cells : length t.cells ≤ t.frame.base + size_of r t.frame.routine
+  pub references : length t.references ≤ t.frame.references + (routine_at r t.frame.routine).references
 
 pub record MachineFits (r : Tables) (m : Machine) : Type 0 where
   pub threads : length m.threads ≡ length r.processes
-  pub cells : length m.cells ≡ r.permanents
+  pub permanents : length m.permanents ≡ length r.permanents
+  pub bindings : length m.bindings ≡ length r.permanents
+  pub phases : length m.phases ≡ length r.components
   pub monitors : length m.monitors ≡ r.monitors
   pub pending : IfSome m.pending (λ monitor. monitor < r.monitors)
-  pub stacks : (q : ℕ) → q < length m.threads → StackFits r (thread_at m.threads q).frame (thread_at m.threads q).stack
+  pub each : (q : ℕ) → q < length m.threads → ThreadFits r (thread_at m.threads q)
 
--- each control stack has this much room
-abbrev pub AreReserved : ℕ → List Process → Type 0
-AreReserved depth ps = (q : ℕ) (d : Process) → q < length ps → depth ≤ vec_capacity (slice_index_or ps q d).stack
+-- each process has this much room for its control stack, its cells and its references
 
--- what was reserved: the control stacks, the output, and room for arguments
+abbrev pub HaveStacks : ℕ → List Process → Type 0
+HaveStacks depth ps = (q : ℕ) (d : Process) → q < length ps → depth ≤ vec_capacity (slice_index_or ps q d).stack
+
+abbrev pub HaveCells : ℕ → List Process → Type 0
+HaveCells cells ps = (q : ℕ) (d : Process) → q < length ps → cells ≤ vec_capacity (slice_index_or ps q d).room.cells
+
+abbrev pub HaveReferences : ℕ → List Process → Type 0
+HaveReferences references ps = (q : ℕ) (d : Process) → q < length ps → references ≤ vec_capacity (slice_index_or ps q d).room.references
+
+-- what was reserved: the room of each process, the output, and room for arguments
 pub record IsReserved (r : Tables) (s : State) : Type 0 where
-  pub stacks : AreReserved r.depth s.processes.items
+  pub stacks : HaveStacks r.depth s.processes.items
+  pub cells : HaveCells r.cells s.processes.items
+  pub references : HaveReferences r.references s.processes.items
   pub output : LIMIT ≤ vec_capacity s.output
   pub shown : vec_len s.output ≤ LIMIT
-  pub values : r.arguments ≤ vec_capacity s.values
+  pub bounds : r.arguments ≤ vec_capacity s.bounds
 
 -- the state is the program's
 pub record IsStateOf (r : Tables) (s : State) : Type 0 where
+  pub sound : IsSound r
   pub fits : MachineFits r (machine_of s)
   pub reserved : IsReserved r s
 
@@ -51,6 +87,15 @@ abbrev pub HasRoom : State → ℕ → Option ℕ → Type 0
 HasRoom s pid None = Unit {0}
 HasRoom s pid (Some at) = (d : Process) → vec_len (slice_index_or s.processes.items pid d).stack < vec_capacity (slice_index_or s.processes.items pid d).stack
 
--- each control stack has room for the other's
+-- each process has room for what the other has
 abbrev pub HaveRoom : List Process → List Process → Type 0
-HaveRoom mine theirs = (q : ℕ) (d : Process) → q < length mine → vec_len (slice_index_or theirs q d).stack ≤ vec_capacity (slice_index_or mine q d).stack
+HaveRoom mine theirs = (q : ℕ) (d : Process) → q < length mine →
+    (vec_len (slice_index_or theirs q d).stack ≤ vec_capacity (slice_index_or mine q d).stack)
+    × (vec_len (slice_index_or theirs q d).room.cells ≤ vec_capacity (slice_index_or mine q d).room.cells)
+    × (vec_len (slice_index_or theirs q d).room.references ≤ vec_capacity (slice_index_or mine q d).room.references)
+
+-- room for the frame of a routine, and for two entries more
+pub record HasCallRoom (r : Tables) (ps : List Process) (pid routine : ℕ) : Type 0 where
+  pub two : (d : Process) → vec_len (slice_index_or ps pid d).stack + 2 ≤ vec_capacity (slice_index_or ps pid d).stack
+  pub cells : (d : Process) → vec_len (slice_index_or ps pid d).room.cells + size_of r routine ≤ vec_capacity (slice_index_or ps pid d).room.cells
+  pub references : (d : Process) → vec_len (slice_index_or ps pid d).room.references + (routine_at r routine).references ≤ vec_capacity (slice_index_or ps pid d).room.references

@@ -1,5 +1,10 @@
+pub mod Calls
 pub mod Fits
+pub mod Kernel
 pub mod Machine
+pub mod Memory
+pub mod Opening
 pub mod Stack
+pub mod Statements
+pub mod Step
 pub mod System
-pub mod Values

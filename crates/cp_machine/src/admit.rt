@@ -3,10 +3,12 @@
 ghost use Rattle.std.specs.Prelude.{◌≡◌, ◌<◌, ◌==◌, IfSome, length, position};
 ghost use Rattle.cp_slots.specs.Tables.{Tables};
 ghost use Rattle.cp_machine.specs.Fits.{IsReserved};
-ghost use Rattle.cp_machine.specs.Machine.{admitted, machine_of, monitor_of, without};
+ghost use Rattle.cp_machine.specs.Machine.{machine_of, monitor_of};
+ghost use Rattle.cp_machine.specs.Opening.{admitted, without};
 
-use crate::state::{Guard, State, Status};
-use crate::step::set_status;
+use crate::memory::set_status;
+use crate::process::Status;
+use crate::state::{Guard, State};
 use arrayvec::ArrayVec;
 
 /// Lets a process of the pending monitor's line go in.

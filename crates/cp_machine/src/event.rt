@@ -1,5 +1,7 @@
 //! What a step was.
 
+pub use cp_store::error::ErrorName;
+
 /// What a step was.
 #[derive(Clone, Copy, Debug, PartialEq, Eq)]
 pub enum Event {
@@ -29,15 +31,4 @@ pub struct RunError {
     pub name: ErrorName,
     pub process: u8,
     pub line: u32,
-}
-
-#[derive(Clone, Copy, Debug, PartialEq, Eq)]
-pub enum ErrorName {
-    Overflow,
-    ZeroDivisor,
-    Range,
-    NoCase,
-    QueueInUse,
-    NotInit,
-    InitTwice,
 }

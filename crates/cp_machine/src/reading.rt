@@ -4,7 +4,7 @@ ghost use Rattle.std.specs.Prelude.{◌≡◌};
 ghost use Rattle.std.specs.List.{list_any};
 ghost use Rattle.cp_machine.specs.Machine.{is_waiting};
 
-use crate::state::Process;
+use crate::process::Process;
 
 /// Whether some process is at a gate or delayed.
 pub fn any_waits(processes: &[Process]) -> bool

@@ -4,43 +4,14 @@ ghost use Rattle.std.specs.Prelude.{◌≤◌, length};
 
 use crate::admit::admit_process;
 use crate::gates::Gates;
+use crate::process::Process;
 use crate::reading::any_waits;
 use crate::shown::Shown;
 use arrayvec::ArrayVec;
+use cp_store::argument::Bound;
 
 /// The most values that a run may display.
 pub const LIMIT: usize = 1000;
-
-/// Where a list of statements is executed: the routine, and the first permanent cell of its component.
-#[derive(Clone, Copy, Drop)]
-pub struct Frame {
-    pub routine: usize,
-    pub own: usize,
-}
-
-/// An entry of a control stack: the rest of a list of statements, from this item on.
-#[derive(Clone, Copy, Drop)]
-pub enum Entry {
-    Rest(usize),
-}
-
-#[derive(Clone, Copy, Debug, PartialEq, Eq)]
-pub enum Status {
-    Unstarted,
-    Ready,
-    /// At the gate of the monitor of this number.
-    AtGate(u8),
-    /// In a queue of the monitor of this number.
-    Delayed(u8),
-    Ended,
-}
-
-#[derive(Drop)]
-pub struct Process {
-    pub status: Status,
-    pub frame: Frame,
-    pub stack: Vec<Entry>,
-}
 
 /// Who is inside a monitor, and its line.
 #[derive(Drop)]
@@ -49,54 +20,39 @@ pub struct Guard {
     pub line: ArrayVec<u8, 16>,
 }
 
+/// How far a class or monitor is initialised.
+#[derive(Clone, Copy, Debug, PartialEq, Eq)]
+pub enum Phase {
+    Uninitialised,
+    Initialising,
+    Initialised,
+}
+
 /// The state of a run of a program.
 #[derive(Drop)]
 pub struct State {
-    pub cells: Vec<i16>,
+    /// The permanent cells of all components.
+    pub permanents: Vec<i16>,
+    /// The components that parameters are bound to, by the permanent cells of these.
+    pub bindings: Vec<usize>,
+    pub phases: Vec<Phase>,
     pub processes: Vec<Process>,
     pub guards: Vec<Guard>,
     pub pending: Option<u8>,
     pub gates: Gates,
     pub output: Vec<Shown>,
-    /// Room for the values of arguments.
-    pub values: Vec<i16>,
+    /// Room for evaluated arguments.
+    pub bounds: Vec<Bound>,
     pub ghost few: { length processes.items ≤ 16 },
-}
-
-impl Status {
-    ghost use Rattle.std.specs.Prelude.{◌≡◌};
-    ghost use Rattle.cp_machine.specs.Machine.{is_at_gate, is_ready_status, is_waiting};
-
-    /// Whether a process of this status is at a gate or delayed.
-    pub fn waits(self) -> bool
-        ensures { result ≡ is_waiting self }
-    {
-        matches!(self, Status::AtGate(_) | Status::Delayed(_))
-    }
-
-    pub fn is_ready(self) -> bool
-        ensures { result ≡ is_ready_status self }
-    {
-        matches!(self, Status::Ready)
-    }
-
-    /// Whether a process of this status is at the gate of a monitor.
-    pub fn is_at_gate(self, monitor: u8) -> bool
-        ensures { result ≡ is_at_gate monitor self }
-    {
-        match self {
-            Status::AtGate(gate) => gate == monitor,
-            _ => false,
-        }
-    }
 }
 
 impl State {
     ghost use Rattle.std.specs.Prelude.{◌≡◌, ◌<◌, length};
-    ghost use Rattle.cp_machine.specs.Machine.{machine_of, output_of, waits as some_waits, ready_of, waiting_of, monitor_at, admitted, in_line};
+    ghost use Rattle.cp_machine.specs.Machine.{machine_of, output_of, waits as some_waits, ready_of, waiting_of, monitor_at, in_line};
     ghost use Rattle.std.specs.Prelude.{IsTrue};
     ghost use Rattle.cp_slots.specs.Tables.{Tables};
     ghost use Rattle.cp_machine.specs.Fits.{IsStateOf};
+    ghost use Rattle.cp_machine.specs.Opening.{admitted};
 
     /// The processes that are ready, in rising order.
     pub fn ready(&self) -> ArrayVec<u8, 16>

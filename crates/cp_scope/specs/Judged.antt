@@ -43,7 +43,6 @@ IsFirst f (Err (g ∷ gs)) = g ≡ f
 abbrev pub Refuses : {A : Type 0} → CheckFault → Judged A → Type 0
 Refuses check_fault.Memory judged = Unit {0}
 Refuses (check_fault.Rule at rule) judged = IsFirst (check_fault.Rule at rule) judged
-Refuses (check_fault.LeftOut at) judged = IsFirst (check_fault.LeftOut at) judged
 
 abbrev pub Judges : {X A : Type 0} → (X → A) → Judged A → Result X CheckFault → Type 0
 Judges view judged (Ok x) = judged ≡ Ok (view x)
@@ -58,7 +57,6 @@ IsFirstOf f (g ∷ gs) = g ≡ f
 abbrev pub RefusesList : CheckFault → List CheckFault → Type 0
 RefusesList check_fault.Memory fs = Unit {0}
 RefusesList (check_fault.Rule at rule) fs = IsFirstOf (check_fault.Rule at rule) fs
-RefusesList (check_fault.LeftOut at) fs = IsFirstOf (check_fault.LeftOut at) fs
 
 -- no fault, or the first one, unless memory fails
 abbrev pub Finds : {X : Type 0} → List CheckFault → Result X CheckFault → Type 0

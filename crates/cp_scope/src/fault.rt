@@ -58,8 +58,6 @@ pub enum Rule {
 pub enum CheckFault {
     /// A rule is broken at this token.
     Rule { at: usize, rule: Rule },
-    /// The construct that begins at this token is not run yet.
-    LeftOut { at: usize },
     /// Memory was refused.
     Memory,
 }

@@ -1,20 +1,14 @@
--- When the numbers of a resolved program are sound.
+-- When the numbers of a resolved program are sound: what a process needs is inside what is reserved for it.
 use Rattle.std.specs.Prelude.{◌≡◌, ℕ, ◌+◌, ◌<◌, ◌≤◌, ◌-◌, List, length, Option, Some, None, slice_index_or}
-use Rattle.cp_slots.specs.declared.expression.Expression.{Expression}
-use Rattle.cp_slots.specs.declared.expression.Expression.TheVariants.{Number, Permanent}
+use Rattle.cp_slots.specs.declared.place.Argument.{Argument}
 use Rattle.cp_slots.specs.declared.item.Action.{Action}
-use Rattle.cp_slots.specs.declared.item.Action.TheVariants.{Empty, Block, Cycle, Start, Display}
+use Rattle.cp_slots.specs.declared.item.Action.TheVariants.{Empty, Assign, AssignSet, Copy, Block, If, Case, While, Until, For, Cycle, Call, Start, Delay, Continue, Display}
+use Rattle.cp_slots.specs.declared.item.Arm.{Arm}
 use Rattle.cp_slots.specs.declared.item.Item.{Item}
+use Rattle.cp_slots.specs.declared.tables.ComponentKind.{ComponentKind}
+use Rattle.cp_slots.specs.declared.tables.ComponentKind.TheVariants as kind
 use Rattle.cp_slots.specs.declared.tables.Process.{Process}
-use Rattle.cp_slots.specs.Tables.{Tables, item_at, routine_at, process_at}
-
--- each slot that an expression reads is among the first `own` permanent cells of its component
-abbrev pub ReadsWithin : (own : ℕ) → Expression → Type 0
-ReadsWithin own (Number z) = Unit {0}
-ReadsWithin own (Permanent slot) = slot < own
-
-abbrev pub AllRead : (own : ℕ) → List Expression → Type 0
-AllRead own es = (k : ℕ) (d : Expression) → k < length es → ReadsWithin own (slice_index_or es k d)
+use Rattle.cp_slots.specs.Tables.{Tables, RoutineView, item_at, routine_at, component_at, process_at}
 
 -- an item of the routine, whose list needs at most `need` entries above its own
 pub record Nests (t : Tables) (routine need at : ℕ) : Type 0 where
@@ -32,36 +26,69 @@ abbrev pub InnerFits : Tables → (routine need : ℕ) → Option ℕ → Type 0
 InnerFits t routine need None = Unit {0}
 InnerFits t routine need (Some at) = (1 ≤ need) × Nests t routine (need - 1) at
 
--- a start of a process whose parameters are there
-pub record StartFits (t : Tables) (own number : ℕ) (arguments : List Expression) : Type 0 where
-  pub process : number < length t.processes
-  pub parameters : length arguments ≤ (process_at t number).size
-  pub most : length arguments ≤ t.arguments
-  pub reads : AllRead own arguments
+-- the list of each arm
+abbrev pub ArmsFit : Tables → (routine need : ℕ) → List Arm → Type 0
+ArmsFit t routine need arms = (k : ℕ) (d : Arm) → k < length arms → InnerFits t routine need (slice_index_or arms k d).body
+
+-- A call, or a start of whatever kind of component: the callee's statements stand above its end, which stands above the items after the call;
+-- and its frame stands behind that of the caller.
+pub record CallFits (t : Tables) (caller need callee : ℕ) (arguments : List Argument) : Type 0 where
+  pub routine : callee < length t.routines
+  pub deep : 2 ≤ need
+  pub body : ListFits t callee (need - 2) (routine_at t callee).body
+  pub cells : length (routine_at t caller).image + (routine_at t callee).room ≤ (routine_at t caller).room
+  pub references : (routine_at t caller).references + (routine_at t callee).reference_room ≤ (routine_at t caller).reference_room
+  pub count : length arguments ≤ t.arguments
 
 abbrev pub ActionFits : Tables → (routine need : ℕ) → Action → Type 0
 ActionFits t routine need Empty = Unit {0}
+ActionFits t routine need (Assign target value low high) = Unit {0}
+ActionFits t routine need (AssignSet target value low high) = Unit {0}
+ActionFits t routine need (Copy target source size) = Unit {0}
 ActionFits t routine need (Block list) = InnerFits t routine need list
+ActionFits t routine need (If test then otherwise) = InnerFits t routine need then × InnerFits t routine need otherwise
+ActionFits t routine need (Case selector arms) = ArmsFit t routine need arms.items
+-- a loop's list stands above the item where the loop begins again
+ActionFits t routine need (While test body again) = InnerFits t routine need body × Nests t routine need again
+ActionFits t routine need (Until test body again) = InnerFits t routine need body × Nests t routine need again
+ActionFits t routine need (For variable low high from to down body) = InnerFits t routine need body
 ActionFits t routine need (Cycle list) = InnerFits t routine need list
-ActionFits t routine need (Start number arguments) = StartFits t (routine_at t routine).own number arguments.items
-ActionFits t routine need (Display e) = ReadsWithin (routine_at t routine).own e
+ActionFits t routine need (Call callee component is_entry arguments result) = CallFits t routine need callee arguments.items
+ActionFits t routine need (Start component callee arguments) = CallFits t routine need callee arguments.items
+ActionFits t routine need (Delay place) = Unit {0}
+ActionFits t routine need (Continue place) = Unit {0}
+ActionFits t routine need (Display value kind) = Unit {0}
 
 pub record ItemFits (t : Tables) (item : Item) : Type 0 where
   pub routine : item.routine < length t.routines
   pub action : ActionFits t item.routine item.need item.action
   pub next : ListFits t item.routine item.need item.next
 
--- a process has its permanent cells, and room on its control stack
+-- a routine's own frame is inside the room that it needs
+pub record RoutineFits (r : RoutineView) : Type 0 where
+  pub cells : length r.image ≤ r.room
+  pub references : r.references ≤ r.reference_room
+
+-- the number of a monitor or process is one of the program's
+abbrev pub KindFits : Tables → ComponentKind → Type 0
+KindFits t (kind.Process number) = number < length t.processes
+KindFits t (kind.Monitor number) = number < t.monitors
+KindFits t kind.Class = Unit {0}
+
+-- a process has its routine, and room for its frames and its control stack
 pub record ProcessFits (t : Tables) (p : Process) : Type 0 where
+  pub component : p.component < length t.components
   pub routine : p.routine < length t.routines
-  pub own : (routine_at t p.routine).own ≤ p.size
-  pub cells : p.base + p.size ≤ t.permanents
+  pub cells : (routine_at t p.routine).room ≤ t.cells
+  pub references : (routine_at t p.routine).reference_room ≤ t.references
   pub some : 1 ≤ t.depth
   pub body : ListFits t p.routine (t.depth - 1) (routine_at t p.routine).body
 
 -- the numbers of a program are sound
 pub record IsSound (t : Tables) : Type 0 where
   pub items : (at : ℕ) → at < length t.items → ItemFits t (item_at t at)
+  pub routines : (number : ℕ) → number < length t.routines → RoutineFits (routine_at t number)
+  pub components : (number : ℕ) → number < length t.components → KindFits t (component_at t number).kind
   pub processes : (number : ℕ) → number < length t.processes → ProcessFits t (process_at t number)
   pub some : 1 ≤ length t.processes
   pub few : length t.processes ≤ 16

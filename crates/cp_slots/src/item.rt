@@ -1,16 +1,101 @@
 //! The items of the lists of statements.
 
-use crate::expression::Expression;
+use crate::place::{Argument, ComponentPlace, Expression, Origin, Place, SetExpression};
 
-/// What an item does. A list inside it is the number of the list's first item, if it has any.
+/// How a value is shown.
+#[derive(Clone, Copy, Drop)]
+pub enum ShownKind {
+    Integer,
+    Character,
+    Truth,
+    /// A constant of an enumeration, by the number of the enumeration's first constant.
+    Constant(u16),
+}
+
+/// An arm of a `case`.
+#[derive(Drop)]
+pub struct Arm {
+    pub labels: Vec<i16>,
+    pub body: Option<usize>,
+}
+
+/// What an item does. A list inside it is the number of the list's first item.
+///
+/// The function calls of a statement are items before its own, and `again` is the first of those of a test.
 #[derive(Drop)]
 pub enum Action {
     Empty,
+    Assign {
+        target: Place,
+        value: Expression,
+        low: i16,
+        high: i16,
+    },
+    AssignSet {
+        target: Place,
+        value: SetExpression,
+        low: u8,
+        high: u8,
+    },
+    /// The assignment of an array or a record.
+    Copy {
+        target: Place,
+        source: Place,
+        size: usize,
+    },
+    /// `begin`, and `repeat`, behind which its `until` follows.
     Block(Option<usize>),
+    If {
+        test: Expression,
+        then: Option<usize>,
+        otherwise: Option<usize>,
+    },
+    Case {
+        selector: Expression,
+        arms: Vec<Arm>,
+    },
+    While {
+        test: Expression,
+        body: Option<usize>,
+        again: usize,
+    },
+    Until {
+        test: Expression,
+        body: Option<usize>,
+        again: usize,
+    },
+    For {
+        variable: Origin,
+        /// The bounds of the variable's type.
+        low: i16,
+        high: i16,
+        from: Expression,
+        to: Expression,
+        down: bool,
+        body: Option<usize>,
+    },
     Cycle(Option<usize>),
-    /// The start of a process, by its number, with the arguments of its parameters.
-    Start(u8, Vec<Expression>),
-    Display(Expression),
+    Call {
+        routine: usize,
+        component: ComponentPlace,
+        /// Whether the routine is called by a component, and not by its name alone.
+        is_entry: bool,
+        arguments: Vec<Argument>,
+        /// The cell of the calling frame that takes a function's result.
+        result: Option<usize>,
+    },
+    /// The start of a class, a monitor or a process, with the routine of its initial statement.
+    Start {
+        component: ComponentPlace,
+        routine: usize,
+        arguments: Vec<Argument>,
+    },
+    Delay(Place),
+    Continue(Place),
+    Display {
+        value: Expression,
+        kind: ShownKind,
+    },
 }
 
 /// An item of a list, with the item after it.

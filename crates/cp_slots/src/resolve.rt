@@ -7,7 +7,7 @@ ghost use Rattle.cp_slots.specs.Fits.{IsSound};
 use crate::lay_out::lay_out;
 use crate::resolved::Resolved;
 use crate::sound::is_sound;
-use crate::tables::{Layout, Process, Routine};
+use crate::tables::{Component, ComponentKind, Layout, Process, Routine};
 use cp_check::check::Checked;
 use std::alloc::{AllocError, Global};
 
@@ -24,19 +24,35 @@ pub fn resolve(alloc: Global, checked: &Checked) -> Result<Resolved, AllocError>
 fn nothing(alloc: Global) -> Result<Layout, AllocError>
     ensures { IfOk result (λ l. IsSound (tables_of l)) }
 {
-    let routine = Routine { body: None, own: 0 };
-    let process = Process {
-        routine: 0,
-        base: 0,
-        size: 0,
+    let routine = Routine {
+        body: None,
+        image: Vec::new(alloc),
+        references: 0,
+        result: 0,
+        room: 0,
+        reference_room: 0,
     };
+    let component = Component {
+        kind: ComponentKind::Process(0),
+        base: 0,
+    };
+    let process = Process {
+        component: 0,
+        routine: 0,
+    };
+    let mut routines = Vec::new(alloc);
+    routines.push(routine)?;
     Ok(Layout {
         items: Vec::new(alloc),
-        routines: vec![in alloc; routine]?,
+        routines,
+        components: vec![in alloc; component]?,
         processes: vec![in alloc; process]?,
         monitors: 0,
-        permanents: 0,
+        permanents: Vec::new(alloc),
         depth: 1,
+        cells: 0,
+        references: 0,
         arguments: 0,
+        names: Vec::new(alloc),
     })
 }

@@ -1,11 +1,11 @@
 //! The resolved program.
 
-ghost use Rattle.std.specs.Prelude.{◌≡◌, ◌<◌, ◌≤◌, ◌+◌, [], length};
+ghost use Rattle.std.specs.Prelude.{◌≡◌, ◌<◌, length};
 ghost use Rattle.cp_slots.specs.Fits.{IsSound};
-ghost use Rattle.cp_slots.specs.Tables.{tables_of, item_at, process_at, routine_at};
+ghost use Rattle.cp_slots.specs.Tables.{component_at, item_at, name_at, process_at, routine_at, routine_view, tables_of};
 
 use crate::item::Item;
-use crate::tables::{Layout, Process, Routine};
+use crate::tables::{Component, ComponentKind, Layout, Process, Routine};
 use std::marker::Model;
 
 /// A program whose names are slots. Its numbers are sound.
@@ -20,6 +20,14 @@ impl Model for Resolved {
     ghost Value = { Tables };
 
     ghost view = { λ r. tables_of r.layout };
+
+    ghost use Rattle.cp_slots.specs.contracts.place.Place as p;
+    ghost use Rattle.cp_slots.specs.contracts.place.Index as i;
+    ghost use Rattle.cp_slots.specs.contracts.place.Expression as e;
+    ghost use Rattle.cp_slots.specs.contracts.place.SetExpression as s;
+    ghost use Rattle.std.specs.Coded.{codes};
+
+    ghost coded = { Prim.hlevel (codes, p.the_row.coded, i.the_row.coded, e.the_row.coded, s.the_row.coded) };
 
     ghost use Rattle.cp_slots.specs.Fits.{IsSound};
 
@@ -47,15 +55,24 @@ impl Resolved {
     pub fn monitors(&self) -> u8
         ensures { result ≡ self.now.monitors }
     {
-        self.layout.monitors as u8
+        self.layout.monitors
+    }
+
+    /// How many components there are, the program included.
+    pub fn components(&self) -> usize
+        ensures { result ≡ length self.now.components }
+    {
+        self.layout.components.len()
     }
 
     /// The spelling of the enumeration constant of this number; the empty text where there is none.
-    pub fn name(&self, _number: u16) -> &str
-        ensures { result.now ≡ [] }
+    pub fn name(&self, number: u16) -> &str
+        ensures { result.now ≡ name_at self.now number }
     {
-        let _layout = &self.layout;
-        ""
+        match self.layout.names.get(number as usize) {
+            Some(name) => name.as_str(),
+            None => "",
+        }
     }
 
     /// An item.
@@ -67,11 +84,26 @@ impl Resolved {
         &self.layout.items[at]
     }
 
-    pub fn routine(&self, number: usize) -> Routine
+    /// A routine.
+    pub fn routine(&self, number: usize) -> &Routine
         requires { number < length self.now.routines }
-        ensures { result ≡ routine_at self.now number }
+        ensures { routine_view result.now ≡ routine_at self.now number }
     {
-        self.layout.routines[number]
+        &self.layout.routines[number]
+    }
+
+    /// A component; a class where there is none of this number.
+    pub fn component(&self, number: usize) -> Component
+        ensures value { result ≡ component_at self.now number }
+        ensures sound { IsSound self.now }
+    {
+        match self.layout.components.get(number) {
+            Some(component) => *component,
+            None => Component {
+                kind: ComponentKind::Class,
+                base: 0,
+            },
+        }
     }
 
     /// A process.
@@ -83,11 +115,11 @@ impl Resolved {
         self.layout.processes[number as usize]
     }
 
-    /// The number of permanent cells.
-    pub fn permanents(&self) -> usize
-        ensures { result ≡ self.now.permanents }
+    /// The permanent cells as a run begins.
+    pub fn permanents(&self) -> &[i16]
+        ensures { result.now ≡ self.now.permanents }
     {
-        self.layout.permanents
+        &self.layout.permanents
     }
 
     /// How many entries a control stack may have.
@@ -97,7 +129,21 @@ impl Resolved {
         self.layout.depth
     }
 
-    /// The greatest number of arguments of a start.
+    /// How many cells the frames of a process may have.
+    pub fn cells(&self) -> usize
+        ensures { result ≡ self.now.cells }
+    {
+        self.layout.cells
+    }
+
+    /// How many `var` parameters the frames of a process may have.
+    pub fn references(&self) -> usize
+        ensures { result ≡ self.now.references }
+    {
+        self.layout.references
+    }
+
+    /// The greatest number of arguments of a call or a start.
     pub fn arguments(&self) -> usize
         ensures { result ≡ self.now.arguments }
     {

@@ -1,12 +1,12 @@
 //! A test that the numbers of a program are sound.
 
-ghost use Rattle.std.specs.Prelude.{◌≡◌, ◌<◌, ◌≤◌, ℕ, IsTrue, length};
-ghost use Rattle.cp_slots.specs.Fits.{ActionFits, AllRead, InnerFits, IsSound, ItemFits, ListFits, ProcessFits, ReadsWithin, StartFits};
-ghost use Rattle.cp_slots.specs.Tables.{item_at, process_at, tables_of};
+ghost use Rattle.std.specs.Prelude.{◌≡◌, ◌<◌, ◌≤◌, ℕ, ◌+◌, IsTrue, length};
+ghost use Rattle.cp_slots.specs.Fits.{ActionFits, ArmsFit, CallFits, InnerFits, IsSound, ItemFits, KindFits, ListFits, Nests, ProcessFits, RoutineFits};
+ghost use Rattle.cp_slots.specs.Tables.{component_at, item_at, process_at, routine_at, routine_view, tables_of};
 
-use crate::expression::Expression;
-use crate::item::{Action, Item};
-use crate::tables::{Layout, Process};
+use crate::item::{Action, Arm, Item};
+use crate::place::Argument;
+use crate::tables::{ComponentKind, Layout, Process, Routine};
 
 /// Whether the numbers of a program are sound.
 pub fn is_sound(layout: &Layout) -> bool
@@ -16,11 +16,13 @@ pub fn is_sound(layout: &Layout) -> bool
         && layout.processes.len() <= 16
         && layout.monitors <= 64
         && items_fit(layout)
+        && routines_fit(layout)
+        && components_fit(layout)
         && processes_fit(layout)
 }
 
 fn items_fit(layout: &Layout) -> bool
-    ensures { IsTrue result → (at : ℕ) → at < length layout.now.items.items → ItemFits (tables_of layout.now) (item_at (tables_of layout.now) at) }
+    ensures { IsTrue result → (at : ℕ) → at < length (tables_of layout.now).items → ItemFits (tables_of layout.now) (item_at (tables_of layout.now) at) }
 {
     for item in &layout.items {
         if !item_fits(layout, item) {
@@ -30,8 +32,54 @@ fn items_fit(layout: &Layout) -> bool
     true
 }
 
+fn routines_fit(layout: &Layout) -> bool
+    ensures { IsTrue result → (number : ℕ) → number < length (tables_of layout.now).routines → RoutineFits (routine_at (tables_of layout.now) number) }
+{
+    for number in 0..layout.routines.len() {
+        if !routine_fits(routine_of(layout, number)) {
+            return false;
+        }
+    }
+    true
+}
+
+fn routine_fits(routine: &Routine) -> bool
+    ensures { IsTrue result → RoutineFits (routine_view routine.now) }
+{
+    routine.image.len() <= routine.room && routine.references <= routine.reference_room
+}
+
+// The routine of a number.
+fn routine_of(layout: &Layout, number: usize) -> &Routine
+    requires { number < length layout.now.routines.items }
+    ensures { routine_view result.now ≡ routine_at (tables_of layout.now) number }
+{
+    &layout.routines[number]
+}
+
+fn components_fit(layout: &Layout) -> bool
+    ensures { IsTrue result → (number : ℕ) → number < length (tables_of layout.now).components → KindFits (tables_of layout.now) (component_at (tables_of layout.now) number).kind }
+{
+    for component in &layout.components {
+        if !kind_fits(layout, component.kind) {
+            return false;
+        }
+    }
+    true
+}
+
+fn kind_fits(layout: &Layout, kind: ComponentKind) -> bool
+    ensures { IsTrue result → KindFits (tables_of layout.now) kind }
+{
+    match kind {
+        ComponentKind::Process(number) => (number as usize) < layout.processes.len(),
+        ComponentKind::Monitor(number) => number < layout.monitors,
+        ComponentKind::Class => true,
+    }
+}
+
 fn processes_fit(layout: &Layout) -> bool
-    ensures { IsTrue result → (number : ℕ) → number < length layout.now.processes.items → ProcessFits (tables_of layout.now) (process_at (tables_of layout.now) number) }
+    ensures { IsTrue result → (number : ℕ) → number < length (tables_of layout.now).processes → ProcessFits (tables_of layout.now) (process_at (tables_of layout.now) number) }
 {
     for process in &layout.processes {
         if !process_fits(layout, *process) {
@@ -44,13 +92,15 @@ fn processes_fit(layout: &Layout) -> bool
 fn process_fits(layout: &Layout, process: Process) -> bool
     ensures { IsTrue result → ProcessFits (tables_of layout.now) process }
 {
-    if process.routine >= layout.routines.len() || layout.depth == 0 {
+    if process.component >= layout.components.len()
+        || process.routine >= layout.routines.len()
+        || layout.depth == 0
+    {
         return false;
     }
-    let routine = layout.routines[process.routine];
-    routine.own <= process.size
-        && process.base <= layout.permanents
-        && process.size <= layout.permanents - process.base
+    let routine = routine_of(layout, process.routine);
+    routine.room <= layout.cells
+        && routine.reference_room <= layout.references
         && list_fits(layout, process.routine, layout.depth - 1, routine.body)
 }
 
@@ -66,24 +116,76 @@ fn action_fits(layout: &Layout, routine: usize, need: usize, action: &Action) ->
     requires { routine < length layout.now.routines.items }
     ensures { IsTrue result → ActionFits (tables_of layout.now) routine need action.now }
 {
-    let own = layout.routines[routine].own;
     match action {
-        Action::Empty => true,
-        Action::Block(list) => inner_fits(layout, routine, need, *list),
-        Action::Cycle(list) => inner_fits(layout, routine, need, *list),
-        Action::Start(number, arguments) => start_fits(layout, own, *number, arguments),
-        Action::Display(expression) => reads_within(expression, own),
+        Action::Block(list) | Action::Cycle(list) => inner_fits(layout, routine, need, *list),
+        Action::If {
+            then,
+            otherwise,
+            ..
+        } => {
+            inner_fits(layout, routine, need, *then)
+                && inner_fits(layout, routine, need, *otherwise)
+        }
+        Action::Case { arms, .. } => arms_fit(layout, routine, need, arms),
+        Action::While { body, again, .. } | Action::Until { body, again, .. } => {
+            inner_fits(layout, routine, need, *body) && nests(layout, routine, need, *again)
+        }
+        Action::For { body, .. } => inner_fits(layout, routine, need, *body),
+        Action::Call {
+            routine: callee,
+            arguments,
+            ..
+        } => call_fits(layout, routine, need, *callee, arguments),
+        Action::Start {
+            routine: callee,
+            arguments,
+            ..
+        } => call_fits(layout, routine, need, *callee, arguments),
+        _ => true,
     }
 }
 
-fn start_fits(layout: &Layout, own: usize, number: u8, arguments: &[Expression]) -> bool
-    ensures { IsTrue result → StartFits (tables_of layout.now) own number arguments.now }
+fn arms_fit(layout: &Layout, routine: usize, need: usize, arms: &[Arm]) -> bool
+    ensures { IsTrue result → ArmsFit (tables_of layout.now) routine need arms.now }
 {
-    let number = number as usize;
-    number < layout.processes.len()
-        && arguments.len() <= layout.processes[number].size
+    for arm in arms {
+        if !inner_fits(layout, routine, need, arm.body) {
+            return false;
+        }
+    }
+    true
+}
+
+fn call_fits(
+    layout: &Layout,
+    caller: usize,
+    need: usize,
+    callee: usize,
+    arguments: &[Argument],
+) -> bool
+    requires { caller < length layout.now.routines.items }
+    ensures { IsTrue result → CallFits (tables_of layout.now) caller need callee arguments.now }
+{
+    if callee >= layout.routines.len() || need < 2 {
+        return false;
+    }
+    let calling = routine_of(layout, caller);
+    let called = routine_of(layout, callee);
+    list_fits(layout, callee, need - 2, called.body)
+        && stays_within(calling.image.len(), called.room, calling.room)
+        && stays_within(
+            calling.references,
+            called.reference_room,
+            calling.reference_room,
+        )
         && arguments.len() <= layout.arguments
-        && all_read(arguments, own)
+}
+
+// Whether two numbers together are at most a third.
+fn stays_within(first: usize, second: usize, most: usize) -> bool
+    ensures { IsTrue result → first + second ≤ most }
+{
+    first <= most && second <= most - first
 }
 
 fn list_fits(layout: &Layout, routine: usize, need: usize, list: Option<usize>) -> bool
@@ -91,13 +193,7 @@ fn list_fits(layout: &Layout, routine: usize, need: usize, list: Option<usize>) 
 {
     match list {
         None => true,
-        Some(at) => {
-            if at >= layout.items.len() {
-                return false;
-            }
-            let item = &layout.items[at];
-            item.routine == routine && item.need <= need
-        }
+        Some(at) => nests(layout, routine, need, at),
     }
 }
 
@@ -106,26 +202,16 @@ fn inner_fits(layout: &Layout, routine: usize, need: usize, list: Option<usize>)
 {
     match list {
         None => true,
-        Some(_) => need >= 1 && list_fits(layout, routine, need - 1, list),
+        Some(at) => need >= 1 && nests(layout, routine, need - 1, at),
     }
 }
 
-fn all_read(expressions: &[Expression], own: usize) -> bool
-    ensures { IsTrue result → AllRead own expressions.now }
+fn nests(layout: &Layout, routine: usize, need: usize, at: usize) -> bool
+    ensures { IsTrue result → Nests (tables_of layout.now) routine need at }
 {
-    for expression in expressions {
-        if !reads_within(expression, own) {
-            return false;
-        }
+    if at >= layout.items.len() {
+        return false;
     }
-    true
-}
-
-fn reads_within(expression: &Expression, own: usize) -> bool
-    ensures { IsTrue result → ReadsWithin own expression.now }
-{
-    match expression {
-        Expression::Number(_) => true,
-        Expression::Permanent(slot) => *slot < own,
-    }
+    let item = &layout.items[at];
+    item.routine == routine && item.need <= need
 }

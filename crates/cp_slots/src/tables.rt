@@ -2,38 +2,67 @@
 
 use crate::item::Item;
 
-/// A list of statements that is executed in one frame.
-#[derive(Clone, Copy, Drop)]
+/// A routine, or an initial statement.
+#[derive(Drop)]
 pub struct Routine {
     /// The first item.
     pub body: Option<usize>,
-    /// How many permanent cells of its component it may use.
-    pub own: usize,
+    /// The cells of its frame as a call begins: parameters, local variables, result, results of calls.
+    pub image: Vec<i16>,
+    /// How many `var` parameters it has.
+    pub references: usize,
+    /// The cell of a function's result.
+    pub result: usize,
+    /// The cells of its frame and of those above it, at most.
+    pub room: usize,
+    /// The `var` parameters of its frame and of those above it, at most.
+    pub reference_room: usize,
+}
+
+#[derive(Clone, Copy, Drop)]
+pub enum ComponentKind {
+    /// With its number.
+    Process(u8),
+    /// With its number.
+    Monitor(u8),
+    Class,
+}
+
+/// A component. Those that it contains follow it.
+#[derive(Clone, Copy, Drop)]
+pub struct Component {
+    pub kind: ComponentKind,
+    /// The first of its permanent cells.
+    pub base: usize,
 }
 
 /// A process.
 #[derive(Clone, Copy, Drop)]
 pub struct Process {
+    pub component: usize,
     /// The routine of its initial statement.
     pub routine: usize,
-    /// The first of its permanent cells.
-    pub base: usize,
-    /// How many permanent cells it has.
-    pub size: usize,
 }
 
-/// The tables of a program, with its processes in the order of their numbers.
+/// The tables of a program. Component 0 and process 0 are the program itself.
 #[derive(Drop)]
 pub struct Layout {
     pub items: Vec<Item>,
     pub routines: Vec<Routine>,
+    pub components: Vec<Component>,
     pub processes: Vec<Process>,
     /// The number of monitors.
-    pub monitors: usize,
-    /// The number of permanent cells.
-    pub permanents: usize,
+    pub monitors: u8,
+    /// The permanent cells as a run begins.
+    pub permanents: Vec<i16>,
     /// How many entries a control stack may have.
     pub depth: usize,
-    /// The greatest number of arguments of a start.
+    /// How many cells the frames of a process may have.
+    pub cells: usize,
+    /// How many `var` parameters the frames of a process may have.
+    pub references: usize,
+    /// The greatest number of arguments of a call or a start.
     pub arguments: usize,
+    /// The constants of all enumerations, in the order of their declarations.
+    pub names: Vec<String>,
 }

@@ -11,7 +11,8 @@ use Rattle.cp_tree.specs.TreeView.{tree_view}
 use Rattle.cp_tree.specs.declared.fault.ParseFault.{ParseFault}
 use Rattle.cp_tree.specs.declared.tree.Tree as tree
 use Rattle.cp_scope.specs.declared.fault.CheckFault.{CheckFault}
-use Rattle.cp_check.specs.Faults.{faults_of, RefusesProgram}
+use Rattle.cp_scope.specs.Judged.{RefusesList}
+use Rattle.cp_check.specs.Faults.{faults_of}
 use Rattle.cp_slots.specs.Tables.{Tables}
 use Rattle.cp_run.specs.Slots.{slots}
 use Rattle.cp_run.specs.Run.{run}
@@ -56,7 +57,7 @@ IsExplored o program verdict text = MatchOption o.schedule (IsReported o program
 abbrev pub AnswersTree : Options → List Token → tree.Tree → Verdict → List ℕ → Type 0
 AnswersTree o tokens t verdict text =
     ((faults_of (tree_view t) ≡ []) × (program : Tables) × IsExplored o program verdict text)
-    ⊎ ((fault : CheckFault) × RefusesProgram fault (faults_of (tree_view t)) × IsRefusedAt tokens (check_reason fault) verdict text)
+    ⊎ ((fault : CheckFault) × RefusesList fault (faults_of (tree_view t)) × IsRefusedAt tokens (check_reason fault) verdict text)
 
 abbrev pub AnswersParsed : Options → List Token → Result tree.Tree ParseFault → Verdict → List ℕ → Type 0
 AnswersParsed o tokens (Ok t) verdict text = AnswersTree o tokens t verdict text

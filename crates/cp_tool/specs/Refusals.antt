@@ -56,5 +56,4 @@ rule_reason rule.C21 = codes "check C21"
 
 abbrev pub check_reason : CheckFault → Option (ℕ × List ℕ)
 check_reason (check_fault.Rule at r) = Some (at, rule_reason r)
-check_reason (check_fault.LeftOut at) = Some (at, codes "check: not supported yet")
 check_reason check_fault.Memory = None

@@ -49,7 +49,6 @@ pub fn check_reason(fault: &CheckFault) -> Option<(usize, &'static str)>
 {
     match fault {
         CheckFault::Rule { at, rule } => Some((*at, rule_reason(*rule))),
-        CheckFault::LeftOut { at } => Some((*at, "check: not supported yet")),
         CheckFault::Memory => None,
     }
 }

@@ -1,5 +1,5 @@
 use Rattle.cp_explore.specs.declared.row.Row.{Row}
-use Rattle.std.proofs.Common.{◌≡◌, List, flat_map, ap, ◌∙◌, sym, ℕ}
+use Rattle.std.proofs.Common.{◌≡◌, List, flat_map, ap, ◌∙◌, sym}
 use Rattle.std.proofs.lemmas.Result.{IfOk-weaker}
 use Rattle.cp_explore.specs.Tables.{table_of, rows_at}
 use Rattle.cp_explore.proofs.Gathering.{flat_map-map}

@@ -1,7 +1,6 @@
-use Rattle.std.proofs.Common.{◌≡◌, ◌∙◌, ◌+◌, ◌-◌, ◌<◌, ◌≤◌, ap, sym, refl, arith, subst, true, false, length, map, take, drop, get_or, ◌++◌, []}
+use Rattle.std.proofs.Common.{◌≡◌, ◌∙◌, ◌+◌, ◌-◌, ◌<◌, ap, sym, arith, subst, length, map, take, drop, get_or, ◌++◌, []}
 use Rattle.cp_machine.specs.System.{machine_of}
 use Rattle.cp_run.specs.Code.{node_of}
-use Rattle.cp_run.specs.Run.{may, chosen}
 use Rattle.cp_run.specs.Slots.{slots}
 use Rattle.cp_run.proofs.Running.{drop_next}
 use Rattle.cp_run.proofs.TraceRuns.{some_left}

@@ -1,4 +1,4 @@
-use Rattle.std.proofs.Common.{◌≡◌, ◌≤◌, ◌-◌, [], drop, take, map}
+use Rattle.std.proofs.Common.{◌≡◌, ◌≤◌, ◌-◌, drop, take, map}
 use Rattle.cp_machine.specs.System.{machine_of, IsStateOf}
 use Rattle.cp_run.specs.Slots.{slots}
 use Rattle.cp_run.specs.Code.{node_of}

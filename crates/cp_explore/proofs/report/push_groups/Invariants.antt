@@ -1,8 +1,9 @@
-use Rattle.std.proofs.Common.{◌≡◌, ◌++◌, string_bytes, take, map}
+use Rattle.std.proofs.Common.{◌≡◌, ◌++◌, string_bytes, map}
+use Rattle.indexmap.specs.IndexMap.{values}
 use Rattle.cp_run.specs.Table.{each}
-use Rattle.cp_explore.specs.Report.{group_text}
-use Rattle.cp_explore.specs.Rows.{line_of}
+use Rattle.cp_explore.specs.Groups.{tally, tally_text}
 use Rattle.cp_explore.proofs.report.push_groups.Given as goal
 
-abbrev pub invariant-loop-first : goal.invariant-loop-first
-invariant-loop-first l = string_bytes l.text ≡ string_bytes l.initial.text ++ each (λ first. group_text l.program (map line_of l.rows) (line_of first.now)) (take l.first-index l.firsts)
+-- those so far, and those that are left
+abbrev pub invariant-loop-group : goal.invariant-loop-group
+invariant-loop-group l = string_bytes l.initial.text ++ each (tally_text l.program) (map tally (values l.groups)) ≡ string_bytes l.text ++ each (tally_text l.program) (map tally l.group-iterator)

@@ -1,4 +1,4 @@
-use Rattle.std.proofs.Common.{◌≡◌, ◌<◌, arith, length, string_bytes, None}
+use Rattle.std.proofs.Common.{◌<◌, arith, length, string_bytes}
 use Rattle.cp_explore.specs.TraceText.{holder_text}
 use Rattle.cp_explore.proofs.Joining.{behind_more}
 use Rattle.cp_explore.proofs.trace_report.push_holders.Goals as goal

@@ -1,4 +1,4 @@
-use Rattle.std.proofs.Common.{◌≡◌, ◌∙◌, ◌<◌, ◌++◌, ap, arith, length, string_bytes, decimal}
+use Rattle.std.proofs.Common.{◌∙◌, ◌<◌, ◌++◌, ap, arith, length, string_bytes, decimal}
 use Rattle.cp_explore.proofs.Joining.{behind_more}
 use Rattle.cp_explore.proofs.trace_report.push_numbers.Goals as goal
 

@@ -4,8 +4,10 @@ use Rattle.cp_machine.specs.declared.event.Event.{Event}
 use Rattle.cp_machine.specs.declared.event.Event.TheVariants.{Local, Kernel, Ended, Fault, OutputFull}
 use Rattle.cp_machine.specs.declared.event.RunError.{RunError}
 use Rattle.cp_machine.specs.Fits.{MachineFits}
-use Rattle.cp_machine.specs.Machine.{Stepped, machine_of, succeeds}
-use Rattle.cp_machine.proofs.Keeping.{step_fits}
+use Rattle.cp_machine.specs.Machine.{machine_of}
+use Rattle.cp_machine.specs.Statements.{Stepped}
+use Rattle.cp_machine.specs.Step.{succeeds}
+use Rattle.cp_machine.proofs.KeepingAct.{step_fits}
 use Rattle.cp_machine.proofs.step.step.Goals as goal
 
 counted : (e : Event) → ((x : RunError) → e ≡ Fault x → ⊥) → (e ≡ OutputFull → ⊥) → succeeds e ≡ true
@@ -24,7 +26,8 @@ returns-in_default g c =
     record {
       after = c.take_step-event.ensures.after;
       own = record {
-        fits = subst Fine c.take_step-event.ensures.after (step_fits r _ c.args.pid lt c.take_step-event.ensures.sound c.requires.own.fits);
+        sound = c.requires.own.sound;
+        fits = subst Fine c.take_step-event.ensures.after (step_fits r _ c.args.pid lt c.requires.own.sound c.requires.own.fits);
         reserved = c.take_step-event.ensures.reserved;
       };
       ticks = rw one c.tick.ensures;
@@ -36,6 +39,7 @@ returns-in-Fault-clause-own g c =
     let lt : c.args.pid < length (machine_of c.args.state.now).threads = rw length-map c.requires.pid in
     let Fine : Stepped → Type 0 = λ x. MachineFits r x.machine in
     record {
-      fits = subst Fine c.take_step-event.ensures.after (step_fits r _ c.args.pid lt c.take_step-event.ensures.sound c.requires.own.fits);
+      sound = c.requires.own.sound;
+      fits = subst Fine c.take_step-event.ensures.after (step_fits r _ c.args.pid lt c.requires.own.sound c.requires.own.fits);
       reserved = c.take_step-event.ensures.reserved;
     }

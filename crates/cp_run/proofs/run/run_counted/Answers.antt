@@ -1,7 +1,8 @@
-use Rattle.std.proofs.Common.{◌≡◌, ◌-◌, ◌+◌, ◌∙◌, ap, sym, arith, drop, get_or, true, false}
+use Rattle.std.proofs.Common.{◌≡◌, ◌-◌, ◌+◌, ◌∙◌, ap, sym, subst, arith, drop, get_or, length, true, false, IfOk, List, [], ℕ}
+use Rattle.std.proofs.Math.Seq.{drop-length}
 use Rattle.cp_machine.specs.System.{machine_of}
-use Rattle.cp_run.specs.Code.{node_of, further}
-use Rattle.cp_run.specs.Run.{Ended, may, run_from}
+use Rattle.cp_run.specs.Code.{answer_of, node_of, further}
+use Rattle.cp_run.specs.Run.{Answer, Ended, may, run, run_from}
 use Rattle.cp_run.specs.Slots.{slots}
 use Rattle.cp_run.proofs.Running.{over_at, limit_at, refused_at, goes_at, drop_next}
 use Rattle.cp_run.proofs.run.run_counted.Goals as goal
@@ -59,3 +60,15 @@ loop-place-preserved g c =
       same = c.loop-place.invariant.same ∙ ap (λ h. further n (run_from sys c.args.limits.steps k w (node_of h m))) c.in-Choice.is ∙ goes_at sys c.args.limits.steps k j n p w rest m (omega (arith, within)) (drop_next c.args.word.now n (omega arith)) on ∙ ap (λ x. further (n + 1) (run_from sys c.args.limits.steps j rest x)) c.choose-halt.ensures.node;
       ticks = omega (arith, so_far, more);
     }
+
+pub returns-clause-answer : goal.returns-clause-answer
+returns-clause-answer g c =
+    let sys = slots c.args.program.now c.args.limits.gates in
+    let word = c.args.word.now in
+    let node = node_of c.loop-place.halt (machine_of c.loop-place.state) in
+    let at : c.loop-place.place ≡ length word = omega arith in
+    let reached : run sys c.args.limits.choices c.args.limits.steps word ≡ further (length word) (run_from sys c.args.limits.steps (c.args.limits.choices - length word) [] node) =
+    c.loop-place.invariant.same
+    ∙ ap (λ n. further n (run_from sys c.args.limits.steps (c.args.limits.choices - n) (drop n word) node)) at
+    ∙ ap (λ (w : List ℕ). further (length word) (run_from sys c.args.limits.steps (c.args.limits.choices - length word) w node)) (drop-length word) in
+    subst (λ (a : Answer). IfOk c.end_of_word.result (λ end. answer_of end ≡ a)) (sym reached) c.end_of_word.ensures

@@ -1,4 +1,4 @@
-use Rattle.std.proofs.Common.{◌≡◌, ◌∙◌, ◌<◌, ap, sym, arith, length, map, Some, slice_get}
+use Rattle.std.proofs.Common.{◌≡◌, ◌∙◌, ap, sym, arith, length, Some, slice_get}
 use Rattle.std.proofs.lemmas.List.{length-map}
 use Rattle.cp_run.specs.Slots.{slots}
 use Rattle.cp_explore.specs.Cutting.{rows_behind}

@@ -1,0 +1,1 @@
+procedure f; begin cycle end end; begin end.

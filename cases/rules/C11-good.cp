@@ -1,0 +1,1 @@
+type m = monitor; var q: queue; begin end; begin end.

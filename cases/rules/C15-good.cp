@@ -1,0 +1,1 @@
+type p = monitor; begin end; r = process(x: p); begin end; begin end.

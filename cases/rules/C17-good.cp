@@ -1,0 +1,1 @@
+type x = process; begin end; var a: x; begin init a end.

@@ -1,0 +1,1 @@
+type r = record a: integer end; var x: r; begin display(x.a) end.

@@ -1,0 +1,1 @@
+const b = 1; c = b; begin end.

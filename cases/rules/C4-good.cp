@@ -1,0 +1,1 @@
+type c = 1..9; var x: c; begin end.

@@ -1,0 +1,1 @@
+var c: integer; begin c := 2 end.

@@ -1,0 +1,1 @@
+procedure f(a: integer); begin end; begin f(1) end.

@@ -1,0 +1,26 @@
+use Rattle.std.proofs.Common.{◌∙◌, ◌<◌, length, arith, ap, map, refl}
+use Rattle.cp_explore.proofs.Grouping.{grouped_more, grouped_count, grouped_text, room}
+use Rattle.cp_explore.proofs.Joining.{take_whole}
+use Rattle.cp_explore.specs.Groups.{tallies_of}
+use Rattle.cp_explore.specs.Rows.{line_of}
+use Rattle.cp_explore.proofs.groups.grouped.Goals as goal
+
+pub with_row-group-requires : goal.with_row-group-requires
+with_row-group-requires c =
+    let lt : c.loop-row.row-index < length c.args.rows.now = omega arith in
+    room c.args.rows.now c.loop-row.row-index (length c.args.rows.now) c.loop-row.groups.entries c.in_ok-numbers.numbers.items lt refl c.loop-row.invariant
+
+pub loop-row-preserved : goal.loop-row-preserved
+loop-row-preserved c =
+    let lt : c.loop-row.row-index < length c.args.rows.now = omega arith in
+    grouped_more c.args.rows.now c.loop-row.row-index c.row-item.result c.loop-row.groups.entries c.insert.new.self.entries c.in_ok-numbers.numbers c.with_row-group.result lt c.row-item.is c.loop-row.invariant c.in_ok-numbers.ensures c.with_row-group.ensures c.in_ok-insert.ensures.entries
+
+pub returns-clause-count : goal.returns-clause-count
+returns-clause-count c =
+    let k = c.loop-row.row-index in
+    grouped_count (map line_of c.args.rows.now) c.loop-row.groups.entries (c.loop-row.invariant ∙ ap (λ rows. tallies_of (map line_of rows)) (take_whole c.args.rows.now k (omega arith)))
+
+pub returns-clause-texts : goal.returns-clause-texts
+returns-clause-texts c = λ r.
+    (let k = c.loop-row.row-index in
+    grouped_text r (map line_of c.args.rows.now) c.loop-row.groups.entries (c.loop-row.invariant ∙ ap (λ rows. tallies_of (map line_of rows)) (take_whole c.args.rows.now k (omega arith))))

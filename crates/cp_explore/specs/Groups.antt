@@ -1,0 +1,36 @@
+-- The outcomes of a table with their first rows and counts.
+use Rattle.std.specs.Prelude.{ℕ, ◌+◌, List, ◌++◌, map, Option, None, Some, decimal, codes}
+use Rattle.std.specs.declared.alloc.Global.{Global}
+use Rattle.std.specs.declared.vec.Vec.{Vec}
+use Rattle.cp_slots.specs.Tables.{Tables}
+use Rattle.cp_run.specs.Table.{Line}
+use Rattle.cp_explore.specs.Report.{outcome_numbers, outcomes_of, count_of}
+use Rattle.cp_explore.specs.Rows.{line_of}
+use Rattle.cp_explore.specs.Text.{word_text, outcome_text}
+use Rattle.cp_explore.specs.declared.groups.Group.{Group}
+
+pub record Tally : Type 0 where
+  pub first : Line
+  pub count : ℕ
+
+abbrev pub tally_of : List Line → Line → List ℕ × Tally
+tally_of lines first = (outcome_numbers first.outcome, record { first = first; count = count_of lines first })
+
+-- for each distinct outcome, in order: its numbers, its first row, and its count
+abbrev pub tallies_of : List Line → List (List ℕ × Tally)
+tallies_of lines = map (tally_of lines) (outcomes_of lines)
+
+-- what is known of an outcome after one row more
+abbrev pub tally_with : Option Tally → Line → Tally
+tally_with None l = record { first = l; count = 1 }
+tally_with (Some t) l = record { first = t.first; count = t.count + 1 }
+
+abbrev pub tally : Group → Tally
+tally g = record { first = line_of g.first.now; count = g.count }
+
+abbrev pub tally_text : Tables → Tally → List ℕ
+tally_text r t = decimal t.count ++ codes " first " ++ word_text t.first.word ++ codes " " ++ outcome_text r t.first.outcome ++ codes "\n"
+
+-- an entry of the code's map
+abbrev pub seen : Vec ℕ Global × Group → List ℕ × Tally
+seen e = (e.0.items, tally e.1)

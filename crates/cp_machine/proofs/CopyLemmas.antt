@@ -1,0 +1,94 @@
+-- Processes and monitors that are copied one by one.
+use Rattle.std.proofs.Common.{◌≡◌, ℕ, ◌+◌, ◌<◌, ◌≤◌, ◌∙◌, ◌⊎◌, inl, inr, suc, subst, get_or-set_same, get_or-set_other, List, [], ◌∷◌, length, map, ap, sym, refl, arith}
+use Rattle.std.specs.Prelude.{slice_index_or, slice_set, vec_len, vec_capacity}
+use Rattle.std.proofs.lemmas.Bool.{cases_eq}
+use Rattle.std.proofs.lemmas.List.{get_or-map, get_or_read, length-map, length-reverse, length-set}
+use Rattle.cp_slots.specs.Tables.{Tables, routine_at}
+use Rattle.cp_slots.specs.Fits.{IsSound}
+use Rattle.cp_store.specs.declared.memory.Frame.{Frame}
+use Rattle.cp_machine.specs.declared.process.Entry.{Entry}
+use Rattle.cp_machine.specs.declared.process.Entry.TheVariants.{Rest, Successor, Return, InitEnd}
+use Rattle.cp_machine.specs.Stack.{top_first}
+use Rattle.cp_machine.specs.declared.state.Guard.{Guard}
+use Rattle.cp_machine.specs.declared.process.Process.{Process}
+use Rattle.cp_machine.specs.Machine.{Machine, Thread, monitor_of, no_thread, thread_at, thread_of}
+use Rattle.cp_machine.specs.Fits.{FrameFits, HaveCells, HaveReferences, HaveRoom, HaveStacks, MachineFits, StackFits, ThreadFits, size_of}
+
+-- processes that are alike one by one
+pub threads_same : (xs ys : List Process) → length xs ≡ length ys → ((k : ℕ) (d : Process) → k < length xs → thread_of (slice_index_or xs k d) ≡ thread_of (slice_index_or ys k d)) → map thread_of xs ≡ map thread_of ys
+threads_same [] [] e h = refl
+threads_same [] (y ∷ ys) e h = absurd (omega arith)
+threads_same (x ∷ xs) [] e h = absurd (omega arith)
+threads_same (x ∷ xs) (y ∷ ys) e h =
+    let first : thread_of x ≡ thread_of y = h 0 x (omega arith) in
+    let rest = threads_same xs ys (omega arith) (λ k d lt. h (suc k) d (omega arith)) in
+    ap (λ t. t ∷ map thread_of xs) first ∙ ap (λ ts. thread_of y ∷ ts) rest
+
+-- a fact of each element stays where one of them is replaced
+pub set_each : {X : Type 0} (P : ℕ → X → X → Type 0) (xs : List X) (at : ℕ) (x : X) → at < length xs → ((d : X) → P at d x) → (n : ℕ) → ((q : ℕ) (d : X) → q < n → (q ≡ at → ⊥) → P q d (slice_index_or xs q d)) → (q : ℕ) (d : X) → q < n → P q d (slice_index_or (slice_set xs at x) q d)
+set_each P xs at x within new n old q d lt = go (cases_eq q at)
+  where
+    go : (q ≡ at) ⊎ (q ≡ at → ⊥) → P q d (slice_index_or (slice_set xs at x) q d)
+    go (inl e) =
+        let R : ℕ → Type 0 = λ k. P k d (slice_index_or (slice_set xs at x) k d) in
+        subst R (sym e) (subst (P at d) (sym (get_or-set_same xs at x d within)) (new d))
+    go (inr ne) = subst (P q d) (sym (get_or-set_other xs at q x d ne)) (old q d lt ne)
+
+pub copied_more : (mine theirs : List Process) (at : ℕ) (x y : Process) → at < length mine → at < length theirs → thread_of x ≡ thread_of y → y ≡ slice_index_or theirs at y → ((k : ℕ) (d : Process) → k < at → thread_of (slice_index_or mine k d) ≡ thread_of (slice_index_or theirs k d)) → (k : ℕ) (d : Process) → k < at + 1 → thread_of (slice_index_or (slice_set mine at x) k d) ≡ thread_of (slice_index_or theirs k d)
+copied_more mine theirs at x y lm lt same read old =
+    set_each (λ k d p. thread_of p ≡ thread_of (slice_index_or theirs k d)) mine at x lm (λ d. same ∙ ap thread_of (get_or_read theirs at y lt read d)) (at + 1) (λ k d l ne. old k d (omega arith))
+
+-- a measure of each process is at least as great as before where one is replaced by one whose measure is
+pub grown : (of : Process → ℕ) (mine : List Process) (at : ℕ) (x old : Process) → at < length mine → old ≡ slice_index_or mine at old → of old ≤ of x → (n : ℕ → Process → ℕ) → ((q : ℕ) (d : Process) → q < length mine → n q d ≤ of (slice_index_or mine q d)) → (q : ℕ) (d : Process) → q < length (slice_set mine at x) → n q d ≤ of (slice_index_or (slice_set mine at x) q d)
+grown of mine at x old lm read more n h q d lt =
+    let long = length-set mine at x in
+    set_each (λ q d p. n q d ≤ of p) mine at x lm
+    (λ d. (let e : of old ≡ of (slice_index_or mine at d) = ap of (get_or_read mine at old lm read d) in omega (arith, h at d lm, e, more)))
+    (length mine) (λ q d l ne. h q d l) q d (omega (arith, long, lt))
+
+-- monitors that are alike one by one
+pub guards_same : (xs ys : List Guard) → length xs ≡ length ys → ((k : ℕ) (d : Guard) → k < length xs → monitor_of (slice_index_or xs k d) ≡ monitor_of (slice_index_or ys k d)) → map monitor_of xs ≡ map monitor_of ys
+guards_same [] [] e h = refl
+guards_same [] (y ∷ ys) e h = absurd (omega arith)
+guards_same (x ∷ xs) [] e h = absurd (omega arith)
+guards_same (x ∷ xs) (y ∷ ys) e h =
+    let first : monitor_of x ≡ monitor_of y = h 0 x (omega arith) in
+    let rest = guards_same xs ys (omega arith) (λ k d lt. h (suc k) d (omega arith)) in
+    ap (λ t. t ∷ map monitor_of xs) first ∙ ap (λ ts. monitor_of y ∷ ts) rest
+
+frame_fits : (r : Tables) (f : Frame) (es : List Entry) → StackFits r f es → FrameFits r f
+frame_fits r f [] h = h
+frame_fits r f (Rest at ∷ es) h = frame_fits r f es h.1
+frame_fits r f (Successor at value last ∷ es) h = frame_fits r f es h.1
+frame_fits r f (Return caller result monitor ∷ es) h = h.0.fits
+frame_fits r f (InitEnd caller component ∷ es) h = h.0.fits
+
+stack_within : (r : Tables) (f : Frame) (es : List Entry) → StackFits r f es → length es ≤ r.depth
+stack_within r f [] h = omega arith
+stack_within r f (Rest at ∷ es) h = omega (arith, h.0.deep)
+stack_within r f (Successor at value last ∷ es) h = omega (arith, h.0.deep)
+stack_within r f (Return caller result monitor ∷ es) h = omega (arith, h.1)
+stack_within r f (InitEnd caller component ∷ es) h = omega (arith, h.1)
+
+-- what a thread that fits has is within what is reserved
+pub thread_within : (r : Tables) (t : Thread) → IsSound r → ThreadFits r t → (length t.stack ≤ r.depth) × (length t.cells ≤ r.cells) × (length t.references ≤ r.references)
+thread_within r t sound h =
+    let frame = frame_fits r t.frame t.stack h.stack in
+    let routine = sound.routines t.frame.routine frame.routine in
+    (stack_within r t.frame t.stack h.stack, omega (arith, h.cells, frame.cells, routine.cells), omega (arith, h.references, frame.references, routine.references))
+
+-- the processes of a state of the program have room for those of another
+pub have_room : (r : Tables) (mine theirs : List Process) (m : Machine) → map thread_of theirs ≡ m.threads → length mine ≡ length theirs → IsSound r → MachineFits r m → HaveStacks r.depth mine → HaveCells r.cells mine → HaveReferences r.references mine → HaveRoom mine theirs
+have_room r mine theirs m same long sound fits stacks cells references = λ q d lt.
+    (let within : q < length theirs = omega (arith, long, lt) in
+    let p = slice_index_or theirs q d in
+    let read : thread_at (map thread_of theirs) q ≡ thread_of p = get_or-map thread_of theirs q d no_thread within in
+    let count : length (map thread_of theirs) ≡ length theirs = length-map theirs thread_of in
+    let Q : List Thread → Type 0 = λ ts. (k : ℕ) → k < length ts → ThreadFits r (thread_at ts k) in
+    let all : (k : ℕ) → k < length (map thread_of theirs) → ThreadFits r (thread_at (map thread_of theirs) k) = subst Q (sym same) fits.each in
+    let few = thread_within r (thread_of p) sound (subst (ThreadFits r) read (all q (omega (arith, count, within)))) in
+    let turned : length (top_first p.stack) ≡ length p.stack.items = length-reverse p.stack.items in
+    let depth : vec_len p.stack ≡ length p.stack.items = p.stack.ok.0 in
+    let size : vec_len p.room.cells ≡ length p.room.cells.items = p.room.cells.ok.0 in
+    let named : vec_len p.room.references ≡ length p.room.references.items = p.room.references.ok.0 in
+    (omega (arith, few.0, turned, depth, stacks q d lt), omega (arith, few.1, size, cells q d lt), omega (arith, few.2, named, references q d lt)))

@@ -1,0 +1,104 @@
+-- What the kernel does keeps each process inside what was reserved for it.
+use Rattle.std.proofs.Common.{◌≡◌, ℕ, ◌<◌, ◌∙◌, ◌⊎◌, inl, inr, List, [], ◌∷◌, Option, Some, None, length, sym, subst, arith, get_or-set_same, get_or-set_other}
+use Rattle.std.specs.Prelude.{ℤ, IfSome, pos, slice_set}
+use Rattle.std.proofs.lemmas.Bool.{cases_eq}
+use Rattle.std.proofs.lemmas.List.{length-set}
+use Rattle.cp_slots.specs.Tables.{Tables}
+use Rattle.cp_machine.specs.declared.gates.Gates.{Gates}
+use Rattle.cp_machine.specs.declared.gates.Gates.TheVariants.{First, Any}
+use Rattle.cp_machine.specs.declared.process.Status.{Status}
+use Rattle.cp_machine.specs.declared.process.Status.TheVariants.{Ready, AtGate, Delayed}
+use Rattle.cp_machine.specs.Fits.{MachineFits, ThreadFits}
+use Rattle.cp_machine.specs.Kernel.{let_in, let_in_by, first_in, one_in, freed, goes_in, entered, entered_by, delayed, continued, resumed, waits_in}
+use Rattle.cp_machine.specs.Machine.{Machine, Thread, Monitor, thread_at, no_thread, monitor_at, with_thread, with_status, with_monitor, with_pending, with_permanents}
+use Rattle.cp_machine.specs.Opening.{admitted, admitted_at, without}
+
+-- ---- parts of a machine
+
+-- a thread is replaced by one that fits
+pub thread_fits : (r : Tables) (m : Machine) (pid : ℕ) (x : Thread) → (pid < length m.threads → ThreadFits r x) → MachineFits r m → MachineFits r (with_thread m pid x)
+thread_fits r m pid x fit h =
+    let long = length-set m.threads pid x in
+    record {
+      threads = long ∙ h.threads;
+      permanents = h.permanents;
+      bindings = h.bindings;
+      phases = h.phases;
+      monitors = h.monitors;
+      pending = h.pending;
+      each = λ q lt. (let within : q < length m.threads = omega (arith, long) in go q within (cases_eq q pid));
+    }
+  where
+    go : (q : ℕ) → q < length m.threads → (q ≡ pid) ⊎ (q ≡ pid → ⊥) → ThreadFits r (thread_at (slice_set m.threads pid x) q)
+    go q lt (inl e) =
+        let P : ℕ → Type 0 = λ k. ThreadFits r (thread_at (slice_set m.threads pid x) k) in
+        let within : pid < length m.threads = omega arith in
+        let same = get_or-set_same m.threads pid x no_thread within in
+        subst P (sym e) (subst (ThreadFits r) (sym same) (fit within))
+    go q lt (inr ne) = subst (ThreadFits r) (sym (get_or-set_other m.threads pid q x no_thread ne)) (h.each q lt)
+
+pub status_fits : (r : Tables) (m : Machine) (pid : ℕ) (status : Status) → MachineFits r m → MachineFits r (with_status m pid status)
+status_fits r m pid status h = thread_fits r m pid _ (λ lt. (let t : ThreadFits r (thread_at m.threads pid) = h.each pid lt in record { stack = t.stack; cells = t.cells; references = t.references })) h
+
+pub permanents_fit : (r : Tables) (m : Machine) (permanents : List ℤ) → length permanents ≡ length m.permanents → MachineFits r m → MachineFits r (with_permanents m permanents)
+permanents_fit r m permanents same h = record { threads = h.threads; permanents = same ∙ h.permanents; bindings = h.bindings; phases = h.phases; monitors = h.monitors; pending = h.pending; each = h.each }
+
+pub monitor_fits : (r : Tables) (m : Machine) (monitor : ℕ) (x : Monitor) → MachineFits r m → MachineFits r (with_monitor m monitor x)
+monitor_fits r m monitor x h = record { threads = h.threads; permanents = h.permanents; bindings = h.bindings; phases = h.phases; monitors = length-set m.monitors monitor x ∙ h.monitors; pending = h.pending; each = h.each }
+
+pub pending_fits : (r : Tables) (m : Machine) (pending : Option ℕ) → IfSome pending (λ monitor. monitor < r.monitors) → MachineFits r m → MachineFits r (with_pending m pending)
+pending_fits r m pending some h = record { threads = h.threads; permanents = h.permanents; bindings = h.bindings; phases = h.phases; monitors = h.monitors; pending = some; each = h.each }
+
+-- ---- the kernel
+
+goes_in_fits : (r : Tables) (m : Machine) (monitor pid : ℕ) (line : List ℕ) → MachineFits r m → MachineFits r (goes_in m monitor pid line)
+goes_in_fits r m monitor pid line h = monitor_fits r (with_status m pid Ready) monitor _ (status_fits r m pid Ready h)
+
+first_in_fits : (r : Tables) (m : Machine) (monitor : ℕ) (line : List ℕ) → MachineFits r m → MachineFits r (first_in m monitor line)
+first_in_fits r m monitor [] h = monitor_fits r m monitor _ h
+first_in_fits r m monitor (q ∷ line) h = goes_in_fits r m monitor q line h
+
+one_in_fits : (r : Tables) (m : Machine) (monitor : ℕ) (line : List ℕ) → MachineFits r m → monitor < r.monitors → MachineFits r (one_in m monitor line)
+one_in_fits r m monitor [] h lt = monitor_fits r m monitor _ h
+one_in_fits r m monitor (q ∷ []) h lt = goes_in_fits r m monitor q [] h
+one_in_fits r m monitor (p ∷ q ∷ line) h lt = pending_fits r (freed m monitor (p ∷ q ∷ line)) (Some monitor) lt (monitor_fits r m monitor _ h)
+
+let_in_by_fits : (r : Tables) (gates : Gates) (m : Machine) (monitor : ℕ) (line : List ℕ) → MachineFits r m → monitor < r.monitors → MachineFits r (let_in_by gates m monitor line)
+let_in_by_fits r First m monitor line h lt = first_in_fits r m monitor line h
+let_in_by_fits r Any m monitor line h lt = one_in_fits r m monitor line h lt
+
+pub let_in_fits : (r : Tables) (m : Machine) (monitor : ℕ) → MachineFits r m → monitor < r.monitors → MachineFits r (let_in m monitor)
+let_in_fits r m monitor h lt = let_in_by_fits r m.gates m monitor (monitor_at m monitor).line h lt
+
+entered_by_fits : (r : Tables) (holder : Option ℕ) (m : Machine) (pid monitor : ℕ) → MachineFits r m → MachineFits r (entered_by holder m pid monitor)
+entered_by_fits r None m pid monitor h = monitor_fits r m monitor _ h
+entered_by_fits r (Some q) m pid monitor h = monitor_fits r (with_status m pid (AtGate monitor)) monitor _ (status_fits r m pid (AtGate monitor) h)
+
+pub entered_fits : (r : Tables) (m : Machine) (pid monitor : ℕ) → MachineFits r m → MachineFits r (entered m pid monitor)
+entered_fits r m pid monitor h = entered_by_fits r (monitor_at m monitor).holder m pid monitor h
+
+-- a queue's cell is written
+marked_fits : (r : Tables) (m : Machine) (cell : ℕ) (mark : ℤ) → MachineFits r m → MachineFits r (record m { permanents = slice_set m.permanents cell mark })
+marked_fits r m cell mark h = permanents_fit r m (slice_set m.permanents cell mark) (length-set m.permanents cell mark) h
+
+pub delayed_fits : (r : Tables) (m : Machine) (pid monitor cell : ℕ) → MachineFits r m → monitor < r.monitors → MachineFits r (delayed m pid monitor cell)
+delayed_fits r m pid monitor cell h lt = let_in_fits r _ monitor (status_fits r _ pid (Delayed cell) (marked_fits r m cell (pos 1) h)) lt
+
+resumed_fits : (r : Tables) (waiter : Option ℕ) (m : Machine) (monitor : ℕ) → MachineFits r m → monitor < r.monitors → MachineFits r (resumed waiter m monitor)
+resumed_fits r None m monitor h lt = let_in_fits r m monitor h lt
+resumed_fits r (Some q) m monitor h lt = goes_in_fits r m monitor q (monitor_at m monitor).line h
+
+pub continued_fits : (r : Tables) (m : Machine) (monitor cell : ℕ) → MachineFits r m → monitor < r.monitors → MachineFits r (continued m monitor cell)
+continued_fits r m monitor cell h lt = resumed_fits r (waits_in m cell) _ monitor (marked_fits r m cell (pos 0) h) lt
+
+-- ---- admission
+
+admitted_at_fits : (r : Tables) (pending : Option ℕ) (m : Machine) (pid : ℕ) → MachineFits r m → MachineFits r (admitted_at pending m pid)
+admitted_at_fits r None m pid h = h
+admitted_at_fits r (Some monitor) m pid h =
+    let ready = status_fits r m pid Ready h in
+    let inside = monitor_fits r (with_status m pid Ready) monitor (record { holder = Some pid; line = without pid (monitor_at m monitor).line }) ready in
+    pending_fits r _ None tt inside
+
+pub admitted_fits : (r : Tables) (m : Machine) (pid : ℕ) → MachineFits r m → MachineFits r (admitted m pid)
+admitted_fits r m pid h = admitted_at_fits r m.pending m pid h

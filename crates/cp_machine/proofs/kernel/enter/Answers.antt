@@ -1,0 +1,15 @@
+use Rattle.std.proofs.Common.{◌≡◌, ◌∙◌, refl}
+use Rattle.std.proofs.lemmas.List.{map-set}
+use Rattle.cp_machine.specs.Machine.{machine_of, monitor_at, monitor_of}
+use Rattle.cp_machine.proofs.KernelLemmas.{guard_read}
+use Rattle.cp_machine.proofs.kernel.enter.Goals as goal
+
+pub returns-in-None-clause-after : goal.returns-in-None-clause-after
+returns-in-None-clause-after c =
+    let read : monitor_at (machine_of c.args.state.now) c.args.monitor ≡ monitor_of c.index_mut-guard.result.now = guard_read _ _ _ c.requires.gate c.index_mut-guard.ensures.value in
+    rw (map-set, read, c.in-None.is, read) refl
+
+pub returns-in-Some-clause-after : goal.returns-in-Some-clause-after
+returns-in-Some-clause-after c =
+    let read : monitor_at (machine_of c.args.state.now) c.args.monitor ≡ monitor_of c.index_mut-guard.result.now = guard_read _ _ _ c.requires.gate c.index_mut-guard.ensures.value in
+    c.set_status.ensures.after ∙ rw (map-set, read, c.join.ensures, c.in-Some.is, read) refl

@@ -1,0 +1,20 @@
+use Rattle.std.proofs.Common.{refl, ◌≡◌, ◌∙◌, ap, length, map, sym}
+use Rattle.std.proofs.lemmas.List.{map-set, with_items_is}
+use Rattle.cp_store.specs.Memory.{memory_of}
+use Rattle.cp_store.specs.Arguments.{bound_in_component, bindings_after}
+use Rattle.cp_machine.specs.Machine.{machine_of, with_bindings}
+use Rattle.cp_machine.specs.Memory.{memory_at, with_memory}
+use Rattle.cp_machine.proofs.ThreadLemmas.{memory_put}
+use Rattle.cp_machine.proofs.memory.bind_parameters.Goals as goal
+
+pub returns-clause-after : goal.returns-clause-after
+returns-clause-after c =
+    let p = c.index_mut-process.result.now in
+    let m = machine_of c.args.state.now in
+    let bounds = c.args.state.now.bounds.items in
+    let put : memory_of c.bind_component.new.permanents c.bind_component.new.room ≡ bound_in_component (memory_of c.args.state.now.permanents.items p.room) c.args.base c.args.arguments.now bounds = c.bind_component.ensures.after ∙ ap (λ ps. bound_in_component (memory_of ps p.room) c.args.base c.args.arguments.now c.deref.result.now) c.deref_mut.ensures.value ∙ ap (λ bs. bound_in_component (memory_of c.args.state.now.permanents.items p.room) c.args.base c.args.arguments.now bs) c.deref.ensures.value in
+    let bound : c.bind_component.new.bindings ≡ bindings_after m.bindings c.args.base c.args.arguments.now bounds = c.bind_component.ensures.bindings ∙ ap (λ bs. bindings_after bs c.args.base c.args.arguments.now c.deref.result.now) c.deref_mut-2.ensures.value ∙ ap (λ bs. bindings_after m.bindings c.args.base c.args.arguments.now bs) c.deref.ensures.value in
+    let memory = memory_put (λ μ. bound_in_component μ c.args.base c.args.arguments.now bounds) m c.args.state.now.processes.items c.args.pid p _ refl c.requires.pid c.index_mut-process.ensures.value put in
+    let long : length c.bind_component.new.permanents ≡ c.args.state.now.permanents.len = c.bind_component.auto.permanents ∙ ap length c.deref_mut.ensures.value ∙ sym c.args.state.now.permanents.ok.0 in
+    let many : length c.bind_component.new.bindings ≡ c.args.state.now.bindings.len = c.bind_component.auto.bindings ∙ ap length c.deref_mut-2.ensures.value ∙ sym c.args.state.now.bindings.ok.0 in
+    rw (map-set, with_items_is c.args.state.now.permanents c.bind_component.new.permanents long, with_items_is c.args.state.now.bindings c.bind_component.new.bindings many) (ap (λ k. with_bindings k c.bind_component.new.bindings) memory ∙ ap (with_bindings (with_memory m c.args.pid (bound_in_component (memory_at m c.args.pid) c.args.base c.args.arguments.now bounds))) bound)

@@ -1,0 +1,14 @@
+use Rattle.std.proofs.Common.{◌≡◌, ◌≤◌, vec_len}
+use Rattle.std.specs.Prelude.{vec_capacity}
+use Rattle.cp_machine.specs.Stack.{from_end, top_first}
+use Rattle.cp_machine.proofs.queue.drop_to_end.Given as goal
+
+abbrev pub invariant-loop-stack : goal.invariant-loop-stack
+invariant-loop-stack l =
+    record {
+      same : from_end (top_first l.stack) ≡ from_end (top_first l.fn.stack);
+      room : vec_capacity l.fn.stack ≤ vec_capacity l.stack;
+    }
+
+abbrev pub decreases-loop-stack : goal.decreases-loop-stack
+decreases-loop-stack l = vec_len l.stack

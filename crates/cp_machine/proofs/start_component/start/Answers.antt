@@ -1,0 +1,4 @@
+use Rattle.cp_machine.proofs.start_component.start.Goals as goal
+
+pub returns-clause-reserved : goal.returns-clause-reserved
+returns-clause-reserved c = λ r h. c.start_by.ensures.reserved r (c.arguments_of.ensures.reserved r h)

@@ -1,0 +1,66 @@
+-- The kernel: who goes into a monitor, who waits, and who goes on.
+use Rattle.std.specs.Prelude.{nat_lt, ℕ, ◌∷◌, [], ◌++◌, List, length, position, Option, Some, None, pos, slice_set, if◌then◌else◌}
+use Rattle.cp_machine.specs.declared.gates.Gates.{Gates}
+use Rattle.cp_machine.specs.declared.gates.Gates.TheVariants.{First, Any}
+use Rattle.cp_machine.specs.declared.process.Status.TheVariants.{Ready, AtGate, Delayed}
+use Rattle.cp_machine.specs.Machine.{Machine, Thread, Monitor, monitor_at, is_delayed_at, with_status, with_monitor, with_pending}
+
+-- ---- the line is let in
+
+-- nobody is inside
+abbrev pub freed : Machine → (monitor : ℕ) → List ℕ → Machine
+freed m monitor line = with_monitor m monitor (record { holder = None; line = line })
+
+-- a process goes in and is ready, and the others stay in the line
+abbrev pub goes_in : Machine → (monitor pid : ℕ) → List ℕ → Machine
+goes_in m monitor pid line = with_monitor (with_status m pid Ready) monitor (record { holder = Some pid; line = line })
+
+-- the first of the line goes in
+abbrev pub first_in : Machine → (monitor : ℕ) → List ℕ → Machine
+first_in m monitor [] = freed m monitor []
+first_in m monitor (q ∷ line) = goes_in m monitor q line
+
+-- one alone goes in; of more, one has to be admitted
+abbrev pub one_in : Machine → (monitor : ℕ) → List ℕ → Machine
+one_in m monitor [] = freed m monitor []
+one_in m monitor (q ∷ []) = goes_in m monitor q []
+one_in m monitor (p ∷ q ∷ line) = with_pending (freed m monitor (p ∷ q ∷ line)) (Some monitor)
+
+abbrev pub let_in_by : Gates → Machine → (monitor : ℕ) → List ℕ → Machine
+let_in_by First m monitor line = first_in m monitor line
+let_in_by Any m monitor line = one_in m monitor line
+
+abbrev pub let_in : Machine → ℕ → Machine
+let_in m monitor = let_in_by m.gates m monitor (monitor_at m monitor).line
+
+-- ---- enter
+
+-- the line is long enough for every process
+abbrev pub joined : List ℕ → ℕ → List ℕ
+joined line pid = if nat_lt (length line) 16 then line ++ pid ∷ [] else line
+
+abbrev pub entered_by : Option ℕ → Machine → (pid monitor : ℕ) → Machine
+entered_by None m pid monitor = with_monitor m monitor (record { holder = Some pid; line = (monitor_at m monitor).line })
+entered_by (Some q) m pid monitor = with_monitor (with_status m pid (AtGate monitor)) monitor (record { holder = Some q; line = joined (monitor_at m monitor).line pid })
+
+-- the caller goes in if nobody is inside, and else to the end of the line
+abbrev pub entered : Machine → (pid monitor : ℕ) → Machine
+entered m pid monitor = entered_by (monitor_at m monitor).holder m pid monitor
+
+-- ---- delay and continue
+
+-- the caller waits in the queue of this permanent cell, and the line is let in
+abbrev pub delayed : Machine → (pid monitor cell : ℕ) → Machine
+delayed m pid monitor cell = let_in (with_status (record m { permanents = slice_set m.permanents cell (pos 1) }) pid (Delayed cell)) monitor
+
+-- who waits in the queue of this permanent cell
+abbrev pub waits_in : Machine → (cell : ℕ) → Option ℕ
+waits_in m cell = position (λ t. is_delayed_at cell t.status) m.threads
+
+-- the process in the queue is ready and inside; where there is none, the line is let in
+abbrev pub resumed : Option ℕ → Machine → (monitor : ℕ) → Machine
+resumed None m monitor = let_in m monitor
+resumed (Some q) m monitor = goes_in m monitor q (monitor_at m monitor).line
+
+abbrev pub continued : Machine → (monitor cell : ℕ) → Machine
+continued m monitor cell = resumed (waits_in m cell) (record m { permanents = slice_set m.permanents cell (pos 0) }) monitor

@@ -1,0 +1,177 @@
+//! Copies of states.
+
+ghost use Rattle.std.specs.Prelude.{◌≡◌, ◌≤◌, length, ℕ, IfOk, map, vec_capacity, vec_len};
+ghost use Rattle.cp_slots.specs.Tables.{Tables};
+ghost use Rattle.cp_machine.specs.Fits.{HaveCells, HaveReferences, HaveRoom, HaveStacks, IsReserved, IsStateOf};
+ghost use Rattle.cp_machine.specs.Machine.{machine_of, monitor_of, thread_of};
+
+use crate::process::Process;
+use crate::state::{Guard, State};
+use arrayvec::ArrayVec;
+use cp_store::memory::Room;
+use std::alloc::{AllocError, Global};
+
+impl State {
+    /// The same state once more, with as much memory.
+    pub fn copy(&self, alloc: Global) -> Result<State, AllocError>
+        ensures same { IfOk result (λ s. machine_of s ≡ machine_of self.now) }
+        ensures own { IfOk result (λ s. (r : Tables) → IsStateOf r self.now → IsStateOf r s) }
+    {
+        let mut permanents = Vec::with_capacity(alloc, self.permanents.len())?;
+        permanents.extend_from_slice(&self.permanents)?;
+        let mut bindings = Vec::with_capacity(alloc, self.bindings.len())?;
+        bindings.extend_from_slice(&self.bindings)?;
+        let mut phases = Vec::with_capacity(alloc, self.phases.len())?;
+        phases.extend_from_slice(&self.phases)?;
+        let mut output = Vec::with_capacity(alloc, self.output.capacity())?;
+        output.extend_from_slice(&self.output)?;
+        Ok(State {
+            permanents,
+            bindings,
+            phases,
+            processes: copies_of_processes(alloc, &self.processes)?,
+            guards: copies_of_guards(alloc, &self.guards)?,
+            pending: self.pending,
+            gates: self.gates,
+            output,
+            bounds: Vec::with_capacity(alloc, self.bounds.capacity())?,
+        })
+    }
+
+    /// Becomes the same as another state of the same program. It takes no memory, and copies what is live and not what is reserved.
+    pub fn take_from(&mut self, other: &State)
+        requires { (r : Tables) × IsStateOf r self.old × IsStateOf r other.now }
+        ensures same { machine_of self.new ≡ machine_of other.now }
+        ensures own { (r : Tables) → IsStateOf r self.old → IsStateOf r other.now → IsStateOf r self.new }
+    {
+        take_state(self, other);
+    }
+}
+
+fn take_state(to: &mut State, from: &State)
+    requires permanents { length to.old.permanents.items ≡ length from.now.permanents.items }
+    requires bindings { length to.old.bindings.items ≡ length from.now.bindings.items }
+    requires phases { length to.old.phases.items ≡ length from.now.phases.items }
+    requires processes { length to.old.processes.items ≡ length from.now.processes.items }
+    requires guards { length to.old.guards.items ≡ length from.now.guards.items }
+    requires room { HaveRoom to.old.processes.items from.now.processes.items }
+    requires output { vec_len from.now.output ≤ vec_capacity to.old.output }
+    ensures same { machine_of to.new ≡ machine_of from.now }
+    ensures reserved { (r : Tables) → IsReserved r to.old → IsReserved r from.now → IsReserved r to.new }
+{
+    to.permanents.copy_from_slice(&from.permanents);
+    to.bindings.copy_from_slice(&from.bindings);
+    to.phases.copy_from_slice(&from.phases);
+    take_processes(&mut to.processes, &from.processes);
+    take_guards(&mut to.guards, &from.guards);
+    to.pending = from.pending;
+    to.gates = from.gates;
+    to.output.clear();
+    let _ = to.output.extend_from_slice(&from.output);
+}
+
+fn copies_of_processes(alloc: Global, from: &[Process]) -> Result<Vec<Process>, AllocError>
+    ensures same { IfOk result (λ ps. map thread_of ps.items ≡ map thread_of from.now) }
+    ensures stacks { IfOk result (λ ps. (depth : ℕ) → HaveStacks depth from.now → HaveStacks depth ps.items) }
+    ensures cells { IfOk result (λ ps. (cells : ℕ) → HaveCells cells from.now → HaveCells cells ps.items) }
+    ensures references { IfOk result (λ ps. (references : ℕ) → HaveReferences references from.now → HaveReferences references ps.items) }
+{
+    let mut processes = Vec::with_capacity(alloc, from.len())?;
+    for process in from {
+        processes.push(copy_of_process(alloc, process)?)?;
+    }
+    Ok(processes)
+}
+
+fn copy_of_process(alloc: Global, from: &Process) -> Result<Process, AllocError>
+    ensures same { IfOk result (λ p. thread_of p ≡ thread_of from.now) }
+    ensures stack { IfOk result (λ p. vec_capacity from.now.stack ≤ vec_capacity p.stack) }
+    ensures cells { IfOk result (λ p. vec_capacity from.now.room.cells ≤ vec_capacity p.room.cells) }
+    ensures references { IfOk result (λ p. vec_capacity from.now.room.references ≤ vec_capacity p.room.references) }
+{
+    let mut stack = Vec::with_capacity(alloc, from.stack.capacity())?;
+    stack.extend_from_slice(&from.stack)?;
+    let mut cells = Vec::with_capacity(alloc, from.room.cells.capacity())?;
+    cells.extend_from_slice(&from.room.cells)?;
+    let mut references = Vec::with_capacity(alloc, from.room.references.capacity())?;
+    references.extend_from_slice(&from.room.references)?;
+    Ok(Process {
+        status: from.status,
+        frame: from.frame,
+        stack,
+        room: Room { cells, references },
+    })
+}
+
+fn copies_of_guards(alloc: Global, from: &[Guard]) -> Result<Vec<Guard>, AllocError>
+    ensures { IfOk result (λ gs. map monitor_of gs.items ≡ map monitor_of from.now) }
+{
+    let mut guards = Vec::with_capacity(alloc, from.len())?;
+    for guard in from {
+        guards.push(copy_of_guard(guard))?;
+    }
+    Ok(guards)
+}
+
+fn copy_of_guard(from: &Guard) -> Guard
+    ensures { monitor_of result ≡ monitor_of from.now }
+{
+    let mut line = ArrayVec::new();
+    let _ = line.try_extend_from_slice(from.line.as_slice());
+    Guard {
+        holder: from.holder,
+        line,
+    }
+}
+
+fn take_processes(mine: &mut [Process], theirs: &[Process])
+    requires length { length mine.old ≡ length theirs.now }
+    requires room { HaveRoom mine.old theirs.now }
+    ensures same { map thread_of mine.new ≡ map thread_of theirs.now }
+    ensures stacks { (depth : ℕ) → HaveStacks depth mine.old → HaveStacks depth mine.new }
+    ensures cells { (cells : ℕ) → HaveCells cells mine.old → HaveCells cells mine.new }
+    ensures references { (references : ℕ) → HaveReferences references mine.old → HaveReferences references mine.new }
+{
+    for at in 0..mine.len() {
+        take_process(&mut mine[at], &theirs[at]);
+    }
+}
+
+fn take_process(to: &mut Process, from: &Process)
+    requires stack { vec_len from.now.stack ≤ vec_capacity to.old.stack }
+    requires cells { vec_len from.now.room.cells ≤ vec_capacity to.old.room.cells }
+    requires references { vec_len from.now.room.references ≤ vec_capacity to.old.room.references }
+    ensures same { thread_of to.new ≡ thread_of from.now }
+    ensures stack { vec_capacity to.old.stack ≤ vec_capacity to.new.stack }
+    ensures cells { vec_capacity to.old.room.cells ≤ vec_capacity to.new.room.cells }
+    ensures references { vec_capacity to.old.room.references ≤ vec_capacity to.new.room.references }
+{
+    to.status = from.status;
+    to.frame = from.frame;
+    to.stack.clear();
+    let _ = to.stack.extend_from_slice(&from.stack);
+    take_room(&mut to.room, &from.room);
+}
+
+fn take_room(to: &mut Room, from: &Room)
+    requires cells { vec_len from.now.cells ≤ vec_capacity to.old.cells }
+    requires references { vec_len from.now.references ≤ vec_capacity to.old.references }
+    ensures cells { to.new.cells.items ≡ from.now.cells.items }
+    ensures references { to.new.references.items ≡ from.now.references.items }
+    ensures room { vec_capacity to.old.cells ≤ vec_capacity to.new.cells }
+    ensures more { vec_capacity to.old.references ≤ vec_capacity to.new.references }
+{
+    to.cells.clear();
+    let _ = to.cells.extend_from_slice(&from.cells);
+    to.references.clear();
+    let _ = to.references.extend_from_slice(&from.references);
+}
+
+fn take_guards(mine: &mut [Guard], theirs: &[Guard])
+    requires { length mine.old ≡ length theirs.now }
+    ensures { map monitor_of mine.new ≡ map monitor_of theirs.now }
+{
+    for at in 0..mine.len() {
+        mine[at] = copy_of_guard(&theirs[at]);
+    }
+}

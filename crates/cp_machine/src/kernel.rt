@@ -1,0 +1,169 @@
+//! The kernel: who goes into a monitor, who waits, and who goes on.
+
+ghost use Rattle.std.specs.Prelude.{◌≡◌, ◌<◌, ◌∷◌, [], IfNone, IfSome, length, position, slice_set};
+ghost use Rattle.cp_slots.specs.Tables.{Tables};
+ghost use Rattle.cp_machine.specs.Fits.{IsReserved};
+ghost use Rattle.cp_machine.specs.Kernel as spec;
+ghost use Rattle.cp_machine.specs.Machine.{is_delayed_at, machine_of, monitor_at, with_status};
+
+use crate::gates::Gates;
+use crate::memory::set_status;
+use crate::process::{Process, Status};
+use crate::state::{Guard, State};
+use arrayvec::ArrayVec;
+
+/// Lets the line of a monitor in, which nobody is inside any more.
+pub fn let_in(state: &mut State, monitor: u8)
+    requires gate { monitor < length state.old.guards.items }
+    ensures after { machine_of state.new ≡ spec.let_in (machine_of state.old) monitor }
+    ensures reserved { (r : Tables) → IsReserved r state.old → IsReserved r state.new }
+{
+    match state.gates {
+        Gates::First => let_first_in(state, monitor),
+        Gates::Any => let_one_in(state, monitor),
+    }
+}
+
+// The first of the line goes in.
+fn let_first_in(state: &mut State, monitor: u8)
+    requires gate { monitor < length state.old.guards.items }
+    ensures after { machine_of state.new ≡ spec.first_in (machine_of state.old) monitor (monitor_at (machine_of state.old) monitor).line }
+    ensures reserved { (r : Tables) → IsReserved r state.old → IsReserved r state.new }
+{
+    let guard = &mut state.guards[monitor as usize];
+    if let Some(pid) = take_first(guard) {
+        make_ready(state, pid);
+    }
+}
+
+// One alone goes in; of more, one has to be admitted.
+fn let_one_in(state: &mut State, monitor: u8)
+    requires gate { monitor < length state.old.guards.items }
+    ensures after { machine_of state.new ≡ spec.one_in (machine_of state.old) monitor (monitor_at (machine_of state.old) monitor).line }
+    ensures reserved { (r : Tables) → IsReserved r state.old → IsReserved r state.new }
+{
+    if state.guards[monitor as usize].line.len() > 1 {
+        let guard = &mut state.guards[monitor as usize];
+        guard.holder = None;
+        state.pending = Some(monitor);
+    } else {
+        let_first_in(state, monitor);
+    }
+}
+
+// The first of the line, who goes in.
+fn take_first(guard: &mut Guard) -> Option<u8>
+    ensures holder { guard.new.holder ≡ result }
+    ensures first { IfSome result (λ pid. guard.old.line.items ≡ pid ∷ guard.new.line.items) }
+    ensures empty { IfNone result (guard.old.line.items ≡ []) }
+    ensures same { IfNone result (guard.new.line.items ≡ guard.old.line.items) }
+{
+    guard.holder = None;
+    if !guard.line.is_empty() {
+        guard.holder = Some(guard.line.remove(0));
+    }
+    guard.holder
+}
+
+// Makes a process ready; a number that no process has is passed over.
+fn make_ready(state: &mut State, pid: u8)
+    ensures after { machine_of state.new ≡ with_status (machine_of state.old) pid Status.Ready }
+    ensures reserved { (r : Tables) → IsReserved r state.old → IsReserved r state.new }
+{
+    if (pid as usize) < state.processes.len() {
+        set_status(state, pid, Status::Ready);
+    }
+}
+
+/// The caller goes in if nobody is inside, and else to the end of the line.
+pub fn enter(state: &mut State, pid: u8, monitor: u8)
+    requires pid { pid < length state.old.processes.items }
+    requires gate { monitor < length state.old.guards.items }
+    ensures after { machine_of state.new ≡ spec.entered (machine_of state.old) pid monitor }
+    ensures reserved { (r : Tables) → IsReserved r state.old → IsReserved r state.new }
+{
+    let guard = &mut state.guards[monitor as usize];
+    match guard.holder {
+        None => guard.holder = Some(pid),
+        Some(_) => {
+            join(&mut guard.line, pid);
+            set_status(state, pid, Status::AtGate(monitor));
+        }
+    }
+}
+
+// A process goes to the end of the line, which is long enough for every process.
+fn join(line: &mut ArrayVec<u8, 16>, pid: u8)
+    ensures { line.new.items ≡ spec.joined line.old.items pid }
+{
+    if line.len() < 16 {
+        line.push(pid);
+    }
+}
+
+/// The caller waits in the queue of a permanent cell, and the line is let in.
+pub fn delay(state: &mut State, pid: u8, monitor: u8, cell: usize)
+    requires pid { pid < length state.old.processes.items }
+    requires gate { monitor < length state.old.guards.items }
+    ensures after { machine_of state.new ≡ spec.delayed (machine_of state.old) pid monitor cell }
+    ensures reserved { (r : Tables) → IsReserved r state.old → IsReserved r state.new }
+{
+    mark_queue(&mut state.permanents, cell, 1);
+    set_status(state, pid, Status::Delayed(cell));
+    let_in(state, monitor);
+}
+
+/// The process in the queue of a permanent cell is ready and inside; where there is none, the line is let in.
+pub fn resume(state: &mut State, monitor: u8, cell: usize)
+    requires gate { monitor < length state.old.guards.items }
+    ensures after { machine_of state.new ≡ spec.continued (machine_of state.old) monitor cell }
+    ensures reserved { (r : Tables) → IsReserved r state.old → IsReserved r state.new }
+{
+    let waiter = waiter_of(state, cell);
+    mark_queue(&mut state.permanents, cell, 0);
+    match waiter {
+        None => let_in(state, monitor),
+        Some(pid) => hand_over(state, monitor, pid),
+    }
+}
+
+// A process is ready and inside, and the line stays.
+fn hand_over(state: &mut State, monitor: u8, pid: u8)
+    requires pid { pid < length state.old.processes.items }
+    requires gate { monitor < length state.old.guards.items }
+    ensures after { machine_of state.new ≡ spec.goes_in (machine_of state.old) monitor pid (monitor_at (machine_of state.old) monitor).line }
+    ensures reserved { (r : Tables) → IsReserved r state.old → IsReserved r state.new }
+{
+    let guard = &mut state.guards[monitor as usize];
+    guard.holder = Some(pid);
+    set_status(state, pid, Status::Ready);
+}
+
+// Who waits in the queue of a permanent cell.
+fn waiter_of(state: &State, cell: usize) -> Option<u8>
+    ensures waiter { result ≡ spec.waits_in (machine_of state.now) cell }
+    ensures within { IfSome result (λ pid. pid < length state.now.processes.items) }
+{
+    match place_in_queue(&state.processes, cell) {
+        None => None,
+        Some(place) => Some(place as u8),
+    }
+}
+
+fn place_in_queue(processes: &[Process], cell: usize) -> Option<usize>
+    ensures place { result ≡ position (λ p. is_delayed_at cell p.status) processes.now }
+    ensures within { IfSome result (λ place. place < length processes.now) }
+{
+    processes
+        .iter()
+        .position(|process| process.status.is_delayed_at(cell))
+}
+
+// The cell of a queue tells whether somebody waits.
+fn mark_queue(permanents: &mut [i16], cell: usize, mark: i16)
+    ensures { permanents.new ≡ slice_set permanents.old cell mark }
+{
+    if cell < permanents.len() {
+        permanents[cell] = mark;
+    }
+}

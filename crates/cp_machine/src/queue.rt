@@ -1,0 +1,193 @@
+//! `delay` and `continue`.
+
+ghost use Rattle.std.specs.Prelude.{◌≡◌, ◌<◌, ◌≤◌, drop, length, pos, reverse, slice_index_or, vec_capacity, vec_len};
+ghost use Rattle.cp_slots.specs.Fits.{IsSound};
+ghost use Rattle.cp_slots.specs.Tables.{Tables, component_at};
+ghost use Rattle.cp_machine.specs.Calls as spec;
+ghost use Rattle.cp_machine.specs.Fits.{IsBusy, IsReserved, StackFits, ThreadFits};
+ghost use Rattle.cp_machine.specs.Machine.{machine_of, thread_at, under, with_stack};
+ghost use Rattle.cp_machine.specs.Stack.{above, from_end, is_inner as is_inner_of, rest_of, top_first};
+ghost use Rattle.cp_machine.specs.Statements as statements;
+
+use crate::event::{ErrorName, Event, Kernel};
+use crate::frame::leave;
+use crate::kernel;
+use crate::memory::{address_of, frame_of};
+use crate::process::Entry;
+use crate::stack::{replace, top_of};
+use crate::state::State;
+use cp_slots::item::Item;
+use cp_slots::place::Place;
+use cp_slots::resolved::Resolved;
+use cp_slots::tables::ComponentKind;
+use cp_store::arithmetic::is_true;
+use cp_store::memory::Address;
+
+// What a permanent cell holds.
+fn permanent(state: &State, cell: usize) -> i16
+    ensures { result ≡ slice_index_or (machine_of state.now).permanents cell (pos 0) }
+{
+    match state.permanents.get(cell) {
+        Some(value) => *value,
+        None => 0,
+    }
+}
+
+// Delays in the queue of a permanent cell, in a monitor.
+fn delay_in(
+    state: &mut State,
+    pid: u8,
+    item: &Item,
+    cell: usize,
+    monitor: u8,
+) -> Result<Event, ErrorName>
+    requires pid { pid < length state.old.processes.items }
+    requires busy { IsBusy state.old pid }
+    requires monitor { monitor < length state.old.guards.items }
+    ensures after { spec.delayed_in (machine_of state.old) pid item.now.line cell (ComponentKind.Monitor monitor) (rest_of item.now.next (under (machine_of state.old) pid)) ≡ statements.outcome result (machine_of state.new) pid item.now.line }
+    ensures reserved { (r : Tables) → IsReserved r state.old → IsReserved r state.new }
+{
+    if is_true(permanent(state, cell)) {
+        return Err(ErrorName::QueueInUse);
+    }
+    replace(state, pid, None, item.next);
+    kernel::delay(state, pid, monitor, cell);
+    Ok(Event::Kernel(Kernel::Delay))
+}
+
+// Delays in the queue of a permanent cell.
+fn delay_at(
+    program: &Resolved,
+    state: &mut State,
+    pid: u8,
+    item: &Item,
+    cell: usize,
+) -> Result<Event, ErrorName>
+    requires pid { pid < length state.old.processes.items }
+    requires busy { IsBusy state.old pid }
+    requires guards { length state.old.guards.items ≡ program.now.monitors }
+    requires sound { IsSound program.now }
+    ensures after { spec.delayed_in (machine_of state.old) pid item.now.line cell (component_at program.now (thread_at (machine_of state.old).threads pid).frame.component).kind (rest_of item.now.next (under (machine_of state.old) pid)) ≡ statements.outcome result (machine_of state.new) pid item.now.line }
+    ensures reserved { (r : Tables) → IsReserved r state.old → IsReserved r state.new }
+{
+    let component = frame_of(state, pid).component;
+    match program.component(component).kind {
+        ComponentKind::Monitor(monitor) => delay_in(state, pid, item, cell, monitor),
+        ComponentKind::Class | ComponentKind::Process(_) => {
+            replace(state, pid, None, item.next);
+            Ok(Event::Local)
+        }
+    }
+}
+
+/// `delay`.
+pub fn delay(
+    program: &Resolved,
+    state: &mut State,
+    pid: u8,
+    item: &Item,
+    place: &Place,
+) -> Result<Event, ErrorName>
+    requires pid { pid < length state.old.processes.items }
+    requires busy { IsBusy state.old pid }
+    requires guards { length state.old.guards.items ≡ program.now.monitors }
+    requires sound { IsSound program.now }
+    ensures after { spec.delay program.now (machine_of state.old) pid item.now.line place.now (rest_of item.now.next (under (machine_of state.old) pid)) ≡ statements.outcome result (machine_of state.new) pid item.now.line }
+    ensures reserved { (r : Tables) → IsReserved r state.old → IsReserved r state.new }
+{
+    match address_of(state, pid, place)? {
+        Address::Permanent(cell) => delay_at(program, state, pid, item, cell),
+        Address::Local(_) => {
+            replace(state, pid, None, item.next);
+            Ok(Event::Local)
+        }
+    }
+}
+
+fn top(stack: &[Entry]) -> Option<Entry>
+    ensures { reverse stack.now ≡ above result (drop 1 (reverse stack.now)) }
+{
+    stack.last().copied()
+}
+
+// Whether an entry stands above the end of the innermost call.
+fn is_inner(entry: Option<Entry>) -> bool
+    ensures { result ≡ is_inner_of entry }
+{
+    matches!(entry, Some(Entry::Rest(_) | Entry::Successor(_, _, _)))
+}
+
+fn drop_top(stack: &mut Vec<Entry>)
+    ensures entries { top_first stack.new ≡ drop 1 (top_first stack.old) }
+    ensures fewer { 0 < vec_len stack.old → vec_len stack.new < vec_len stack.old }
+    ensures room { vec_capacity stack.old ≤ vec_capacity stack.new }
+{
+    let _ = stack.pop();
+}
+
+// Takes what stands above the end of the innermost call off.
+fn drop_to_end(stack: &mut Vec<Entry>)
+    ensures entries { top_first stack.new ≡ from_end (top_first stack.old) }
+    ensures room { vec_capacity stack.old ≤ vec_capacity stack.new }
+{
+    while is_inner(top(stack)) {
+        drop_top(stack);
+    }
+}
+
+// The rest of an entry is removed: its end is the topmost entry of the process then.
+fn unwind(state: &mut State, pid: u8)
+    requires pid { pid < length state.old.processes.items }
+    ensures after { machine_of state.new ≡ with_stack (machine_of state.old) pid (from_end (under (machine_of state.old) pid)) }
+    ensures reserved { (r : Tables) → IsReserved r state.old → IsReserved r state.new }
+{
+    let process = &mut state.processes[pid as usize];
+    drop_top(&mut process.stack);
+    drop_to_end(&mut process.stack);
+}
+
+// The end of the entry is the topmost entry: it returns, and the kernel goes on.
+fn continue_from(program: &Resolved, state: &mut State, pid: u8, cell: usize) -> Event
+    requires pid { pid < length state.old.processes.items }
+    requires fits { ThreadFits program.now (thread_at (machine_of state.old).threads pid) }
+    requires guards { length state.old.guards.items ≡ program.now.monitors }
+    ensures after { spec.continued_from program.now (machine_of state.old) pid cell (thread_at (machine_of state.old).threads pid).stack ≡ record { machine = machine_of state.new; event = result } }
+    ensures reserved { (r : Tables) → IsReserved r state.old → IsReserved r state.new }
+{
+    match top_of(state, pid) {
+        Some(Entry::Return(caller, slot, Some(monitor))) => {
+            leave(program, state, pid, caller, slot);
+            kernel::resume(state, monitor, cell);
+            Event::Kernel(Kernel::Continue)
+        }
+        _ => Event::Local,
+    }
+}
+
+/// `continue`: the rest of the entry procedure and its end are removed.
+pub fn continue_with(
+    program: &Resolved,
+    state: &mut State,
+    pid: u8,
+    item: &Item,
+    place: &Place,
+) -> Result<Event, ErrorName>
+    requires pid { pid < length state.old.processes.items }
+    requires busy { IsBusy state.old pid }
+    requires fits { ThreadFits program.now (thread_at (machine_of state.old).threads pid) }
+    requires below { StackFits program.now (thread_at (machine_of state.old).threads pid).frame (under (machine_of state.old) pid) }
+    requires guards { length state.old.guards.items ≡ program.now.monitors }
+    ensures after { spec.continue program.now (machine_of state.old) pid item.now.line place.now item.now.next (under (machine_of state.old) pid) ≡ statements.outcome result (machine_of state.new) pid item.now.line }
+    ensures reserved { (r : Tables) → IsReserved r state.old → IsReserved r state.new }
+{
+    match address_of(state, pid, place)? {
+        Address::Permanent(cell) => {
+            unwind(state, pid);
+            Ok(continue_from(program, state, pid, cell))
+        }
+        Address::Local(_) => {
+            replace(state, pid, None, item.next);
+            Ok(Event::Local)
+        }
+    }
+}

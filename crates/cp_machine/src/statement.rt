@@ -1,0 +1,218 @@
+//! Statements without calls.
+
+ghost use Rattle.std.specs.Prelude.{◌≡◌, ℕ, ◌+◌, ◌<◌, ◌≤◌, drop, if◌then◌else◌, length, slice_index_or, vec_len, vec_capacity};
+ghost use Rattle.cp_slots.specs.Tables.{Tables};
+ghost use Rattle.cp_machine.specs.Fits.{HasRoom, IsBusy, IsReserved};
+ghost use Rattle.cp_machine.specs.Machine.{machine_of, under, with_stack};
+ghost use Rattle.cp_machine.specs.Stack.{rest_of};
+ghost use Rattle.cp_machine.specs.Statements as spec;
+
+use crate::event::{ErrorName, Event, Kernel};
+use crate::memory::{address_of, put_cells, put_number, put_set, set_of, value_of};
+use crate::shown::Shown;
+use crate::stack::replace;
+use crate::state::{LIMIT, State};
+use cp_slots::item::{Arm, Item, ShownKind};
+use cp_slots::place::{Expression, Place, SetExpression};
+use cp_store::arithmetic::{is_true, ranged};
+use cp_store::set;
+
+/// An assignment: the right side first, then the place, and the range last.
+pub fn assign(
+    state: &mut State,
+    pid: u8,
+    item: &Item,
+    target: &Place,
+    value: &Expression,
+    low: i16,
+    high: i16,
+) -> Result<Event, ErrorName>
+    requires pid { pid < length state.old.processes.items }
+    requires busy { IsBusy state.old pid }
+    ensures after { spec.assign (machine_of state.old) pid item.now.line target.now value.now low high (rest_of item.now.next (under (machine_of state.old) pid)) ≡ spec.outcome result (machine_of state.new) pid item.now.line }
+    ensures reserved { (r : Tables) → IsReserved r state.old → IsReserved r state.new }
+{
+    let right = value_of(state, pid, value)?;
+    let left = address_of(state, pid, target)?;
+    let value = ranged(right, low, high)?;
+    replace(state, pid, None, item.next);
+    put_number(state, pid, left, value);
+    Ok(Event::Local)
+}
+
+/// The assignment of a set.
+pub fn assign_set(
+    state: &mut State,
+    pid: u8,
+    item: &Item,
+    target: &Place,
+    value: &SetExpression,
+    low: u8,
+    high: u8,
+) -> Result<Event, ErrorName>
+    requires pid { pid < length state.old.processes.items }
+    requires busy { IsBusy state.old pid }
+    ensures after { spec.assign_set (machine_of state.old) pid item.now.line target.now value.now low high (rest_of item.now.next (under (machine_of state.old) pid)) ≡ spec.outcome result (machine_of state.new) pid item.now.line }
+    ensures reserved { (r : Tables) → IsReserved r state.old → IsReserved r state.new }
+{
+    let value = set_of(state, pid, value)?;
+    let at = address_of(state, pid, target)?;
+    let value = set::ranged(value, low, high)?;
+    replace(state, pid, None, item.next);
+    put_set(state, pid, at, value);
+    Ok(Event::Local)
+}
+
+/// The assignment of an array or a record.
+pub fn copy(
+    state: &mut State,
+    pid: u8,
+    item: &Item,
+    target: &Place,
+    source: &Place,
+    size: usize,
+) -> Result<Event, ErrorName>
+    requires pid { pid < length state.old.processes.items }
+    requires busy { IsBusy state.old pid }
+    ensures after { spec.copy (machine_of state.old) pid item.now.line target.now source.now size (rest_of item.now.next (under (machine_of state.old) pid)) ≡ spec.outcome result (machine_of state.new) pid item.now.line }
+    ensures reserved { (r : Tables) → IsReserved r state.old → IsReserved r state.new }
+{
+    let from = address_of(state, pid, source)?;
+    let to = address_of(state, pid, target)?;
+    replace(state, pid, None, item.next);
+    put_cells(state, pid, to, from, size);
+    Ok(Event::Local)
+}
+
+/// `if`: becomes the chosen branch, or nothing.
+pub fn branch(
+    state: &mut State,
+    pid: u8,
+    item: &Item,
+    test: &Expression,
+    list: Option<usize>,
+    other: Option<usize>,
+) -> Result<Event, ErrorName>
+    requires pid { pid < length state.old.processes.items }
+    requires busy { IsBusy state.old pid }
+    requires room { HasRoom state.old pid list }
+    requires other_room { HasRoom state.old pid other }
+    ensures after { spec.branch (machine_of state.old) pid item.now.line test.now list other (rest_of item.now.next (under (machine_of state.old) pid)) ≡ spec.outcome result (machine_of state.new) pid item.now.line }
+    ensures reserved { (r : Tables) → IsReserved r state.old → IsReserved r state.new }
+{
+    let value = value_of(state, pid, test)?;
+    if is_true(value) {
+        replace(state, pid, list, item.next);
+    } else {
+        replace(state, pid, other, item.next);
+    }
+    Ok(Event::Local)
+}
+
+// Whether an arm has a value as a label.
+fn has_label(labels: &[i16], value: i16) -> bool
+    ensures { result ≡ spec.has_label value labels.now }
+{
+    labels.iter().any(|label| *label == value)
+}
+
+// The list of the first arm that has a value as a label.
+fn arm_for(arms: &[Arm], value: i16) -> Result<Option<usize>, ErrorName>
+    ensures { spec.arm_for value arms.now ≡ result }
+{
+    for arm in arms {
+        if has_label(&arm.labels, value) {
+            return Ok(arm.body);
+        }
+    }
+    Err(ErrorName::NoCase)
+}
+
+/// `case`: becomes the chosen arm.
+pub fn case_of(
+    state: &mut State,
+    pid: u8,
+    item: &Item,
+    selector: &Expression,
+    arms: &[Arm],
+) -> Result<Event, ErrorName>
+    requires pid { pid < length state.old.processes.items }
+    requires busy { IsBusy state.old pid }
+    requires room { (k : ℕ) (d : Arm) → k < length arms.now → HasRoom state.old pid (slice_index_or arms.now k d).body }
+    ensures after { spec.case_of (machine_of state.old) pid item.now.line selector.now arms.now (rest_of item.now.next (under (machine_of state.old) pid)) ≡ spec.outcome result (machine_of state.new) pid item.now.line }
+    ensures reserved { (r : Tables) → IsReserved r state.old → IsReserved r state.new }
+{
+    let value = value_of(state, pid, selector)?;
+    let list = arm_for(arms, value)?;
+    replace(state, pid, list, item.next);
+    Ok(Event::Local)
+}
+
+// A number below 256.
+fn byte(value: i16) -> u8
+    ensures { result ≡ spec.below 256 value }
+{
+    if value >= 0 && value < 256 {
+        value as u8
+    } else {
+        0
+    }
+}
+
+// The number of an enumeration constant, whose enumeration begins with another one.
+fn constant(first: u16, value: i16) -> u16
+    ensures { result ≡ spec.below 65536 (spec.further first value) }
+{
+    let number = i32::from(first) + i32::from(value);
+    if number >= 0 && number < 65536 {
+        number as u16
+    } else {
+        0
+    }
+}
+
+fn shown_as(kind: ShownKind, value: i16) -> Shown
+    ensures { result ≡ spec.shown_as kind value }
+{
+    match kind {
+        ShownKind::Integer => Shown::Integer(value),
+        ShownKind::Character => Shown::Char(byte(value)),
+        ShownKind::Truth => Shown::Truth(is_true(value)),
+        ShownKind::Constant(first) => Shown::Constant(constant(first, value)),
+    }
+}
+
+fn show(state: &mut State, pid: u8, next: Option<usize>, value: Shown) -> Event
+    requires pid { pid < length state.old.processes.items }
+    requires busy { IsBusy state.old pid }
+    requires room { LIMIT ≤ vec_capacity state.old.output }
+    requires shown { vec_len state.old.output ≤ LIMIT }
+    ensures after { spec.show (machine_of state.old) pid (rest_of next (under (machine_of state.old) pid)) value ≡ record { machine = machine_of state.new; event = result } }
+    ensures reserved { (r : Tables) → IsReserved r state.old → IsReserved r state.new }
+{
+    if state.output.len() == LIMIT {
+        return Event::OutputFull;
+    }
+    let _ = state.output.push(value);
+    replace(state, pid, None, next);
+    Event::Kernel(Kernel::Display)
+}
+
+/// `display`: its value first, and then whether there is room for it.
+pub fn display(
+    state: &mut State,
+    pid: u8,
+    item: &Item,
+    value: &Expression,
+    kind: ShownKind,
+) -> Result<Event, ErrorName>
+    requires pid { pid < length state.old.processes.items }
+    requires busy { IsBusy state.old pid }
+    requires room { LIMIT ≤ vec_capacity state.old.output }
+    requires shown { vec_len state.old.output ≤ LIMIT }
+    ensures after { spec.display (machine_of state.old) pid item.now.line value.now kind (rest_of item.now.next (under (machine_of state.old) pid)) ≡ spec.outcome result (machine_of state.new) pid item.now.line }
+    ensures reserved { (r : Tables) → IsReserved r state.old → IsReserved r state.new }
+{
+    let value = value_of(state, pid, value)?;
+    Ok(show(state, pid, item.next, shown_as(kind, value)))
+}

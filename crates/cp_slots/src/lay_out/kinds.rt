@@ -1,0 +1,234 @@
+//! The types of a program, with the cells of their values.
+
+use cp_text::token::Name;
+use std::alloc::{AllocError, Global};
+
+/// The cells of a set.
+const SET_CELLS: usize = 8;
+
+/// What the values of an ordinal type are counted in.
+#[derive(Clone, Copy, Drop)]
+pub enum Base {
+    Integer,
+    Boolean,
+    Char,
+    /// With the number of the first constant among those of all enumerations, and the `ord` of the last.
+    Enumeration(u16, i16),
+}
+
+impl Base {
+    /// All values.
+    pub fn whole(self) -> Range {
+        let (low, high) = match self {
+            Base::Integer => (i16::MIN, i16::MAX),
+            Base::Boolean => (0, 1),
+            Base::Char => (0, 127),
+            Base::Enumeration(_, last) => (0, last),
+        };
+        Range {
+            base: self,
+            low,
+            high,
+        }
+    }
+}
+
+/// The values of an ordinal type.
+#[derive(Clone, Copy, Drop)]
+pub struct Range {
+    pub base: Base,
+    pub low: i16,
+    pub high: i16,
+}
+
+impl Range {
+    /// How many values there are.
+    pub fn count(self) -> usize {
+        let distance = i64::from(self.high) - i64::from(self.low) + 1;
+        usize::try_from(distance).unwrap_or(0)
+    }
+
+    /// The value with which a variable begins: 0 for all integers, else the least.
+    pub fn least(self) -> i16 {
+        if self.low == i16::MIN { 0 } else { self.low }
+    }
+}
+
+/// A type. Arrays and records are told apart by their numbers among the compound types, and system types by theirs.
+#[derive(Clone, Copy, Drop)]
+pub enum ValueType {
+    Ordinal(Range),
+    Queue,
+    /// By the values of the base.
+    Set(Range),
+    Array(usize),
+    Record(usize),
+    System(usize),
+}
+
+/// The type of all values of a base.
+pub fn values_of(base: Base) -> ValueType {
+    ValueType::Ordinal(base.whole())
+}
+
+#[derive(Clone, Copy, Drop)]
+pub struct ArrayType {
+    pub index: Range,
+    pub element: ValueType,
+    pub element_cells: usize,
+    pub cells: usize,
+}
+
+/// A field of a record, with the cells before it.
+#[derive(Clone, Copy, Drop)]
+pub struct Field<'a> {
+    pub name: &'a Name,
+    pub value_type: ValueType,
+    pub offset: usize,
+}
+
+#[derive(Drop)]
+pub struct RecordType<'a> {
+    pub fields: Vec<Field<'a>>,
+    pub cells: usize,
+}
+
+#[derive(Drop)]
+enum Compound<'a> {
+    Array(ArrayType),
+    Record(RecordType<'a>),
+}
+
+/// The arrays and records of a program. Each holds earlier ones alone.
+#[derive(Drop)]
+pub struct Types<'a> {
+    compounds: Vec<Compound<'a>>,
+}
+
+impl<'a> Types<'a> {
+    pub fn new(alloc: Global) -> Types<'a> {
+        Types {
+            compounds: Vec::new(alloc),
+        }
+    }
+
+    /// How many cells a value has. A component has none.
+    pub fn cells_of(&self, value_type: ValueType) -> usize {
+        match value_type {
+            ValueType::Ordinal(_) | ValueType::Queue => 1,
+            ValueType::Set(_) => SET_CELLS,
+            ValueType::Array(number) | ValueType::Record(number) => {
+                match self.compounds.get(number) {
+                    Some(Compound::Array(array)) => array.cells,
+                    Some(Compound::Record(record)) => record.cells,
+                    None => 0,
+                }
+            }
+            ValueType::System(_) => 0,
+        }
+    }
+
+    /// An array's index and elements.
+    pub fn array(&self, value_type: ValueType) -> Option<ArrayType> {
+        let ValueType::Array(number) = value_type else {
+            return None;
+        };
+        match self.compounds.get(number) {
+            Some(Compound::Array(array)) => Some(*array),
+            _ => None,
+        }
+    }
+
+    /// A field of a record.
+    pub fn field(&self, value_type: ValueType, name: &Name) -> Option<Field<'a>> {
+        let ValueType::Record(number) = value_type else {
+            return None;
+        };
+        let Some(Compound::Record(record)) = self.compounds.get(number) else {
+            return None;
+        };
+        for field in &record.fields {
+            if field.name.as_str() == name.as_str() {
+                return Some(*field);
+            }
+        }
+        None
+    }
+
+    /// A new array type.
+    pub fn add_array(&mut self, index: Range, element: ValueType) -> Result<ValueType, AllocError> {
+        let element_cells = self.cells_of(element);
+        let number = self.compounds.len();
+        self.compounds.push(Compound::Array(ArrayType {
+            index,
+            element,
+            element_cells,
+            cells: element_cells.saturating_mul(index.count()),
+        }))?;
+        Ok(ValueType::Array(number))
+    }
+
+    /// A new record type.
+    pub fn add_record(
+        &mut self,
+        fields: Vec<Field<'a>>,
+        cells: usize,
+    ) -> Result<ValueType, AllocError> {
+        let number = self.compounds.len();
+        self.compounds
+            .push(Compound::Record(RecordType { fields, cells }))?;
+        Ok(ValueType::Record(number))
+    }
+
+    /// Adds the cells with which a variable begins.
+    pub fn add_least(&self, cells: &mut Vec<i16>, value_type: ValueType) -> Result<(), AllocError> {
+        self.add_least_below(cells, value_type, self.compounds.len())
+    }
+
+    // The same for a type that holds only the first so many compound types.
+    #[cycle(least)]
+    fn add_least_below(
+        &self,
+        cells: &mut Vec<i16>,
+        value_type: ValueType,
+        bound: usize,
+    ) -> Result<(), AllocError> {
+        match value_type {
+            ValueType::Ordinal(range) => cells.push(range.least())?,
+            ValueType::Queue => cells.push(0)?,
+            ValueType::Set(_) => add_zeros(cells, SET_CELLS)?,
+            ValueType::Array(number) | ValueType::Record(number) => {
+                if number < bound {
+                    self.add_compound(cells, number)?;
+                }
+            }
+            ValueType::System(_) => {}
+        }
+        Ok(())
+    }
+
+    #[cycle(least)]
+    fn add_compound(&self, cells: &mut Vec<i16>, number: usize) -> Result<(), AllocError> {
+        match self.compounds.get(number) {
+            Some(Compound::Array(array)) => {
+                for _ in 0..array.index.count() {
+                    self.add_least_below(cells, array.element, number)?;
+                }
+            }
+            Some(Compound::Record(record)) => {
+                for field in &record.fields {
+                    self.add_least_below(cells, field.value_type, number)?;
+                }
+            }
+            None => {}
+        }
+        Ok(())
+    }
+}
+
+fn add_zeros(cells: &mut Vec<i16>, count: usize) -> Result<(), AllocError> {
+    for _ in 0..count {
+        cells.push(0)?;
+    }
+    Ok(())
+}

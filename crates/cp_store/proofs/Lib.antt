@@ -1,0 +1,4 @@
+pub mod Bindings
+pub mod Members
+pub mod ReadBack
+pub mod Widths

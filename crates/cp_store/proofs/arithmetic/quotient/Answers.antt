@@ -1,0 +1,13 @@
+use Rattle.std.proofs.Common.{◌≡◌, ◌∙◌, ap, rules, ℤ, Result, Err, false, if◌then◌else◌, pos}
+use Rattle.std.specs.Prelude.{int_div}
+use Rattle.std.specs.Ordering.{int_eq}
+use Rattle.cp_store.specs.declared.error.ErrorName.TheVariants.{ZeroDivisor}
+use Rattle.cp_store.specs.Values as spec
+use Rattle.cp_store.proofs.Widths.{quotient_said, not_zero}
+use Rattle.cp_store.proofs.arithmetic.quotient.Goals as goal
+
+pub returns-else-right-eq0 : goal.returns-else-right-eq0
+returns-else-right-eq0 c =
+    let divided = c.narrowed.ensures ∙ ap spec.narrowed (quotient_said c.args.left c.args.right c.ranges.left c.ranges.right) in
+    let test : int_eq c.args.right (pos 0) ≡ false = not_zero c.args.right c.if-right-eq0.false in
+    rw test divided

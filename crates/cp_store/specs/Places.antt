@@ -1,0 +1,110 @@
+-- Addresses of places, and values of expressions and sets: functions of the memory and of the frame that is executed.
+-- Parts are evaluated from left to right, and the first run error counts.
+use Rattle.std.specs.Prelude.{ℕ, ◌-◌, ◌^◌, Bool, true, false, not, List, [], ◌∷◌, map, Result, Ok, Err, ℤ, pos, ◌-ℤ◌, slice_index_or, unsigned_abs}
+use Rattle.cp_slots.specs.declared.place.Origin.{Origin}
+use Rattle.cp_slots.specs.declared.place.Origin.TheVariants as origin
+use Rattle.cp_slots.specs.declared.place.Place as code_place
+use Rattle.cp_slots.specs.declared.place.Index as code_index
+use Rattle.cp_slots.specs.declared.place.Expression as code_expression
+use Rattle.cp_slots.specs.declared.place.SetExpression as code_set
+use Rattle.cp_slots.specs.declared.place.Expression.TheOpen.{Expression-F, SetExpression-F, Index-F, Place-F}
+use Rattle.cp_store.specs.declared.error.ErrorName.{ErrorName}
+use Rattle.cp_store.specs.declared.memory.Address.{Address}
+use Rattle.cp_store.specs.declared.memory.Address.TheVariants.{Permanent, Local}
+use Rattle.cp_store.specs.declared.memory.Frame.{Frame}
+use Rattle.cp_store.specs.declared.set.SetValue.{SetValue}
+use Rattle.cp_store.specs.Memory.{Memory, cell_at, moved, nowhere, onward, stretch}
+use Rattle.cp_store.specs.Sets as sets
+use Rattle.cp_store.specs.Values.{then_with, ranged, truth, is_true, negated, absolute, successor, predecessor, calculated, combined, compared}
+
+-- what an expression, a set and a place stand for
+abbrev pub ToValue : Type 0
+ToValue = Memory → Frame → Result ℤ ErrorName
+
+abbrev pub ToSet : Type 0
+ToSet = Memory → Frame → Result SetValue ErrorName
+
+abbrev pub ToAddress : Type 0
+ToAddress = Memory → Frame → Result Address ErrorName
+
+-- what an index stands for: from the address of an array to that of its element
+abbrev pub ToElement : Type 0
+ToElement = Memory → Frame → Address → Result Address ErrorName
+
+-- ---- places
+
+-- the place that a var parameter names
+abbrev pub referred : List Address → ℕ → Address
+referred references number = slice_index_or references number nowhere
+
+-- where a variable begins
+abbrev pub begun : List Address → Frame → Origin → Address
+begun references frame (origin.Permanent slot) = Permanent (onward frame.own slot)
+begun references frame (origin.Local slot) = Local (onward frame.base slot)
+begun references frame (origin.Reference number) = referred references (onward frame.references number)
+
+-- how far the element of an index is from the beginning of its array, or range outside the bounds of the array
+abbrev pub distance : (low high : ℤ) (size : ℕ) → ℤ → Result ℕ ErrorName
+distance low high size index = then_with (ranged low high index) (λ i. Ok (stretch (unsigned_abs (i -ℤ low)) size))
+
+abbrev pub through : List ToElement → Memory → Frame → Address → Result Address ErrorName
+through [] m f at = Ok at
+through (i ∷ is) m f at = then_with (i m f at) (λ inner. through is m f inner)
+
+abbrev pub loaded : Memory → Result Address ErrorName → Result ℤ ErrorName
+loaded m a = then_with a (λ at. Ok (cell_at m at))
+
+-- ---- one level, whose parts stand for what they stand for
+
+abbrev pub place_step : Place-F ToValue ToSet ToElement ToAddress → ToAddress
+place_step p = λ m f. through p.indices.items m f (moved (begun m.references f p.origin) p.offset)
+
+abbrev pub index_step : Index-F ToValue ToSet ToElement ToAddress → ToElement
+index_step i = λ m f at. then_with (i.at m f) (λ v. then_with (distance i.low i.high i.size v) (λ far. Ok (moved at far)))
+
+abbrev pub both : ToValue → ToValue → (ℤ → ℤ → Result ℤ ErrorName) → ToValue
+both a b go = λ m f. then_with (a m f) (λ x. then_with (b m f) (λ y. go x y))
+
+abbrev pub expression_step : Expression-F ToValue ToSet ToElement ToAddress → ToValue
+expression_step (Expression-F.Number z) = λ m f. Ok z
+expression_step (Expression-F.«Expression::Load» p) = λ m f. loaded m (p m f)
+expression_step (Expression-F.Negate e) = λ m f. then_with (e.value m f) negated
+expression_step (Expression-F.Absolute e) = λ m f. then_with (e.value m f) absolute
+expression_step (Expression-F.Not e) = λ m f. then_with (e.value m f) (λ x. Ok (truth (not (is_true x))))
+expression_step (Expression-F.Successor e last) = λ m f. then_with (e.value m f) (successor last)
+expression_step (Expression-F.Predecessor e first) = λ m f. then_with (e.value m f) (predecessor first)
+expression_step (Expression-F.Character e) = λ m f. then_with (e.value m f) (ranged (pos 0) (pos 127))
+expression_step (Expression-F.Arithmetic o a b) = both a.value b.value (calculated o)
+expression_step (Expression-F.Logic o a b) = both a.value b.value (λ x y. Ok (combined o x y))
+expression_step (Expression-F.Compare r a b) = both a.value b.value (λ x y. Ok (compared r x y))
+expression_step (Expression-F.SameSet wanted a b) = λ m f. then_with (a.value m f) (λ s. then_with (b.value m f) (λ t. Ok (sets.compared wanted s t)))
+expression_step (Expression-F.Member e a) = λ m f. then_with (e.value m f) (λ x. then_with (a.value m f) (λ s. Ok (truth (sets.is_member s x))))
+expression_step (Expression-F.IsEmpty p) = λ m f. then_with (loaded m (p m f)) (λ x. Ok (truth (not (is_true x))))
+
+abbrev pub set_step : SetExpression-F ToValue ToSet ToElement ToAddress → ToSet
+set_step (SetExpression-F.«SetExpression::Load» p) = λ m f. then_with (p m f) (λ at. Ok (sets.stored_at m at))
+set_step SetExpression-F.Empty = λ m f. Ok sets.empty
+set_step (SetExpression-F.With a e) = λ m f. then_with (a.value m f) (λ s. then_with (e.value m f) (λ x. sets.with_element s x))
+set_step (SetExpression-F.Combine o a b) = λ m f. then_with (a.value m f) (λ s. then_with (b.value m f) (λ t. Ok (sets.combined o s t)))
+
+-- ---- all levels
+
+-- the value of an expression
+abbrev pub value_at : Memory → Frame → code_expression.Expression → Result ℤ ErrorName
+value_at m f e = code_expression.fold-Expression ToValue ToSet ToElement ToAddress expression_step set_step index_step place_step e m f
+
+-- the value of a set expression
+abbrev pub set_at : Memory → Frame → code_set.SetExpression → Result SetValue ErrorName
+set_at m f e = code_set.fold-SetExpression ToValue ToSet ToElement ToAddress expression_step set_step index_step place_step e m f
+
+-- the address of a place
+abbrev pub address_at : Memory → Frame → code_place.Place → Result Address ErrorName
+address_at m f p = code_place.fold-Place ToValue ToSet ToElement ToAddress expression_step set_step index_step place_step p m f
+
+-- the address of the element of an index, from that of the array
+abbrev pub element_at : code_index.Index → ToElement
+element_at = code_index.fold-Index ToValue ToSet ToElement ToAddress expression_step set_step index_step place_step
+
+-- the address behind all indices
+abbrev pub indexed_at : Memory → Frame → Address → List code_index.Index → Result Address ErrorName
+indexed_at m f at is = through (map element_at is) m f at

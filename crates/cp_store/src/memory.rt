@@ -1,0 +1,66 @@
+//! Where cells lie, and what they hold.
+
+ghost use Rattle.std.specs.Prelude.{◌≡◌, pos, slice_index_or};
+ghost use Rattle.cp_store.specs.Memory.{memory_of, moved, cell_at, onward};
+
+/// Where a cell lies.
+#[derive(Clone, Copy, Debug, PartialEq, Eq)]
+pub enum Address {
+    /// A cell of a component, by its number among those of all components.
+    Permanent(usize),
+    /// A cell of the process that is executed, by its number among those of its frames.
+    Local(usize),
+}
+
+/// A call, or the initial statement of a process: what it executes, and where its variables lie.
+#[derive(Clone, Copy, Debug, PartialEq, Eq)]
+pub struct Frame {
+    pub routine: usize,
+    pub component: usize,
+    /// The first permanent cell of the component.
+    pub own: usize,
+    /// Its first cell among those of the process.
+    pub base: usize,
+    /// The first of its `var` parameters among those of the process.
+    pub references: usize,
+}
+
+/// What the frames of a process hold, frame upon frame.
+#[derive(Drop)]
+pub struct Room {
+    pub cells: Vec<i16>,
+    /// The places that `var` parameters name.
+    pub references: Vec<Address>,
+}
+
+impl Address {
+    /// The address so many cells further on.
+    pub fn moved(self, cells: usize) -> Address
+        ensures { result ≡ moved self cells }
+    {
+        match self {
+            Address::Permanent(number) => Address::Permanent(number.saturating_add(cells)),
+            Address::Local(number) => Address::Local(number.saturating_add(cells)),
+        }
+    }
+}
+
+/// One of some cells; 0 past their end.
+fn cell_or_zero(cells: &[i16], number: usize) -> i16
+    ensures { result ≡ slice_index_or cells.now number (pos 0) }
+{
+    match cells.get(number) {
+        Some(value) => *value,
+        None => 0,
+    }
+}
+
+/// What the cell at an address holds.
+pub fn cell(permanents: &[i16], room: &Room, at: Address) -> i16
+    ensures { result ≡ cell_at (memory_of permanents.now room.now) at }
+{
+    match at {
+        Address::Permanent(number) => cell_or_zero(permanents, number),
+        Address::Local(number) => cell_or_zero(&room.cells, number),
+    }
+}

@@ -1,0 +1,80 @@
+//! Writes into cells. Where an address has no cell, nothing is written.
+
+ghost use Rattle.std.specs.Prelude.{◌≡◌, slice_set};
+ghost use Rattle.cp_store.specs.Memory.{memory_of, put_number, put_copy, KeepsRoom};
+ghost use Rattle.cp_store.specs.Sets as spec;
+
+use crate::memory::{Address, Room, cell};
+use crate::set::SetValue;
+
+fn set_cell(cells: &mut [i16], number: usize, value: i16)
+    ensures { cells.new ≡ slice_set cells.old number value }
+{
+    if number < cells.len() {
+        cells[number] = value;
+    }
+}
+
+/// Writes the cell at an address.
+pub fn write(permanents: &mut [i16], room: &mut Room, at: Address, value: i16)
+    ensures after { memory_of permanents.new room.new ≡ put_number (memory_of permanents.old room.old) at value }
+    ensures room { KeepsRoom room.old room.new }
+{
+    match at {
+        Address::Permanent(number) => set_cell(permanents, number, value),
+        Address::Local(number) => set_cell(&mut room.cells, number, value),
+    }
+}
+
+// Sixteen members of a set.
+fn write_word(permanents: &mut [i16], room: &mut Room, at: Address, members: u16)
+    ensures after { memory_of permanents.new room.new ≡ spec.put_word (memory_of permanents.old room.old) at members }
+    ensures room { KeepsRoom room.old room.new }
+{
+    write(permanents, room, at, members.cast_signed());
+}
+
+// Thirty-two members.
+fn write_pair(permanents: &mut [i16], room: &mut Room, at: Address, members: u32)
+    ensures after { memory_of permanents.new room.new ≡ spec.put_pair (memory_of permanents.old room.old) at members }
+    ensures room { KeepsRoom room.old room.new }
+{
+    write_word(permanents, room, at, (members % 65536) as u16);
+    write_word(permanents, room, at.moved(1), (members / 65536) as u16);
+}
+
+// Sixty-four members.
+fn write_quad(permanents: &mut [i16], room: &mut Room, at: Address, members: u64)
+    ensures after { memory_of permanents.new room.new ≡ spec.put_quad (memory_of permanents.old room.old) at members }
+    ensures room { KeepsRoom room.old room.new }
+{
+    write_pair(permanents, room, at, (members % 4_294_967_296) as u32);
+    write_pair(
+        permanents,
+        room,
+        at.moved(2),
+        (members / 4_294_967_296) as u32,
+    );
+}
+
+/// Writes a set into the eight cells from an address on.
+pub fn write_set(permanents: &mut [i16], room: &mut Room, at: Address, value: SetValue)
+    ensures after { memory_of permanents.new room.new ≡ spec.put_set (memory_of permanents.old room.old) at value }
+    ensures room { KeepsRoom room.old room.new }
+{
+    let low = (value.members % 18_446_744_073_709_551_616) as u64;
+    let high = (value.members / 18_446_744_073_709_551_616) as u64;
+    write_quad(permanents, room, at, low);
+    write_quad(permanents, room, at.moved(4), high);
+}
+
+/// Copies cells, one after the other.
+pub fn copy_cells(permanents: &mut [i16], room: &mut Room, to: Address, from: Address, size: usize)
+    ensures after { memory_of permanents.new room.new ≡ put_copy (memory_of permanents.old room.old) to from size }
+    ensures room { KeepsRoom room.old room.new }
+{
+    for cells in 0..size {
+        let value = cell(permanents, room, from.moved(cells));
+        write(permanents, room, to.moved(cells), value);
+    }
+}
