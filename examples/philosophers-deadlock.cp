@@ -6,7 +6,7 @@
 
  Look for: 'all-waiting output -'. Each has its left fork and waits for the other
  one, which nobody will put back. The trace of the first such schedule,
- 0.0.1.0.0, shows two delays at its end. It is in 54 of 1,330 schedules; in all
+ 0.0.1.0.0, shows two delays at its end. 54 of the 1,330 schedules end so; in all
  others both eat. philosophers-ordered.cp is the same without this outcome."
 type
 fork = monitor;
