@@ -2,11 +2,12 @@
  ticks of the clock, of which there are two. Who wakes displays two digits: the
  time that it set, and the time that the clock shows.
 
- Options: --choices 8
+ Options: --choices 16
 
- Look for: 11 and 22 are sleepers who wake in time; 12 is one that came late, at
- time 2, and doesn't sleep at all. There is no 21: nobody wakes too early. A
- queue holds one process, so each time has a queue of its own."
+ Look for: three outcomes, all finished. 11 and 22 are sleepers who wake in time;
+ 12 is one that came late, at time 2, and doesn't sleep at all. There is no 21:
+ nobody wakes too early. A queue holds one process, so each time has a queue of
+ its own."
 const last = 2;
 type
 time = 0..last;

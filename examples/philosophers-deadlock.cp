@@ -2,12 +2,12 @@
  program is one, sit between two forks, and each takes the left one first. Who
  eats displays its number, 0 or 1.
 
- Options: --choices 8
+ Options: --choices 19; --choices 5 finds it
 
  Look for: 'all-waiting output -'. Each has its left fork and waits for the other
  one, which nobody will put back. The trace of the first such schedule,
- 0.0.1.0.0, shows two delays at its end. philosophers-ordered.cp is the same
- without this outcome."
+ 0.0.1.0.0, shows two delays at its end. 54 of the 1,330 schedules end so; in all
+ others both eat. philosophers-ordered.cp is the same without this outcome."
 type
 fork = monitor;
   var taken: boolean; hungry: queue;

@@ -1,23 +1,25 @@
 "A resource scheduler with a queue for each user. The resource is taken until the
- program releases it; two users ask for it meanwhile. Who has to wait displays its
- number with a minus, who is served displays it without.
+ program releases it; two users ask for it meanwhile. Who gets it displays two
+ digits: whether it asked first or second, and its number.
 
- Options: --choices 6
+ Options: --choices 17
 
- Look for: what begins with -2 -1 goes on with 1. User 2 came first, but of those
- who wait the one with the least number is served: release looks through the
- array of queues from below, and wakes the first waiter that it finds. Only where
- user 1 comes after user 2 was served is 2 the first."
+ Look for: 21 12. User 1 asked second and gets the resource first: of those who
+ wait the one with the least number is served, since release looks through the
+ array of queues from below and wakes the first waiter that it finds. There is no
+ 22 11: user 2 never passes user 1. In 12 21 user 1 asked only after 2 had got it."
 const users = 2;
 type
 user_number = 1..users;
 scheduler = monitor;
-  var free: boolean; turn: array [1..users] of queue;
+  var free: boolean; asked: integer; turn: array [1..users] of queue;
   procedure entry request(user: user_number);
+    var place: integer;
   begin
-    if not free then begin display(-user); delay(turn[user]) end;
+    asked := asked + 1; place := asked;
+    if not free then delay(turn[user]);
     free := false;
-    display(user)
+    display(10 * place + user)
   end;
   procedure entry release;
     var user: integer;
@@ -26,7 +28,7 @@ scheduler = monitor;
     for user := 1 to users do
       if not empty(turn[user]) then continue(turn[user])
   end;
-begin free := false end;
+begin free := false; asked := 0 end;
 
 user = process(s: scheduler; me: user_number);
 begin s.request(me); s.release end;

@@ -1,32 +1,32 @@
 "The sleeping barber. The program is the barber, who cuts the hair of two guests
- and displays their numbers. While nobody waits he sleeps. The shop has one chair
- to wait in; a guest who finds it taken displays its number with a minus and
+ and displays their numbers. While nobody is there he sleeps. The shop has one
+ chair to wait in; a guest who finds it taken displays its number with a minus and
  leaves.
 
- Options: --choices 7
+ Options: --choices 16
 
- Look for: 'finished output 1 2', where the second guest came after the first
- left the chair; and 'all-waiting output -2 1': guest 2 left, so the barber sleeps
- and nobody will come to wake him. Not every all-waiting is a mistake of the
- program: this barber waits for a guest that there isn't."
+ Look for: 'finished output 1 2', where the second guest came after the barber had
+ called the first; and 'all-waiting output -2 1': guest 2 left, so the barber
+ sleeps and nobody will come to wake him. Not every all-waiting is a mistake of
+ the program: this barber waits for a guest that there isn't."
 type
 shop = monitor;
-  var waiting, asleep: boolean; chair, bed: queue; guest: integer;
+  var taken: boolean; guest: integer; bed: queue;
   procedure entry visit(me: integer);
   begin
-    if waiting then display(-me)
+    if taken then display(-me)
     else begin
-      waiting := true; guest := me;
-      if asleep then continue(bed)
+      taken := true; guest := me;
+      continue(bed)
     end
   end;
   function entry next: integer;
   begin
-    if not waiting then begin asleep := true; delay(bed); asleep := false end;
-    waiting := false;
+    if not taken then delay(bed);
+    taken := false;
     next := guest
   end;
-begin end;
+begin taken := false end;
 
 customer = process(s: shop; me: integer);
 begin s.visit(me) end;
