@@ -2,6 +2,7 @@ pub mod Choosing
 pub mod Owning
 pub mod Prefixes
 pub mod Running
+pub mod Standing
 pub mod Stretching
 pub mod TraceBounds
 pub mod TraceRuns

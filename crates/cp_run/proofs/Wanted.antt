@@ -1,10 +1,11 @@
 -- A number is among those that may be where it may be.
-use Rattle.std.proofs.Common.{◌≡◌, ℕ, zero, suc, ◌<◌, ◌⊎◌, ⊎_elim, Bool, true, false, ◌&&◌, ◌||◌, ◌==◌, nat_lt, if◌then◌else◌, [], ◌∷◌, refl, sym, ap, ◌∙◌, arith}
+use Rattle.std.proofs.Common.{◌≡◌, ℕ, zero, suc, ◌<◌, ◌⊎◌, ⊎_elim, Bool, true, false, List, ◌&&◌, ◌||◌, ◌==◌, nat_lt, if◌then◌else◌, [], ◌∷◌, refl, sym, ap, ◌∙◌, arith}
 use Rattle.std.specs.List.{list_any}
-use Rattle.std.proofs.lemmas.Bool.{lt-ltb, le-ltb, eq-eqb, ne_eqb, cases_order}
+use Rattle.std.proofs.lemmas.Bool.{lt-ltb, le-ltb, eq-eqb, eqb-true, ne_eqb, cases_order}
 use Rattle.std.proofs.lemmas.List.Folds.{list_any-append}
 use Rattle.cp_run.specs.System.{System}
-use Rattle.cp_run.specs.Run.{those_below, may}
+use Rattle.cp_run.specs.declared.outcome.Turn.TheVariants.{Goes}
+use Rattle.cp_run.specs.Run.{those_below, may, turn_among, settled_turn}
 
 or_none : (b : Bool) → (b || false) ≡ b
 or_none true = refl
@@ -46,3 +47,16 @@ any_below (suc n) p f =
 pub any_wanted : {S : Type 0} (sys : System S) (s : S) (p : ℕ) → list_any (λ y. y == p) (those_below sys.processes (may sys s)) ≡ may sys s p
 unfolding may
 any_wanted sys s p = any_below sys.processes p (may sys s) ∙ and_same (nat_lt p sys.processes) (if sys.is_pending s then sys.in_line s p else sys.is_ready s p)
+
+-- after a local step its process, which is ready, goes on
+pub goes_on : {S : Type 0} (sys : System S) (s : S) (p : ℕ) → p < sys.processes → sys.is_ready s p ≡ true → settled_turn sys s false p ≡ Goes p
+goes_on sys s p lt h = by (those_below sys.processes (sys.is_ready s)) (any_below sys.processes p (sys.is_ready s) ∙ ap (λ b. b && sys.is_ready s p) (lt-ltb p sys.processes lt) ∙ h)
+  where
+    alone : (b : Bool) → (b || false) ≡ true → b ≡ true
+    alone true e = refl
+    alone false e = e
+
+    by : (l : List ℕ) → list_any (λ y. y == p) l ≡ true → turn_among sys s false p l ≡ Goes p
+    by [] e = absurd (cc)
+    by (q ∷ []) e = ap Goes (eqb-true q p (alone (q == p) e))
+    by (q ∷ r ∷ qs) e = refl

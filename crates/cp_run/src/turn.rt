@@ -26,6 +26,10 @@ pub fn settled_turn(
     ensures turn { result ≡ settled_turn (slots program.now limits.gates) (machine_of state.now) kernel process }
     ensures ready { IfGoes result (λ q. is_ready (machine_of state.now) q ≡ true) }
 {
+    // A process that made a local step is still ready, and goes on whoever else is.
+    if !kernel {
+        return Turn::Goes(process);
+    }
     let ready = state.ready();
     match ready.as_slice() {
         [] => {
@@ -36,13 +40,7 @@ pub fn settled_turn(
             }
         }
         [one] => Turn::Goes(*one),
-        [_, _, ..] => {
-            if kernel {
-                Turn::Due
-            } else {
-                Turn::Goes(process)
-            }
-        }
+        [_, _, ..] => Turn::Due,
     }
 }
 

@@ -1,11 +1,13 @@
-use Rattle.std.proofs.Common.{◌≡◌, ◌∙◌, sym, ap, if◌then◌else◌}
+use Rattle.std.proofs.Common.{◌≡◌, ◌<◌, ◌∙◌, length, sym, ap, arith, if◌then◌else◌}
 use Rattle.cp_machine.specs.System.{machine_of, is_ready}
 use Rattle.cp_run.specs.declared.outcome.Turn.TheVariants.{Over, Due, Goes}
 use Rattle.cp_run.specs.declared.outcome.OutcomeKind.TheVariants.{AllWaiting, Finished}
-use Rattle.cp_run.specs.Run.{those_below, turn_among}
+use Rattle.cp_machine.proofs.CallerLemmas.{ready_thread, threads_count}
+use Rattle.cp_run.specs.Run.{those_below, turn_among, settled_turn as spec_turn}
 use Rattle.cp_run.specs.Slots.{slots, processes_of}
 use Rattle.cp_run.proofs.Owning.{own_ready}
 use Rattle.cp_run.proofs.Turning.{among_nobody, among_one, among_several, first_may}
+use Rattle.cp_run.proofs.Wanted.{goes_on}
 use Rattle.cp_run.proofs.turn.settled_turn.Goals as goal
 
 pub returns-then-waits-clause-turn : goal.returns-then-waits-clause-turn
@@ -35,16 +37,18 @@ returns-in-len1-clause-ready c =
     let list : c.as_slice.result.now ≡ those_below (processes_of c.args.program.now) (is_ready m) = c.as_slice.ensures.value ∙ c.ready-ready.ensures ∙ own_ready c.args.program.now c.args.state.now c.requires.own in
     first_may (processes_of c.args.program.now) (is_ready m) c.as_slice.result.now list c.in-len1.len_at_least
 
-pub returns-then-kernel-clause-turn : goal.returns-then-kernel-clause-turn
-returns-then-kernel-clause-turn c =
+pub returns-in-len2-up-clause-turn : goal.returns-in-len2-up-clause-turn
+returns-in-len2-up-clause-turn c =
     let m = machine_of c.args.state.now in
     let sys = slots c.args.program.now c.args.limits.gates in
     let list : c.as_slice.result.now ≡ those_below (processes_of c.args.program.now) (is_ready m) = c.as_slice.ensures.value ∙ c.ready-ready.ensures ∙ own_ready c.args.program.now c.args.state.now c.requires.own in
-    sym (ap (turn_among sys m c.args.kernel c.args.process) (sym list) ∙ among_several sys m c.args.kernel c.args.process c.as_slice.result.now c.in-len2-up.len_at_least ∙ ap (λ b. if b then Due else Goes c.args.process) c.if-kernel.true)
+    sym (ap (turn_among sys m c.args.kernel c.args.process) (sym list) ∙ among_several sys m c.args.kernel c.args.process c.as_slice.result.now c.in-len2-up.len_at_least ∙ ap (λ b. if b then Due else Goes c.args.process) c.if-not-kernel.false)
 
-pub returns-else-kernel-clause-turn : goal.returns-else-kernel-clause-turn
-returns-else-kernel-clause-turn c =
+pub returns-then-not-kernel-clause-turn : goal.returns-then-not-kernel-clause-turn
+returns-then-not-kernel-clause-turn c =
+    let r = c.args.program.now in
     let m = machine_of c.args.state.now in
-    let sys = slots c.args.program.now c.args.limits.gates in
-    let list : c.as_slice.result.now ≡ those_below (processes_of c.args.program.now) (is_ready m) = c.as_slice.ensures.value ∙ c.ready-ready.ensures ∙ own_ready c.args.program.now c.args.state.now c.requires.own in
-    sym (ap (turn_among sys m c.args.kernel c.args.process) (sym list) ∙ among_several sys m c.args.kernel c.args.process c.as_slice.result.now c.in-len2-up.len_at_least ∙ ap (λ b. if b then Due else Goes c.args.process) c.if-kernel.false)
+    let p = c.args.process in
+    let on = c.requires.goes_on c.if-not-kernel.true in
+    let within : p < length r.processes = omega (arith, ready_thread m p on, threads_count r c.args.state.now c.requires.own) in
+    sym (ap (λ b. spec_turn (slots r c.args.limits.gates) m b p) c.if-not-kernel.true ∙ goes_on (slots r c.args.limits.gates) m p within on)
