@@ -20,7 +20,7 @@ mod Orderly
 mod OwnKernel
 mod OwnLocal
 mod OwnOpening
-mod OwnershipLemmas
+pub mod OwnershipLemmas
 mod PlainItems
 mod Shown
 mod ShownPrograms

@@ -1,0 +1,18 @@
+-- A program that breaks no rule has what the laws need.
+use Rattle.std.proofs.Common.{◌≡◌, []}
+use Rattle.cp_tree.specs.Syntax.{Tree}
+use Rattle.cp_check.specs.Faults.{faults_of}
+use Rattle.cp_meaning.specs.WellFormed.{IsWellFormed}
+use Rattle.cp_lawful.proofs.Earlier.{parameters_earlier}
+use Rattle.cp_lawful.proofs.Paths.{distinct_paths, contained_earlier}
+use Rattle.cp_lawful.proofs.Once.{accepted_distinct}
+use Rattle.cp_lawful.proofs.Classes.{class_parameters}
+
+pub well_formed : (t : Tree) → faults_of t ≡ [] → IsWellFormed t.program
+well_formed t h =
+    record {
+      paths = distinct_paths t.program (accepted_distinct t h);
+      class_parameters = class_parameters t h;
+      contained_earlier = contained_earlier t.program (accepted_distinct t h);
+      parameters_earlier = parameters_earlier t.program;
+    }

@@ -1,0 +1,18 @@
+//! Laws over the definitions alone, of every program that the checker accepts.
+
+ghost use Rattle.cp_lawful.specs.Accepted.{ExclusiveLaw, OwnershipLaw, WellFormedLaw};
+
+/// An accepted program has what the laws of exclusion and ownership need.
+pub fn law_accepted_well_formed()
+    ensures { WellFormedLaw }
+{}
+
+/// In no reached state of an accepted program are two processes inside one monitor, or one inside that another one initialises.
+pub fn law_exclusive()
+    ensures { ExclusiveLaw }
+{}
+
+/// In every step of an accepted program each changed variable is one that the process holds before it.
+pub fn law_ownership()
+    ensures { OwnershipLaw }
+{}
