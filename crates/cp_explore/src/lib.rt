@@ -6,6 +6,7 @@ mod children;
 mod collect;
 pub mod cutting;
 pub mod explore;
+pub mod explore_all;
 pub mod fault;
 pub mod gather;
 mod groups;
