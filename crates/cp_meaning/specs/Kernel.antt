@@ -33,7 +33,7 @@ output_room = 1000
 -- ---- parts of a state
 
 abbrev pub with_processes : State → List Process → State
-with_processes s ps = record { processes = ps; components = s.components; output = s.output; gates = s.gates; pending = s.pending }
+with_processes s ps = record s { processes = ps }
 
 abbrev pub with_line : List Component → ℕ → List ℕ → List Component
 with_line cs m line =
@@ -41,11 +41,11 @@ with_line cs m line =
     slice_set cs m (record { path = c.path; system = c.system; kind = c.kind; status = c.status; environment = c.environment; line = line })
 
 abbrev pub with_line_of : State → ℕ → List ℕ → State
-with_line_of s m line = record { processes = s.processes; components = with_line s.components m line; output = s.output; gates = s.gates; pending = s.pending }
+with_line_of s m line = record s { components = with_line s.components m line }
 
 -- a monitor is pending, or none
 abbrev pub with_pending : State → Option ℕ → State
-with_pending s o = record { processes = s.processes; components = s.components; output = s.output; gates = s.gates; pending = o }
+with_pending s o = record s { pending = o }
 
 -- who waits at the gate of the monitor, first come first
 abbrev pub line_of : State → ℕ → List ℕ
@@ -54,16 +54,13 @@ line_of s m = (component_at s.components m).line
 -- the process is as its item left it, with this status
 abbrev pub moved_to : Status → State → ℕ → Doing → State
 moved_to status s pid d =
-    record {
+    record s {
       processes = slice_set s.processes pid (record { component = (process_at s.processes pid).component; status = status; calls = d.calls; items = d.items });
       components = d.components;
-      output = s.output;
-      gates = s.gates;
-      pending = s.pending;
     }
 
 abbrev pub with_process_status : Process → Status → Process
-with_process_status p status = record { component = p.component; status = status; calls = p.calls; items = p.items }
+with_process_status p status = record p { status = status }
 
 -- q goes on
 abbrev pub made_ready : State → ℕ → State
@@ -131,12 +128,9 @@ begun d m =
 -- the started process, with its parameters bound
 abbrev pub with_begun : Program → State → ℕ → ℕ → Environment → State
 with_begun p s r d e =
-    record {
+    record s {
       processes = slice_set s.processes r (begun d (system_of p (component_at s.components d).system));
       components = with_permanents s.components d (e ++ (component_at s.components d).environment);
-      output = s.output;
-      gates = s.gates;
-      pending = s.pending;
     }
 
 -- start of a process that is unstarted
@@ -154,7 +148,7 @@ abbrev pub displaying : Bool → State → ℕ → Doing → Shown → Stepped
 displaying true s pid d x = record { state = s; event = output_full }
 displaying false s pid d x =
     let t = moved_to ready s pid d in
-    record { state = record { processes = t.processes; components = t.components; output = t.output ++ x ∷ []; gates = t.gates; pending = t.pending }; event = display_event }
+    record { state = record t { output = t.output ++ x ∷ [] }; event = display_event }
 
 -- one case for each kernel call; a local step changes nothing beside what its item did
 abbrev pub settles : Program → State → ℕ → Doing → Move → Stepped

@@ -41,9 +41,6 @@ abbrev pub processes_from : ℕ → List Component → List Process
 processes_from n [] = []
 processes_from n (c ∷ cs) = process_first c.kind n (processes_from (suc n) cs)
 
-abbrev pub with_first : Program → List Component → List Process → Gates → State
-with_first p cs ps g = record { processes = ps; components = cs; output = []; gates = g; pending = None }
-
 -- the program itself runs from the start
 abbrev pub own_begun : Program → List Component → List Process → List Process
 own_begun p (c ∷ cs) (q ∷ ps) = begun 0 (system_of p c.system) ∷ ps
@@ -55,7 +52,7 @@ first_components p = map (first_component p) (components_of p)
 
 -- the state in which a run begins: process 0 is ready, all others are unstarted
 abbrev pub opening : Program → Gates → State
-opening p g = with_first p (first_components p) (own_begun p (first_components p) (processes_from 0 (first_components p))) g
+opening p g = record { processes = own_begun p (first_components p) (processes_from 0 (first_components p)); components = first_components p; output = []; gates = g; pending = None }
 
 -- ---- one step
 

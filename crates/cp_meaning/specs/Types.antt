@@ -60,11 +60,7 @@ abbrev pub range_of : Ty → Range
 range_of (ordinal r) = r
 range_of t = all_integers
 
--- the type of an element, and of a field
-abbrev pub element_type : Ty → Ty
-element_type (array_over r t) = t
-element_type t = t
-
+-- the type of the field of that name
 abbrev pub field_type_in : FieldTypes → Name → Ty
 field_type_in no_field_types x = ordinal all_integers
 field_type_in (more_field_types y t ts) x = if same_name x y then t else field_type_in ts x
