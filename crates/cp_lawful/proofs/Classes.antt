@@ -1,5 +1,5 @@
 -- What breaks no rule gives no class to a monitor or process.
-use Rattle.std.proofs.Common.{◌≡◌, ℕ, zero, suc, ◌∙◌, Bool, true, false, if◌then◌else◌, List, [], ◌∷◌, ◌++◌, length, slice_get, Option, Some, None, Result, Ok, Err, is_some, ap, sym, refl, subst}
+use Rattle.std.proofs.Common.{◌≡◌, ℕ, zero, suc, ◌∙◌, Bool, true, false, if◌then◌else◌, List, [], ◌∷◌, ◌++◌, length, slice_get, Option, Some, None, Ok, Err, is_some, ap, sym, refl, subst}
 use Rattle.std.specs.Str.{bytes_eq}
 use Rattle.std.proofs.lemmas.Slice.Eq.{bytes_eq-Decides}
 use Rattle.cp_tree.specs.declared.constant.Identifier.{Identifier}
@@ -11,12 +11,10 @@ use Rattle.cp_scope.specs.declared.types.Meaning.TheVariants.{Kind}
 use Rattle.cp_scope.specs.declared.types.ValueType.{ValueType}
 use Rattle.cp_scope.specs.declared.types.ValueType.TheVariants.{Component}
 use Rattle.cp_scope.specs.declared.count.Use.{Use}
-use Rattle.cp_scope.specs.declared.fault.CheckFault.{CheckFault}
 use Rattle.cp_scope.specs.declared.fault.CheckFault.TheVariants as check_fault
 use Rattle.cp_scope.specs.declared.fault.Rule.TheVariants.{C2, C13, C14}
-use Rattle.cp_scope.specs.Types.{is_open}
 use Rattle.cp_scope.specs.Judged.{Judged, ◌>>=◌, faults}
-use Rattle.cp_scope.specs.Scopes.{Names, Scope, new_scope, Scopes, find, is_among, is_declared, is_declared_in, through_seal, look_in, or_else, look_outer, look, with_name, with_pending, sealed, add, reserve, settle, enter, start}
+use Rattle.cp_scope.specs.Scopes.{Names, Scope, Scopes, find, is_among, is_declared, through_seal, look_in, or_else, look_outer, look, with_name, with_pending, sealed, add, reserve, settle, enter, start}
 use Rattle.cp_check.specs.declared.types.Spot.TheVariants as spot
 use Rattle.cp_check.specs.Names as names
 use Rattle.cp_check.specs.Types as typing
@@ -25,10 +23,10 @@ use Rattle.cp_check.specs.Declarations.{as_declared, to_kind, reserve_name, rese
 use Rattle.cp_check.specs.Systems as systems
 use Rattle.cp_check.specs.Faults.{faults_of}
 use Rattle.cp_meaning.specs.Names.{Name, same_name}
-use Rattle.cp_meaning.specs.Types.{Base, Range, Ty, ordinal, queue_type, set_over, array_over, record_with, component_of, all_integers}
+use Rattle.cp_meaning.specs.Types.{Base, Range, Ty, ordinal, queue_type, component_of, all_integers}
 use Rattle.cp_meaning.specs.Scopes as meant
 use Rattle.cp_meaning.specs.Scopes.{constant_meaning, type_meaning, permanent_variable, is_seen, seen_inside}
-use Rattle.cp_meaning.specs.Declarations.{type_meant, type_named, names_of, with_constants, simple_in, type_in, fields_in, group_in, constant_of, constants_in, named_variables, with_names, Block, variables_in, Parameter, parameters_named, Heading, with_group, with_groups}
+use Rattle.cp_meaning.specs.Declarations.{type_meant, type_named, names_of, with_constants, simple_in, type_in, fields_in, group_in, constants_in, with_names, Block, variables_in, Parameter, parameters_named, Heading, with_group, with_groups}
 use Rattle.cp_meaning.specs.Systems.{SystemMeaning, system_in, Declared, definition_in, definitions_in, program_part_in, program_parts_in, declared, own_meaning, or_own, system_of}
 use Rattle.cp_meaning.specs.WellFormed.{HasNoClass}
 use Rattle.cp_lawful.proofs.Kept.{Keeps, pending_names, constants_kept, variables_kept, definition_kept, name_reserved}

@@ -1,5 +1,5 @@
 -- What declarations leave as it was: the scopes around, and the names before them.
-use Rattle.std.proofs.Common.{◌≡◌, ℕ, ◌+◌, ◌∙◌, Bool, true, false, if◌then◌else◌, List, [], ◌∷◌, ◌++◌, Option, Some, None, Result, Ok, Err, is_some, pos, ap, sym, refl}
+use Rattle.std.proofs.Common.{◌≡◌, ℕ, ◌+◌, ◌∙◌, Bool, true, false, if◌then◌else◌, List, [], ◌∷◌, ◌++◌, Option, Some, None, Ok, Err, is_some, pos, ap, refl}
 use Rattle.std.specs.Str.{bytes_eq}
 use Rattle.cp_tree.specs.declared.constant.Identifier.{Identifier}
 use Rattle.cp_tree.specs.declared.declaration.SystemKind.{SystemKind}
@@ -13,11 +13,10 @@ use Rattle.cp_scope.specs.declared.types.ValueType.{ValueType}
 use Rattle.cp_scope.specs.declared.shape.ArrayShape.{ArrayShape}
 use Rattle.cp_scope.specs.declared.count.Use.{Use}
 use Rattle.cp_scope.specs.Judged.{Judged}
-use Rattle.cp_scope.specs.Scopes.{Names, Scope, Scopes, Shape, find, is_among, is_declared, with_name, with_pending, sealed, add, reserve, settle, enter, Around, around, last_of, leave, add_around, keep, withdraw}
+use Rattle.cp_scope.specs.Scopes.{Names, Scope, Scopes, Shape, find, is_among, is_declared, with_name, with_pending, sealed, add, reserve, settle, enter, Around, around, last_of, leave, add_around, keep}
 use Rattle.cp_check.specs.declared.types.Spot.{Spot}
 use Rattle.cp_check.specs.declared.types.Spot.TheVariants as spot
-use Rattle.cp_check.specs.Types.{Step, then_step, nothing, Typed, member, members, simple_typed, keep_array, keep_record, array_typed, set_typed, record_typed, typed, groups_typed, group_typed}
-use Rattle.cp_check.specs.Records.{Fields}
+use Rattle.cp_check.specs.Types.{Step, then_step, nothing, member, members, simple_typed, keep_array, keep_record, typed, groups_typed, group_typed}
 use Rattle.cp_check.specs.Declarations.{reserve_name, reserve_names, add_names, add_all, add_one, constant_step, constant_steps, type_step, type_steps, variable_step, variable_steps, part_step, part_steps}
 use Rattle.cp_check.specs.Headings as headings
 use Rattle.cp_check.specs.Routines as routines
@@ -217,14 +216,14 @@ unfolding headings.written
 written_kept s (procedure gs) = parameters_kept s gs
 written_kept s (function gs i) = routine_groups_kept s gs
 
-pub group_kept' : (k : SystemKind) (s : Scopes) (g : Group) → Keeps s (systems.group_step k s g).scopes
+pub system_group_kept : (k : SystemKind) (s : Scopes) (g : Group) → Keeps s (systems.group_step k s g).scopes
 unfolding systems.group_step
-group_kept' k s g = after s (reserve_names s g.names).scopes _ (names_reserved s g.names) (all_added _ g.names _)
+system_group_kept k s g = after s (reserve_names s g.names).scopes _ (names_reserved s g.names) (all_added _ g.names _)
 
-pub groups_kept' : (k : SystemKind) (s : Scopes) (gs : List Group) → Keeps s (systems.group_steps k s gs).scopes
+pub system_groups_kept : (k : SystemKind) (s : Scopes) (gs : List Group) → Keeps s (systems.group_steps k s gs).scopes
 unfolding systems.group_steps
-groups_kept' k s [] = same s
-groups_kept' k s (g ∷ gs) = after s (systems.group_step k s g).scopes _ (group_kept' k s g) (groups_kept' k (systems.group_step k s g).scopes gs)
+system_groups_kept k s [] = same s
+system_groups_kept k s (g ∷ gs) = after s (systems.group_step k s g).scopes _ (system_group_kept k s g) (system_groups_kept k (systems.group_step k s g).scopes gs)
 
 -- ---- out of the innermost scope
 
@@ -268,7 +267,7 @@ routines_outer k s (r ∷ rs) = routines_outer k (routines.routine_step k s r).s
 
 pub inside_outer : (s : Scopes) (y : System) → (systems.inside s y).scopes.outer ≡ s.outer
 unfolding systems.inside
-inside_outer s y = routines_outer (Some y.kind) _ y.routines ∙ (parts_kept (spot.Permanent (Some y.kind)) _ y.parts).outer ∙ (groups_kept' y.kind s y.parameters).outer
+inside_outer s y = routines_outer (Some y.kind) _ y.routines ∙ (parts_kept (spot.Permanent (Some y.kind)) _ y.parts).outer ∙ (system_groups_kept y.kind s y.parameters).outer
 
 pub system_kept : (s : Scopes) (y : System) → Keeps s (systems.system_typed s y).scopes
 unfolding systems.system_typed systems.opened systems.closed enter leave keep

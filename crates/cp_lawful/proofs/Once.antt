@@ -1,9 +1,9 @@
 -- What breaks no rule declares each variable of a system type once.
-use Rattle.std.proofs.Common.{◌≡◌, ℕ, zero, suc, slice_get, ◌∙◌, ◌⊎◌, inl, inr, Bool, true, false, ◌||◌, if◌then◌else◌, List, [], ◌∷◌, ◌++◌, map, Option, Some, None, Result, Ok, Err, is_some, ap, sym, refl, subst, rules}
+use Rattle.std.proofs.Common.{◌≡◌, ℕ, zero, suc, slice_get, ◌∙◌, ◌⊎◌, inl, inr, Bool, true, false, ◌||◌, if◌then◌else◌, List, [], ◌∷◌, ◌++◌, Option, Some, None, Ok, Err, is_some, ap, sym, refl, subst}
 use Rattle.std.specs.Str.{bytes_eq}
 use Rattle.std.proofs.lemmas.Slice.Eq.{bytes_eq-Decides}
 use Rattle.cp_tree.specs.declared.constant.Identifier.{Identifier}
-use Rattle.cp_tree.specs.Syntax.{VariableGroup, Part, constants, types, variables, System, Definition, type_definition, system_definition, SystemDefinition, ProgramPart, program_constants, program_types, program_variables, Program, Tree}
+use Rattle.cp_tree.specs.Syntax.{VariableGroup, Part, constants, types, variables, System, Definition, type_definition, system_definition, SystemDefinition, ProgramPart, program_constants, program_types, program_variables, Tree}
 use Rattle.cp_scope.specs.declared.fault.CheckFault.{CheckFault}
 use Rattle.cp_scope.specs.declared.fault.CheckFault.TheVariants as check_fault
 use Rattle.cp_scope.specs.declared.fault.Rule.TheVariants.{C2}
@@ -13,7 +13,7 @@ use Rattle.cp_scope.specs.Judged.{Judged, faults, ◌>>=◌}
 use Rattle.cp_scope.specs.Scopes.{Names, Scope, Scopes, find, is_among, is_declared, is_declared_in, with_name, with_pending, add, reserve, settle, enter, start}
 use Rattle.cp_check.specs.declared.types.Spot.{Spot}
 use Rattle.cp_check.specs.declared.types.Spot.TheVariants as spot
-use Rattle.cp_check.specs.Types.{Step, then_step, nothing, Typed, typed}
+use Rattle.cp_check.specs.Types.{then_step, nothing, typed}
 use Rattle.cp_check.specs.Declarations.{reserve_name, reserve_names, add_names, add_all, as_declared, to_kind, to_variable, variable_step, variable_steps, part_step, part_steps}
 use Rattle.cp_check.specs.Headings.{after_faults}
 use Rattle.cp_check.specs.Systems as systems
@@ -26,7 +26,7 @@ use Rattle.cp_meaning.specs.Scopes as meant
 use Rattle.cp_meaning.specs.Declarations.{Variable, Block, names_of, with_names, type_in, named_variables, variables_in, part_in, parts_in}
 use Rattle.cp_meaning.specs.Systems.{SystemMeaning, system_in, Declared, definition_in, definitions_in, program_part_in, program_parts_in, declared, own_meaning, or_own}
 use Rattle.cp_lawful.proofs.Paths.{IsNamed, AreDistinct, HasDistinct}
-use Rattle.cp_lawful.proofs.Kept.{Keeps, same, after, find_before, pending_names, settled, names_added, names_reserved, type_kept, variable_kept, constants_kept, types_kept, part_kept, definition_kept}
+use Rattle.cp_lawful.proofs.Kept.{Keeps, names_added, variable_kept, constants_kept, types_kept, definition_kept}
 
 -- ---- lists of faults
 

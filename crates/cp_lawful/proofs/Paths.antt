@@ -1,8 +1,8 @@
 -- No two components have one path, and what a component contains is of an earlier type.
-use Rattle.std.proofs.Common.{◌≡◌, ℕ, zero, suc, ◌+◌, ◌<◌, ◌≤◌, ◌∙◌, ◌⊎◌, inl, inr, List, [], ◌∷◌, ◌++◌, map, length, Option, Some, None, ap, sym, refl, subst, arith}
+use Rattle.std.proofs.Common.{◌≡◌, ℕ, zero, suc, ◌<◌, ◌≤◌, ◌∙◌, ◌⊎◌, inl, inr, List, [], ◌∷◌, ◌++◌, map, length, Option, Some, None, ap, sym, refl, subst, arith}
 use Rattle.cp_tree.specs.Syntax.{Program}
 use Rattle.cp_meaning.specs.Names.{Name}
-use Rattle.cp_meaning.specs.Types.{Range, Ty, ordinal, queue_type, set_over, array_over, record_with, component_of, length_of_range}
+use Rattle.cp_meaning.specs.Types.{Ty, ordinal, queue_type, set_over, array_over, record_with, component_of, length_of_range}
 use Rattle.cp_meaning.specs.Declarations.{Variable}
 use Rattle.cp_meaning.specs.Systems.{system_of, program_system}
 use Rattle.cp_meaning.specs.Components.{PathStep, Path, Listed, step_down, listed_elements, listed_variable, listed_variables, listed, components_of}

@@ -1,5 +1,5 @@
 -- Declarations that break no rule leave no name that stands for nothing.
-use Rattle.std.proofs.Common.{◌≡◌, ℕ, ◌+◌, ◌∙◌, Bool, true, false, if◌then◌else◌, List, [], ◌∷◌, ◌++◌, Option, Some, None, Result, Ok, Err, is_some, pos, length, ap, sym, refl, subst}
+use Rattle.std.proofs.Common.{◌≡◌, ℕ, ◌+◌, ◌∙◌, Bool, true, false, if◌then◌else◌, List, [], ◌∷◌, ◌++◌, Option, Some, None, Ok, Err, is_some, pos, ap, sym, refl, subst}
 use Rattle.std.specs.Str.{bytes_eq}
 use Rattle.cp_tree.specs.declared.constant.Identifier.{Identifier}
 use Rattle.cp_tree.specs.declared.declaration.SystemKind.{SystemKind}
@@ -19,7 +19,7 @@ use Rattle.cp_scope.specs.declared.count.Use.{Use}
 use Rattle.cp_scope.specs.Types.{is_open}
 use Rattle.cp_scope.specs.Counts.{no_use, times}
 use Rattle.cp_scope.specs.Judged.{Judged, both, ◌>>=◌, faults}
-use Rattle.cp_scope.specs.Scopes.{Names, Scope, new_scope, Scopes, Shape, record_shape, find, is_declared, through_seal, look_in, or_else, look_outer, look, with_name, with_pending, sealed, add, reserve, settle, enter, Around, last_of, leave, add_around, keep, no_names, cells_of, count_of, start}
+use Rattle.cp_scope.specs.Scopes.{Names, Scope, new_scope, Scopes, Shape, record_shape, find, is_declared, through_seal, look_in, or_else, look_outer, look, with_name, sealed, add, reserve, settle, enter, Around, around, last_of, leave, add_around, keep, cells_of, count_of, start}
 use Rattle.cp_check.specs.declared.constant.Number.{Number}
 use Rattle.cp_check.specs.declared.types.Spot.{Spot}
 use Rattle.cp_check.specs.declared.types.Spot.TheVariants as spot
@@ -250,7 +250,6 @@ array_kept_told s at (Err fs) h = h
 
 array_typed_told : (p : Spot) (at : ℕ) (i : Judged ValueType) (e : Typed) → Loud i → Told e.scopes → Loud e.type → Told (typing.array_typed p at i e).scopes × Loud (typing.array_typed p at i e).type
 array_typed_told p at i e loud told element =
-    let shape : Judged ArrayShape = both i e.type >>= typing.arrayed e.scopes p at in
     let heard_shape : Loud (both i e.type >>= typing.arrayed e.scopes p at) = loud_then (both i e.type) (typing.arrayed e.scopes p at) (loud_both i e.type loud element) (arrayed_loud e.scopes p at) in
     (array_kept_told e.scopes at (both i e.type >>= typing.arrayed e.scopes p at) told, loud_then (both i e.type >>= typing.arrayed e.scopes p at) (typing.to_array at) heard_shape (λ a. tt))
 
@@ -304,7 +303,6 @@ constant_told : (s : Scopes) (d : ConstantDefinition) → (constant_step s d).fa
 unfolding constant_step
 constant_told s d e h =
     let named = name_reserved_told s d.name h in
-    let after : Scopes = (reserve_name s d.name).scopes in
     one_told d.name (constant (reserve_name s d.name).scopes d.value >>= to_constant) (reserve_name s d.name).scopes named
     (loud_then (constant (reserve_name s d.name).scopes d.value) to_constant (constant_loud (reserve_name s d.name).scopes d.value (heard (reserve_name s d.name).scopes named)) (λ n. tt))
     (no_right (reserve_name s d.name).faults (faults (constant (reserve_name s d.name).scopes d.value >>= to_constant)) e)
@@ -425,7 +423,7 @@ enter_told : (b : Bool) (s : Scopes) → Told s → Told (enter b s)
 unfolding enter
 enter_told b s h = (tt, all_append s.outer (sealed b s.inner ∷ []) h.1 (h.0, tt))
 
-around_told : (c : Scope) (cs : List Scope) → NamesTold c.names → AllTold cs → AllTold (Rattle.cp_scope.specs.Scopes.around c cs).outer × NamesTold (Rattle.cp_scope.specs.Scopes.around c cs).inner.names
+around_told : (c : Scope) (cs : List Scope) → NamesTold c.names → AllTold cs → AllTold (around c cs).outer × NamesTold (around c cs).inner.names
 around_told c [] h g = (tt, h)
 around_told c (d ∷ cs) h g = let rest = around_told d cs g.0 g.1 in ((h, rest.0), rest.1)
 
@@ -478,7 +476,6 @@ body_loud k r d h = after_loud d.faults (statements d.scopes (routines.routine_c
 headed_told : (k : Option SystemKind) (r : Routine) (h : headings.Headed) → (routines.headed_step k r h).faults ≡ [] → Loud h.result → (faults h.result ≡ [] → Told h.scopes) → Told (routines.headed_step k r h).scopes
 unfolding routines.opened
 headed_told k r h e loud told =
-    let a : Scopes = headings.announced_of r h.result h.scopes in
     let none : faults h.result ≡ [] = no_left (faults h.result) (faults (routines.opened_step k r (part_steps spot.Other (headings.announced_of r h.result h.scopes) r.parts)).uses) e in
     let quiet : faults (routines.opened_step k r (part_steps spot.Other (headings.announced_of r h.result h.scopes) r.parts)).uses ≡ [] = no_right (faults h.result) (faults (routines.opened_step k r (part_steps spot.Other (headings.announced_of r h.result h.scopes) r.parts)).uses) e in
     let before : Told (headings.announced_of r h.result h.scopes) = announced_told r h.result h.scopes loud none (told none) in
@@ -538,8 +535,6 @@ system_groups_told o s (g ∷ gs) e h = system_groups_told o (systems.group_step
 inside_told : (s : Scopes) (y : System) → (systems.inside s y).faults ≡ [] → Told s → Told (systems.inside s y).scopes
 unfolding systems.inside
 inside_told s y e h =
-    let a : Scopes = (systems.group_steps y.kind s y.parameters).scopes in
-    let b : Scopes = (part_steps (spot.Permanent (Some y.kind)) (systems.group_steps y.kind s y.parameters).scopes y.parts).scopes in
     let later = no_right (systems.group_steps y.kind s y.parameters).faults _ e in
     routines_told (Some y.kind) (part_steps (spot.Permanent (Some y.kind)) (systems.group_steps y.kind s y.parameters).scopes y.parts).scopes y.routines
     (no_right (part_steps (spot.Permanent (Some y.kind)) (systems.group_steps y.kind s y.parameters).scopes y.parts).faults _ later)

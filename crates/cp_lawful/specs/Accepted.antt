@@ -1,9 +1,11 @@
 -- Accepted programs, and what holds of each of them.
-use Rattle.std.specs.Prelude.{◌≡◌, ℕ, ◌<◌, length, []}
+use Rattle.std.specs.Prelude.{◌≡◌, ℕ, ◌<◌, true, [], length, Some}
+use Rattle.cp_tree.specs.declared.declaration.SystemKind.TheVariants as system_kind
 use Rattle.cp_tree.specs.Syntax.{Tree}
 use Rattle.cp_check.specs.Faults.{faults_of}
-use Rattle.cp_meaning.specs.State.{Gates, State}
+use Rattle.cp_meaning.specs.State.{Gates, component_at, process_at, State, is_inside}
 use Rattle.cp_meaning.specs.Steps.{IsReached}
+use Rattle.cp_meaning.specs.Readings.{holder_of}
 use Rattle.cp_meaning.specs.Exclusive.{IsExclusive}
 use Rattle.cp_meaning.specs.OwnershipLaw.{Ownership}
 use Rattle.cp_meaning.specs.WellFormed.{IsWellFormed}
@@ -19,6 +21,12 @@ WellFormedLaw = (t : Tree) → IsAccepted t → IsWellFormed t.program
 -- in every reached state, whatever ready process steps, at most one process is inside a monitor or initialises it
 abbrev pub ExclusiveLaw : Type 0
 ExclusiveLaw = (t : Tree) → IsAccepted t → (g : Gates) (s : State) → IsReached t.program g s → IsExclusive s
+
+-- whoever is inside a monitor is its holder
+abbrev pub HolderLaw : Type 0
+HolderLaw =
+    (t : Tree) → IsAccepted t → (g : Gates) (s : State) → IsReached t.program g s → (m q : ℕ) → (component_at s.components m).kind ≡ system_kind.Monitor →
+    q < length s.processes → is_inside m (process_at s.processes q) ≡ true → holder_of s m ≡ Some q
 
 -- in every step each changed variable is one that the process holds
 abbrev pub OwnershipLaw : Type 0

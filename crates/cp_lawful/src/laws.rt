@@ -1,6 +1,6 @@
 //! Laws over the definitions alone, of every program that the checker accepts.
 
-ghost use Rattle.cp_lawful.specs.Accepted.{ExclusiveLaw, OwnershipLaw, WellFormedLaw};
+ghost use Rattle.cp_lawful.specs.Accepted.{ExclusiveLaw, HolderLaw, OwnershipLaw, WellFormedLaw};
 
 /// An accepted program has what the laws of exclusion and ownership need.
 pub fn law_accepted_well_formed()
@@ -10,6 +10,11 @@ pub fn law_accepted_well_formed()
 /// In no reached state of an accepted program are two processes inside one monitor, or one inside that another one initialises.
 pub fn law_exclusive()
     ensures { ExclusiveLaw }
+{}
+
+/// Whoever is inside a monitor of an accepted program is its holder.
+pub fn law_holder()
+    ensures { HolderLaw }
 {}
 
 /// In every step of an accepted program each changed variable is one that the process holds before it.

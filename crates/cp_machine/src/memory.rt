@@ -42,7 +42,7 @@ pub fn value_of(state: &State, pid: u8, expression: &Expression) -> Result<i16, 
     ensures { result ≡ spec.value_of (machine_of state.now) pid expression.now }
 {
     let process = &state.processes[pid as usize];
-    evaluate(expression, &state.permanents, &process.room, process.frame)
+    evaluate(expression, &state.permanents, &process.room, &process.frame)
 }
 
 /// The value of a set expression.
@@ -51,7 +51,7 @@ pub fn set_of(state: &State, pid: u8, expression: &SetExpression) -> Result<SetV
     ensures { result ≡ spec.set_of (machine_of state.now) pid expression.now }
 {
     let process = &state.processes[pid as usize];
-    evaluate_set(expression, &state.permanents, &process.room, process.frame)
+    evaluate_set(expression, &state.permanents, &process.room, &process.frame)
 }
 
 /// The address of a place.
@@ -60,7 +60,7 @@ pub fn address_of(state: &State, pid: u8, place: &Place) -> Result<Address, Erro
     ensures { result ≡ spec.address_of (machine_of state.now) pid place.now }
 {
     let process = &state.processes[pid as usize];
-    address(place, &state.permanents, &process.room, process.frame)
+    address(place, &state.permanents, &process.room, &process.frame)
 }
 
 /// Where a variable lies.
@@ -69,7 +69,7 @@ pub fn origin_of(state: &State, pid: u8, variable: Origin) -> Address
     ensures { result ≡ spec.origin_of (machine_of state.now) pid variable }
 {
     let process = &state.processes[pid as usize];
-    begun(variable, &process.room, process.frame)
+    begun(variable, &process.room, &process.frame)
 }
 
 /// The number of a component.

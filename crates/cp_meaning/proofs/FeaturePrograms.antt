@@ -7,7 +7,7 @@ use Rattle.cp_tree.specs.declared.expression.Addition.TheVariants.{Plus, Minus, 
 use Rattle.cp_tree.specs.declared.expression.Multiplication.TheVariants.{Times, Mod, And}
 use Rattle.cp_tree.specs.declared.statement.Direction.TheVariants as direction
 use Rattle.cp_tree.specs.declared.declaration.SystemKind.TheVariants as system_kind
-use Rattle.cp_tree.specs.Syntax.{alone, related, sum, no_terms, more_terms, term, no_factors, more_factors, number, character, named, group, negated, set_of, no_expressions, more_expressions, designator, no_selectors, more_selectors, field, index, empty, assign, invoke, while_do, repeat_until, for_do, init, no_statements, more_statements, type_name, enumeration, subrange, simple, array_of, set_type, record_of, no_fields, more_fields, fields, constants, variables, procedure, function, type_definition, system_definition, program_constants, program_types, program_variables, Program}
+use Rattle.cp_tree.specs.Syntax.{arm, no_arms, more_arms, case_of, cycle, alone, related, sum, no_terms, more_terms, term, no_factors, more_factors, number, character, named, group, negated, set_of, no_expressions, more_expressions, designator, no_selectors, more_selectors, field, index, empty, assign, invoke, while_do, repeat_until, for_do, init, no_statements, more_statements, type_name, enumeration, subrange, simple, array_of, set_type, record_of, no_fields, more_fields, fields, constants, variables, procedure, function, type_definition, system_definition, program_constants, program_types, program_variables, Program}
 use Rattle.cp_meaning.proofs.Written.{named_at, just}
 
 -- function f: integer; begin for f := 1 to 3 do end; begin display(f) end.
@@ -69,3 +69,13 @@ truth_values =
 abbrev pub arithmetic : Program
 arithmetic =
     record { parts = ([]); routines = ([]); body = (record { at = 0; statements = (more_statements (invoke 1 (designator (named_at 1 (codes "display")) no_selectors) (more_expressions (alone 3 (sum 3 None (term 3 (number 3 7) (more_factors Mod (group 5 (alone 6 (sum 6 (Some sign.Minus) (term 7 (number 7 2) no_factors) no_terms))) no_factors)) no_terms)) no_expressions)) (more_statements (invoke 11 (designator (named_at 11 (codes "display")) no_selectors) (more_expressions (alone 13 (sum 13 None (term 13 (group 13 (alone 14 (sum 14 (Some sign.Minus) (term 15 (number 15 7) no_factors) no_terms))) (more_factors Mod (number 18 2) no_factors)) no_terms)) no_expressions)) (more_statements (invoke 21 (designator (named_at 21 (codes "display")) no_selectors) (more_expressions (alone 23 (sum 23 None (term 23 (number 23 2) (more_factors Times (number 25 3) no_factors)) (more_terms Minus (term 27 (number 27 4) (more_factors Times (number 29 5) no_factors)) no_terms))) no_expressions)) (more_statements (invoke 32 (designator (named_at 32 (codes "display")) no_selectors) (more_expressions (just 34 (named 34 (designator (named_at 34 (codes "abs")) no_selectors) (more_expressions (alone 36 (sum 36 (Some sign.Minus) (term 37 (number 37 5) no_factors) no_terms)) no_expressions))) no_expressions)) no_statements)))) }); period = 41 }
+
+-- var n: integer; begin cycle n := n + 1; case n of 1, 2: display(n) end end end.
+abbrev pub cycle_until_no_case : Program
+cycle_until_no_case =
+    record { parts = ((program_variables 0 ((record { names = ((named_at 1 (codes "n")) ∷ []); variable_type = (simple 3 (type_name 3 (codes "integer"))) }) ∷ [])) ∷ []); routines = ([]); body = (record { at = 5; statements = (more_statements (cycle 6 (more_statements (assign 7 (designator (named_at 7 (codes "n")) no_selectors) (alone 9 (sum 9 None (term 9 (named 9 (designator (named_at 9 (codes "n")) no_selectors) no_expressions) no_factors) (more_terms Plus (term 11 (number 11 1) no_factors) no_terms)))) (more_statements (case_of 13 (just 14 (named 14 (designator (named_at 14 (codes "n")) no_selectors) no_expressions)) (more_arms (arm ((record { at = 16; kind = constant_kind.Number None 1 }) ∷ (record { at = 18; kind = constant_kind.Number None 2 }) ∷ []) (invoke 20 (designator (named_at 20 (codes "display")) no_selectors) (more_expressions (just 22 (named 22 (designator (named_at 22 (codes "n")) no_selectors) no_expressions)) no_expressions))) no_arms) false) no_statements))) no_statements) }); period = 27 }
+
+-- type m = monitor; var q: queue; procedure entry go(var b: boolean); begin b := empty(q) end; begin end; var x: m; b: boolean; begin init x; x.go(b); display(b) end.
+abbrev pub empty_queue : Program
+empty_queue =
+    record { parts = ((program_types 0 ((record { name = (named_at 1 (codes "m")); value = (system_definition (record { at = 3; kind = system_kind.Monitor; parameters = ([]); has_semicolon = true; parts = ((variables 5 ((record { names = ((named_at 6 (codes "q")) ∷ []); variable_type = (simple 8 (type_name 8 (codes "queue"))) }) ∷ [])) ∷ []); routines = ((record { at = 10; is_entry = true; name = (named_at 12 (codes "go")); kind = (procedure ((record { at = 14; is_var = true; group = (record { names = ((named_at 15 (codes "b")) ∷ []); type_name = (named_at 17 (codes "boolean")) }) }) ∷ [])); parts = ([]); body = (record { at = 20; statements = (more_statements (assign 21 (designator (named_at 21 (codes "b")) no_selectors) (just 23 (named 23 (designator (named_at 23 (codes "empty")) no_selectors) (more_expressions (just 25 (named 25 (designator (named_at 25 (codes "q")) no_selectors) no_expressions)) no_expressions)))) no_statements) }) }) ∷ []); body = (record { at = 29; statements = (more_statements (empty 30) no_statements) }) })) }) ∷ [])) ∷ (program_variables 32 ((record { names = ((named_at 33 (codes "x")) ∷ []); variable_type = (simple 35 (type_name 35 (codes "m"))) }) ∷ (record { names = ((named_at 37 (codes "b")) ∷ []); variable_type = (simple 39 (type_name 39 (codes "boolean"))) }) ∷ [])) ∷ []); routines = ([]); body = (record { at = 41; statements = (more_statements (init 42 ((record { target = (designator (named_at 43 (codes "x")) no_selectors); arguments = no_expressions }) ∷ [])) (more_statements (invoke 45 (designator (named_at 45 (codes "x")) (more_selectors (field (named_at 47 (codes "go"))) no_selectors)) (more_expressions (just 49 (named 49 (designator (named_at 49 (codes "b")) no_selectors) no_expressions)) no_expressions)) (more_statements (invoke 52 (designator (named_at 52 (codes "display")) no_selectors) (more_expressions (just 54 (named 54 (designator (named_at 54 (codes "b")) no_selectors) no_expressions)) no_expressions)) no_statements))) }); period = 57 }

@@ -1,8 +1,9 @@
 -- Features of the language, by computing.
 use Rattle.std.specs.Prelude.{◌≡◌, [], ◌∷◌, refl, pos, negsuc}
-use Rattle.cp_meaning.specs.Kernel.{ended_event}
+use Rattle.cp_meaning.specs.Outcome.{no_case}
+use Rattle.cp_meaning.specs.Kernel.{ended_event, fault_event}
 use Rattle.cp_meaning.proofs.Following.{ending}
-use Rattle.cp_meaning.proofs.FeaturePrograms.{own_name_in_for, whole_subrange, type_named_again, constant_hides, reference_passed_on, sets_in_records, classes_in_monitor, array_of_chars, call_at_each_test, call_at_each_until, truth_values, arithmetic}
+use Rattle.cp_meaning.proofs.FeaturePrograms.{own_name_in_for, whole_subrange, type_named_again, constant_hides, reference_passed_on, sets_in_records, classes_in_monitor, array_of_chars, call_at_each_test, call_at_each_until, truth_values, arithmetic, cycle_until_no_case, empty_queue}
 
 -- function f: integer; begin for f := 1 to 3 do end; begin display(f) end.
 pub own_name_in_for-ends : ending own_name_in_for ≡ (ended_event, pos 3 ∷ [])
@@ -51,3 +52,11 @@ truth_values-ends = refl
 -- begin display(7 mod (-2)); display((-7) mod 2); display(2 * 3 - 4 * 5); display(abs(-5)) end.
 pub arithmetic-ends : ending arithmetic ≡ (ended_event, pos 1 ∷ negsuc 0 ∷ negsuc 13 ∷ pos 5 ∷ [])
 arithmetic-ends = refl
+
+-- var n: integer; begin cycle n := n + 1; case n of 1, 2: display(n) end end end.
+pub cycle_until_no_case-ends : ending cycle_until_no_case ≡ (fault_event no_case, pos 1 ∷ pos 2 ∷ [])
+cycle_until_no_case-ends = refl
+
+-- type m = monitor; var q: queue; procedure entry go(var b: boolean); begin b := empty(q) end; begin end; var x: m; b: boolean; begin init x; x.go(b); display(b) end.
+pub empty_queue-ends : ending empty_queue ≡ (ended_event, pos 1 ∷ [])
+empty_queue-ends = refl

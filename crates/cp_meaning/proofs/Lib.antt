@@ -8,7 +8,7 @@ mod Following
 mod Frames
 mod Good
 mod Held
-mod Holder
+pub mod Holder
 mod KernelLaw
 mod LineLaw
 mod LinedPrograms

@@ -140,6 +140,32 @@ pub admits_third-goes :
     )
 admits_third-goes = refl
 
+-- the same, where process 2 is admitted
+pub admits_second-goes :
+    traced admits_third (1 ∷ []) (opening admits_third any_gates) (goes 0 ∷ goes 0 ∷ goes 0 ∷ goes 0 ∷ goes 1 ∷ goes 2 ∷ goes 3 ∷ goes 1 ∷ goes 1 ∷ goes_in 2 ∷ goes 2 ∷ goes 2 ∷ goes 3 ∷ goes 3 ∷ goes 1 ∷ goes 2 ∷ goes 3 ∷ []) ≡ (
+      (
+          (start_event, ([] ∷ [])) ∷
+          (start_event, ([] ∷ [])) ∷
+          (start_event, ([] ∷ [])) ∷
+          (ended_event, ([] ∷ [])) ∷
+          (enter_event, ((1 ∷ []) ∷ [])) ∷
+          (enter_event, ((1 ∷ []) ∷ [])) ∷
+          (enter_event, ((1 ∷ []) ∷ [])) ∷
+          (display_event, ((1 ∷ []) ∷ [])) ∷
+          (continue_event, ([] ∷ [])) ∷
+          (local_event, ((2 ∷ []) ∷ [])) ∷
+          (display_event, ((2 ∷ []) ∷ [])) ∷
+          (continue_event, ((3 ∷ []) ∷ [])) ∷
+          (display_event, ((3 ∷ []) ∷ [])) ∷
+          (continue_event, ([] ∷ [])) ∷
+          (ended_event, ([] ∷ [])) ∷
+          (ended_event, ([] ∷ [])) ∷
+          (ended_event, ([] ∷ [])) ∷
+          []),
+      pos 1 ∷ pos 2 ∷ pos 3 ∷ [],
+    )
+admits_second-goes = refl
+
 -- type k = class; begin display(1) end; p = process(n: integer); begin end; var x: k; a: p; function f: integer; begin display(2) end; begin init x, a(f) end.
 pub start_order-goes :
     traced start_order ([]) (opening start_order first_gates) (goes 0 ∷ goes 0 ∷ goes 0 ∷ goes 0 ∷ goes 1 ∷ []) ≡ (

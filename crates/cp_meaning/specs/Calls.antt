@@ -1,4 +1,4 @@
--- Calls and starts: what is bound, and what is done then (the book, chapter 9).
+-- Calls and starts: what is bound, and what is done then (the book, chapter 8; the order of errors is this profile's).
 use Rattle.std.specs.Prelude.{ℕ, ◌==◌, Bool, true, false, if◌then◌else◌, List, [], ◌∷◌, ◌++◌, length, Option, Some, None, Ok, Err, pos, slice_set}
 use Rattle.cp_tree.specs.declared.declaration.SystemKind.{SystemKind}
 use Rattle.cp_tree.specs.declared.declaration.SystemKind.TheVariants as system_kind
@@ -19,6 +19,7 @@ use Rattle.cp_meaning.specs.Move.{Doing, Move, stays, enters, starts}
 
 -- ---- arguments, from left to right
 
+-- a `var` parameter has the place that was found
 abbrev pub refers_to : Outcome Target → Outcome Content
 refers_to target = target >>= λ t. Ok (refers t.place)
 
@@ -26,13 +27,16 @@ refers_to target = target >>= λ t. Ok (refers t.place)
 abbrev pub of_system : View → ℕ → ℕ → ℕ
 of_system v k n = if (component_at v.components n).system == k then n else length v.components
 
+-- a component parameter has the component that stands at the place
 abbrev pub knows_of : View → ℕ → Outcome Target → Outcome Content
 knows_of v k target = target >>= λ t. Ok (knows (of_system v k (component_there v t.place)))
 
+-- what a name alone is bound as; another argument, which no accepted program gives there, as 0
 abbrev pub bound_variable : View → (Outcome Target → Outcome Content) → Option Designator → Outcome Content
 bound_variable v bind (Some d) = bind (target_value v d)
 bound_variable v bind None = Ok (holds (number_value (pos 0)))
 
+-- a copied value is checked against the range of the parameter
 abbrev pub bound_value : View → Ty → Expression → Outcome Content
 bound_value v (component_of k) e = bound_variable v (knows_of v k) (variable_in e)
 bound_value v t e = value v e >>= λ x. checked t x.value >>= λ w. Ok (holds w)
@@ -41,6 +45,7 @@ bound_value v t e = value v e >>= λ x. checked t x.value >>= λ w. Ok (holds w)
 abbrev pub bound_argument : View → Parameter → Expression → Outcome Content
 bound_argument v q e = if q.is_var then bound_variable v refers_to (variable_in e) else bound_value v q.ty e
 
+-- the parameters with their arguments, the first error from left to right
 abbrev pub bound : View → List Parameter → Expressions → Outcome Environment
 bound v (q ∷ qs) (more_expressions e es) = bound_argument v q e >>= λ c. bound v qs es >>= λ rest. Ok ((q.name, c) ∷ rest)
 bound v qs es = Ok []
@@ -50,6 +55,7 @@ abbrev pub least_of : List Variable → Environment
 least_of [] = []
 least_of (x ∷ xs) = if has_components x.ty then least_of xs else (x.name, holds (least x.ty)) ∷ least_of xs
 
+-- a function's result before anything was assigned to it
 abbrev pub least_result : Option Ty → Environment
 least_result None = []
 least_result (Some t) = (result_name, holds (least t)) ∷ []
@@ -95,6 +101,7 @@ entered v d r o es items =
     then Ok (entered_as (component_at v.components d).kind v d r o items e)
     else Err not_init
 
+-- the arguments of a routine of the own component are bound at once; else the place of the component comes first
 abbrev pub called_as : View → Option Meaning → Designator → Option RoutineMeaning → Option Name → Expressions → List Item → Outcome Doing
 called_as v m d None o es items = Ok (nothing v items)
 called_as v (Some (routine_meaning q)) d (Some r) o es items = bound v r.parameters es >>= λ e. Ok (opened v (this_component v) local_routine r o items e)
@@ -106,6 +113,7 @@ called v d es o items = called_as v (meaning_here v d) d (routine_called v.progr
 
 -- ---- the start of a component
 
+-- the component with this status and environment
 abbrev pub with_status : List Component → ℕ → ComponentStatus → Environment → List Component
 with_status cs n s e =
     let c = component_at cs n in
@@ -121,6 +129,7 @@ initial v d s items e =
       move = stays;
     }
 
+-- `init` of a component that is not uninitialised is the run error init-twice, looked at last
 abbrev pub initialised_in : View → ℕ → SystemMeaning → List Item → Environment → Outcome Doing
 initialised_in v d s items e =
     if is_uninitialised (component_at v.components d).status
@@ -133,9 +142,11 @@ started_as system_kind.Class v d s items e = initialised_in v d s items e
 started_as system_kind.Monitor v d s items e = initialised_in v d s items e
 started_as system_kind.Process v d s items e = Ok (with_move (nothing v items) (starts d e))
 
+-- the arguments are bound first
 abbrev pub started_at : View → ℕ → SystemMeaning → Expressions → List Item → Outcome Doing
 started_at v d s es items = bound v s.parameters es >>= λ e. started_as (component_at v.components d).kind v d s items e
 
+-- the place of the component comes first
 abbrev pub started : View → Start → List Item → Outcome Doing
 started v t items =
     target_value v t.target >>= λ u.

@@ -11,6 +11,7 @@ pub record PathStep : Type 0 where
   pub name : Name
   pub element : Option ℕ
 
+-- the steps from the program down to a component; that of the program itself is empty
 abbrev pub Path : Type 0
 Path = List PathStep
 
@@ -19,6 +20,7 @@ pub record Listed : Type 0 where
   pub path : Path
   pub system : ℕ
 
+-- the path of a variable, or of an element of one, of the component above
 abbrev pub step_down : Path → Name → Option ℕ → Path
 step_down above x o = above ++ (let s : PathStep = record { name = x; element = o } in s) ∷ []
 
@@ -27,11 +29,13 @@ abbrev pub listed_elements : (Path → List Listed) → Path → Name → (count
 listed_elements inner above x zero n = []
 listed_elements inner above x (suc count) n = inner (step_down above x (Some n)) ++ listed_elements inner above x count (suc n)
 
+-- the components of one variable: one, one for each index, or none
 abbrev pub listed_variable : (ℕ → Path → List Listed) → Path → Name → Ty → List Listed
 listed_variable inner above x (component_of k) = inner k (step_down above x None)
 listed_variable inner above x (array_over r (component_of k)) = listed_elements (inner k) above x (length_of_range r) 0
 listed_variable inner above x t = []
 
+-- the components of variables, in the order of their declarations
 abbrev pub listed_variables : (ℕ → Path → List Listed) → Path → List Variable → List Listed
 listed_variables inner above [] = []
 listed_variables inner above (v ∷ vs) = listed_variable inner above v.name v.ty ++ listed_variables inner above vs
@@ -53,6 +57,7 @@ same_element None None = true
 same_element (Some n) (Some m) = n == m
 same_element o q = false
 
+-- two paths are one
 abbrev pub same_path : Path → Path → Bool
 same_path [] [] = true
 same_path (a ∷ as') (b ∷ bs) = same_name a.name b.name && same_element a.element b.element && same_path as' bs

@@ -1,4 +1,4 @@
--- What declarations declare. Each is read in the scope that stands before it, and adds to it.
+-- What declarations declare (the book, chapter 8). Each is read in the scope that stands before it, and adds to it.
 use Rattle.std.specs.Prelude.{ℕ, suc, ◌-◌, ℤ, pos, neg_ℤ, Bool, false, List, [], ◌∷◌, ◌++◌, map, length, Option, Some, None}
 use Rattle.cp_tree.specs.declared.constant.Identifier.{Identifier}
 use Rattle.cp_tree.specs.declared.constant.Sign.{Sign}
@@ -13,11 +13,13 @@ use Rattle.cp_meaning.specs.Scopes.{Meaning, constant_meaning, type_meaning, loc
 
 -- ---- constants: a base and a value
 
+-- a sign before a number
 abbrev pub signed : Option Sign → ℤ → ℤ
 signed (Some sign.Minus) z = neg_ℤ z
 signed (Some sign.Plus) z = z
 signed None z = z
 
+-- what a name stands for in the place of a constant
 abbrev pub constant_meant : Option Meaning → Base × ℤ
 constant_meant (Some (constant_meaning b z)) = (b, z)
 constant_meant o = (integers, pos 0)
@@ -27,11 +29,13 @@ constant_of_kind s (constant_kind.Number o n) = (integers, signed o (pos n))
 constant_of_kind s (constant_kind.Name o i) = ((constant_meant (find i.name s)).0, signed o (constant_meant (find i.name s)).1)
 constant_of_kind s (constant_kind.Character c) = (characters, pos c)
 
+-- the base and the value of a constant as it is written
 abbrev pub constant_of : Scope → Constant → Base × ℤ
 constant_of s c = constant_of_kind s c.kind
 
 -- ---- types, with the scope that their enumeration constants leave
 
+-- what a name stands for in the place of a type
 abbrev pub type_meant : Option Meaning → Ty
 type_meant (Some (type_meaning t)) = t
 type_meant o = ordinal all_integers
@@ -42,16 +46,19 @@ type_named s x = type_meant (find x s)
 abbrev pub names_of : List Identifier → List Name
 names_of is = map (λ i. i.name) is
 
+-- the constants of an enumeration, numbered from n on
 abbrev pub with_constants : Base → ℕ → List Name → Scope → Scope
 with_constants b n [] s = s
 with_constants b n (x ∷ xs) s = with_constants b (suc n) xs ((x, constant_meaning b (pos n)) ∷ s)
 
+-- names of types, enumerations and subranges
 abbrev pub simple_in : Scope → Simple → Ty × Scope
 simple_in s (type_name at x) = (type_named s x, s)
 simple_in s (enumeration at is) =
     (ordinal (record { base = enumerated at (names_of is); low = pos 0; high = pos (length is - 1) }), with_constants (enumerated at (names_of is)) 0 (names_of is) s)
 simple_in s (subrange at c d) = (ordinal (record { base = (constant_of s c).0; low = (constant_of s c).1; high = (constant_of s d).1 }), s)
 
+-- fields of one type before others
 abbrev pub more_of_type : List Identifier → Ty → FieldTypes → FieldTypes
 more_of_type [] t ts = ts
 more_of_type (i ∷ is) t ts = more_field_types i.name t (more_of_type is t ts)
@@ -82,6 +89,7 @@ abbrev mutual
 
 -- ---- parts
 
+-- a declared variable
 pub record Variable : Type 0 where
   pub name : Name
   pub ty : Ty
@@ -91,10 +99,12 @@ pub record Block : Type 0 where
   pub variables : List Variable
   pub scope : Scope
 
+-- each constant is visible from the end of its declaration
 abbrev pub constants_in : Scope → List ConstantDefinition → Scope
 constants_in s [] = s
 constants_in s (d ∷ ds) = constants_in ((d.name.name, constant_meaning (constant_of s d.value).0 (constant_of s d.value).1) ∷ s) ds
 
+-- each type is visible from the end of its definition
 abbrev pub types_in : Scope → List TypeDefinition → Scope
 types_in s [] = s
 types_in s (d ∷ ds) =
@@ -104,6 +114,7 @@ types_in s (d ∷ ds) =
 abbrev pub named_variables : List Name → Ty → List Variable
 named_variables xs t = map (λ x. (let v : Variable = record { name = x; ty = t } in v)) xs
 
+-- names of one declaration
 abbrev pub with_names : List Name → Meaning → Scope → Scope
 with_names [] m s = s
 with_names (x ∷ xs) m s = with_names xs m ((x, m) ∷ s)
@@ -115,22 +126,26 @@ variables_in m b (g ∷ gs) =
     let inner = type_in b.scope g.variable_type in
     variables_in m (record { variables = b.variables ++ named_variables (names_of g.names) inner.0; scope = with_names (names_of g.names) (m inner.0) inner.1 }) gs
 
+-- a `const`, `type` or `var` part
 abbrev pub part_in : (Ty → Meaning) → Block → Part → Block
 part_in m b (constants at ds) = record { variables = b.variables; scope = constants_in b.scope ds }
 part_in m b (types at ds) = record { variables = b.variables; scope = types_in b.scope ds }
 part_in m b (variables at gs) = variables_in m b gs
 
+-- parts in the order in which they are written
 abbrev pub parts_in : (Ty → Meaning) → Block → List Part → Block
 parts_in m b [] = b
 parts_in m b (p ∷ ps) = parts_in m (part_in m b p) ps
 
 -- ---- parameters
 
+-- a parameter of a routine or of a system type
 pub record Parameter : Type 0 where
   pub name : Name
   pub ty : Ty
   pub is_var : Bool
 
+-- the parameters in order, and the scope behind them
 pub record Heading : Type 0 where
   pub parameters : List Parameter
   pub scope : Scope
@@ -138,6 +153,7 @@ pub record Heading : Type 0 where
 abbrev pub parameters_named : List Name → Ty → Bool → List Parameter
 parameters_named xs t b = map (λ x. (let q : Parameter = record { name = x; ty = t; is_var = b } in q)) xs
 
+-- a group of parameters of one type
 abbrev pub with_group : (Ty → Meaning) → Bool → Heading → Group → Heading
 with_group m b h g =
     let t = type_named h.scope g.type_name.name in
@@ -161,10 +177,12 @@ pub record RoutineMeaning : Type 0 where
   pub scope : Scope
   pub body : Statements
 
+-- the parameters of a procedure or function
 abbrev pub heading_of : Scope → RoutineKind → Heading
 heading_of s (procedure gs) = with_parameter_groups (record { parameters = []; scope = s }) gs
 heading_of s (function gs i) = with_groups local_variable (record { parameters = []; scope = s }) gs
 
+-- a function's result type
 abbrev pub result_of : Scope → RoutineKind → Option Ty
 result_of s (procedure gs) = None
 result_of s (function gs i) = Some (type_named s i.name)

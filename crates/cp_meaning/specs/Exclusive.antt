@@ -6,9 +6,11 @@ use Rattle.cp_meaning.specs.State.{component_at, Process, process_at, Gates, Sta
 use Rattle.cp_meaning.specs.Steps.{IsReached}
 use Rattle.cp_meaning.specs.WellFormed.{IsWellFormed}
 
+-- inside, or in the initial statement of the monitor
 abbrev pub occupies : ℕ → Process → Bool
 occupies m p = is_inside m p || initialises m p
 
+-- for each monitor at most one process occupies it
 abbrev pub IsExclusive : State → Type 0
 IsExclusive s =
     (m q k : ℕ) → m < length s.components → (component_at s.components m).kind ≡ system_kind.Monitor →

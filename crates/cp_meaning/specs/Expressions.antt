@@ -1,4 +1,4 @@
--- The value of an expression whose calls are done: the value, or the first run error from left to right.
+-- The value of an expression whose calls are done (the book, chapter 8): the value, or the first run error from left to right.
 use Rattle.std.specs.Prelude.{ℕ, ℤ, pos, ◌+ℤ◌, neg_ℤ, Bool, true, false, if◌then◌else◌, List, [], Option, Some, None, Ok, Err}
 use Rattle.cp_tree.specs.Syntax.{Expression, alone, related, Sum, sum, Terms, no_terms, more_terms, Term, term, Factors, no_factors, more_factors, Factor, number, character, named, group, negated, set_of, Expressions, no_expressions, more_expressions, Designator, designator, Selectors, no_selectors, more_selectors, Selector, field, index, Program}
 use Rattle.cp_meaning.specs.Names.{Name, temporary}
@@ -59,6 +59,7 @@ with_index t a = with_element_of t.ty t (number_of a.value)
 
 -- ---- names in expressions
 
+-- the value of a name: a constant, or what stands at the place
 abbrev pub named_value : View → ℕ → Designator → Bool → Option Meaning → Outcome Target → Outcome Typed → Outcome Typed
 named_value v at d true m target argument = Ok (call_value v at d)
 named_value v at d false (Some (constant_meaning b z)) target argument = Ok (record { ty = ordinal (range_of_base b); value = number_value z })

@@ -1,4 +1,4 @@
--- Kernel rules: one case for each kernel call, and for the other events (the book, chapter 8).
+-- Kernel rules: one case for each kernel call, and for the other events (the book, chapters 8 and 9; the gates are this profile's).
 use Rattle.std.specs.Prelude.{ℕ, suc, ◌==◌, Bool, true, false, ◌||◌, if◌then◌else◌, List, [], ◌∷◌, ◌++◌, length, Option, Some, None, slice_set}
 use Rattle.cp_tree.specs.Syntax.{Program}
 use Rattle.cp_meaning.specs.Outcome.{ErrorName, init_twice}
@@ -8,6 +8,7 @@ use Rattle.cp_meaning.specs.Lifting.{items_of_all}
 use Rattle.cp_meaning.specs.Places.{with_permanents}
 use Rattle.cp_meaning.specs.Move.{Move, stays, enters, leaves, delays, continues, starts, shows, ends, Doing}
 
+-- what a step was: local, one of the six kernel calls, the end of the process, a run error, or a full output
 pub data Event : Type 0 where
   local_event : Event
   enter_event : Event
@@ -20,6 +21,7 @@ pub data Event : Type 0 where
   fault_event : ErrorName → Event
   output_full : Event
 
+-- the state after a step, and its event
 pub record Stepped : Type 0 where
   pub state : State
   pub event : Event
@@ -31,7 +33,7 @@ output_room = 1000
 -- ---- parts of a state
 
 abbrev pub with_processes : State → List Process → State
-with_processes s ps = record { processes = ps; components = s.components; output = s.output; gates = s.gates; pending = s.pending }
+with_processes s ps = record s { processes = ps }
 
 abbrev pub with_line : List Component → ℕ → List ℕ → List Component
 with_line cs m line =
@@ -39,27 +41,26 @@ with_line cs m line =
     slice_set cs m (record { path = c.path; system = c.system; kind = c.kind; status = c.status; environment = c.environment; line = line })
 
 abbrev pub with_line_of : State → ℕ → List ℕ → State
-with_line_of s m line = record { processes = s.processes; components = with_line s.components m line; output = s.output; gates = s.gates; pending = s.pending }
+with_line_of s m line = record s { components = with_line s.components m line }
 
+-- a monitor is pending, or none
 abbrev pub with_pending : State → Option ℕ → State
-with_pending s o = record { processes = s.processes; components = s.components; output = s.output; gates = s.gates; pending = o }
+with_pending s o = record s { pending = o }
 
+-- who waits at the gate of the monitor, first come first
 abbrev pub line_of : State → ℕ → List ℕ
 line_of s m = (component_at s.components m).line
 
 -- the process is as its item left it, with this status
 abbrev pub moved_to : Status → State → ℕ → Doing → State
 moved_to status s pid d =
-    record {
+    record s {
       processes = slice_set s.processes pid (record { component = (process_at s.processes pid).component; status = status; calls = d.calls; items = d.items });
       components = d.components;
-      output = s.output;
-      gates = s.gates;
-      pending = s.pending;
     }
 
 abbrev pub with_process_status : Process → Status → Process
-with_process_status p status = record { component = p.component; status = status; calls = p.calls; items = p.items }
+with_process_status p status = record p { status = status }
 
 -- q goes on
 abbrev pub made_ready : State → ℕ → State
@@ -78,12 +79,14 @@ one_in [] s m = s
 one_in (q ∷ []) s m = with_line_of (made_ready s q) m []
 one_in (q ∷ r ∷ line) s m = with_pending s (Some m)
 
+-- the line is let in, by the gates with which the state was started
 abbrev pub let_in : Gates → State → ℕ → State
 let_in first_gates s m = first_in (line_of s m) s m
 let_in any_gates s m = one_in (line_of s m) s m
 
 -- ---- kernel calls
 
+-- whether an entry call of the monitor has to wait
 abbrev pub is_anybody_inside : ℕ → List Process → Bool
 is_anybody_inside m [] = false
 is_anybody_inside m (p ∷ ps) = is_inside m p || is_anybody_inside m ps
@@ -107,6 +110,7 @@ abbrev pub after : Option ℕ → Option ℕ
 after None = None
 after (Some q) = Some (suc q)
 
+-- the number of the process whose component this is
 abbrev pub process_of : ℕ → List Process → Option ℕ
 process_of d [] = None
 process_of d (p ∷ ps) = if p.component == d then Some 0 else after (process_of d ps)
@@ -121,14 +125,12 @@ begun d m =
       items = items_of_all m.scope m.body ++ end ∷ [];
     }
 
+-- the started process, with its parameters bound
 abbrev pub with_begun : Program → State → ℕ → ℕ → Environment → State
 with_begun p s r d e =
-    record {
+    record s {
       processes = slice_set s.processes r (begun d (system_of p (component_at s.components d).system));
       components = with_permanents s.components d (e ++ (component_at s.components d).environment);
-      output = s.output;
-      gates = s.gates;
-      pending = s.pending;
     }
 
 -- start of a process that is unstarted
@@ -136,6 +138,7 @@ abbrev pub starting_as : Program → State → ℕ → Doing → ℕ → Status 
 starting_as p s pid d r unstarted c e = record { state = with_begun p (moved_to ready s pid d) r c e; event = start_event }
 starting_as p s pid d r status c e = record { state = s; event = fault_event init_twice }
 
+-- start of a process: its parameters are bound and it is ready; the caller goes on
 abbrev pub starting : Program → State → ℕ → Doing → Option ℕ → ℕ → Environment → Stepped
 starting p s pid d None c e = record { state = moved_to ready s pid d; event = start_event }
 starting p s pid d (Some r) c e = starting_as p s pid d r (process_at (moved_to ready s pid d).processes r).status c e
@@ -145,8 +148,9 @@ abbrev pub displaying : Bool → State → ℕ → Doing → Shown → Stepped
 displaying true s pid d x = record { state = s; event = output_full }
 displaying false s pid d x =
     let t = moved_to ready s pid d in
-    record { state = record { processes = t.processes; components = t.components; output = t.output ++ x ∷ []; gates = t.gates; pending = t.pending }; event = display_event }
+    record { state = record t { output = t.output ++ x ∷ [] }; event = display_event }
 
+-- one case for each kernel call; a local step changes nothing beside what its item did
 abbrev pub settles : Program → State → ℕ → Doing → Move → Stepped
 settles p s pid d stays = record { state = moved_to ready s pid d; event = local_event }
 settles p s pid d (enters m) = record { state = entering (is_anybody_inside m s.processes) s pid m d; event = enter_event }

@@ -1,4 +1,4 @@
--- Lifting: the function calls of a statement are items of their own before it, innermost first in reading order.
+-- Lifting (this profile's own): the function calls of a statement are items of their own before it, innermost first in reading order.
 -- Each goes into a temporary name, and in the statement the call then stands for that name.
 use Rattle.std.specs.Prelude.{ℕ, Bool, true, false, List, [], ◌∷◌, ◌++◌, Option, Some, None}
 use Rattle.cp_tree.specs.Syntax.{Expression, alone, related, Sum, sum, Terms, no_terms, more_terms, Term, term, Factors, no_factors, more_factors, Factor, number, character, named, group, negated, set_of, Expressions, no_expressions, more_expressions, Designator, designator, Selectors, no_selectors, more_selectors, Selector, field, index, Start, Statement, empty, assign, invoke, block, if_then, if_else, case_of, while_do, repeat_until, for_do, cycle, init, Statements, no_statements, more_statements}
@@ -69,6 +69,7 @@ abbrev mutual
   selector_calls s (field i) = []
   selector_calls s (index e) = expression_calls s e
 
+-- an `init` statement stands for its starts, each an item
 abbrev pub start_items : Scope → List Start → List Item
 start_items s [] = []
 start_items s (t ∷ ts) = designator_calls s t.target ++ expressions_calls s t.arguments ++ start_item t ∷ start_items s ts
@@ -88,6 +89,7 @@ items_of s (block at ts) = statement_item (block at ts) ∷ []
 items_of s (repeat_until at ts e) = statement_item (repeat_until at ts e) ∷ []
 items_of s (cycle at ts) = statement_item (cycle at ts) ∷ []
 
+-- the items of statements, one behind the other
 abbrev pub items_of_all : Scope → Statements → List Item
 items_of_all s no_statements = []
 items_of_all s (more_statements t ts) = items_of s t ++ items_of_all s ts

@@ -1,4 +1,4 @@
--- Local rules: one case for each row of the table of steps (the book, chapter 9).
+-- Local rules: one case for each row of the table of steps (the statements: the book, chapter 8; what one step is: this profile's own).
 use Rattle.std.specs.Prelude.{ℕ, ℤ, pos, negsuc, ◌+ℤ◌, int_lt, Bool, false, ◌||◌, if◌then◌else◌, List, [], ◌∷◌, ◌++◌, Option, Some, None, Ok, Err}
 use Rattle.cp_tree.specs.declared.constant.Identifier.{Identifier}
 use Rattle.cp_tree.specs.declared.constant.Constant.{Constant}
@@ -35,20 +35,24 @@ assigned v t w = checked t.ty w >>= λ x. Ok (stored v t.place x)
 
 -- ---- case: the arm that has the value as a label
 
+-- the value is one of the labels
 abbrev pub has_label : Scope → ℤ → List Constant → Bool
 has_label s z [] = false
 has_label s z (c ∷ cs) = same_integer z (constant_of s c).1 || has_label s z cs
 
+-- the first arm that has the value as a label; none: run error no-case
 abbrev pub arm_for : Scope → ℤ → Arms → Outcome Statement
 arm_for s z no_arms = Err no_case
 arm_for s z (more_arms (arm cs t) as') = if has_label s z cs then Ok t else arm_for s z as'
 
 -- ---- for: whether a is beyond b, and the next value
 
+-- the value has passed the last one
 abbrev pub is_beyond : Direction → ℤ → ℤ → Bool
 is_beyond To a b = int_lt b a
 is_beyond Downto a b = int_lt a b
 
+-- the next value of a `for`
 abbrev pub next_value : Direction → ℤ → ℤ
 next_value To z = z +ℤ pos 1
 next_value Downto z = z +ℤ negsuc 0
@@ -61,6 +65,7 @@ goes_on_with v at i z d b s items =
 
 -- ---- the standard procedures: `delay`, `continue` and `display`
 
+-- a queue holds at most one process: else run error queue-in-use
 abbrev pub queue_free : Option ℕ → Outcome (Option ℕ)
 queue_free None = Ok None
 queue_free (Some r) = Err queue_in_use
@@ -84,6 +89,7 @@ continued_from v entry_routine items q =
     record { calls = callers u.calls; items = after_return items; components = u.components; move = continues (this_component v) (waiting_in (value_at v q)) }
 continued_from v kind items q = nothing v items
 
+-- `display`: the value and its base go to the output
 abbrev pub shown : View → List Item → Typed → Doing
 shown v items x = with_move (nothing v items) (shows (record { base = (range_of x.ty).base; number = number_of x.value }))
 
@@ -95,6 +101,7 @@ abbrev pub argument_of : Expressions → Option Designator
 argument_of no_expressions = None
 argument_of (more_expressions e es) = variable_in e
 
+-- the standard procedures by their names; else a call
 abbrev pub invoked : View → ℕ → Option Meaning → Designator → Expressions → List Item → Outcome Doing
 invoked v pid (Some (standard_meaning delay_procedure)) d es items = in_place_of v (argument_of es) (delayed_in v pid items) items
 invoked v pid (Some (standard_meaning continue_procedure)) d es items = in_place_of v (argument_of es) (λ q. Ok (continued_from v (current v.calls).kind items q)) items
@@ -134,6 +141,7 @@ does v pid (init at ts) items = becomes v items
 
 -- ---- the ends of calls and of initial statements
 
+-- the innermost call is given up
 abbrev pub outer : View → View
 outer v = record { program = v.program; calls = callers v.calls; components = v.components }
 
@@ -142,6 +150,7 @@ abbrev pub with_result : View → Option Name → View
 with_result v None = outer v
 with_result v (Some x) = stored (outer v) (plain_place (this_call (outer v)) x) (value_at v (plain_place (this_call v) result_name))
 
+-- the return from an entry of a monitor is the kernel call leave
 abbrev pub leaving_move : SystemKind → ℕ → Move
 leaving_move system_kind.Monitor m = leaves m
 leaving_move system_kind.Class m = stays
@@ -151,6 +160,7 @@ leaving_move system_kind.Process m = stays
 abbrev pub return_move : List Component → Call → Move
 return_move cs c = if is_entry_kind c.kind then leaving_move (component_at cs c.component).kind c.component else stays
 
+-- the call is given up, and the kernel hears of it if it was an entry of a monitor
 abbrev pub returned : View → Option Name → List Item → Doing
 returned v o items = with_move (nothing (with_result v o) items) (return_move v.components (current v.calls))
 

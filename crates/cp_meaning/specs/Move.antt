@@ -2,6 +2,7 @@
 use Rattle.std.specs.Prelude.{ℕ, List, Option}
 use Rattle.cp_meaning.specs.State.{Environment, Component, Call, Item, Shown}
 
+-- what the kernel has to do for a step
 pub data Move : Type 0 where
   stays : Move
   -- to a monitor's gate; out of a monitor

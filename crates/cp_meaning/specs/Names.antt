@@ -4,6 +4,7 @@ use Rattle.std.specs.Prelude.{ℕ, Bool, List, [], ◌∷◌, bytes_eq}
 abbrev pub Name : Type 0
 Name = List ℕ
 
+-- two names are one
 abbrev pub same_name : Name → Name → Bool
 same_name = bytes_eq
 

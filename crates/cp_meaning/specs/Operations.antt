@@ -1,4 +1,4 @@
--- The operations on values: one case for each row of the language's table of operations.
+-- The operations on values (the book, chapter 8): one case for each row of the language's table of operations.
 use Rattle.std.specs.Prelude.{ℕ, ◌-◌, ℤ, pos, negsuc, ◌+ℤ◌, ◌*ℤ◌, neg_ℤ, int_le, int_lt, int_div, int_rem, Bool, true, false, ◌&&◌, ◌||◌, not, if◌then◌else◌, List, [], ◌∷◌, length, Option, Some, None, is_none, Ok, Err, bytes_eq}
 use Rattle.cp_tree.specs.declared.constant.Sign.{Sign}
 use Rattle.cp_tree.specs.declared.constant.Sign.TheVariants as sign
@@ -43,6 +43,7 @@ abbrev pub is_among : ℤ → List ℕ → Bool
 is_among (pos n) ns = is_member n ns
 is_among (negsuc n) ns = false
 
+-- relations of ordinals; those of sets are `=`, `<>` and `in` alone
 abbrev pub related_numbers : Relation → ℤ → ℤ → Bool
 related_numbers Equal a b = same_integer a b
 related_numbers NotEqual a b = not (same_integer a b)
@@ -65,6 +66,7 @@ related_values r a b = false
 
 -- ---- `+`, `-` and `or`; `*`, `div`, `mod` and `and`
 
+-- + and - of integers: outside -32768 to 32767 is the run error overflow
 abbrev pub added_numbers : Addition → ℤ → ℤ → Outcome Typed
 added_numbers Plus a b = fitting (a +ℤ b)
 added_numbers Minus a b = fitting (a +ℤ neg_ℤ b)
@@ -106,6 +108,7 @@ range_of_base (enumerated at xs) = record { base = enumerated at xs; low = pos 0
 abbrev pub in_base : Base → ℤ → Outcome Typed
 in_base b z = if is_within (range_of_base b) z then Ok (record { ty = ordinal (range_of_base b); value = number_value z }) else Err out_of_range
 
+-- succ, pred, chr, ord, abs and empty
 abbrev pub standard_value : Standard → Typed → Outcome Typed
 standard_value succ_function a = in_base (range_of a.ty).base (number_of a.value +ℤ pos 1)
 standard_value pred_function a = in_base (range_of a.ty).base (number_of a.value +ℤ negsuc 0)
@@ -126,5 +129,6 @@ fits (ordinal r) w = is_within r (number_of w)
 fits (set_over r) w = are_within r (members_of w)
 fits t w = true
 
+-- the value in the range of the type, or the run error range
 abbrev pub checked : Ty → Value → Outcome Value
 checked t w = if fits t w then Ok w else Err out_of_range

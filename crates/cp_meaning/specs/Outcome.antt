@@ -11,6 +11,7 @@ pub data ErrorName : Type 0 where
   not_init : ErrorName
   init_twice : ErrorName
 
+-- what is computed, or the first run error
 abbrev pub Outcome : Type 0 → Type 0
 Outcome A = Result A ErrorName
 

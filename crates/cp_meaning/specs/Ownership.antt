@@ -1,4 +1,4 @@
--- Who owns a component, and which variables a process holds.
+-- Who owns a component, and which variables a process holds (access rights: the book, chapter 8).
 use Rattle.std.specs.Prelude.{◌≡◌, ◌≢◌, ℕ, zero, suc, ◌<◌, ◌⊎◌, true, List, [], ◌∷◌, length, Some}
 use Rattle.cp_tree.specs.declared.declaration.SystemKind.{SystemKind}
 use Rattle.cp_tree.specs.declared.declaration.SystemKind.TheVariants as system_kind
@@ -18,6 +18,7 @@ abbrev pub owner_from : (depth : ℕ) → List Component → ℕ → ℕ
 owner_from zero cs n = n
 owner_from (suc depth) cs n = by_kind (component_at cs n).kind n (owner_from depth cs (component_with (around (component_at cs n).path) cs))
 
+-- the owner of component n
 abbrev pub owner_of : List Component → ℕ → ℕ
 owner_of cs n = owner_from (length (component_at cs n).path) cs n
 
@@ -29,6 +30,7 @@ HoldsComponent s p n =
     let o = owner_of s.components n in
     (o ≡ p.component) ⊎ (((component_at s.components o).kind ≡ system_kind.Monitor) × ((has_entry o p.calls ≡ true) ⊎ (initialises o p ≡ true)))
 
+-- a place in an own open call, or in a component whose variables the process holds
 abbrev pub HoldsPlace : State → Process → Holder → Type 0
 HoldsPlace s p (in_call below) = below < length p.calls
 HoldsPlace s p (in_component n) = HoldsComponent s p n
@@ -43,6 +45,7 @@ HoldsCalls s p (c ∷ cs) =
     ((x : Name) (q : Place) → content_of x c.environment ≡ Some (refers q) → HoldsPlace s p q.holder) ×
     HoldsCalls s p cs
 
+-- the same component, or one whose type is declared earlier
 abbrev pub below_or_same : List Component → ℕ → ℕ → Type 0
 below_or_same cs n outer = (n ≡ outer) ⊎ ((component_at cs n).system < (component_at cs outer).system)
 
@@ -52,11 +55,13 @@ CallsDescend cs n [] = Unit {0}
 CallsDescend cs n (c ∷ []) = below_or_same cs c.component n
 CallsDescend cs n (c ∷ d ∷ calls) = below_or_same cs c.component d.component × CallsDescend cs n (d ∷ calls)
 
+-- the process holds what it works on, and its open calls descend
 pub record IsLawfulProcess (s : State) (p : Process) : Type 0 where
   pub calls : HoldsCalls s p p.calls
   pub started : (m : ℕ) → initialises m p ≡ true → HoldsComponent s p m
   pub order : CallsDescend s.components p.component p.calls
 
+-- a state in which access rights are kept
 pub record IsLawful (s : State) : Type 0 where
   pub processes : (q : ℕ) → q < length s.processes → IsLawfulProcess s (process_at s.processes q)
   -- a class that a component has as a parameter has that component's owner

@@ -8,6 +8,7 @@ use Rattle.cp_meaning.specs.Steps.{opening, step_of, admitted, IsReached}
 use Rattle.cp_meaning.specs.Ownership.{IsLawful, ChangesHeld, OthersKept}
 use Rattle.cp_meaning.specs.WellFormed.{IsWellFormed}
 
+-- the opening state is lawful; each step and admission leads from a lawful state to a lawful one; a step changes only what is held
 pub record Ownership (p : Program) (g : Gates) : Type 0 where
   pub opening_lawful : IsLawful (opening p g)
   pub steps_lawful : (s : State) (pid : ℕ) → IsReached p g s → IsLawful s → s.pending ≡ None → pid < length s.processes → (process_at s.processes pid).status ≡ ready → IsLawful (step_of p s pid).state
@@ -15,5 +16,6 @@ pub record Ownership (p : Program) (g : Gates) : Type 0 where
   pub changes_held : (s : State) (pid : ℕ) → IsReached p g s → IsLawful s → s.pending ≡ None → pid < length s.processes → (process_at s.processes pid).status ≡ ready → ChangesHeld s (step_of p s pid).state pid
   pub others_kept : (s : State) (pid : ℕ) → IsReached p g s → IsLawful s → s.pending ≡ None → pid < length s.processes → (process_at s.processes pid).status ≡ ready → OthersKept s (step_of p s pid).state pid
 
+-- for every well-formed program, under both gates
 abbrev pub OwnershipLaw : Type 0
 OwnershipLaw = (p : Program) → IsWellFormed p → (g : Gates) → Ownership p g

@@ -22,6 +22,7 @@ pub record Target : Type 0 where
 
 -- ---- environments
 
+-- what the environment has for a name
 abbrev pub content_of : Name → Environment → Option Content
 content_of x [] = None
 content_of x (b ∷ bs) = if same_name x b.0 then Some b.1 else content_of x bs
@@ -48,6 +49,7 @@ with_permanents cs n e =
     let c = component_at cs n in
     slice_set cs n (record { path = c.path; system = c.system; kind = c.kind; status = c.status; environment = e; line = c.line })
 
+-- the names of an open call, or of a component
 abbrev pub environment_of : View → Holder → Environment
 environment_of v (in_call below) = (call_above v.calls below).environment
 environment_of v (in_component n) = (component_at v.components n).environment
@@ -61,6 +63,7 @@ with_environment_of v (in_component n) e = record { program = v.program; calls =
 abbrev pub this_call : View → Holder
 this_call v = in_call (length v.calls - 1)
 
+-- the component whose statement is executed
 abbrev pub this_component : View → ℕ
 this_component v = (current v.calls).component
 
@@ -83,9 +86,11 @@ target_meant v x (Some (local_variable t)) = record { place = referred (content_
 target_meant v x (Some (routine_meaning r)) = record { place = plain_place (this_call v) result_name; ty = result_type (routine_in (since x (current v.calls).scope) r).result }
 target_meant v x o = record { place = plain_place (this_call v) x; ty = ordinal all_integers }
 
+-- the place and type of a variable by its name
 abbrev pub target_named : View → Name → Target
 target_named v x = target_meant v x (find x (current v.calls).scope)
 
+-- a part of what stands at a place
 abbrev pub with_choice : Place → Choice → Place
 with_choice q c = record { holder = q.holder; name = q.name; choices = q.choices ++ c ∷ [] }
 
@@ -95,6 +100,7 @@ abbrev pub value_held : Option Content → Value
 value_held (Some (holds w)) = w
 value_held o = number_value (pos 0)
 
+-- the value that stands at a place
 abbrev pub value_at : View → Place → Value
 value_at v q = part_at (value_held (content_of q.name (environment_of v q.holder))) q.choices
 
@@ -129,5 +135,6 @@ abbrev pub component_by : View → Place → Holder → ℕ
 component_by v q (in_call below) = length v.components
 component_by v q (in_component n) = if n == this_component v then component_known v q (content_of q.name (component_at v.components n).environment) else length v.components
 
+-- the component that stands at a place
 abbrev pub component_there : View → Place → ℕ
 component_there v q = component_by v q q.holder

@@ -16,6 +16,7 @@ pub data Standard : Type 0 where
   continue_procedure : Standard
   display_procedure : Standard
 
+-- what a declared name stands for
 pub data Meaning : Type 0 where
   constant_meaning : Base → ℤ → Meaning
   type_meaning : Ty → Meaning
@@ -29,6 +30,7 @@ pub data Meaning : Type 0 where
 abbrev pub Scope : Type 0
 Scope = List (Name × Meaning)
 
+-- the latest declaration of the name
 abbrev pub find : Name → Scope → Option Meaning
 find x [] = None
 find x (d ∷ ds) = if same_name x d.0 then Some d.1 else find x ds
@@ -43,9 +45,11 @@ abbrev pub is_seen : Meaning → Bool
 is_seen (permanent_variable t) = false
 is_seen m = true
 
+-- the scope in which a system type begins
 abbrev pub seen_inside : Scope → Scope
 seen_inside s = filter (λ d. is_seen d.1) s
 
+-- the outermost scope
 abbrev pub predeclared : Scope
 predeclared =
     (codes "integer", type_meaning (ordinal all_integers)) ∷

@@ -1,4 +1,4 @@
--- The states of a program that runs.
+-- The states of a program that runs: its components and processes (the book, chapters 8 and 9).
 use Rattle.std.specs.Prelude.{ℕ, ◌==◌, ℤ, Bool, true, false, ◌&&◌, not, ◌||◌, List, [], ◌∷◌, Option, slice_index_or}
 use Rattle.cp_tree.specs.declared.constant.Identifier.{Identifier}
 use Rattle.cp_tree.specs.declared.statement.Direction.{Direction}
@@ -16,6 +16,7 @@ pub data Holder : Type 0 where
   in_call : ℕ → Holder
   in_component : ℕ → Holder
 
+-- a variable, or a part of one: who has it, its name, and the parts chosen from it
 pub record Place : Type 0 where
   pub holder : Holder
   pub name : Name
@@ -27,11 +28,13 @@ pub data Content : Type 0 where
   refers : Place → Content
   knows : ℕ → Content
 
+-- names with what they have
 abbrev pub Environment : Type 0
 Environment = List (Name × Content)
 
 -- ---- components
 
+-- what a class or monitor is before, in and after its initial statement
 pub data ComponentStatus : Type 0 where
   uninitialised : ComponentStatus
   initialising : ComponentStatus
@@ -105,6 +108,7 @@ pub record Shown : Type 0 where
   pub base : Base
   pub number : ℤ
 
+-- all that a step reads and changes; the monitor that is pending, if one is
 pub record State : Type 0 where
   pub processes : List Process
   pub components : List Component
@@ -115,12 +119,14 @@ pub record State : Type 0 where
 abbrev pub no_component : Component
 no_component = record { path = []; system = 0; kind = system_kind.Process; status = uninitialised; environment = []; line = [] }
 
+-- component n
 abbrev pub component_at : List Component → ℕ → Component
 component_at cs n = slice_index_or cs n no_component
 
 abbrev pub no_process : Process
 no_process = record { component = 0; status = unstarted; calls = []; items = [] }
 
+-- process pid
 abbrev pub process_at : List Process → ℕ → Process
 process_at ps pid = slice_index_or ps pid no_process
 
@@ -132,6 +138,7 @@ abbrev pub current : List Call → Call
 current [] = no_call
 current (c ∷ cs) = c
 
+-- the open calls around the innermost one
 abbrev pub callers : List Call → List Call
 callers [] = []
 callers (c ∷ cs) = cs
@@ -147,6 +154,7 @@ abbrev pub has_entry : ℕ → List Call → Bool
 has_entry m [] = false
 has_entry m (c ∷ cs) = (is_entry_kind c.kind && c.component == m) || has_entry m cs
 
+-- at the gate of the monitor, or delayed in it
 abbrev pub waits_at : ℕ → Status → Bool
 waits_at m (at_gate n) = n == m
 waits_at m (delayed n) = n == m
@@ -165,5 +173,6 @@ abbrev pub has_init_end : ℕ → List Item → Bool
 has_init_end m [] = false
 has_init_end m (i ∷ items) = is_end_of m i || has_init_end m items
 
+-- the process executes the initial statement of the component
 abbrev pub initialises : ℕ → Process → Bool
 initialises m p = has_init_end m p.items

@@ -1,4 +1,4 @@
--- Steps, admissions, and the states that are reached.
+-- Steps, admissions, and the states that are reached (this profile's own).
 use Rattle.std.specs.Prelude.{◌≡◌, ℕ, suc, ◌<◌, ◌==◌, true, if◌then◌else◌, List, [], ◌∷◌, map, length, Option, Some, None, Ok, Err, slice_index}
 use Rattle.cp_tree.specs.declared.declaration.SystemKind.{SystemKind}
 use Rattle.cp_tree.specs.declared.declaration.SystemKind.TheVariants as system_kind
@@ -16,6 +16,7 @@ use Rattle.cp_meaning.specs.Kernel.{fault_event, Stepped, with_line_of, with_pen
 
 -- ---- the opening state
 
+-- uninitialised, with least values and an empty line
 abbrev pub first_component : Program → Listed → Component
 first_component p l =
     record {
@@ -40,25 +41,26 @@ abbrev pub processes_from : ℕ → List Component → List Process
 processes_from n [] = []
 processes_from n (c ∷ cs) = process_first c.kind n (processes_from (suc n) cs)
 
-abbrev pub with_first : Program → List Component → List Process → Gates → State
-with_first p cs ps g = record { processes = ps; components = cs; output = []; gates = g; pending = None }
-
 -- the program itself runs from the start
 abbrev pub own_begun : Program → List Component → List Process → List Process
 own_begun p (c ∷ cs) (q ∷ ps) = begun 0 (system_of p c.system) ∷ ps
 own_begun p cs ps = ps
 
+-- the components before the first step
 abbrev pub first_components : Program → List Component
 first_components p = map (first_component p) (components_of p)
 
+-- the state in which a run begins: process 0 is ready, all others are unstarted
 abbrev pub opening : Program → Gates → State
-opening p g = with_first p (first_components p) (own_begun p (first_components p) (processes_from 0 (first_components p))) g
+opening p g = record { processes = own_begun p (first_components p) (processes_from 0 (first_components p)); components = first_components p; output = []; gates = g; pending = None }
 
 -- ---- one step
 
+-- what the step of a process reads
 abbrev pub view_of : Program → State → ℕ → View
 view_of p s pid = record { program = p; calls = (process_at s.processes pid).calls; components = s.components }
 
+-- after a run error the state is as it was
 abbrev pub settled : Program → State → ℕ → Outcome Doing → Stepped
 settled p s pid (Ok d) = settles p s pid d d.move
 settled p s pid (Err e) = record { state = s; event = fault_event e }
@@ -118,6 +120,7 @@ abbrev pub admitted_to : Option ℕ → State → ℕ → State
 admitted_to None s q = s
 admitted_to (Some m) s q = with_pending (with_line_of (made_ready s q) m (without q (line_of s m))) None
 
+-- the process goes in and is ready, and nothing is pending
 abbrev pub admitted : State → ℕ → State
 admitted s q = admitted_to s.pending s q
 

@@ -15,6 +15,7 @@ pub record SystemMeaning : Type 0 where
   pub scope : Scope
   pub body : Statements
 
+-- each routine's name is visible from its heading on
 abbrev pub with_routines : Scope → List Routine → Scope
 with_routines s [] = s
 with_routines s (r ∷ rs) = with_routines ((r.name.name, routine_meaning r) ∷ s) rs
@@ -32,6 +33,7 @@ pub record Declared : Type 0 where
   pub variables : List Variable
   pub scope : Scope
 
+-- a type, or a system type, which sees the constants and types before it
 abbrev pub definition_in : Declared → SystemDefinition → Definition → Declared
 definition_in d n (type_definition t) =
     let inner = type_in d.scope t in
@@ -50,6 +52,7 @@ definitions_in d (n ∷ ns) = definitions_in (definition_in d n n.value) ns
 abbrev pub with_block : List SystemMeaning → Block → Declared
 with_block ss b = record { systems = ss; variables = b.variables; scope = b.scope }
 
+-- a part of the program
 abbrev pub program_part_in : Declared → ProgramPart → Declared
 program_part_in d (program_constants at ds) = record { systems = d.systems; variables = d.variables; scope = constants_in d.scope ds }
 program_part_in d (program_types at ns) = definitions_in d ns
@@ -59,6 +62,7 @@ abbrev pub program_parts_in : Declared → List ProgramPart → Declared
 program_parts_in d [] = d
 program_parts_in d (p ∷ ps) = program_parts_in (program_part_in d p) ps
 
+-- all declarations of the program
 abbrev pub declared : Program → Declared
 declared p = program_parts_in (record { systems = []; variables = []; scope = predeclared }) p.parts
 
@@ -66,6 +70,7 @@ declared p = program_parts_in (record { systems = []; variables = []; scope = pr
 abbrev pub program_system : Program → ℕ
 program_system p = length (declared p).systems
 
+-- the program itself is a process type
 abbrev pub own_meaning : Declared → Program → SystemMeaning
 own_meaning d p = record { kind = system_kind.Process; parameters = []; variables = d.variables; scope = with_routines d.scope p.routines; body = p.body.statements }
 

@@ -1,4 +1,4 @@
--- Types: what a written type stands for (the book, chapter 9).
+-- Types: what a written type stands for (the book, chapter 8).
 use Rattle.std.specs.Prelude.{ℕ, ℤ, pos, negsuc, ◌+ℤ◌, neg_ℤ, int_le, Bool, true, false, ◌&&◌, if◌then◌else◌, List}
 use Rattle.cp_meaning.specs.Names.{Name, same_name}
 
@@ -17,6 +17,7 @@ pub record Range : Type 0 where
   pub high : ℤ
 
 mutual
+  -- what a written type stands for
   pub data Ty : Type 0 where
     ordinal : Range → Ty
     queue_type : Ty
@@ -41,6 +42,7 @@ all_booleans = record { base = booleans; low = pos 0; high = pos 1 }
 abbrev pub all_characters : Range
 all_characters = record { base = characters; low = pos 0; high = pos 127 }
 
+-- the value is in the range
 abbrev pub is_within : Range → ℤ → Bool
 is_within r z = int_le r.low z && int_le z r.high
 
@@ -49,6 +51,7 @@ abbrev pub natural_of : ℤ → ℕ
 natural_of (pos n) = n
 natural_of (negsuc n) = 0
 
+-- how many values a range has
 abbrev pub length_of_range : Range → ℕ
 length_of_range r = natural_of ((r.high +ℤ neg_ℤ r.low) +ℤ pos 1)
 
@@ -57,15 +60,12 @@ abbrev pub range_of : Ty → Range
 range_of (ordinal r) = r
 range_of t = all_integers
 
--- the type of an element, and of a field
-abbrev pub element_type : Ty → Ty
-element_type (array_over r t) = t
-element_type t = t
-
+-- the type of the field of that name
 abbrev pub field_type_in : FieldTypes → Name → Ty
 field_type_in no_field_types x = ordinal all_integers
 field_type_in (more_field_types y t ts) x = if same_name x y then t else field_type_in ts x
 
+-- the type of a field
 abbrev pub field_type : Ty → Name → Ty
 field_type (record_with ts) x = field_type_in ts x
 field_type t x = t

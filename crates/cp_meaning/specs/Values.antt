@@ -1,10 +1,11 @@
--- Values, and the parts of a value.
+-- Values, and the parts of a value (the book, chapter 8; the least values are this profile's).
 use Rattle.std.specs.Prelude.{ℕ, zero, suc, ℤ, pos, negsuc, int_lt, Bool, false, ◌==◌, ◌&&◌, ◌||◌, not, if◌then◌else◌, List, [], ◌∷◌, filter, Option, None}
 use Rattle.cp_meaning.specs.Names.{Name, same_name}
 use Rattle.cp_meaning.specs.Types.{Range, Ty, ordinal, queue_type, set_over, array_over, record_with, component_of, FieldTypes, no_field_types, more_field_types, length_of_range}
 
 -- A queue has the process that waits in it, if one does. A set has its members, each once and in rising order.
 mutual
+  -- a number, an array, a record, a set of numbers 0 to 127, or a queue with at most one process
   pub data Value : Type 0 where
     number_value : ℤ → Value
     array_value : Values → Value
@@ -22,10 +23,12 @@ mutual
 
 -- ---- least values: that of the type integer is 0, that of a queue is empty
 
+-- equal values, as the elements of an array at first
 abbrev pub copies : ℕ → Value → Values
 copies zero v = no_values
 copies (suc n) v = more_values v (copies n v)
 
+-- the lower bound; that of all integers counts as 0
 abbrev pub least_number : Range → ℤ
 least_number r = if int_lt r.low (negsuc 32766) then pos 0 else r.low
 
@@ -58,11 +61,13 @@ abbrev pub field_at : FieldValues → Name → Value
 field_at no_field_values x = number_value (pos 0)
 field_at (more_field_values y v vs) x = if same_name x y then v else field_at vs x
 
+-- one part of a value
 abbrev pub part_of : Value → Choice → Value
 part_of (array_value vs) (the_element n) = element_at vs n
 part_of (record_value vs) (the_field x) = field_at vs x
 part_of v c = v
 
+-- a part of a part, as the choices go on
 abbrev pub part_at : Value → List Choice → Value
 part_at v [] = v
 part_at v (c ∷ cs) = part_at (part_of v c) cs
@@ -92,14 +97,17 @@ abbrev pub number_of : Value → ℤ
 number_of (number_value z) = z
 number_of v = pos 0
 
+-- the members of a set
 abbrev pub members_of : Value → List ℕ
 members_of (set_value ns) = ns
 members_of v = []
 
+-- the process that waits in a queue
 abbrev pub waiting_in : Value → Option ℕ
 waiting_in (queue_value o) = o
 waiting_in v = None
 
+-- whether a number is among others
 abbrev pub is_member : ℕ → List ℕ → Bool
 is_member n [] = false
 is_member n (m ∷ ms) = n == m || is_member n ms

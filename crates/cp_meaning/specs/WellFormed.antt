@@ -19,6 +19,7 @@ abbrev pub HasEarlier : ℕ → List Parameter → Type 0
 HasEarlier k [] = Unit {0}
 HasEarlier k (q ∷ qs) = ((j : ℕ) → q.ty ≡ component_of j → j < k) × HasEarlier k qs
 
+-- each fact is named with the rule of the checker that carries it
 pub record IsWellFormed (p : Program) : Type 0 where
   -- no two components have one path, since no name is declared twice in a scope (C2)
   pub paths : (n m : ℕ) → n < length (first_components p) → m < length (first_components p) → (component_at (first_components p) n).path ≡ (component_at (first_components p) m).path → n ≡ m

@@ -37,19 +37,19 @@ pub fn evaluate_argument(
 {
     match value {
         ArgumentValue::Scalar { value, low, high } => {
-            let value = evaluate(value, permanents, room, frame)?;
+            let value = evaluate(value, permanents, room, &frame)?;
             Ok(Bound::Scalar(ranged(value, *low, *high)?))
         }
         ArgumentValue::Set { value, low, high } => {
-            let value = evaluate_set(value, permanents, room, frame)?;
+            let value = evaluate_set(value, permanents, room, &frame)?;
             Ok(Bound::Set(set::ranged(value, *low, *high)?))
         }
         ArgumentValue::Copy { source, size } => {
-            let source = address(source, permanents, room, frame)?;
+            let source = address(source, permanents, room, &frame)?;
             Ok(Bound::Copy(source, *size))
         }
         ArgumentValue::Reference(place) => {
-            let at = address(place, permanents, room, frame)?;
+            let at = address(place, permanents, room, &frame)?;
             Ok(Bound::Reference(at))
         }
         ArgumentValue::Component(component) => {

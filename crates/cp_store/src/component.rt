@@ -29,7 +29,7 @@ pub fn component_of(
             stride,
             index,
         } => {
-            let index = evaluate(index, permanents, room, frame)?;
+            let index = evaluate(index, permanents, room, &frame)?;
             let further = distance(index, *low, *high, *stride)?;
             let first = frame.component.saturating_add(*first);
             Ok(first.saturating_add(further))

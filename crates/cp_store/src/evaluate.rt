@@ -24,8 +24,8 @@ fn referred(room: &Room, number: usize) -> Address
 }
 
 /// Where a variable begins.
-pub fn begun(origin: Origin, room: &Room, frame: Frame) -> Address
-    ensures { result ≡ spec.begun room.now.references.items frame origin }
+pub fn begun(origin: Origin, room: &Room, frame: &Frame) -> Address
+    ensures { result ≡ spec.begun room.now.references.items frame.now origin }
 {
     match origin {
         Origin::Permanent(slot) => Address::Permanent(frame.own.saturating_add(slot)),
@@ -49,9 +49,9 @@ pub fn address(
     place: &Place,
     permanents: &[i16],
     room: &Room,
-    frame: Frame,
+    frame: &Frame,
 ) -> Result<Address, ErrorName>
-    ensures { result ≡ spec.address_at (memory_of permanents.now room.now) frame place.now }
+    ensures { result ≡ spec.address_at (memory_of permanents.now room.now) frame.now place.now }
 {
     let start = begun(place.origin, room, frame).moved(place.offset);
     indexed(start, &place.indices, permanents, room, frame)
@@ -64,9 +64,9 @@ fn indexed(
     indices: &[Index],
     permanents: &[i16],
     room: &Room,
-    frame: Frame,
+    frame: &Frame,
 ) -> Result<Address, ErrorName>
-    ensures { result ≡ spec.indexed_at (memory_of permanents.now room.now) frame start indices.now }
+    ensures { result ≡ spec.indexed_at (memory_of permanents.now room.now) frame.now start indices.now }
 {
     let mut at = start;
     for index in indices {
@@ -82,9 +82,9 @@ pub fn evaluate(
     expression: &Expression,
     permanents: &[i16],
     room: &Room,
-    frame: Frame,
+    frame: &Frame,
 ) -> Result<i16, ErrorName>
-    ensures { result ≡ spec.value_at (memory_of permanents.now room.now) frame expression.now }
+    ensures { result ≡ spec.value_at (memory_of permanents.now room.now) frame.now expression.now }
 {
     match expression {
         Expression::Number(value) => Ok(*value),
@@ -138,8 +138,8 @@ pub fn evaluate(
 
 // The value of the cell at a place.
 #[cycle(evaluate)]
-fn loaded(place: &Place, permanents: &[i16], room: &Room, frame: Frame) -> Result<i16, ErrorName>
-    ensures { result ≡ spec.loaded (memory_of permanents.now room.now) (spec.address_at (memory_of permanents.now room.now) frame place.now) }
+fn loaded(place: &Place, permanents: &[i16], room: &Room, frame: &Frame) -> Result<i16, ErrorName>
+    ensures { result ≡ spec.loaded (memory_of permanents.now room.now) (spec.address_at (memory_of permanents.now room.now) frame.now place.now) }
 {
     let at = address(place, permanents, room, frame)?;
     Ok(cell(permanents, room, at))
@@ -151,9 +151,9 @@ pub fn evaluate_set(
     expression: &SetExpression,
     permanents: &[i16],
     room: &Room,
-    frame: Frame,
+    frame: &Frame,
 ) -> Result<SetValue, ErrorName>
-    ensures { result ≡ spec.set_at (memory_of permanents.now room.now) frame expression.now }
+    ensures { result ≡ spec.set_at (memory_of permanents.now room.now) frame.now expression.now }
 {
     match expression {
         SetExpression::Load(place) => {

@@ -117,7 +117,7 @@ fn set_operations(rt: HostRuntime) -> Result<(), Fail> {
         let element = number(&rt, member)?;
         let test = Expression::Member(element, combined(&rt, operation)?);
         assert_eq!(rt;
-            evaluate(&test, &cells, &room, FRAME),
+            evaluate(&test, &cells, &room, &FRAME),
             Ok(expected),
             "{member}"
         );
@@ -126,7 +126,7 @@ fn set_operations(rt: HostRuntime) -> Result<(), Fail> {
         let whole = constructed(&rt, &[1, 3, 4, 5, 127])?;
         let test = Expression::SameSet(wanted, combined(&rt, SetOperation::Union)?, whole);
         assert_eq!(rt;
-            evaluate(&test, &cells, &room, FRAME),
+            evaluate(&test, &cells, &room, &FRAME),
             Ok(expected),
             "{wanted}"
         );
@@ -151,7 +151,7 @@ fn integers(rt: HostRuntime) -> Result<(), Fail> {
     ] {
         let left = number(&rt, left)?;
         let whole = Expression::Arithmetic(operator, left, number(&rt, right)?);
-        assert_eq!(rt; evaluate(&whole, &[], &room, FRAME), expected);
+        assert_eq!(rt; evaluate(&whole, &[], &room, &FRAME), expected);
     }
     Ok(())
 }
@@ -182,7 +182,7 @@ fn addresses(rt: HostRuntime) -> Result<(), Fail> {
         (0, Err(ErrorName::Range)),
     ] {
         let place = row(&rt, index)?;
-        assert_eq!(rt; address(&place, &[], &room, FRAME), expected, "{index}");
+        assert_eq!(rt; address(&place, &[], &room, &FRAME), expected, "{index}");
     }
     Ok(())
 }
@@ -210,7 +210,7 @@ fn references(rt: HostRuntime) -> Result<(), Fail> {
     open_frame(&mut room, &[0, 0], 1);
     bind_frame(&mut cells, &mut room, FRAME, &arguments, &bounds);
     let parameter = Expression::Load(variable(&rt, Origin::Reference(0)));
-    assert_eq!(rt; evaluate(&parameter, &cells, &room, FRAME), Ok(7));
+    assert_eq!(rt; evaluate(&parameter, &cells, &room, &FRAME), Ok(7));
     close_frame(&mut room, 0, 0);
     assert_eq!(rt; room.cells.len(), 0);
     Ok(())
