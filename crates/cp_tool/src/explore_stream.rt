@@ -1,5 +1,5 @@
 //! From the bytes of a source to the bytes of an answer.
-ghost use Rattle.std.specs.Prelude.{◌≡◌, ◌+◌, ◌≤◌, length, IfOk, option_map};
+ghost use Rattle.std.specs.Prelude.{◌≡◌, ◌+◌, ◌<◌, ◌≤◌, length, max, min, IfOk, option_map};
 ghost use Rattle.cp_tool.specs.Answered as spec;
 ghost use Rattle.cp_tool.specs.declared.explore_stream.Ending.{Ending};
 
@@ -8,12 +8,14 @@ use crate::refusal::{check_reason, parse_reason, refusal, scan_reason};
 use crate::stream::{Sink, Source};
 use crate::transfer::{MOST_BYTES, ReadFault, read_source, write_text};
 use cp_check::check::check;
-use cp_explore::explore::explore_one;
+use cp_explore::cutting::Cutting;
+use cp_explore::explore_all::explore;
 use cp_explore::fault::ExploreFault;
 use cp_explore::job::Job;
 use cp_explore::printed::Text;
 use cp_explore::report::report;
 use cp_explore::trace_report::trace_report;
+use cp_explore::worker::NoGate;
 use cp_machine::ticks::Ticks;
 use cp_run::limits::Limits;
 use cp_run::trace::trace;
@@ -97,7 +99,7 @@ pub fn explore_stream<X: Threads + Sync, R: Source, W: Sink>(
 }
 
 fn streamed<X: Threads + Sync, R: Source, W: Sink>(
-    _rt: &X,
+    rt: &X,
     alloc: Global,
     options: &Options,
     source: &mut R,
@@ -108,7 +110,7 @@ fn streamed<X: Threads + Sync, R: Source, W: Sink>(
     ensures reads { R.reads source.new ≤ R.reads source.old + 65536 }
 {
     match read_source(alloc, source, MOST_BYTES) {
-        Ok(bytes) => match answered(alloc, options, &bytes) {
+        Ok(bytes) => match answered(rt, alloc, options, &bytes) {
             Ok(answer) => written(sink, &answer),
             Err(_) => Ending::OutOfMemory,
         },
@@ -129,27 +131,38 @@ fn written<W: Sink>(sink: &mut W, answer: &Answer) -> Ending
 }
 
 /// What is answered to a source.
-fn answered(alloc: Global, options: &Options, source: &[u8]) -> Result<Answer, AllocError>
+fn answered<X: Threads + Sync>(
+    rt: &X,
+    alloc: Global,
+    options: &Options,
+    source: &[u8],
+) -> Result<Answer, AllocError>
     ensures { IfOk result (λ a. spec.AnswersSource options.now source.now a.verdict a.text) }
 {
     match scan(alloc, source) {
-        Ok(tokens) => parsed(alloc, options, &tokens),
+        Ok(tokens) => parsed(rt, alloc, options, &tokens),
         Err(fault) => refused(alloc, fault.line, scan_reason(fault.cause)),
     }
 }
 
 /// What is answered to the tokens of a source.
-fn parsed(alloc: Global, options: &Options, tokens: &Tokens) -> Result<Answer, AllocError>
+fn parsed<X: Threads + Sync>(
+    rt: &X,
+    alloc: Global,
+    options: &Options,
+    tokens: &Tokens,
+) -> Result<Answer, AllocError>
     ensures { IfOk result (λ a. spec.AnswersTokens options.now tokens.now a.verdict a.text) }
 {
     match parse(alloc, tokens) {
-        Ok(tree) => checked(alloc, options, tokens, tree),
+        Ok(tree) => checked(rt, alloc, options, tokens, tree),
         Err(fault) => refused_at(alloc, tokens, parse_reason(&fault)),
     }
 }
 
 /// What is answered to a tree.
-fn checked(
+fn checked<X: Threads + Sync>(
+    rt: &X,
     alloc: Global,
     options: &Options,
     tokens: &Tokens,
@@ -158,7 +171,7 @@ fn checked(
     ensures { IfOk result (λ a. spec.AnswersTree options.now tokens.now tree a.verdict a.text) }
 {
     match check(alloc, tree) {
-        Ok(checked) => explored(alloc, options, &resolve(alloc, &checked)?),
+        Ok(checked) => explored(rt, alloc, options, &resolve(alloc, &checked)?),
         Err((fault, _tree)) => refused_at(alloc, tokens, check_reason(&fault)),
     }
 }
@@ -194,12 +207,17 @@ fn refused_at(
 }
 
 /// The trace of the schedule that the options name, or the report of all schedules.
-fn explored(alloc: Global, options: &Options, program: &Resolved) -> Result<Answer, AllocError>
+fn explored<X: Threads + Sync>(
+    rt: &X,
+    alloc: Global,
+    options: &Options,
+    program: &Resolved,
+) -> Result<Answer, AllocError>
     ensures { IfOk result (λ a. spec.IsExplored options.now program.now a.verdict a.text) }
 {
     match &options.schedule {
         Some(word) => traced::<Brand>(alloc, options, program, word.as_slice(), Blank::new(1)),
-        None => counted::<Brand>(alloc, options, program, Blank::new(1)),
+        None => counted(rt, alloc, options, program),
     }
 }
 
@@ -228,23 +246,22 @@ fn traced<L: Ledger>(
     })
 }
 
-/// The report of a program's table, or that it has too many rows.
-fn counted<L: Ledger>(
+/// The report of a program's table, or that it has too many rows. The threads draw the members of a cutting.
+fn counted<X: Threads + Sync>(
+    rt: &X,
     alloc: Global,
     options: &Options,
     program: &Resolved,
-    blank: Blank,
 ) -> Result<Answer, AllocError>
-    requires name { blank.name ≡ L.name }
-    requires parts { blank.parts ≡ L.parts }
-    requires one { L.parts ≡ 1 }
     ensures { IfOk result (λ a. spec.IsReported options.now program.now a.verdict a.text) }
 {
     let Some(limits) = Limits::new(options.choices, options.steps, options.gates) else {
         unreachable!()
     };
-    let mut calls: Ticks<L> = Ticks::new(blank);
-    match explore_one(alloc, Job { program, limits }, &mut calls) {
+    let mut cutting = Cutting::whole(alloc, Job { program, limits })?;
+    cutting.to_depth(alloc, options.cut)?;
+    let workers = needed(options.workers, cutting.members().len());
+    match explore(rt, alloc, &cutting, workers, &NoGate) {
         Ok(table) => Ok(Answer {
             verdict: Verdict::Reported,
             text: report(alloc, program, &table, options.rows)?.text,
@@ -254,5 +271,19 @@ fn counted<L: Ledger>(
             text: Text::new("too many rows\n".to_string(alloc)?),
         }),
         Err(ExploreFault::Memory) => Err(AllocError),
+    }
+}
+
+/// No more workers than there are members to draw: starting a thread costs more than a small exploration.
+fn needed(workers: u8, members: usize) -> u8
+    requires { 0 < workers }
+    ensures { result ≡ min workers (max 1 members) }
+{
+    if members == 0 {
+        1
+    } else if members < workers as usize {
+        members as u8
+    } else {
+        workers
     }
 }

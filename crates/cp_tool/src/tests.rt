@@ -3,3 +3,4 @@
 mod fakes;
 mod rows;
 mod streams;
+mod workers;

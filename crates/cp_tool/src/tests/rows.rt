@@ -138,7 +138,7 @@ fn worked_rows(rt: HostRuntime) -> Result<(), Fail> {
     Ok(())
 }
 
-static TWO_DISPLAYS: &str =
+pub static TWO_DISPLAYS: &str =
     "type p = process(n: integer); begin display(n) end; var a, b: p; begin init a(1), b(2) end.";
 
 /// Each read in turn fails, and after the last the answer is that of a good reader.

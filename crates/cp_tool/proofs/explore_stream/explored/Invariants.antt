@@ -1,7 +1,4 @@
 use Rattle.cp_tool.proofs.explore_stream.explored.Given as goal
 
 abbrev pub ghosts-traced : goal.ghosts-traced
-ghosts-traced a = record { name = a.blank.name; parts = a.blank.parts }
-
-abbrev pub ghosts-counted : goal.ghosts-counted
-ghosts-counted a = record { name = a.blank.name; parts = a.blank.parts }
+ghosts-traced g a = record { name = a.blank.name; parts = a.blank.parts }
