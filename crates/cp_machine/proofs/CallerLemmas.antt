@@ -7,9 +7,10 @@ use Rattle.cp_machine.specs.declared.gates.Gates.{Gates}
 use Rattle.cp_machine.specs.declared.state.State.{State}
 use Rattle.cp_machine.specs.declared.process.Status.{Status}
 use Rattle.cp_machine.specs.declared.process.Status.TheVariants.{Ready}
-use Rattle.cp_machine.specs.Machine.{thread_of, Thread, thread_at, no_thread, is_ready_status, in_line_of, is_some}
+use Rattle.cp_machine.specs.Machine.{thread_of, Thread, thread_at, no_thread, is_at_gate, is_ready_status, in_line_of, is_some}
 use Rattle.cp_machine.specs.Opening.{admitted_at, still, unstarted_thread}
 use Rattle.cp_machine.specs.System.{Machine, machine_of, opening, is_ready, in_line, waiting_of, is_pending, admitted, IsStateOf}
+use Rattle.cp_machine.proofs.KernelLines.{pending_at_gate}
 pub use Rattle.cp_machine.proofs.LocalReady.{local_ready}
 
 -- a state has the program's processes
@@ -71,3 +72,7 @@ pending_as (Some monitor) b h = h
 
 pub pending_is : (m : Machine) (o : Option ℕ) (b : Bool) → o ≡ m.pending → std_is_some o ≡ b → is_pending m ≡ b
 pending_is m o b e h = ap is_some (sym e) ∙ pending_as o b h
+
+-- where a monitor is pending, a process is at its gate
+pub pending_waits : (r : Tables) (s : State) (monitor : ℕ) → IsStateOf r s → (machine_of s).pending ≡ Some monitor → (p : ℕ) × (p < length (machine_of s).threads) × (is_at_gate monitor (thread_at (machine_of s).threads p).status ≡ true)
+pending_waits r s monitor own e = pending_at_gate (machine_of s) monitor own.lines e

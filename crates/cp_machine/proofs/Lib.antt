@@ -5,11 +5,15 @@ pub mod KeepingAct
 pub mod KeepingSteps
 pub mod KernelFits
 pub mod KernelLemmas
+pub mod KernelLines
+pub mod LineLists
 pub mod ListLemmas
 pub mod LocalReady
 pub mod OpeningFits
+pub mod OpeningLines
 pub mod RoomLemmas
 pub mod StackLemmas
+pub mod StepLines
 pub mod StoreLemmas
 pub mod TakeLemmas
 pub mod ThreadLemmas

@@ -1,5 +1,6 @@
 -- When a state is a program's: each process stays inside what was reserved for it.
-use Rattle.std.specs.Prelude.{◌≡◌, ◌+◌, ◌-◌, ◌<◌, ◌≤◌, ℕ, [], ◌∷◌, List, length, Option, Some, slice_index_or, vec_capacity, vec_len, None, IfSome}
+use Rattle.std.specs.Prelude.{◌≡◌, ◌+◌, ◌-◌, ◌<◌, ◌≤◌, ℕ, [], ◌∷◌, List, length, Option, Some, slice_index_or, vec_capacity, vec_len, None, IfSome, eqb}
+use Rattle.std.specs.List.{IsDistinct, list_any}
 use Rattle.cp_slots.specs.Tables.{Tables, item_at, routine_at, process_at}
 use Rattle.cp_slots.specs.Fits.{IsSound, Nests}
 use Rattle.cp_store.specs.declared.memory.Frame.{Frame}
@@ -8,7 +9,7 @@ use Rattle.cp_machine.specs.declared.process.Entry.TheVariants.{Rest, Successor,
 use Rattle.cp_machine.specs.declared.process.Process.{Process}
 use Rattle.cp_machine.specs.declared.state.State.{State}
 use Rattle.cp_machine.specs.declared.state.TheConstants.{LIMIT}
-use Rattle.cp_machine.specs.Machine.{Machine, Thread, thread_at, machine_of}
+use Rattle.cp_machine.specs.Machine.{Machine, Thread, is_at_gate, machine_of, monitor_at, thread_at}
 
 abbrev pub size_of : Tables → ℕ → ℕ
 size_of r routine = length (routine_at r routine).image
@@ -53,6 +54,16 @@ pub record MachineFits (r : Tables) (m : Machine) : Type 0 where
   pub pending : IfSome m.pending (λ monitor. monitor < r.monitors)
   pub each : (q : ℕ) → q < length m.threads → ThreadFits r (thread_at m.threads q)
 
+-- the processes at a monitor's gate are those in its line, where each stands once; in that of a pending monitor there are two or more
+pub record LinesFit (m : Machine) : Type 0 where
+  pub gate : (monitor q : ℕ) → is_at_gate monitor (thread_at m.threads q).status ≡ list_any (eqb q) (monitor_at m monitor).line
+  pub once : (monitor : ℕ) → IsDistinct eqb (monitor_at m monitor).line
+  pub pending : IfSome m.pending (λ monitor. 2 ≤ length (monitor_at m monitor).line)
+
+-- each line has room for one process more
+abbrev pub HaveGateRoom : Machine → Type 0
+HaveGateRoom m = (monitor : ℕ) → length (monitor_at m monitor).line < 16
+
 -- each process has this much room for its control stack, its cells and its references
 
 abbrev pub HaveStacks : ℕ → List Process → Type 0
@@ -77,6 +88,7 @@ pub record IsReserved (r : Tables) (s : State) : Type 0 where
 pub record IsStateOf (r : Tables) (s : State) : Type 0 where
   pub sound : IsSound r
   pub fits : MachineFits r (machine_of s)
+  pub lines : LinesFit (machine_of s)
   pub reserved : IsReserved r s
 
 -- a process has an entry, and room for one more where it is wanted

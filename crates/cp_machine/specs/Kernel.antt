@@ -1,5 +1,5 @@
 -- The kernel: who goes into a monitor, who waits, and who goes on.
-use Rattle.std.specs.Prelude.{nat_lt, ℕ, ◌∷◌, [], ◌++◌, List, length, position, Option, Some, None, pos, slice_set, if◌then◌else◌}
+use Rattle.std.specs.Prelude.{ℕ, ◌∷◌, [], ◌++◌, List, position, Option, Some, None, pos, slice_set}
 use Rattle.cp_machine.specs.declared.gates.Gates.{Gates}
 use Rattle.cp_machine.specs.declared.gates.Gates.TheVariants.{First, Any}
 use Rattle.cp_machine.specs.declared.process.Status.TheVariants.{Ready, AtGate, Delayed}
@@ -35,13 +35,9 @@ let_in m monitor = let_in_by m.gates m monitor (monitor_at m monitor).line
 
 -- ---- enter
 
--- the line is long enough for every process
-abbrev pub joined : List ℕ → ℕ → List ℕ
-joined line pid = if nat_lt (length line) 16 then line ++ pid ∷ [] else line
-
 abbrev pub entered_by : Option ℕ → Machine → (pid monitor : ℕ) → Machine
 entered_by None m pid monitor = with_monitor m monitor (record { holder = Some pid; line = (monitor_at m monitor).line })
-entered_by (Some q) m pid monitor = with_monitor (with_status m pid (AtGate monitor)) monitor (record { holder = Some q; line = joined (monitor_at m monitor).line pid })
+entered_by (Some q) m pid monitor = with_monitor (with_status m pid (AtGate monitor)) monitor (record { holder = Some q; line = (monitor_at m monitor).line ++ pid ∷ [] })
 
 -- the caller goes in if nobody is inside, and else to the end of the line
 abbrev pub entered : Machine → (pid monitor : ℕ) → Machine

@@ -4,7 +4,7 @@ ghost use Rattle.std.specs.Prelude.{◌≡◌, ◌<◌, ◌≤◌, length, vec_c
 ghost use Rattle.cp_slots.specs.Fits.{IsSound};
 ghost use Rattle.cp_slots.specs.Tables.{Tables, component_at};
 ghost use Rattle.cp_machine.specs.Calls as spec;
-ghost use Rattle.cp_machine.specs.Fits.{HasCallRoom, IsBusy, IsReserved};
+ghost use Rattle.cp_machine.specs.Fits.{HasCallRoom, HaveGateRoom, IsBusy, IsReserved};
 ghost use Rattle.cp_machine.specs.Machine.{machine_of, phase_at, under, with_phase};
 ghost use Rattle.cp_machine.specs.Stack.{rest_of};
 ghost use Rattle.cp_machine.specs.Statements as statements;
@@ -76,6 +76,7 @@ fn call_monitor(
     requires routine { callee.routine < length program.now.routines }
     requires room { HasCallRoom program.now state.old.processes.items pid callee.routine }
     requires monitor { monitor < length state.old.guards.items }
+    requires line { HaveGateRoom (machine_of state.old) }
     ensures after { spec.called_in program.now (machine_of state.old) pid (ComponentKind.Monitor monitor) callee.routine component arguments.now state.old.bounds.items callee.result (rest_of item.now.next (under (machine_of state.old) pid)) ≡ record { machine = machine_of state.new; event = result } }
     ensures reserved { (r : Tables) → IsReserved r state.old → IsReserved r state.new }
 {
@@ -109,6 +110,7 @@ fn call_entry(
     requires room { HasCallRoom program.now state.old.processes.items pid callee.routine }
     requires guards { length state.old.guards.items ≡ program.now.monitors }
     requires sound { IsSound program.now }
+    requires line { HaveGateRoom (machine_of state.old) }
     ensures after { spec.called_in program.now (machine_of state.old) pid (component_at program.now component).kind callee.routine component arguments.now state.old.bounds.items callee.result (rest_of item.now.next (under (machine_of state.old) pid)) ≡ record { machine = machine_of state.new; event = result } }
     ensures reserved { (r : Tables) → IsReserved r state.old → IsReserved r state.new }
 {
@@ -167,6 +169,7 @@ fn call_by(
     requires room { HasCallRoom program.now state.old.processes.items pid callee.routine }
     requires guards { length state.old.guards.items ≡ program.now.monitors }
     requires sound { IsSound program.now }
+    requires line { HaveGateRoom (machine_of state.old) }
     ensures after { spec.called_by program.now (machine_of state.old) pid item.now.line callee.is_entry callee.routine component arguments.now state.old.bounds.items callee.result (rest_of item.now.next (under (machine_of state.old) pid)) ≡ statements.outcome result (machine_of state.new) pid item.now.line }
     ensures reserved { (r : Tables) → IsReserved r state.old → IsReserved r state.new }
 {
@@ -199,6 +202,7 @@ pub fn call(
     requires most { length arguments.now ≤ vec_capacity state.old.bounds }
     requires guards { length state.old.guards.items ≡ program.now.monitors }
     requires sound { IsSound program.now }
+    requires line { HaveGateRoom (machine_of state.old) }
     ensures after { spec.call program.now (machine_of state.old) pid item.now.line callee.routine place.now callee.is_entry arguments.now callee.result (rest_of item.now.next (under (machine_of state.old) pid)) ≡ statements.outcome result (machine_of state.new) pid item.now.line }
     ensures reserved { (r : Tables) → IsReserved r state.old → IsReserved r state.new }
 {

@@ -2,7 +2,7 @@
 
 ghost use Rattle.std.specs.Prelude.{◌≡◌, ◌<◌, ◌∷◌, [], IfNone, IfSome, length, position, slice_set};
 ghost use Rattle.cp_slots.specs.Tables.{Tables};
-ghost use Rattle.cp_machine.specs.Fits.{IsReserved};
+ghost use Rattle.cp_machine.specs.Fits.{HaveGateRoom, IsReserved};
 ghost use Rattle.cp_machine.specs.Kernel as spec;
 ghost use Rattle.cp_machine.specs.Machine.{is_delayed_at, machine_of, monitor_at, with_status};
 
@@ -10,7 +10,6 @@ use crate::gates::Gates;
 use crate::memory::set_status;
 use crate::process::{Process, Status};
 use crate::state::{Guard, State};
-use arrayvec::ArrayVec;
 
 /// Lets the line of a monitor in, which nobody is inside any more.
 pub fn let_in(state: &mut State, monitor: u8)
@@ -79,6 +78,7 @@ fn make_ready(state: &mut State, pid: u8)
 pub fn enter(state: &mut State, pid: u8, monitor: u8)
     requires pid { pid < length state.old.processes.items }
     requires gate { monitor < length state.old.guards.items }
+    requires line { HaveGateRoom (machine_of state.old) }
     ensures after { machine_of state.new ≡ spec.entered (machine_of state.old) pid monitor }
     ensures reserved { (r : Tables) → IsReserved r state.old → IsReserved r state.new }
 {
@@ -86,18 +86,9 @@ pub fn enter(state: &mut State, pid: u8, monitor: u8)
     match guard.holder {
         None => guard.holder = Some(pid),
         Some(_) => {
-            join(&mut guard.line, pid);
+            guard.line.push(pid);
             set_status(state, pid, Status::AtGate(monitor));
         }
-    }
-}
-
-// A process goes to the end of the line, which is long enough for every process.
-fn join(line: &mut ArrayVec<u8, 16>, pid: u8)
-    ensures { line.new.items ≡ spec.joined line.old.items pid }
-{
-    if line.len() < 16 {
-        line.push(pid);
     }
 }
 

@@ -42,6 +42,7 @@ pub fn step<L: Ledger>(
 fn take_step(program: &Resolved, state: &mut State, pid: u8) -> Event
     requires own { IsStateOf program.now state.old }
     requires pid { pid < length state.old.processes.items }
+    requires ready { IsTrue (is_ready (machine_of state.old) pid) }
     ensures after { step_at program.now (machine_of state.old) pid ≡ record { machine = machine_of state.new; event = result } }
     ensures reserved { IsReserved program.now state.new }
 {

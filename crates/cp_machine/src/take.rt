@@ -2,7 +2,7 @@
 
 ghost use Rattle.std.specs.Prelude.{◌≡◌, ◌∷◌, ◌<◌, length};
 ghost use Rattle.cp_slots.specs.Tables.{Tables, item_at};
-ghost use Rattle.cp_machine.specs.Fits.{IsReserved, IsStateOf};
+ghost use Rattle.cp_machine.specs.Fits.{HaveGateRoom, IsReserved, IsStateOf};
 ghost use Rattle.cp_machine.specs.Machine.{machine_of, thread_at, under};
 ghost use Rattle.cp_machine.specs.Statements.{outcome, succeeded};
 ghost use Rattle.cp_machine.specs.Step.{act};
@@ -40,6 +40,7 @@ fn perform(
     requires own { IsStateOf program.now state.old }
     requires pid { pid < length state.old.processes.items }
     requires item { item.now ≡ item_at program.now at }
+    requires line { HaveGateRoom (machine_of state.old) }
     requires top { (thread_at (machine_of state.old).threads pid).stack ≡ Entry.Rest at ∷ under (machine_of state.old) pid }
     ensures after { act program.now (machine_of state.old) pid at item.now item.now.action (under (machine_of state.old) pid) ≡ outcome result (machine_of state.new) pid item.now.line }
     ensures reserved { IsReserved program.now state.new }
@@ -130,6 +131,7 @@ fn perform(
 pub fn take_item(program: &Resolved, state: &mut State, pid: u8, at: usize) -> Event
     requires own { IsStateOf program.now state.old }
     requires pid { pid < length state.old.processes.items }
+    requires line { HaveGateRoom (machine_of state.old) }
     requires top { (thread_at (machine_of state.old).threads pid).stack ≡ Entry.Rest at ∷ under (machine_of state.old) pid }
     ensures after { act program.now (machine_of state.old) pid at (item_at program.now at) (item_at program.now at).action (under (machine_of state.old) pid) ≡ record { machine = machine_of state.new; event = result } }
     ensures reserved { IsReserved program.now state.new }

@@ -1,8 +1,13 @@
-use Rattle.std.proofs.Common.{◌≡◌, ◌∙◌, refl}
+use Rattle.std.proofs.Common.{◌≡◌, ◌∙◌, ap, arith, length, refl}
 use Rattle.std.proofs.lemmas.List.{map-set}
-use Rattle.cp_machine.specs.Machine.{machine_of, monitor_at, monitor_of}
+use Rattle.cp_machine.specs.Machine.{Monitor, machine_of, monitor_at, monitor_of}
 use Rattle.cp_machine.proofs.KernelLemmas.{guard_read}
 use Rattle.cp_machine.proofs.kernel.enter.Goals as goal
+
+pub push-requires : goal.push-requires
+push-requires c =
+    let read : monitor_at (machine_of c.args.state.now) c.args.monitor ≡ monitor_of c.index_mut-guard.result.now = guard_read _ _ _ c.requires.gate c.index_mut-guard.ensures.value in
+    omega (arith, ap (λ (m : Monitor). length m.line) read, c.requires.line c.args.monitor)
 
 pub returns-in-None-clause-after : goal.returns-in-None-clause-after
 returns-in-None-clause-after c =
@@ -12,4 +17,4 @@ returns-in-None-clause-after c =
 pub returns-in-Some-clause-after : goal.returns-in-Some-clause-after
 returns-in-Some-clause-after c =
     let read : monitor_at (machine_of c.args.state.now) c.args.monitor ≡ monitor_of c.index_mut-guard.result.now = guard_read _ _ _ c.requires.gate c.index_mut-guard.ensures.value in
-    c.set_status.ensures.after ∙ rw (map-set, read, c.join.ensures, c.in-Some.is, read) refl
+    c.set_status.ensures.after ∙ rw (map-set, read, c.push.ensures.items, c.in-Some.is, read) refl

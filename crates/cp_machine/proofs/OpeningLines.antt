@@ -1,0 +1,31 @@
+-- In the opening state nobody is at a gate, and every line is empty.
+use Rattle.std.proofs.Common.{◌≡◌, ◌∙◌, ℕ, zero, suc, List, [], ◌∷◌, Option, None, Bool, false, eqb, map, ap, sym, refl, subst}
+use Rattle.std.specs.Prelude.{replicate}
+use Rattle.std.specs.List.{IsDistinct}
+use Rattle.cp_slots.specs.Tables.{Tables}
+use Rattle.cp_slots.specs.declared.tables.Process as slots
+use Rattle.cp_machine.specs.declared.gates.Gates.{Gates}
+use Rattle.cp_machine.specs.declared.process.Status.TheVariants.{Ready}
+use Rattle.cp_machine.specs.Fits.{LinesFit}
+use Rattle.cp_machine.specs.Machine.{Monitor, no_monitor, thread_at, with_status}
+use Rattle.cp_machine.specs.Opening.{still, unstarted_thread}
+use Rattle.cp_machine.proofs.KernelLines.{IsOff, Lined, line_of, lines_still, off_lined}
+use Rattle.cp_machine.proofs.LineLists.{has, nothing_once}
+
+unstarted_still : (r : Tables) (ps : List slots.Process) (q : ℕ) → IsOff (thread_at (map (unstarted_thread r) ps) q).status
+unstarted_still r [] q = λ g. refl
+unstarted_still r (p ∷ ps) zero = λ g. refl
+unstarted_still r (p ∷ ps) (suc q) = unstarted_still r ps q
+
+no_line : (n g : ℕ) → line_of (replicate n no_monitor) g ≡ []
+no_line zero g = refl
+no_line (suc n) zero = refl
+no_line (suc n) (suc g) = no_line n g
+
+still_lined : (r : Tables) (gates : Gates) → Lined (still r gates).threads (still r gates).monitors
+still_lined r gates =
+    ((λ g q. unstarted_still r r.processes q g ∙ sym (ap (λ line. has line q) (no_line r.monitors g))), (λ g. subst (IsDistinct eqb) (sym (no_line r.monitors g)) nothing_once))
+
+pub opening_lines : (r : Tables) (gates : Gates) → LinesFit (with_status (still r gates) 0 Ready)
+opening_lines r gates =
+    lines_still (with_status (still r gates) 0 Ready) (off_lined (still r gates).threads (still r gates).monitors 0 _ (unstarted_still r r.processes 0) (λ g. refl) (still_lined r gates)) refl
