@@ -11,7 +11,7 @@ use Rattle.std.proofs.Math.Seq.{take-length}
 use Rattle.cp_run.specs.System.{System}
 use Rattle.cp_run.specs.Run.{joined_below, Node, Halted, Choosing, may, chosen, opened}
 use Rattle.cp_run.specs.Table.{Line, each, table}
-use Rattle.cp_explore.specs.Beginnings.{words_of_rows, common, beginnings_of, with_new, beginnings}
+use Rattle.cp_explore.specs.Beginnings.{words_of_rows, words_in, common, beginnings_of, with_new, beginnings}
 use Rattle.cp_explore.specs.Cutting.{Each, Pairwise, begins, parts_before}
 use Rattle.cp_explore.specs.Walk.{behind, walk}
 use Rattle.cp_explore.proofs.Counting.{among, misses, fresh_length, fresh_misses, misses_common, distinct_beginnings, among_new, among_beginnings, between, length_beginnings}
@@ -123,9 +123,6 @@ counted w ws o =
 
 -- ---- the words of a table part one before the other
 
-abbrev pub words_in : List Line → List (List ℕ)
-words_in lines = map (λ l. l.word) lines
-
 abbrev StartsBelow : ℕ → List ℕ → Type 0
 StartsBelow n [] = ⊥
 StartsBelow n (p ∷ w) = p < n
@@ -196,7 +193,7 @@ pub added_more : (prev : List ℕ) (ws : List (List ℕ)) (last w : List ℕ) �
 added_more prev [] last w e = let f = ap (λ v. length w - common v w) e in omega (arith, f)
 added_more prev (v ∷ ws) last w e = let r = added_more v ws last w e in omega (arith, r)
 
-rows_words : (rows : List Row) → words_in (map line_of rows) ≡ words_of_rows rows
+pub rows_words : (rows : List Row) → words_in (map line_of rows) ≡ words_of_rows rows
 rows_words [] = refl
 rows_words (r ∷ rs) = ap (λ l. r.word.items ∷ l) (rows_words rs)
 

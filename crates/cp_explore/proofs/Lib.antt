@@ -1,4 +1,5 @@
 pub mod Branches
+pub mod Calling
 pub mod Counted
 pub mod Counting
 pub mod Deciding
@@ -8,6 +9,7 @@ pub mod Errors
 pub mod Gathering
 pub mod Grouping
 pub mod Joining
+pub mod Leading
 pub mod MemberTables
 pub mod Orders
 pub mod Parting

@@ -2,7 +2,7 @@
 use Rattle.std.specs.Prelude.{ℕ, suc, List, [], ◌∷◌, ◌==◌, length, map, nat_eq, if◌then◌else◌}
 use Rattle.std.specs.List.{list_any}
 use lib.Pointwise.{pointwise}
-use Rattle.cp_run.specs.Table.{each}
+use Rattle.cp_run.specs.Table.{Line, each}
 use Rattle.cp_explore.specs.declared.row.Row.{Row}
 
 -- the words that begin a word, from the empty one to itself
@@ -27,3 +27,6 @@ common (p ∷ v) (q ∷ w) = if p == q then suc (common v w) else 0
 
 abbrev pub words_of_rows : List Row → List (List ℕ)
 words_of_rows rows = map (λ r. r.word.items) rows
+
+abbrev pub words_in : List Line → List (List ℕ)
+words_in lines = map (λ l. l.word) lines

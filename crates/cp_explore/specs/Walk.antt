@@ -1,5 +1,5 @@
 -- The walk over the tree of words.
-use Rattle.std.specs.Prelude.{ℕ, zero, suc, List, [], ◌∷◌, ◌++◌, map, if◌then◌else◌}
+use Rattle.std.specs.Prelude.{◌≡◌, ℕ, zero, suc, true, List, [], ◌∷◌, ◌++◌, map, if◌then◌else◌}
 use Rattle.cp_run.specs.declared.outcome.OutcomeKind.TheVariants.{ChoiceLimit}
 use Rattle.cp_run.specs.System.{System}
 use Rattle.cp_run.specs.Run.{joined_below, Node, Halted, Choosing, may, chosen}
@@ -14,3 +14,8 @@ unfoldable pub walk : {S : Type 0} → System S → ℕ → ℕ → Node S → L
 walk sys steps choices (Halted kind s) = record { word = []; outcome = record { kind = kind; output = sys.output s } } ∷ []
 walk sys steps zero (Choosing s) = record { word = []; outcome = record { kind = ChoiceLimit; output = sys.output s } } ∷ []
 walk sys steps (suc choices) (Choosing s) = joined_below sys.processes (λ p. if may sys s p then map (behind (p ∷ [])) (walk sys steps choices (chosen sys steps s p)) else [])
+
+-- where a choice is due, some number may be taken
+abbrev pub IsDue : {S : Type 0} → System S → Node S → Type 0
+IsDue sys (Halted kind s) = Unit {0}
+IsDue sys (Choosing s) = (p : ℕ) × (may sys s p ≡ true)

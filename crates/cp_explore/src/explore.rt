@@ -1,9 +1,10 @@
 //! The exploration of all schedules.
 
-ghost use Rattle.std.specs.Prelude.{◌≡◌, ◌<◌, ◌≤◌, length, map, All, IfOk, IfErr, vec_len};
+ghost use Rattle.std.specs.Prelude.{◌≡◌, ◌<◌, ◌≤◌, ◌+◌, length, map, All, IfOk, IfErr, vec_len};
 ghost use Rattle.cp_machine.specs.System.{machine_of, IsStateOf};
 ghost use Rattle.cp_run.specs.Slots.{slots};
 ghost use Rattle.cp_run.specs.Table.{table};
+ghost use Rattle.cp_explore.specs.Beginnings.{beginnings, words_of_rows};
 ghost use Rattle.cp_explore.specs.Rows.{line_of, IsTooMany};
 
 use crate::fault::ExploreFault;
@@ -20,7 +21,7 @@ use std::alloc::{AllocError, Global};
 use std::marker::Brand;
 use std::sync::ledger::{Blank, Ledger};
 
-/// The table of a job, by one walk over the tree of words. `calls` is raised by one by each call of `stretch`.
+/// The table of a job, by one walk over the tree of words. `calls` is raised by one by each call of `stretch`; no word is replayed.
 pub fn explore_one<L: Ledger>(
     alloc: Global,
     job: Job,
@@ -29,6 +30,7 @@ pub fn explore_one<L: Ledger>(
     ensures table { IfOk result (λ t. map line_of t.rows ≡ table (slots job.entry.program.now job.entry.limits.gates) job.entry.limits.choices job.entry.limits.steps) }
     ensures few { IfOk result (λ t. length t.rows ≤ 50000) }
     ensures many { IfErr result (λ e. IsTooMany e → 50000 < length (table (slots job.entry.program.now job.entry.limits.gates) job.entry.limits.choices job.entry.limits.steps)) }
+    ensures calls { IfOk result (λ t. calls.new ≤ calls.old + beginnings (words_of_rows t.rows)) }
 {
     explore_counted::<Brand, L>(alloc, job.program, job.limits, calls, Blank::new(1))
 }
@@ -46,6 +48,7 @@ fn explore_counted<S: Ledger, C: Ledger>(
     ensures table { IfOk result (λ t. map line_of t.rows ≡ table (slots program.now limits.gates) limits.choices limits.steps) }
     ensures few { IfOk result (λ t. length t.rows ≤ 50000) }
     ensures many { IfErr result (λ e. IsTooMany e → 50000 < length (table (slots program.now limits.gates) limits.choices limits.steps)) }
+    ensures calls { IfOk result (λ t. calls.new ≤ calls.old + beginnings (words_of_rows t.rows)) }
 {
     let mut steps: Ticks<S> = Ticks::new(blank);
     let Ok(mut first) = State::start(alloc, program, limits.gates) else {

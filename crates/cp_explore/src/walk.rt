@@ -5,7 +5,8 @@ ghost use Rattle.arrayvec.specs.ArrayVec.{array_vec_len};
 ghost use Rattle.cp_machine.specs.System.{machine_of, output_of, IsStateOf};
 ghost use Rattle.cp_run.specs.Slots.{slots};
 ghost use Rattle.cp_run.specs.Code.{node_of};
-ghost use Rattle.cp_explore.specs.Walk.{behind, walk};
+ghost use Rattle.cp_explore.specs.Beginnings.{beginnings, words_in};
+ghost use Rattle.cp_explore.specs.Walk.{behind, walk, IsDue};
 ghost use Rattle.cp_explore.specs.Rows.{line_of, IsTooMany};
 
 use crate::fault::ExploreFault;
@@ -69,11 +70,14 @@ pub fn walk_from<S: Ledger, C: Ledger>(
     requires kept { All (IsStateOf program.now) kept.old }
     requires room { array_vec_len word.old + length kept.old ≤ 20 }
     requires rows { length rows.old.items ≤ 50000 }
+    requires due { IsDue (slots program.now limits.gates) (node_of halt (machine_of state.now)) }
     ensures rows { IfOk result (λ _. map line_of rows.new.items ≡ map line_of rows.old.items ++ map (behind word.old.items) (walk (slots program.now limits.gates) limits.steps (length kept.old) (node_of halt (machine_of state.now)))) }
     ensures word { IfOk result (λ _. word.new.items ≡ word.old.items) }
     ensures kept { All (IsStateOf program.now) kept.new }
     ensures few { IfOk result (λ _. length rows.new.items ≤ 50000) }
     ensures many { IfErr result (λ e. IsTooMany e → 50000 < length rows.old.items + length (walk (slots program.now limits.gates) limits.steps (length kept.old) (node_of halt (machine_of state.now)))) }
+    ensures some { IfOk result (λ _. 0 < length (walk (slots program.now limits.gates) limits.steps (length kept.old) (node_of halt (machine_of state.now)))) }
+    ensures calls { IfOk result (λ _. calls.new + 1 ≤ calls.old + beginnings (words_in (walk (slots program.now limits.gates) limits.steps (length kept.old) (node_of halt (machine_of state.now))))) }
 {
     if let Halt::Ended(kind) = halt {
         return add_row(alloc, state, kind, word, rows);

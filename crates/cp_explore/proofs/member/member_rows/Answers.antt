@@ -9,6 +9,7 @@ use Rattle.cp_explore.specs.Rows.{line_of, IsTooMany}
 use Rattle.cp_explore.specs.Walk.{behind, walk}
 use Rattle.std.proofs.lemmas.List.{length-map}
 use Rattle.cp_explore.proofs.Errors.{err_as}
+use Rattle.cp_explore.proofs.Leading.{due_opened, due_chosen}
 use Rattle.cp_explore.proofs.Replaying.{none_over, refused_rows, replayed, replayed_all, nothing_replayed}
 use Rattle.cp_explore.proofs.member.member_rows.Goals as goal
 
@@ -17,6 +18,7 @@ loop-place-init g c =
     record {
       own = c.open-halt.ensures.own;
       within = omega arith;
+      due = due_opened c.args.program.now c.args.limits.gates c.args.limits.steps c.open-halt.result c.open-halt.new.state c.open-halt.ensures.own c.open-halt.ensures.node;
       same = let e : c.args.limits.choices - 0 ≡ c.args.limits.choices = omega arith in nothing_replayed (slots c.args.program.now c.args.limits.gates) c.args.limits.choices c.args.limits.steps c.args.word.now (node_of c.open-halt.result (machine_of c.open-halt.new.state)) c.open-halt.ensures.node ∙ ap (λ k. map (behind []) (rows_from (slots c.args.program.now c.args.limits.gates) c.args.limits.steps k c.args.word.now (node_of c.open-halt.result (machine_of c.open-halt.new.state)))) (sym e);
     }
 
@@ -41,6 +43,7 @@ loop-place-preserved g c =
     record {
       own = c.choose-halt.ensures.own;
       within = omega (arith, more);
+      due = due_chosen c.args.program.now c.args.limits.gates c.args.limits.steps (machine_of c.loop-place.state) (get_or c.args.word.now n 0) c.choose-halt.result c.choose-halt.new.state c.choose-halt.ensures.own c.choose-halt.ensures.node;
       same = c.loop-place.invariant.same ∙ replayed sys c.args.limits.steps c.args.limits.choices n c.args.word.now c.loop-place.halt (machine_of c.loop-place.state) (node_of c.choose-halt.result (machine_of c.choose-halt.new.state)) (omega arith) going (sym c.may.ensures ∙ c.if-not-may.false) c.choose-halt.ensures.node;
     }
 

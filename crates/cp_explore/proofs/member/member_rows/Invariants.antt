@@ -3,7 +3,7 @@ use Rattle.cp_machine.specs.System.{machine_of, IsStateOf}
 use Rattle.cp_run.specs.Slots.{slots}
 use Rattle.cp_run.specs.Code.{node_of}
 use Rattle.cp_explore.specs.Cutting.{rows_behind, rows_from}
-use Rattle.cp_explore.specs.Walk.{behind}
+use Rattle.cp_explore.specs.Walk.{behind, IsDue}
 use Rattle.cp_explore.proofs.member.member_rows.Given as goal
 
 abbrev pub invariant-loop-place : goal.invariant-loop-place
@@ -11,5 +11,6 @@ invariant-loop-place g l =
     record {
       own : IsStateOf l.program l.state;
       within : l.place ≤ l.limits.choices;
+      due : IsDue (slots l.program l.limits.gates) (node_of l.halt (machine_of l.state));
       same : rows_behind (slots l.program l.limits.gates) l.limits.choices l.limits.steps l.word ≡ map (behind (take l.place l.word)) (rows_from (slots l.program l.limits.gates) l.limits.steps (l.limits.choices - l.place) (drop l.place l.word) (node_of l.halt (machine_of l.state)));
     }
