@@ -1,4 +1,4 @@
-use Rattle.std.proofs.Common.{refl, true, false, ◌≡◌, ◌≤◌, ◌<◌, ◌+◌, ◌∙◌, ap, sym, subst, arith, All, List, [], ◌∷◌, ◌++◌, length, map, take, ℕ}
+use Rattle.std.proofs.Common.{rules, refl, true, false, ◌≡◌, ◌≤◌, ◌<◌, ◌+◌, ◌∙◌, ap, sym, subst, arith, All, List, [], ◌∷◌, ◌++◌, length, map, take, ℕ}
 use Rattle.cp_run.specs.declared.outcome.OutcomeKind.TheVariants.{ChoiceLimit}
 use Rattle.cp_explore.specs.declared.row.Row.{Row}
 use Rattle.cp_machine.specs.System.{machine_of, IsStateOf}
@@ -136,13 +136,8 @@ returns-in_default-split_first_mut-clause-many g t c =
 
 pub walk_from-requires : goal.walk_from-requires
 walk_from-requires g t c =
-    record {
-      own = c.choose-halt.ensures.own;
-      kept = c.loop-process.invariant.deeper;
-      room = search rules;
-      rows = c.loop-process.invariant.few;
-      due = due_chosen c.args.program.now c.args.limits.gates c.args.limits.steps (machine_of c.take_from.new.self) c.loop-process.process c.choose-halt.result c.choose-halt.new.state c.choose-halt.ensures.own c.choose-halt.ensures.node;
-    }
+    let due : IsDue (slots c.args.program.now c.args.limits.gates) (node_of c.choose-halt.result (machine_of c.choose-halt.new.state)) = due_chosen c.args.program.now c.args.limits.gates c.args.limits.steps (machine_of c.take_from.new.self) c.loop-process.process c.choose-halt.result c.choose-halt.new.state c.choose-halt.ensures.own c.choose-halt.ensures.node in
+    search (rules, due)
 
 pub returns-in-Ended-clause-some : goal.returns-in-Ended-clause-some
 returns-in-Ended-clause-some g t c =
