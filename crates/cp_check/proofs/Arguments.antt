@@ -1,15 +1,12 @@
 -- Arguments and parameters side by side.
-use Rattle.std.proofs.Common.{◌≡◌, ℕ, suc, ◌+◌, ◌<◌, ◌≤◌, nat_eq, Bool, true, false, ◌&&◌, List, [], ◌∷◌, ◌++◌, length, get_or, drop, refl, sym, ap, subst, ◌∙◌, add-one, inl, inr, arith}
+use Rattle.std.proofs.Common.{◌≡◌, ℕ, ◌+◌, ◌<◌, ◌≤◌, true, ◌&&◌, List, [], ◌++◌, length, get_or, drop, refl, sym, ap, subst, ◌∙◌, add-one, arith}
 use Rattle.std.proofs.Math.Seq.{drop-cons}
 use Rattle.std.proofs.lemmas.List.{drop_all}
-use Rattle.std.proofs.lemmas.Bool.{eq-eqb}
-use Rattle.std.proofs.lemmas.Bool.Decides.{eqb_tells}
 use Rattle.cp_scope.specs.declared.fault.CheckFault.{CheckFault}
-use Rattle.cp_scope.specs.declared.fault.Rule.TheVariants.{C7}
 use Rattle.cp_scope.specs.declared.types.Parameter.{Parameter}
 use Rattle.cp_scope.specs.Judged.{RefusesList}
 use Rattle.cp_check.specs.declared.operand.Operand.{Operand}
-use Rattle.cp_check.specs.Calls.{fits, all_fit, fit_faults, fault, variable_faults, all_variable_faults, assignable_faults, total_use}
+use Rattle.cp_check.specs.Calls.{fits, all_fit, variable_faults, all_variable_faults, total_use}
 use Rattle.cp_scope.specs.declared.count.Use.{Use}
 use Rattle.cp_scope.specs.Counts.{both_uses}
 use Rattle.cp_check.proofs.Judging.{first_append}

@@ -1,17 +1,16 @@
 -- An `if` with two branches.
-use Rattle.std.proofs.Common.{◌≡◌, ◌∙◌, ℕ, Bool, false, Option, Some, Box, Global, rules, ap, sym, subst, Result, Ok, Err}
+use Rattle.std.proofs.Common.{◌≡◌, ◌∙◌, ℕ, false, Option, Some, Box, Global, rules, ap, Ok, Err}
 use Rattle.cp_tree.specs.declared.expression.Expression as tree_expression
 use Rattle.cp_tree.specs.declared.statement.Statement as tree_statement
 use Rattle.cp_tree.specs.declared.statement.StatementKind as tree_kind
 use Rattle.cp_tree.specs.declared.statement.StatementKind.{the_lemmas}
 use Rattle.cp_tree.specs.declared.statement.StatementKind.TheVariants as kinds
-use Rattle.cp_tree.specs.Syntax.{Statement, if_else}
+use Rattle.cp_tree.specs.Syntax.{if_else}
 use Rattle.cp_tree.specs.View.{expression_view, statement_view}
 use Rattle.cp_scope.specs.declared.fault.CheckFault.{CheckFault}
 use Rattle.cp_scope.specs.declared.fault.CheckFault.TheVariants.{Rule, Memory}
 use Rattle.cp_scope.specs.Scopes.{Scopes}
 use Rattle.cp_scope.specs.Judged.{Judged, both, ◌>>=◌, Refuses}
-use Rattle.cp_scope.specs.declared.count.Use.{Use}
 use Rattle.cp_check.specs.declared.operand.Context.{Context}
 use Rattle.cp_check.specs.declared.operand.Operand.{Operand}
 use Rattle.cp_check.specs.Expressions.{expression}

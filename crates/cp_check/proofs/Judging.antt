@@ -1,5 +1,5 @@
 -- The first fault of a node is that of its first part with one.
-use Rattle.std.proofs.Common.{◌≡◌, ℕ, List, [], ◌∷◌, ◌++◌, Result, Ok, Err, refl}
+use Rattle.std.proofs.Common.{List, [], ◌∷◌, ◌++◌, Ok, Err}
 use Rattle.cp_scope.specs.declared.fault.CheckFault.{CheckFault}
 use Rattle.cp_scope.specs.declared.fault.CheckFault.TheVariants.{Rule, Memory}
 use Rattle.cp_scope.specs.Judged.{Judged, both, ◌>>=◌, IsFirst, Refuses, IsFirstOf, RefusesList}

@@ -1,17 +1,16 @@
 -- Labels of a `case`: what is left leads where all lead.
-use Rattle.std.proofs.Common.{◌≡◌, ℕ, ◌+◌, ◌<◌, ◌≤◌, true, false, ◌&&◌, ◌||◌, List, [], ◌∷◌, ◌++◌, length, get_or, drop, take, Ok, Err, refl, sym, ap, subst, ◌∙◌, add-one, append_assoc}
-use Rattle.std.proofs.Math.Seq.{drop-cons, take-add}
+use Rattle.std.proofs.Common.{◌≡◌, ℕ, ◌+◌, ◌<◌, ◌≤◌, true, ◌&&◌, List, [], ◌∷◌, ◌++◌, length, get_or, drop, Ok, Err, refl, sym, ap, subst, ◌∙◌, add-one, append_assoc}
+use Rattle.std.proofs.Math.Seq.{drop-cons}
 use Rattle.std.proofs.lemmas.List.{drop_all, append-nil}
 use Rattle.cp_scope.specs.declared.fault.CheckFault.{CheckFault}
 use Rattle.cp_scope.specs.declared.types.Base.{Base}
 use Rattle.cp_tree.specs.declared.constant.Constant.{Constant}
 use Rattle.cp_scope.specs.Types.{same_base}
 use Rattle.cp_scope.specs.Scopes.{Scopes}
-use Rattle.cp_scope.specs.Judged.{Judged, both, ◌>>=◌, Refuses, RefusesList}
+use Rattle.cp_scope.specs.Judged.{Judged, both, ◌>>=◌, Refuses}
 use Rattle.cp_check.specs.declared.case.Label.{Label}
-use Rattle.cp_check.specs.Constants.{same_number}
-use Rattle.cp_check.specs.Cases.{one_label, labels, before, are_labels, is_label, again_faults, twice_faults}
-use Rattle.cp_check.proofs.Judging.{refuses_both, first_append}
+use Rattle.cp_check.specs.Cases.{one_label, labels, before, are_labels, twice_faults}
+use Rattle.cp_check.proofs.Judging.{refuses_both}
 use Rattle.cp_check.proofs.Fronts.{with_front, front_refuses}
 
 -- ---- labels of an arm
@@ -44,31 +43,8 @@ module _ (ls : List Label) (i : ℕ) (l : Label) (within : i < length ls) (here 
   pub agree_split : (b : Base) → are_labels b (drop i ls) ≡ same_base l.number.base b && are_labels b (drop (i + 1) ls)
   agree_split b = ap (are_labels b) label_here
 
-  pub among_split : (m : Label) → is_label m (drop i ls) ≡ same_number m.number l.number || is_label m (drop (i + 1) ls)
-  among_split m = ap (is_label m) label_here
-
 pub agree_none : (b : Base) (ls : List Label) (i : ℕ) → length ls ≤ i → are_labels b (drop i ls) ≡ true
 agree_none b ls i h = rw (drop_all i ls h) refl
-
-pub among_none : (m : Label) (ls : List Label) (i : ℕ) → length ls ≤ i → is_label m (drop i ls) ≡ false
-among_none m ls i h = rw (drop_all i ls h) refl
-
-module _ (ls : List Label) (i : ℕ) (d : Label) (within : i < length ls) where
-  next : drop i ls ≡ get_or ls i d ∷ drop (i + 1) ls
-  next = rw (add-one, drop-cons ls i d) refl
-
-  taken : take (i + 1) ls ≡ take i ls ++ get_or ls i d ∷ []
-  taken = take-add i 1 ls ∙ ap (λ (ys : List Label). take i ls ++ take 1 ys) next
-
-  twice_split : twice_faults (take i ls) (drop i ls) ≡ again_faults (get_or ls i d) (take i ls) ++ twice_faults (take (i + 1) ls) (drop (i + 1) ls)
-  unfolding twice_faults
-  twice_split = ap (twice_faults (take i ls)) next ∙ ap (λ (ms : List Label). again_faults (get_or ls i d) (take i ls) ++ twice_faults ms (drop (i + 1) ls)) (sym taken)
-
-  pub twice_passed : again_faults (get_or ls i d) (take i ls) ≡ [] → twice_faults (take i ls) (drop i ls) ≡ twice_faults (take (i + 1) ls) (drop (i + 1) ls)
-  twice_passed h = twice_split ∙ ap (λ (fs : List CheckFault). fs ++ twice_faults (take (i + 1) ls) (drop (i + 1) ls)) h
-
-  pub twice_refused : (e : CheckFault) → RefusesList e (again_faults (get_or ls i d) (take i ls)) → RefusesList e (twice_faults (take i ls) (drop i ls))
-  twice_refused e h = subst (λ (fs : List CheckFault). RefusesList e fs) (sym twice_split) (first_append e (again_faults (get_or ls i d) (take i ls)) _ h)
 
 pub twice_none : (ms ls : List Label) (i : ℕ) → length ls ≤ i → twice_faults ms (drop i ls) ≡ []
 unfolding twice_faults

@@ -10,6 +10,7 @@ pub mod Judging
 pub mod Labels
 pub mod Lists
 pub mod Members
+pub mod Numbers
 pub mod Routines
 pub mod Statements
 pub mod Steps

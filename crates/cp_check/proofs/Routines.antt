@@ -9,7 +9,7 @@ use Rattle.cp_tree.specs.Syntax.{Group, ParameterGroup, Routine}
 use Rattle.cp_tree.specs.View.{group_view, parameter_group_view, routine_view}
 use Rattle.cp_scope.specs.Scopes.{Scopes}
 use Rattle.cp_scope.specs.Judged.{RefusesList}
-use Rattle.cp_check.specs.Types.{Step, then_step, nothing}
+use Rattle.cp_check.specs.Types.{then_step, nothing}
 use Rattle.cp_check.specs.Headings.{group_step, group_steps, parameter_step, parameter_steps}
 use Rattle.cp_check.specs.Routines.{routine_step, routine_steps}
 use Rattle.cp_check.proofs.Steps.{passed, refused, none}

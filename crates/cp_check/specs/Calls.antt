@@ -1,5 +1,5 @@
 -- The rules of calls.
-use Rattle.std.specs.Prelude.{ℕ, nat_eq, Bool, true, false, not, ◌&&◌, if◌then◌else◌, List, [], ◌∷◌, ◌++◌, length, Option, Some, None, is_some, Result, Ok, Err}
+use Rattle.std.specs.Prelude.{ℕ, nat_eq, Bool, true, false, not, ◌&&◌, if◌then◌else◌, List, [], ◌∷◌, ◌++◌, length, Option, Some, None, is_some, Ok, Err}
 use Rattle.cp_tree.specs.declared.declaration.SystemKind.{SystemKind}
 use Rattle.cp_tree.specs.declared.declaration.SystemKind.TheVariants.{Monitor}
 use Rattle.cp_scope.specs.declared.fault.Rule.{Rule}
@@ -13,7 +13,7 @@ use Rattle.cp_scope.specs.declared.shape.ArrayShape.{ArrayShape}
 use Rattle.cp_scope.specs.declared.count.Use.{Use}
 use Rattle.cp_scope.specs.Types.{agree, same, values_of}
 use Rattle.cp_scope.specs.Counts.{both_uses}
-use Rattle.cp_scope.specs.Scopes.{Scopes, Heading, heading_at, body_at, array_at}
+use Rattle.cp_scope.specs.Scopes.{Scopes, heading_at, body_at, array_at}
 use Rattle.cp_scope.specs.Judged.{Judged, broken, ◌>>=◌}
 use Rattle.cp_check.specs.declared.operand.Context.{Context}
 use Rattle.cp_check.specs.declared.operand.Place.{Place}

@@ -1,5 +1,5 @@
 -- The rules of `case`.
-use Rattle.std.specs.Prelude.{ℕ, Bool, true, false, ◌&&◌, ◌||◌, if◌then◌else◌, List, [], ◌∷◌, ◌++◌, Ok}
+use Rattle.std.specs.Prelude.{◌≡◌, ℕ, Bool, true, false, ◌&&◌, ◌||◌, if◌then◌else◌, List, [], ◌∷◌, ◌++◌, Ok}
 use Rattle.cp_tree.specs.declared.constant.Constant.{Constant}
 use Rattle.cp_scope.specs.declared.fault.Rule.TheVariants.{C5, C19}
 use Rattle.cp_scope.specs.declared.fault.CheckFault.{CheckFault}
@@ -41,6 +41,9 @@ joined p = Ok (p.0.0 ++ p.1.0, both_uses p.0.1 p.1.1)
 abbrev pub are_labels : Base → List Label → Bool
 are_labels b [] = true
 are_labels b (l ∷ ls) = same_base l.number.base b && are_labels b ls
+
+abbrev pub AreOfOneBase : List Label → Type 0
+AreOfOneBase ls = (b : Base) × (are_labels b ls ≡ true)
 
 -- the selector is ordinal, and the labels agree with it
 abbrev pub label_faults : ℕ → ValueType → List Label → List CheckFault

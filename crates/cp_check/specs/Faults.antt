@@ -1,5 +1,5 @@
 -- The faults of a program, in reading order.
-use Rattle.std.specs.Prelude.{ℕ, nat_lt, Bool, ◌||◌, if◌then◌else◌, List, [], ◌∷◌, ◌++◌, None, Ok, Err}
+use Rattle.std.specs.Prelude.{ℕ, nat_lt, Bool, ◌||◌, if◌then◌else◌, List, [], ◌∷◌, None, Ok, Err}
 use Rattle.cp_tree.specs.Syntax.{Program, Tree}
 use Rattle.cp_scope.specs.declared.fault.CheckFault.{CheckFault}
 use Rattle.cp_scope.specs.declared.fault.CheckFault.TheVariants as check_fault
@@ -8,7 +8,7 @@ use Rattle.cp_scope.specs.declared.count.Use.{Use}
 use Rattle.cp_scope.specs.declared.shape.Census.{Census}
 use Rattle.cp_scope.specs.Counts.{no_use}
 use Rattle.cp_scope.specs.Scopes.{Scopes, census, start}
-use Rattle.cp_scope.specs.Judged.{Judged, faults}
+use Rattle.cp_scope.specs.Judged.{Judged}
 use Rattle.cp_check.specs.declared.operand.Context.{Context}
 use Rattle.cp_check.specs.Types.{Step, then_step}
 use Rattle.cp_check.specs.Statements.{statements}

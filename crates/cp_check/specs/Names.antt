@@ -1,5 +1,5 @@
 -- The rules of names with selectors.
-use Rattle.std.specs.Prelude.{ℕ, Bool, if◌then◌else◌, List, Option, Some, None, Result, Ok, Err}
+use Rattle.std.specs.Prelude.{ℕ, if◌then◌else◌, List, Option, Some, None, Ok}
 use Rattle.cp_tree.specs.declared.constant.Identifier.{Identifier}
 use Rattle.cp_scope.specs.declared.fault.Rule.TheVariants.{C1, C5, C8}
 use Rattle.cp_scope.specs.declared.types.ValueType.{ValueType}

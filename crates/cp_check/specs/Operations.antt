@@ -1,5 +1,5 @@
 -- The rules of operations.
-use Rattle.std.specs.Prelude.{ℕ, Bool, true, false, ◌&&◌, if◌then◌else◌, List, [], ◌∷◌, Option, Some, None, Result, Ok, Err}
+use Rattle.std.specs.Prelude.{ℕ, Bool, true, false, ◌&&◌, if◌then◌else◌, List, [], ◌∷◌, Option, Some, None, Ok}
 use Rattle.std.specs.Option.{option_or}
 use Rattle.cp_tree.specs.declared.constant.Sign.{Sign}
 use Rattle.cp_tree.specs.declared.expression.Relation.{Relation}
@@ -16,7 +16,7 @@ use Rattle.cp_scope.specs.declared.types.ValueType.TheVariants.{Ordinal, Set}
 use Rattle.cp_scope.specs.declared.types.Predeclared.{Predeclared}
 use Rattle.cp_scope.specs.declared.types.Predeclared.TheVariants.{Succ, Pred, Chr, Ord, Abs, Empty, Delay, Continue, Display}
 use Rattle.cp_scope.specs.declared.count.Use.{Use}
-use Rattle.cp_scope.specs.Types.{same_base, agree, is_of, is_ordinal, values_of}
+use Rattle.cp_scope.specs.Types.{same_base, agree, is_of, values_of}
 use Rattle.cp_scope.specs.Counts.{both_uses}
 use Rattle.cp_scope.specs.Judged.{Judged, broken}
 use Rattle.cp_check.specs.declared.operand.Operand.{Operand}

@@ -1,6 +1,6 @@
 //! The labels of a `case`.
 
-ghost use Rattle.std.specs.Prelude.{◌≡◌, []};
+ghost use Rattle.std.specs.Prelude.{◌≡◌, [], IfOk};
 ghost use Rattle.cp_scope.specs.Judged.{Judges, Finds};
 ghost use Rattle.cp_scope.specs.View.{scopes_of};
 ghost use Rattle.cp_check.specs.Cases as spec;
@@ -12,6 +12,7 @@ use cp_scope::fault::{CheckFault, Rule, broken};
 use cp_scope::table::Table;
 use cp_scope::types::{Base, ValueType};
 use cp_tree::constant::Constant;
+use indexmap::IndexSet;
 use std::alloc::Global;
 
 /// A label, and where it stands.
@@ -58,8 +59,10 @@ fn are_labels(base: Base, labels: &[Label]) -> bool
 }
 
 /// The selector is ordinal, and the labels agree with it.
+#[tactic(auto, using(crate::proofs::Numbers::one_base))]
 fn labelled(at: usize, selector: ValueType, labels: &[Label]) -> Result<(), CheckFault>
-    ensures { Finds (spec.label_faults at selector labels.now) result }
+    ensures faults { Finds (spec.label_faults at selector labels.now) result }
+    ensures agree { IfOk result (λ u. spec.AreOfOneBase labels.now) }
 {
     match selector {
         ValueType::Ordinal(range) => {
@@ -73,47 +76,33 @@ fn labelled(at: usize, selector: ValueType, labels: &[Label]) -> Result<(), Chec
     }
 }
 
-/// Whether a label is one of others.
-#[tactic(auto, using(crate::proofs::Labels::among_split, crate::proofs::Labels::among_none))]
-fn is_label(label: Label, others: &[Label]) -> bool
-    ensures { result ≡ spec.is_label label others.now }
-{
-    for other in others {
-        if label.number.is_same(other.number) {
-            return true;
-        }
-    }
-    false
-}
-
-/// A label stands once.
-fn once(label: Label, before: &[Label]) -> Result<(), CheckFault>
-    ensures { Finds (spec.again_faults label before.now) result }
-{
-    if is_label(label, before) {
-        broken(label.at, Rule::C19)
-    } else {
-        Ok(())
-    }
-}
-
-/// Each label stands once.
-#[tactic(auto, using(crate::proofs::Labels::twice_passed, crate::proofs::Labels::twice_refused, crate::proofs::Labels::twice_none))]
-fn all_once(labels: &[Label]) -> Result<(), CheckFault>
+/// Each label stands once, where all are of one base.
+#[tactic(auto, using(crate::proofs::Labels::twice_none))]
+fn all_once(alloc: Global, labels: &[Label]) -> Result<(), CheckFault>
+    requires agree { spec.AreOfOneBase labels.now }
     ensures { Finds (spec.twice_faults [] labels.now) result }
 {
-    for place in 0..labels.len() {
-        once(labels[place], &labels[..place])?;
+    let mut numbers = IndexSet::new(alloc);
+    for label in labels {
+        if !numbers.insert(label.number.value)? {
+            return broken(label.at, Rule::C19);
+        }
     }
     Ok(())
 }
 
 /// The rules of a `case` itself; what it takes.
 #[tactic(auto, using(crate::proofs::Judging::first_append))]
-pub fn chosen(at: usize, selector: Operand, labels: &[Label], uses: Use) -> Result<Use, CheckFault>
+pub fn chosen(
+    alloc: Global,
+    at: usize,
+    selector: Operand,
+    labels: &[Label],
+    uses: Use,
+) -> Result<Use, CheckFault>
     ensures { Judges (λ u. u) (spec.chosen at (selector, (labels.now, uses))) result }
 {
     labelled(at, selector.value_type, labels)?;
-    all_once(labels)?;
+    all_once(alloc, labels)?;
     Ok(selector.uses.and(uses))
 }

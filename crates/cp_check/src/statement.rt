@@ -517,7 +517,7 @@ fn statement(
         StatementKind::Case(selector, nodes, _) => {
             let selector = expression(alloc, table, context, false, selector)?;
             let (labels, uses) = arms(alloc, table, context, nodes)?;
-            chosen(at, selector, &labels, uses)
+            chosen(alloc, at, selector, &labels, uses)
         }
     }
 }
