@@ -234,30 +234,41 @@ fn are_same(rows: &[Row], others: &[Row]) -> bool {
         })
 }
 
+/// The five digits of a number below 3125, to the base 5.
+fn digits_of(code: u32) -> [u32; 5] {
+    [
+        code % 5,
+        code / 5 % 5,
+        code / 25 % 5,
+        code / 125 % 5,
+        code / 625 % 5,
+    ]
+}
+
+fn is_order(digits: [u32; 5]) -> bool {
+    (0..5).all(|task| digits.contains(&task))
+}
+
 /// The pieces of a cutting in each order.
 #[test]
 fn gather_orders(rt: HostRuntime) -> Result<(), Fail> {
     let program = program_of(rt.alloc(), TWO_DISPLAYS)?;
     let table = table_of(rt.alloc(), &program, limits_of(5, Gates::First)?)?;
-    let mut orders = 0;
+    let mut orders = Vec::new(rt.alloc());
     for code in 0u32..3125 {
-        let order = [
-            code % 5,
-            code / 5 % 5,
-            code / 25 % 5,
-            code / 125 % 5,
-            code / 625,
-        ];
-        if (0..5).all(|task| order.contains(&task)) {
-            let pieces = cut_pieces(rt.alloc(), &table, &order)?;
-            let Ok(gathered) = gather(rt.alloc(), 5, pieces) else {
-                return Err(Fail::from("the pieces make no table"));
-            };
-            assert!(rt; are_same(gathered.rows.as_slice(), table.rows.as_slice()));
-            orders += 1;
+        let digits = digits_of(code);
+        if is_order(digits) {
+            orders.push(digits)?;
         }
     }
-    assert_eq!(rt; orders, 120);
+    assert_eq!(rt; orders.len(), 120);
+    for order in &orders {
+        let pieces = cut_pieces(rt.alloc(), &table, order)?;
+        let Ok(gathered) = gather(rt.alloc(), 5, pieces) else {
+            return Err(Fail::from("the pieces make no table"));
+        };
+        assert!(rt; are_same(gathered.rows.as_slice(), table.rows.as_slice()));
+    }
     Ok(())
 }
 
@@ -285,16 +296,21 @@ fn gather_wrong_pieces(rt: HostRuntime) -> Result<(), Fail> {
 }
 
 /// How many words begin those of a job's table.
-fn beginnings_of(alloc: Global, source: &str, choices: u8) -> Result<u64, Fail> {
-    let program = program_of(alloc, source)?;
-    let table = table_of(alloc, &program, limits_of(choices, Gates::First)?)?;
+fn beginnings_of(alloc: Global, program: &Resolved, limits: Limits) -> Result<u64, Fail> {
+    let table = table_of(alloc, program, limits)?;
     Ok(beginnings(&table))
 }
 
 #[test]
 fn beginnings_counts(rt: HostRuntime) -> Result<(), Fail> {
-    assert_eq!(rt; beginnings_of(rt.alloc(), TWO_DISPLAYS, 5)?, 82);
-    assert_eq!(rt; beginnings_of(rt.alloc(), TWO_CYCLES, 2)?, 7);
-    assert_eq!(rt; beginnings_of(rt.alloc(), TWO_DISPLAYS, 0)?, 1);
+    for (source, choices, count) in [
+        (TWO_DISPLAYS, 5, 82),
+        (TWO_CYCLES, 2, 7),
+        (TWO_DISPLAYS, 0, 1),
+    ] {
+        let program = program_of(rt.alloc(), source)?;
+        let limits = limits_of(choices, Gates::First)?;
+        assert_eq!(rt; beginnings_of(rt.alloc(), &program, limits)?, count);
+    }
     Ok(())
 }
