@@ -18,17 +18,32 @@ use std::marker::Brand;
 use std::sync::ledger::{Blank, Ledger};
 use std::test::Fail;
 
-pub static TWO_DISPLAYS: &str =
+pub const TWO_DISPLAYS: &str =
     "type p = process(n: integer); begin display(n) end; var a, b: p; begin init a(1), b(2) end.";
 
-pub static TWO_CYCLES: &str =
+pub const TWO_CYCLES: &str =
     "type p = process; begin cycle display(1) end end; var a: p; begin init a; cycle display(2) end end.";
 
-pub static DELAYED: &str =
+pub const DELAYED: &str =
     "type m = monitor; var q: queue; procedure entry hold; begin delay(q) end; begin end; p = process(x: m); begin x.hold end; var x: m; a: p; begin init x, a(x) end.";
 
-pub static THREE_CALLERS: &str =
+pub const THREE_CALLERS: &str =
     "type m = monitor; var q: queue; procedure entry go(n: integer); begin display(n); continue(q) end; begin end; p = process(x: m; n: integer); begin x.go(n) end; var x: m; a, b, c: p; begin init x, a(x, 1), b(x, 2), c(x, 3) end.";
+
+pub const TWO_IN_A_QUEUE: &str =
+    "type m = monitor; var q: queue; procedure entry hold; begin\ndelay(q) end; begin end; p = process(x: m); begin x.hold end; var x: m; a, b: p; begin init x, a(x), b(x) end.";
+
+pub const CONTINUED: &str =
+    "type m = monitor; var q: queue; procedure entry go(n: integer); begin display(n); continue(q) end; begin end; p = process(x: m; n: integer); begin x.go(n) end; var x: m; a, b: p; begin init x, a(x, 1), b(x, 2) end.";
+
+pub const RESUMED: &str =
+    "type m = monitor; var q: queue; procedure entry hold; begin delay(q); display(1) end; procedure entry go; begin display(2); continue(q) end; procedure entry look; begin display(3) end; begin end; a = process(x: m); begin x.hold end; b = process(x: m); begin x.go end; c = process(x: m); begin x.look end; var x: m; r: a; s: b; t: c; begin init x, r(x), s(x), t(x) end.";
+
+pub const BUFFER: &str =
+    "type buffer = monitor; var full: boolean; slot: integer; sender, receiver: queue; procedure entry put(x: integer); begin if full then delay(sender); slot := x; full := true; continue(receiver) end; procedure entry get(var x: integer); begin if not full then delay(receiver); x := slot; full := false; continue(sender) end; begin full := false end; producer = process(b: buffer); begin b.put(7) end; consumer = process(b: buffer); var v: integer; begin b.get(v); display(v) end; var b: buffer; p: producer; c: consumer; begin init b, p(b), c(b) end.";
+
+pub const INNER_DELAY: &str =
+    "type inner = monitor; var q: queue; procedure entry hold; begin delay(q) end; procedure entry free; begin continue(q) end; begin end; outer = monitor(i: inner); procedure entry go; begin i.hold end; begin end; a = process(o: outer); begin o.go end; b = process(i: inner); begin i.free end; var i: inner; o: outer; p, r: a; s: b; begin init i, o(i), p(o), r(o), s(i) end.";
 
 /// The program of an accepted source.
 pub fn program_of(alloc: Global, source: &str) -> Result<Resolved, Fail> {

@@ -1,7 +1,7 @@
 //! Runs of single words: how they end, what they want, and where they are refused.
 
 use super::programs::{
-    DELAYED, THREE_CALLERS, TWO_DISPLAYS, end_of, limits_of, numbers_of, program_of,
+    DELAYED, RESUMED, THREE_CALLERS, TWO_DISPLAYS, end_of, limits_of, numbers_of, program_of,
 };
 use cp_machine::gates::Gates;
 use cp_machine::shown::Shown;
@@ -10,31 +10,48 @@ use std::test::Fail;
 
 /// A word that its run uses wholly, and what is displayed.
 struct Ending {
+    source: &'static str,
+    choices: u8,
     gates: Gates,
     word: &'static str,
     output: [i16; 3],
 }
 
-static ENDINGS: [Ending; 4] = [
+static ENDINGS: [Ending; 5] = [
     Ending {
+        source: THREE_CALLERS,
+        choices: 12,
         gates: Gates::First,
         word: "0.0.0.1.2.3.2.2.3.3.1.2",
         output: [1, 2, 3],
     },
     Ending {
+        source: THREE_CALLERS,
+        choices: 12,
         gates: Gates::First,
         word: "0.0.0.1.3.2.3.3.2.2.1.3",
         output: [1, 3, 2],
     },
     Ending {
+        source: THREE_CALLERS,
+        choices: 13,
         gates: Gates::Any,
         word: "0.0.0.1.2.3.2.2.2.3.3.1.2",
         output: [1, 2, 3],
     },
     Ending {
+        source: THREE_CALLERS,
+        choices: 13,
         gates: Gates::Any,
         word: "0.0.0.1.2.3.3.3.3.2.2.1.2",
         output: [1, 3, 2],
+    },
+    Ending {
+        source: RESUMED,
+        choices: 13,
+        gates: Gates::First,
+        word: "0.0.0.1.1.2.3.1.1.3.3.1.2",
+        output: [2, 1, 3],
     },
 ];
 
@@ -46,16 +63,16 @@ fn shows(output: &[Shown], wanted: &[i16]) -> bool {
             .all(|(shown, number)| *shown == Shown::Integer(*number))
 }
 
-/// The order in the line decides under one gate, and the choice under the other.
+/// The order in the line decides under one gate, and the choice under the other. A process that is resumed goes before the line.
 #[test]
-fn three_callers(rt: HostRuntime) -> Result<(), Fail> {
-    let program = program_of(rt.alloc(), THREE_CALLERS)?;
+fn who_goes_first(rt: HostRuntime) -> Result<(), Fail> {
     for ending in &ENDINGS {
+        let program = program_of(rt.alloc(), ending.source)?;
         let word = numbers_of(ending.word);
         let end = end_of(
             rt.alloc(),
             &program,
-            limits_of(13, ending.gates)?,
+            limits_of(ending.choices, ending.gates)?,
             word.as_slice(),
         )?;
         let name = ending.word;
