@@ -42,6 +42,7 @@ abbrev pub are_labels : Base → List Label → Bool
 are_labels b [] = true
 are_labels b (l ∷ ls) = same_base l.number.base b && are_labels b ls
 
+-- all labels are of one base
 abbrev pub AreOfOneBase : List Label → Type 0
 AreOfOneBase ls = (b : Base) × (are_labels b ls ≡ true)
 

@@ -25,6 +25,7 @@ common [] w = 0
 common (p ∷ v) [] = 0
 common (p ∷ v) (q ∷ w) = if p == q then suc (common v w) else 0
 
+-- the words of a table, as rows of the code and as lines of the definition
 abbrev pub words_of_rows : List Row → List (List ℕ)
 words_of_rows rows = map (λ r. r.word.items) rows
 
