@@ -27,8 +27,9 @@ pub fn put_instead(stack: &mut Vec<Entry>, entry: Entry)
     ensures len { vec_len stack.new ≤ vec_len stack.old }
     ensures room { vec_capacity stack.old ≤ vec_capacity stack.new }
 {
-    let _ = stack.pop();
-    let _ = stack.push(entry);
+    if let Some(top) = stack.last_mut() {
+        *top = entry;
+    }
 }
 
 /// Puts the rest of a list in place of the topmost entry.

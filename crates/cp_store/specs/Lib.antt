@@ -5,3 +5,4 @@ pub mod Places
 pub mod Components
 pub mod SetLaws
 pub mod Arguments
+pub mod Answers

@@ -108,3 +108,12 @@ element_at = code_index.fold-Index ToValue ToSet ToElement ToAddress expression_
 -- the address behind all indices
 abbrev pub indexed_at : Memory → Frame → Address → List code_index.Index → Result Address ErrorName
 indexed_at m f at is = through (map element_at is) m f at
+
+-- whether an expression compares sets, or asks for a member
+abbrev pub is_set_test_step : Expression-F Bool Bool Bool Bool → Bool
+is_set_test_step (Expression-F.SameSet wanted a b) = true
+is_set_test_step (Expression-F.Member e a) = true
+is_set_test_step e = false
+
+abbrev pub is_set_test : code_expression.Expression → Bool
+is_set_test e = code_expression.fold-Expression Bool Bool Bool Bool is_set_test_step (λ _. false) (λ _. false) (λ _. false) e

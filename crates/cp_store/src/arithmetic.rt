@@ -115,6 +115,7 @@ pub fn product(left: i16, right: i16) -> Result<i16, ErrorName>
 }
 
 /// An operation on two integers.
+#[inline(always)]
 pub fn calculated(operator: Arithmetic, left: i16, right: i16) -> Result<i16, ErrorName>
     ensures { result ≡ spec.calculated operator left right }
 {

@@ -1,9 +1,11 @@
 //! Addresses of places, and values of expressions and sets. Parts are evaluated from left to right; the first run error counts.
 
-ghost use Rattle.std.specs.Prelude.{◌≡◌};
+ghost use Rattle.std.specs.Prelude.{◌≡◌, IsTrue};
+ghost use Rattle.cp_store.specs.Answers.{answered};
 ghost use Rattle.cp_store.specs.Memory.{memory_of};
 ghost use Rattle.cp_store.specs.Places as spec;
 
+use crate::answer::Answer;
 use crate::arithmetic::{
     absolute, calculated, combined, compared, is_true, negated, predecessor, ranged, successor,
     truth,
@@ -24,6 +26,7 @@ fn referred(room: &Room, number: usize) -> Address
 }
 
 /// Where a variable begins.
+#[inline(always)]
 pub fn begun(origin: Origin, room: &Room, frame: &Frame) -> Address
     ensures { result ≡ spec.begun room.now.references.items frame.now origin }
 {
@@ -45,6 +48,7 @@ pub fn distance(index: i16, low: i16, high: i16, size: usize) -> Result<usize, E
 
 /// The address of a place.
 #[cycle(evaluate)]
+#[inline(always)]
 pub fn address(
     place: &Place,
     permanents: &[i16],
@@ -54,11 +58,15 @@ pub fn address(
     ensures { result ≡ spec.address_at (memory_of permanents.now room.now) frame.now place.now }
 {
     let start = begun(place.origin, room, frame).moved(place.offset);
-    indexed(start, &place.indices, permanents, room, frame)
+    match place.indices.as_slice() {
+        [] => Ok(start),
+        indices => indexed(start, indices, permanents, room, frame),
+    }
 }
 
 // The address behind all indices.
 #[cycle(evaluate)]
+#[inline(never)]
 fn indexed(
     start: Address,
     indices: &[Index],
@@ -78,6 +86,7 @@ fn indexed(
 
 /// The value of an expression.
 #[cycle(evaluate)]
+#[inline(always)]
 pub fn evaluate(
     expression: &Expression,
     permanents: &[i16],
@@ -89,29 +98,62 @@ pub fn evaluate(
     match expression {
         Expression::Number(value) => Ok(*value),
         Expression::Load(place) => loaded(place, permanents, room, frame),
-        Expression::Negate(operand) => negated(evaluate(operand, permanents, room, frame)?),
-        Expression::Absolute(operand) => absolute(evaluate(operand, permanents, room, frame)?),
+        _ => answer(expression, permanents, room, frame).result(),
+    }
+}
+
+// The value of an expression, handed over in a register.
+#[cycle(evaluate)]
+#[inline(never)]
+fn answer(expression: &Expression, permanents: &[i16], room: &Room, frame: &Frame) -> Answer
+    ensures { answered result ≡ spec.value_at (memory_of permanents.now room.now) frame.now expression.now }
+{
+    Answer::of(computed(expression, permanents, room, frame))
+}
+
+// The value of an expression by its parts.
+#[cycle(evaluate)]
+#[inline(always)]
+fn computed(
+    expression: &Expression,
+    permanents: &[i16],
+    room: &Room,
+    frame: &Frame,
+) -> Result<i16, ErrorName>
+    ensures { result ≡ spec.value_at (memory_of permanents.now room.now) frame.now expression.now }
+{
+    match expression {
+        Expression::Number(value) => Ok(*value),
+        Expression::Load(place) => loaded(place, permanents, room, frame),
+        Expression::Negate(operand) => {
+            negated(answer(operand, permanents, room, frame).result()?)
+        }
+        Expression::Absolute(operand) => {
+            absolute(answer(operand, permanents, room, frame).result()?)
+        }
         Expression::Not(operand) => {
-            let value = evaluate(operand, permanents, room, frame)?;
+            let value = answer(operand, permanents, room, frame).result()?;
             Ok(truth(!is_true(value)))
         }
         Expression::Successor(operand, last) => {
-            successor(evaluate(operand, permanents, room, frame)?, *last)
+            successor(answer(operand, permanents, room, frame).result()?, *last)
         }
         Expression::Predecessor(operand, first) => {
-            predecessor(evaluate(operand, permanents, room, frame)?, *first)
+            predecessor(answer(operand, permanents, room, frame).result()?, *first)
         }
-        Expression::Character(operand) => {
-            ranged(evaluate(operand, permanents, room, frame)?, 0, 127)
-        }
+        Expression::Character(operand) => ranged(
+            answer(operand, permanents, room, frame).result()?,
+            0,
+            127,
+        ),
         Expression::Arithmetic(operator, left, right) => {
             let left = evaluate(left, permanents, room, frame)?;
             let right = evaluate(right, permanents, room, frame)?;
             calculated(*operator, left, right)
         }
         Expression::Logic(operator, left, right) => {
-            let left = evaluate(left, permanents, room, frame)?;
-            let right = evaluate(right, permanents, room, frame)?;
+            let left = answer(left, permanents, room, frame).result()?;
+            let right = answer(right, permanents, room, frame).result()?;
             Ok(combined(*operator, left, right))
         }
         Expression::Compare(relation, left, right) => {
@@ -119,15 +161,8 @@ pub fn evaluate(
             let right = evaluate(right, permanents, room, frame)?;
             Ok(compared(*relation, left, right))
         }
-        Expression::SameSet(wanted, left, right) => {
-            let left = evaluate_set(left, permanents, room, frame)?;
-            let right = evaluate_set(right, permanents, room, frame)?;
-            Ok(set::compared(*wanted, left, right))
-        }
-        Expression::Member(element, whole) => {
-            let element = evaluate(element, permanents, room, frame)?;
-            let whole = evaluate_set(whole, permanents, room, frame)?;
-            Ok(truth(set::is_member(whole, element)))
+        Expression::SameSet(_, _, _) | Expression::Member(_, _) => {
+            set_test(expression, permanents, room, frame).result()
         }
         Expression::IsEmpty(queue) => {
             let waits = loaded(queue, permanents, room, frame)?;
@@ -136,13 +171,77 @@ pub fn evaluate(
     }
 }
 
+// Whether two sets are the same, or an element belongs to a set: apart, since sets go through memory.
+#[cycle(evaluate)]
+#[inline(never)]
+fn set_test(expression: &Expression, permanents: &[i16], room: &Room, frame: &Frame) -> Answer
+    requires { IsTrue (spec.is_set_test expression.now) }
+    ensures { answered result ≡ spec.value_at (memory_of permanents.now room.now) frame.now expression.now }
+{
+    Answer::of(tested(expression, permanents, room, frame))
+}
+
+#[cycle(evaluate)]
+fn tested(
+    expression: &Expression,
+    permanents: &[i16],
+    room: &Room,
+    frame: &Frame,
+) -> Result<i16, ErrorName>
+    requires { IsTrue (spec.is_set_test expression.now) }
+    ensures { result ≡ spec.value_at (memory_of permanents.now room.now) frame.now expression.now }
+{
+    match expression {
+        Expression::SameSet(wanted, left, right) => {
+            let left = evaluate_set(left, permanents, room, frame)?;
+            let right = evaluate_set(right, permanents, room, frame)?;
+            Ok(set::compared(*wanted, left, right))
+        }
+        Expression::Member(element, whole) => {
+            let element = answer(element, permanents, room, frame).result()?;
+            let whole = evaluate_set(whole, permanents, room, frame)?;
+            Ok(truth(set::is_member(whole, element)))
+        }
+        Expression::Number(_)
+        | Expression::Load(_)
+        | Expression::Negate(_)
+        | Expression::Absolute(_)
+        | Expression::Not(_)
+        | Expression::Successor(_, _)
+        | Expression::Predecessor(_, _)
+        | Expression::Character(_)
+        | Expression::Arithmetic(_, _, _)
+        | Expression::Logic(_, _, _)
+        | Expression::Compare(_, _, _)
+        | Expression::IsEmpty(_) => unreachable!(),
+    }
+}
+
 // The value of the cell at a place.
 #[cycle(evaluate)]
+#[inline(always)]
 fn loaded(place: &Place, permanents: &[i16], room: &Room, frame: &Frame) -> Result<i16, ErrorName>
     ensures { result ≡ spec.loaded (memory_of permanents.now room.now) (spec.address_at (memory_of permanents.now room.now) frame.now place.now) }
 {
-    let at = address(place, permanents, room, frame)?;
-    Ok(cell(permanents, room, at))
+    match place.indices.as_slice() {
+        [] => {
+            let at = begun(place.origin, room, frame).moved(place.offset);
+            Ok(cell(permanents, room, at))
+        }
+        _ => element(place, permanents, room, frame).result(),
+    }
+}
+
+// The value of the cell at a place with indices: apart, since addresses go through memory.
+#[cycle(evaluate)]
+#[inline(never)]
+fn element(place: &Place, permanents: &[i16], room: &Room, frame: &Frame) -> Answer
+    ensures { answered result ≡ spec.loaded (memory_of permanents.now room.now) (spec.address_at (memory_of permanents.now room.now) frame.now place.now) }
+{
+    match address(place, permanents, room, frame) {
+        Ok(at) => Answer::Value(cell(permanents, room, at)),
+        Err(name) => Answer::failed(name),
+    }
 }
 
 /// The value of a set expression.

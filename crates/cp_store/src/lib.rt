@@ -1,6 +1,7 @@
 //! Cells, addresses, and the values of expressions, sets and arguments.
 #![tactic(auto)]
 
+mod answer;
 pub mod argument;
 pub mod arithmetic;
 pub mod bind;

@@ -1,0 +1,28 @@
+-- What an expression gives: its value or a run error, as one of a few cases.
+use Rattle.std.specs.Prelude.{Result, Ok, Err, ℤ}
+use Rattle.cp_store.specs.declared.answer.Answer.{Answer}
+use Rattle.cp_store.specs.declared.answer.Answer.TheVariants as answer
+use Rattle.cp_store.specs.declared.error.ErrorName.{ErrorName}
+use Rattle.cp_store.specs.declared.error.ErrorName.TheVariants as error
+
+-- the run error of an answer that is no value
+abbrev pub name_of : Answer → ErrorName
+name_of (answer.Value value) = error.Overflow
+name_of answer.Overflow = error.Overflow
+name_of answer.ZeroDivisor = error.ZeroDivisor
+name_of answer.Range = error.Range
+name_of answer.NoCase = error.NoCase
+name_of answer.QueueInUse = error.QueueInUse
+name_of answer.NotInit = error.NotInit
+name_of answer.InitTwice = error.InitTwice
+
+-- what an answer stands for
+abbrev pub answered : Answer → Result ℤ ErrorName
+answered (answer.Value value) = Ok value
+answered answer.Overflow = Err error.Overflow
+answered answer.ZeroDivisor = Err error.ZeroDivisor
+answered answer.Range = Err error.Range
+answered answer.NoCase = Err error.NoCase
+answered answer.QueueInUse = Err error.QueueInUse
+answered answer.NotInit = Err error.NotInit
+answered answer.InitTwice = Err error.InitTwice
