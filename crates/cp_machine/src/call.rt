@@ -186,6 +186,7 @@ fn call_by(
 }
 
 /// A call: the component's place first, then the arguments, then whether the component is initialised.
+#[inline(never)]
 pub fn call(
     program: &Resolved,
     state: &mut State,

@@ -16,6 +16,7 @@ use cp_slots::resolved::Resolved;
 use cp_store::memory::Frame;
 
 /// The end of a call, which is the topmost entry; that of a monitor's entry is the kernel's leave.
+#[inline(never)]
 pub fn return_to(
     program: &Resolved,
     state: &mut State,
@@ -41,6 +42,7 @@ pub fn return_to(
 }
 
 /// The end of an initial statement, which is the topmost entry: the component is initialised.
+#[inline(never)]
 pub fn end_init(program: &Resolved, state: &mut State, pid: u8, caller: Frame, component: usize)
     requires pid { pid < length state.old.processes.items }
     requires routine { (thread_at (machine_of state.old).threads pid).frame.routine < length program.now.routines }

@@ -37,6 +37,7 @@ pub fn status_of(state: &State, pid: u8) -> Status
 }
 
 /// The value of an expression.
+#[inline(always)]
 pub fn value_of(state: &State, pid: u8, expression: &Expression) -> Result<i16, ErrorName>
     requires { pid < length state.now.processes.items }
     ensures { result ≡ spec.value_of (machine_of state.now) pid expression.now }
@@ -55,6 +56,7 @@ pub fn set_of(state: &State, pid: u8, expression: &SetExpression) -> Result<SetV
 }
 
 /// The address of a place.
+#[inline(always)]
 pub fn address_of(state: &State, pid: u8, place: &Place) -> Result<Address, ErrorName>
     requires { pid < length state.now.processes.items }
     ensures { result ≡ spec.address_of (machine_of state.now) pid place.now }
@@ -64,6 +66,7 @@ pub fn address_of(state: &State, pid: u8, place: &Place) -> Result<Address, Erro
 }
 
 /// Where a variable lies.
+#[inline(always)]
 pub fn origin_of(state: &State, pid: u8, variable: Origin) -> Address
     requires { pid < length state.now.processes.items }
     ensures { result ≡ spec.origin_of (machine_of state.now) pid variable }
@@ -118,6 +121,7 @@ pub fn set_status(state: &mut State, pid: u8, status: Status)
 }
 
 /// Writes the cell at an address.
+#[inline(always)]
 pub fn put_number(state: &mut State, pid: u8, at: Address, value: i16)
     requires pid { pid < length state.old.processes.items }
     ensures after { machine_of state.new ≡ spec.number_put (machine_of state.old) pid at value }

@@ -81,6 +81,7 @@ fn delay_at(
 }
 
 /// `delay`.
+#[inline(never)]
 pub fn delay(
     program: &Resolved,
     state: &mut State,
@@ -155,7 +156,7 @@ fn continue_from(program: &Resolved, state: &mut State, pid: u8, cell: usize) ->
     ensures reserved { (r : Tables) → IsReserved r state.old → IsReserved r state.new }
 {
     match top_of(state, pid) {
-        Some(Entry::Return(caller, slot, Some(monitor))) => {
+        Some(&Entry::Return(caller, slot, Some(monitor))) => {
             leave(program, state, pid, caller, slot);
             kernel::resume(state, monitor, cell);
             Event::Kernel(Kernel::Continue)
@@ -165,6 +166,7 @@ fn continue_from(program: &Resolved, state: &mut State, pid: u8, cell: usize) ->
 }
 
 /// `continue`: the rest of the entry procedure and its end are removed.
+#[inline(never)]
 pub fn continue_with(
     program: &Resolved,
     state: &mut State,

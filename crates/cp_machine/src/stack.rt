@@ -1,6 +1,6 @@
 //! Control stacks, which never grow past what was reserved.
 
-ghost use Rattle.std.specs.Prelude.{◌≡◌, ◌+◌, ◌<◌, ◌≤◌, ◌∷◌, vec_len, vec_capacity, drop, length, IfSome, map};
+ghost use Rattle.std.specs.Prelude.{◌≡◌, ◌+◌, ◌<◌, ◌≤◌, ◌∷◌, vec_len, vec_capacity, drop, length, IfSome, map, option_copied};
 ghost use Rattle.cp_slots.specs.Tables.{Tables};
 ghost use Rattle.cp_machine.specs.Fits.{HasRoom, IsBusy, IsReserved};
 ghost use Rattle.cp_machine.specs.Machine.{machine_of, thread_at, with_stack};
@@ -10,6 +10,7 @@ use crate::process::Entry;
 use crate::state::State;
 
 /// Puts a list on top.
+#[inline(always)]
 pub fn put(stack: &mut Vec<Entry>, list: Option<usize>)
     requires { IfSome list (λ _. vec_len stack.old < vec_capacity stack.old) }
     ensures entries { top_first stack.new ≡ rest_of list (top_first stack.old) }
@@ -21,18 +22,19 @@ pub fn put(stack: &mut Vec<Entry>, list: Option<usize>)
 }
 
 /// Puts an entry in place of the topmost one.
+#[inline(always)]
 pub fn put_instead(stack: &mut Vec<Entry>, entry: Entry)
     requires { 0 < vec_len stack.old }
     ensures entries { top_first stack.new ≡ entry ∷ drop 1 (top_first stack.old) }
     ensures len { vec_len stack.new ≤ vec_len stack.old }
     ensures room { vec_capacity stack.old ≤ vec_capacity stack.new }
 {
-    if let Some(top) = stack.last_mut() {
-        *top = entry;
-    }
+    let _ = stack.pop();
+    let _ = stack.push(entry);
 }
 
 /// Puts the rest of a list in place of the topmost entry.
+#[inline(always)]
 pub fn go_on(stack: &mut Vec<Entry>, next: Option<usize>)
     requires { 0 < vec_len stack.old }
     ensures entries { top_first stack.new ≡ rest_of next (drop 1 (top_first stack.old)) }
@@ -56,15 +58,17 @@ pub fn go_into(stack: &mut Vec<Entry>, next: Option<usize>, end: Entry, body: Op
 }
 
 /// The topmost entry of a process.
-pub fn top_of(state: &State, pid: u8) -> Option<Entry>
+#[inline(always)]
+pub fn top_of(state: &State, pid: u8) -> Option<&Entry>
     requires { pid < length state.now.processes.items }
-    ensures { (thread_at (machine_of state.now).threads pid).stack ≡ above result (drop 1 (thread_at (machine_of state.now).threads pid).stack) }
+    ensures { (thread_at (machine_of state.now).threads pid).stack ≡ above (option_copied result) (drop 1 (thread_at (machine_of state.now).threads pid).stack) }
 {
     let process = &state.processes[pid as usize];
-    process.stack.last().copied()
+    process.stack.last()
 }
 
 /// Puts the rest of a list in place of the topmost entry of a process, and a list above it.
+#[inline(always)]
 pub fn replace(state: &mut State, pid: u8, list: Option<usize>, next: Option<usize>)
     requires pid { pid < length state.old.processes.items }
     requires busy { IsBusy state.old pid }
@@ -79,6 +83,7 @@ pub fn replace(state: &mut State, pid: u8, list: Option<usize>, next: Option<usi
 }
 
 /// Puts an entry in place of the topmost entry of a process, and a list above it.
+#[inline(always)]
 pub fn replace_by(state: &mut State, pid: u8, list: Option<usize>, entry: Entry)
     requires pid { pid < length state.old.processes.items }
     requires busy { IsBusy state.old pid }
@@ -92,6 +97,7 @@ pub fn replace_by(state: &mut State, pid: u8, list: Option<usize>, entry: Entry)
 }
 
 /// Puts a list above the topmost entry of a process.
+#[inline(always)]
 pub fn repeat(state: &mut State, pid: u8, list: Option<usize>)
     requires pid { pid < length state.old.processes.items }
     requires room { HasRoom state.old pid list }

@@ -108,6 +108,7 @@ fn start_by(
 }
 
 /// A start: the component's place first, then the arguments, then whether it is the first start.
+#[inline(never)]
 pub fn start(
     program: &Resolved,
     state: &mut State,

@@ -41,6 +41,7 @@ pub fn assign(
 }
 
 /// The assignment of a set.
+#[inline(never)]
 pub fn assign_set(
     state: &mut State,
     pid: u8,
@@ -64,6 +65,7 @@ pub fn assign_set(
 }
 
 /// The assignment of an array or a record.
+#[inline(never)]
 pub fn copy(
     state: &mut State,
     pid: u8,
@@ -129,6 +131,7 @@ fn arm_for(arms: &[Arm], value: i16) -> Result<Option<usize>, ErrorName>
 }
 
 /// `case`: becomes the chosen arm.
+#[inline(never)]
 pub fn case_of(
     state: &mut State,
     pid: u8,
@@ -199,6 +202,7 @@ fn show(state: &mut State, pid: u8, next: Option<usize>, value: Shown) -> Event
 }
 
 /// `display`: its value first, and then whether there is room for it.
+#[inline(never)]
 pub fn display(
     state: &mut State,
     pid: u8,

@@ -51,14 +51,14 @@ fn take_step(program: &Resolved, state: &mut State, pid: u8) -> Event
             set_status(state, pid, Status::Ended);
             Event::Ended
         }
-        Some(Entry::Rest(at)) => take_item(program, state, pid, at),
-        Some(Entry::Successor(at, value, last)) => {
+        Some(&Entry::Rest(at)) => take_item(program, state, pid, at),
+        Some(&Entry::Successor(at, value, last)) => {
             take_successor(program, state, pid, at, value, last)
         }
-        Some(Entry::Return(caller, slot, monitor)) => {
+        Some(&Entry::Return(caller, slot, monitor)) => {
             return_to(program, state, pid, caller, slot, monitor)
         }
-        Some(Entry::InitEnd(caller, component)) => {
+        Some(&Entry::InitEnd(caller, component)) => {
             end_init(program, state, pid, caller, component);
             Event::Local
         }

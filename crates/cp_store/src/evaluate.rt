@@ -141,11 +141,10 @@ fn computed(
         Expression::Predecessor(operand, first) => {
             predecessor(answer(operand, permanents, room, frame).result()?, *first)
         }
-        Expression::Character(operand) => ranged(
-            answer(operand, permanents, room, frame).result()?,
-            0,
-            127,
-        ),
+        Expression::Character(operand) => {
+            let number = answer(operand, permanents, room, frame).result()?;
+            ranged(number, 0, 127)
+        }
         Expression::Arithmetic(operator, left, right) => {
             let left = evaluate(left, permanents, room, frame)?;
             let right = evaluate(right, permanents, room, frame)?;
