@@ -31,3 +31,9 @@ abbrev pub is_inner : Option Entry → Bool
 is_inner (Some (Rest at)) = true
 is_inner (Some (Successor at value last)) = true
 is_inner _ = false
+
+-- whether the end of a call or of an initial statement is on top
+abbrev pub is_end : List Entry → Bool
+is_end (Return caller result monitor ∷ es) = true
+is_end (InitEnd caller component ∷ es) = true
+is_end _ = false

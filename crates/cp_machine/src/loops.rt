@@ -79,6 +79,7 @@ pub struct Course {
 }
 
 // The variable takes a value; then come the list, and the successor of the value.
+#[inline(always)]
 fn go_on(state: &mut State, pid: u8, course: Course, last: i16, value: i16)
     requires pid { pid < length state.old.processes.items }
     requires busy { IsBusy state.old pid }

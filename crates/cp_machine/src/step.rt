@@ -2,7 +2,8 @@
 
 ghost use Rattle.std.specs.Prelude.{◌≡◌, ◌+◌, ◌<◌, IsTrue, false, if◌then◌else◌, length};
 ghost use Rattle.cp_machine.specs.Fits.{IsReserved, IsStateOf};
-ghost use Rattle.cp_machine.specs.Machine.{is_pending, is_ready, machine_of};
+ghost use Rattle.cp_machine.specs.Machine.{is_pending, is_ready, machine_of, thread_at};
+ghost use Rattle.cp_machine.specs.Stack.{is_end};
 ghost use Rattle.cp_machine.specs.Step.{step_at, succeeds};
 
 use crate::end::{end_init, return_to};
@@ -55,6 +56,22 @@ fn take_step(program: &Resolved, state: &mut State, pid: u8) -> Event
         Some(&Entry::Successor(at, value, last)) => {
             take_successor(program, state, pid, at, value, last)
         }
+        Some(&Entry::Return(_, _, _)) | Some(&Entry::InitEnd(_, _)) => {
+            take_end(program, state, pid)
+        }
+    }
+}
+
+// The end of a call or of an initial statement: apart, since frames go through memory.
+#[inline(never)]
+fn take_end(program: &Resolved, state: &mut State, pid: u8) -> Event
+    requires own { IsStateOf program.now state.old }
+    requires pid { pid < length state.old.processes.items }
+    requires end { IsTrue (is_end (thread_at (machine_of state.old).threads pid).stack) }
+    ensures after { step_at program.now (machine_of state.old) pid ≡ record { machine = machine_of state.new; event = result } }
+    ensures reserved { IsReserved program.now state.new }
+{
+    match top_of(state, pid) {
         Some(&Entry::Return(caller, slot, monitor)) => {
             return_to(program, state, pid, caller, slot, monitor)
         }
@@ -62,5 +79,6 @@ fn take_step(program: &Resolved, state: &mut State, pid: u8) -> Event
             end_init(program, state, pid, caller, component);
             Event::Local
         }
+        None | Some(&Entry::Rest(_)) | Some(&Entry::Successor(_, _, _)) => unreachable!(),
     }
 }
