@@ -1,5 +1,5 @@
 -- When the numbers of a resolved program are sound: what a process needs is inside what is reserved for it.
-use Rattle.std.specs.Prelude.{◌≡◌, ℕ, ◌+◌, ◌<◌, ◌≤◌, ◌-◌, List, length, Option, Some, None, slice_index_or}
+use Rattle.std.specs.Prelude.{IsTrue, ◌≡◌, ℕ, ◌+◌, ◌<◌, ◌≤◌, ◌-◌, List, length, Option, Some, None, slice_index_or}
 use Rattle.cp_slots.specs.declared.place.Argument.{Argument}
 use Rattle.cp_slots.specs.declared.item.Action.{Action}
 use Rattle.cp_slots.specs.declared.item.Action.TheVariants.{Empty, Assign, AssignSet, Copy, Block, If, Case, While, Until, For, Cycle, Call, Start, Delay, Continue, Display}
@@ -8,6 +8,7 @@ use Rattle.cp_slots.specs.declared.item.Item.{Item}
 use Rattle.cp_slots.specs.declared.tables.ComponentKind.{ComponentKind}
 use Rattle.cp_slots.specs.declared.tables.ComponentKind.TheVariants as kind
 use Rattle.cp_slots.specs.declared.tables.Process.{Process}
+use Rattle.cp_slots.specs.Inside.{action_inside}
 use Rattle.cp_slots.specs.Tables.{Tables, RoutineView, item_at, routine_at, component_at, process_at}
 
 -- an item of the routine, whose list needs at most `need` entries above its own
@@ -68,6 +69,7 @@ pub record ItemFits (t : Tables) (item : Item) : Type 0 where
 pub record RoutineFits (r : RoutineView) : Type 0 where
   pub cells : length r.image ≤ r.room
   pub references : r.references ≤ r.reference_room
+  pub extents : length r.extents ≡ r.references
 
 -- the number of a monitor or process is one of the program's
 abbrev pub KindFits : Tables → ComponentKind → Type 0
@@ -93,3 +95,5 @@ pub record IsSound (t : Tables) : Type 0 where
   pub some : 1 ≤ length t.processes
   pub few : length t.processes ≤ 16
   pub monitors : t.monitors ≤ 64
+  -- what an item reads and writes is inside what it names
+  pub inside : (at : ℕ) → at < length t.items → IsTrue (action_inside t (routine_at t (item_at t at).routine) (item_at t at).action)

@@ -17,6 +17,9 @@ pub record RoutineView : Type 0 where
   pub result : ℕ
   pub room : ℕ
   pub reference_room : ℕ
+  -- how many permanent cells its component has at least, and how many cells are behind each `var` parameter
+  pub own : ℕ
+  pub extents : List ℕ
 
 abbrev pub routine_view : Routine → RoutineView
 routine_view r =
@@ -27,6 +30,8 @@ routine_view r =
       result = r.result;
       room = r.room;
       reference_room = r.reference_room;
+      own = r.own;
+      extents = r.extents.items;
     }
 
 pub record Tables : Type 0 where
@@ -67,7 +72,7 @@ abbrev pub item_at : Tables → ℕ → Item
 item_at t at = slice_index_or t.items at no_item
 
 abbrev pub no_routine : RoutineView
-no_routine = record { body = None; image = []; references = 0; result = 0; room = 0; reference_room = 0 }
+no_routine = record { body = None; image = []; references = 0; result = 0; room = 0; reference_room = 0; own = 0; extents = [] }
 
 abbrev pub routine_at : Tables → ℕ → RoutineView
 routine_at t number = slice_index_or t.routines number no_routine

@@ -1,6 +1,7 @@
 //! From names to slots: the resolved program.
 #![tactic(auto)]
 
+mod inside;
 pub mod item;
 mod lay_out;
 pub mod place;

@@ -31,6 +31,8 @@ fn nothing(alloc: Global) -> Result<Layout, AllocError>
         result: 0,
         room: 0,
         reference_room: 0,
+        own: 0,
+        extents: Vec::new(alloc),
     };
     let component = Component {
         kind: ComponentKind::Process(0),

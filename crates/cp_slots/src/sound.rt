@@ -2,10 +2,16 @@
 
 ghost use Rattle.std.specs.Prelude.{◌≡◌, ◌<◌, ◌≤◌, ℕ, ◌+◌, IsTrue, length};
 ghost use Rattle.cp_slots.specs.Fits.{ActionFits, ArmsFit, CallFits, InnerFits, IsSound, ItemFits, KindFits, ListFits, Nests, ProcessFits, RoutineFits};
+ghost use Rattle.cp_slots.specs.Inside as spec;
+ghost use Rattle.cp_slots.specs.Inside.{action_inside};
 ghost use Rattle.cp_slots.specs.Tables.{component_at, item_at, process_at, routine_at, routine_view, tables_of};
 
+use crate::inside::{
+    SET_CELLS, arguments_inside, binds_all, component_inside, expression_inside, has, place_room,
+    result_inside, room_from, set_inside,
+};
 use crate::item::{Action, Arm, Item};
-use crate::place::Argument;
+use crate::place::{Argument, ComponentPlace};
 use crate::tables::{ComponentKind, Layout, Process, Routine};
 
 /// Whether the numbers of a program are sound.
@@ -19,6 +25,106 @@ pub fn is_sound(layout: &Layout) -> bool
         && routines_fit(layout)
         && components_fit(layout)
         && processes_fit(layout)
+        && items_inside(layout)
+}
+
+fn items_inside(layout: &Layout) -> bool
+    ensures { IsTrue result → (at : ℕ) → at < length (tables_of layout.now).items → IsTrue (action_inside (tables_of layout.now) (routine_at (tables_of layout.now) (item_at (tables_of layout.now) at).routine) (item_at (tables_of layout.now) at).action) }
+{
+    for item in &layout.items {
+        if item.routine >= layout.routines.len()
+            || !is_inside(layout, routine_of(layout, item.routine), &item.action)
+        {
+            return false;
+        }
+    }
+    true
+}
+
+// Whether what an action reads and writes is inside what it names.
+fn is_inside(layout: &Layout, routine: &Routine, action: &Action) -> bool
+    ensures { IsTrue result → IsTrue (action_inside (tables_of layout.now) (routine_view routine.now) action.now) }
+{
+    match action {
+        Action::Assign { target, value, .. } => {
+            expression_inside(routine, value) && has(1, place_room(routine, target))
+        }
+        Action::AssignSet { target, value, .. } => {
+            set_inside(routine, value) && has(SET_CELLS, place_room(routine, target))
+        }
+        Action::Copy {
+            target,
+            source,
+            size,
+        } => has(*size, place_room(routine, source)) && has(*size, place_room(routine, target)),
+        Action::If { test, .. } | Action::While { test, .. } | Action::Until { test, .. } => {
+            expression_inside(routine, test)
+        }
+        Action::Case { selector, .. } => expression_inside(routine, selector),
+        Action::For {
+            variable,
+            from,
+            to,
+            ..
+        } => {
+            has(1, room_from(routine, *variable))
+                && expression_inside(routine, from)
+                && expression_inside(routine, to)
+        }
+        Action::Call {
+            routine: callee,
+            component,
+            arguments,
+            result,
+            ..
+        } => call_inside(layout, routine, *callee, component, arguments, *result),
+        Action::Start {
+            component,
+            routine: callee,
+            arguments,
+        } => start_inside(layout, routine, *callee, component, arguments),
+        Action::Delay(place) | Action::Continue(place) => has(1, place_room(routine, place)),
+        Action::Display { value, .. } => expression_inside(routine, value),
+        Action::Empty | Action::Block(_) | Action::Cycle(_) => true,
+    }
+}
+
+fn call_inside(
+    layout: &Layout,
+    caller: &Routine,
+    callee: usize,
+    component: &ComponentPlace,
+    arguments: &[Argument],
+    cell: Option<usize>,
+) -> bool
+    ensures { IsTrue result → IsTrue (spec.call_inside (routine_view caller.now) (routine_at (tables_of layout.now) callee) component.now arguments.now cell) }
+{
+    if callee >= layout.routines.len() {
+        return false;
+    }
+    let called = routine_of(layout, callee);
+    component_inside(caller, component)
+        && arguments_inside(caller, called, called.image.len(), arguments)
+        && binds_all(called.extents.len(), arguments)
+        && result_inside(caller, called, cell)
+}
+
+fn start_inside(
+    layout: &Layout,
+    caller: &Routine,
+    callee: usize,
+    component: &ComponentPlace,
+    arguments: &[Argument],
+) -> bool
+    ensures { IsTrue result → IsTrue (spec.start_inside (routine_view caller.now) (routine_at (tables_of layout.now) callee) component.now arguments.now) }
+{
+    if callee >= layout.routines.len() {
+        return false;
+    }
+    let started = routine_of(layout, callee);
+    component_inside(caller, component)
+        && arguments_inside(caller, started, started.own, arguments)
+        && binds_all(started.extents.len(), arguments)
 }
 
 fn items_fit(layout: &Layout) -> bool
@@ -46,7 +152,9 @@ fn routines_fit(layout: &Layout) -> bool
 fn routine_fits(routine: &Routine) -> bool
     ensures { IsTrue result → RoutineFits (routine_view routine.now) }
 {
-    routine.image.len() <= routine.room && routine.references <= routine.reference_room
+    routine.image.len() <= routine.room
+        && routine.references <= routine.reference_room
+        && routine.extents.len() == routine.references
 }
 
 // The routine of a number.

@@ -17,6 +17,10 @@ pub struct Routine {
     pub room: usize,
     /// The `var` parameters of its frame and of those above it, at most.
     pub reference_room: usize,
+    /// The permanent cells of its component, at least.
+    pub own: usize,
+    /// The cells behind each `var` parameter.
+    pub extents: Vec<usize>,
 }
 
 #[derive(Clone, Copy, Drop)]

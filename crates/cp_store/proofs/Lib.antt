@@ -1,4 +1,6 @@
 pub mod Bindings
 pub mod Members
+pub mod Opened
 pub mod ReadBack
+pub mod Reaches
 pub mod Widths

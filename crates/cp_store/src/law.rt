@@ -1,5 +1,6 @@
-//! Laws of the definitions: sets by their members.
+//! Laws of the definitions: sets by their members, and places by their cells.
 
+ghost use Rattle.cp_store.specs.Inside.{CallsCoverTheirFrames, PlacesHaveTheirCells, WritesKeepCells};
 ghost use Rattle.cp_store.specs.SetLaws.{CombinationsJoinMembers, ElementsBecomeMembers, RangedMembersAreWithin, SetsAreReadBack};
 
 /// The members of a union, a difference and an intersection.
@@ -20,4 +21,19 @@ pub fn law_ranged()
 /// A set that is written is read back.
 pub fn law_stored()
     ensures { SetsAreReadBack }
+{}
+
+/// The cells of a place that is inside.
+pub fn law_inside()
+    ensures { PlacesHaveTheirCells }
+{}
+
+/// What is written leaves the cells of a frame.
+pub fn law_writes()
+    ensures { WritesKeepCells }
+{}
+
+/// The cells of the frame that a call opens.
+pub fn law_calls()
+    ensures { CallsCoverTheirFrames }
 {}

@@ -336,8 +336,8 @@ impl<'a> Layer<'a> {
     ) -> Result<(), AllocError> {
         let value_type = self.named_type(group.type_name.name.as_str());
         for identifier in &group.names {
-            let slot = self.frame.references;
-            self.frame.references = slot.saturating_add(1);
+            let slot = self.frame.extents.len();
+            self.frame.extents.push(self.types.cells_of(value_type))?;
             let meaning = Meaning::Variable(Origin::Reference(slot), value_type);
             self.names.add(identifier.name.as_str(), meaning)?;
             parameters.push(Parameter {

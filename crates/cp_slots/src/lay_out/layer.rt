@@ -44,8 +44,8 @@ pub struct Heading<'a> {
 pub struct Frame {
     /// The cells as a call begins.
     pub image: Vec<i16>,
-    /// How many `var` parameters there are.
-    pub references: usize,
+    /// The cells behind each `var` parameter.
+    pub extents: Vec<usize>,
     /// The most cells and `var` parameters of what is called.
     pub room: usize,
     pub reference_room: usize,
@@ -111,7 +111,7 @@ impl Frame {
     pub fn new(alloc: Global) -> Frame {
         Frame {
             image: Vec::new(alloc),
-            references: 0,
+            extents: Vec::new(alloc),
             room: 0,
             reference_room: 0,
         }
@@ -258,14 +258,17 @@ impl<'a> Layer<'a> {
             None => 0,
         };
         let room = frame.image.len().saturating_add(frame.room);
-        let reference_room = frame.references.saturating_add(frame.reference_room);
+        let references = frame.extents.len();
+        let reference_room = references.saturating_add(frame.reference_room);
         self.routines.push(Routine {
             body,
             image: frame.image,
-            references: frame.references,
+            references,
             result,
             room,
             reference_room,
+            own: self.owned.image.len(),
+            extents: frame.extents,
         })?;
         Ok(())
     }

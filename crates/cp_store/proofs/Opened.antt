@@ -1,0 +1,292 @@
+-- Cells stay there: a write leaves as many, and a call names a place that has its cells for each `var` parameter.
+use Rattle.std.proofs.Common.{◌≡◌, ◌∙◌, ℕ, zero, suc, ◌+◌, ◌^◌, ◌<◌, ◌≤◌, Bool, true, false, List, [], ◌∷◌, ◌++◌, length, replicate, Option, Some, None, Result, Ok, Err, ap, refl, sym, subst, arith, if◌then◌else◌, get_or-set_other}
+use Rattle.std.specs.Prelude.{ℤ, ◌&&◌, ◌/◌, ◌%◌, nat_lt, ◌==◌, slice_index_or, slice_set}
+use Rattle.std.specs.Int.{cast_signed, w16}
+use Rattle.std.proofs.lemmas.Bool.{leb-true, ltb-true, ltb-false, eqb-true}
+use Rattle.std.proofs.lemmas.Grind.{get_or-set_at}
+use Rattle.std.proofs.lemmas.List.{append-nil, append_assoc, length-set, length-append, length-replicate}
+use Rattle.cp_slots.specs.declared.place.Argument.{Argument}
+use Rattle.cp_slots.specs.declared.place.ArgumentValue.{ArgumentValue}
+use Rattle.cp_slots.specs.declared.place.ArgumentValue.TheVariants as value
+use Rattle.cp_slots.specs.declared.place.Place.{Place}
+use Rattle.cp_slots.specs.Inside.{has, place_room, follows, binds_on, binds_from, argument_inside, arguments_inside}
+use Rattle.cp_slots.specs.Tables.{RoutineView}
+use Rattle.cp_store.specs.declared.argument.Bound.{Bound}
+use Rattle.cp_store.specs.declared.argument.Bound.TheVariants.{Scalar, Set, Copy, Reference, Component}
+use Rattle.cp_store.specs.declared.error.ErrorName.{ErrorName}
+use Rattle.cp_store.specs.declared.memory.Address.{Address}
+use Rattle.cp_store.specs.declared.memory.Address.TheVariants.{Permanent, Local}
+use Rattle.cp_store.specs.declared.memory.Frame.{Frame}
+use Rattle.cp_store.specs.declared.set.SetValue.{SetValue}
+use Rattle.cp_store.specs.Arguments.{bound_at, bounds_after, bounds_at, put_value, put_in_frame, bound_in_frame}
+use Rattle.cp_store.specs.Components.{component_at}
+use Rattle.cp_store.specs.Inside.{HasCells, Covers, CallsCoverTheirFrames, WritesKeepCells}
+use Rattle.cp_store.specs.Memory.{Memory, cell_at, moved, nowhere, onward, opened, put_number, put_copy, put_reference}
+use Rattle.cp_store.specs.Places.{address_at, referred, set_at, value_at}
+use Rattle.cp_store.specs.Sets as sets
+use Rattle.cp_store.specs.Sets.{put_word, put_pair, put_quad, put_set}
+use Rattle.cp_store.specs.Values.{ranged, then_with}
+use Rattle.cp_store.proofs.Reaches.{some_is, and_left, and_right, has_fewer, have_cells}
+
+-- ---- a value that is written leaves the number of cells, and the references
+
+record Alike (x y : Memory) : Type 0 where
+  pub permanents : length x.permanents ≡ length y.permanents
+  pub cells : length x.cells ≡ length y.cells
+  pub references : x.references ≡ y.references
+
+alike_same : (x : Memory) → Alike x x
+alike_same x = record { permanents = refl; cells = refl; references = refl }
+
+alike_both : (x y z : Memory) → Alike x y → Alike y z → Alike x z
+alike_both x y z k l = record { permanents = k.permanents ∙ l.permanents; cells = k.cells ∙ l.cells; references = k.references ∙ l.references }
+
+alike_number : (x : Memory) (at : Address) (v : ℤ) → Alike (put_number x at v) x
+alike_number x (Permanent n) v = record { permanents = length-set x.permanents n v; cells = refl; references = refl }
+alike_number x (Local n) v = record { permanents = refl; cells = length-set x.cells n v; references = refl }
+
+alike_pair : (x : Memory) (at : Address) (members : ℕ) → Alike (put_pair x at members) x
+alike_pair x at members =
+    let y = put_word x at (members % 2 ^ 16) in
+    alike_both _ y x (alike_number y (moved at 1) (cast_signed w16 (members / 2 ^ 16))) (alike_number x at (cast_signed w16 (members % 2 ^ 16)))
+
+alike_quad : (x : Memory) (at : Address) (members : ℕ) → Alike (put_quad x at members) x
+alike_quad x at members =
+    let y = put_pair x at (members % 2 ^ 32) in
+    alike_both _ y x (alike_pair y (moved at 2) (members / 2 ^ 32)) (alike_pair x at (members % 2 ^ 32))
+
+alike_set : (x : Memory) (at : Address) (s : SetValue) → Alike (put_set x at s) x
+alike_set x at s =
+    let y = put_quad x at (s.members % 2 ^ 64) in
+    alike_both _ y x (alike_quad y (moved at 4) (s.members / 2 ^ 64)) (alike_quad x at (s.members % 2 ^ 64))
+
+alike_copy : (x : Memory) (to from : Address) (n : ℕ) → Alike (put_copy x to from n) x
+alike_copy x to from zero = alike_same x
+alike_copy x to from (suc n) =
+    let y = put_copy x to from n in
+    alike_both _ y x (alike_number y (moved to n) (cell_at y (moved from n))) (alike_copy x to from n)
+
+alike_value : (x : Memory) (at : Address) (b : Bound) → Alike (put_value x at b) x
+alike_value x at (Scalar z) = alike_number x at z
+alike_value x at (Set s) = alike_set x at s
+alike_value x at (Copy from n) = alike_copy x at from n
+alike_value x at (Reference place) = alike_same x
+alike_value x at (Component number) = alike_same x
+
+-- ---- only an argument for a `var` parameter gives a place
+
+abbrev names_place : Bound → Bool
+names_place (Scalar z) = false
+names_place (Set s) = false
+names_place (Copy from n) = false
+names_place (Reference place) = true
+names_place (Component number) = false
+
+abbrev names_in : Result Bound ErrorName → Bool
+names_in (Ok b) = names_place b
+names_in (Err e) = false
+
+alike_plain : (x : Memory) (g : Frame) (slot : ℕ) (b : Bound) → names_place b ≡ false → Alike (put_in_frame x g slot b) x
+alike_plain x g slot (Scalar z) plain = alike_value x (Local (onward g.base slot)) (Scalar z)
+alike_plain x g slot (Set s) plain = alike_value x (Local (onward g.base slot)) (Set s)
+alike_plain x g slot (Copy from n) plain = alike_value x (Local (onward g.base slot)) (Copy from n)
+alike_plain x g slot (Reference place) plain = absurd (cc)
+alike_plain x g slot (Component number) plain = alike_same x
+
+from_ok : {A : Type 0} (b : Bound) (r : Result A ErrorName) (go : A → Result Bound ErrorName) → ((x : A) → go x ≡ Ok b → names_place b ≡ false) → then_with r go ≡ Ok b → names_place b ≡ false
+from_ok b (Ok x) go each is = each x is
+from_ok b (Err e) go each is = absurd (cc)
+
+scalar_plain : (b : Bound) (v : Result ℤ ErrorName) (low high : ℤ) → then_with v (λ z. then_with (ranged low high z) (λ n. Ok (Scalar n))) ≡ Ok b → names_place b ≡ false
+scalar_plain b v low high is =
+    from_ok b v (λ z. then_with (ranged low high z) (λ n. Ok (Scalar n))) (λ z. from_ok b (ranged low high z) (λ n. Ok (Scalar n)) (λ n same. sym (ap names_in same))) is
+
+set_plain : (b : Bound) (v : Result SetValue ErrorName) (low high : ℕ) → then_with v (λ s. then_with (sets.ranged low high s) (λ n. Ok (Set n))) ≡ Ok b → names_place b ≡ false
+set_plain b v low high is =
+    from_ok b v (λ s. then_with (sets.ranged low high s) (λ n. Ok (Set n))) (λ s. from_ok b (sets.ranged low high s) (λ n. Ok (Set n)) (λ n same. sym (ap names_in same))) is
+
+-- ---- what arguments give, in the order of the list
+
+abbrev given_by : Memory → (bindings : List ℕ) → Frame → List Argument → Result (List Bound) ErrorName
+given_by m bindings f [] = Ok []
+given_by m bindings f (x ∷ xs) = then_with (bound_at m bindings f x.value) (λ b. then_with (given_by m bindings f xs) (λ bs. Ok (b ∷ bs)))
+
+abbrev fine : List Bound → Result (List Bound) ErrorName
+fine bs = Ok bs
+
+behind_others : (bs : List Bound) (b : Bound) (r : Result (List Bound) ErrorName) → then_with r (λ rest. fine ((bs ++ b ∷ []) ++ rest)) ≡ then_with (then_with r (λ rest. fine (b ∷ rest))) (λ rest. fine (bs ++ rest))
+behind_others bs b (Ok rest) = ap fine (append_assoc bs (b ∷ []) rest)
+behind_others bs b (Err e) = refl
+
+given_behind : (m : Memory) (bindings : List ℕ) (f : Frame) (xs : List Argument) (bs : List Bound) → bounds_after m bindings f bs xs ≡ then_with (given_by m bindings f xs) (λ rest. fine (bs ++ rest))
+given_behind m bindings f [] bs = ap fine (sym (append-nil bs))
+given_behind m bindings f (x ∷ xs) bs = go (bound_at m bindings f x.value) (λ b. given_behind m bindings f xs (bs ++ b ∷ []))
+  where
+    go : (r : Result Bound ErrorName) → ((b : Bound) → bounds_after m bindings f (bs ++ b ∷ []) xs ≡ then_with (given_by m bindings f xs) (λ rest. fine ((bs ++ b ∷ []) ++ rest)))
+        → then_with r (λ b. bounds_after m bindings f (bs ++ b ∷ []) xs) ≡ then_with (then_with r (λ b. then_with (given_by m bindings f xs) (λ rest. fine (b ∷ rest)))) (λ rest. fine (bs ++ rest))
+    go (Ok b) each = each b ∙ behind_others bs b (given_by m bindings f xs)
+    go (Err e) each = refl
+
+given_all : (m : Memory) (bindings : List ℕ) (f : Frame) (xs : List Argument) (bs : List Bound) → bounds_at m bindings f xs ≡ fine bs → given_by m bindings f xs ≡ fine bs
+given_all m bindings f xs bs is = go (given_by m bindings f xs) refl (sym (given_behind m bindings f xs []) ∙ is)
+  where
+    go : (r : Result (List Bound) ErrorName) → given_by m bindings f xs ≡ r → then_with r (λ rest. fine ([] ++ rest)) ≡ fine bs → given_by m bindings f xs ≡ fine bs
+    go (Ok rest) same is = same ∙ is
+    go (Err e) same is = absurd (cc)
+
+bound_is : {x y : Bound} → ◌≡◌ {A = Result Bound ErrorName} (Ok x) (Ok y) → x ≡ y
+bound_is {x = x} {y = y} same = ap (bound_or x) same
+  where
+    bound_or : Bound → Result Bound ErrorName → Bound
+    bound_or d (Err e) = d
+    bound_or d (Ok z) = z
+
+bounds_are : {x y : List Bound} → fine x ≡ fine y → x ≡ y
+bounds_are {x = x} {y = y} same = ap (bounds_or x) same
+  where
+    bounds_or : List Bound → Result (List Bound) ErrorName → List Bound
+    bounds_or d (Err e) = d
+    bounds_or d (Ok z) = z
+
+-- ---- the memory while parameters are bound: those below a number name places that have their cells
+
+record Binds (m : Memory) (callee : RoutineView) (g : Frame) (next : ℕ) (x : Memory) : Type 0 where
+  pub permanents : length x.permanents ≡ length m.permanents
+  pub cells : length x.cells ≡ length m.cells + length callee.image
+  pub references : length x.references ≡ g.references + length callee.extents
+  pub behind : (k : ℕ) → k < next → HasCells x (referred x.references (g.references + k)) (slice_index_or callee.extents k 0)
+
+has_more : (x y : Memory) (at : Address) (cells : ℕ) → length x.permanents ≤ length y.permanents → length x.cells ≤ length y.cells → HasCells x at cells → HasCells y at cells
+has_more x y (Permanent number) cells p c h = omega (arith, h, p)
+has_more x y (Local number) cells p c h = omega (arith, h, c)
+
+binds_alike : (m : Memory) (callee : RoutineView) (g : Frame) (next : ℕ) (x y : Memory) → Alike y x → Binds m callee g next x → Binds m callee g next y
+binds_alike m callee g next x y like b =
+    record {
+      permanents = like.permanents ∙ b.permanents;
+      cells = like.cells ∙ b.cells;
+      references = ap (λ l. length l) like.references ∙ b.references;
+      behind = λ k lt. subst (λ l. HasCells y (referred l (g.references + k)) (slice_index_or callee.extents k 0)) (sym like.references) (has_more x y _ _ (omega (arith, like.permanents)) (omega (arith, like.cells)) (b.behind k lt));
+    }
+
+module _ (m : Memory) (callee : RoutineView) (g : Frame) (few : g.references + length callee.extents < 2 ^ 64) (next : ℕ) (x : Memory) (place : Address) (there : next < length callee.extents) (has_place : HasCells x place (slice_index_or callee.extents next 0)) (b : Binds m callee g next x) where
+  exact : onward g.references next ≡ g.references + next
+  exact = omega (arith, there, few)
+
+  place_behind : (k : ℕ) (w : Bool) → nat_lt k next ≡ w → k < next + 1 → HasCells x (referred (slice_set x.references (onward g.references next) place) (g.references + k)) (slice_index_or callee.extents k 0)
+  place_behind k true lt below =
+      let before = ltb-true k next lt in
+      let kept = get_or-set_other x.references (onward g.references next) (g.references + k) place nowhere (λ same. omega (arith, exact, same, before)) in
+      subst (λ a. HasCells x a (slice_index_or callee.extents k 0)) (sym kept) (b.behind k before)
+  place_behind k false ge below =
+      let k_is : k ≡ next = omega (arith, below, ltb-false k next ge) in
+      let set_there = get_or-set_at x.references (onward g.references next) (g.references + next) place nowhere (sym exact) (omega (arith, exact, b.references, there)) in
+      subst (λ j. HasCells x (referred (slice_set x.references (onward g.references next) place) (g.references + j)) (slice_index_or callee.extents j 0)) (sym k_is)
+      (subst (λ a. HasCells x a (slice_index_or callee.extents next 0)) (sym set_there) has_place)
+
+  binds_place : Binds m callee g (next + 1) (put_reference x (onward g.references next) place)
+  binds_place =
+      record {
+        permanents = b.permanents;
+        cells = b.cells;
+        references = length-set x.references (onward g.references next) place ∙ b.references;
+        behind = λ k lt. has_more x (put_reference x (onward g.references next) place) _ _ (omega arith) (omega arith) (place_behind k (nat_lt k next) refl lt);
+      }
+
+-- ---- argument by argument
+
+module _ (m : Memory) (bindings : List ℕ) (caller callee : RoutineView) (f g : Frame) (covers : Covers m caller f) (few : g.references + length callee.extents < 2 ^ 64) where
+  stays : (slot : ℕ) (b : Bound) (x : Memory) (next further : ℕ) → Binds m callee g next x → Some next ≡ Some further → names_place b ≡ false → Binds m callee g further (put_in_frame x g slot b)
+  stays slot b x next further binds next_is plain =
+      subst (λ n. Binds m callee g n (put_in_frame x g slot b)) (some_is next_is) (binds_alike m callee g next x (put_in_frame x g slot b) (alike_plain x g slot b plain) binds)
+
+  named : (place : Place) (slot : ℕ) (b : Bound) (x : Memory) (next further : ℕ) → Binds m callee g next x
+      → (r : Result Address ErrorName) → address_at m f place ≡ r → (o : Option ℕ) → place_room caller place ≡ o → (w : Bool) → (nat_lt next (length callee.extents) && slot == next) ≡ w
+      → has (slice_index_or callee.extents slot 0) o ≡ true → (if w then Some (next + 1) else None) ≡ Some further → then_with r (λ at. Ok (Reference at)) ≡ Ok b
+      → Binds m callee g further (put_in_frame x g slot b)
+  named place slot b x next further binds (Ok at) found (Some left) room true test enough next_is given =
+      let there = ltb-true next (length callee.extents) (and_left (nat_lt next (length callee.extents)) (slot == next) test) in
+      let slot_is = eqb-true slot next (and_right (nat_lt next (length callee.extents)) (slot == next) test) in
+      let all_cells = have_cells m caller f place left at covers room found in
+      let cells = has_fewer m at left (slice_index_or callee.extents slot 0) (leb-true (slice_index_or callee.extents slot 0) left enough) all_cells in
+      let here = has_more m x at (slice_index_or callee.extents slot 0) (omega (arith, binds.permanents)) (omega (arith, binds.cells)) cells in
+      let bound = binds_place m callee g few next x at there (subst (λ s. HasCells x at (slice_index_or callee.extents s 0)) slot_is here) binds in
+      let in_slot = subst (λ s. Binds m callee g (next + 1) (put_reference x (onward g.references s) at)) (sym slot_is) bound in
+      subst (λ c. Binds m callee g further (put_in_frame x g slot c)) (bound_is given)
+      (subst (λ n. Binds m callee g n (put_in_frame x g slot (Reference at))) (some_is next_is) in_slot)
+  named place slot b x next further binds (Ok at) found (Some left) room false test enough next_is given = absurd (cc)
+  named place slot b x next further binds (Ok at) found None room w test enough next_is given = absurd (cc)
+  named place slot b x next further binds (Err e) found o room w test enough next_is given = absurd (cc)
+
+  one : (v : ArgumentValue) (slot : ℕ) (b : Bound) (x : Memory) (next further : ℕ) → Binds m callee g next x
+      → argument_inside caller callee (length callee.image) slot v ≡ true → follows v (length callee.extents) slot next ≡ Some further → bound_at m bindings f v ≡ Ok b
+      → Binds m callee g further (put_in_frame x g slot b)
+  one (value.Scalar e low high) slot b x next further binds inside next_is given = stays slot b x next further binds next_is (scalar_plain b (value_at m f e) low high given)
+  one (value.Set e low high) slot b x next further binds inside next_is given = stays slot b x next further binds next_is (set_plain b (set_at m f e) low high given)
+  one (value.Copy source size) slot b x next further binds inside next_is given =
+      stays slot b x next further binds next_is (from_ok b (address_at m f source) (λ at. Ok (Copy at size)) (λ at same. sym (ap names_in same)) given)
+  one (value.Component c) slot b x next further binds inside next_is given =
+      stays slot b x next further binds next_is (from_ok b (component_at m bindings f c) (λ n. Ok (Component n)) (λ n same. sym (ap names_in same)) given)
+  one (value.Reference place) slot b x next further binds inside next_is given =
+      named place slot b x next further binds (address_at m f place) refl (place_room caller place) refl (nat_lt next (length callee.extents) && slot == next) refl inside next_is given
+
+  all : (xs : List Argument) (bs : List Bound) (x : Memory) (next : ℕ) → Binds m callee g next x
+      → arguments_inside caller callee (length callee.image) xs ≡ true → binds_from (length callee.extents) next xs ≡ true → given_by m bindings f xs ≡ fine bs
+      → Binds m callee g (length callee.extents) (bound_in_frame x g xs bs)
+  all [] bs x next binds inside ends given = subst (λ n. Binds m callee g n x) (eqb-true next (length callee.extents) ends) binds
+  all (a ∷ xs) bs x next binds inside ends given =
+      go (λ rest y further. all xs rest y further) (bound_at m bindings f a.value) refl (follows a.value (length callee.extents) a.slot next) refl (given_by m bindings f xs) refl ends given
+    where
+      first : argument_inside caller callee (length callee.image) a.slot a.value ≡ true
+      first = and_left (argument_inside caller callee (length callee.image) a.slot a.value) (arguments_inside caller callee (length callee.image) xs) inside
+
+      others : arguments_inside caller callee (length callee.image) xs ≡ true
+      others = and_right (argument_inside caller callee (length callee.image) a.slot a.value) (arguments_inside caller callee (length callee.image) xs) inside
+
+      go : ((rest : List Bound) (y : Memory) (further : ℕ) → Binds m callee g further y → arguments_inside caller callee (length callee.image) xs ≡ true → binds_from (length callee.extents) further xs ≡ true → given_by m bindings f xs ≡ fine rest → Binds m callee g (length callee.extents) (bound_in_frame y g xs rest))
+          → (r : Result Bound ErrorName) → bound_at m bindings f a.value ≡ r → (o : Option ℕ) → follows a.value (length callee.extents) a.slot next ≡ o → (t : Result (List Bound) ErrorName) → given_by m bindings f xs ≡ t
+          → binds_on o (λ further. binds_from (length callee.extents) further xs) ≡ true → then_with r (λ b. then_with t (λ rest. fine (b ∷ rest))) ≡ fine bs
+          → Binds m callee g (length callee.extents) (bound_in_frame x g (a ∷ xs) bs)
+      go further_on (Ok b) found (Some further) next_is (Ok rest) rest_is ends given =
+          subst (λ l. Binds m callee g (length callee.extents) (bound_in_frame x g (a ∷ xs) l)) (bounds_are given)
+          (further_on rest (put_in_frame x g a.slot b) further (one a.value a.slot b x next further binds first next_is found) others ends rest_is)
+      go further_on (Ok b) found (Some further) next_is (Err e) rest_is ends given = absurd (cc)
+      go further_on (Ok b) found None next_is t rest_is ends given = absurd (cc)
+      go further_on (Err e) found o next_is t rest_is ends given = absurd (cc)
+
+pub opened_covered : CallsCoverTheirFrames
+opened_covered m bindings caller callee f g xs bs covers inside ends given extents own_is base_is names_are cells_few names_few =
+    let image_long = length-append m.cells callee.image in
+    let names_long = length-append m.references (replicate callee.references nowhere) in
+    let names_count = length-replicate callee.references nowhere in
+    let few : g.references + length callee.extents < 2 ^ 64 = omega (arith, extents, names_are, names_few) in
+    let start : Binds m callee g 0 (opened m callee.image callee.references) =
+    record {
+      permanents = refl;
+      cells = image_long;
+      references = omega (arith, names_long, names_count, extents, names_are);
+      behind = λ k lt. absurd (omega (arith, lt));
+    } in
+    let done = all m bindings caller callee f g covers few xs bs (opened m callee.image callee.references) 0 start inside ends (given_all m bindings f xs bs given) in
+    record {
+      own = omega (arith, own_is, done.permanents);
+      cells = omega (arith, base_is, done.cells);
+      references = omega (arith, done.references);
+      behind = done.behind;
+      permanents_few = omega (arith, done.permanents, covers.permanents_few);
+      cells_few = omega (arith, done.cells, cells_few);
+      references_few = omega (arith, done.references, few);
+    }
+
+pub written_covered : WritesKeepCells
+written_covered m r f at b covers =
+    let like = alike_value m at b in
+    record {
+      own = omega (arith, like.permanents, covers.own);
+      cells = omega (arith, like.cells, covers.cells);
+      references = subst (λ l. f.references + length r.extents ≤ length l) (sym like.references) covers.references;
+      behind = λ k lt. subst (λ l. HasCells (put_value m at b) (referred l (f.references + k)) (slice_index_or r.extents k 0)) (sym like.references) (has_more m (put_value m at b) _ _ (omega (arith, like.permanents)) (omega (arith, like.cells)) (covers.behind k lt));
+      permanents_few = omega (arith, like.permanents, covers.permanents_few);
+      cells_few = omega (arith, like.cells, covers.cells_few);
+      references_few = subst (λ l. length l < 2 ^ 64) (sym like.references) covers.references_few;
+    }
