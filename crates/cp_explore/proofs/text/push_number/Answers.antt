@@ -1,4 +1,4 @@
-use Rattle.std.proofs.Common.{◌≡◌, ◌+◌, ◌<◌, arith, string_bytes}
+use Rattle.std.proofs.Common.{◌≡◌, ◌+◌, arith, string_bytes}
 use Rattle.cp_explore.proofs.Digits.{push_digit}
 use Rattle.cp_explore.proofs.text.push_number.Goals as goal
 

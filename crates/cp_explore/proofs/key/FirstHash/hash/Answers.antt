@@ -1,4 +1,4 @@
-use Rattle.std.proofs.Common.{◌≡◌, ◌∙◌, ap, fold, flat_map}
+use Rattle.std.proofs.Common.{◌∙◌, ap, fold, flat_map}
 use Rattle.std.specs.Hash as fed
 use Rattle.cp_explore.specs.Report.{kind_numbers, shown_numbers}
 use Rattle.cp_explore.proofs.Feeding.{fed_outcome}
