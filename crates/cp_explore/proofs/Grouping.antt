@@ -1,10 +1,9 @@
 -- The outcomes of rows with their counts, row by row.
-use Rattle.std.proofs.Common.{◌≡◌, ◌∙◌, ℕ, ◌+◌, ◌≤◌, Bool, true, false, cond, if◌then◌else◌, ◌||◌, List, [], ◌∷◌, ◌++◌, length, map, Option, None, Some, refl, sym, ap, arith, subst, take, get_or, ◌<◌}
+use Rattle.std.proofs.Common.{◌≡◌, ◌∙◌, ℕ, ◌+◌, ◌≤◌, Bool, true, false, cond, if◌then◌else◌, ◌||◌, List, [], ◌∷◌, ◌++◌, length, map, Option, None, Some, refl, sym, ap, arith, subst, take, get_or, unwrap_or, ◌<◌}
 use Rattle.std.specs.Prelude.{IfSome, option_map, nat_eq}
+use Rattle.std.specs.Borrow.{Bor}
 use Rattle.std.specs.List.{list_any}
 use Rattle.std.specs.Map.{lookup, values_of}
-use Rattle.std.specs.declared.alloc.Global.{Global}
-use Rattle.std.specs.declared.vec.Vec.{Vec}
 use Rattle.std.proofs.lemmas.Cmp.{nat_list_eq_equiv}
 use Rattle.std.proofs.lemmas.List.{map-append, map_more, length-map, length-take-le}
 use Rattle.std.proofs.lemmas.List.Folds.{list_any-append}
@@ -13,9 +12,11 @@ use Rattle.indexmap.specs.IndexMap.{insert_entry}
 use lib.Pointwise.{pointwise}
 use Rattle.cp_slots.specs.Tables.{Tables}
 use Rattle.cp_run.specs.Table.{Line, each}
-use Rattle.cp_explore.specs.Report.{outcome_numbers, outcomes_of, firsts, count_of, group_text, groups_text}
-use Rattle.cp_explore.specs.Groups.{Tally, tally, tally_of, tallies_of, tally_with, tally_text, seen}
+use Rattle.cp_run.specs.declared.outcome.Outcome.{Outcome}
+use Rattle.cp_explore.specs.Report.{outcome_numbers, same_outcome, outcomes_of, firsts, count_of, group_text, groups_text}
+use Rattle.cp_explore.specs.Groups.{Tally, tally, tally_of, tallies_of, tally_with, tally_text}
 use Rattle.cp_explore.specs.declared.groups.Group.{Group}
+use Rattle.cp_explore.specs.declared.key.First.{First}
 use Rattle.cp_explore.specs.declared.row.Row.{Row}
 use Rattle.cp_explore.specs.Rows.{line_of}
 
@@ -164,36 +165,46 @@ few_of lines (f ∷ fs) q = few_at (length lines) (pointwise nat_eq q (numbers f
 pub few_counted : (lines : List Line) (q : List ℕ) → IfSome (lookup (pointwise nat_eq q) (tallies_of lines)) (λ t. t.count ≤ length lines)
 few_counted lines q = few_of lines (firsts [] lines) q
 
-pub seen_insert : (es : List (Vec ℕ Global × Group)) (k : Vec ℕ Global) (g : Group) → map seen (insert_entry (λ x y. pointwise nat_eq x.items y.items) es k g) ≡ insert_entry (pointwise nat_eq) (map seen es) k.items (tally g)
-seen_insert [] k g = refl
-seen_insert (e ∷ es) k g = by (pointwise nat_eq k.items e.0.items) (seen_insert es k g)
-  where
-    by : (b : Bool) → map seen (insert_entry (λ x y. pointwise nat_eq x.items y.items) es k g) ≡ insert_entry (pointwise nat_eq) (map seen es) k.items (tally g) → map seen (if b then (e.0, g) ∷ es else e ∷ insert_entry (λ x y. pointwise nat_eq x.items y.items) es k g) ≡ (if b then (e.0.items, tally g) ∷ map seen es else seen e ∷ insert_entry (pointwise nat_eq) (map seen es) k.items (tally g))
-    by true h = refl
-    by false h = ap (λ ts. seen e ∷ ts) h
+-- an entry of the code's map: the numbers of its outcome, its first row, and its count
+abbrev pub held : First × Group → List ℕ × Tally
+held e = (outcome_numbers e.0.row.now.outcome, tally e.1)
 
-pub seen_lookup : (es : List (Vec ℕ Global × Group)) (q : List ℕ) → option_map tally (lookup (λ k. pointwise nat_eq q k.items) es) ≡ lookup (pointwise nat_eq q) (map seen es)
-seen_lookup [] q = refl
-seen_lookup (e ∷ es) q = by (pointwise nat_eq q e.0.items) (seen_lookup es q)
+held_insert : (es : List (First × Group)) (k : First) (g : Group) → map held (insert_entry (λ x y. same_outcome x.row.now.outcome y.row.now.outcome) es k g) ≡ insert_entry (pointwise nat_eq) (map held es) (outcome_numbers k.row.now.outcome) (tally g)
+held_insert [] k g = refl
+held_insert (e ∷ es) k g = by (same_outcome k.row.now.outcome e.0.row.now.outcome) (held_insert es k g)
   where
-    by : (b : Bool) → option_map tally (lookup (λ k. pointwise nat_eq q k.items) es) ≡ lookup (pointwise nat_eq q) (map seen es) → option_map tally (cond b (Some e.1) (lookup (λ k. pointwise nat_eq q k.items) es)) ≡ cond b (Some (tally e.1)) (lookup (pointwise nat_eq q) (map seen es))
+    by : (b : Bool) → map held (insert_entry (λ x y. same_outcome x.row.now.outcome y.row.now.outcome) es k g) ≡ insert_entry (pointwise nat_eq) (map held es) (outcome_numbers k.row.now.outcome) (tally g) → map held (if b then (e.0, g) ∷ es else e ∷ insert_entry (λ x y. same_outcome x.row.now.outcome y.row.now.outcome) es k g) ≡ (if b then (outcome_numbers e.0.row.now.outcome, tally g) ∷ map held es else held e ∷ insert_entry (pointwise nat_eq) (map held es) (outcome_numbers k.row.now.outcome) (tally g))
+    by true h = refl
+    by false h = ap (λ ts. held e ∷ ts) h
+
+held_lookup : (es : List (First × Group)) (o : Outcome) → option_map tally (lookup (λ k. same_outcome o k.row.now.outcome) es) ≡ lookup (pointwise nat_eq (outcome_numbers o)) (map held es)
+held_lookup [] o = refl
+held_lookup (e ∷ es) o = by (same_outcome o e.0.row.now.outcome) (held_lookup es o)
+  where
+    by : (b : Bool) → option_map tally (lookup (λ k. same_outcome o k.row.now.outcome) es) ≡ lookup (pointwise nat_eq (outcome_numbers o)) (map held es) → option_map tally (cond b (Some e.1) (lookup (λ k. same_outcome o k.row.now.outcome) es)) ≡ cond b (Some (tally e.1)) (lookup (pointwise nat_eq (outcome_numbers o)) (map held es))
     by true h = refl
     by false h = h
 
+-- an outcome with one row more, where the code finds what is known of it or begins at none
+pub counted_one : (o : Option Group) (row : Bor Row) (now new : Group) → now ≡ unwrap_or o (record { first = row; count = 0 }) → new ≡ record { first = now.first; count = now.count + 1 } → tally new ≡ tally_with (option_map tally o) (line_of row.now)
+counted_one None row now new h e = ap tally e ∙ ap (λ g. tally (record { first = g.first; count = g.count + 1 })) h
+counted_one (Some g) row now new h e = ap tally e ∙ ap (λ g. tally (record { first = g.first; count = g.count + 1 })) h
+
 -- the map after one row more
-pub grouped_more : (rows : List Row) (k : ℕ) (x : Row) (es new : List (Vec ℕ Global × Group)) (key : Vec ℕ Global) (g : Group) → k < length rows → x ≡ get_or rows k x → map seen es ≡ tallies_of (map line_of (take k rows)) → key.items ≡ outcome_numbers x.outcome → tally g ≡ tally_with (option_map tally (lookup (λ q. pointwise nat_eq key.items q.items) es)) (line_of x) → new ≡ insert_entry (λ p q. pointwise nat_eq p.items q.items) es key g → map seen new ≡ tallies_of (map line_of (take (k + 1) rows))
-grouped_more rows k x es new key g lt at h kn t e =
+pub grouped_more : (rows : List Row) (k : ℕ) (key : First) (es new : List (First × Group)) (g : Group) → k < length rows → key.row.now ≡ get_or rows k key.row.now → map held es ≡ tallies_of (map line_of (take k rows)) → tally g ≡ tally_with (option_map tally (lookup (λ q. same_outcome key.row.now.outcome q.row.now.outcome) es)) (line_of key.row.now) → new ≡ insert_entry (λ p q. same_outcome p.row.now.outcome q.row.now.outcome) es key g → map held new ≡ tallies_of (map line_of (take (k + 1) rows))
+grouped_more rows k key es new g lt at h t e =
+    let x = key.row.now in
     let lines = map line_of (take k rows) in
     let l = line_of x in
     let more : map line_of (take (k + 1) rows) ≡ lines ++ l ∷ [] = map_more line_of rows k x lt ∙ ap (λ y. lines ++ line_of y ∷ []) (sym at) in
-    let found : option_map tally (lookup (λ q. pointwise nat_eq key.items q.items) es) ≡ lookup (pointwise nat_eq (numbers l)) (tallies_of lines) = seen_lookup es key.items ∙ ap (lookup (pointwise nat_eq key.items)) h ∙ ap (λ q. lookup (pointwise nat_eq q) (tallies_of lines)) kn in
-    ap (map seen) e ∙ seen_insert es key g ∙ ap (λ ts. insert_entry (pointwise nat_eq) ts key.items (tally g)) h ∙ ap (λ q. insert_entry (pointwise nat_eq) (tallies_of lines) q (tally g)) kn ∙ tallies_more lines l (tally g) (t ∙ ap (λ o. tally_with o l) found) ∙ ap tallies_of (sym more)
+    let found : option_map tally (lookup (λ q. same_outcome x.outcome q.row.now.outcome) es) ≡ lookup (pointwise nat_eq (numbers l)) (tallies_of lines) = held_lookup es x.outcome ∙ ap (lookup (pointwise nat_eq (numbers l))) h in
+    ap (map held) e ∙ held_insert es key g ∙ ap (λ ts. insert_entry (pointwise nat_eq) ts (numbers l) (tally g)) h ∙ tallies_more lines l (tally g) (t ∙ ap (λ o. tally_with o l) found) ∙ ap tallies_of (sym more)
 
 -- a count is below the number of rows while there are more
-pub room : (rows : List Row) (k most : ℕ) (es : List (Vec ℕ Global × Group)) (q : List ℕ) → k < length rows → most ≡ length rows → map seen es ≡ tallies_of (map line_of (take k rows)) → IfSome (lookup (λ p. pointwise nat_eq q p.items) es) (λ g. g.count < most)
-room rows k most es q lt all h =
+pub room : (rows : List Row) (k most : ℕ) (es : List (First × Group)) (o : Outcome) → k < length rows → most ≡ length rows → map held es ≡ tallies_of (map line_of (take k rows)) → IfSome (lookup (λ p. same_outcome o p.row.now.outcome) es) (λ g. g.count < most)
+room rows k most es o lt all h =
     let lines = map line_of (take k rows) in
-    by (lookup (λ p. pointwise nat_eq q p.items) es) (subst (λ o. IfSome o (λ t. t.count ≤ length lines)) (sym (seen_lookup es q ∙ ap (lookup (pointwise nat_eq q)) h)) (few_counted lines q))
+    by (lookup (λ p. same_outcome o p.row.now.outcome) es) (subst (λ f. IfSome f (λ t. t.count ≤ length lines)) (sym (held_lookup es o ∙ ap (lookup (pointwise nat_eq (outcome_numbers o))) h)) (few_counted lines (outcome_numbers o)))
   where
     by : (o : Option Group) → IfSome (option_map tally o) (λ t. t.count ≤ length (map line_of (take k rows))) → IfSome o (λ g. g.count < most)
     by None few = tt
@@ -203,13 +214,13 @@ tallies_text : (r : Tables) (lines fs : List Line) → each (λ t. tally_text r 
 tallies_text r lines [] = refl
 tallies_text r lines (f ∷ fs) = ap (λ l. group_text r lines f ++ l) (tallies_text r lines fs)
 
-values_text : (r : Tables) (es : List (Vec ℕ Global × Group)) → each (tally_text r) (map tally (values_of es)) ≡ each (λ t. tally_text r t.1) (map seen es)
+values_text : (r : Tables) (es : List (First × Group)) → each (tally_text r) (map tally (values_of es)) ≡ each (λ t. tally_text r t.1) (map held es)
 values_text r [] = refl
 values_text r (e ∷ es) = ap (λ l. tally_text r (tally e.1) ++ l) (values_text r es)
 
 -- the texts of the groups of all rows
-pub grouped_text : (r : Tables) (lines : List Line) (es : List (Vec ℕ Global × Group)) → map seen es ≡ tallies_of lines → each (tally_text r) (map tally (values_of es)) ≡ groups_text r lines (outcomes_of lines)
+pub grouped_text : (r : Tables) (lines : List Line) (es : List (First × Group)) → map held es ≡ tallies_of lines → each (tally_text r) (map tally (values_of es)) ≡ groups_text r lines (outcomes_of lines)
 grouped_text r lines es h = values_text r es ∙ ap (each (λ t. tally_text r t.1)) h ∙ tallies_text r lines (outcomes_of lines)
 
-pub grouped_count : (lines : List Line) (es : List (Vec ℕ Global × Group)) → map seen es ≡ tallies_of lines → length es ≡ length (outcomes_of lines)
-grouped_count lines es h = sym (length-map es seen) ∙ ap length h ∙ length-map (outcomes_of lines) (tally_of lines)
+pub grouped_count : (lines : List Line) (es : List (First × Group)) → map held es ≡ tallies_of lines → length es ≡ length (outcomes_of lines)
+grouped_count lines es h = sym (length-map es held) ∙ ap length h ∙ length-map (outcomes_of lines) (tally_of lines)

@@ -4,8 +4,10 @@ pub mod Counted
 pub mod Counting
 pub mod Deciding
 pub mod Deepened
+pub mod Digits
 pub mod Doing
 pub mod Errors
+pub mod Feeding
 pub mod Gathering
 pub mod Grouping
 pub mod Joining

@@ -1,16 +1,16 @@
 //! The rows of a table by their outcomes.
 
-ghost use Rattle.std.specs.Prelude.{◌≡◌, ◌<◌, nat_eq, map, IfOk, IfSome, length, option_map};
+ghost use Rattle.std.specs.Prelude.{◌≡◌, ◌<◌, map, IfOk, IfSome, length, option_map};
 ghost use Rattle.std.specs.Map.{lookup};
 ghost use Rattle.cp_slots.specs.Tables.{Tables};
 ghost use Rattle.cp_run.specs.Table.{each};
-ghost use Rattle.indexmap.specs.IndexMap.{index_map_len, values};
-ghost use lib.Pointwise.{pointwise};
+ghost use Rattle.indexmap.specs.IndexMap.{index_map_len, insert_entry, values};
 ghost use Rattle.cp_explore.specs.Groups.{tally, tally_text, tally_with};
-ghost use Rattle.cp_explore.specs.Report.{groups_text, outcomes_of};
+ghost use Rattle.cp_explore.specs.Report.{groups_text, outcomes_of, same_outcome};
 ghost use Rattle.cp_explore.specs.Rows.{line_of};
+ghost use Rattle.cp_explore.specs.declared.groups.Group.{Group};
 
-use crate::numbers::numbers_of;
+use crate::key::First;
 use crate::row::Row;
 use indexmap::IndexMap;
 use std::alloc::{AllocError, Global};
@@ -22,41 +22,34 @@ pub struct Group<'a> {
     pub count: usize,
 }
 
-/// What is known of an outcome with this row, of at most `most`.
-fn with_row<'a>(
-    groups: &IndexMap<Vec<u32>, Group<'a>>,
-    numbers: &Vec<u32>,
+/// Counts a row, with which there are at most `most`.
+fn count_row<'a>(
+    groups: &mut IndexMap<First<'a>, Group<'a>>,
     row: &'a Row,
     most: usize,
-) -> Group<'a>
-    requires { IfSome (lookup (λ k. pointwise nat_eq numbers.now.items k.items) groups.now.entries) (λ g. g.count < most) }
-    ensures { tally result ≡ tally_with (option_map tally (lookup (λ k. pointwise nat_eq numbers.now.items k.items) groups.now.entries)) (line_of row.now) }
+) -> Result<(), AllocError>
+    requires { IfSome (lookup (λ k. same_outcome row.now.outcome k.row.now.outcome) groups.old.entries) (λ g. g.count < most) }
+    ensures { IfOk result (λ _. (g : Group) × ((groups.new.entries ≡ insert_entry (λ x y. same_outcome x.row.now.outcome y.row.now.outcome) groups.old.entries (record { row = row.entry }) g) × (tally g ≡ tally_with (option_map tally (lookup (λ k. same_outcome row.now.outcome k.row.now.outcome) groups.old.entries)) (line_of row.now)))) }
 {
-    match groups.get(numbers) {
-        Some(group) => Group {
-            first: group.first,
-            count: group.count + 1,
-        },
-        None => Group {
-            first: row,
-            count: 1,
-        },
-    }
+    let group = groups.entry(First { row })?.or_insert(Group {
+        first: row,
+        count: 0,
+    });
+    group.count += 1;
+    Ok(())
 }
 
-/// The distinct outcomes in order of their first rows, by their numbers.
+/// The distinct outcomes in order of their first rows.
 pub fn grouped<'a>(
     alloc: Global,
     rows: &'a [Row],
-) -> Result<IndexMap<Vec<u32>, Group<'a>>, AllocError>
+) -> Result<IndexMap<First<'a>, Group<'a>>, AllocError>
     ensures count { IfOk result (λ m. index_map_len m ≡ length (outcomes_of (map line_of rows.now))) }
     ensures texts { IfOk result (λ m. (r : Tables) → each (tally_text r) (map tally (values m)) ≡ groups_text r (map line_of rows.now) (outcomes_of (map line_of rows.now))) }
 {
     let mut groups = IndexMap::new(alloc);
     for row in rows {
-        let numbers = numbers_of(alloc, &row.outcome)?;
-        let group = with_row(&groups, &numbers, row, rows.len());
-        groups.insert(numbers, group)?;
+        count_row(&mut groups, row, rows.len())?;
     }
     Ok(groups)
 }

@@ -11,6 +11,7 @@ pub mod fault;
 pub mod gather;
 mod groups;
 pub mod job;
+mod key;
 mod member;
 mod numbers;
 pub mod printed;

@@ -1,13 +1,15 @@
-//! Outcomes as lists of numbers, which are the same where the outcomes are.
+//! Outcomes as lists of numbers, which are the same where the outcomes are. No list is made of them.
 
-ghost use Rattle.std.specs.Prelude.{◌≡◌, ◌++◌, IfOk};
+ghost use Rattle.std.specs.Prelude.{◌≡◌, ℕ, List, ◌++◌, ◌∷◌, [], ◌&&◌, nat_eq, fold, flat_map};
+ghost use Rattle.std.specs.Hash as fed;
+ghost use lib.Pointwise.{pointwise};
 ghost use Rattle.cp_run.specs.Table.{each};
-ghost use Rattle.cp_explore.specs.Report.{number_of, shown_numbers, kind_numbers, outcome_numbers};
+ghost use Rattle.cp_explore.specs.Report.{number_of, shown_numbers, kind_numbers, same_outcome};
 
 use cp_machine::event::ErrorName;
 use cp_machine::shown::Shown;
 use cp_run::outcome::{Outcome, OutcomeKind};
-use std::alloc::{AllocError, Global};
+use std::hash::Hasher;
 
 fn number_of(name: ErrorName) -> u32
     ensures { result ≡ number_of name }
@@ -23,59 +25,76 @@ fn number_of(name: ErrorName) -> u32
     }
 }
 
-/// Appends a value: its type and sign, and its number.
-fn push_shown(numbers: &mut Vec<u32>, value: Shown) -> Result<(), AllocError>
-    ensures { IfOk result (λ _. numbers.new.items ≡ numbers.old.items ++ shown_numbers value) }
+/// The numbers of a value: its type and sign, and its number.
+fn numbers_of(value: Shown) -> (u32, u32)
+    ensures { shown_numbers value ≡ result.0 ∷ result.1 ∷ [] }
 {
-    let (tag, number) = match value {
+    match value {
         Shown::Integer(n) => (if n < 0 { 1 } else { 0 }, u32::from(n.unsigned_abs())),
         Shown::Char(code) => (2, u32::from(code)),
         Shown::Truth(is_true) => (3, if is_true { 1 } else { 0 }),
         Shown::Constant(constant) => (4, u32::from(constant)),
-    };
-    numbers.push(tag)?;
-    numbers.push(number)?;
-    Ok(())
+    }
 }
 
-fn push_output(numbers: &mut Vec<u32>, values: &[Shown]) -> Result<(), AllocError>
-    ensures { IfOk result (λ _. numbers.new.items ≡ numbers.old.items ++ each shown_numbers values.now) }
+/// Feeds a hasher the numbers of displayed values.
+pub fn feed_output<H: Hasher>(values: &[Shown], state: &mut H)
+    ensures { state.new ≡ fold H.write state.old (flat_map (λ v. flat_map fed.u32 (shown_numbers v)) values.now) }
 {
     for value in values {
-        push_shown(numbers, *value)?;
+        let (tag, number) = numbers_of(*value);
+        state.write_u32(tag);
+        state.write_u32(number);
     }
-    Ok(())
 }
 
-fn push_kind(numbers: &mut Vec<u32>, kind: OutcomeKind) -> Result<(), AllocError>
-    ensures { IfOk result (λ _. numbers.new.items ≡ numbers.old.items ++ kind_numbers kind) }
+/// Feeds a hasher the numbers of a kind.
+pub fn feed_kind<H: Hasher>(kind: OutcomeKind, state: &mut H)
+    ensures { state.new ≡ fold H.write state.old (flat_map fed.u32 (kind_numbers kind)) }
 {
     match kind {
-        OutcomeKind::Finished => numbers.push(0)?,
-        OutcomeKind::AllWaiting => numbers.push(1)?,
+        OutcomeKind::Finished => state.write_u32(0),
+        OutcomeKind::AllWaiting => state.write_u32(1),
         OutcomeKind::RunError {
             name,
             process,
             line,
         } => {
-            numbers.push(2)?;
-            numbers.push(number_of(name))?;
-            numbers.push(u32::from(process))?;
-            numbers.push(line)?;
+            state.write_u32(2);
+            state.write_u32(number_of(name));
+            state.write_u32(u32::from(process));
+            state.write_u32(line);
         }
-        OutcomeKind::ChoiceLimit => numbers.push(3)?,
-        OutcomeKind::StepLimit => numbers.push(4)?,
-        OutcomeKind::OutputLimit => numbers.push(5)?,
+        OutcomeKind::ChoiceLimit => state.write_u32(3),
+        OutcomeKind::StepLimit => state.write_u32(4),
+        OutcomeKind::OutputLimit => state.write_u32(5),
     }
-    Ok(())
 }
 
-/// The numbers of an outcome.
-pub fn numbers_of(alloc: Global, outcome: &Outcome) -> Result<Vec<u32>, AllocError>
-    ensures { IfOk result (λ v. v.items ≡ outcome_numbers outcome.now) }
+fn is_same_kind(mine: OutcomeKind, theirs: OutcomeKind) -> bool
+    ensures { (r s : List ℕ) → pointwise nat_eq (kind_numbers mine ++ r) (kind_numbers theirs ++ s) ≡ (result && pointwise nat_eq r s) }
 {
-    let mut numbers = Vec::new(alloc);
-    push_kind(&mut numbers, outcome.kind)?;
-    push_output(&mut numbers, outcome.output.as_slice())?;
-    Ok(numbers)
+    mine == theirs
+}
+
+fn is_same_output(mine: &[Shown], theirs: &[Shown]) -> bool
+    ensures { result ≡ pointwise nat_eq (each shown_numbers mine.now) (each shown_numbers theirs.now) }
+{
+    let Some((first, rest)) = mine.split_first() else {
+        return theirs.is_empty();
+    };
+    let Some((second, others)) = theirs.split_first() else {
+        return false;
+    };
+    let (tag, number) = numbers_of(*first);
+    let (other_tag, other) = numbers_of(*second);
+    tag == other_tag && number == other && is_same_output(rest, others)
+}
+
+/// Whether two outcomes have the same numbers.
+pub fn is_same(mine: &Outcome, theirs: &Outcome) -> bool
+    ensures { result ≡ same_outcome mine.now theirs.now }
+{
+    is_same_kind(mine.kind, theirs.kind)
+        && is_same_output(mine.output.as_slice(), theirs.output.as_slice())
 }

@@ -14,6 +14,10 @@ use std::alloc::{AllocError, Global};
 pub fn push_number(alloc: Global, text: &mut String, number: u64) -> Result<(), AllocError>
     ensures { IfOk result (λ _. string_bytes text.new ≡ string_bytes text.old ++ decimal number) }
 {
+    // Most numbers have one digit, and formatting takes memory.
+    if number < 10 {
+        return text.push(char::from(b'0' + number as u8));
+    }
     let digits = format!(in alloc; "{number}")?;
     text.push_str(digits.as_str())
 }
@@ -27,7 +31,7 @@ pub fn push_word(alloc: Global, text: &mut String, word: &[u8]) -> Result<(), Al
     };
     push_number(alloc, text, u64::from(*first))?;
     for number in rest {
-        text.push_str(".")?;
+        text.push('.')?;
         push_number(alloc, text, u64::from(*number))?;
     }
     Ok(())
@@ -36,6 +40,9 @@ pub fn push_word(alloc: Global, text: &mut String, word: &[u8]) -> Result<(), Al
 fn push_signed(alloc: Global, text: &mut String, number: i16) -> Result<(), AllocError>
     ensures { IfOk result (λ _. string_bytes text.new ≡ string_bytes text.old ++ signed_decimal number) }
 {
+    if number >= 0 {
+        return push_number(alloc, text, u64::from(number.unsigned_abs()));
+    }
     let digits = format!(in alloc; "{number}")?;
     text.push_str(digits.as_str())
 }
@@ -84,7 +91,7 @@ fn push_output(
     };
     push_shown(alloc, text, program, *first)?;
     for value in rest {
-        text.push_str(" ")?;
+        text.push(' ')?;
         push_shown(alloc, text, program, *value)?;
     }
     Ok(())

@@ -5,15 +5,16 @@ use Rattle.cp_explore.specs.Groups.{tallies_of}
 use Rattle.cp_explore.specs.Rows.{line_of}
 use Rattle.cp_explore.proofs.groups.grouped.Goals as goal
 
-pub with_row-group-requires : goal.with_row-group-requires
-with_row-group-requires c =
+pub count_row-requires : goal.count_row-requires
+count_row-requires c =
     let lt : c.loop-row.row-index < length c.args.rows.now = omega arith in
-    room c.args.rows.now c.loop-row.row-index (length c.args.rows.now) c.loop-row.groups.entries c.in_ok-numbers.numbers.items lt refl c.loop-row.invariant
+    room c.args.rows.now c.loop-row.row-index (length c.args.rows.now) c.loop-row.groups.entries c.row-item.result.outcome lt refl c.loop-row.invariant
 
 pub loop-row-preserved : goal.loop-row-preserved
 loop-row-preserved c =
     let lt : c.loop-row.row-index < length c.args.rows.now = omega arith in
-    grouped_more c.args.rows.now c.loop-row.row-index c.row-item.result c.loop-row.groups.entries c.insert.new.self.entries c.in_ok-numbers.numbers c.with_row-group.result lt c.row-item.is c.loop-row.invariant c.in_ok-numbers.ensures c.with_row-group.ensures c.in_ok-insert.ensures.entries
+    let counted = c.in_ok-count_row.ensures in
+    grouped_more c.args.rows.now c.loop-row.row-index _ c.loop-row.groups.entries c.count_row.new.groups.entries counted.0 lt c.row-item.is c.loop-row.invariant counted.1.1 counted.1.0
 
 pub returns-clause-count : goal.returns-clause-count
 returns-clause-count c =
