@@ -1,3 +1,4 @@
 pub mod Telling
 pub mod Using
+mod Matched
 mod WordLemmas

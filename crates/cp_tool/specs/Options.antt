@@ -1,5 +1,5 @@
 -- What the options have of the words, and which fault the words have.
-use Rattle.std.specs.Prelude.{◌≡◌, ℕ, true, false, List, [], ◌∷◌, Some, None, codes, IsSomeAnd, MatchOption, Option}
+use Rattle.std.specs.Prelude.{◌≡◌, ℕ, true, false, List, [], ◌∷◌, Some, None, codes, IsSomeAnd, MatchOption, Option, take}
 use Rattle.arrayvec.specs.ArrayVec.{ArrayVec}
 use Rattle.clap.specs.Words.{IsAmong, Row, Text, first_of, one_of}
 use Rattle.clap.specs.declared.error.kind.ErrorKind.TheVariants.{DisplayHelp}
@@ -39,9 +39,19 @@ pub record HasOptions (rows : List Row) (o : Options) : Type 0 where
 abbrev pub Gives : List Text → Options → Type 0
 Gives words o = (faults_for words ≡ []) × HasOptions (rows_for words) o
 
--- help comes only where the words ask for it; words are refused where they neither ask for it nor
--- give options
+-- the words ask for nothing that `clap` refuses, and yet no options have the values that they give
+pub record HasRefusedValue (words : List Text) : Type 0 where
+  pub matched : faults_for words ≡ []
+  pub none : (o : Options) → ¬ HasOptions (rows_for words) o
+
+-- so do the first of the words, as many as some number says
+pub record BeginsRefused (words : List Text) : Type 0 where
+  pub count : ℕ
+  pub begun : HasRefusedValue (take count words)
+
+-- help comes only where the words ask for it; words are refused where they give no options, and
+-- where they ask for help only if a value before that is refused
 abbrev pub IsFaultFor : List Text → OptionFault → Type 0
 IsFaultFor words (Help text) = IsAmong DisplayHelp (faults_for words)
-IsFaultFor words Refused = ¬ (faults_for words ≡ DisplayHelp ∷ []) × ((o : Options) → ¬ Gives words o)
+IsFaultFor words Refused = (faults_for words ≡ DisplayHelp ∷ [] → BeginsRefused words) × ((o : Options) → ¬ Gives words o)
 IsFaultFor words Memory = Unit {0}

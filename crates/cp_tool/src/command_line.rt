@@ -1,8 +1,8 @@
 //! The options of the words.
-ghost use Rattle.std.specs.Prelude.{IfErr, IfOk, option_map, map};
+ghost use Rattle.std.specs.Prelude.{◌≡◌, ◌≤◌, IfErr, IfOk, length, map, option_map, true};
 ghost use Rattle.clap.specs.Words.{rows_of, found_of};
 ghost use Rattle.cp_tool.specs.Finds.{Finds};
-ghost use Rattle.cp_tool.specs.Options.{Gives, HasOptions, IsScheduled, IsFaultFor, IsGated};
+ghost use Rattle.cp_tool.specs.Options.{Gives, HasOptions, HasRefusedValue, IsScheduled, IsFaultFor, IsGated};
 
 #[cfg(test)]
 mod tests;
@@ -17,7 +17,8 @@ use clap::error::ErrorKind;
 use cp_machine::gates::Gates;
 use std::alloc::{AllocError, Global};
 
-/// The options, as `clap` matches the words, of which the first is the program's name.
+/// The options, as `clap` matches the words, of which the first is the program's name. Where they ask for help, they are
+/// refused if a word before that is.
 pub fn read_options<'a>(alloc: Global, words: &'a [&'a str]) -> Result<Options, OptionFault>
     ensures options { IfOk result (Gives (map (λ s. s.now) words.entry.now)) }
     ensures fault { IfErr result (IsFaultFor (map (λ s. s.now) words.entry.now)) }
@@ -32,8 +33,39 @@ pub fn read_options<'a>(alloc: Global, words: &'a [&'a str]) -> Result<Options, 
         }
         Err(error) => match error.kind() {
             ErrorKind::OutOfMemory => Err(OptionFault::Memory),
-            ErrorKind::DisplayHelp => Err(OptionFault::Help(format!(in alloc; "{error}")?)),
+            ErrorKind::DisplayHelp => {
+                if has_refused_value(alloc, &words[..before_help(words)])? {
+                    return Err(OptionFault::Refused);
+                }
+                Err(OptionFault::Help(format!(in alloc; "{error}")?))
+            }
             _ => Err(OptionFault::Refused),
+        },
+    }
+}
+
+// How many words stand before the first, after the program's name, that asks for help.
+fn before_help(words: &[&str]) -> usize
+    ensures { result ≤ length words.now }
+{
+    for at in 1..words.len() {
+        if words[at] == "--help" || words[at].starts_with("-h") {
+            return at;
+        }
+    }
+    words.len()
+}
+
+// Whether `clap` matches the words, and a value among them gives no option.
+fn has_refused_value<'a>(alloc: Global, words: &'a [&'a str]) -> Result<bool, AllocError>
+    ensures { IfOk result (λ b. b ≡ true → HasRefusedValue (map (λ s. s.now) words.entry.now)) }
+{
+    let command = command(alloc)?;
+    match command.try_get_matches_from(words) {
+        Ok(matches) => Ok(options_of(alloc, &matches)?.is_none()),
+        Err(error) => match error.kind() {
+            ErrorKind::OutOfMemory => Err(AllocError),
+            _ => Ok(false),
         },
     }
 }

@@ -3,6 +3,7 @@
 mod cuttings;
 mod fakes;
 mod programs;
+mod readings;
 mod rows;
 mod runs;
 mod schedules;

@@ -41,7 +41,7 @@ static LONGEST: [&str; 3] = [
 ];
 
 /// Words that are refused.
-static REFUSED: [&[&str]; 30] = [
+static REFUSED: [&[&str]; 33] = [
     &["cpx", "--choices", "21"],
     &["cpx", "--steps", "0"],
     &["cpx", "--steps", "100001"],
@@ -76,14 +76,19 @@ static REFUSED: [&[&str]; 30] = [
     &["cpx", "--", "program.cp"],
     &["cpx", "--nothing"],
     &["cpx", "--nothing", "--help"],
+    &["cpx", "--choices", "99", "--help"],
+    &["cpx", "--rows", "--schedule=00", "-h"],
+    &["cpx", "--gates", "last", "--cut", "2", "--help"],
 ];
 
 /// Words that ask for help.
-static HELP: [&[&str]; 4] = [
+static HELP: [&[&str]; 6] = [
     &["cpx", "--help"],
     &["cpx", "-h"],
     &["cpx", "--rows", "--help"],
     &["cpx", "--help", "--nothing"],
+    &["cpx", "--choices", "20", "--help"],
+    &["cpx", "-h", "--choices", "99"],
 ];
 
 #[test]

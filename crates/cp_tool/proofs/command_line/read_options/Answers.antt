@@ -1,20 +1,14 @@
 use Rattle.std.proofs.Common.{◌≡◌, ◌∙◌, ◌⊎◌, inl, inr, ⊎_elim, sym, ap, subst, map, List, [], ◌∷◌, true, Option}
+use Rattle.std.proofs.lemmas.List.{take-map}
 use Rattle.clap.specs.Words.{App, IsAmong, Kinds, Row, Text, found_of, rows_of, app_of, fault_of, is_simple, is_simple_and_free, matches_of}
 use Rattle.clap.specs.declared.error.kind.ErrorKind.{ErrorKind}
 use Rattle.clap.specs.declared.error.kind.ErrorKind.TheVariants.{DisplayHelp, OutOfMemory}
 use Rattle.cp_tool.specs.Command.{cpx, faults_for, rows_for}
 use Rattle.cp_tool.specs.Finds.{Finds}
-use Rattle.cp_tool.specs.Options.{HasOptions}
+use Rattle.cp_tool.specs.Options.{HasOptions, HasRefusedValue}
 use Rattle.cp_tool.specs.declared.options.Options.{Options}
+use Rattle.cp_tool.proofs.Matched.{rows_from, faults_from}
 use Rattle.cp_tool.proofs.command_line.read_options.Goals as goal
-
-rows_from : (a : App) (words : List Text) → a ≡ cpx → matches_of a words ≡ rows_for words
-unfolding rows_for
-rows_from a words e = ap (λ (b : App). matches_of b words) e
-
-faults_from : (a : App) (words : List Text) → a ≡ cpx → fault_of a words ≡ faults_for words
-unfolding faults_for
-faults_from a words e = ap (λ (b : App). fault_of b words) e
 
 help_among : (ks : Kinds) (k : ErrorKind) → (k ≡ OutOfMemory) ⊎ IsAmong k ks → k ≡ DisplayHelp → IsAmong DisplayHelp ks
 help_among ks k (inl o) h = let bad : OutOfMemory ≡ DisplayHelp = sym o ∙ h in absurd (cc)
@@ -70,7 +64,19 @@ returns c =
     record {
       options = tt;
       fault = (
-        λ asked. not_help (fault_of app words) c.in-Err.error.kind among (λ h. c.in_default-kind.not-DisplayHelp (c.kind.ensures ∙ h)) enough (faults_from app words made ∙ asked),
+        λ asked. absurd (not_help (fault_of app words) c.in-Err.error.kind among (λ h. c.in_default-kind.not-DisplayHelp (c.kind.ensures ∙ h)) enough (faults_from app words made ∙ asked)),
         λ o gives. some_fault (fault_of app words) c.in-Err.error.kind among enough (faults_from app words made ∙ gives.0),
       );
     }
+
+pub returns-then-branch-clause-fault : goal.returns-then-branch-clause-fault
+returns-then-branch-clause-fault c =
+    let words = map (λ s. s.now) c.args.words.now in
+    let made = c.in_ok-command.ensures in
+    let app = app_of c.in_ok-command.command in
+    let free : is_simple_and_free app ≡ true = ap is_simple_and_free made in
+    let enough : c.in-Err.error.kind ≡ OutOfMemory → ⊥ = λ m. let bad : DisplayHelp ≡ OutOfMemory = sym c.in-DisplayHelp.is ∙ c.kind.ensures ∙ m in absurd (cc) in
+    let first = sym (take-map (λ s. s.now) c.before_help.result c.args.words.now) in (
+      λ asked. record { count = c.before_help.result; begun = subst HasRefusedValue first (c.in_ok-has_refused_value-in-DisplayHelp.ensures c.if-branch.true) },
+      λ o gives. some_fault (fault_of app words) c.in-Err.error.kind (c.in-Err.ensures.kinds free) enough (faults_from app words made ∙ gives.0),
+    )
