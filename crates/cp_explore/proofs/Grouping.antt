@@ -16,7 +16,7 @@ use Rattle.cp_run.specs.declared.outcome.Outcome.{Outcome}
 use Rattle.cp_explore.specs.Report.{outcome_numbers, same_outcome, outcomes_of, firsts, count_of, group_text, groups_text}
 use Rattle.cp_explore.specs.Groups.{Tally, tally, tally_of, tallies_of, tally_with, tally_text}
 use Rattle.cp_explore.specs.declared.groups.Group.{Group}
-use Rattle.cp_explore.specs.declared.key.First.{First}
+use Rattle.cp_explore.specs.declared.key.OutcomeKey.{OutcomeKey}
 use Rattle.cp_explore.specs.declared.row.Row.{Row}
 use Rattle.cp_explore.specs.Rows.{line_of}
 
@@ -166,10 +166,10 @@ pub few_counted : (lines : List Line) (q : List ℕ) → IfSome (lookup (pointwi
 few_counted lines q = few_of lines (firsts [] lines) q
 
 -- an entry of the code's map: the numbers of its outcome, its first row, and its count
-abbrev pub held : First × Group → List ℕ × Tally
+abbrev pub held : OutcomeKey × Group → List ℕ × Tally
 held e = (outcome_numbers e.0.row.now.outcome, tally e.1)
 
-held_insert : (es : List (First × Group)) (k : First) (g : Group) → map held (insert_entry (λ x y. same_outcome x.row.now.outcome y.row.now.outcome) es k g) ≡ insert_entry (pointwise nat_eq) (map held es) (outcome_numbers k.row.now.outcome) (tally g)
+held_insert : (es : List (OutcomeKey × Group)) (k : OutcomeKey) (g : Group) → map held (insert_entry (λ x y. same_outcome x.row.now.outcome y.row.now.outcome) es k g) ≡ insert_entry (pointwise nat_eq) (map held es) (outcome_numbers k.row.now.outcome) (tally g)
 held_insert [] k g = refl
 held_insert (e ∷ es) k g = by (same_outcome k.row.now.outcome e.0.row.now.outcome) (held_insert es k g)
   where
@@ -177,7 +177,7 @@ held_insert (e ∷ es) k g = by (same_outcome k.row.now.outcome e.0.row.now.outc
     by true h = refl
     by false h = ap (λ ts. held e ∷ ts) h
 
-held_lookup : (es : List (First × Group)) (o : Outcome) → option_map tally (lookup (λ k. same_outcome o k.row.now.outcome) es) ≡ lookup (pointwise nat_eq (outcome_numbers o)) (map held es)
+held_lookup : (es : List (OutcomeKey × Group)) (o : Outcome) → option_map tally (lookup (λ k. same_outcome o k.row.now.outcome) es) ≡ lookup (pointwise nat_eq (outcome_numbers o)) (map held es)
 held_lookup [] o = refl
 held_lookup (e ∷ es) o = by (same_outcome o e.0.row.now.outcome) (held_lookup es o)
   where
@@ -191,7 +191,7 @@ counted_one None row now new h e = ap tally e ∙ ap (λ g. tally (record { firs
 counted_one (Some g) row now new h e = ap tally e ∙ ap (λ g. tally (record { first = g.first; count = g.count + 1 })) h
 
 -- the map after one row more
-pub grouped_more : (rows : List Row) (k : ℕ) (key : First) (es new : List (First × Group)) (g : Group) → k < length rows → key.row.now ≡ get_or rows k key.row.now → map held es ≡ tallies_of (map line_of (take k rows)) → tally g ≡ tally_with (option_map tally (lookup (λ q. same_outcome key.row.now.outcome q.row.now.outcome) es)) (line_of key.row.now) → new ≡ insert_entry (λ p q. same_outcome p.row.now.outcome q.row.now.outcome) es key g → map held new ≡ tallies_of (map line_of (take (k + 1) rows))
+pub grouped_more : (rows : List Row) (k : ℕ) (key : OutcomeKey) (es new : List (OutcomeKey × Group)) (g : Group) → k < length rows → key.row.now ≡ get_or rows k key.row.now → map held es ≡ tallies_of (map line_of (take k rows)) → tally g ≡ tally_with (option_map tally (lookup (λ q. same_outcome key.row.now.outcome q.row.now.outcome) es)) (line_of key.row.now) → new ≡ insert_entry (λ p q. same_outcome p.row.now.outcome q.row.now.outcome) es key g → map held new ≡ tallies_of (map line_of (take (k + 1) rows))
 grouped_more rows k key es new g lt at h t e =
     let x = key.row.now in
     let lines = map line_of (take k rows) in
@@ -201,7 +201,7 @@ grouped_more rows k key es new g lt at h t e =
     ap (map held) e ∙ held_insert es key g ∙ ap (λ ts. insert_entry (pointwise nat_eq) ts (numbers l) (tally g)) h ∙ tallies_more lines l (tally g) (t ∙ ap (λ o. tally_with o l) found) ∙ ap tallies_of (sym more)
 
 -- a count is below the number of rows while there are more
-pub room : (rows : List Row) (k most : ℕ) (es : List (First × Group)) (o : Outcome) → k < length rows → most ≡ length rows → map held es ≡ tallies_of (map line_of (take k rows)) → IfSome (lookup (λ p. same_outcome o p.row.now.outcome) es) (λ g. g.count < most)
+pub room : (rows : List Row) (k most : ℕ) (es : List (OutcomeKey × Group)) (o : Outcome) → k < length rows → most ≡ length rows → map held es ≡ tallies_of (map line_of (take k rows)) → IfSome (lookup (λ p. same_outcome o p.row.now.outcome) es) (λ g. g.count < most)
 room rows k most es o lt all h =
     let lines = map line_of (take k rows) in
     by (lookup (λ p. same_outcome o p.row.now.outcome) es) (subst (λ f. IfSome f (λ t. t.count ≤ length lines)) (sym (held_lookup es o ∙ ap (lookup (pointwise nat_eq (outcome_numbers o))) h)) (few_counted lines (outcome_numbers o)))
@@ -214,13 +214,13 @@ tallies_text : (r : Tables) (lines fs : List Line) → each (λ t. tally_text r 
 tallies_text r lines [] = refl
 tallies_text r lines (f ∷ fs) = ap (λ l. group_text r lines f ++ l) (tallies_text r lines fs)
 
-values_text : (r : Tables) (es : List (First × Group)) → each (tally_text r) (map tally (values_of es)) ≡ each (λ t. tally_text r t.1) (map held es)
+values_text : (r : Tables) (es : List (OutcomeKey × Group)) → each (tally_text r) (map tally (values_of es)) ≡ each (λ t. tally_text r t.1) (map held es)
 values_text r [] = refl
 values_text r (e ∷ es) = ap (λ l. tally_text r (tally e.1) ++ l) (values_text r es)
 
 -- the texts of the groups of all rows
-pub grouped_text : (r : Tables) (lines : List Line) (es : List (First × Group)) → map held es ≡ tallies_of lines → each (tally_text r) (map tally (values_of es)) ≡ groups_text r lines (outcomes_of lines)
+pub grouped_text : (r : Tables) (lines : List Line) (es : List (OutcomeKey × Group)) → map held es ≡ tallies_of lines → each (tally_text r) (map tally (values_of es)) ≡ groups_text r lines (outcomes_of lines)
 grouped_text r lines es h = values_text r es ∙ ap (each (λ t. tally_text r t.1)) h ∙ tallies_text r lines (outcomes_of lines)
 
-pub grouped_count : (lines : List Line) (es : List (First × Group)) → map held es ≡ tallies_of lines → length es ≡ length (outcomes_of lines)
+pub grouped_count : (lines : List Line) (es : List (OutcomeKey × Group)) → map held es ≡ tallies_of lines → length es ≡ length (outcomes_of lines)
 grouped_count lines es h = sym (length-map es held) ∙ ap length h ∙ length-map (outcomes_of lines) (tally_of lines)

@@ -1,7 +1,5 @@
 -- The outcomes of a table with their first rows and counts.
 use Rattle.std.specs.Prelude.{ℕ, ◌+◌, List, ◌++◌, map, Option, None, Some, decimal, codes}
-use Rattle.std.specs.declared.alloc.Global.{Global}
-use Rattle.std.specs.declared.vec.Vec.{Vec}
 use Rattle.cp_slots.specs.Tables.{Tables}
 use Rattle.cp_run.specs.Table.{Line}
 use Rattle.cp_explore.specs.Report.{outcome_numbers, outcomes_of, count_of}
@@ -30,7 +28,3 @@ tally g = record { first = line_of g.first.now; count = g.count }
 
 abbrev pub tally_text : Tables → Tally → List ℕ
 tally_text r t = decimal t.count ++ codes " first " ++ word_text t.first.word ++ codes " " ++ outcome_text r t.first.outcome ++ codes "\n"
-
--- an entry of the code's map
-abbrev pub seen : Vec ℕ Global × Group → List ℕ × Tally
-seen e = (e.0.items, tally e.1)

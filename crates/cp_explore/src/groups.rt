@@ -10,7 +10,7 @@ ghost use Rattle.cp_explore.specs.Report.{groups_text, outcomes_of, same_outcome
 ghost use Rattle.cp_explore.specs.Rows.{line_of};
 ghost use Rattle.cp_explore.specs.declared.groups.Group.{Group};
 
-use crate::key::First;
+use crate::key::OutcomeKey;
 use crate::row::Row;
 use indexmap::IndexMap;
 use std::alloc::{AllocError, Global};
@@ -24,14 +24,14 @@ pub struct Group<'a> {
 
 /// Counts a row, with which there are at most `most`.
 fn count_row<'a>(
-    groups: &mut IndexMap<First<'a>, Group<'a>>,
+    groups: &mut IndexMap<OutcomeKey<'a>, Group<'a>>,
     row: &'a Row,
     most: usize,
 ) -> Result<(), AllocError>
     requires { IfSome (lookup (λ k. same_outcome row.now.outcome k.row.now.outcome) groups.old.entries) (λ g. g.count < most) }
     ensures { IfOk result (λ _. (g : Group) × ((groups.new.entries ≡ insert_entry (λ x y. same_outcome x.row.now.outcome y.row.now.outcome) groups.old.entries (record { row = row.entry }) g) × (tally g ≡ tally_with (option_map tally (lookup (λ k. same_outcome row.now.outcome k.row.now.outcome) groups.old.entries)) (line_of row.now)))) }
 {
-    let group = groups.entry(First { row })?.or_insert(Group {
+    let group = groups.entry(OutcomeKey { row })?.or_insert(Group {
         first: row,
         count: 0,
     });
@@ -43,7 +43,7 @@ fn count_row<'a>(
 pub fn grouped<'a>(
     alloc: Global,
     rows: &'a [Row],
-) -> Result<IndexMap<First<'a>, Group<'a>>, AllocError>
+) -> Result<IndexMap<OutcomeKey<'a>, Group<'a>>, AllocError>
     ensures count { IfOk result (λ m. index_map_len m ≡ length (outcomes_of (map line_of rows.now))) }
     ensures texts { IfOk result (λ m. (r : Tables) → each (tally_text r) (map tally (values m)) ≡ groups_text r (map line_of rows.now) (outcomes_of (map line_of rows.now))) }
 {

@@ -13,11 +13,11 @@ use std::hash::{Hash, Hasher};
 
 /// A row as the key of its outcome.
 #[derive(Clone, Copy, Drop)]
-pub struct First<'a> {
+pub struct OutcomeKey<'a> {
     pub row: &'a Row,
 }
 
-impl PartialEq for First<'_> {
+impl PartialEq for OutcomeKey<'_> {
     ghost eq = { λ x y. same_outcome x.row.now.outcome y.row.now.outcome };
 
     ghost laws = { on_per (λ x. outcome_numbers x.row.now.outcome) (partial_equiv_from_equiv nat_list_eq_equiv) };
@@ -27,11 +27,11 @@ impl PartialEq for First<'_> {
     }
 }
 
-impl Eq for First<'_> {
+impl Eq for OutcomeKey<'_> {
     ghost laws = { on_equiv (λ x. outcome_numbers x.row.now.outcome) nat_list_eq_equiv };
 }
 
-impl Hash for First<'_> {
+impl Hash for OutcomeKey<'_> {
     ghost hash_input = { λ x. flat_map fed.u32 (outcome_numbers x.row.now.outcome) };
 
     ghost respects_eq = { λ x y h. ap (flat_map fed.u32) ((bytes_decides (outcome_numbers x.row.now.outcome) (outcome_numbers y.row.now.outcome)).0 h) };

@@ -8,7 +8,7 @@ ghost use Rattle.cp_explore.specs.Report.{report_text, row_text, rows_text};
 ghost use Rattle.cp_explore.specs.Rows.{line_of};
 
 use crate::groups::{Group, grouped};
-use crate::key::First;
+use crate::key::OutcomeKey;
 use crate::printed::{Report, Text};
 use crate::row::{Row, Table};
 use crate::text::{push_number, push_outcome, push_word};
@@ -65,7 +65,7 @@ fn push_groups(
     alloc: Global,
     text: &mut String,
     program: &Resolved,
-    groups: &IndexMap<First, Group>,
+    groups: &IndexMap<OutcomeKey, Group>,
 ) -> Result<(), AllocError>
     ensures { IfOk result (λ _. string_bytes text.new ≡ string_bytes text.old ++ each (tally_text program.now) (map tally (values groups.now))) }
 {

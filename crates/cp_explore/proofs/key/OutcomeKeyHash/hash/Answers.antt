@@ -2,7 +2,7 @@ use Rattle.std.proofs.Common.{◌∙◌, ap, fold, flat_map}
 use Rattle.std.specs.Hash as fed
 use Rattle.cp_explore.specs.Report.{kind_numbers, shown_numbers}
 use Rattle.cp_explore.proofs.Feeding.{fed_outcome}
-use Rattle.cp_explore.proofs.key.FirstHash.hash.Goals as goal
+use Rattle.cp_explore.proofs.key.OutcomeKeyHash.hash.Goals as goal
 
 pub returns : goal.returns
 returns g c =
