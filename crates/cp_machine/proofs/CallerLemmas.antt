@@ -1,5 +1,5 @@
 -- What the crates above need of the machine.
-use Rattle.std.proofs.Common.{◌≡◌, ◌∙◌, ℕ, zero, suc, ◌+◌, ◌<◌, ◌≤◌, Bool, true, false, List, [], ◌∷◌, length, is_some as std_is_some, Option, None, Some, refl, sym, ap, arith, filter}
+use Rattle.std.proofs.Common.{◌≡◌, ◌∙◌, ℕ, zero, suc, ◌<◌, ◌≤◌, Bool, true, false, List, [], ◌∷◌, length, is_some as std_is_some, Option, None, Some, refl, sym, ap, arith, filter}
 use Rattle.std.specs.List.{range_with_len}
 use Rattle.std.proofs.lemmas.List.{length-map, get_or-set_same}
 use Rattle.cp_slots.specs.Tables.{Tables}
@@ -30,7 +30,7 @@ ready_thread m p h = ready_status_within m.threads p h
 pub ready_within : (s : State) (p : ℕ) → is_ready (machine_of s) p ≡ true → p < length s.processes.items
 ready_within s p h = let lt = ready_status_within (machine_of s).threads p h in omega (arith, lt, length-map s.processes.items thread_of)
 
-in_line_within : (pending : Option ℕ) (ts : List Thread) (p : ℕ) → in_line_of pending (thread_at ts p).status ≡ true → p < length ts
+pub in_line_within : (pending : Option ℕ) (ts : List Thread) (p : ℕ) → in_line_of pending (thread_at ts p).status ≡ true → p < length ts
 in_line_within None ts p h = absurd (cc)
 in_line_within (Some monitor) [] p h = absurd (cc)
 in_line_within (Some monitor) (t ∷ ts) zero h = omega arith

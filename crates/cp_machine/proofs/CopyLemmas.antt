@@ -1,9 +1,9 @@
 -- Processes and monitors that are copied one by one.
 use Rattle.std.proofs.Common.{◌≡◌, ℕ, ◌+◌, ◌<◌, ◌≤◌, ◌∙◌, ◌⊎◌, inl, inr, suc, subst, get_or-set_same, get_or-set_other, List, [], ◌∷◌, length, map, ap, sym, refl, arith}
-use Rattle.std.specs.Prelude.{slice_index_or, slice_set, vec_len, vec_capacity}
+use Rattle.std.specs.Prelude.{slice_index_or, slice_set, vec_len}
 use Rattle.std.proofs.lemmas.Bool.{cases_eq}
 use Rattle.std.proofs.lemmas.List.{get_or-map, get_or_read, length-map, length-reverse, length-set}
-use Rattle.cp_slots.specs.Tables.{Tables, routine_at}
+use Rattle.cp_slots.specs.Tables.{Tables}
 use Rattle.cp_slots.specs.Fits.{IsSound}
 use Rattle.cp_store.specs.declared.memory.Frame.{Frame}
 use Rattle.cp_machine.specs.declared.process.Entry.{Entry}
@@ -12,7 +12,7 @@ use Rattle.cp_machine.specs.Stack.{top_first}
 use Rattle.cp_machine.specs.declared.state.Guard.{Guard}
 use Rattle.cp_machine.specs.declared.process.Process.{Process}
 use Rattle.cp_machine.specs.Machine.{Machine, Thread, monitor_of, no_thread, thread_at, thread_of}
-use Rattle.cp_machine.specs.Fits.{FrameFits, HaveCells, HaveReferences, HaveRoom, HaveStacks, MachineFits, StackFits, ThreadFits, size_of}
+use Rattle.cp_machine.specs.Fits.{FrameFits, HaveCells, HaveReferences, HaveRoom, HaveStacks, MachineFits, StackFits, ThreadFits}
 
 -- processes that are alike one by one
 pub threads_same : (xs ys : List Process) → length xs ≡ length ys → ((k : ℕ) (d : Process) → k < length xs → thread_of (slice_index_or xs k d) ≡ thread_of (slice_index_or ys k d)) → map thread_of xs ≡ map thread_of ys

@@ -1,47 +1,28 @@
 -- A step keeps each process inside what was reserved for it.
-use Rattle.std.proofs.Common.{◌≡◌, ℕ, zero, suc, ◌+◌, ◌-◌, ◌<◌, ◌≤◌, ◌∙◌, ◌⊎◌, inl, inr, List, [], ◌∷◌, ◌++◌, length, take, Option, Some, None, Result, Ok, Err, Bool, true, false, ap, sym, refl, subst, arith, get_or-set_same, get_or-set_other, length-append, if◌then◌else◌}
-use Rattle.std.specs.Prelude.{ℤ, pos, slice_set, slice_index_or, ◌==◌, nat_lt, int_lt, IfSome, replicate}
-use Rattle.std.specs.Ordering.{int_eq}
-use Rattle.std.proofs.lemmas.Bool.{cases_eq, cases_lt}
-use Rattle.std.proofs.lemmas.List.{get_or_past, length-set, length-take, length-replicate}
-use Rattle.cp_slots.specs.Tables.{Tables, RoutineView, item_at, routine_at, component_at, process_at, no_component}
-use Rattle.cp_slots.specs.Fits.{IsSound, Nests, ListFits, InnerFits, ArmsFit, CallFits, ActionFits, KindFits}
-use Rattle.cp_slots.specs.declared.item.Action.{Action}
-use Rattle.cp_slots.specs.declared.item.Action.TheVariants.{Empty, Assign, AssignSet, Copy, Block, If, Case, While, Until, For, Cycle, Call, Start, Delay, Continue, Display}
-use Rattle.cp_slots.specs.declared.item.Arm.{Arm}
+use Rattle.std.proofs.Common.{◌≡◌, ℕ, ◌+◌, ◌-◌, ◌<◌, ◌≤◌, ◌∙◌, ◌⊎◌, inl, inr, List, [], ◌∷◌, length, take, Option, Some, None, Result, Ok, Err, Bool, true, false, sym, refl, subst, arith, length-append, if◌then◌else◌}
+use Rattle.std.specs.Prelude.{ℤ, pos, slice_index_or, replicate}
+use Rattle.std.proofs.lemmas.Bool.{cases_lt}
+use Rattle.std.proofs.lemmas.List.{get_or_past, length-set, length-take-le, length-replicate}
+use Rattle.cp_slots.specs.Tables.{Tables, item_at, routine_at, component_at, no_component}
+use Rattle.cp_slots.specs.Fits.{IsSound, ListFits, InnerFits, CallFits, KindFits}
 use Rattle.cp_slots.specs.declared.place.Argument.{Argument}
-use Rattle.cp_slots.specs.declared.place.Origin.{Origin}
 use Rattle.cp_slots.specs.declared.tables.Component.{Component}
-use Rattle.cp_slots.specs.declared.tables.ComponentKind.{ComponentKind}
-use Rattle.cp_slots.specs.declared.tables.ComponentKind.TheVariants as kind
 use Rattle.cp_store.specs.declared.argument.Bound.{Bound}
 use Rattle.cp_store.specs.declared.error.ErrorName.{ErrorName}
-use Rattle.cp_store.specs.declared.memory.Address.{Address}
-use Rattle.cp_store.specs.declared.memory.Address.TheVariants as address
 use Rattle.cp_store.specs.declared.memory.Frame.{Frame}
 use Rattle.cp_store.specs.Memory.{Memory, nowhere, onward}
-use Rattle.cp_store.specs.Values.{ranged, is_true}
-use Rattle.cp_machine.specs.declared.gates.Gates.{Gates}
-use Rattle.cp_machine.specs.declared.gates.Gates.TheVariants.{First, Any}
 use Rattle.cp_machine.specs.declared.shown.Shown.{Shown}
 use Rattle.cp_machine.specs.declared.process.Entry.{Entry}
 use Rattle.cp_machine.specs.declared.process.Entry.TheVariants.{Rest, Successor, Return, InitEnd}
-use Rattle.cp_machine.specs.declared.process.Status.{Status}
-use Rattle.cp_machine.specs.declared.process.Status.TheVariants.{Ready, Ended, AtGate, Delayed}
 use Rattle.cp_machine.specs.declared.state.Phase.{Phase}
-use Rattle.cp_machine.specs.declared.state.Phase.TheVariants.{Initialising, Initialised}
-use Rattle.cp_machine.specs.declared.state.TheConstants.{LIMIT}
-use Rattle.cp_machine.specs.Calls.{frame_behind, opened, with_result, given_up, left, called, called_in, called_by, call, start_process, start_inside, started, start, returned, init_ended, delayed_in, delay_at, delay, continued_from, continue_at, continue}
-use Rattle.cp_machine.specs.Fits.{FrameFits, Follows, EntryFits, StackFits, ThreadFits, MachineFits, size_of}
-use Rattle.cp_machine.specs.Machine.{Machine, Thread, Monitor, thread_at, no_thread, monitor_at, phase_at, is_initialised, is_uninitialised, is_unstarted, is_some, with_permanents, with_bindings, with_phase, with_thread, with_stack, with_status, with_monitor, with_pending, with_output}
-use Rattle.cp_machine.specs.Memory.{memory_at, with_memory, value_of, set_of, address_of, origin_of, component_of, arguments_of, number_put, set_put, cells_put, frame_opened, frame_bound, parameters_bound}
-use Rattle.cp_machine.specs.Opening.{admitted, admitted_at}
+use Rattle.cp_machine.specs.Calls.{frame_behind, with_result, given_up, left}
+use Rattle.cp_machine.specs.Fits.{FrameFits, Follows, StackFits, ThreadFits, MachineFits}
+use Rattle.cp_machine.specs.Machine.{Machine, Thread, thread_at, with_bindings, with_phase, with_stack, with_output}
+use Rattle.cp_machine.specs.Memory.{memory_at, with_memory, frame_opened, parameters_bound}
 use Rattle.cp_machine.specs.Stack.{rest_of, from_end}
-use Rattle.cp_machine.specs.Statements as statements
-use Rattle.cp_machine.specs.Statements.{Stepped, local, fault, with_value}
-use Rattle.cp_machine.specs.Step.{act, take_top, step_at}
+use Rattle.cp_machine.specs.Statements.{Stepped, with_value}
 use Rattle.cp_machine.proofs.KernelFits.{thread_fits, permanents_fit}
-use Rattle.cp_machine.proofs.StoreLemmas.{Kept, kept_number, kept_set, kept_copy, kept_frame, kept_component, length-bindings}
+use Rattle.cp_machine.proofs.StoreLemmas.{Kept, kept_component, length-bindings}
 
 -- ---- control stacks
 
@@ -166,14 +147,14 @@ result_length : (slot : Option ℕ) (z : ℤ) (caller : Frame) (cells : List ℤ
 result_length None z caller cells = refl
 result_length (Some slot) z caller cells = length-set cells _ z
 
-given_up_fits : (r : Tables) (t : Thread) (caller : Frame) (slot : Option ℕ) (es : List Entry) → Follows r t.frame caller → StackFits r caller es → ThreadFits r (given_up r t caller slot es)
-given_up_fits r t caller slot es f s =
+given_up_fits : (r : Tables) (t : Thread) (caller : Frame) (slot : Option ℕ) (es : List Entry) → ThreadFits r t → Follows r t.frame caller → StackFits r caller es → ThreadFits r (given_up r t caller slot es)
+given_up_fits r t caller slot es h f s =
     let z = slice_index_or t.cells (onward t.frame.base (routine_at r t.frame.routine).result) (pos 0) in
     record {
       stack = s;
-      cells = omega (arith, result_length slot z caller (take t.frame.base t.cells), length-take t.frame.base t.cells, f.cells);
-      references = omega (arith, length-take t.frame.references t.references, f.references);
+      cells = omega (arith, result_length slot z caller (take t.frame.base t.cells), length-take-le t.frame.base t.cells (omega (arith, h.cells)), f.cells);
+      references = omega (arith, length-take-le t.frame.references t.references (omega (arith, h.references)), f.references);
     }
 
 pub left_fits : (r : Tables) (m : Machine) (pid : ℕ) (caller : Frame) (slot : Option ℕ) (es : List Entry) → Follows r (thread_at m.threads pid).frame caller → StackFits r caller es → MachineFits r m → MachineFits r (left r m pid caller slot es)
-left_fits r m pid caller slot es f s h = thread_fits r m pid _ (λ lt. given_up_fits r (thread_at m.threads pid) caller slot es f s) h
+left_fits r m pid caller slot es f s h = thread_fits r m pid _ (λ lt. given_up_fits r (thread_at m.threads pid) caller slot es (h.each pid lt) f s) h

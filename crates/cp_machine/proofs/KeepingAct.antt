@@ -1,28 +1,26 @@
 -- A step keeps each process inside what was reserved for it.
-use Rattle.std.proofs.Common.{◌≡◌, ℕ, ◌+◌, ◌<◌, ◌≤◌, ◌∙◌, List, [], ◌∷◌, ◌++◌, length, Option, Some, None, Result, Ok, Err, if◌then◌else◌, Bool, true, false, ap, sym, refl, subst, arith}
-use Rattle.std.specs.Prelude.{ℤ, ◌==◌, slice_index_or, not}
+use Rattle.std.proofs.Common.{◌≡◌, ℕ, ◌<◌, ◌≤◌, List, [], ◌∷◌, length, Option, Some, None, Result, Ok, Err, if◌then◌else◌, Bool, true, false, refl, subst, arith}
+use Rattle.std.specs.Prelude.{ℤ, ◌==◌}
 use Rattle.std.specs.Ordering.{int_eq}
-use Rattle.std.proofs.lemmas.List.{length-set}
-use Rattle.cp_slots.specs.Tables.{Tables, item_at, routine_at, component_at}
-use Rattle.cp_slots.specs.Fits.{IsSound, Nests, ListFits, InnerFits, ActionFits}
+use Rattle.cp_slots.specs.Tables.{Tables, item_at, component_at}
+use Rattle.cp_slots.specs.Fits.{IsSound, ListFits, InnerFits, ActionFits}
 use Rattle.cp_slots.specs.declared.item.Action.{Action}
 use Rattle.cp_slots.specs.declared.item.Action.TheVariants.{Empty, Assign, AssignSet, Copy, Block, If, Case, While, Until, For, Cycle, Call, Start, Delay, Continue, Display}
-use Rattle.cp_slots.specs.declared.item.Arm.{Arm}
 use Rattle.cp_store.specs.declared.error.ErrorName.{ErrorName}
 use Rattle.cp_store.specs.Sets as sets
 use Rattle.cp_store.specs.Values.{ranged, is_true}
 use Rattle.cp_machine.specs.declared.process.Entry.{Entry}
 use Rattle.cp_machine.specs.declared.process.Entry.TheVariants.{Rest, Successor, Return, InitEnd}
-use Rattle.cp_machine.specs.declared.process.Status.TheVariants.{Ready, Ended}
+use Rattle.cp_machine.specs.declared.process.Status.TheVariants.{Ended}
 use Rattle.cp_machine.specs.declared.state.Phase.TheVariants.{Initialised}
 use Rattle.cp_machine.specs.declared.state.TheConstants.{LIMIT}
-use Rattle.cp_machine.specs.Fits.{StackFits, ThreadFits, MachineFits, EntryFits}
-use Rattle.cp_machine.specs.Machine.{Machine, Thread, thread_at, with_stack}
+use Rattle.cp_machine.specs.Fits.{StackFits, MachineFits, EntryFits}
+use Rattle.cp_machine.specs.Machine.{Machine, thread_at, with_stack}
 use Rattle.cp_machine.specs.Memory.{value_of, set_of, address_of, component_of, arguments_of}
 use Rattle.cp_machine.specs.Stack.{rest_of}
-use Rattle.cp_machine.specs.Statements.{Stepped, arm_for, is_beyond, next_value, succeeded, local, fault, with_value}
+use Rattle.cp_machine.specs.Statements.{arm_for, is_beyond, next_value, succeeded, local, fault, with_value}
 use Rattle.cp_machine.specs.Step.{act, take_top, step_at}
-use Rattle.cp_machine.proofs.Keeping.{Fit, value_fits, either_fits, either_stack, rest_fits, stack_fits, phase_fits, output_fits, memory_fits, left_fits}
+use Rattle.cp_machine.proofs.Keeping.{Fit, value_fits, either_fits, either_stack, stack_fits, phase_fits, output_fits, memory_fits, left_fits}
 use Rattle.cp_machine.proofs.KernelFits.{status_fits, let_in_fits}
 use Rattle.cp_machine.proofs.KeepingSteps.{arm_is, goes_fits, next_fits, next_machine, above_fits, again_fits, called_by_fits, started_fits, delay_at_fits, continue_at_fits}
 use Rattle.cp_machine.proofs.StoreLemmas.{kept_number, kept_set, kept_copy}
@@ -114,7 +112,7 @@ module _ (r : Tables) (m : Machine) (pid : ℕ) (lt : pid < length m.threads) (s
 pub action_fits : (r : Tables) (m : Machine) (pid at below : ℕ) → IsSound r → EntryFits r (thread_at m.threads pid).frame at below → ActionFits r (thread_at m.threads pid).frame.routine (item_at r at).need (item_at r at).action
 action_fits r m pid at below sound e = subst (λ k. ActionFits r k (item_at r at).need (item_at r at).action) e.nests.same (sound.items at e.nests.place).action
 
-list_fits : (r : Tables) (m : Machine) (pid at below : ℕ) → IsSound r → EntryFits r (thread_at m.threads pid).frame at below → ListFits r (thread_at m.threads pid).frame.routine (item_at r at).need (item_at r at).next
+pub list_fits : (r : Tables) (m : Machine) (pid at below : ℕ) → IsSound r → EntryFits r (thread_at m.threads pid).frame at below → ListFits r (thread_at m.threads pid).frame.routine (item_at r at).need (item_at r at).next
 list_fits r m pid at below sound e = subst (λ k. ListFits r k (item_at r at).need (item_at r at).next) e.nests.same (sound.items at e.nests.place).next
 
 top_fits : (r : Tables) (m : Machine) (pid : ℕ) (es : List Entry) → pid < length m.threads → IsSound r → MachineFits r m → StackFits r (thread_at m.threads pid).frame es → Fit r (take_top r m pid es)

@@ -1,11 +1,8 @@
 -- A step keeps each process inside what was reserved for it: one case for each item.
-use Rattle.std.proofs.Common.{◌≡◌, ℕ, zero, suc, ◌+◌, ◌-◌, ◌<◌, ◌≤◌, ◌∙◌, List, [], ◌∷◌, ◌++◌, length, Option, Some, None, Result, Ok, Err, Bool, true, false, ap, sym, refl, subst, arith, get_or-set_same, if◌then◌else◌}
-use Rattle.std.specs.Prelude.{ℤ, pos, slice_set, slice_index_or, ◌==◌, IfSome, not}
-use Rattle.std.specs.Ordering.{int_eq}
-use Rattle.cp_slots.specs.Tables.{Tables, item_at, routine_at, component_at}
-use Rattle.cp_slots.specs.Fits.{IsSound, ListFits, InnerFits, ArmsFit, CallFits, ActionFits, KindFits}
-use Rattle.cp_slots.specs.declared.item.Action.{Action}
-use Rattle.cp_slots.specs.declared.item.Action.TheVariants.{Empty, Assign, AssignSet, Copy, Block, If, Case, While, Until, For, Cycle, Call, Start, Delay, Continue, Display}
+use Rattle.std.proofs.Common.{◌≡◌, ℕ, suc, ◌+◌, ◌<◌, ◌≤◌, List, [], ◌∷◌, length, Option, Some, None, Result, Ok, Bool, true, false, ap, sym, subst, arith, get_or-set_same, if◌then◌else◌}
+use Rattle.std.specs.Prelude.{ℤ, pos, slice_index_or, IfSome}
+use Rattle.cp_slots.specs.Tables.{Tables, item_at, component_at}
+use Rattle.cp_slots.specs.Fits.{IsSound, ListFits, InnerFits, CallFits, KindFits}
 use Rattle.cp_slots.specs.declared.item.Arm.{Arm}
 use Rattle.cp_slots.specs.declared.place.Argument.{Argument}
 use Rattle.cp_slots.specs.declared.place.Origin.{Origin}
@@ -15,24 +12,19 @@ use Rattle.cp_store.specs.declared.argument.Bound.{Bound}
 use Rattle.cp_store.specs.declared.error.ErrorName.{ErrorName}
 use Rattle.cp_store.specs.declared.memory.Address.{Address}
 use Rattle.cp_store.specs.declared.memory.Address.TheVariants as address
-use Rattle.cp_store.specs.declared.memory.Frame.{Frame}
-use Rattle.cp_store.specs.Sets as sets
-use Rattle.cp_store.specs.Values.{ranged, is_true}
+use Rattle.cp_store.specs.Values.{is_true}
 use Rattle.cp_machine.specs.declared.process.Entry.{Entry}
 use Rattle.cp_machine.specs.declared.process.Entry.TheVariants.{Rest, Successor, Return, InitEnd}
-use Rattle.cp_machine.specs.declared.process.Status.TheVariants.{Ready, Ended}
-use Rattle.cp_machine.specs.declared.state.Phase.TheVariants.{Initialising, Initialised}
-use Rattle.cp_machine.specs.declared.state.TheConstants.{LIMIT}
-use Rattle.cp_machine.specs.Calls.{frame_behind, opened, called, called_in, called_by, start_inside, started, returned, delayed_in, delay_at, continued_from, continue_at}
-use Rattle.cp_machine.specs.Fits.{StackFits, ThreadFits, MachineFits}
+use Rattle.cp_machine.specs.declared.process.Status.TheVariants.{Ready}
+use Rattle.cp_machine.specs.declared.state.Phase.TheVariants.{Initialising}
+use Rattle.cp_machine.specs.Calls.{called, called_in, called_by, start_inside, started, delayed_in, delay_at, continued_from, continue_at}
+use Rattle.cp_machine.specs.Fits.{StackFits, MachineFits}
 use Rattle.cp_machine.specs.Machine.{Machine, Thread, thread_at, no_thread, phase_at, is_initialised, is_uninitialised, is_unstarted, with_stack}
-use Rattle.cp_machine.specs.Memory.{memory_at, value_of, set_of, address_of, component_of, arguments_of, number_put}
 use Rattle.cp_machine.specs.Stack.{rest_of, from_end}
-use Rattle.cp_machine.specs.Statements.{Stepped, arm_for, has_label, gone_on}
-use Rattle.cp_machine.specs.Step.{act, take_top, step_at}
-use Rattle.cp_machine.proofs.Keeping.{Fit, value_fits, either_fits, either_stack, rest_fits, inner_fits, end_fits, length_rest, stack_fits, phase_fits, memory_fits, parameters_fit, kind_fits, behind_follows, opened_thread, left_fits}
+use Rattle.cp_machine.specs.Statements.{arm_for, has_label, gone_on}
+use Rattle.cp_machine.proofs.Keeping.{Fit, either_fits, rest_fits, inner_fits, end_fits, length_rest, stack_fits, phase_fits, memory_fits, parameters_fit, kind_fits, behind_follows, opened_thread, left_fits}
 use Rattle.cp_machine.proofs.KernelFits.{thread_fits, status_fits, entered_fits, delayed_fits, continued_fits}
-use Rattle.cp_machine.proofs.StoreLemmas.{kept_number, kept_set, kept_copy, kept_frame}
+use Rattle.cp_machine.proofs.StoreLemmas.{kept_number, kept_frame}
 
 arm_or : (P : Option ℕ → Type 0) (b : Bool) (body : Option ℕ) (others : Result (Option ℕ) ErrorName) (list : Option ℕ) → (if b then Ok body else others) ≡ Ok list → P body → (others ≡ Ok list → P list) → P list
 arm_or P true body others list e h k = subst P (cc) h

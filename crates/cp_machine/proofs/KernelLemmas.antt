@@ -1,6 +1,6 @@
 -- Monitors that are read, queues that are searched, and lines by their length.
-use Rattle.std.proofs.Common.{◌≡◌, ℕ, ◌<◌, ◌≤◌, ◌∙◌, List, [], ◌∷◌, Bool, Option, Some, length, map, ap, sym, refl, arith, cond}
-use Rattle.std.specs.Prelude.{position, nat_lt, slice_index_or}
+use Rattle.std.proofs.Common.{◌≡◌, ℕ, ◌<◌, ◌≤◌, ◌∙◌, List, [], ◌∷◌, Bool, Some, length, map, ap, sym, refl, arith}
+use Rattle.std.specs.Prelude.{position, slice_index_or}
 use Rattle.std.specs.List.{position_or_len}
 use Rattle.std.proofs.lemmas.List.{get_or-map, length-map}
 use Rattle.cp_machine.specs.declared.state.Guard.{Guard}

@@ -1,6 +1,6 @@
 -- The opening state is the program's.
-use Rattle.std.proofs.Common.{◌≡◌, ℕ, ◌+◌, ◌-◌, ◌<◌, ◌≤◌, ◌∙◌, List, [], ◌∷◌, Option, None, Some, length, map, ap, sym, refl, subst, arith, ◌⊎◌, inl, inr}
-use Rattle.std.specs.Prelude.{replicate, slice_set, slice_index_or}
+use Rattle.std.proofs.Common.{◌≡◌, ℕ, ◌-◌, ◌<◌, ◌≤◌, ◌∙◌, [], Option, None, Some, length, map, sym, refl, subst, arith, ◌⊎◌, inl, inr}
+use Rattle.std.specs.Prelude.{slice_set}
 use Rattle.std.proofs.lemmas.Bool.{cases_eq}
 use Rattle.std.proofs.lemmas.List.{length-map, length-replicate, length-set, get_or-map, get_or-set_same, get_or-set_other}
 use Rattle.cp_slots.specs.Tables.{Tables, item_at, routine_at, process_at, no_process}
@@ -12,7 +12,7 @@ use Rattle.cp_machine.specs.declared.process.Status.{Status}
 use Rattle.cp_machine.specs.declared.state.Phase.TheVariants.{Uninitialised}
 use Rattle.cp_machine.specs.Fits.{FrameFits, EntryFits, MachineFits, StackFits, ThreadFits}
 use Rattle.cp_machine.specs.Machine.{Machine, Thread, thread_at, no_monitor, no_thread, with_status}
-use Rattle.cp_machine.specs.Opening.{unstarted_thread, still, opening}
+use Rattle.cp_machine.specs.Opening.{unstarted_thread, still}
 use Rattle.cp_machine.specs.Stack.{rest_of}
 
 first_fits : (r : Tables) (f : Frame) (list : Option ℕ) → ListFits r f.routine (r.depth - 1) list → 1 ≤ r.depth → FrameFits r f → StackFits r f (rest_of list [])

@@ -1,18 +1,16 @@
 -- A process whose topmost entry is known has room for what its item needs.
-use Rattle.std.proofs.Common.{◌≡◌, ◌∙◌, ℕ, ◌+◌, ◌<◌, ◌≤◌, List, [], ◌∷◌, length, map, Option, Some, None, ap, sym, subst, arith}
-use Rattle.std.specs.Prelude.{ℤ, slice_index_or, vec_len, vec_capacity}
+use Rattle.std.proofs.Common.{◌≡◌, ◌∙◌, ℕ, ◌+◌, ◌<◌, ◌≤◌, List, ◌∷◌, length, Option, Some, None, ap, sym, subst, arith}
+use Rattle.std.specs.Prelude.{ℤ, slice_index_or, vec_len}
 use Rattle.std.proofs.lemmas.List.{get_or-map, length-map, length-reverse}
-use Rattle.cp_slots.specs.Tables.{Tables, item_at, routine_at}
-use Rattle.cp_slots.specs.Fits.{IsSound, ListFits, InnerFits, CallFits, ActionFits}
+use Rattle.cp_slots.specs.Tables.{Tables, item_at}
+use Rattle.cp_slots.specs.Fits.{InnerFits, CallFits}
 use Rattle.cp_slots.specs.declared.place.Argument.{Argument}
-use Rattle.cp_store.specs.declared.memory.Frame.{Frame}
 use Rattle.cp_machine.specs.declared.process.Entry.{Entry}
-use Rattle.cp_machine.specs.declared.process.Entry.TheVariants.{Rest, Successor, Return, InitEnd}
+use Rattle.cp_machine.specs.declared.process.Entry.TheVariants.{Rest, Successor}
 use Rattle.cp_machine.specs.declared.process.Process.{Process}
 use Rattle.cp_machine.specs.declared.state.State.{State}
-use Rattle.cp_machine.specs.Fits.{EntryFits, StackFits, ThreadFits, MachineFits, IsReserved, IsStateOf, IsBusy, HasRoom, HasCallRoom, size_of}
+use Rattle.cp_machine.specs.Fits.{EntryFits, StackFits, MachineFits, IsReserved, IsStateOf, IsBusy, HasRoom, HasCallRoom}
 use Rattle.cp_machine.specs.Machine.{Thread, thread_of, thread_at, no_thread, machine_of}
-use Rattle.cp_machine.specs.Stack.{top_first}
 use Rattle.cp_machine.proofs.Keeping.{frame_fits}
 
 abbrev pub thread : State → ℕ → Thread

@@ -1,5 +1,5 @@
 -- A step keeps each line the line of those at its gate.
-use Rattle.std.proofs.Common.{◌≡◌, ◌∙◌, ℕ, ◌<◌, List, [], ◌∷◌, length, Option, Some, None, Result, Ok, Err, Bool, true, false, ap, sym, refl, subst, arith, if◌then◌else◌}
+use Rattle.std.proofs.Common.{◌≡◌, ◌∙◌, ℕ, ◌<◌, List, [], ◌∷◌, length, Option, Some, None, Result, Ok, Err, Bool, true, false, ap, refl, arith, if◌then◌else◌}
 use Rattle.std.specs.Prelude.{ℤ, pos, ◌==◌, slice_index_or}
 use Rattle.std.specs.Ordering.{int_eq}
 use Rattle.cp_slots.specs.Tables.{Tables, item_at, component_at}
@@ -27,7 +27,7 @@ use Rattle.cp_machine.specs.declared.state.Phase.TheVariants.{Initialised}
 use Rattle.cp_machine.specs.declared.state.TheConstants.{LIMIT}
 use Rattle.cp_machine.specs.Calls.{opened, left, called, called_in, called_by, start_process, start_inside, started, delayed_in, delay_at, continued_from, continue_at}
 use Rattle.cp_machine.specs.Fits.{LinesFit, MachineFits}
-use Rattle.cp_machine.specs.Machine.{Machine, Thread, thread_at, is_at_gate, is_initialised, is_pending, is_ready, is_ready_status, is_some, is_uninitialised, is_unstarted, phase_at, with_output, with_permanents, with_phase, with_status, with_thread, with_stack}
+use Rattle.cp_machine.specs.Machine.{Machine, Thread, thread_at, is_at_gate, is_initialised, is_pending, is_ready, is_ready_status, is_some, is_uninitialised, is_unstarted, phase_at, with_permanents, with_phase, with_status, with_thread, with_stack}
 use Rattle.cp_machine.specs.Memory.{memory_at, with_memory, value_of, set_of, address_of, origin_of, component_of, arguments_of, parameters_bound, set_written}
 use Rattle.cp_machine.specs.Stack.{rest_of, from_end}
 use Rattle.cp_machine.specs.Statements.{Stepped, with_value, arm_for, is_beyond, gone_on, next_value, succeeded}

@@ -11,7 +11,7 @@ use Rattle.cp_store.specs.declared.memory.Address.TheVariants.{Permanent, Local}
 use Rattle.cp_store.specs.declared.memory.Frame.{Frame}
 use Rattle.cp_store.specs.declared.set.SetValue.{SetValue}
 use Rattle.cp_store.specs.Arguments.{put_value, put_in_frame, bound_in_frame, bound_in_component, put_binding, bindings_after}
-use Rattle.cp_store.specs.Memory.{Memory, onward, moved, cell_at, put_number, put_copy, put_reference}
+use Rattle.cp_store.specs.Memory.{Memory, onward, moved, cell_at, put_number, put_copy}
 use Rattle.cp_store.specs.Sets.{put_word, put_pair, put_quad, put_set}
 use Rattle.cp_machine.specs.Memory.{set_written}
 

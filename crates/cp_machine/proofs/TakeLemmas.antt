@@ -1,6 +1,6 @@
 -- What the item that a process takes needs is there.
-use Rattle.std.proofs.Common.{◌≡◌, ◌∙◌, ℕ, ◌<◌, ◌≤◌, List, ◌∷◌, length, map, Option, ap, sym, subst, arith, true}
-use Rattle.std.specs.Prelude.{ℤ, slice_index_or, vec_capacity}
+use Rattle.std.proofs.Common.{◌≡◌, ◌∙◌, ℕ, ◌<◌, List, ◌∷◌, length, Option, ap, sym, subst, arith, true}
+use Rattle.std.specs.Prelude.{ℤ}
 use Rattle.std.proofs.lemmas.List.{length-map}
 use Rattle.cp_slots.specs.Tables.{Tables, item_at}
 use Rattle.cp_slots.specs.Fits.{InnerFits, CallFits, ActionFits}

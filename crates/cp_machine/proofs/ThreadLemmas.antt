@@ -1,11 +1,11 @@
 -- A process that is read or changed is a thread that is read or changed.
-use Rattle.std.proofs.Common.{◌≡◌, ℕ, ◌<◌, ◌∙◌, List, length, map, ap, sym, refl}
+use Rattle.std.proofs.Common.{◌≡◌, ℕ, ◌<◌, ◌∙◌, List, length, map, ap, sym}
 use Rattle.std.specs.Prelude.{slice_index_or}
 use Rattle.std.proofs.lemmas.List.{get_or-map}
 use Rattle.cp_store.specs.Memory.{Memory}
 use Rattle.cp_machine.specs.declared.process.Process.{Process}
 use Rattle.cp_machine.specs.declared.state.Guard.{Guard}
-use Rattle.cp_machine.specs.Machine.{Machine, Thread, Monitor, monitor_of, thread_of, thread_at, no_thread, no_monitor, with_permanents, with_thread}
+use Rattle.cp_machine.specs.Machine.{Machine, Thread, monitor_of, thread_of, thread_at, no_thread, no_monitor, with_permanents, with_thread}
 use Rattle.cp_machine.specs.Memory.{memory_at, with_memory}
 
 pub thread_read : (ps : List Process) (pid : ℕ) (p : Process) → pid < length ps → p ≡ slice_index_or ps pid p → thread_at (map thread_of ps) pid ≡ thread_of p

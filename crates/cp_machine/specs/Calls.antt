@@ -1,12 +1,11 @@
 -- Calls, starts of components, and their ends.
-use Rattle.std.specs.Prelude.{ℕ, ◌+◌, ◌∷◌, [], List, length, take, Option, Some, None, Result, ℤ, pos, slice_set, slice_index_or, Bool, true, false, if◌then◌else◌}
-use Rattle.cp_slots.specs.Tables.{Tables, component_at, process_at, routine_at}
+use Rattle.std.specs.Prelude.{ℕ, ◌∷◌, List, length, take, Option, Some, None, ℤ, pos, slice_set, slice_index_or, Bool, true, false, if◌then◌else◌}
+use Rattle.cp_slots.specs.Tables.{Tables, component_at, routine_at}
 use Rattle.cp_slots.specs.declared.place.Argument.{Argument}
 use Rattle.cp_slots.specs.declared.place.ComponentPlace.{ComponentPlace}
 use Rattle.cp_slots.specs.declared.place.Place.{Place}
 use Rattle.cp_slots.specs.declared.tables.ComponentKind.{ComponentKind}
 use Rattle.cp_slots.specs.declared.tables.ComponentKind.TheVariants as kind
-use Rattle.cp_store.specs.declared.error.ErrorName.{ErrorName}
 use Rattle.cp_store.specs.declared.error.ErrorName.TheVariants.{NotInit, InitTwice, QueueInUse}
 use Rattle.cp_store.specs.declared.memory.Address.{Address}
 use Rattle.cp_store.specs.declared.memory.Address.TheVariants as address
@@ -17,7 +16,7 @@ use Rattle.cp_store.specs.Values.{is_true}
 use Rattle.cp_machine.specs.declared.event.Event.TheVariants.{Kernel}
 use Rattle.cp_machine.specs.declared.event.Kernel.TheVariants.{Enter, Leave, Delay, Continue, StartProcess}
 use Rattle.cp_machine.specs.declared.process.Entry.{Entry}
-use Rattle.cp_machine.specs.declared.process.Entry.TheVariants.{Rest, Successor, Return, InitEnd}
+use Rattle.cp_machine.specs.declared.process.Entry.TheVariants.{Return, InitEnd}
 use Rattle.cp_machine.specs.declared.process.Status.TheVariants.{Ready}
 use Rattle.cp_machine.specs.declared.state.Phase.TheVariants.{Initialising, Initialised}
 use Rattle.cp_machine.specs.Kernel.{let_in, entered, delayed, continued}

@@ -1,18 +1,18 @@
 -- When a state is a program's: each process stays inside what was reserved for it.
-use Rattle.std.specs.Prelude.{◌≡◌, ◌+◌, ◌-◌, ◌<◌, ◌≤◌, ℕ, [], ◌∷◌, List, length, Option, Some, slice_index_or, vec_capacity, vec_len, None, IfSome, eqb}
+use Rattle.std.specs.Prelude.{◌≡◌, ◌+◌, ◌<◌, ◌≤◌, ℕ, [], ◌∷◌, List, length, Option, Some, slice_index_or, vec_capacity, vec_len, None, IfSome, IsTrue, eqb}
 use Rattle.std.specs.List.{IsDistinct, list_any}
-use Rattle.cp_slots.specs.Tables.{Tables, item_at, routine_at, process_at}
+use Rattle.cp_slots.specs.Tables.{Tables, item_at, routine_at}
 use Rattle.cp_slots.specs.Fits.{IsSound, Nests}
+use Rattle.cp_slots.specs.declared.item.Item.{Item}
 use Rattle.cp_store.specs.declared.memory.Frame.{Frame}
 use Rattle.cp_machine.specs.declared.process.Entry.{Entry}
 use Rattle.cp_machine.specs.declared.process.Entry.TheVariants.{Rest, Successor, Return, InitEnd}
 use Rattle.cp_machine.specs.declared.process.Process.{Process}
 use Rattle.cp_machine.specs.declared.state.State.{State}
 use Rattle.cp_machine.specs.declared.state.TheConstants.{LIMIT}
-use Rattle.cp_machine.specs.Machine.{Machine, Thread, is_at_gate, machine_of, monitor_at, thread_at}
-
-abbrev pub size_of : Tables → ℕ → ℕ
-size_of r routine = length (routine_at r routine).image
+use Rattle.cp_machine.specs.Machine.{Machine, Thread, is_at_gate, is_ready, machine_of, monitor_at, thread_at, under}
+use Rattle.cp_machine.specs.Reach.{Reaches, size_of}
+pub use Rattle.cp_machine.specs.Reach.{size_of}
 
 -- the routine is there, and there is room for its frame and for those above it
 pub record FrameFits (r : Tables) (f : Frame) : Type 0 where
@@ -20,11 +20,11 @@ pub record FrameFits (r : Tables) (f : Frame) : Type 0 where
   pub cells : f.base + (routine_at r f.routine).room ≤ r.cells
   pub references : f.references + (routine_at r f.routine).reference_room ≤ r.references
 
--- the frame follows that of its caller
+-- the frame stands behind that of its caller
 pub record Follows (r : Tables) (f caller : Frame) : Type 0 where
   pub fits : FrameFits r f
-  pub cells : f.base ≤ caller.base + size_of r caller.routine
-  pub references : f.references ≤ caller.references + (routine_at r caller.routine).references
+  pub cells : f.base ≡ caller.base + size_of r caller.routine
+  pub references : f.references ≡ caller.references + (routine_at r caller.routine).references
 
 -- an item whose list fits above so many entries
 pub record EntryFits (r : Tables) (f : Frame) (at below : ℕ) : Type 0 where
@@ -39,11 +39,11 @@ StackFits r f (Successor at value last ∷ es) = EntryFits r f at (length es) ×
 StackFits r f (Return caller result monitor ∷ es) = Follows r f caller × (length es + 1 ≤ r.depth) × IfSome monitor (λ number. number < r.monitors) × StackFits r caller es
 StackFits r f (InitEnd caller component ∷ es) = Follows r f caller × (length es + 1 ≤ r.depth) × StackFits r caller es
 
--- a process stays inside its control stack, its cells and its references
+-- a process stays inside its control stack, and its cells and references are those of its frames
 pub record ThreadFits (r : Tables) (t : Thread) : Type 0 where
   pub stack : StackFits r t.frame t.stack
-  pub cells : length t.cells ≤ t.frame.base + size_of r t.frame.routine
-  pub references : length t.references ≤ t.frame.references + (routine_at r t.frame.routine).references
+  pub cells : length t.cells ≡ t.frame.base + size_of r t.frame.routine
+  pub references : length t.references ≡ t.frame.references + (routine_at r t.frame.routine).references
 
 pub record MachineFits (r : Tables) (m : Machine) : Type 0 where
   pub threads : length m.threads ≡ length r.processes
@@ -59,6 +59,14 @@ pub record LinesFit (m : Machine) : Type 0 where
   pub gate : (monitor q : ℕ) → is_at_gate monitor (thread_at m.threads q).status ≡ list_any (eqb q) (monitor_at m monitor).line
   pub once : (monitor : ℕ) → IsDistinct eqb (monitor_at m monitor).line
   pub pending : IfSome m.pending (λ monitor. 2 ≤ length (monitor_at m monitor).line)
+
+-- who is first in a line is one of the processes
+abbrev pub IsFirstKnown : (processes : ℕ) → List ℕ → Type 0
+IsFirstKnown processes [] = Unit {0}
+IsFirstKnown processes (q ∷ line) = q < processes
+
+abbrev pub AreFirstKnown : Machine → Type 0
+AreFirstKnown m = (monitor : ℕ) → IsFirstKnown (length m.threads) (monitor_at m monitor).line
 
 -- each line has room for one process more
 abbrev pub HaveGateRoom : Machine → Type 0
@@ -89,7 +97,16 @@ pub record IsStateOf (r : Tables) (s : State) : Type 0 where
   pub sound : IsSound r
   pub fits : MachineFits r (machine_of s)
   pub lines : LinesFit (machine_of s)
+  pub reach : Reaches r (machine_of s)
   pub reserved : IsReserved r s
+
+-- an item of the program is the topmost entry of a process
+pub record IsTaken (r : Tables) (s : State) (pid at : ℕ) (item : Item) : Type 0 where
+  pub own : IsStateOf r s
+  pub within : pid < length s.processes.items
+  pub ready : IsTrue (is_ready (machine_of s) pid)
+  pub same : item ≡ item_at r at
+  pub top : (thread_at (machine_of s).threads pid).stack ≡ Rest at ∷ under (machine_of s) pid
 
 -- a process has an entry, and room for one more where it is wanted
 abbrev pub IsBusy : State → ℕ → Type 0

@@ -3,7 +3,7 @@ use Rattle.std.specs.Prelude.{ℕ, ◌∷◌, [], ◌++◌, List, position, Opti
 use Rattle.cp_machine.specs.declared.gates.Gates.{Gates}
 use Rattle.cp_machine.specs.declared.gates.Gates.TheVariants.{First, Any}
 use Rattle.cp_machine.specs.declared.process.Status.TheVariants.{Ready, AtGate, Delayed}
-use Rattle.cp_machine.specs.Machine.{Machine, Thread, Monitor, monitor_at, is_delayed_at, with_status, with_monitor, with_pending}
+use Rattle.cp_machine.specs.Machine.{Machine, monitor_at, is_delayed_at, with_status, with_monitor, with_pending}
 
 -- ---- the line is let in
 

@@ -1,9 +1,12 @@
 pub mod Calls
 pub mod Fits
 pub mod Kernel
+pub mod Kinds
 pub mod Machine
 pub mod Memory
 pub mod Opening
+pub mod Reach
+pub mod Results
 pub mod Stack
 pub mod Statements
 pub mod Step

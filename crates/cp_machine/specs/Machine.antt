@@ -1,5 +1,5 @@
 -- The slot machine as plain data.
-use Rattle.std.specs.Prelude.{◌≡◌, drop, ℕ, ◌∷◌, [], List, length, Option, Some, None, ℤ, Bool, true, false, map, slice_set, slice_index_or, ◌==◌}
+use Rattle.std.specs.Prelude.{drop, ℕ, [], List, length, Option, Some, None, ℤ, Bool, true, false, map, slice_set, slice_index_or, ◌==◌}
 use Rattle.std.specs.List.{filter, range_with_len, list_any}
 use Rattle.cp_store.specs.declared.memory.Address.{Address}
 use Rattle.cp_store.specs.declared.memory.Frame.{Frame}
@@ -11,7 +11,7 @@ use Rattle.cp_machine.specs.declared.process.Status.TheVariants.{Unstarted, Read
 use Rattle.cp_machine.specs.declared.shown.Shown.{Shown}
 use Rattle.cp_machine.specs.declared.state.Guard.{Guard}
 use Rattle.cp_machine.specs.declared.state.Phase.{Phase}
-use Rattle.cp_machine.specs.declared.state.Phase.TheVariants.{Uninitialised, Initialising, Initialised}
+use Rattle.cp_machine.specs.declared.state.Phase.TheVariants.{Uninitialised, Initialised}
 use Rattle.cp_machine.specs.declared.state.State.{State}
 use Rattle.cp_machine.specs.Stack.{top_first}
 

@@ -1,11 +1,11 @@
 -- The opening state, and admissions.
-use Rattle.std.specs.Prelude.{position, remove, ℕ, [], List, length, Option, Some, None, map, replicate, slice_set, ◌==◌}
+use Rattle.std.specs.Prelude.{position, remove, ℕ, [], List, length, Option, Some, None, map, replicate, ◌==◌}
 use Rattle.cp_slots.specs.Tables.{Tables, component_at, routine_at}
 use Rattle.cp_slots.specs.declared.tables.Process as slots
 use Rattle.cp_machine.specs.declared.gates.Gates.{Gates}
 use Rattle.cp_machine.specs.declared.process.Status.TheVariants.{Unstarted, Ready}
 use Rattle.cp_machine.specs.declared.state.Phase.TheVariants.{Uninitialised}
-use Rattle.cp_machine.specs.Machine.{Machine, Thread, Monitor, monitor_at, no_monitor, with_status, with_monitor, with_pending}
+use Rattle.cp_machine.specs.Machine.{Machine, Thread, monitor_at, no_monitor, with_status, with_monitor, with_pending}
 use Rattle.cp_machine.specs.Memory.{frame_opened, no_bindings}
 use Rattle.cp_machine.specs.Stack.{rest_of}
 

@@ -6,6 +6,7 @@ ghost use Rattle.cp_slots.specs.Tables.{Tables, component_at};
 ghost use Rattle.cp_machine.specs.Calls as spec;
 ghost use Rattle.cp_machine.specs.Fits.{HasCallRoom, HaveGateRoom, IsBusy, IsReserved};
 ghost use Rattle.cp_machine.specs.Machine.{machine_of, phase_at, under, with_phase};
+ghost use Rattle.cp_machine.specs.Reach.{CanCall, FitsNew};
 ghost use Rattle.cp_machine.specs.Stack.{rest_of};
 ghost use Rattle.cp_machine.specs.Statements as statements;
 
@@ -44,6 +45,9 @@ fn open_call(
     requires busy { IsBusy state.old pid }
     requires routine { callee.routine < length program.now.routines }
     requires room { HasCallRoom program.now state.old.processes.items pid callee.routine }
+    requires count { length state.old.bounds.items ≡ length arguments.now }
+    requires fit { FitsNew program.now (machine_of state.old) pid callee.routine component arguments.now state.old.bounds.items }
+    requires there { component < length program.now.components }
     ensures after { machine_of state.new ≡ spec.called program.now (machine_of state.old) pid callee.routine component arguments.now state.old.bounds.items callee.result monitor (rest_of item.now.next (under (machine_of state.old) pid)) }
     ensures reserved { (r : Tables) → IsReserved r state.old → IsReserved r state.new }
 {
@@ -75,8 +79,11 @@ fn call_monitor(
     requires busy { IsBusy state.old pid }
     requires routine { callee.routine < length program.now.routines }
     requires room { HasCallRoom program.now state.old.processes.items pid callee.routine }
+    requires count { length state.old.bounds.items ≡ length arguments.now }
+    requires fit { FitsNew program.now (machine_of state.old) pid callee.routine component arguments.now state.old.bounds.items }
     requires monitor { monitor < length state.old.guards.items }
     requires line { HaveGateRoom (machine_of state.old) }
+    requires there { component < length program.now.components }
     ensures after { spec.called_in program.now (machine_of state.old) pid (ComponentKind.Monitor monitor) callee.routine component arguments.now state.old.bounds.items callee.result (rest_of item.now.next (under (machine_of state.old) pid)) ≡ record { machine = machine_of state.new; event = result } }
     ensures reserved { (r : Tables) → IsReserved r state.old → IsReserved r state.new }
 {
@@ -108,9 +115,12 @@ fn call_entry(
     requires busy { IsBusy state.old pid }
     requires routine { callee.routine < length program.now.routines }
     requires room { HasCallRoom program.now state.old.processes.items pid callee.routine }
+    requires count { length state.old.bounds.items ≡ length arguments.now }
+    requires fit { FitsNew program.now (machine_of state.old) pid callee.routine component arguments.now state.old.bounds.items }
     requires guards { length state.old.guards.items ≡ program.now.monitors }
     requires sound { IsSound program.now }
     requires line { HaveGateRoom (machine_of state.old) }
+    requires there { component < length program.now.components }
     ensures after { spec.called_in program.now (machine_of state.old) pid (component_at program.now component).kind callee.routine component arguments.now state.old.bounds.items callee.result (rest_of item.now.next (under (machine_of state.old) pid)) ≡ record { machine = machine_of state.new; event = result } }
     ensures reserved { (r : Tables) → IsReserved r state.old → IsReserved r state.new }
 {
@@ -133,24 +143,21 @@ fn call_entry(
     }
 }
 
-// The phase of a component; one that is not there is uninitialised.
+/// The phase of a component.
 pub fn phase_of(state: &State, component: usize) -> Phase
+    requires { component < length state.now.phases.items }
     ensures { result ≡ phase_at (machine_of state.now) component }
 {
-    match state.phases.get(component) {
-        Some(phase) => *phase,
-        None => Phase::Uninitialised,
-    }
+    state.phases[component]
 }
 
 /// Gives a component a phase.
 pub fn set_phase(state: &mut State, component: usize, phase: Phase)
+    requires known { component < length state.old.phases.items }
     ensures after { machine_of state.new ≡ with_phase (machine_of state.old) component phase }
     ensures reserved { (r : Tables) → IsReserved r state.old → IsReserved r state.new }
 {
-    if component < state.phases.len() {
-        state.phases[component] = phase;
-    }
+    state.phases[component] = phase;
 }
 
 // Calls with evaluated arguments.
@@ -165,11 +172,15 @@ fn call_by(
 ) -> Result<Event, ErrorName>
     requires pid { pid < length state.old.processes.items }
     requires busy { IsBusy state.old pid }
+    requires known { component < length state.old.phases.items }
     requires routine { callee.routine < length program.now.routines }
     requires room { HasCallRoom program.now state.old.processes.items pid callee.routine }
+    requires count { length state.old.bounds.items ≡ length arguments.now }
+    requires fit { FitsNew program.now (machine_of state.old) pid callee.routine component arguments.now state.old.bounds.items }
     requires guards { length state.old.guards.items ≡ program.now.monitors }
     requires sound { IsSound program.now }
     requires line { HaveGateRoom (machine_of state.old) }
+    requires there { component < length program.now.components }
     ensures after { spec.called_by program.now (machine_of state.old) pid item.now.line callee.is_entry callee.routine component arguments.now state.old.bounds.items callee.result (rest_of item.now.next (under (machine_of state.old) pid)) ≡ statements.outcome result (machine_of state.new) pid item.now.line }
     ensures reserved { (r : Tables) → IsReserved r state.old → IsReserved r state.new }
 {
@@ -198,6 +209,8 @@ pub fn call(
 ) -> Result<Event, ErrorName>
     requires pid { pid < length state.old.processes.items }
     requires busy { IsBusy state.old pid }
+    requires phases { length state.old.phases.items ≡ length program.now.components }
+    requires reads { CanCall program.now (machine_of state.old) pid callee.routine place.now arguments.now }
     requires routine { callee.routine < length program.now.routines }
     requires room { HasCallRoom program.now state.old.processes.items pid callee.routine }
     requires most { length arguments.now ≤ vec_capacity state.old.bounds }

@@ -2,9 +2,9 @@
 
 ghost use Rattle.std.specs.Prelude.{◌≡◌, ◌<◌, ◌∷◌, [], IfNone, IfSome, length, position, slice_set};
 ghost use Rattle.cp_slots.specs.Tables.{Tables};
-ghost use Rattle.cp_machine.specs.Fits.{HaveGateRoom, IsReserved};
+ghost use Rattle.cp_machine.specs.Fits.{AreFirstKnown, HaveGateRoom, IsReserved};
 ghost use Rattle.cp_machine.specs.Kernel as spec;
-ghost use Rattle.cp_machine.specs.Machine.{is_delayed_at, machine_of, monitor_at, with_status};
+ghost use Rattle.cp_machine.specs.Machine.{is_delayed_at, machine_of, monitor_at};
 
 use crate::gates::Gates;
 use crate::memory::set_status;
@@ -14,6 +14,7 @@ use crate::state::{Guard, State};
 /// Lets the line of a monitor in, which nobody is inside any more.
 pub fn let_in(state: &mut State, monitor: u8)
     requires gate { monitor < length state.old.guards.items }
+    requires lines { AreFirstKnown (machine_of state.old) }
     ensures after { machine_of state.new ≡ spec.let_in (machine_of state.old) monitor }
     ensures reserved { (r : Tables) → IsReserved r state.old → IsReserved r state.new }
 {
@@ -26,18 +27,20 @@ pub fn let_in(state: &mut State, monitor: u8)
 // The first of the line goes in.
 fn let_first_in(state: &mut State, monitor: u8)
     requires gate { monitor < length state.old.guards.items }
+    requires lines { AreFirstKnown (machine_of state.old) }
     ensures after { machine_of state.new ≡ spec.first_in (machine_of state.old) monitor (monitor_at (machine_of state.old) monitor).line }
     ensures reserved { (r : Tables) → IsReserved r state.old → IsReserved r state.new }
 {
     let guard = &mut state.guards[monitor as usize];
     if let Some(pid) = take_first(guard) {
-        make_ready(state, pid);
+        set_status(state, pid, Status::Ready);
     }
 }
 
 // One alone goes in; of more, one has to be admitted.
 fn let_one_in(state: &mut State, monitor: u8)
     requires gate { monitor < length state.old.guards.items }
+    requires lines { AreFirstKnown (machine_of state.old) }
     ensures after { machine_of state.new ≡ spec.one_in (machine_of state.old) monitor (monitor_at (machine_of state.old) monitor).line }
     ensures reserved { (r : Tables) → IsReserved r state.old → IsReserved r state.new }
 {
@@ -64,16 +67,6 @@ fn take_first(guard: &mut Guard) -> Option<u8>
     guard.holder
 }
 
-// Makes a process ready; a number that no process has is passed over.
-fn make_ready(state: &mut State, pid: u8)
-    ensures after { machine_of state.new ≡ with_status (machine_of state.old) pid Status.Ready }
-    ensures reserved { (r : Tables) → IsReserved r state.old → IsReserved r state.new }
-{
-    if (pid as usize) < state.processes.len() {
-        set_status(state, pid, Status::Ready);
-    }
-}
-
 /// The caller goes in if nobody is inside, and else to the end of the line.
 pub fn enter(state: &mut State, pid: u8, monitor: u8)
     requires pid { pid < length state.old.processes.items }
@@ -96,6 +89,8 @@ pub fn enter(state: &mut State, pid: u8, monitor: u8)
 pub fn delay(state: &mut State, pid: u8, monitor: u8, cell: usize)
     requires pid { pid < length state.old.processes.items }
     requires gate { monitor < length state.old.guards.items }
+    requires cell { cell < length state.old.permanents.items }
+    requires lines { AreFirstKnown (machine_of state.old) }
     ensures after { machine_of state.new ≡ spec.delayed (machine_of state.old) pid monitor cell }
     ensures reserved { (r : Tables) → IsReserved r state.old → IsReserved r state.new }
 {
@@ -107,6 +102,8 @@ pub fn delay(state: &mut State, pid: u8, monitor: u8, cell: usize)
 /// The process in the queue of a permanent cell is ready and inside; where there is none, the line is let in.
 pub fn resume(state: &mut State, monitor: u8, cell: usize)
     requires gate { monitor < length state.old.guards.items }
+    requires cell { cell < length state.old.permanents.items }
+    requires lines { AreFirstKnown (machine_of state.old) }
     ensures after { machine_of state.new ≡ spec.continued (machine_of state.old) monitor cell }
     ensures reserved { (r : Tables) → IsReserved r state.old → IsReserved r state.new }
 {
@@ -152,9 +149,8 @@ fn place_in_queue(processes: &[Process], cell: usize) -> Option<usize>
 
 // The cell of a queue tells whether somebody waits.
 fn mark_queue(permanents: &mut [i16], cell: usize, mark: i16)
+    requires { cell < length permanents.old }
     ensures { permanents.new ≡ slice_set permanents.old cell mark }
 {
-    if cell < permanents.len() {
-        permanents[cell] = mark;
-    }
+    permanents[cell] = mark;
 }

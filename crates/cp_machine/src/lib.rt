@@ -11,6 +11,7 @@ pub mod gates;
 mod kernel;
 mod loops;
 mod memory;
+mod perform;
 pub mod process;
 mod queue;
 mod reading;

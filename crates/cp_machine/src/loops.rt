@@ -5,6 +5,7 @@ ghost use Rattle.std.specs.Ordering.{int_eq};
 ghost use Rattle.cp_slots.specs.Tables.{Tables};
 ghost use Rattle.cp_machine.specs.Fits.{HasRoom, IsBusy, IsReserved};
 ghost use Rattle.cp_machine.specs.Machine.{machine_of, under};
+ghost use Rattle.cp_machine.specs.Reach.{CanName, CanRead};
 ghost use Rattle.cp_machine.specs.Stack.{rest_of};
 ghost use Rattle.cp_machine.specs.Statements as spec;
 
@@ -28,6 +29,7 @@ pub fn while_do(
 ) -> Result<Event, ErrorName>
     requires pid { pid < length state.old.processes.items }
     requires busy { IsBusy state.old pid }
+    requires reads { CanRead (machine_of state.old) pid test.now }
     requires room { HasRoom state.old pid list }
     ensures after { spec.while_do (machine_of state.old) pid item.now.line test.now list again item.now.next (under (machine_of state.old) pid) ≡ spec.outcome result (machine_of state.new) pid item.now.line }
     ensures reserved { (r : Tables) → IsReserved r state.old → IsReserved r state.new }
@@ -52,6 +54,7 @@ pub fn until(
 ) -> Result<Event, ErrorName>
     requires pid { pid < length state.old.processes.items }
     requires busy { IsBusy state.old pid }
+    requires reads { CanRead (machine_of state.old) pid test.now }
     requires room { HasRoom state.old pid list }
     ensures after { spec.until (machine_of state.old) pid item.now.line test.now list again item.now.next (under (machine_of state.old) pid) ≡ spec.outcome result (machine_of state.new) pid item.now.line }
     ensures reserved { (r : Tables) → IsReserved r state.old → IsReserved r state.new }
@@ -83,6 +86,7 @@ pub struct Course {
 fn go_on(state: &mut State, pid: u8, course: Course, last: i16, value: i16)
     requires pid { pid < length state.old.processes.items }
     requires busy { IsBusy state.old pid }
+    requires name { CanName (machine_of state.old) pid course.variable 1 }
     requires room { HasRoom state.old pid course.list }
     ensures after { machine_of state.new ≡ spec.gone_on (machine_of state.old) pid course.at course.variable course.list (under (machine_of state.old) pid) last value }
     ensures reserved { (r : Tables) → IsReserved r state.old → IsReserved r state.new }
@@ -111,6 +115,32 @@ fn next_value(down: bool, low: i16, high: i16, value: i16) -> Result<i16, ErrorN
     }
 }
 
+// A `for` between two values.
+#[inline(always)]
+fn for_from(
+    state: &mut State,
+    pid: u8,
+    item: &Item,
+    course: Course,
+    first: i16,
+    last: i16,
+) -> Result<Event, ErrorName>
+    requires pid { pid < length state.old.processes.items }
+    requires busy { IsBusy state.old pid }
+    requires name { CanName (machine_of state.old) pid course.variable 1 }
+    requires room { HasRoom state.old pid course.list }
+    ensures after { spec.for_from (machine_of state.old) pid item.now.line course.at course.variable course.low course.high course.down course.list item.now.next (under (machine_of state.old) pid) first last ≡ spec.outcome result (machine_of state.new) pid item.now.line }
+    ensures reserved { (r : Tables) → IsReserved r state.old → IsReserved r state.new }
+{
+    if is_beyond(course.down, first, last) {
+        replace(state, pid, None, item.next);
+    } else {
+        let value = ranged(first, course.low, course.high)?;
+        go_on(state, pid, course, last, value);
+    }
+    Ok(Event::Local)
+}
+
 /// `for`: the first value beyond the last: removed; else becomes its list and the successor of the first value.
 pub fn for_do(
     state: &mut State,
@@ -122,19 +152,16 @@ pub fn for_do(
 ) -> Result<Event, ErrorName>
     requires pid { pid < length state.old.processes.items }
     requires busy { IsBusy state.old pid }
+    requires name { CanName (machine_of state.old) pid course.variable 1 }
+    requires reads { CanRead (machine_of state.old) pid first.now }
+    requires reads_last { CanRead (machine_of state.old) pid last.now }
     requires room { HasRoom state.old pid course.list }
     ensures after { spec.for_do (machine_of state.old) pid item.now.line course.at course.variable course.low course.high first.now last.now course.down course.list item.now.next (under (machine_of state.old) pid) ≡ spec.outcome result (machine_of state.new) pid item.now.line }
     ensures reserved { (r : Tables) → IsReserved r state.old → IsReserved r state.new }
 {
     let first = value_of(state, pid, first)?;
     let last = value_of(state, pid, last)?;
-    if is_beyond(course.down, first, last) {
-        replace(state, pid, None, item.next);
-    } else {
-        let value = ranged(first, course.low, course.high)?;
-        go_on(state, pid, course, last, value);
-    }
-    Ok(Event::Local)
+    for_from(state, pid, item, course, first, last)
 }
 
 fn is_last(value: i16, last: i16) -> bool
@@ -154,6 +181,7 @@ pub fn successor(
 ) -> Result<Event, ErrorName>
     requires pid { pid < length state.old.processes.items }
     requires busy { IsBusy state.old pid }
+    requires name { CanName (machine_of state.old) pid course.variable 1 }
     requires room { HasRoom state.old pid course.list }
     ensures after { spec.next_turn (machine_of state.old) pid item.now.line course.at course.variable course.low course.high course.down course.list item.now.next (under (machine_of state.old) pid) value last ≡ spec.outcome result (machine_of state.new) pid item.now.line }
     ensures reserved { (r : Tables) → IsReserved r state.old → IsReserved r state.new }

@@ -4,8 +4,9 @@ ghost use Rattle.std.specs.Prelude.{◌≡◌, ◌<◌, ◌≤◌, drop, length,
 ghost use Rattle.cp_slots.specs.Fits.{IsSound};
 ghost use Rattle.cp_slots.specs.Tables.{Tables, component_at};
 ghost use Rattle.cp_machine.specs.Calls as spec;
-ghost use Rattle.cp_machine.specs.Fits.{IsBusy, IsReserved, StackFits, ThreadFits};
+ghost use Rattle.cp_machine.specs.Fits.{AreFirstKnown, IsBusy, IsReserved, StackFits, ThreadFits};
 ghost use Rattle.cp_machine.specs.Machine.{machine_of, thread_at, under, with_stack};
+ghost use Rattle.cp_machine.specs.Reach.{CanReach, StackReaches, ThreadReaches};
 ghost use Rattle.cp_machine.specs.Stack.{above, from_end, is_inner as is_inner_of, rest_of, top_first};
 ghost use Rattle.cp_machine.specs.Statements as statements;
 
@@ -23,16 +24,6 @@ use cp_slots::tables::ComponentKind;
 use cp_store::arithmetic::is_true;
 use cp_store::memory::Address;
 
-// What a permanent cell holds.
-fn permanent(state: &State, cell: usize) -> i16
-    ensures { result ≡ slice_index_or (machine_of state.now).permanents cell (pos 0) }
-{
-    match state.permanents.get(cell) {
-        Some(value) => *value,
-        None => 0,
-    }
-}
-
 // Delays in the queue of a permanent cell, in a monitor.
 fn delay_in(
     state: &mut State,
@@ -43,11 +34,13 @@ fn delay_in(
 ) -> Result<Event, ErrorName>
     requires pid { pid < length state.old.processes.items }
     requires busy { IsBusy state.old pid }
+    requires cell { cell < length state.old.permanents.items }
     requires monitor { monitor < length state.old.guards.items }
+    requires lines { AreFirstKnown (machine_of state.old) }
     ensures after { spec.delayed_in (machine_of state.old) pid item.now.line cell (ComponentKind.Monitor monitor) (rest_of item.now.next (under (machine_of state.old) pid)) ≡ statements.outcome result (machine_of state.new) pid item.now.line }
     ensures reserved { (r : Tables) → IsReserved r state.old → IsReserved r state.new }
 {
-    if is_true(permanent(state, cell)) {
+    if is_true(state.permanents[cell]) {
         return Err(ErrorName::QueueInUse);
     }
     replace(state, pid, None, item.next);
@@ -65,8 +58,11 @@ fn delay_at(
 ) -> Result<Event, ErrorName>
     requires pid { pid < length state.old.processes.items }
     requires busy { IsBusy state.old pid }
+    requires cell { cell < length state.old.permanents.items }
     requires guards { length state.old.guards.items ≡ program.now.monitors }
     requires sound { IsSound program.now }
+    requires component { (thread_at (machine_of state.old).threads pid).frame.component < length program.now.components }
+    requires lines { AreFirstKnown (machine_of state.old) }
     ensures after { spec.delayed_in (machine_of state.old) pid item.now.line cell (component_at program.now (thread_at (machine_of state.old).threads pid).frame.component).kind (rest_of item.now.next (under (machine_of state.old) pid)) ≡ statements.outcome result (machine_of state.new) pid item.now.line }
     ensures reserved { (r : Tables) → IsReserved r state.old → IsReserved r state.new }
 {
@@ -91,8 +87,11 @@ pub fn delay(
 ) -> Result<Event, ErrorName>
     requires pid { pid < length state.old.processes.items }
     requires busy { IsBusy state.old pid }
+    requires reach { CanReach (machine_of state.old) pid place.now 1 }
     requires guards { length state.old.guards.items ≡ program.now.monitors }
     requires sound { IsSound program.now }
+    requires component { (thread_at (machine_of state.old).threads pid).frame.component < length program.now.components }
+    requires lines { AreFirstKnown (machine_of state.old) }
     ensures after { spec.delay program.now (machine_of state.old) pid item.now.line place.now (rest_of item.now.next (under (machine_of state.old) pid)) ≡ statements.outcome result (machine_of state.new) pid item.now.line }
     ensures reserved { (r : Tables) → IsReserved r state.old → IsReserved r state.new }
 {
@@ -150,8 +149,11 @@ fn unwind(state: &mut State, pid: u8)
 // The end of the entry is the topmost entry: it returns, and the kernel goes on.
 fn continue_from(program: &Resolved, state: &mut State, pid: u8, cell: usize) -> Event
     requires pid { pid < length state.old.processes.items }
+    requires cell { cell < length state.old.permanents.items }
+    requires reaches { ThreadReaches program.now (thread_at (machine_of state.old).threads pid) }
     requires fits { ThreadFits program.now (thread_at (machine_of state.old).threads pid) }
     requires guards { length state.old.guards.items ≡ program.now.monitors }
+    requires lines { AreFirstKnown (machine_of state.old) }
     ensures after { spec.continued_from program.now (machine_of state.old) pid cell (thread_at (machine_of state.old).threads pid).stack ≡ record { machine = machine_of state.new; event = result } }
     ensures reserved { (r : Tables) → IsReserved r state.old → IsReserved r state.new }
 {
@@ -176,9 +178,12 @@ pub fn continue_with(
 ) -> Result<Event, ErrorName>
     requires pid { pid < length state.old.processes.items }
     requires busy { IsBusy state.old pid }
+    requires reach { CanReach (machine_of state.old) pid place.now 1 }
     requires fits { ThreadFits program.now (thread_at (machine_of state.old).threads pid) }
     requires below { StackFits program.now (thread_at (machine_of state.old).threads pid).frame (under (machine_of state.old) pid) }
+    requires reaches { StackReaches program.now (thread_at (machine_of state.old).threads pid).references (thread_at (machine_of state.old).threads pid).frame (under (machine_of state.old) pid) }
     requires guards { length state.old.guards.items ≡ program.now.monitors }
+    requires lines { AreFirstKnown (machine_of state.old) }
     ensures after { spec.continue program.now (machine_of state.old) pid item.now.line place.now item.now.next (under (machine_of state.old) pid) ≡ statements.outcome result (machine_of state.new) pid item.now.line }
     ensures reserved { (r : Tables) → IsReserved r state.old → IsReserved r state.new }
 {

@@ -6,6 +6,7 @@ ghost use Rattle.cp_slots.specs.Tables.{Tables, component_at};
 ghost use Rattle.cp_machine.specs.Calls as spec;
 ghost use Rattle.cp_machine.specs.Fits.{HasCallRoom, IsBusy, IsReserved};
 ghost use Rattle.cp_machine.specs.Machine.{machine_of, under};
+ghost use Rattle.cp_machine.specs.Reach.{CanStart, FitsComponent};
 ghost use Rattle.cp_machine.specs.Stack.{rest_of};
 ghost use Rattle.cp_machine.specs.Statements as statements;
 
@@ -33,7 +34,10 @@ fn start_process(
 ) -> Result<Event, ErrorName>
     requires pid { pid < length state.old.processes.items }
     requires busy { IsBusy state.old pid }
+    requires count { length state.old.bounds.items ≡ length arguments.now }
+    requires fit { FitsComponent program.now (machine_of state.old) pid component arguments.now state.old.bounds.items }
     requires process { number < length state.old.processes.items }
+    requires there { component < length program.now.components }
     ensures after { spec.start_process program.now (machine_of state.old) pid item.now.line number component arguments.now state.old.bounds.items (rest_of item.now.next (under (machine_of state.old) pid)) ≡ statements.outcome result (machine_of state.new) pid item.now.line }
     ensures reserved { (r : Tables) → IsReserved r state.old → IsReserved r state.new }
 {
@@ -59,8 +63,12 @@ fn start_inside(
 ) -> Result<Event, ErrorName>
     requires pid { pid < length state.old.processes.items }
     requires busy { IsBusy state.old pid }
+    requires known { component < length state.old.phases.items }
+    requires count { length state.old.bounds.items ≡ length arguments.now }
+    requires fit { FitsComponent program.now (machine_of state.old) pid component arguments.now state.old.bounds.items }
     requires routine { routine < length program.now.routines }
     requires room { HasCallRoom program.now state.old.processes.items pid routine }
+    requires there { component < length program.now.components }
     ensures after { spec.start_inside program.now (machine_of state.old) pid item.now.line routine component arguments.now state.old.bounds.items (rest_of item.now.next (under (machine_of state.old) pid)) ≡ statements.outcome result (machine_of state.new) pid item.now.line }
     ensures reserved { (r : Tables) → IsReserved r state.old → IsReserved r state.new }
 {
@@ -87,10 +95,14 @@ fn start_by(
 ) -> Result<Event, ErrorName>
     requires pid { pid < length state.old.processes.items }
     requires busy { IsBusy state.old pid }
+    requires known { component < length state.old.phases.items }
+    requires count { length state.old.bounds.items ≡ length arguments.now }
+    requires fit { FitsComponent program.now (machine_of state.old) pid component arguments.now state.old.bounds.items }
     requires routine { routine < length program.now.routines }
     requires room { HasCallRoom program.now state.old.processes.items pid routine }
     requires threads { length state.old.processes.items ≡ length program.now.processes }
     requires sound { IsSound program.now }
+    requires there { component < length program.now.components }
     ensures after { spec.started program.now (machine_of state.old) pid item.now.line (component_at program.now component).kind routine component arguments.now state.old.bounds.items (rest_of item.now.next (under (machine_of state.old) pid)) ≡ statements.outcome result (machine_of state.new) pid item.now.line }
     ensures reserved { (r : Tables) → IsReserved r state.old → IsReserved r state.new }
 {
@@ -120,6 +132,8 @@ pub fn start(
 ) -> Result<Event, ErrorName>
     requires pid { pid < length state.old.processes.items }
     requires busy { IsBusy state.old pid }
+    requires phases { length state.old.phases.items ≡ length program.now.components }
+    requires reads { CanStart program.now (machine_of state.old) pid routine place.now arguments.now }
     requires routine { routine < length program.now.routines }
     requires room { HasCallRoom program.now state.old.processes.items pid routine }
     requires most { length arguments.now ≤ vec_capacity state.old.bounds }

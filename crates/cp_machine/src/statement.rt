@@ -1,9 +1,11 @@
 //! Statements without calls.
 
 ghost use Rattle.std.specs.Prelude.{◌≡◌, ℕ, ◌+◌, ◌<◌, ◌≤◌, drop, if◌then◌else◌, length, slice_index_or, vec_len, vec_capacity};
+ghost use Rattle.cp_slots.specs.Inside.{SET_CELLS};
 ghost use Rattle.cp_slots.specs.Tables.{Tables};
 ghost use Rattle.cp_machine.specs.Fits.{HasRoom, IsBusy, IsReserved};
 ghost use Rattle.cp_machine.specs.Machine.{machine_of, under, with_stack};
+ghost use Rattle.cp_machine.specs.Reach.{CanReach, CanRead, CanReadSet};
 ghost use Rattle.cp_machine.specs.Stack.{rest_of};
 ghost use Rattle.cp_machine.specs.Statements as spec;
 
@@ -29,6 +31,8 @@ pub fn assign(
 ) -> Result<Event, ErrorName>
     requires pid { pid < length state.old.processes.items }
     requires busy { IsBusy state.old pid }
+    requires reads { CanRead (machine_of state.old) pid value.now }
+    requires reach { CanReach (machine_of state.old) pid target.now 1 }
     ensures after { spec.assign (machine_of state.old) pid item.now.line target.now value.now low high (rest_of item.now.next (under (machine_of state.old) pid)) ≡ spec.outcome result (machine_of state.new) pid item.now.line }
     ensures reserved { (r : Tables) → IsReserved r state.old → IsReserved r state.new }
 {
@@ -53,6 +57,8 @@ pub fn assign_set(
 ) -> Result<Event, ErrorName>
     requires pid { pid < length state.old.processes.items }
     requires busy { IsBusy state.old pid }
+    requires reads { CanReadSet (machine_of state.old) pid value.now }
+    requires reach { CanReach (machine_of state.old) pid target.now SET_CELLS }
     ensures after { spec.assign_set (machine_of state.old) pid item.now.line target.now value.now low high (rest_of item.now.next (under (machine_of state.old) pid)) ≡ spec.outcome result (machine_of state.new) pid item.now.line }
     ensures reserved { (r : Tables) → IsReserved r state.old → IsReserved r state.new }
 {
@@ -76,6 +82,8 @@ pub fn copy(
 ) -> Result<Event, ErrorName>
     requires pid { pid < length state.old.processes.items }
     requires busy { IsBusy state.old pid }
+    requires from { CanReach (machine_of state.old) pid source.now size }
+    requires reach { CanReach (machine_of state.old) pid target.now size }
     ensures after { spec.copy (machine_of state.old) pid item.now.line target.now source.now size (rest_of item.now.next (under (machine_of state.old) pid)) ≡ spec.outcome result (machine_of state.new) pid item.now.line }
     ensures reserved { (r : Tables) → IsReserved r state.old → IsReserved r state.new }
 {
@@ -97,6 +105,7 @@ pub fn branch(
 ) -> Result<Event, ErrorName>
     requires pid { pid < length state.old.processes.items }
     requires busy { IsBusy state.old pid }
+    requires reads { CanRead (machine_of state.old) pid test.now }
     requires room { HasRoom state.old pid list }
     requires other_room { HasRoom state.old pid other }
     ensures after { spec.branch (machine_of state.old) pid item.now.line test.now list other (rest_of item.now.next (under (machine_of state.old) pid)) ≡ spec.outcome result (machine_of state.new) pid item.now.line }
@@ -141,6 +150,7 @@ pub fn case_of(
 ) -> Result<Event, ErrorName>
     requires pid { pid < length state.old.processes.items }
     requires busy { IsBusy state.old pid }
+    requires reads { CanRead (machine_of state.old) pid selector.now }
     requires room { (k : ℕ) (d : Arm) → k < length arms.now → HasRoom state.old pid (slice_index_or arms.now k d).body }
     ensures after { spec.case_of (machine_of state.old) pid item.now.line selector.now arms.now (rest_of item.now.next (under (machine_of state.old) pid)) ≡ spec.outcome result (machine_of state.new) pid item.now.line }
     ensures reserved { (r : Tables) → IsReserved r state.old → IsReserved r state.new }
@@ -212,6 +222,7 @@ pub fn display(
 ) -> Result<Event, ErrorName>
     requires pid { pid < length state.old.processes.items }
     requires busy { IsBusy state.old pid }
+    requires reads { CanRead (machine_of state.old) pid value.now }
     requires room { LIMIT ≤ vec_capacity state.old.output }
     requires shown { vec_len state.old.output ≤ LIMIT }
     ensures after { spec.display (machine_of state.old) pid item.now.line value.now kind (rest_of item.now.next (under (machine_of state.old) pid)) ≡ spec.outcome result (machine_of state.new) pid item.now.line }

@@ -9,6 +9,7 @@ use Rattle.cp_slots.specs.declared.tables.ComponentKind.{ComponentKind}
 use Rattle.cp_slots.specs.declared.tables.ComponentKind.TheVariants as kind
 use Rattle.cp_slots.specs.declared.tables.Process.{Process}
 use Rattle.cp_slots.specs.Inside.{action_inside}
+use Rattle.cp_slots.specs.Systems.{IsTyped, ProgramTakesNothing}
 use Rattle.cp_slots.specs.Tables.{Tables, RoutineView, item_at, routine_at, component_at, process_at}
 
 -- an item of the routine, whose list needs at most `need` entries above its own
@@ -97,3 +98,7 @@ pub record IsSound (t : Tables) : Type 0 where
   pub monitors : t.monitors ≤ 64
   -- what an item reads and writes is inside what it names
   pub inside : (at : ℕ) → at < length t.items → IsTrue (action_inside t (routine_at t (item_at t at).routine) (item_at t at).action)
+  -- the components that an item names are there, and of the system types that it wants
+  pub typed : IsTyped t
+  -- nothing is handed over to the program itself
+  pub program : ProgramTakesNothing t

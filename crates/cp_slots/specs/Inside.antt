@@ -6,7 +6,7 @@ use Rattle.cp_slots.specs.declared.place.Argument.{Argument}
 use Rattle.cp_slots.specs.declared.place.ArgumentValue.{ArgumentValue}
 use Rattle.cp_slots.specs.declared.place.ArgumentValue.TheVariants as value
 use Rattle.cp_slots.specs.declared.place.ComponentPlace.{ComponentPlace}
-use Rattle.cp_slots.specs.declared.place.ComponentPlace.TheVariants.{Own, Contained, Element, Parameter}
+use Rattle.cp_slots.specs.declared.place.ComponentPlace.TheVariants.{Element}
 use Rattle.cp_slots.specs.declared.place.Origin.{Origin}
 use Rattle.cp_slots.specs.declared.place.Origin.TheVariants as origin
 use Rattle.cp_slots.specs.declared.place.Place as code_place
@@ -111,13 +111,18 @@ indices_room r left is = room_through (map index_room is) r left
 abbrev pub is_within : (slot cells extent : ℕ) → Bool
 is_within slot cells extent = has cells (behind slot extent)
 
+-- the index of a component in an array
+abbrev pub component_inside : RoutineView → ComponentPlace → Bool
+component_inside r (Element first low high stride index) = expression_inside r index.value
+component_inside r _ = true
+
 -- an argument that a routine gives to a parameter: its value is inside, and its cells are inside those of the parameters' owner
 abbrev pub argument_inside : (caller callee : RoutineView) → (extent slot : ℕ) → ArgumentValue → Bool
 argument_inside r callee extent slot (value.Scalar e low high) = expression_inside r e && is_within slot 1 extent
 argument_inside r callee extent slot (value.Set e low high) = set_inside r e && is_within slot SET_CELLS extent
 argument_inside r callee extent slot (value.Copy source size) = has size (place_room r source) && is_within slot size extent
 argument_inside r callee extent slot (value.Reference place) = has (slice_index_or callee.extents slot 0) (place_room r place)
-argument_inside r callee extent slot (value.Component c) = true
+argument_inside r callee extent slot (value.Component place) = component_inside r place
 
 abbrev pub arguments_inside : (caller callee : RoutineView) → (extent : ℕ) → List Argument → Bool
 arguments_inside r callee extent [] = true
@@ -135,11 +140,6 @@ binds_on (Some next) go = go next
 abbrev pub binds_from : (count next : ℕ) → List Argument → Bool
 binds_from count next [] = next == count
 binds_from count next (x ∷ xs) = binds_on (follows x.value count x.slot next) (λ further. binds_from count further xs)
-
--- the index of a component in an array
-abbrev pub component_inside : RoutineView → ComponentPlace → Bool
-component_inside r (Element first low high stride index) = expression_inside r index.value
-component_inside r _ = true
 
 -- a function's result lies in the frame of the function, and is put into that of its caller
 abbrev pub result_inside : (caller callee : RoutineView) → Option ℕ → Bool

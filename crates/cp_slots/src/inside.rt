@@ -177,7 +177,7 @@ fn argument_inside(caller: &Routine, callee: &Routine, extent: usize, argument: 
                 place_room(caller, place),
             )
         }
-        ArgumentValue::Component(_) => true,
+        ArgumentValue::Component(place) => component_inside(caller, place),
     }
 }
 

@@ -11,8 +11,8 @@ mod types;
 mod value;
 
 use crate::lay_out::component::Components;
-use crate::lay_out::layer::Layer;
-use crate::tables::{Layout, Process, Routine};
+use crate::lay_out::layer::{Layer, Owned, System};
+use crate::tables::{Layout, Process, Routine, SystemType};
 use cp_tree::tree::Tree;
 use std::alloc::{AllocError, Global};
 
@@ -24,9 +24,11 @@ pub fn lay_out(alloc: Global, tree: &Tree) -> Result<Layout, AllocError> {
     let mut components = Components::new(alloc);
     components.add_program(&layer.systems, &layer.owned, initial)?;
     let room = room_of(&layer, &components.processes);
+    let systems = system_types(alloc, layer.systems, layer.owned)?;
     Ok(Layout {
         items: layer.items,
         routines: layer.routines,
+        systems,
         components: components.items,
         processes: components.processes,
         monitors: components.monitors,
@@ -37,6 +39,27 @@ pub fn lay_out(alloc: Global, tree: &Tree) -> Result<Layout, AllocError> {
         arguments: layer.arguments,
         names: layer.constants,
     })
+}
+
+// The system types, and the program as the last of them.
+fn system_types(
+    alloc: Global,
+    systems: Vec<System>,
+    program: Owned,
+) -> Result<Vec<SystemType>, AllocError> {
+    let mut types = Vec::new(alloc);
+    for system in systems {
+        types.push(system_type(system.owned))?;
+    }
+    types.push(system_type(program))?;
+    Ok(types)
+}
+
+fn system_type(owned: Owned) -> SystemType {
+    SystemType {
+        own: owned.image.len(),
+        parameters: owned.parameters,
+    }
 }
 
 /// What each process may need.

@@ -1,6 +1,7 @@
 //! From names to slots: the resolved program.
 #![tactic(auto)]
 
+mod entries;
 mod inside;
 pub mod item;
 mod lay_out;
@@ -9,3 +10,4 @@ pub mod resolve;
 pub mod resolved;
 mod sound;
 pub mod tables;
+mod typed;

@@ -7,7 +7,7 @@ ghost use Rattle.cp_slots.specs.Fits.{IsSound};
 use crate::lay_out::lay_out;
 use crate::resolved::Resolved;
 use crate::sound::is_sound;
-use crate::tables::{Component, ComponentKind, Layout, Process, Routine};
+use crate::tables::{Component, ComponentKind, Layout, Process, Routine, SystemType};
 use cp_check::check::Checked;
 use std::alloc::{AllocError, Global};
 
@@ -33,10 +33,16 @@ fn nothing(alloc: Global) -> Result<Layout, AllocError>
         reference_room: 0,
         own: 0,
         extents: Vec::new(alloc),
+        system: 0,
+    };
+    let system = SystemType {
+        own: 0,
+        parameters: Vec::new(alloc),
     };
     let component = Component {
         kind: ComponentKind::Process(0),
         base: 0,
+        system: 0,
     };
     let process = Process {
         component: 0,
@@ -44,9 +50,12 @@ fn nothing(alloc: Global) -> Result<Layout, AllocError>
     };
     let mut routines = Vec::new(alloc);
     routines.push(routine)?;
+    let mut systems = Vec::new(alloc);
+    systems.push(system)?;
     Ok(Layout {
         items: Vec::new(alloc),
         routines,
+        systems,
         components: vec![in alloc; component]?,
         processes: vec![in alloc; process]?,
         monitors: 0,

@@ -5,7 +5,7 @@ ghost use Rattle.cp_slots.specs.Fits.{IsSound};
 ghost use Rattle.cp_slots.specs.Tables.{component_at, item_at, name_at, process_at, routine_at, routine_view, tables_of};
 
 use crate::item::Item;
-use crate::tables::{Component, ComponentKind, Layout, Process, Routine};
+use crate::tables::{Component, Layout, Process, Routine};
 use std::marker::Model;
 
 /// A program whose names are slots. Its numbers are sound.
@@ -92,18 +92,13 @@ impl Resolved {
         &self.layout.routines[number]
     }
 
-    /// A component; a class where there is none of this number.
+    /// A component.
     pub fn component(&self, number: usize) -> Component
+        requires { number < length self.now.components }
         ensures value { result ≡ component_at self.now number }
         ensures sound { IsSound self.now }
     {
-        match self.layout.components.get(number) {
-            Some(component) => *component,
-            None => Component {
-                kind: ComponentKind::Class,
-                base: 0,
-            },
-        }
+        self.layout.components[number]
     }
 
     /// A process.

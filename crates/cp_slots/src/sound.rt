@@ -6,6 +6,7 @@ ghost use Rattle.cp_slots.specs.Inside as spec;
 ghost use Rattle.cp_slots.specs.Inside.{action_inside};
 ghost use Rattle.cp_slots.specs.Tables.{component_at, item_at, process_at, routine_at, routine_view, tables_of};
 
+use crate::entries::routine_of;
 use crate::inside::{
     SET_CELLS, arguments_inside, binds_all, component_inside, expression_inside, has, place_room,
     result_inside, room_from, set_inside,
@@ -13,6 +14,7 @@ use crate::inside::{
 use crate::item::{Action, Arm, Item};
 use crate::place::{Argument, ComponentPlace};
 use crate::tables::{ComponentKind, Layout, Process, Routine};
+use crate::typed::{is_typed, program_takes_nothing};
 
 /// Whether the numbers of a program are sound.
 pub fn is_sound(layout: &Layout) -> bool
@@ -26,6 +28,8 @@ pub fn is_sound(layout: &Layout) -> bool
         && components_fit(layout)
         && processes_fit(layout)
         && items_inside(layout)
+        && is_typed(layout)
+        && program_takes_nothing(layout)
 }
 
 fn items_inside(layout: &Layout) -> bool
@@ -155,14 +159,6 @@ fn routine_fits(routine: &Routine) -> bool
     routine.image.len() <= routine.room
         && routine.references <= routine.reference_room
         && routine.extents.len() == routine.references
-}
-
-// The routine of a number.
-fn routine_of(layout: &Layout, number: usize) -> &Routine
-    requires { number < length layout.now.routines.items }
-    ensures { routine_view result.now ≡ routine_at (tables_of layout.now) number }
-{
-    &layout.routines[number]
 }
 
 fn components_fit(layout: &Layout) -> bool

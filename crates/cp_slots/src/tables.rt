@@ -21,6 +21,24 @@ pub struct Routine {
     pub own: usize,
     /// The cells behind each `var` parameter.
     pub extents: Vec<usize>,
+    /// The system type of its component.
+    pub system: usize,
+}
+
+/// A parameter of a system type that is a component: its permanent cell, and the system type of the component.
+#[derive(Clone, Copy, Drop)]
+pub struct ComponentParameter {
+    pub slot: usize,
+    pub system: usize,
+}
+
+/// A system type, or the program, which is the last.
+#[derive(Drop)]
+pub struct SystemType {
+    /// The permanent cells of each of its components.
+    pub own: usize,
+    /// From the left to the right as they are declared.
+    pub parameters: Vec<ComponentParameter>,
 }
 
 #[derive(Clone, Copy, Drop)]
@@ -38,6 +56,7 @@ pub struct Component {
     pub kind: ComponentKind,
     /// The first of its permanent cells.
     pub base: usize,
+    pub system: usize,
 }
 
 /// A process.
@@ -53,6 +72,7 @@ pub struct Process {
 pub struct Layout {
     pub items: Vec<Item>,
     pub routines: Vec<Routine>,
+    pub systems: Vec<SystemType>,
     pub components: Vec<Component>,
     pub processes: Vec<Process>,
     /// The number of monitors.

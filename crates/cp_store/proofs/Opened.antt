@@ -1,7 +1,6 @@
 -- Cells stay there: a write leaves as many, and a call names a place that has its cells for each `var` parameter.
-use Rattle.std.proofs.Common.{◌≡◌, ◌∙◌, ℕ, zero, suc, ◌+◌, ◌^◌, ◌<◌, ◌≤◌, Bool, true, false, List, [], ◌∷◌, ◌++◌, length, replicate, Option, Some, None, Result, Ok, Err, ap, refl, sym, subst, arith, if◌then◌else◌, get_or-set_other}
-use Rattle.std.specs.Prelude.{ℤ, ◌&&◌, ◌/◌, ◌%◌, nat_lt, ◌==◌, slice_index_or, slice_set}
-use Rattle.std.specs.Int.{cast_signed, w16}
+use Rattle.std.proofs.Common.{◌≡◌, ◌∙◌, ℕ, ◌+◌, ◌^◌, ◌<◌, ◌≤◌, Bool, true, false, List, [], ◌∷◌, ◌++◌, length, replicate, Option, Some, None, Result, Ok, Err, ap, refl, sym, subst, arith, if◌then◌else◌, get_or-set_other}
+use Rattle.std.specs.Prelude.{ℤ, ◌&&◌, nat_lt, ◌==◌, slice_index_or, slice_set}
 use Rattle.std.proofs.lemmas.Bool.{leb-true, ltb-true, ltb-false, eqb-true}
 use Rattle.std.proofs.lemmas.Grind.{get_or-set_at}
 use Rattle.std.proofs.lemmas.List.{append-nil, append_assoc, length-set, length-append, length-replicate}
@@ -15,63 +14,19 @@ use Rattle.cp_store.specs.declared.argument.Bound.{Bound}
 use Rattle.cp_store.specs.declared.argument.Bound.TheVariants.{Scalar, Set, Copy, Reference, Component}
 use Rattle.cp_store.specs.declared.error.ErrorName.{ErrorName}
 use Rattle.cp_store.specs.declared.memory.Address.{Address}
-use Rattle.cp_store.specs.declared.memory.Address.TheVariants.{Permanent, Local}
+use Rattle.cp_store.specs.declared.memory.Address.TheVariants.{Local}
 use Rattle.cp_store.specs.declared.memory.Frame.{Frame}
 use Rattle.cp_store.specs.declared.set.SetValue.{SetValue}
 use Rattle.cp_store.specs.Arguments.{bound_at, bounds_after, bounds_at, put_value, put_in_frame, bound_in_frame}
 use Rattle.cp_store.specs.Components.{component_at}
 use Rattle.cp_store.specs.Inside.{HasCells, Covers, CallsCoverTheirFrames, WritesKeepCells}
-use Rattle.cp_store.specs.Memory.{Memory, cell_at, moved, nowhere, onward, opened, put_number, put_copy, put_reference}
+use Rattle.cp_store.specs.Memory.{Memory, nowhere, onward, opened, put_reference}
 use Rattle.cp_store.specs.Places.{address_at, referred, set_at, value_at}
 use Rattle.cp_store.specs.Sets as sets
 use Rattle.cp_store.specs.Sets.{put_word, put_pair, put_quad, put_set}
 use Rattle.cp_store.specs.Values.{ranged, then_with}
+use Rattle.cp_store.proofs.Alike.{Alike, alike_same, alike_value, has_more}
 use Rattle.cp_store.proofs.Reaches.{some_is, and_left, and_right, has_fewer, have_cells}
-
--- ---- a value that is written leaves the number of cells, and the references
-
-record Alike (x y : Memory) : Type 0 where
-  pub permanents : length x.permanents ≡ length y.permanents
-  pub cells : length x.cells ≡ length y.cells
-  pub references : x.references ≡ y.references
-
-alike_same : (x : Memory) → Alike x x
-alike_same x = record { permanents = refl; cells = refl; references = refl }
-
-alike_both : (x y z : Memory) → Alike x y → Alike y z → Alike x z
-alike_both x y z k l = record { permanents = k.permanents ∙ l.permanents; cells = k.cells ∙ l.cells; references = k.references ∙ l.references }
-
-alike_number : (x : Memory) (at : Address) (v : ℤ) → Alike (put_number x at v) x
-alike_number x (Permanent n) v = record { permanents = length-set x.permanents n v; cells = refl; references = refl }
-alike_number x (Local n) v = record { permanents = refl; cells = length-set x.cells n v; references = refl }
-
-alike_pair : (x : Memory) (at : Address) (members : ℕ) → Alike (put_pair x at members) x
-alike_pair x at members =
-    let y = put_word x at (members % 2 ^ 16) in
-    alike_both _ y x (alike_number y (moved at 1) (cast_signed w16 (members / 2 ^ 16))) (alike_number x at (cast_signed w16 (members % 2 ^ 16)))
-
-alike_quad : (x : Memory) (at : Address) (members : ℕ) → Alike (put_quad x at members) x
-alike_quad x at members =
-    let y = put_pair x at (members % 2 ^ 32) in
-    alike_both _ y x (alike_pair y (moved at 2) (members / 2 ^ 32)) (alike_pair x at (members % 2 ^ 32))
-
-alike_set : (x : Memory) (at : Address) (s : SetValue) → Alike (put_set x at s) x
-alike_set x at s =
-    let y = put_quad x at (s.members % 2 ^ 64) in
-    alike_both _ y x (alike_quad y (moved at 4) (s.members / 2 ^ 64)) (alike_quad x at (s.members % 2 ^ 64))
-
-alike_copy : (x : Memory) (to from : Address) (n : ℕ) → Alike (put_copy x to from n) x
-alike_copy x to from zero = alike_same x
-alike_copy x to from (suc n) =
-    let y = put_copy x to from n in
-    alike_both _ y x (alike_number y (moved to n) (cell_at y (moved from n))) (alike_copy x to from n)
-
-alike_value : (x : Memory) (at : Address) (b : Bound) → Alike (put_value x at b) x
-alike_value x at (Scalar z) = alike_number x at z
-alike_value x at (Set s) = alike_set x at s
-alike_value x at (Copy from n) = alike_copy x at from n
-alike_value x at (Reference place) = alike_same x
-alike_value x at (Component number) = alike_same x
 
 -- ---- only an argument for a `var` parameter gives a place
 
@@ -107,11 +62,11 @@ set_plain b v low high is =
 
 -- ---- what arguments give, in the order of the list
 
-abbrev given_by : Memory → (bindings : List ℕ) → Frame → List Argument → Result (List Bound) ErrorName
+abbrev pub given_by : Memory → (bindings : List ℕ) → Frame → List Argument → Result (List Bound) ErrorName
 given_by m bindings f [] = Ok []
 given_by m bindings f (x ∷ xs) = then_with (bound_at m bindings f x.value) (λ b. then_with (given_by m bindings f xs) (λ bs. Ok (b ∷ bs)))
 
-abbrev fine : List Bound → Result (List Bound) ErrorName
+abbrev pub fine : List Bound → Result (List Bound) ErrorName
 fine bs = Ok bs
 
 behind_others : (bs : List Bound) (b : Bound) (r : Result (List Bound) ErrorName) → then_with r (λ rest. fine ((bs ++ b ∷ []) ++ rest)) ≡ then_with (then_with r (λ rest. fine (b ∷ rest))) (λ rest. fine (bs ++ rest))
@@ -127,38 +82,34 @@ given_behind m bindings f (x ∷ xs) bs = go (bound_at m bindings f x.value) (λ
     go (Ok b) each = each b ∙ behind_others bs b (given_by m bindings f xs)
     go (Err e) each = refl
 
-given_all : (m : Memory) (bindings : List ℕ) (f : Frame) (xs : List Argument) (bs : List Bound) → bounds_at m bindings f xs ≡ fine bs → given_by m bindings f xs ≡ fine bs
+pub given_all : (m : Memory) (bindings : List ℕ) (f : Frame) (xs : List Argument) (bs : List Bound) → bounds_at m bindings f xs ≡ fine bs → given_by m bindings f xs ≡ fine bs
 given_all m bindings f xs bs is = go (given_by m bindings f xs) refl (sym (given_behind m bindings f xs []) ∙ is)
   where
     go : (r : Result (List Bound) ErrorName) → given_by m bindings f xs ≡ r → then_with r (λ rest. fine ([] ++ rest)) ≡ fine bs → given_by m bindings f xs ≡ fine bs
     go (Ok rest) same is = same ∙ is
     go (Err e) same is = absurd (cc)
 
-bound_is : {x y : Bound} → ◌≡◌ {A = Result Bound ErrorName} (Ok x) (Ok y) → x ≡ y
+pub bound_is : {x y : Bound} → ◌≡◌ {A = Result Bound ErrorName} (Ok x) (Ok y) → x ≡ y
 bound_is {x = x} {y = y} same = ap (bound_or x) same
   where
     bound_or : Bound → Result Bound ErrorName → Bound
     bound_or d (Err e) = d
     bound_or d (Ok z) = z
 
-bounds_are : {x y : List Bound} → fine x ≡ fine y → x ≡ y
+pub bounds_are : {x y : List Bound} → fine x ≡ fine y → x ≡ y
 bounds_are {x = x} {y = y} same = ap (bounds_or x) same
   where
     bounds_or : List Bound → Result (List Bound) ErrorName → List Bound
     bounds_or d (Err e) = d
     bounds_or d (Ok z) = z
 
--- ---- the memory while parameters are bound: those below a number name places that have their cells
+-- ---- the memory while parameters are bound: those below a number name places that have their cells in the caller's memory
 
 record Binds (m : Memory) (callee : RoutineView) (g : Frame) (next : ℕ) (x : Memory) : Type 0 where
   pub permanents : length x.permanents ≡ length m.permanents
   pub cells : length x.cells ≡ length m.cells + length callee.image
   pub references : length x.references ≡ g.references + length callee.extents
-  pub behind : (k : ℕ) → k < next → HasCells x (referred x.references (g.references + k)) (slice_index_or callee.extents k 0)
-
-has_more : (x y : Memory) (at : Address) (cells : ℕ) → length x.permanents ≤ length y.permanents → length x.cells ≤ length y.cells → HasCells x at cells → HasCells y at cells
-has_more x y (Permanent number) cells p c h = omega (arith, h, p)
-has_more x y (Local number) cells p c h = omega (arith, h, c)
+  pub behind : (k : ℕ) → k < next → HasCells m (referred x.references (g.references + k)) (slice_index_or callee.extents k 0)
 
 binds_alike : (m : Memory) (callee : RoutineView) (g : Frame) (next : ℕ) (x y : Memory) → Alike y x → Binds m callee g next x → Binds m callee g next y
 binds_alike m callee g next x y like b =
@@ -166,23 +117,23 @@ binds_alike m callee g next x y like b =
       permanents = like.permanents ∙ b.permanents;
       cells = like.cells ∙ b.cells;
       references = ap (λ l. length l) like.references ∙ b.references;
-      behind = λ k lt. subst (λ l. HasCells y (referred l (g.references + k)) (slice_index_or callee.extents k 0)) (sym like.references) (has_more x y _ _ (omega (arith, like.permanents)) (omega (arith, like.cells)) (b.behind k lt));
+      behind = λ k lt. subst (λ l. HasCells m (referred l (g.references + k)) (slice_index_or callee.extents k 0)) (sym like.references) (b.behind k lt);
     }
 
-module _ (m : Memory) (callee : RoutineView) (g : Frame) (few : g.references + length callee.extents < 2 ^ 64) (next : ℕ) (x : Memory) (place : Address) (there : next < length callee.extents) (has_place : HasCells x place (slice_index_or callee.extents next 0)) (b : Binds m callee g next x) where
+module _ (m : Memory) (callee : RoutineView) (g : Frame) (few : g.references + length callee.extents < 2 ^ 64) (next : ℕ) (x : Memory) (place : Address) (there : next < length callee.extents) (has_place : HasCells m place (slice_index_or callee.extents next 0)) (b : Binds m callee g next x) where
   exact : onward g.references next ≡ g.references + next
   exact = omega (arith, there, few)
 
-  place_behind : (k : ℕ) (w : Bool) → nat_lt k next ≡ w → k < next + 1 → HasCells x (referred (slice_set x.references (onward g.references next) place) (g.references + k)) (slice_index_or callee.extents k 0)
+  place_behind : (k : ℕ) (w : Bool) → nat_lt k next ≡ w → k < next + 1 → HasCells m (referred (slice_set x.references (onward g.references next) place) (g.references + k)) (slice_index_or callee.extents k 0)
   place_behind k true lt below =
       let before = ltb-true k next lt in
       let kept = get_or-set_other x.references (onward g.references next) (g.references + k) place nowhere (λ same. omega (arith, exact, same, before)) in
-      subst (λ a. HasCells x a (slice_index_or callee.extents k 0)) (sym kept) (b.behind k before)
+      subst (λ a. HasCells m a (slice_index_or callee.extents k 0)) (sym kept) (b.behind k before)
   place_behind k false ge below =
       let k_is : k ≡ next = omega (arith, below, ltb-false k next ge) in
       let set_there = get_or-set_at x.references (onward g.references next) (g.references + next) place nowhere (sym exact) (omega (arith, exact, b.references, there)) in
-      subst (λ j. HasCells x (referred (slice_set x.references (onward g.references next) place) (g.references + j)) (slice_index_or callee.extents j 0)) (sym k_is)
-      (subst (λ a. HasCells x a (slice_index_or callee.extents next 0)) (sym set_there) has_place)
+      subst (λ j. HasCells m (referred (slice_set x.references (onward g.references next) place) (g.references + j)) (slice_index_or callee.extents j 0)) (sym k_is)
+      (subst (λ a. HasCells m a (slice_index_or callee.extents next 0)) (sym set_there) has_place)
 
   binds_place : Binds m callee g (next + 1) (put_reference x (onward g.references next) place)
   binds_place =
@@ -190,7 +141,7 @@ module _ (m : Memory) (callee : RoutineView) (g : Frame) (few : g.references + l
         permanents = b.permanents;
         cells = b.cells;
         references = length-set x.references (onward g.references next) place ∙ b.references;
-        behind = λ k lt. has_more x (put_reference x (onward g.references next) place) _ _ (omega arith) (omega arith) (place_behind k (nat_lt k next) refl lt);
+        behind = λ k lt. place_behind k (nat_lt k next) refl lt;
       }
 
 -- ---- argument by argument
@@ -209,8 +160,7 @@ module _ (m : Memory) (bindings : List ℕ) (caller callee : RoutineView) (f g :
       let slot_is = eqb-true slot next (and_right (nat_lt next (length callee.extents)) (slot == next) test) in
       let all_cells = have_cells m caller f place left at covers room found in
       let cells = has_fewer m at left (slice_index_or callee.extents slot 0) (leb-true (slice_index_or callee.extents slot 0) left enough) all_cells in
-      let here = has_more m x at (slice_index_or callee.extents slot 0) (omega (arith, binds.permanents)) (omega (arith, binds.cells)) cells in
-      let bound = binds_place m callee g few next x at there (subst (λ s. HasCells x at (slice_index_or callee.extents s 0)) slot_is here) binds in
+      let bound = binds_place m callee g few next x at there (subst (λ s. HasCells m at (slice_index_or callee.extents s 0)) slot_is cells) binds in
       let in_slot = subst (λ s. Binds m callee g (next + 1) (put_reference x (onward g.references s) at)) (sym slot_is) bound in
       subst (λ c. Binds m callee g further (put_in_frame x g slot c)) (bound_is given)
       (subst (λ n. Binds m callee g n (put_in_frame x g slot (Reference at))) (some_is next_is) in_slot)
@@ -254,28 +204,37 @@ module _ (m : Memory) (bindings : List ℕ) (caller callee : RoutineView) (f g :
       go further_on (Ok b) found None next_is t rest_is ends given = absurd (cc)
       go further_on (Err e) found o next_is t rest_is ends given = absurd (cc)
 
+module _ (m : Memory) (bindings : List ℕ) (caller callee : RoutineView) (f g : Frame) (xs : List Argument) (bs : List Bound) (covers : Covers m caller f) (inside : arguments_inside caller callee (length callee.image) xs ≡ true) (ends : binds_from (length callee.extents) 0 xs ≡ true) (given : bounds_at m bindings f xs ≡ Ok bs) (extents : length callee.extents ≡ callee.references) (names_are : g.references ≡ length m.references) (names_few : length m.references + callee.references < 2 ^ 64) where
+  bound_all : Binds m callee g (length callee.extents) (bound_in_frame (opened m callee.image callee.references) g xs bs)
+  bound_all =
+      let image_long = length-append m.cells callee.image in
+      let names_long = length-append m.references (replicate callee.references nowhere) in
+      let names_count = length-replicate callee.references nowhere in
+      let few : g.references + length callee.extents < 2 ^ 64 = omega (arith, extents, names_are, names_few) in
+      let start : Binds m callee g 0 (opened m callee.image callee.references) =
+      record {
+        permanents = refl;
+        cells = image_long;
+        references = omega (arith, names_long, names_count, extents, names_are);
+        behind = λ k lt. absurd (omega (arith, lt));
+      } in
+      all m bindings caller callee f g covers few xs bs (opened m callee.image callee.references) 0 start inside ends (given_all m bindings f xs bs given)
+
+  -- what a `var` parameter names was there before the call
+  pub opened_behind : (k : ℕ) → k < length callee.extents → HasCells m (referred (bound_in_frame (opened m callee.image callee.references) g xs bs).references (g.references + k)) (slice_index_or callee.extents k 0)
+  opened_behind = bound_all.behind
+
 pub opened_covered : CallsCoverTheirFrames
 opened_covered m bindings caller callee f g xs bs covers inside ends given extents own_is base_is names_are cells_few names_few =
-    let image_long = length-append m.cells callee.image in
-    let names_long = length-append m.references (replicate callee.references nowhere) in
-    let names_count = length-replicate callee.references nowhere in
-    let few : g.references + length callee.extents < 2 ^ 64 = omega (arith, extents, names_are, names_few) in
-    let start : Binds m callee g 0 (opened m callee.image callee.references) =
-    record {
-      permanents = refl;
-      cells = image_long;
-      references = omega (arith, names_long, names_count, extents, names_are);
-      behind = λ k lt. absurd (omega (arith, lt));
-    } in
-    let done = all m bindings caller callee f g covers few xs bs (opened m callee.image callee.references) 0 start inside ends (given_all m bindings f xs bs given) in
+    let done = bound_all m bindings caller callee f g xs bs covers inside ends given extents names_are names_few in
     record {
       own = omega (arith, own_is, done.permanents);
       cells = omega (arith, base_is, done.cells);
       references = omega (arith, done.references);
-      behind = done.behind;
+      behind = λ k lt. has_more m (bound_in_frame (opened m callee.image callee.references) g xs bs) _ _ (omega (arith, done.permanents)) (omega (arith, done.cells)) (done.behind k lt);
       permanents_few = omega (arith, done.permanents, covers.permanents_few);
       cells_few = omega (arith, done.cells, cells_few);
-      references_few = omega (arith, done.references, few);
+      references_few = omega (arith, done.references, extents, names_are, names_few);
     }
 
 pub written_covered : WritesKeepCells

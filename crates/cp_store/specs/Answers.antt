@@ -5,17 +5,6 @@ use Rattle.cp_store.specs.declared.answer.Answer.TheVariants as answer
 use Rattle.cp_store.specs.declared.error.ErrorName.{ErrorName}
 use Rattle.cp_store.specs.declared.error.ErrorName.TheVariants as error
 
--- the run error of an answer that is no value
-abbrev pub name_of : Answer → ErrorName
-name_of (answer.Value value) = error.Overflow
-name_of answer.Overflow = error.Overflow
-name_of answer.ZeroDivisor = error.ZeroDivisor
-name_of answer.Range = error.Range
-name_of answer.NoCase = error.NoCase
-name_of answer.QueueInUse = error.QueueInUse
-name_of answer.NotInit = error.NotInit
-name_of answer.InitTwice = error.InitTwice
-
 -- what an answer stands for
 abbrev pub answered : Answer → Result ℤ ErrorName
 answered (answer.Value value) = Ok value

@@ -1,5 +1,5 @@
 -- Components named in statements.
-use Rattle.std.specs.Prelude.{ℕ, List, Result, Ok, Err, slice_index_or}
+use Rattle.std.specs.Prelude.{ℕ, List, Result, Ok, slice_index_or}
 use Rattle.cp_slots.specs.declared.place.ComponentPlace.{ComponentPlace}
 use Rattle.cp_slots.specs.declared.place.ComponentPlace.TheVariants.{Own, Contained, Element, Parameter}
 use Rattle.cp_store.specs.declared.error.ErrorName.{ErrorName}

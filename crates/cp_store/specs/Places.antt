@@ -1,6 +1,6 @@
 -- Addresses of places, and values of expressions and sets: functions of the memory and of the frame that is executed.
 -- Parts are evaluated from left to right, and the first run error counts.
-use Rattle.std.specs.Prelude.{ℕ, ◌-◌, ◌^◌, Bool, true, false, not, List, [], ◌∷◌, map, Result, Ok, Err, ℤ, pos, ◌-ℤ◌, slice_index_or, unsigned_abs}
+use Rattle.std.specs.Prelude.{ℕ, Bool, true, false, not, List, [], ◌∷◌, map, Result, Ok, ℤ, pos, ◌-ℤ◌, slice_index_or, unsigned_abs}
 use Rattle.cp_slots.specs.declared.place.Origin.{Origin}
 use Rattle.cp_slots.specs.declared.place.Origin.TheVariants as origin
 use Rattle.cp_slots.specs.declared.place.Place as code_place

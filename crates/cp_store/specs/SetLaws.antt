@@ -1,5 +1,5 @@
 -- Sets by their members: what the operations on their bits come to.
-use Rattle.std.specs.Prelude.{◌≡◌, ℕ, ◌+◌, ◌^◌, ◌<◌, ◌≤◌, length, Bool, true, not, ◌&&◌, ◌||◌, Result, Ok, ℤ}
+use Rattle.std.specs.Prelude.{◌≡◌, ℕ, ◌+◌, ◌^◌, ◌<◌, ◌≤◌, length, Bool, true, not, ◌&&◌, ◌||◌, Ok, ℤ}
 use Rattle.std.specs.Ordering.{int_eq}
 use Rattle.cp_slots.specs.declared.place.SetOperation.{SetOperation}
 use Rattle.cp_slots.specs.declared.place.SetOperation.TheVariants.{Union, Difference, Intersection}

@@ -1,5 +1,5 @@
 -- Operations on ordinals: the mathematical operation, and then the test whether its value is one of the type.
-use Rattle.std.specs.Prelude.{ℕ, Bool, true, false, not, ◌&&◌, ◌||◌, if◌then◌else◌, Result, Ok, Err, ℤ, pos, neg_ℤ, ◌+ℤ◌, ◌-ℤ◌, ◌*ℤ◌, int_lt, int_le, int_div, int_rem, unsigned_abs}
+use Rattle.std.specs.Prelude.{Bool, true, false, not, ◌&&◌, ◌||◌, if◌then◌else◌, Result, Ok, Err, ℤ, pos, neg_ℤ, ◌+ℤ◌, ◌-ℤ◌, ◌*ℤ◌, int_lt, int_le, int_div, int_rem, unsigned_abs}
 use Rattle.std.specs.Ordering.{int_eq}
 use Rattle.cp_slots.specs.declared.place.Arithmetic.{Arithmetic}
 use Rattle.cp_slots.specs.declared.place.Arithmetic.TheVariants.{Add, Subtract, Multiply, Divide, Modulo}

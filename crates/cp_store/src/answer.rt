@@ -1,6 +1,6 @@
 //! What an expression gives, in a form that is handed over in registers: a `Result` of a value or a name goes through memory.
 
-ghost use Rattle.std.specs.Prelude.{◌≡◌, Err};
+ghost use Rattle.std.specs.Prelude.{◌≡◌, Err, IsErr};
 ghost use Rattle.cp_store.specs.Answers as spec;
 
 use crate::error::ErrorName;
@@ -52,17 +52,25 @@ impl Answer {
     {
         match self {
             Answer::Value(value) => Ok(value),
-            _ => Err(self.name()),
+            Answer::Overflow
+            | Answer::ZeroDivisor
+            | Answer::Range
+            | Answer::NoCase
+            | Answer::QueueInUse
+            | Answer::NotInit
+            | Answer::InitTwice => Err(self.name()),
         }
     }
 
     // The run error of an answer that is no value.
     #[inline(never)]
     fn name(self) -> ErrorName
-        ensures { result ≡ spec.name_of self }
+        requires { IsErr (spec.answered self) }
+        ensures { spec.answered self ≡ Err result }
     {
         match self {
-            Answer::Value(_) | Answer::Overflow => ErrorName::Overflow,
+            Answer::Value(_) => unreachable!(),
+            Answer::Overflow => ErrorName::Overflow,
             Answer::ZeroDivisor => ErrorName::ZeroDivisor,
             Answer::Range => ErrorName::Range,
             Answer::NoCase => ErrorName::NoCase,

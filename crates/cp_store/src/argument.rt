@@ -1,8 +1,9 @@
 //! Evaluated arguments.
 
 ghost use Rattle.std.specs.Prelude.{◌≡◌, ◌≤◌, length, vec_capacity, OnOk};
-ghost use Rattle.cp_store.specs.Memory.{memory_of};
 ghost use Rattle.cp_store.specs.Arguments as spec;
+ghost use Rattle.cp_store.specs.Inside.{CanGive, CanGiveAll};
+ghost use Rattle.cp_store.specs.Memory.{memory_of};
 
 use crate::arithmetic::ranged;
 use crate::component::component_of;
@@ -33,6 +34,7 @@ pub fn evaluate_argument(
     room: &Room,
     frame: Frame,
 ) -> Result<Bound, ErrorName>
+    requires { CanGive (memory_of permanents.now room.now) bindings.now frame value.now }
     ensures { result ≡ spec.bound_at (memory_of permanents.now room.now) bindings.now frame value.now }
 {
     match value {
@@ -68,6 +70,7 @@ pub fn evaluate_arguments(
     frame: Frame,
     bounds: &mut Vec<Bound>,
 ) -> Result<(), ErrorName>
+    requires reads { CanGiveAll (memory_of permanents.now room.now) bindings.now frame arguments.now }
     requires room { length arguments.now ≤ vec_capacity bounds.old }
     ensures after { spec.bounds_at (memory_of permanents.now room.now) bindings.now frame arguments.now ≡ spec.bounds_or result bounds.new.items }
     ensures count { OnOk result (length bounds.new.items ≡ length arguments.now) }

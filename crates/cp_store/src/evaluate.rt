@@ -1,7 +1,8 @@
 //! Addresses of places, and values of expressions and sets. Parts are evaluated from left to right; the first run error counts.
 
-ghost use Rattle.std.specs.Prelude.{◌≡◌, IsTrue};
+ghost use Rattle.std.specs.Prelude.{◌≡◌, ℕ, ◌*◌, ◌^◌, ◌<◌, ◌-ℤ◌, IfOk, IsTrue, unsigned_abs};
 ghost use Rattle.cp_store.specs.Answers.{answered};
+ghost use Rattle.cp_store.specs.Inside.{Begins, CanGoThrough, CanReach, CanRead, CanReadSet, HasCells};
 ghost use Rattle.cp_store.specs.Memory.{memory_of};
 ghost use Rattle.cp_store.specs.Places as spec;
 
@@ -15,39 +16,34 @@ use crate::memory::{Address, Frame, Room, cell};
 use crate::set::{self, SetValue};
 use cp_slots::place::{Expression, Index, Origin, Place, SetExpression};
 
-// The place that a `var` parameter names; no cell's where there is none.
-fn referred(room: &Room, number: usize) -> Address
-    ensures { result ≡ spec.referred room.now.references.items number }
-{
-    match room.references.get(number) {
-        Some(at) => *at,
-        None => Address::Local(usize::MAX),
-    }
-}
-
 /// Where a variable begins.
 #[inline(always)]
+#[tactic(auto, using(crate::proofs::Reaches::onward_exact))]
 pub fn begun(origin: Origin, room: &Room, frame: &Frame) -> Address
+    requires { Begins room.now.references.items frame.now origin }
     ensures { result ≡ spec.begun room.now.references.items frame.now origin }
 {
     match origin {
-        Origin::Permanent(slot) => Address::Permanent(frame.own.saturating_add(slot)),
-        Origin::Local(slot) => Address::Local(frame.base.saturating_add(slot)),
-        Origin::Reference(number) => referred(room, frame.references.saturating_add(number)),
+        Origin::Permanent(slot) => Address::Permanent(frame.own + slot),
+        Origin::Local(slot) => Address::Local(frame.base + slot),
+        Origin::Reference(number) => room.references[frame.references + number],
     }
 }
 
 /// How far the element of an index is from the beginning of its array.
+#[tactic(auto, using(crate::proofs::Reaches::nearer))]
 pub fn distance(index: i16, low: i16, high: i16, size: usize) -> Result<usize, ErrorName>
+    requires { unsigned_abs (high -ℤ low) * size < 2 ^ 64 }
     ensures { result ≡ spec.distance low high size index }
 {
     let index = ranged(index, low, high)?;
     let elements = index.abs_diff(low) as usize;
-    Ok(elements.saturating_mul(size))
+    Ok(elements * size)
 }
 
 /// The address of a place.
 #[cycle(evaluate)]
+#[tactic(auto, using(crate::proofs::Reaches::begins, crate::proofs::Reaches::moves))]
 #[inline(always)]
 pub fn address(
     place: &Place,
@@ -55,7 +51,9 @@ pub fn address(
     room: &Room,
     frame: &Frame,
 ) -> Result<Address, ErrorName>
-    ensures { result ≡ spec.address_at (memory_of permanents.now room.now) frame.now place.now }
+    requires { (cells : ℕ) × CanReach (memory_of permanents.now room.now) frame.now place.now cells }
+    ensures value { result ≡ spec.address_at (memory_of permanents.now room.now) frame.now place.now }
+    ensures cells { (cells : ℕ) → CanReach (memory_of permanents.now room.now) frame.now place.now cells → IfOk result (λ at. HasCells (memory_of permanents.now room.now) at cells) }
 {
     let start = begun(place.origin, room, frame).moved(place.offset);
     match place.indices.as_slice() {
@@ -64,7 +62,7 @@ pub fn address(
     }
 }
 
-// The address behind all indices.
+// The address behind all indices: apart, since addresses go through memory.
 #[cycle(evaluate)]
 #[inline(never)]
 fn indexed(
@@ -74,6 +72,24 @@ fn indexed(
     room: &Room,
     frame: &Frame,
 ) -> Result<Address, ErrorName>
+    requires { (cells : ℕ) × CanGoThrough (memory_of permanents.now room.now) frame.now start indices.now cells }
+    ensures { result ≡ spec.indexed_at (memory_of permanents.now room.now) frame.now start indices.now }
+{
+    through(start, indices, permanents, room, frame)
+}
+
+// The address behind all indices.
+#[cycle(evaluate)]
+#[inline(always)]
+#[tactic(auto, using(crate::proofs::Reaches::index_reads))]
+fn through(
+    start: Address,
+    indices: &[Index],
+    permanents: &[i16],
+    room: &Room,
+    frame: &Frame,
+) -> Result<Address, ErrorName>
+    requires { (cells : ℕ) × CanGoThrough (memory_of permanents.now room.now) frame.now start indices.now cells }
     ensures { result ≡ spec.indexed_at (memory_of permanents.now room.now) frame.now start indices.now }
 {
     let mut at = start;
@@ -93,6 +109,7 @@ pub fn evaluate(
     room: &Room,
     frame: &Frame,
 ) -> Result<i16, ErrorName>
+    requires { CanRead (memory_of permanents.now room.now) frame.now expression.now }
     ensures { result ≡ spec.value_at (memory_of permanents.now room.now) frame.now expression.now }
 {
     match expression {
@@ -106,6 +123,7 @@ pub fn evaluate(
 #[cycle(evaluate)]
 #[inline(never)]
 fn answer(expression: &Expression, permanents: &[i16], room: &Room, frame: &Frame) -> Answer
+    requires { CanRead (memory_of permanents.now room.now) frame.now expression.now }
     ensures { answered result ≡ spec.value_at (memory_of permanents.now room.now) frame.now expression.now }
 {
     Answer::of(computed(expression, permanents, room, frame))
@@ -120,6 +138,7 @@ fn computed(
     room: &Room,
     frame: &Frame,
 ) -> Result<i16, ErrorName>
+    requires { CanRead (memory_of permanents.now room.now) frame.now expression.now }
     ensures { result ≡ spec.value_at (memory_of permanents.now room.now) frame.now expression.now }
 {
     match expression {
@@ -174,7 +193,8 @@ fn computed(
 #[cycle(evaluate)]
 #[inline(never)]
 fn set_test(expression: &Expression, permanents: &[i16], room: &Room, frame: &Frame) -> Answer
-    requires { IsTrue (spec.is_set_test expression.now) }
+    requires test { IsTrue (spec.is_set_test expression.now) }
+    requires reads { CanRead (memory_of permanents.now room.now) frame.now expression.now }
     ensures { answered result ≡ spec.value_at (memory_of permanents.now room.now) frame.now expression.now }
 {
     Answer::of(tested(expression, permanents, room, frame))
@@ -187,7 +207,8 @@ fn tested(
     room: &Room,
     frame: &Frame,
 ) -> Result<i16, ErrorName>
-    requires { IsTrue (spec.is_set_test expression.now) }
+    requires test { IsTrue (spec.is_set_test expression.now) }
+    requires reads { CanRead (memory_of permanents.now room.now) frame.now expression.now }
     ensures { result ≡ spec.value_at (memory_of permanents.now room.now) frame.now expression.now }
 {
     match expression {
@@ -218,8 +239,10 @@ fn tested(
 
 // The value of the cell at a place.
 #[cycle(evaluate)]
+#[tactic(auto, using(crate::proofs::Reaches::begins, crate::proofs::Reaches::moves, crate::proofs::Reaches::reached))]
 #[inline(always)]
 fn loaded(place: &Place, permanents: &[i16], room: &Room, frame: &Frame) -> Result<i16, ErrorName>
+    requires { CanReach (memory_of permanents.now room.now) frame.now place.now 1 }
     ensures { result ≡ spec.loaded (memory_of permanents.now room.now) (spec.address_at (memory_of permanents.now room.now) frame.now place.now) }
 {
     match place.indices.as_slice() {
@@ -231,13 +254,16 @@ fn loaded(place: &Place, permanents: &[i16], room: &Room, frame: &Frame) -> Resu
     }
 }
 
-// The value of the cell at a place with indices: apart, since addresses go through memory.
+// The value of the cell at a place with indices: apart, so that places without them are read where they stand.
 #[cycle(evaluate)]
+#[tactic(auto, using(crate::proofs::Reaches::begins, crate::proofs::Reaches::moves))]
 #[inline(never)]
 fn element(place: &Place, permanents: &[i16], room: &Room, frame: &Frame) -> Answer
+    requires { CanReach (memory_of permanents.now room.now) frame.now place.now 1 }
     ensures { answered result ≡ spec.loaded (memory_of permanents.now room.now) (spec.address_at (memory_of permanents.now room.now) frame.now place.now) }
 {
-    match address(place, permanents, room, frame) {
+    let start = begun(place.origin, room, frame).moved(place.offset);
+    match through(start, place.indices.as_slice(), permanents, room, frame) {
         Ok(at) => Answer::Value(cell(permanents, room, at)),
         Err(name) => Answer::failed(name),
     }
@@ -251,6 +277,7 @@ pub fn evaluate_set(
     room: &Room,
     frame: &Frame,
 ) -> Result<SetValue, ErrorName>
+    requires { CanReadSet (memory_of permanents.now room.now) frame.now expression.now }
     ensures { result ≡ spec.set_at (memory_of permanents.now room.now) frame.now expression.now }
 {
     match expression {

@@ -1,7 +1,8 @@
 //! Where cells lie, and what they hold.
 
-ghost use Rattle.std.specs.Prelude.{◌≡◌, pos, slice_index_or};
-ghost use Rattle.cp_store.specs.Memory.{memory_of, moved, cell_at, onward};
+ghost use Rattle.std.specs.Prelude.{◌≡◌};
+ghost use Rattle.cp_store.specs.Inside.{HasCells, MovesBy};
+ghost use Rattle.cp_store.specs.Memory.{memory_of, moved, cell_at};
 
 /// Where a cell lies.
 #[derive(Clone, Copy, Debug, PartialEq, Eq)]
@@ -35,32 +36,25 @@ pub struct Room {
 
 impl Address {
     /// The address so many cells further on.
+    #[tactic(auto, using(crate::proofs::Reaches::onward_exact))]
     pub fn moved(self, cells: usize) -> Address
+        requires { MovesBy self cells }
         ensures { result ≡ moved self cells }
     {
         match self {
-            Address::Permanent(number) => Address::Permanent(number.saturating_add(cells)),
-            Address::Local(number) => Address::Local(number.saturating_add(cells)),
+            Address::Permanent(number) => Address::Permanent(number + cells),
+            Address::Local(number) => Address::Local(number + cells),
         }
-    }
-}
-
-/// One of some cells; 0 past their end.
-fn cell_or_zero(cells: &[i16], number: usize) -> i16
-    ensures { result ≡ slice_index_or cells.now number (pos 0) }
-{
-    match cells.get(number) {
-        Some(value) => *value,
-        None => 0,
     }
 }
 
 /// What the cell at an address holds.
 pub fn cell(permanents: &[i16], room: &Room, at: Address) -> i16
+    requires { HasCells (memory_of permanents.now room.now) at 1 }
     ensures { result ≡ cell_at (memory_of permanents.now room.now) at }
 {
     match at {
-        Address::Permanent(number) => cell_or_zero(permanents, number),
-        Address::Local(number) => cell_or_zero(&room.cells, number),
+        Address::Permanent(number) => permanents[number],
+        Address::Local(number) => room.cells[number],
     }
 }

@@ -1,6 +1,8 @@
 //! Sets of the numbers 0 to 127.
 
 ghost use Rattle.std.specs.Prelude.{◌≡◌, ◌≤◌};
+ghost use Rattle.cp_slots.specs.Inside.{SET_CELLS};
+ghost use Rattle.cp_store.specs.Inside.{HasCells};
 ghost use Rattle.cp_store.specs.Memory.{memory_of};
 ghost use Rattle.cp_store.specs.Sets as spec;
 
@@ -95,6 +97,7 @@ pub fn ranged(set: SetValue, low: u8, high: u8) -> Result<SetValue, ErrorName>
 
 // Sixteen members, as a cell holds them.
 fn word(permanents: &[i16], room: &Room, at: Address) -> u16
+    requires { HasCells (memory_of permanents.now room.now) at 1 }
     ensures { result ≡ spec.word_at (memory_of permanents.now room.now) at }
 {
     cell(permanents, room, at).cast_unsigned()
@@ -102,6 +105,7 @@ fn word(permanents: &[i16], room: &Room, at: Address) -> u16
 
 // Thirty-two members.
 fn pair(permanents: &[i16], room: &Room, at: Address) -> u32
+    requires { HasCells (memory_of permanents.now room.now) at 2 }
     ensures { result ≡ spec.pair_at (memory_of permanents.now room.now) at }
 {
     let low = word(permanents, room, at);
@@ -111,6 +115,7 @@ fn pair(permanents: &[i16], room: &Room, at: Address) -> u32
 
 // Sixty-four members.
 fn quad(permanents: &[i16], room: &Room, at: Address) -> u64
+    requires { HasCells (memory_of permanents.now room.now) at 4 }
     ensures { result ≡ spec.quad_at (memory_of permanents.now room.now) at }
 {
     let low = pair(permanents, room, at);
@@ -120,6 +125,7 @@ fn quad(permanents: &[i16], room: &Room, at: Address) -> u64
 
 /// The set that the eight cells from an address on hold.
 pub fn stored(permanents: &[i16], room: &Room, at: Address) -> SetValue
+    requires { HasCells (memory_of permanents.now room.now) at SET_CELLS }
     ensures { result ≡ spec.stored_at (memory_of permanents.now room.now) at }
 {
     let low = quad(permanents, room, at);

@@ -1,17 +1,22 @@
 //! Values of small expressions, worked by hand.
 
+ghost use Rattle.std.specs.Prelude.{◌≡◌, ◌≤◌, [], IfOk, IsTrue};
+ghost use Rattle.cp_slots.specs.Inside.{expression_inside, has, place_room};
+ghost use Rattle.cp_slots.specs.Tables.{RoutineView};
+
 use crate::argument::{Bound, evaluate_arguments};
+use crate::arithmetic::calculated;
 use crate::bind::bind_frame;
 use crate::component::component_of;
 use crate::error::ErrorName;
 use crate::evaluate::{address, evaluate};
-use crate::memory::{Address, Frame, Room};
+use crate::memory::{Address, Frame, Room, cell};
 use crate::room::{close_frame, open_frame};
 use crate::set::{self, SetValue};
 use crate::write::write_set;
 use cp_slots::place::{
     Argument, ArgumentValue, Arithmetic, ComponentPlace, Expression, Index, Origin, Place,
-    SetExpression, SetOperation,
+    SetOperation,
 };
 use std::test::Fail;
 
@@ -23,46 +28,14 @@ const FRAME: Frame = Frame {
     references: 0,
 };
 
-fn boxed(rt: &HostRuntime, expression: Expression) -> Result<Box<Expression>, Fail> {
-    Ok(Box::new(rt.alloc(), expression).ok().ok_or("memory")?)
-}
-
-fn boxed_set(rt: &HostRuntime, expression: SetExpression) -> Result<Box<SetExpression>, Fail> {
-    Ok(Box::new(rt.alloc(), expression).ok().ok_or("memory")?)
-}
-
-fn number(rt: &HostRuntime, value: i16) -> Result<Box<Expression>, Fail> {
-    boxed(rt, Expression::Number(value))
-}
-
-fn room(rt: &HostRuntime) -> Result<Room, Fail> {
+// No frames.
+fn room(rt: &HostRuntime) -> Result<Room, Fail>
+    ensures { IfOk result (λ room. (room.cells.items ≡ []) × (room.references.items ≡ [])) }
+{
     Ok(Room {
         cells: Vec::with_capacity(rt.alloc(), 8)?,
         references: Vec::with_capacity(rt.alloc(), 8)?,
     })
-}
-
-fn variable(rt: &HostRuntime, origin: Origin) -> Place {
-    Place {
-        origin,
-        offset: 0,
-        indices: Vec::new(rt.alloc()),
-    }
-}
-
-fn loaded_set(rt: &HostRuntime, slot: usize) -> Result<Box<SetExpression>, Fail> {
-    boxed_set(
-        rt,
-        SetExpression::Load(variable(rt, Origin::Permanent(slot))),
-    )
-}
-
-fn constructed(rt: &HostRuntime, members: &[i16]) -> Result<Box<SetExpression>, Fail> {
-    let mut whole = boxed_set(rt, SetExpression::Empty)?;
-    for member in members {
-        whole = boxed_set(rt, SetExpression::With(whole, number(rt, *member)?))?;
-    }
-    Ok(whole)
 }
 
 fn set_of(members: &[i16]) -> SetValue {
@@ -73,70 +46,45 @@ fn set_of(members: &[i16]) -> SetValue {
     whole
 }
 
-// Two set variables, a at the cells 0 to 7 and b at the cells 8 to 15.
-fn two_sets(rt: &HostRuntime) -> Result<(Vec<i16>, Room), Fail> {
-    let mut cells = Vec::with_capacity(rt.alloc(), 16)?;
-    for _ in 0..16 {
-        cells.push(0)?;
-    }
+// Two sets, as they are read back from the cells 0 to 7 and 8 to 15.
+fn two_sets(rt: &HostRuntime) -> Result<(SetValue, SetValue), Fail> {
+    let mut cells = [0; 16];
     let mut room = room(rt)?;
-    write_set(
-        &mut cells,
-        &mut room,
-        Address::Permanent(0),
-        set_of(&[1, 3, 5, 127]),
-    );
-    write_set(
-        &mut cells,
-        &mut room,
-        Address::Permanent(8),
-        set_of(&[3, 4, 127]),
-    );
-    Ok((cells, room))
-}
-
-fn combined(rt: &HostRuntime, operation: SetOperation) -> Result<Box<SetExpression>, Fail> {
-    let left = loaded_set(rt, 0)?;
-    let right = loaded_set(rt, 8)?;
-    boxed_set(rt, SetExpression::Combine(operation, left, right))
+    let left = set_of(&[1, 3, 5, 127]);
+    let right = set_of(&[3, 4, 127]);
+    write_set(&mut cells, &mut room, Address::Permanent(0), left);
+    write_set(&mut cells, &mut room, Address::Permanent(8), right);
+    let left = set::stored(&cells, &room, Address::Permanent(0));
+    let right = set::stored(&cells, &room, Address::Permanent(8));
+    Ok((left, right))
 }
 
 #[test]
 fn set_operations(rt: HostRuntime) -> Result<(), Fail> {
-    let (cells, room) = two_sets(&rt)?;
+    let (left, right) = two_sets(&rt)?;
     for (operation, member, expected) in [
-        (SetOperation::Intersection, 3, 1),
-        (SetOperation::Intersection, 1, 0),
-        (SetOperation::Difference, 1, 1),
-        (SetOperation::Difference, 127, 0),
-        (SetOperation::Union, 4, 1),
-        (SetOperation::Union, 0, 0),
-        (SetOperation::Union, 200, 0),
-        (SetOperation::Union, -1, 0),
+        (SetOperation::Intersection, 3, true),
+        (SetOperation::Intersection, 1, false),
+        (SetOperation::Difference, 1, true),
+        (SetOperation::Difference, 127, false),
+        (SetOperation::Union, 4, true),
+        (SetOperation::Union, 0, false),
+        (SetOperation::Union, 200, false),
+        (SetOperation::Union, -1, false),
     ] {
-        let element = number(&rt, member)?;
-        let test = Expression::Member(element, combined(&rt, operation)?);
-        assert_eq!(rt;
-            evaluate(&test, &cells, &room, &FRAME),
-            Ok(expected),
-            "{member}"
-        );
+        let whole = set::combined(operation, left, right);
+        assert_eq!(rt; set::is_member(whole, member), expected, "{member}");
     }
+    let union = set::combined(SetOperation::Union, left, right);
+    let whole = set_of(&[1, 3, 4, 5, 127]);
     for (wanted, expected) in [(true, 1), (false, 0)] {
-        let whole = constructed(&rt, &[1, 3, 4, 5, 127])?;
-        let test = Expression::SameSet(wanted, combined(&rt, SetOperation::Union)?, whole);
-        assert_eq!(rt;
-            evaluate(&test, &cells, &room, &FRAME),
-            Ok(expected),
-            "{wanted}"
-        );
+        assert_eq!(rt; set::compared(wanted, union, whole), expected, "{wanted}");
     }
     Ok(())
 }
 
 #[test]
 fn integers(rt: HostRuntime) -> Result<(), Fail> {
-    let room = room(&rt)?;
     for (operator, left, right, expected) in [
         (Arithmetic::Divide, -7, 2, Ok(-3)),
         (Arithmetic::Modulo, -7, 2, Ok(-1)),
@@ -149,15 +97,15 @@ fn integers(rt: HostRuntime) -> Result<(), Fail> {
         (Arithmetic::Add, 32767, 1, Err(ErrorName::Overflow)),
         (Arithmetic::Subtract, -32768, 1, Err(ErrorName::Overflow)),
     ] {
-        let left = number(&rt, left)?;
-        let whole = Expression::Arithmetic(operator, left, number(&rt, right)?);
-        assert_eq!(rt; evaluate(&whole, &[], &room, &FRAME), expected);
+        assert_eq!(rt; calculated(operator, left, right), expected);
     }
     Ok(())
 }
 
-// `table[2]`, a row of two cells in an array of rows 1 .. 3, and then its second cell.
-fn row(rt: &HostRuntime, index: i16) -> Result<Place, Fail> {
+// `table[2]`, a row of two cells in an array of rows 1 .. 3, behind a cell of something else.
+fn row(rt: &HostRuntime, index: i16) -> Result<Place, Fail>
+    ensures { IfOk result (λ p. (r : RoutineView) → 7 ≤ r.own → IsTrue (has 2 (place_room r p))) }
+{
     let mut indices = Vec::with_capacity(rt.alloc(), 1)?;
     indices.push(Index {
         at: Expression::Number(index),
@@ -175,6 +123,7 @@ fn row(rt: &HostRuntime, index: i16) -> Result<Place, Fail> {
 #[test]
 fn addresses(rt: HostRuntime) -> Result<(), Fail> {
     let room = room(&rt)?;
+    let cells = [0, 1, 2, 3, 4, 5, 6];
     for (index, expected) in [
         (1, Ok(Address::Permanent(1))),
         (3, Ok(Address::Permanent(5))),
@@ -182,38 +131,79 @@ fn addresses(rt: HostRuntime) -> Result<(), Fail> {
         (0, Err(ErrorName::Range)),
     ] {
         let place = row(&rt, index)?;
-        assert_eq!(rt; address(&place, &[], &room, &FRAME), expected, "{index}");
+        assert_eq!(rt; address(&place, &cells, &room, &FRAME), expected, "{index}");
     }
     Ok(())
 }
 
-fn argument(rt: &HostRuntime, slot: usize, value: ArgumentValue) -> Result<Vec<Argument>, Fail> {
-    let mut arguments = Vec::with_capacity(rt.alloc(), 1)?;
-    arguments.push(Argument { slot, value })?;
-    Ok(arguments)
+// The first cell of a row.
+#[tactic(auto, using(crate::proofs::OwnCells::one_of_two))]
+fn load(rt: &HostRuntime, index: i16) -> Result<Expression, Fail>
+    ensures { IfOk result (λ e. (r : RoutineView) → 7 ≤ r.own → IsTrue (expression_inside r e)) }
+{
+    let place = row(rt, index)?;
+    Ok(Expression::Load(place))
+}
+
+#[test]
+fn loads(rt: HostRuntime) -> Result<(), Fail> {
+    let room = room(&rt)?;
+    let cells = [0, 1, 2, 3, 4, 5, 6];
+    let load = load(&rt, 2)?;
+    assert_eq!(rt; evaluate(&load, &cells, &room, &FRAME), Ok(3));
+    Ok(())
+}
+
+fn variable(rt: &HostRuntime) -> Place
+    ensures { (r : RoutineView) → 1 ≤ r.own → IsTrue (has 1 (place_room r result)) }
+{
+    Place {
+        origin: Origin::Permanent(0),
+        offset: 0,
+        indices: Vec::new(rt.alloc()),
+    }
 }
 
 // A routine with a `var` parameter, to which a permanent variable is passed.
 #[test]
 fn references(rt: HostRuntime) -> Result<(), Fail> {
-    let mut cells = Vec::with_capacity(rt.alloc(), 1)?;
-    cells.push(7)?;
+    let mut cells = [7];
     let mut room = room(&rt)?;
     let mut bounds: Vec<Bound> = Vec::with_capacity(rt.alloc(), 1)?;
-    let place = variable(&rt, Origin::Permanent(0));
-    let arguments = argument(&rt, 0, ArgumentValue::Reference(place))?;
-    assert!(rt; arguments.len() <= bounds.capacity());
+    let arguments = [Argument {
+        slot: 0,
+        value: ArgumentValue::Reference(variable(&rt)),
+    }];
+    assert!(rt; 1 <= bounds.capacity());
     let evaluated = evaluate_arguments(&arguments, &cells, &[], &room, FRAME, &mut bounds);
     assert_eq!(rt; evaluated, Ok(()));
     assert!(rt; room.cells.len() == 0 && room.references.len() == 0);
     assert!(rt; room.cells.capacity() >= 2 && room.references.capacity() >= 1);
     open_frame(&mut room, &[0, 0], 1);
-    bind_frame(&mut cells, &mut room, FRAME, &arguments, &bounds);
-    let parameter = Expression::Load(variable(&rt, Origin::Reference(0)));
-    assert_eq!(rt; evaluate(&parameter, &cells, &room, &FRAME), Ok(7));
+    assert!(rt; bounds.len() == 1 && room.references.len() == 1);
+    assert_eq!(rt; bounds[0], Bound::Reference(Address::Permanent(0)));
+    bind_frame(
+        &mut cells,
+        &mut room,
+        FRAME,
+        &arguments,
+        &[Bound::Reference(Address::Permanent(0))],
+    );
+    assert_eq!(rt; room.references[0], Address::Permanent(0));
+    assert_eq!(rt; cell(&cells, &room, room.references[0]), 7);
     close_frame(&mut room, 0, 0);
     assert_eq!(rt; room.cells.len(), 0);
     Ok(())
+}
+
+fn number(rt: &HostRuntime, value: i16) -> Result<Box<Expression>, Fail>
+    ensures { IfOk result (λ e. (r : RoutineView) → IsTrue (expression_inside r e.value)) }
+{
+    Ok(
+        Box::new(rt.alloc(), Expression::Number(value))
+            .ok()
+            .ok_or("memory")?,
+    )
 }
 
 #[test]

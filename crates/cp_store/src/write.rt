@@ -1,33 +1,29 @@
-//! Writes into cells. Where an address has no cell, nothing is written.
+//! Writes into cells.
 
-ghost use Rattle.std.specs.Prelude.{◌≡◌, slice_set};
+ghost use Rattle.std.specs.Prelude.{◌≡◌};
+ghost use Rattle.cp_slots.specs.Inside.{SET_CELLS};
+ghost use Rattle.cp_store.specs.Inside.{HasCells};
 ghost use Rattle.cp_store.specs.Memory.{memory_of, put_number, put_copy, KeepsRoom};
 ghost use Rattle.cp_store.specs.Sets as spec;
 
 use crate::memory::{Address, Room, cell};
 use crate::set::SetValue;
 
-fn set_cell(cells: &mut [i16], number: usize, value: i16)
-    ensures { cells.new ≡ slice_set cells.old number value }
-{
-    if number < cells.len() {
-        cells[number] = value;
-    }
-}
-
 /// Writes the cell at an address.
 pub fn write(permanents: &mut [i16], room: &mut Room, at: Address, value: i16)
+    requires { HasCells (memory_of permanents.old room.old) at 1 }
     ensures after { memory_of permanents.new room.new ≡ put_number (memory_of permanents.old room.old) at value }
     ensures room { KeepsRoom room.old room.new }
 {
     match at {
-        Address::Permanent(number) => set_cell(permanents, number, value),
-        Address::Local(number) => set_cell(&mut room.cells, number, value),
+        Address::Permanent(number) => permanents[number] = value,
+        Address::Local(number) => room.cells[number] = value,
     }
 }
 
 // Sixteen members of a set.
 fn write_word(permanents: &mut [i16], room: &mut Room, at: Address, members: u16)
+    requires { HasCells (memory_of permanents.old room.old) at 1 }
     ensures after { memory_of permanents.new room.new ≡ spec.put_word (memory_of permanents.old room.old) at members }
     ensures room { KeepsRoom room.old room.new }
 {
@@ -36,6 +32,7 @@ fn write_word(permanents: &mut [i16], room: &mut Room, at: Address, members: u16
 
 // Thirty-two members.
 fn write_pair(permanents: &mut [i16], room: &mut Room, at: Address, members: u32)
+    requires { HasCells (memory_of permanents.old room.old) at 2 }
     ensures after { memory_of permanents.new room.new ≡ spec.put_pair (memory_of permanents.old room.old) at members }
     ensures room { KeepsRoom room.old room.new }
 {
@@ -45,6 +42,7 @@ fn write_pair(permanents: &mut [i16], room: &mut Room, at: Address, members: u32
 
 // Sixty-four members.
 fn write_quad(permanents: &mut [i16], room: &mut Room, at: Address, members: u64)
+    requires { HasCells (memory_of permanents.old room.old) at 4 }
     ensures after { memory_of permanents.new room.new ≡ spec.put_quad (memory_of permanents.old room.old) at members }
     ensures room { KeepsRoom room.old room.new }
 {
@@ -59,6 +57,7 @@ fn write_quad(permanents: &mut [i16], room: &mut Room, at: Address, members: u64
 
 /// Writes a set into the eight cells from an address on.
 pub fn write_set(permanents: &mut [i16], room: &mut Room, at: Address, value: SetValue)
+    requires { HasCells (memory_of permanents.old room.old) at SET_CELLS }
     ensures after { memory_of permanents.new room.new ≡ spec.put_set (memory_of permanents.old room.old) at value }
     ensures room { KeepsRoom room.old room.new }
 {
@@ -69,7 +68,10 @@ pub fn write_set(permanents: &mut [i16], room: &mut Room, at: Address, value: Se
 }
 
 /// Copies cells, one after the other.
+#[tactic(auto, using(crate::proofs::Alike::copied_has))]
 pub fn copy_cells(permanents: &mut [i16], room: &mut Room, to: Address, from: Address, size: usize)
+    requires to { HasCells (memory_of permanents.old room.old) to size }
+    requires from { HasCells (memory_of permanents.old room.old) from size }
     ensures after { memory_of permanents.new room.new ≡ put_copy (memory_of permanents.old room.old) to from size }
     ensures room { KeepsRoom room.old room.new }
 {

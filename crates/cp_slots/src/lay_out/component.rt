@@ -45,20 +45,24 @@ impl Components {
         self.add_owned(systems, kind, &system.owned, number)
     }
 
-    // What a component owns; it contains components of the first so many types.
+    // A component and what it owns; it contains components of types before its own.
     #[cycle(components)]
     fn add_owned(
         &mut self,
         systems: &[System],
         kind: ComponentKind,
         owned: &Owned,
-        bound: usize,
+        number: usize,
     ) -> Result<(), AllocError> {
         let base = self.permanents.len();
-        self.items.push(Component { kind, base })?;
+        self.items.push(Component {
+            kind,
+            base,
+            system: number,
+        })?;
         self.add_cells(&owned.image)?;
         for contained in &owned.contained {
-            if contained.system < bound {
+            if contained.system < number {
                 for _ in 0..contained.count {
                     self.add(systems, contained.system)?;
                 }

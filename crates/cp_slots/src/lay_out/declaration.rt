@@ -6,6 +6,7 @@ use crate::lay_out::layer::{
 };
 use crate::lay_out::names::Meaning;
 use crate::place::Origin;
+use crate::tables::ComponentParameter;
 use cp_tree::constant::Identifier;
 use cp_tree::declaration::{
     ConstantDefinition, Definition, Group, ParameterGroup, Part, PartKind, Program, ProgramPart,
@@ -117,6 +118,9 @@ impl<'a> Layer<'a> {
         let slot = self.owned.image.len();
         if let ValueType::System(system) = value_type {
             self.owned.image.push(0)?;
+            self.owned
+                .parameters
+                .push(ComponentParameter { slot, system })?;
             self.names.add(name, Meaning::Bound(slot, system))?;
             return Ok(Parameter {
                 slot,

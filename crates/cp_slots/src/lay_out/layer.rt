@@ -3,7 +3,7 @@
 use crate::item::{Action, Item};
 use crate::lay_out::kinds::{Types, ValueType};
 use crate::lay_out::names::Names;
-use crate::tables::Routine;
+use crate::tables::{ComponentParameter, Routine};
 use cp_tree::declaration::SystemKind;
 use cp_tree::tree::Tree;
 use std::alloc::{AllocError, Global};
@@ -62,6 +62,8 @@ pub struct Contained {
 #[derive(Drop)]
 pub struct Owned {
     pub image: Vec<i16>,
+    /// The parameters that are components.
+    pub parameters: Vec<ComponentParameter>,
     pub contained: Vec<Contained>,
     /// How many components there are, itself included.
     pub count: usize,
@@ -122,6 +124,7 @@ impl Owned {
     pub fn new(alloc: Global) -> Owned {
         Owned {
             image: Vec::new(alloc),
+            parameters: Vec::new(alloc),
             contained: Vec::new(alloc),
             count: 1,
         }
@@ -269,6 +272,7 @@ impl<'a> Layer<'a> {
             reference_room,
             own: self.owned.image.len(),
             extents: frame.extents,
+            system: self.systems.len(),
         })?;
         Ok(())
     }

@@ -1,5 +1,4 @@
-use Rattle.std.proofs.Common.{◌≡◌, ◌<◌, ◌∙◌, ap, length, map, refl, sym}
-use Rattle.std.specs.Prelude.{IfSome}
+use Rattle.std.proofs.Common.{◌≡◌, ◌<◌, ◌∙◌, ap, length, refl, sym}
 use Rattle.std.proofs.lemmas.List.{get_or-map, map-set}
 use Rattle.cp_machine.specs.Machine.{machine_of, monitor_at, monitor_of, no_monitor}
 use Rattle.cp_machine.proofs.admit.admit_process.Goals as goal

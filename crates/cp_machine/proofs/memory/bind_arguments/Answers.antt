@@ -1,10 +1,13 @@
-use Rattle.std.proofs.Common.{refl, ◌≡◌, ◌∙◌, ap, length, map, sym}
+use Rattle.std.proofs.Common.{refl, ◌≡◌, ◌∙◌, ap, length, sym}
 use Rattle.std.proofs.lemmas.List.{map-set, with_items_is}
 use Rattle.cp_store.specs.Memory.{memory_of}
 use Rattle.cp_store.specs.Arguments.{bound_in_frame}
 use Rattle.cp_machine.specs.Machine.{machine_of, thread_at}
 use Rattle.cp_machine.specs.Memory.{memory_at, with_memory}
 use Rattle.cp_machine.proofs.ThreadLemmas.{memory_put, thread_read}
+use Rattle.std.proofs.Common.{subst}
+use Rattle.cp_store.specs.Inside as store
+use Rattle.cp_machine.proofs.ReadLemmas.{own_memory}
 use Rattle.cp_machine.proofs.memory.bind_arguments.Goals as goal
 
 pub returns-clause-after : goal.returns-clause-after
@@ -16,3 +19,8 @@ returns-clause-after c =
     let frame : (thread_at m.threads c.args.pid).frame ≡ p.frame = ap (λ t. t.frame) (thread_read c.args.state.now.processes.items c.args.pid p c.requires.pid c.index_mut-process.ensures.value) in
     let memory = memory_put (λ μ. bound_in_frame μ p.frame c.args.arguments.now c.args.state.now.bounds.items) m c.args.state.now.processes.items c.args.pid p _ refl c.requires.pid c.index_mut-process.ensures.value put in
     rw (map-set, with_items_is c.args.state.now.permanents c.bind_frame.new.permanents long) (memory ∙ ap (λ f. with_memory m c.args.pid (bound_in_frame (memory_at m c.args.pid) f c.args.arguments.now c.args.state.now.bounds.items)) (sym frame))
+
+pub bind_frame-requires-clause-fit : goal.bind_frame-requires-clause-fit
+bind_frame-requires-clause-fit c =
+    let p = c.index_mut-process.result.now in
+    subst (λ bs. store.AllFitFrame (memory_of c.deref_mut.result.now p.room) p.frame c.args.arguments.now bs) (sym c.deref.ensures.value) (own_memory (λ m f. store.AllFitFrame m f c.args.arguments.now c.args.state.now.bounds.items) c.args.state.now c.args.pid c.index_mut-process.result.now _ c.requires.pid c.index_mut-process.ensures.value c.deref_mut.ensures.value c.requires.fit)

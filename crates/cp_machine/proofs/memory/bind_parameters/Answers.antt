@@ -1,10 +1,13 @@
-use Rattle.std.proofs.Common.{refl, ◌≡◌, ◌∙◌, ap, length, map, sym}
+use Rattle.std.proofs.Common.{refl, ◌≡◌, ◌∙◌, ap, length, sym}
 use Rattle.std.proofs.lemmas.List.{map-set, with_items_is}
 use Rattle.cp_store.specs.Memory.{memory_of}
 use Rattle.cp_store.specs.Arguments.{bound_in_component, bindings_after}
 use Rattle.cp_machine.specs.Machine.{machine_of, with_bindings}
 use Rattle.cp_machine.specs.Memory.{memory_at, with_memory}
 use Rattle.cp_machine.proofs.ThreadLemmas.{memory_put}
+use Rattle.std.proofs.Common.{subst}
+use Rattle.cp_store.specs.Inside as store
+use Rattle.cp_machine.proofs.ReadLemmas.{own_memory}
 use Rattle.cp_machine.proofs.memory.bind_parameters.Goals as goal
 
 pub returns-clause-after : goal.returns-clause-after
@@ -18,3 +21,10 @@ returns-clause-after c =
     let long : length c.bind_component.new.permanents ≡ c.args.state.now.permanents.len = c.bind_component.auto.permanents ∙ ap length c.deref_mut.ensures.value ∙ sym c.args.state.now.permanents.ok.0 in
     let many : length c.bind_component.new.bindings ≡ c.args.state.now.bindings.len = c.bind_component.auto.bindings ∙ ap length c.deref_mut-2.ensures.value ∙ sym c.args.state.now.bindings.ok.0 in
     rw (map-set, with_items_is c.args.state.now.permanents c.bind_component.new.permanents long, with_items_is c.args.state.now.bindings c.bind_component.new.bindings many) (ap (λ k. with_bindings k c.bind_component.new.bindings) memory ∙ ap (with_bindings (with_memory m c.args.pid (bound_in_component (memory_at m c.args.pid) c.args.base c.args.arguments.now bounds))) bound)
+
+pub bind_component-requires-clause-fit : goal.bind_component-requires-clause-fit
+bind_component-requires-clause-fit c =
+    let p = c.index_mut-process.result.now in
+    subst (λ bs. store.AllFitComponent (memory_of c.deref_mut.result.now p.room) c.deref_mut-2.result.now c.args.base c.args.arguments.now bs) (sym c.deref.ensures.value)
+    (subst (λ ks. store.AllFitComponent (memory_of c.deref_mut.result.now p.room) ks c.args.base c.args.arguments.now c.args.state.now.bounds.items) (sym c.deref_mut-2.ensures.value)
+    (own_memory (λ m f. store.AllFitComponent m c.args.state.now.bindings.items c.args.base c.args.arguments.now c.args.state.now.bounds.items) c.args.state.now c.args.pid c.index_mut-process.result.now _ c.requires.pid c.index_mut-process.ensures.value c.deref_mut.ensures.value c.requires.fit))

@@ -1,4 +1,17 @@
+use Rattle.std.proofs.Common.{◌<◌, length, subst, sym}
+use Rattle.cp_machine.specs.Machine.{Machine}
+use Rattle.cp_machine.specs.Fits.{AreFirstKnown}
+use Rattle.cp_machine.proofs.LineLemmas.{thread_known}
+use Rattle.cp_machine.specs.Machine.{machine_of}
 use Rattle.cp_machine.proofs.queue.continue_from.Goals as goal
 
 pub returns-in-Some-Return-default-default-Some-clause-reserved : goal.returns-in-Some-Return-default-default-Some-clause-reserved
 returns-in-Some-Return-default-default-Some-clause-reserved c = λ r h. c.resume.ensures.reserved r (c.leave.ensures.reserved r h)
+
+pub resume-requires-clause-cell : goal.resume-requires-clause-cell
+resume-requires-clause-cell c =
+    let P : Machine → Type 0 = λ m. c.args.cell < length m.permanents in
+    subst P (sym c.leave.ensures.after) c.requires.cell
+
+pub resume-requires-clause-lines : goal.resume-requires-clause-lines
+resume-requires-clause-lines c = subst AreFirstKnown (sym c.leave.ensures.after) (thread_known (machine_of c.args.state.now) c.args.pid _ c.requires.lines)

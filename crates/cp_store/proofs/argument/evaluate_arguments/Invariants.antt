@@ -1,4 +1,4 @@
-use Rattle.std.proofs.Common.{◌≡◌, ◌≤◌, drop, vec_len, length}
+use Rattle.std.proofs.Common.{◌≡◌, ◌≤◌, drop, vec_len}
 use Rattle.std.specs.Prelude.{vec_capacity}
 use Rattle.cp_store.specs.Arguments.{bounds_at, bounds_after}
 use Rattle.cp_store.specs.Memory.{memory_of}

@@ -1,7 +1,5 @@
-use Rattle.std.proofs.Common.{◌≡◌, ◌∙◌, ap, rules, ℤ, Result, Err, false, if◌then◌else◌, pos}
-use Rattle.std.specs.Prelude.{int_div}
+use Rattle.std.proofs.Common.{◌≡◌, ◌∙◌, ap, false, pos}
 use Rattle.std.specs.Ordering.{int_eq}
-use Rattle.cp_store.specs.declared.error.ErrorName.TheVariants.{ZeroDivisor}
 use Rattle.cp_store.specs.Values as spec
 use Rattle.cp_store.proofs.Widths.{quotient_said, not_zero}
 use Rattle.cp_store.proofs.arithmetic.quotient.Goals as goal

@@ -1,10 +1,10 @@
-use Rattle.std.proofs.Common.{◌≡◌, ap, length, map, subst, sym}
-use Rattle.std.proofs.lemmas.List.{length-map}
+use Rattle.std.proofs.Common.{subst, sym}
 use Rattle.cp_machine.specs.Fits.{LinesFit, MachineFits}
-use Rattle.cp_machine.specs.Machine.{machine_of, monitor_of}
+use Rattle.cp_machine.specs.Reach.{Reaches}
+use Rattle.cp_machine.proofs.ReachingKept.{admitted_reaches}
 use Rattle.cp_machine.proofs.KernelFits.{admitted_fits}
 use Rattle.cp_machine.proofs.KernelLines.{admitted_lines}
 use Rattle.cp_machine.proofs.state.State.admit.Goals as goal
 
 pub returns-clause-own : goal.returns-clause-own
-returns-clause-own c = λ r own. record { sound = own.sound; fits = subst (MachineFits r) (sym c.admit_process.ensures.after) (admitted_fits r _ c.args.pid own.fits); lines = subst LinesFit (sym c.admit_process.ensures.after) (admitted_lines _ c.args.pid own.lines c.requires.line); reserved = c.admit_process.ensures.reserved r own.reserved }
+returns-clause-own c = λ r own. record { sound = own.sound; fits = subst (MachineFits r) (sym c.admit_process.ensures.after) (admitted_fits r _ c.args.pid own.fits); lines = subst LinesFit (sym c.admit_process.ensures.after) (admitted_lines _ c.args.pid own.lines c.requires.line); reach = subst (Reaches r) (sym c.admit_process.ensures.after) (admitted_reaches r _ c.args.pid c.requires.line own.reach); reserved = c.admit_process.ensures.reserved r own.reserved }

@@ -2,6 +2,8 @@ use Rattle.std.proofs.Common.{sym, subst}
 use Rattle.cp_machine.specs.declared.process.Status.TheVariants.{Ready}
 use Rattle.cp_machine.specs.Fits.{LinesFit, MachineFits}
 use Rattle.cp_machine.specs.Machine.{Machine, with_status}
+use Rattle.cp_machine.specs.Reach.{Reaches}
+use Rattle.cp_machine.proofs.ReachingKept.{opening_reaches}
 use Rattle.cp_machine.proofs.OpeningFits.{still_fits, restatused}
 use Rattle.cp_machine.proofs.OpeningLines.{opening_lines}
 use Rattle.cp_machine.proofs.state.State.start.Goals as goal
@@ -11,9 +13,11 @@ returns-clause-own c =
     let r = c.args.program.now in
     let P : Machine → Type 0 = λ m. MachineFits r (with_status m 0 Ready) in
     let Q : Machine → Type 0 = λ m. LinesFit (with_status m 0 Ready) in
+    let R : Machine → Type 0 = λ m. Reaches r (with_status m 0 Ready) in
     record {
       sound = c.in_ok-state.ensures.sound;
       fits = subst (MachineFits r) (sym c.set_status.ensures.after) (subst P (sym c.in_ok-state.ensures.still) (restatused r _ 0 Ready (still_fits r c.args.gates c.in_ok-state.ensures.sound)));
       lines = subst LinesFit (sym c.set_status.ensures.after) (subst Q (sym c.in_ok-state.ensures.still) (opening_lines r c.args.gates));
+      reach = subst (Reaches r) (sym c.set_status.ensures.after) (subst R (sym c.in_ok-state.ensures.still) (opening_reaches r c.args.gates c.in_ok-state.ensures.sound c.in_ok-state.ensures.sound.typed c.in_ok-state.ensures.sound.program));
       reserved = c.set_status.ensures.reserved r c.in_ok-state.ensures.reserved;
     }

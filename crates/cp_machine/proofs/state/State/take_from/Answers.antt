@@ -2,6 +2,7 @@ use Rattle.std.proofs.Common.{◌≡◌, ◌∙◌, length, map, refl, subst, sy
 use Rattle.std.proofs.lemmas.List.{length-map}
 use Rattle.cp_machine.specs.Fits.{LinesFit, MachineFits}
 use Rattle.cp_machine.specs.Machine.{machine_of, thread_of}
+use Rattle.cp_machine.specs.Reach.{Reaches}
 use Rattle.cp_machine.proofs.CopyLemmas.{have_room}
 use Rattle.cp_machine.proofs.state.State.take_from.Goals as goal
 
@@ -15,4 +16,4 @@ take_state-requires-clause-room c =
     have_room c.requires.0 _ _ (machine_of c.args.other.now) refl long theirs.sound theirs.fits mine.reserved.stacks mine.reserved.cells mine.reserved.references
 
 pub returns-clause-own : goal.returns-clause-own
-returns-clause-own c = λ r mine theirs. record { sound = mine.sound; fits = subst (MachineFits r) (sym c.take_state.ensures.same) theirs.fits; lines = subst LinesFit (sym c.take_state.ensures.same) theirs.lines; reserved = c.take_state.ensures.reserved r mine.reserved theirs.reserved }
+returns-clause-own c = λ r mine theirs. record { sound = mine.sound; fits = subst (MachineFits r) (sym c.take_state.ensures.same) theirs.fits; lines = subst LinesFit (sym c.take_state.ensures.same) theirs.lines; reach = subst (Reaches r) (sym c.take_state.ensures.same) theirs.reach; reserved = c.take_state.ensures.reserved r mine.reserved theirs.reserved }

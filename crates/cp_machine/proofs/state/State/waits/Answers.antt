@@ -1,4 +1,4 @@
-use Rattle.std.proofs.Common.{sym, ◌∙◌, map}
+use Rattle.std.proofs.Common.{sym, ◌∙◌}
 use Rattle.cp_machine.specs.Machine.{is_waiting, thread_of}
 use Rattle.cp_machine.proofs.ListLemmas.{list_any_map}
 use Rattle.cp_machine.proofs.state.State.waits.Goals as goal

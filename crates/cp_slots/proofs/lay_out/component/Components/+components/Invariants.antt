@@ -6,4 +6,4 @@ abbrev pub decreases-add : goal.decreases-add
 decreases-add l = 2 * l.number + 1
 
 abbrev pub decreases-add_owned : goal.decreases-add_owned
-decreases-add_owned l = 2 * l.bound
+decreases-add_owned l = 2 * l.number

@@ -1,0 +1,35 @@
+-- As a run begins, what the frames of all processes may name is there.
+use Rattle.std.proofs.Common.{◌≡◌, ℕ, ◌<◌, [], length, map, sym, refl, subst, arith}
+use Rattle.std.proofs.lemmas.List.{length-map, get_or-map}
+use Rattle.cp_slots.specs.Fits.{IsSound}
+use Rattle.cp_slots.specs.Systems.{IsTyped}
+use Rattle.cp_slots.specs.Tables.{Tables, process_at, no_process, routine_at}
+use Rattle.cp_machine.specs.declared.gates.Gates.{Gates}
+use Rattle.cp_machine.specs.declared.process.Status.TheVariants.{Ready}
+use Rattle.cp_machine.specs.Machine.{thread_at, no_thread}
+use Rattle.cp_machine.specs.Opening.{unstarted_thread, still, opening}
+use Rattle.cp_machine.specs.Reach.{FrameReaches, ThreadReaches}
+use Rattle.cp_machine.proofs.Framing.{Framed, rest_reaches, status_framed}
+
+unstarted_reaches : (r : Tables) (q : ℕ) → q < length r.processes → IsSound r → IsTyped r → ThreadReaches r (unstarted_thread r (process_at r q))
+unstarted_reaches r q within sound typed =
+    let fits = sound.processes q within in
+    let owned = typed.processes q within in
+    let t = unstarted_thread r (process_at r q) in
+    let extents : length (routine_at r (process_at r q).routine).extents ≡ (routine_at r (process_at r q).routine).references = (sound.routines (process_at r q).routine fits.routine).extents in
+    let frame : FrameReaches r t.references t.frame =
+    record {
+      component = (fits.component, owned.system);
+      own = refl;
+      behind = λ k lt. absurd (omega (arith, lt, extents, owned.references));
+    } in
+    rest_reaches r t.references t.frame (routine_at r (process_at r q).routine).body [] frame
+
+still_framed : (r : Tables) (gates : Gates) → IsSound r → IsTyped r → Framed r (still r gates)
+still_framed r gates sound typed q lt =
+    let within : q < length r.processes = (let long = length-map r.processes (unstarted_thread r) in omega (arith, lt, long)) in
+    let same : thread_at (map (unstarted_thread r) r.processes) q ≡ unstarted_thread r (process_at r q) = get_or-map (unstarted_thread r) r.processes q no_process no_thread within in
+    subst (ThreadReaches r) (sym same) (unstarted_reaches r q within sound typed)
+
+pub opening_framed : (r : Tables) (gates : Gates) → IsSound r → IsTyped r → Framed r (opening r gates)
+opening_framed r gates sound typed = status_framed r (still r gates) 0 Ready (still_framed r gates sound typed)

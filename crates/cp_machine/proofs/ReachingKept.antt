@@ -1,0 +1,38 @@
+-- A step, an admission and the opening keep what the frames of all processes may name there.
+use Rattle.std.proofs.Common.{◌≡◌, ℕ, ◌<◌, length, true}
+use Rattle.cp_slots.specs.Fits.{IsSound}
+use Rattle.cp_slots.specs.Systems.{IsTyped, parameter_count}
+use Rattle.cp_slots.specs.Tables.{Tables, component_at, process_at}
+use Rattle.cp_machine.specs.declared.gates.Gates.{Gates}
+use Rattle.cp_machine.specs.Fits.{LinesFit, MachineFits}
+use Rattle.cp_machine.specs.Machine.{Machine, in_line, is_ready}
+use Rattle.cp_machine.specs.Opening.{admitted, opening}
+use Rattle.cp_machine.specs.Reach.{Reaches}
+use Rattle.cp_machine.specs.Step.{step_at}
+use Rattle.cp_machine.proofs.Executing.{admitted_executes}
+use Rattle.cp_machine.proofs.ExecutingAct.{process_finds, step_executes}
+use Rattle.cp_machine.proofs.ExecutingLemmas.{Executing}
+use Rattle.cp_machine.proofs.ExecutingOpening.{opening_executes}
+use Rattle.cp_machine.proofs.Framing.{Framed, admitted_framed}
+use Rattle.cp_machine.proofs.FramingAct.{step_framed}
+use Rattle.cp_machine.proofs.FramingOpening.{opening_framed}
+
+pub executing_of : (r : Tables) (m : Machine) → Reaches r m → Executing r m
+executing_of r m h = record { executes = h.executes; ends = h.ends; bound = h.bound }
+
+reaches_of : (r : Tables) (m : Machine) → Framed r m → Executing r m → Reaches r m
+reaches_of r m framed h = record { frames = framed; executes = h.executes; ends = h.ends; bound = h.bound }
+
+pub step_reaches : (r : Tables) (m : Machine) (pid : ℕ) → pid < length m.threads → IsSound r → IsTyped r → MachineFits r m → LinesFit m → is_ready m pid ≡ true → Reaches r m → Reaches r (step_at r m pid).machine
+step_reaches r m pid lt sound typed fits lines ready h =
+    let known = executing_of r m h in
+    reaches_of r (step_at r m pid).machine
+    (step_framed r m pid lt sound typed fits h.frames (process_finds r m pid lt typed fits ready (h.frames pid lt) known))
+    (step_executes r m pid lt typed fits lines ready (h.frames pid lt) known)
+
+pub admitted_reaches : (r : Tables) (m : Machine) (pid : ℕ) → in_line m pid ≡ true → Reaches r m → Reaches r (admitted m pid)
+admitted_reaches r m pid waits h = reaches_of r (admitted m pid) (admitted_framed r m pid h.frames) (admitted_executes r m pid waits (executing_of r m h))
+
+-- the program has no parameters
+pub opening_reaches : (r : Tables) (gates : Gates) → IsSound r → IsTyped r → parameter_count r (component_at r (process_at r 0).component).system ≡ 0 → Reaches r (opening r gates)
+opening_reaches r gates sound typed alone = reaches_of r (opening r gates) (opening_framed r gates sound typed) (opening_executes r gates sound typed alone)

@@ -1,0 +1,10 @@
+use Rattle.std.proofs.Common.{subst, sym}
+use Rattle.cp_store.specs.Inside as store
+use Rattle.cp_machine.proofs.ReadLemmas.{own_memory}
+use Rattle.cp_store.specs.Memory.{memory_of}
+use Rattle.cp_machine.proofs.memory.arguments_of.Goals as goal
+
+pub evaluate_arguments-requires-clause-reads : goal.evaluate_arguments-requires-clause-reads
+evaluate_arguments-requires-clause-reads c =
+    let p = c.index-process.result.now in
+    subst (λ bs. store.CanGiveAll (memory_of c.deref.result.now p.room) bs p.frame c.args.arguments.now) (sym c.deref-2.ensures.value) (own_memory (λ m f. store.CanGiveAll m c.args.state.now.bindings.items f c.args.arguments.now) c.args.state.now c.args.pid c.index-process.result.now _ c.requires.pid c.index-process.ensures c.deref.ensures.value c.requires.reads)

@@ -1,0 +1,47 @@
+use Rattle.cp_slots.specs.declared.item.Action.TheVariants.{Call, Start}
+use Rattle.cp_machine.specs.Machine.{machine_of, under}
+use Rattle.cp_machine.proofs.TakeLemmas.{item_taken, item_call_room}
+use Rattle.std.proofs.Common.{subst, sym}
+use Rattle.cp_machine.specs.Reach.{CanCall, CanStart}
+use Rattle.cp_machine.proofs.NamingLemmas.{taken_call, taken_start}
+use Rattle.cp_machine.proofs.perform.perform_call.Goals as goal
+
+pub call-requires-clause-room : goal.call-requires-clause-room
+call-requires-clause-room c =
+    let r = c.args.program.now in
+    let s = c.args.state.now in
+    let at = c.requires.taken.0 in
+    let t = c.requires.taken.1 in
+    item_call_room r s c.args.pid at (under (machine_of s) c.args.pid) c.args.item.now t.within t.own t.top t.same c.in-Call.routine c.in-Call.arguments.items
+    (item_taken r s c.args.pid at (under (machine_of s) c.args.pid) c.args.item.now t.within t.own t.top t.same (Call c.in-Call.routine c.in-Call.component c.in-Call.is_entry c.in-Call.arguments c.in-Call.result) c.in-Call.is)
+
+pub start-requires-clause-room : goal.start-requires-clause-room
+start-requires-clause-room c =
+    let r = c.args.program.now in
+    let s = c.args.state.now in
+    let at = c.requires.taken.0 in
+    let t = c.requires.taken.1 in
+    item_call_room r s c.args.pid at (under (machine_of s) c.args.pid) c.args.item.now t.within t.own t.top t.same c.in-Start.routine c.in-Start.arguments.items
+    (item_taken r s c.args.pid at (under (machine_of s) c.args.pid) c.args.item.now t.within t.own t.top t.same (Start c.in-Start.component c.in-Start.routine c.in-Start.arguments) c.in-Start.is)
+
+pub returns-in-Call-clause-reserved : goal.returns-in-Call-clause-reserved
+returns-in-Call-clause-reserved c = c.call.ensures.reserved _ c.requires.taken.1.own.reserved
+
+pub returns-in-Start-clause-reserved : goal.returns-in-Start-clause-reserved
+returns-in-Start-clause-reserved c = c.start.ensures.reserved _ c.requires.taken.1.own.reserved
+
+pub call-requires-clause-reads : goal.call-requires-clause-reads
+call-requires-clause-reads c =
+    subst (CanCall c.args.program.now (machine_of c.args.state.now) c.args.pid c.in-Call.routine c.in-Call.component) (sym c.deref.ensures.value)
+    (taken_call c.args.program.now c.args.state.now c.args.pid c.requires.taken.0 c.args.item.now c.requires.taken.1 c.in-Call.routine c.in-Call.component c.in-Call.is_entry c.in-Call.arguments c.in-Call.result c.in-Call.is)
+
+pub start-requires-clause-reads : goal.start-requires-clause-reads
+start-requires-clause-reads c =
+    subst (CanStart c.args.program.now (machine_of c.args.state.now) c.args.pid c.in-Start.routine c.in-Start.component) (sym c.deref-in-Start.ensures.value)
+    (taken_start c.args.program.now c.args.state.now c.args.pid c.requires.taken.0 c.args.item.now c.requires.taken.1 c.in-Start.component c.in-Start.routine c.in-Start.arguments c.in-Start.is)
+
+pub call-requires-clause-phases : goal.call-requires-clause-phases
+call-requires-clause-phases c = c.requires.taken.1.own.fits.phases
+
+pub start-requires-clause-phases : goal.start-requires-clause-phases
+start-requires-clause-phases c = c.requires.taken.1.own.fits.phases

@@ -1,0 +1,56 @@
+use Rattle.std.proofs.Common.{◌∷◌, subst}
+use Rattle.cp_machine.specs.declared.process.Entry.TheVariants.{Rest}
+use Rattle.cp_machine.specs.Fits.{StackFits}
+use Rattle.cp_machine.specs.Machine.{machine_of, thread_at, under}
+use Rattle.cp_machine.proofs.RoomLemmas.{entries_fit}
+use Rattle.cp_slots.specs.declared.item.Action.TheVariants.{Delay, Continue}
+use Rattle.cp_machine.proofs.ReadLemmas.{taken_reads}
+use Rattle.cp_machine.specs.Reach.{StackReaches}
+use Rattle.cp_machine.proofs.RoomLemmas.{within}
+use Rattle.cp_machine.proofs.Covered.{frame_reaches}
+use Rattle.cp_machine.proofs.LineLemmas.{firsts_known}
+use Rattle.cp_machine.proofs.perform.perform_wait.Goals as goal
+
+pub continue_with-requires-clause-below : goal.continue_with-requires-clause-below
+continue_with-requires-clause-below c =
+    let r = c.args.program.now in
+    let s = c.args.state.now in
+    let t = c.requires.taken.1 in
+    let f = (thread_at (machine_of s).threads c.args.pid).frame in
+    let fits : StackFits r f (Rest c.requires.taken.0 ∷ under (machine_of s) c.args.pid) = subst (StackFits r f) t.top (entries_fit r s c.args.pid t.within t.own.fits) in
+    fits.1
+
+pub delay-requires-clause-reach : goal.delay-requires-clause-reach
+delay-requires-clause-reach c = (taken_reads c.args.program.now c.args.state.now c.args.pid c.requires.taken.0 c.args.item.now c.requires.taken.1 (Delay c.in-Delay.place) c.in-Delay.is)
+
+pub continue_with-requires-clause-reach : goal.continue_with-requires-clause-reach
+continue_with-requires-clause-reach c = (taken_reads c.args.program.now c.args.state.now c.args.pid c.requires.taken.0 c.args.item.now c.requires.taken.1 (Continue c.in-Continue.place) c.in-Continue.is)
+
+pub continue_with-requires-clause-reaches : goal.continue_with-requires-clause-reaches
+continue_with-requires-clause-reaches c =
+    let r = c.args.program.now in
+    let s = c.args.state.now in
+    let t = c.requires.taken.1 in
+    let own = thread_at (machine_of s).threads c.args.pid in
+    let reaches : StackReaches r own.references own.frame (Rest c.requires.taken.0 ∷ under (machine_of s) c.args.pid) = subst (StackReaches r own.references own.frame) t.top (t.own.reach.frames c.args.pid (within s c.args.pid t.within)) in
+    reaches
+
+pub delay-requires-clause-component : goal.delay-requires-clause-component
+delay-requires-clause-component c =
+    let s = c.args.state.now in
+    let t = c.requires.taken.1 in
+    let own = thread_at (machine_of s).threads c.args.pid in
+    let frame = frame_reaches c.args.program.now own.references own.frame own.stack (t.own.reach.frames c.args.pid (within s c.args.pid t.within)) in
+    frame.component.0
+
+pub delay-requires-clause-lines : goal.delay-requires-clause-lines
+delay-requires-clause-lines c = firsts_known (machine_of c.args.state.now) c.requires.taken.1.own.lines
+
+pub continue_with-requires-clause-lines : goal.continue_with-requires-clause-lines
+continue_with-requires-clause-lines c = firsts_known (machine_of c.args.state.now) c.requires.taken.1.own.lines
+
+pub continue_with-requires-clause-fits : goal.continue_with-requires-clause-fits
+continue_with-requires-clause-fits c =
+    let s = c.args.state.now in
+    let t = c.requires.taken.1 in
+    t.own.fits.each c.args.pid (within s c.args.pid t.within)
