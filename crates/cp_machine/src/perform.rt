@@ -45,10 +45,11 @@ pub fn perform(
             repeat(state, pid, *list);
             Ok(Event::Local)
         }
-        Action::Assign { .. } | Action::AssignSet { .. } | Action::Copy { .. } => {
-            perform_assignment(state, pid, item)
-        }
-        Action::If { .. } | Action::Case { .. } => perform_choice(state, pid, item),
+        // apart from the other assignments, and from `case`: what is frequent is not asked twice for its kind
+        Action::Assign { .. } => perform_assignment(state, pid, item),
+        Action::AssignSet { .. } | Action::Copy { .. } => perform_assignment(state, pid, item),
+        Action::If { .. } => perform_choice(state, pid, item),
+        Action::Case { .. } => perform_choice(state, pid, item),
         Action::While { test, body, again } => while_do(state, pid, item, test, *body, *again),
         Action::Until { test, body, again } => until(state, pid, item, test, *body, *again),
         Action::For { .. } => perform_for(state, pid, at, item),
