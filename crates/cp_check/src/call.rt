@@ -7,11 +7,8 @@ ghost use Rattle.cp_check.specs.Calls as spec;
 
 use crate::operand::{Context, Designated, Named, Operand, Place, value};
 use crate::operation::{applied, is_function};
-use cp_scope::count::Use;
-use cp_scope::fault::{CheckFault, Rule, broken};
-use cp_scope::table::Table;
-use cp_scope::types::{Parameter, ValueType, values_of};
-use cp_tree::declaration::SystemKind;
+use cp_scope::{CheckFault, Parameter, Rule, Table, Use, ValueType, broken, values_of};
+use cp_tree::SystemKind;
 
 /// Whether an argument fits a parameter.
 fn fits(parameter: Parameter, operand: Operand) -> bool

@@ -7,11 +7,8 @@ ghost use Rattle.cp_check.specs.Cases as spec;
 
 use crate::constant::{Number, constant};
 use crate::operand::Operand;
-use cp_scope::count::Use;
-use cp_scope::fault::{CheckFault, Rule, broken};
-use cp_scope::table::Table;
-use cp_scope::types::{Base, ValueType};
-use cp_tree::constant::Constant;
+use cp_scope::{Base, CheckFault, Rule, Table, Use, ValueType, broken};
+use cp_tree::Constant;
 use indexmap::IndexSet;
 use std::alloc::Global;
 

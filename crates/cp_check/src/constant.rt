@@ -6,10 +6,8 @@ ghost use Rattle.cp_scope.specs.View.{scopes_of};
 ghost use Rattle.cp_check.specs.Constants as spec;
 
 use crate::name::visible;
-use cp_scope::fault::{CheckFault, Rule, broken};
-use cp_scope::table::Table;
-use cp_scope::types::{Base, Meaning};
-use cp_tree::constant::{Constant, ConstantKind, Identifier, Sign};
+use cp_scope::{Base, CheckFault, Meaning, Rule, Table, broken};
+use cp_tree::{Constant, ConstantKind, Identifier, Sign};
 
 /// A constant's base and number.
 #[derive(Clone, Copy)]

@@ -9,11 +9,8 @@ ghost use Rattle.cp_check.specs.Declarations as spec;
 
 use crate::constant::constant;
 use crate::types::{Spot, typed};
-use cp_scope::fault::{CheckFault, Rule, broken};
-use cp_scope::table::Table;
-use cp_scope::types::Meaning;
-use cp_tree::constant::Identifier;
-use cp_tree::declaration::{ConstantDefinition, Part, PartKind, TypeDefinition, VariableGroup};
+use cp_scope::{CheckFault, Meaning, Rule, Table, broken};
+use cp_tree::{ConstantDefinition, Identifier, Part, PartKind, TypeDefinition, VariableGroup};
 use std::alloc::Global;
 
 /// A name is being declared.

@@ -11,13 +11,10 @@ use crate::call::{total_use, value_of, variable_of};
 use crate::name::{begun, indexed, known, selected};
 use crate::operand::{Context, Designated, Operand, base_value, value};
 use crate::operation::{added, agreed, multiplied, negated, related, signed};
-use cp_scope::count::Use;
-use cp_scope::fault::{CheckFault, Rule, broken};
-use cp_scope::table::Table;
-use cp_scope::types::{Base, Parameter, ValueType};
-use cp_tree::constant::{Identifier, Sign};
-use cp_tree::expression::{
-    Addition, Designator, Expression, Factor, FactorKind, Multiplication, Selector, Sum, Term,
+use cp_scope::{Base, CheckFault, Parameter, Rule, Table, Use, ValueType, broken};
+use cp_tree::{
+    Addition, Designator, Expression, Factor, FactorKind, Identifier, Multiplication, Selector,
+    Sign, Sum, Term,
 };
 use std::alloc::Global;
 

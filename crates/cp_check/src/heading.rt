@@ -10,12 +10,8 @@ ghost use Rattle.cp_check.specs.Headings as spec;
 
 use crate::declaration::{add_all, reserve_name, reserve_names};
 use crate::types::{Holding, held_by, type_named};
-use cp_scope::fault::{CheckFault, Rule, broken};
-use cp_scope::shape::{Heading, Shape};
-use cp_scope::table::Table;
-use cp_scope::types::{Meaning, ValueType};
-use cp_tree::constant::Identifier;
-use cp_tree::declaration::{Group, ParameterGroup, Routine, RoutineKind, SystemKind};
+use cp_scope::{CheckFault, Heading, Meaning, Rule, Shape, Table, ValueType, broken};
+use cp_tree::{Group, Identifier, ParameterGroup, Routine, RoutineKind, SystemKind};
 use std::alloc::Global;
 
 /// The type of a parameter, where it may be one.

@@ -3,7 +3,7 @@
 
 mod call;
 mod case;
-pub mod check;
+pub mod checker;
 mod constant;
 mod declaration;
 mod expression;
@@ -19,3 +19,6 @@ mod system;
 #[cfg(test)]
 mod tests;
 mod types;
+
+pub use checker::{Checked, check};
+pub use fault::{CheckFault, Rule};

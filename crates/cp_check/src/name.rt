@@ -6,12 +6,9 @@ ghost use Rattle.cp_scope.specs.View.{scopes_of};
 ghost use Rattle.cp_check.specs.Names as spec;
 
 use crate::operand::{Designated, Named, Operand};
-use cp_scope::count::Use;
-use cp_scope::fault::{CheckFault, Rule, broken};
-use cp_scope::table::Table;
-use cp_scope::types::{Meaning, ValueType};
-use cp_text::token::Name;
-use cp_tree::constant::Identifier;
+use cp_scope::{CheckFault, Meaning, Rule, Table, Use, ValueType, broken};
+use cp_text::Name;
+use cp_tree::Identifier;
 
 /// What a name stands for.
 #[tactic(auto, unfolding(crate::specs::Names::visible))]

@@ -3,9 +3,8 @@
 ghost use Rattle.std.specs.Prelude.{◌≡◌};
 ghost use Rattle.cp_check.specs.Operands as spec;
 
-use cp_scope::count::Use;
-use cp_scope::types::{Base, Predeclared, ValueType, values_of};
-use cp_tree::declaration::SystemKind;
+use cp_scope::{Base, Predeclared, Use, ValueType, values_of};
+use cp_tree::SystemKind;
 
 /// Where a node stands: in the program, or in a system type of this kind; and in the routine whose name stands at a token.
 #[derive(Clone, Copy)]

@@ -5,11 +5,8 @@ ghost use Rattle.cp_scope.specs.Judged.{Judges};
 ghost use Rattle.cp_check.specs.Operations as spec;
 
 use crate::operand::{Operand, base_value, value};
-use cp_scope::count::Use;
-use cp_scope::fault::{CheckFault, Rule, broken};
-use cp_scope::types::{Base, Predeclared, Range, ValueType};
-use cp_tree::constant::Sign;
-use cp_tree::expression::{Addition, Multiplication, Relation};
+use cp_scope::{Base, CheckFault, Predeclared, Range, Rule, Use, ValueType, broken};
+use cp_tree::{Addition, Multiplication, Relation, Sign};
 
 /// A number where both are numbers.
 fn number(at: usize, left: Operand, right: Operand) -> Option<Operand>

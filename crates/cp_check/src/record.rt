@@ -6,10 +6,8 @@ ghost use Rattle.cp_scope.specs.View.{scope_of};
 ghost use Rattle.cp_scope.specs.declared.fault.CheckFault.TheVariants as check_fault;
 ghost use Rattle.cp_check.specs.Records as spec;
 
-use cp_scope::fault::{CheckFault, Rule, broken};
-use cp_scope::scope::Scope;
-use cp_scope::types::Meaning;
-use cp_tree::constant::Identifier;
+use cp_scope::{CheckFault, Meaning, Rule, Scope, broken};
+use cp_tree::Identifier;
 use std::alloc::Global;
 
 /// A field's name is being declared.

@@ -12,12 +12,8 @@ use crate::heading::{announced, heading};
 use crate::operand::Context;
 use crate::statement::statements;
 use crate::types::Spot;
-use cp_scope::count::{Use, plus};
-use cp_scope::fault::CheckFault;
-use cp_scope::shape::Shape;
-use cp_scope::table::Table;
-use cp_scope::types::ValueType;
-use cp_tree::declaration::{Routine, SystemKind};
+use cp_scope::{CheckFault, Shape, Table, Use, ValueType, plus};
+use cp_tree::{Routine, SystemKind};
 use std::alloc::Global;
 
 /// Function calls, and the greatest need of what is called.

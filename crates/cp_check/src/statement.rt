@@ -13,14 +13,12 @@ use crate::expression::{arguments, designator, expression};
 use crate::name::begun;
 use crate::operand::{Context, Designated, Named, Operand};
 use crate::operation::is_function;
-use cp_scope::count::Use;
-use cp_scope::fault::{CheckFault, Rule, broken};
-use cp_scope::table::Table;
-use cp_scope::types::{Base, Parameter, Predeclared, ValueType, values_of};
-use cp_tree::constant::Identifier;
-use cp_tree::declaration::SystemKind;
-use cp_tree::expression::{Designator, Expression};
-use cp_tree::statement::{Arm, Start, Statement, StatementKind};
+use cp_scope::{
+    Base, CheckFault, Parameter, Predeclared, Rule, Table, Use, ValueType, broken, values_of,
+};
+use cp_tree::{
+    Arm, Designator, Expression, Identifier, Start, Statement, StatementKind, SystemKind,
+};
 use std::alloc::Global;
 
 /// What stands on the left of an assignment.

@@ -14,12 +14,8 @@ use crate::operand::Context;
 use crate::routine::{need_of, routines};
 use crate::statement::statements;
 use crate::types::{Holding, Spot, held_by, type_named, typed};
-use cp_scope::count::Use;
-use cp_scope::fault::{CheckFault, Rule, broken};
-use cp_scope::shape::{Heading, Shape};
-use cp_scope::table::Table;
-use cp_scope::types::{Meaning, ValueType};
-use cp_tree::declaration::{
+use cp_scope::{CheckFault, Heading, Meaning, Rule, Shape, Table, Use, ValueType, broken};
+use cp_tree::{
     Definition, Group, ProgramPart, ProgramPartKind, System, SystemDefinition, SystemKind,
 };
 use std::alloc::Global;

@@ -1,10 +1,9 @@
 //! The worked rows of the rules, each broken at a token, and a program that breaks none.
 
-use crate::check::check;
-use cp_scope::fault::{CheckFault, Rule};
-use cp_text::scan::scan;
-use cp_tree::parse::parse;
-use cp_tree::tree::Tree;
+use crate::checker::check;
+use cp_scope::{CheckFault, Rule};
+use cp_text::scan;
+use cp_tree::{Tree, parse};
 use std::test::Fail;
 
 const BUFFER: &str =

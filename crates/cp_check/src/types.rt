@@ -10,16 +10,12 @@ ghost use Rattle.cp_check.specs.Types as spec;
 use crate::constant::{Number, constant};
 use crate::name::visible;
 use crate::record::{add_fields, reserve_fields};
-use cp_scope::count::times;
-use cp_scope::fault::{CheckFault, Rule, broken};
-use cp_scope::scope::Scope;
-use cp_scope::shape::{ArrayShape, Shape};
-use cp_scope::table::Table;
-use cp_scope::types::{Base, Meaning, Range, ValueType};
-use cp_text::token::Name;
-use cp_tree::constant::Identifier;
-use cp_tree::declaration::SystemKind;
-use cp_tree::types::{FieldGroup, Simple, SimpleKind, Type, TypeKind};
+use cp_scope::{
+    ArrayShape, Base, CheckFault, Meaning, Range, Rule, Scope, Shape, Table, ValueType, broken,
+    times,
+};
+use cp_text::Name;
+use cp_tree::{FieldGroup, Identifier, Simple, SimpleKind, SystemKind, Type, TypeKind};
 use std::alloc::Global;
 
 /// Where a type stands.

@@ -1,7 +1,7 @@
 //! What is explored.
 
-use cp_run::limits::Limits;
-use cp_slots::resolved::Resolved;
+use cp_run::Limits;
+use cp_slots::Resolved;
 
 /// A program, under limits.
 #[derive(Clone, Copy)]

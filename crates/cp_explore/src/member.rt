@@ -5,17 +5,14 @@ ghost use Rattle.cp_run.specs.Slots.{slots};
 ghost use Rattle.cp_explore.specs.Cutting.{rows_behind};
 ghost use Rattle.cp_explore.specs.Rows.{line_of, IsTooMany};
 
-use crate::explore::copies;
 use crate::fault::ExploreFault;
+use crate::one_thread::copies;
 use crate::row::Row;
 use crate::walk::walk_from;
 use crate::word::word_of;
-use cp_machine::state::State;
-use cp_machine::ticks::Ticks;
-use cp_run::choice::{choose, may, open};
-use cp_run::limits::Limits;
-use cp_run::trace::is_over;
-use cp_slots::resolved::Resolved;
+use cp_machine::{State, Ticks};
+use cp_run::{Limits, choose, is_over, may, open};
+use cp_slots::Resolved;
 use std::alloc::Global;
 use std::sync::ledger::{Blank, Ledger};
 

@@ -6,9 +6,8 @@ ghost use lib.Pointwise.{pointwise};
 ghost use Rattle.cp_run.specs.Table.{each};
 ghost use Rattle.cp_explore.specs.Report.{number_of, shown_numbers, kind_numbers, same_outcome};
 
-use cp_machine::event::ErrorName;
-use cp_machine::shown::Shown;
-use cp_run::outcome::{Outcome, OutcomeKind};
+use cp_machine::{ErrorName, Shown};
+use cp_run::{Outcome, OutcomeKind};
 use std::hash::Hasher;
 
 fn number_of(name: ErrorName) -> u32

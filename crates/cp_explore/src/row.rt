@@ -3,7 +3,7 @@
 ghost use Rattle.std.specs.Prelude.{◌≡◌};
 
 use arrayvec::ArrayVec;
-use cp_run::outcome::Outcome;
+use cp_run::Outcome;
 use std::marker::Model;
 
 /// A complete word with its outcome.

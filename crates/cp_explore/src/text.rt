@@ -4,10 +4,9 @@ ghost use Rattle.std.specs.Prelude.{◌≡◌, ◌++◌, ◌∷◌, [], ◌==◌
 ghost use Rattle.std.specs.Fmt.{signed_decimal};
 ghost use Rattle.cp_explore.specs.Text.{word_text, char_text, shown_text, output_text, error_text, kind_text, outcome_text};
 
-use cp_machine::event::ErrorName;
-use cp_machine::shown::Shown;
-use cp_run::outcome::{Outcome, OutcomeKind};
-use cp_slots::resolved::Resolved;
+use cp_machine::{ErrorName, Shown};
+use cp_run::{Outcome, OutcomeKind};
+use cp_slots::Resolved;
 use std::alloc::{AllocError, Global};
 
 /// Appends a number in decimal.

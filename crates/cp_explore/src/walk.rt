@@ -13,13 +13,9 @@ use crate::fault::ExploreFault;
 use crate::row::Row;
 use crate::word::word_of;
 use arrayvec::ArrayVec;
-use cp_machine::state::State;
-use cp_machine::ticks::Ticks;
-use cp_run::choice::{choose, may};
-use cp_run::limits::Limits;
-use cp_run::outcome::{Halt, OutcomeKind};
-use cp_run::run::outcome_at;
-use cp_slots::resolved::Resolved;
+use cp_machine::{State, Ticks};
+use cp_run::{Halt, Limits, OutcomeKind, choose, may, outcome_at};
+use cp_slots::Resolved;
 use std::alloc::Global;
 use std::sync::ledger::Ledger;
 

@@ -7,11 +7,9 @@ ghost use Rattle.cp_explore.specs.Cutting.{wanted_in};
 
 use crate::job::Job;
 use arrayvec::ArrayVec;
-use cp_machine::ticks::Ticks;
-use cp_run::limits::Limits;
-use cp_run::outcome::RunEnd;
-use cp_run::run::run;
-use cp_slots::resolved::Resolved;
+use cp_machine::Ticks;
+use cp_run::{Limits, RunEnd, run};
+use cp_slots::Resolved;
 use std::alloc::{AllocError, Global};
 use std::marker::Brand;
 use std::sync::ledger::{Blank, Ledger};

@@ -2,3 +2,5 @@
 #![tactic(auto)]
 
 pub mod laws;
+
+pub use laws::{law_accepted_well_formed, law_exclusive, law_holder, law_ownership};

@@ -17,10 +17,7 @@ use crate::memory::{arguments_of, bind_arguments, component_of, frame_of};
 use crate::process::Entry;
 use crate::stack::replace;
 use crate::state::{Phase, State};
-use cp_slots::item::Item;
-use cp_slots::place::{Argument, ComponentPlace};
-use cp_slots::resolved::Resolved;
-use cp_slots::tables::ComponentKind;
+use cp_slots::{Argument, ComponentKind, ComponentPlace, Item, Resolved};
 
 /// What is called, and where a function's result goes.
 #[derive(Clone, Copy)]

@@ -8,7 +8,7 @@ ghost use Rattle.cp_machine.specs.Machine.{machine_of, monitor_of, thread_of};
 use crate::process::Process;
 use crate::state::{Guard, State};
 use arrayvec::ArrayVec;
-use cp_store::memory::Room;
+use cp_store::Room;
 use std::alloc::{AllocError, Global};
 
 impl State {

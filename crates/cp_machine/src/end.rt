@@ -13,8 +13,8 @@ use crate::event::{Event, Kernel};
 use crate::frame::leave;
 use crate::kernel::let_in;
 use crate::state::{Phase, State};
-use cp_slots::resolved::Resolved;
-use cp_store::memory::Frame;
+use cp_slots::Resolved;
+use cp_store::Frame;
 
 /// The end of a call, which is the topmost entry; that of a monitor's entry is the kernel's leave.
 #[inline(never)]

@@ -1,6 +1,6 @@
 //! What a step was.
 
-pub use cp_store::error::ErrorName;
+pub use cp_store::ErrorName;
 
 /// What a step was.
 #[derive(Clone, Copy, Debug, PartialEq, Eq)]

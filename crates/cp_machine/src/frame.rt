@@ -13,9 +13,8 @@ use crate::memory::frame_of;
 use crate::process::{Entry, Process};
 use crate::stack::go_into;
 use crate::state::State;
-use cp_slots::resolved::Resolved;
-use cp_store::memory::{Frame, Room};
-use cp_store::room::{close_frame, open_frame};
+use cp_slots::Resolved;
+use cp_store::{Frame, Room, close_frame, open_frame};
 
 /// Opens a frame for a routine in a component: its statements, with their end below them, come in place of the item.
 pub fn open(

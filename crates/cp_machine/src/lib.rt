@@ -21,6 +21,14 @@ mod start;
 mod start_component;
 pub mod state;
 mod statement;
-pub mod step;
+pub mod stepper;
 mod take;
 pub mod ticks;
+
+pub use event::{ErrorName, Event, Kernel, RunError};
+pub use gates::Gates;
+pub use process::{Entry, Process, Status};
+pub use shown::Shown;
+pub use state::{Guard, LIMIT, Phase, State};
+pub use stepper::step;
+pub use ticks::Ticks;

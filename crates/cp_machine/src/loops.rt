@@ -14,8 +14,7 @@ use crate::memory::{origin_of, put_number, value_of};
 use crate::process::Entry;
 use crate::stack::{replace, replace_by};
 use crate::state::State;
-use cp_slots::item::Item;
-use cp_slots::place::{Expression, Origin};
+use cp_slots::{Expression, Item, Origin};
 use cp_store::arithmetic::{self, is_true, ranged};
 
 /// `while`: true: becomes its list and itself; false: removed.

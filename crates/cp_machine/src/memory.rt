@@ -14,14 +14,12 @@ ghost use Rattle.cp_machine.specs.Reach.{CanFind, CanGive, CanName, CanReach, Ca
 use crate::event::ErrorName;
 use crate::process::Status;
 use crate::state::State;
-use cp_slots::place::{Argument, ComponentPlace, Expression, Origin, Place, SetExpression};
-use cp_store::argument::evaluate_arguments;
-use cp_store::bind::{bind_component, bind_frame};
-use cp_store::component;
-use cp_store::evaluate::{address, begun, evaluate, evaluate_set};
-use cp_store::memory::{Address, Frame};
+use cp_slots::{Argument, ComponentPlace, Expression, Origin, Place, SetExpression};
 use cp_store::set::SetValue;
-use cp_store::write::{copy_cells, write, write_set};
+use cp_store::{
+    Address, Frame, address, begun, bind_component, bind_frame, component, copy_cells, evaluate,
+    evaluate_arguments, evaluate_set, write, write_set,
+};
 
 /// The frame that a process executes.
 pub fn frame_of(state: &State, pid: u8) -> Frame

@@ -16,8 +16,7 @@ use crate::stack::{repeat, replace};
 use crate::start_component::start;
 use crate::state::State;
 use crate::statement::{assign, assign_set, branch, case_of, copy, display};
-use cp_slots::item::{Action, Item};
-use cp_slots::resolved::Resolved;
+use cp_slots::{Action, Item, Resolved};
 
 /// Does what an item says, which is the topmost entry.
 pub fn perform(

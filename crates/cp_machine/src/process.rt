@@ -1,6 +1,6 @@
 //! The processes of a run.
 
-use cp_store::memory::{Frame, Room};
+use cp_store::{Frame, Room};
 
 #[derive(Clone, Copy, Debug, PartialEq, Eq)]
 pub enum Status {

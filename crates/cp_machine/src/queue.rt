@@ -17,12 +17,9 @@ use crate::memory::{address_of, frame_of};
 use crate::process::Entry;
 use crate::stack::{replace, top_of};
 use crate::state::State;
-use cp_slots::item::Item;
-use cp_slots::place::Place;
-use cp_slots::resolved::Resolved;
-use cp_slots::tables::ComponentKind;
+use cp_slots::{ComponentKind, Item, Place, Resolved};
+use cp_store::Address;
 use cp_store::arithmetic::is_true;
-use cp_store::memory::Address;
 
 // Delays in the queue of a permanent cell, in a monitor.
 fn delay_in(

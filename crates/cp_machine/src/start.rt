@@ -12,9 +12,8 @@ use crate::memory::set_status;
 use crate::process::{Entry, Process, Status};
 use crate::state::{Guard, LIMIT, Phase, State};
 use arrayvec::ArrayVec;
-use cp_slots::resolved::Resolved;
-use cp_store::memory::{Frame, Room};
-use cp_store::room::open_frame;
+use cp_slots::Resolved;
+use cp_store::{Frame, Room, open_frame};
 use std::alloc::{AllocError, Global};
 
 impl State {

@@ -17,10 +17,7 @@ use crate::memory::{arguments_of, bind_parameters, component_of, frame_of, set_s
 use crate::process::{Entry, Status};
 use crate::stack::replace;
 use crate::state::{Phase, State};
-use cp_slots::item::Item;
-use cp_slots::place::{Argument, ComponentPlace};
-use cp_slots::resolved::Resolved;
-use cp_slots::tables::ComponentKind;
+use cp_slots::{Argument, ComponentKind, ComponentPlace, Item, Resolved};
 
 // The parameters of a process are bound, and it is ready.
 fn start_process(

@@ -8,7 +8,7 @@ use crate::process::Process;
 use crate::reading::any_waits;
 use crate::shown::Shown;
 use arrayvec::ArrayVec;
-use cp_store::argument::Bound;
+use cp_store::Bound;
 
 /// The most values that a run may display.
 pub const LIMIT: usize = 1000;

@@ -14,8 +14,7 @@ use crate::memory::{address_of, put_cells, put_number, put_set, set_of, value_of
 use crate::shown::Shown;
 use crate::stack::replace;
 use crate::state::{LIMIT, State};
-use cp_slots::item::{Arm, Item, ShownKind};
-use cp_slots::place::{Expression, Place, SetExpression};
+use cp_slots::{Arm, Expression, Item, Place, SetExpression, ShownKind};
 use cp_store::arithmetic::{is_true, ranged};
 use cp_store::set;
 

@@ -13,8 +13,7 @@ use crate::perform::perform;
 use crate::process::Entry;
 use crate::stack::replace;
 use crate::state::State;
-use cp_slots::item::{Action, Item};
-use cp_slots::resolved::Resolved;
+use cp_slots::{Action, Item, Resolved};
 
 fn failed(pid: u8, item: &Item, name: ErrorName) -> Event
     ensures { result ≡ Event.Fault (record { name = name; process = pid; line = item.now.line }) }

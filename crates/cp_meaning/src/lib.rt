@@ -2,3 +2,5 @@
 #![tactic(auto)]
 
 pub mod laws;
+
+pub use laws::{law_exclusive, law_holder, law_ownership};

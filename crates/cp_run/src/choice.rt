@@ -8,12 +8,11 @@ ghost use Rattle.cp_run.specs.Code.{node_of};
 
 use crate::limits::Limits;
 use crate::outcome::{Halt, Turn};
-use crate::stretch::stretch;
+use crate::stretches::stretch;
 use crate::turn::{settled_turn, turn_at};
 use arrayvec::ArrayVec;
-use cp_machine::state::State;
-use cp_machine::ticks::Ticks;
-use cp_slots::resolved::Resolved;
+use cp_machine::{State, Ticks};
+use cp_slots::Resolved;
 use std::sync::ledger::Ledger;
 
 /// The numbers that a due choice may take, in rising order: the line of the pending monitor, or the ready processes.

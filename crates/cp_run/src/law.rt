@@ -5,7 +5,7 @@ ghost use Rattle.cp_machine.specs.System.{Machine};
 ghost use Rattle.cp_run.specs.System.{System};
 ghost use Rattle.cp_run.specs.Table.{table, IsPrefixFree};
 
-pub use cp_lawful::laws::{law_exclusive, law_ownership};
+pub use cp_lawful::{law_exclusive, law_ownership};
 
 /// No word of a table begins another word of it.
 pub fn law_prefix_free()

@@ -2,7 +2,7 @@
 
 ghost use Rattle.std.specs.Prelude.{◌≡◌, ◌≤◌, ◌⊎◌, ◌<◌, IfSome, IfNone};
 
-use cp_machine::gates::Gates;
+use cp_machine::Gates;
 
 /// The most choices of a run.
 pub const MOST_CHOICES: u8 = 20;

@@ -2,7 +2,7 @@
 
 ghost use Rattle.std.specs.Prelude.{◌≡◌};
 
-use cp_machine::event::Kernel;
+use cp_machine::Kernel;
 use std::marker::Model;
 
 /// What a line of a trace tells of.

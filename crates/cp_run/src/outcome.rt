@@ -3,8 +3,7 @@
 ghost use Rattle.std.specs.Prelude.{◌≡◌};
 
 use arrayvec::ArrayVec;
-use cp_machine::event::ErrorName;
-use cp_machine::shown::Shown;
+use cp_machine::{ErrorName, Shown};
 use std::marker::Model;
 
 /// The kind of a run's end.

@@ -8,9 +8,8 @@ ghost use Rattle.cp_run.specs.Code.{IfGoes};
 
 use crate::limits::Limits;
 use crate::outcome::{OutcomeKind, Turn};
-use cp_machine::event::Event;
-use cp_machine::state::State;
-use cp_slots::resolved::Resolved;
+use cp_machine::{Event, State};
+use cp_slots::Resolved;
 
 /// Nobody ready, choice of process, going on: what comes before the next step, where no gate choice is due. The last step was one of
 /// `process`, and `kernel` says that it was a kernel call or a process end.

@@ -8,3 +8,11 @@ pub mod shape;
 pub mod shapes;
 pub mod table;
 pub mod types;
+
+pub use count::{TOO_MANY, Use, plus, times};
+pub use fault::{CheckFault, Rule, broken};
+pub use scope::Scope;
+pub use shape::{ArrayShape, Census, Heading, Shape, plain};
+pub use shapes::Shapes;
+pub use table::Table;
+pub use types::{Base, Meaning, Parameter, Predeclared, Range, ValueType, values_of};

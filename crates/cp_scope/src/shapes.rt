@@ -9,8 +9,8 @@ use crate::count::{Use, plus, times};
 use crate::fault::CheckFault;
 use crate::shape::{ArrayShape, Census, Heading, Shape, plain};
 use crate::types::{Meaning, Parameter, ValueType};
-use cp_text::token::Name;
-use cp_tree::declaration::SystemKind;
+use cp_text::Name;
+use cp_tree::SystemKind;
 use indexmap::IndexMap;
 use std::alloc::Global;
 

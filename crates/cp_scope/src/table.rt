@@ -10,7 +10,7 @@ use crate::scope::Scope;
 use crate::shape::{Census, Shape};
 use crate::shapes::Shapes;
 use crate::types::{Base, Meaning, Parameter, Predeclared, ValueType, values_of};
-use cp_text::token::Name;
+use cp_text::Name;
 use std::alloc::Global;
 use std::mem;
 

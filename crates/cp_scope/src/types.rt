@@ -3,7 +3,7 @@
 ghost use Rattle.std.specs.Prelude.{◌≡◌};
 ghost use Rattle.cp_scope.specs.Types as spec;
 
-use cp_tree::declaration::SystemKind;
+use cp_tree::SystemKind;
 
 /// What the values of an ordinal type are counted in.
 #[derive(Clone, Copy)]

@@ -13,7 +13,7 @@ mod value;
 use crate::lay_out::component::Components;
 use crate::lay_out::layer::{Layer, Owned, System};
 use crate::tables::{Layout, Process, Routine, SystemType};
-use cp_tree::tree::Tree;
+use cp_tree::Tree;
 use std::alloc::{AllocError, Global};
 
 /// The tables of a tree that is accepted.

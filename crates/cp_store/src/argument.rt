@@ -8,10 +8,10 @@ ghost use Rattle.cp_store.specs.Memory.{memory_of};
 use crate::arithmetic::ranged;
 use crate::component::component_of;
 use crate::error::ErrorName;
-use crate::evaluate::{address, evaluate, evaluate_set};
+use crate::evaluation::{address, evaluate, evaluate_set};
 use crate::memory::{Address, Frame, Room};
 use crate::set::{self, SetValue};
-use cp_slots::place::{Argument, ArgumentValue};
+use cp_slots::{Argument, ArgumentValue};
 
 /// What a parameter is to be bound to.
 #[derive(Clone, Copy, Debug, PartialEq, Eq)]

@@ -4,7 +4,7 @@ ghost use Rattle.std.specs.Prelude.{◌≡◌};
 ghost use Rattle.cp_store.specs.Values as spec;
 
 use crate::error::ErrorName;
-use cp_slots::place::{Arithmetic, Comparison, Logic};
+use cp_slots::{Arithmetic, Comparison, Logic};
 
 /// A value that is to be an integer of the language; else overflow.
 pub fn narrowed(value: i32) -> Result<i16, ErrorName>

@@ -8,8 +8,8 @@ ghost use Rattle.cp_store.specs.declared.memory.Address.TheVariants.{Permanent};
 
 use crate::argument::Bound;
 use crate::memory::{Address, Frame, Room};
-use crate::write::{copy_cells, write, write_set};
-use cp_slots::place::Argument;
+use crate::writing::{copy_cells, write, write_set};
+use cp_slots::Argument;
 
 // Writes a value into the cells from an address on.
 fn put_value(permanents: &mut [i16], room: &mut Room, at: Address, bound: Bound)

@@ -6,9 +6,9 @@ ghost use Rattle.cp_store.specs.Inside.{CanFind};
 ghost use Rattle.cp_store.specs.Memory.{memory_of};
 
 use crate::error::ErrorName;
-use crate::evaluate::{distance, evaluate};
+use crate::evaluation::{distance, evaluate};
 use crate::memory::{Frame, Room};
-use cp_slots::place::ComponentPlace;
+use cp_slots::ComponentPlace;
 
 /// The number of a component named in a statement.
 #[tactic(auto, using(crate::proofs::Reaches::onward_exact, crate::proofs::Reaches::not_further))]

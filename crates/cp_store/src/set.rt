@@ -9,7 +9,7 @@ ghost use Rattle.cp_store.specs.Sets as spec;
 use crate::arithmetic::{is_within, truth};
 use crate::error::ErrorName;
 use crate::memory::{Address, Room, cell};
-use cp_slots::place::SetOperation;
+use cp_slots::SetOperation;
 
 /// A set of the numbers 0 to 127.
 #[derive(Clone, Copy, Debug, PartialEq, Eq)]

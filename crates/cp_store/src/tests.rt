@@ -9,12 +9,12 @@ use crate::arithmetic::calculated;
 use crate::bind::bind_frame;
 use crate::component::component_of;
 use crate::error::ErrorName;
-use crate::evaluate::{address, evaluate};
+use crate::evaluation::{address, evaluate};
 use crate::memory::{Address, Frame, Room, cell};
 use crate::room::{close_frame, open_frame};
 use crate::set::{self, SetValue};
-use crate::write::write_set;
-use cp_slots::place::{
+use crate::writing::write_set;
+use cp_slots::{
     Argument, ArgumentValue, Arithmetic, ComponentPlace, Expression, Index, Origin, Place,
     SetOperation,
 };

@@ -4,8 +4,12 @@
 pub mod fault;
 mod lexeme;
 mod piece;
-pub mod scan;
+pub mod scanner;
 #[cfg(test)]
 mod tests;
 pub mod token;
 mod word;
+
+pub use fault::{ScanCause, ScanFault};
+pub use scanner::scan;
+pub use token::{Kind, Mark, Name, Token, Tokens};

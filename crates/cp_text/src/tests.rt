@@ -1,5 +1,5 @@
 use crate::fault::{ScanCause, ScanFault};
-use crate::scan::scan;
+use crate::scanner::scan;
 use crate::token::{Kind, Mark, Tokens};
 use std::alloc::Global;
 use std::test::Fail;

@@ -22,10 +22,10 @@ use Rattle.cp_explore.specs.Report.{report_text}
 use Rattle.cp_explore.specs.TraceText.{trace_text}
 use Rattle.cp_tool.specs.Refusals.{refusal, scan_reason, parse_reason, check_reason}
 use Rattle.cp_tool.specs.declared.options.Options.{Options}
-use Rattle.cp_tool.specs.declared.explore_stream.Verdict.{Verdict}
-use Rattle.cp_tool.specs.declared.explore_stream.Verdict.TheVariants.{Reported, Refused, TooManyRows}
-use Rattle.cp_tool.specs.declared.explore_stream.Ending.{Ending}
-use Rattle.cp_tool.specs.declared.explore_stream.Ending.TheVariants.{Told, OutOfMemory, ReadFailed, WriteFailed}
+use Rattle.cp_tool.specs.declared.answering.Verdict.{Verdict}
+use Rattle.cp_tool.specs.declared.answering.Verdict.TheVariants.{Reported, Refused, TooManyRows}
+use Rattle.cp_tool.specs.declared.answering.Ending.{Ending}
+use Rattle.cp_tool.specs.declared.answering.Ending.TheVariants.{Told, OutOfMemory, ReadFailed, WriteFailed}
 
 -- refused with the line of the token of this number, if there is a reason
 abbrev pub IsRefusedAt : List Token → Option (ℕ × List ℕ) → Verdict → List ℕ → Type 0

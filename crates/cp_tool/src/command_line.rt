@@ -14,7 +14,7 @@ use crate::schedule::word_of;
 use arrayvec::ArrayVec;
 use clap::ArgMatches;
 use clap::error::ErrorKind;
-use cp_machine::gates::Gates;
+use cp_machine::Gates;
 use std::alloc::{AllocError, Global};
 
 /// The options, as `clap` matches the words, of which the first is the program's name. Where they ask for help, they are

@@ -1,9 +1,9 @@
 //! The program `cpx` as a library: its options, and the way from the bytes of a source to the bytes of an answer.
 #![tactic(auto)]
 
+pub mod answering;
 mod command;
 pub mod command_line;
-pub mod explore_stream;
 mod numbers;
 pub mod options;
 mod refusal;
@@ -13,3 +13,9 @@ pub mod stream;
 mod tests;
 mod transfer;
 pub mod wrapped;
+
+pub use answering::{Status, explore_stream};
+pub use command_line::read_options;
+pub use options::{OptionFault, Options};
+pub use stream::{Failed, Sink, Source};
+pub use wrapped::Wrapped;

@@ -4,7 +4,7 @@ ghost use Rattle.std.specs.Option.{ForSome};
 ghost use Rattle.cp_tool.specs.Words.{IsWord};
 
 use arrayvec::ArrayVec;
-use cp_machine::gates::Gates;
+use cp_machine::Gates;
 use std::alloc::AllocError;
 
 /// What the words of a call ask for, each in its range.

@@ -2,9 +2,9 @@
 ghost use Rattle.std.specs.Prelude.{◌≡◌, IfOk, codes, string_bytes, option_map};
 ghost use Rattle.cp_tool.specs.Refusals as spec;
 
-use cp_check::fault::{CheckFault, Rule};
-use cp_text::fault::ScanCause;
-use cp_tree::fault::ParseFault;
+use cp_check::{CheckFault, Rule};
+use cp_text::ScanCause;
+use cp_tree::ParseFault;
 use std::alloc::{AllocError, Global};
 
 /// The refusal of a line of the source.

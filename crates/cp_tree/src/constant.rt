@@ -1,6 +1,6 @@
 //! Names with their places, and constants.
 
-use cp_text::token::Name;
+use cp_text::Name;
 
 /// A name where it stands in a program.
 #[derive(Drop)]

@@ -6,7 +6,7 @@ ghost use Rattle.cp_tree.specs.Input as spec;
 ghost use Rattle.cp_tree.specs.Input.{Reads};
 
 use crate::fault::ParseFault;
-use cp_text::token::{Kind, Mark, Tokens};
+use cp_text::{Kind, Mark, Tokens};
 use std::marker::Model;
 
 #[derive(Drop)]

@@ -6,7 +6,7 @@ mod cursor;
 pub mod declaration;
 pub mod expression;
 pub mod fault;
-pub mod parse;
+pub mod parser;
 mod read_constant;
 mod read_expression;
 mod read_part;
@@ -19,3 +19,19 @@ pub mod statement;
 mod tests;
 pub mod tree;
 pub mod types;
+
+pub use constant::{Constant, ConstantKind, Identifier, Sign};
+pub use declaration::{
+    Body, ConstantDefinition, Definition, Group, ParameterGroup, Part, PartKind, Program,
+    ProgramPart, ProgramPartKind, Routine, RoutineKind, System, SystemDefinition, SystemKind,
+    TypeDefinition, VariableGroup,
+};
+pub use expression::{
+    Addition, Designator, Expression, Factor, FactorKind, Multiplication, Relation, Selector, Sum,
+    Term,
+};
+pub use fault::ParseFault;
+pub use parser::parse;
+pub use statement::{Arm, Direction, Start, Statement, StatementKind};
+pub use tree::Tree;
+pub use types::{FieldGroup, Simple, SimpleKind, Type, TypeKind};

@@ -7,7 +7,7 @@ ghost use Rattle.cp_tree.specs.Reading as spec;
 use crate::constant::{Constant, ConstantKind, Identifier, Sign};
 use crate::cursor::Cursor;
 use crate::fault::ParseFault;
-use cp_text::token::{Kind, Mark};
+use cp_text::{Kind, Mark};
 use std::alloc::Global;
 
 #[tactic(auto, unfolding(crate::specs::Reading::identifier))]

@@ -13,7 +13,7 @@ use crate::expression::{
 };
 use crate::fault::ParseFault;
 use crate::read_constant::{identifier, sign};
-use cp_text::token::{Kind, Mark};
+use cp_text::{Kind, Mark};
 use std::alloc::Global;
 
 fn relation_of(mark: Option<Mark>) -> Option<Relation>

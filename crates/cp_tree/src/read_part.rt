@@ -10,7 +10,7 @@ use crate::declaration::{ConstantDefinition, Part, PartKind, TypeDefinition, Var
 use crate::fault::ParseFault;
 use crate::read_constant::{constant, identifier, identifiers};
 use crate::read_type::type_term;
-use cp_text::token::Mark;
+use cp_text::Mark;
 use std::alloc::Global;
 
 /// The level of the innermost nodes.

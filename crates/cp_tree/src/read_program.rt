@@ -15,7 +15,7 @@ use crate::read_constant::identifier;
 use crate::read_part::{MAX_LEVEL, constant_definitions, parts, variable_groups};
 use crate::read_routine::{body, groups, routines};
 use crate::read_type::type_term;
-use cp_text::token::Mark;
+use cp_text::Mark;
 use std::alloc::Global;
 
 #[tactic(auto, unfolding(crate::specs::ReadingDeclarations::system_with))]

@@ -13,7 +13,7 @@ use crate::fault::ParseFault;
 use crate::read_constant::{identifier, identifiers};
 use crate::read_part::{MAX_LEVEL, parts};
 use crate::read_statement::statements;
-use cp_text::token::Mark;
+use cp_text::Mark;
 use std::alloc::Global;
 
 /// The statements between `begin` and `end`.

@@ -13,7 +13,7 @@ use crate::fault::ParseFault;
 use crate::read_constant::{constant, identifier};
 use crate::read_expression::{arguments, designator, expression};
 use crate::statement::{Arm, Direction, Start, Statement, StatementKind};
-use cp_text::token::{Kind, Mark};
+use cp_text::{Kind, Mark};
 use std::alloc::Global;
 
 /// A statement of at most `budget` levels.

@@ -11,7 +11,7 @@ use crate::cursor::Cursor;
 use crate::fault::ParseFault;
 use crate::read_constant::{constant, identifiers};
 use crate::types::{FieldGroup, Simple, SimpleKind, Type, TypeKind};
-use cp_text::token::Mark;
+use cp_text::Mark;
 use std::alloc::Global;
 
 #[tactic(auto, unfolding(crate::specs::ReadingTypes::simple_type, crate::specs::ReadingTypes::enumeration_at))]

@@ -2,11 +2,10 @@
 
 use crate::expression::FactorKind;
 use crate::fault::ParseFault;
-use crate::parse::parse;
+use crate::parser::parse;
 use crate::statement::StatementKind;
 use crate::tree::Tree;
-use cp_text::scan::scan;
-use cp_text::token::{Kind, Mark, Token, Tokens};
+use cp_text::{Kind, Mark, Token, Tokens, scan};
 use std::test::Fail;
 
 const BUFFER: &str =

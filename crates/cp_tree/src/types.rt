@@ -1,7 +1,7 @@
 //! Types as they are written. Each node keeps the number of tokens before it.
 
 use crate::constant::{Constant, Identifier};
-use cp_text::token::Name;
+use cp_text::Name;
 
 #[derive(Drop)]
 pub struct Simple {

@@ -3,10 +3,7 @@
 
 ghost use Rattle.std.specs.Prelude.{◌≡◌};
 
-use cp_tool::command_line::read_options;
-use cp_tool::explore_stream::explore_stream;
-use cp_tool::options::{OptionFault, Options};
-use cp_tool::wrapped::Wrapped;
+use cp_tool::{OptionFault, Options, Wrapped, explore_stream, read_options};
 use std::alloc::Global;
 use std::env;
 use std::io::{ErrorKind, Stdin, Stdout};

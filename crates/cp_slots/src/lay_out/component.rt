@@ -2,7 +2,7 @@
 
 use crate::lay_out::layer::{Owned, System};
 use crate::tables::{Component, ComponentKind, Process};
-use cp_tree::declaration::SystemKind;
+use cp_tree::SystemKind;
 use std::alloc::{AllocError, Global};
 
 /// The components so far, with their permanent cells.

@@ -7,10 +7,9 @@ use crate::lay_out::layer::{
 use crate::lay_out::names::Meaning;
 use crate::place::Origin;
 use crate::tables::ComponentParameter;
-use cp_tree::constant::Identifier;
-use cp_tree::declaration::{
-    ConstantDefinition, Definition, Group, ParameterGroup, Part, PartKind, Program, ProgramPart,
-    ProgramPartKind, Routine, RoutineKind, System as WrittenSystem, SystemDefinition,
+use cp_tree::{
+    ConstantDefinition, Definition, Group, Identifier, ParameterGroup, Part, PartKind, Program,
+    ProgramPart, ProgramPartKind, Routine, RoutineKind, System as WrittenSystem, SystemDefinition,
     TypeDefinition, VariableGroup,
 };
 use std::alloc::{AllocError, Global};

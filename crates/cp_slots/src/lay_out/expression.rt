@@ -11,10 +11,9 @@ use crate::lay_out::value::{
 use crate::place::{
     Argument, ArgumentValue, ComponentPlace, Expression, Index, Origin, SetExpression,
 };
-use cp_tree::constant::{Identifier, Sign};
-use cp_tree::expression::{
-    Addition, Designator, Expression as Written, Factor, FactorKind, Multiplication, Selector, Sum,
-    Term,
+use cp_tree::{
+    Addition, Designator, Expression as Written, Factor, FactorKind, Identifier, Multiplication,
+    Selector, Sign, Sum, Term,
 };
 use std::alloc::{AllocError, Global};
 

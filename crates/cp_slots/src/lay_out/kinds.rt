@@ -1,6 +1,6 @@
 //! The types of a program, with the cells of their values.
 
-use cp_text::token::Name;
+use cp_text::Name;
 use std::alloc::{AllocError, Global};
 
 /// The cells of a set.

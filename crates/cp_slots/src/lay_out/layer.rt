@@ -4,8 +4,7 @@ use crate::item::{Action, Item};
 use crate::lay_out::kinds::{Types, ValueType};
 use crate::lay_out::names::Names;
 use crate::tables::{ComponentParameter, Routine};
-use cp_tree::declaration::SystemKind;
-use cp_tree::tree::Tree;
+use cp_tree::{SystemKind, Tree};
 use std::alloc::{AllocError, Global};
 use std::mem;
 

@@ -6,9 +6,10 @@ use crate::lay_out::layer::Layer;
 use crate::lay_out::names::Predeclared;
 use crate::lay_out::value::{Designated, Value, only, ordinal, place_at, place_of, set};
 use crate::place::{ComponentPlace, Origin, Place};
-use cp_tree::constant::{Constant, Identifier};
-use cp_tree::expression::{Designator, Expression as Written};
-use cp_tree::statement::{Arm as WrittenArm, Direction, Start, Statement, StatementKind};
+use cp_tree::{
+    Arm as WrittenArm, Constant, Designator, Direction, Expression as Written, Identifier, Start,
+    Statement, StatementKind,
+};
 use std::alloc::{AllocError, Global};
 
 /// A variable that is assigned to.

@@ -3,8 +3,9 @@
 use crate::lay_out::kinds::{Base, Field, Range, ValueType, values_of};
 use crate::lay_out::layer::Layer;
 use crate::lay_out::names::Meaning;
-use cp_tree::constant::{Constant, ConstantKind, Identifier, Sign};
-use cp_tree::types::{FieldGroup, Simple, SimpleKind, Type, TypeKind};
+use cp_tree::{
+    Constant, ConstantKind, FieldGroup, Identifier, Sign, Simple, SimpleKind, Type, TypeKind,
+};
 use std::alloc::{AllocError, Global};
 
 /// A constant, by its number.

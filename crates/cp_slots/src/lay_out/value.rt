@@ -6,7 +6,7 @@ use crate::place::{
     Arithmetic, Comparison, ComponentPlace, Expression, Logic, Origin, Place, SetExpression,
     SetOperation,
 };
-use cp_tree::expression::{Addition, Multiplication, Relation};
+use cp_tree::{Addition, Multiplication, Relation};
 use std::alloc::{AllocError, Global};
 
 /// The value of an expression.

@@ -1,6 +1,6 @@
 use super::read_options;
 use crate::options::{OptionFault, Options};
-use cp_machine::gates::Gates;
+use cp_machine::Gates;
 use std::alloc::Global;
 use std::test::Fail;
 

@@ -7,18 +7,12 @@ ghost use Rattle.cp_explore.specs.Rows.{line_of};
 
 use super::programs::{TWO_CYCLES, TWO_DISPLAYS, limits_of, program_of};
 use arrayvec::ArrayVec;
-use cp_explore::beginnings::beginnings;
-use cp_explore::cutting::Cutting;
-use cp_explore::explore::explore_one;
-use cp_explore::fault::{GatherFault, SplitFault};
-use cp_explore::gather::gather;
-use cp_explore::job::Job;
-use cp_explore::row::{Piece, Row, Rows, Table};
-use cp_machine::gates::Gates;
-use cp_machine::ticks::Ticks;
-use cp_run::limits::Limits;
-use cp_run::outcome::{Outcome, OutcomeKind, Output};
-use cp_slots::resolved::Resolved;
+use cp_explore::{
+    Cutting, GatherFault, Job, Piece, Row, Rows, SplitFault, Table, beginnings, explore_one, gather,
+};
+use cp_machine::{Gates, Ticks};
+use cp_run::{Limits, Outcome, OutcomeKind, Output};
+use cp_slots::Resolved;
 use std::alloc::Global;
 use std::marker::Brand;
 use std::sync::ledger::{Blank, Ledger};

@@ -3,16 +3,12 @@
 ghost use Rattle.std.specs.Prelude.{◌≡◌, ◌≤◌, length};
 
 use arrayvec::ArrayVec;
-use cp_check::check::check;
-use cp_machine::gates::Gates;
-use cp_machine::ticks::Ticks;
-use cp_run::limits::Limits;
-use cp_run::outcome::RunEnd;
-use cp_run::run::run;
-use cp_slots::resolve::resolve;
-use cp_slots::resolved::Resolved;
-use cp_text::scan::scan;
-use cp_tree::parse::parse;
+use cp_check::check;
+use cp_machine::{Gates, Ticks};
+use cp_run::{Limits, RunEnd, run};
+use cp_slots::{Resolved, resolve};
+use cp_text::scan;
+use cp_tree::parse;
 use std::alloc::Global;
 use std::marker::Brand;
 use std::sync::ledger::{Blank, Ledger};

@@ -4,12 +4,9 @@ ghost use Rattle.std.specs.Prelude.{◌≡◌};
 
 use super::programs::{THREE_CALLERS, limits_of, program_of};
 use arrayvec::ArrayVec;
-use cp_machine::gates::Gates;
-use cp_machine::state::State;
-use cp_machine::ticks::Ticks;
-use cp_run::choice::{choose, may, open};
-use cp_run::outcome::Halt;
-use cp_slots::resolved::Resolved;
+use cp_machine::{Gates, State, Ticks};
+use cp_run::{Halt, choose, may, open};
+use cp_slots::Resolved;
 use std::alloc::Global;
 use std::marker::Brand;
 use std::sync::ledger::{Blank, Ledger};

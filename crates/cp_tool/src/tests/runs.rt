@@ -1,11 +1,8 @@
 //! Runs that end by an error or a limit, and what they display before it.
 
 use super::programs::{TWO_IN_A_QUEUE, end_of, program_of};
-use cp_machine::event::ErrorName;
-use cp_machine::gates::Gates;
-use cp_machine::shown::Shown;
-use cp_run::limits::Limits;
-use cp_run::outcome::{OutcomeKind, RunEnd};
+use cp_machine::{ErrorName, Gates, Shown};
+use cp_run::{Limits, OutcomeKind, RunEnd};
 use std::test::Fail;
 
 /// A source, the steps of a stretch, a word that its run uses wholly, and how it ends, with so many times 1 displayed.

@@ -3,9 +3,8 @@
 use super::programs::{
     DELAYED, RESUMED, THREE_CALLERS, TWO_DISPLAYS, end_of, limits_of, numbers_of, program_of,
 };
-use cp_machine::gates::Gates;
-use cp_machine::shown::Shown;
-use cp_run::outcome::{OutcomeKind, RunEnd};
+use cp_machine::{Gates, Shown};
+use cp_run::{OutcomeKind, RunEnd};
 use std::test::Fail;
 
 /// A word that its run uses wholly, and what is displayed.

@@ -4,15 +4,9 @@ ghost use Rattle.std.specs.Prelude.{◌≡◌};
 ghost use Rattle.cp_machine.specs.System.{IsStateOf};
 
 use super::programs::{limits_of, program_of};
-use cp_machine::event::{ErrorName, Event, RunError};
-use cp_machine::gates::Gates;
-use cp_machine::shown::Shown;
-use cp_machine::state::State;
-use cp_machine::step::step;
-use cp_machine::ticks::Ticks;
-use cp_run::choice::may;
-use cp_run::limits::Limits;
-use cp_slots::resolved::Resolved;
+use cp_machine::{ErrorName, Event, Gates, RunError, Shown, State, Ticks, step};
+use cp_run::{Limits, may};
+use cp_slots::Resolved;
 use std::alloc::Global;
 use std::marker::Brand;
 use std::sync::ledger::{Blank, Ledger};

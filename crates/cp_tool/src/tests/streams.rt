@@ -2,8 +2,8 @@
 ghost use Rattle.std.specs.Prelude.{◌≡◌};
 
 use super::fakes::{OneByteReader, OneByteWriter, Refusal};
+use crate::answering::{Status, explore_stream};
 use crate::command_line::read_options;
-use crate::explore_stream::{Status, explore_stream};
 use crate::options::Options;
 use crate::wrapped::Wrapped;
 use std::alloc::Global;

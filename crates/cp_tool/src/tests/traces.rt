@@ -5,15 +5,9 @@ ghost use Rattle.std.specs.Prelude.{◌≡◌};
 use super::programs::{
     BUFFER, CONTINUED, INNER_DELAY, THREE_CALLERS, TWO_DISPLAYS, limits_of, numbers_of, program_of,
 };
-use cp_machine::event::Kernel;
-use cp_machine::gates::Gates;
-use cp_machine::shown::Shown;
-use cp_machine::ticks::Ticks;
-use cp_run::limits::Limits;
-use cp_run::line::{TraceEvent, TraceLine};
-use cp_run::outcome::{OutcomeKind, RunEnd};
-use cp_run::trace::trace;
-use cp_slots::resolved::Resolved;
+use cp_machine::{Gates, Kernel, Shown, Ticks};
+use cp_run::{Limits, OutcomeKind, RunEnd, TraceEvent, TraceLine, trace};
+use cp_slots::Resolved;
 use std::alloc::Global;
 use std::marker::Brand;
 use std::sync::ledger::{Blank, Ledger};

@@ -2,19 +2,13 @@
 ghost use Rattle.std.specs.Prelude.{◌<◌, ◌≤◌};
 
 use super::rows::TWO_DISPLAYS;
-use cp_check::check::check;
-use cp_explore::cutting::Cutting;
-use cp_explore::explore_all::explore;
-use cp_explore::job::Job;
-use cp_explore::printed::Report;
-use cp_explore::report::report;
-use cp_explore::worker::{Gate, NoGate};
-use cp_machine::gates::Gates;
-use cp_run::limits::Limits;
-use cp_slots::resolve::resolve;
-use cp_slots::resolved::Resolved;
-use cp_text::scan::scan;
-use cp_tree::parse::parse;
+use cp_check::check;
+use cp_explore::{Cutting, Gate, Job, NoGate, Report, explore, report};
+use cp_machine::Gates;
+use cp_run::Limits;
+use cp_slots::{Resolved, resolve};
+use cp_text::scan;
+use cp_tree::parse;
 use std::alloc::Global;
 use std::sync::atomic::{AtomicBool, AtomicU64, Ordering};
 use std::test::Fail;

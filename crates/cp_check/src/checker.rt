@@ -1,0 +1,105 @@
+//! The check of a whole program.
+
+ghost use Rattle.std.specs.Prelude.{◌≡◌, [], IfOk, IfErr, OnOk};
+ghost use Rattle.cp_scope.specs.Judged.{Judges, Finds, RefusesList};
+ghost use Rattle.cp_scope.specs.View.{scopes_of};
+ghost use Rattle.cp_tree.specs.TreeView.{tree_view};
+ghost use Rattle.cp_tree.specs.View.{program_view};
+ghost use Rattle.cp_check.specs.Faults as spec;
+ghost use Rattle.cp_check.specs.Faults.{faults_of};
+
+use crate::operand::Context;
+use crate::routine::{need_of, routines};
+use crate::statement::statements;
+use crate::system::program_parts;
+use cp_scope::{Census, CheckFault, Rule, Table, Use, broken};
+use cp_tree::{Program, Tree};
+use std::alloc::Global;
+
+/// A tree that breaks no rule.
+#[derive(Drop)]
+pub struct Checked {
+    tree: Tree,
+}
+
+impl Checked {
+    /// The tree that was checked.
+    pub fn tree(&self) -> &Tree
+        ensures { result.now ≡ self.now.tree }
+    {
+        &self.tree
+    }
+}
+
+/// The declarations of a program.
+#[tactic(auto, unfolding(crate::specs::Faults::declarations), using(crate::proofs::Judging::first_append))]
+fn declarations(alloc: Global, table: &mut Table, node: &Program) -> Result<(), CheckFault>
+    ensures faults { Finds (spec.declarations (scopes_of table.old) (program_view node.now)).faults result }
+    ensures scopes { OnOk result (scopes_of table.new ≡ (spec.declarations (scopes_of table.old) (program_view node.now)).scopes) }
+{
+    program_parts(alloc, table, &node.parts)?;
+    routines(alloc, table, None, &node.routines)
+}
+
+/// The program's declarations and its initial statement.
+#[tactic(auto, unfolding(crate::specs::Faults::opened), using(crate::proofs::Judging::first_append))]
+fn opened(alloc: Global, table: &mut Table, node: &Program) -> Result<Use, CheckFault>
+    ensures judged { Judges (λ u. u) (spec.opened (scopes_of table.old) (program_view node.now)).uses result }
+    ensures scopes { OnOk result (scopes_of table.new ≡ (spec.opened (scopes_of table.old) (program_view node.now)).scopes) }
+{
+    declarations(alloc, table, node)?;
+    let context = Context {
+        owner: None,
+        routine: None,
+    };
+    statements(alloc, table, context, &node.body.statements)
+}
+
+/// The processes that a program may have besides its own.
+const PROCESSES: u32 = 15;
+
+/// The components that a program may have.
+const COMPONENTS: u32 = 64;
+
+/// The permanent cells of a program.
+const PERMANENT: u32 = 8192;
+
+/// The frame cells of a process.
+const FRAME: u32 = 4096;
+
+/// Whether a program passes a limit.
+fn is_too_large(census: Census, uses: Use) -> bool
+    ensures { result ≡ spec.is_too_large census uses }
+{
+    PROCESSES < census.processes
+        || COMPONENTS < census.components
+        || PERMANENT < census.cells
+        || FRAME < census.need
+        || FRAME < need_of(uses)
+}
+
+#[tactic(auto, unfolding(crate::specs::Faults::faults_of))]
+fn whole(alloc: Global, tree: &Tree) -> Result<(), CheckFault>
+    ensures { Finds (faults_of (tree_view tree.now)) result }
+{
+    let mut table = Table::new(alloc)?;
+    let uses = opened(alloc, &mut table, &tree.program)?;
+    if is_too_large(table.census(), uses) {
+        return broken(tree.program.period, Rule::C20);
+    }
+    Ok(())
+}
+
+/// Whether a program breaks no rule, or the first that it breaks, in reading order.
+/// The tree comes back with each refusal.
+pub fn check(alloc: Global, tree: Tree) -> Result<Checked, (CheckFault, Tree)>
+    ensures accepted { IfOk result (λ c. faults_of (tree_view tree) ≡ []) }
+    ensures same { IfOk result (λ c. c.tree ≡ tree) }
+    ensures refused { IfErr result (λ e. RefusesList e.0 (faults_of (tree_view tree))) }
+    ensures back { IfErr result (λ e. e.1 ≡ tree) }
+{
+    match whole(alloc, &tree) {
+        Ok(()) => Ok(Checked { tree }),
+        Err(fault) => Err((fault, tree)),
+    }
+}

@@ -1,0 +1,33 @@
+use Rattle.std.proofs.Common.{◌≡◌, ◌<◌, ◌-◌, ◌∙◌, arith}
+use Rattle.cp_machine.specs.System.{machine_of}
+use Rattle.cp_run.specs.declared.outcome.Turn.TheVariants.{Over, Due, Goes}
+use Rattle.cp_run.specs.Slots.{slots}
+use Rattle.cp_run.proofs.Stretching.{step_on, used_up}
+use Rattle.cp_run.proofs.stretches.stretch.Goals as goal
+
+pub returns-in-Over-clause-node : goal.returns-in-Over-clause-node
+returns-in-Over-clause-node g c =
+    let lt : c.loop.counter < c.args.limits.steps = omega arith in
+    c.loop.invariant.node ∙ step_on (slots c.args.program.now c.args.limits.gates) c.args.limits.steps c.loop.counter (machine_of c.loop.state) (machine_of c.turn_after_step.new.state) c.loop.going (Over c.in-Over.kind) lt c.in-Over.ensures.state c.in-Over.ensures.turn
+
+pub returns-in-Due-clause-node : goal.returns-in-Due-clause-node
+returns-in-Due-clause-node g c =
+    let lt : c.loop.counter < c.args.limits.steps = omega arith in
+    c.loop.invariant.node ∙ step_on (slots c.args.program.now c.args.limits.gates) c.args.limits.steps c.loop.counter (machine_of c.loop.state) (machine_of c.turn_after_step.new.state) c.loop.going Due lt c.in-Due.ensures.state c.in-Due.ensures.turn
+
+pub loop-preserved : goal.loop-preserved
+loop-preserved g c =
+    let lt : c.loop.counter < c.args.limits.steps = omega arith in
+    record {
+      own = c.in-Goes.ensures.own;
+      ready = c.in-Goes.ensures.ready;
+      free = c.in-Goes.ensures.free;
+      node = c.loop.invariant.node ∙ step_on (slots c.args.program.now c.args.limits.gates) c.args.limits.steps c.loop.counter (machine_of c.loop.state) (machine_of c.turn_after_step.new.state) c.loop.going (Goes c.in-Goes.next) lt c.in-Goes.ensures.state c.in-Goes.ensures.turn;
+      steps = omega (arith, c.in-Goes.ensures.steps);
+      calls = c.loop.invariant.calls;
+    }
+
+pub returns-clause-node : goal.returns-clause-node
+returns-clause-node g c =
+    let done : c.args.limits.steps - c.loop.counter ≡ 0 = omega arith in
+    c.loop.invariant.node ∙ used_up (slots c.args.program.now c.args.limits.gates) (c.args.limits.steps - c.loop.counter) (machine_of c.loop.state) c.loop.going done

@@ -1,0 +1,300 @@
+//! Addresses of places, and values of expressions and sets. Parts are evaluated from left to right; the first run error counts.
+
+ghost use Rattle.std.specs.Prelude.{◌≡◌, ℕ, ◌*◌, ◌^◌, ◌<◌, ◌-ℤ◌, IfOk, IsTrue, unsigned_abs};
+ghost use Rattle.cp_store.specs.Answers.{answered};
+ghost use Rattle.cp_store.specs.Inside.{Begins, CanGoThrough, CanReach, CanRead, CanReadSet, HasCells};
+ghost use Rattle.cp_store.specs.Memory.{memory_of};
+ghost use Rattle.cp_store.specs.Places as spec;
+
+use crate::answer::Answer;
+use crate::arithmetic::{
+    absolute, calculated, combined, compared, is_true, negated, predecessor, ranged, successor,
+    truth,
+};
+use crate::error::ErrorName;
+use crate::memory::{Address, Frame, Room, cell};
+use crate::set::{self, SetValue};
+use cp_slots::{Expression, Index, Origin, Place, SetExpression};
+
+/// Where a variable begins.
+#[inline(always)]
+#[tactic(auto, using(crate::proofs::Reaches::onward_exact))]
+pub fn begun(origin: Origin, room: &Room, frame: &Frame) -> Address
+    requires { Begins room.now.references.items frame.now origin }
+    ensures { result ≡ spec.begun room.now.references.items frame.now origin }
+{
+    match origin {
+        Origin::Permanent(slot) => Address::Permanent(frame.own + slot),
+        Origin::Local(slot) => Address::Local(frame.base + slot),
+        Origin::Reference(number) => room.references[frame.references + number],
+    }
+}
+
+/// How far the element of an index is from the beginning of its array.
+#[tactic(auto, using(crate::proofs::Reaches::nearer))]
+pub fn distance(index: i16, low: i16, high: i16, size: usize) -> Result<usize, ErrorName>
+    requires { unsigned_abs (high -ℤ low) * size < 2 ^ 64 }
+    ensures { result ≡ spec.distance low high size index }
+{
+    let index = ranged(index, low, high)?;
+    let elements = index.abs_diff(low) as usize;
+    Ok(elements * size)
+}
+
+/// The address of a place.
+#[cycle(evaluate)]
+#[tactic(auto, using(crate::proofs::Reaches::begins, crate::proofs::Reaches::moves))]
+#[inline(always)]
+pub fn address(
+    place: &Place,
+    permanents: &[i16],
+    room: &Room,
+    frame: &Frame,
+) -> Result<Address, ErrorName>
+    requires { (cells : ℕ) × CanReach (memory_of permanents.now room.now) frame.now place.now cells }
+    ensures value { result ≡ spec.address_at (memory_of permanents.now room.now) frame.now place.now }
+    ensures cells { (cells : ℕ) → CanReach (memory_of permanents.now room.now) frame.now place.now cells → IfOk result (λ at. HasCells (memory_of permanents.now room.now) at cells) }
+{
+    let start = begun(place.origin, room, frame).moved(place.offset);
+    match place.indices.as_slice() {
+        [] => Ok(start),
+        indices => indexed(start, indices, permanents, room, frame),
+    }
+}
+
+// The address behind all indices: apart, since addresses go through memory.
+#[cycle(evaluate)]
+#[inline(never)]
+fn indexed(
+    start: Address,
+    indices: &[Index],
+    permanents: &[i16],
+    room: &Room,
+    frame: &Frame,
+) -> Result<Address, ErrorName>
+    requires { (cells : ℕ) × CanGoThrough (memory_of permanents.now room.now) frame.now start indices.now cells }
+    ensures { result ≡ spec.indexed_at (memory_of permanents.now room.now) frame.now start indices.now }
+{
+    through(start, indices, permanents, room, frame)
+}
+
+// The address behind all indices.
+#[cycle(evaluate)]
+#[inline(always)]
+#[tactic(auto, using(crate::proofs::Reaches::index_reads))]
+fn through(
+    start: Address,
+    indices: &[Index],
+    permanents: &[i16],
+    room: &Room,
+    frame: &Frame,
+) -> Result<Address, ErrorName>
+    requires { (cells : ℕ) × CanGoThrough (memory_of permanents.now room.now) frame.now start indices.now cells }
+    ensures { result ≡ spec.indexed_at (memory_of permanents.now room.now) frame.now start indices.now }
+{
+    let mut at = start;
+    for index in indices {
+        let value = evaluate(&index.at, permanents, room, frame)?;
+        at = at.moved(distance(value, index.low, index.high, index.size)?);
+    }
+    Ok(at)
+}
+
+/// The value of an expression.
+#[cycle(evaluate)]
+#[inline(always)]
+pub fn evaluate(
+    expression: &Expression,
+    permanents: &[i16],
+    room: &Room,
+    frame: &Frame,
+) -> Result<i16, ErrorName>
+    requires { CanRead (memory_of permanents.now room.now) frame.now expression.now }
+    ensures { result ≡ spec.value_at (memory_of permanents.now room.now) frame.now expression.now }
+{
+    match expression {
+        Expression::Number(value) => Ok(*value),
+        Expression::Load(place) => loaded(place, permanents, room, frame),
+        _ => answer(expression, permanents, room, frame).result(),
+    }
+}
+
+// The value of an expression, handed over in a register.
+#[cycle(evaluate)]
+#[inline(never)]
+fn answer(expression: &Expression, permanents: &[i16], room: &Room, frame: &Frame) -> Answer
+    requires { CanRead (memory_of permanents.now room.now) frame.now expression.now }
+    ensures { answered result ≡ spec.value_at (memory_of permanents.now room.now) frame.now expression.now }
+{
+    Answer::of(computed(expression, permanents, room, frame))
+}
+
+// The value of an expression by its parts.
+#[cycle(evaluate)]
+#[inline(always)]
+fn computed(
+    expression: &Expression,
+    permanents: &[i16],
+    room: &Room,
+    frame: &Frame,
+) -> Result<i16, ErrorName>
+    requires { CanRead (memory_of permanents.now room.now) frame.now expression.now }
+    ensures { result ≡ spec.value_at (memory_of permanents.now room.now) frame.now expression.now }
+{
+    match expression {
+        Expression::Number(value) => Ok(*value),
+        Expression::Load(place) => loaded(place, permanents, room, frame),
+        Expression::Negate(operand) => {
+            negated(answer(operand, permanents, room, frame).result()?)
+        }
+        Expression::Absolute(operand) => {
+            absolute(answer(operand, permanents, room, frame).result()?)
+        }
+        Expression::Not(operand) => {
+            let value = answer(operand, permanents, room, frame).result()?;
+            Ok(truth(!is_true(value)))
+        }
+        Expression::Successor(operand, last) => {
+            successor(answer(operand, permanents, room, frame).result()?, *last)
+        }
+        Expression::Predecessor(operand, first) => {
+            predecessor(answer(operand, permanents, room, frame).result()?, *first)
+        }
+        Expression::Character(operand) => {
+            let number = answer(operand, permanents, room, frame).result()?;
+            ranged(number, 0, 127)
+        }
+        Expression::Arithmetic(operator, left, right) => {
+            let left = evaluate(left, permanents, room, frame)?;
+            let right = evaluate(right, permanents, room, frame)?;
+            calculated(*operator, left, right)
+        }
+        Expression::Logic(operator, left, right) => {
+            let left = answer(left, permanents, room, frame).result()?;
+            let right = answer(right, permanents, room, frame).result()?;
+            Ok(combined(*operator, left, right))
+        }
+        Expression::Compare(relation, left, right) => {
+            let left = evaluate(left, permanents, room, frame)?;
+            let right = evaluate(right, permanents, room, frame)?;
+            Ok(compared(*relation, left, right))
+        }
+        Expression::SameSet(_, _, _) | Expression::Member(_, _) => {
+            set_test(expression, permanents, room, frame).result()
+        }
+        Expression::IsEmpty(queue) => {
+            let waits = loaded(queue, permanents, room, frame)?;
+            Ok(truth(!is_true(waits)))
+        }
+    }
+}
+
+// Whether two sets are the same, or an element belongs to a set: apart, since sets go through memory.
+#[cycle(evaluate)]
+#[inline(never)]
+fn set_test(expression: &Expression, permanents: &[i16], room: &Room, frame: &Frame) -> Answer
+    requires test { IsTrue (spec.is_set_test expression.now) }
+    requires reads { CanRead (memory_of permanents.now room.now) frame.now expression.now }
+    ensures { answered result ≡ spec.value_at (memory_of permanents.now room.now) frame.now expression.now }
+{
+    Answer::of(tested(expression, permanents, room, frame))
+}
+
+#[cycle(evaluate)]
+fn tested(
+    expression: &Expression,
+    permanents: &[i16],
+    room: &Room,
+    frame: &Frame,
+) -> Result<i16, ErrorName>
+    requires test { IsTrue (spec.is_set_test expression.now) }
+    requires reads { CanRead (memory_of permanents.now room.now) frame.now expression.now }
+    ensures { result ≡ spec.value_at (memory_of permanents.now room.now) frame.now expression.now }
+{
+    match expression {
+        Expression::SameSet(wanted, left, right) => {
+            let left = evaluate_set(left, permanents, room, frame)?;
+            let right = evaluate_set(right, permanents, room, frame)?;
+            Ok(set::compared(*wanted, left, right))
+        }
+        Expression::Member(element, whole) => {
+            let element = answer(element, permanents, room, frame).result()?;
+            let whole = evaluate_set(whole, permanents, room, frame)?;
+            Ok(truth(set::is_member(whole, element)))
+        }
+        Expression::Number(_)
+        | Expression::Load(_)
+        | Expression::Negate(_)
+        | Expression::Absolute(_)
+        | Expression::Not(_)
+        | Expression::Successor(_, _)
+        | Expression::Predecessor(_, _)
+        | Expression::Character(_)
+        | Expression::Arithmetic(_, _, _)
+        | Expression::Logic(_, _, _)
+        | Expression::Compare(_, _, _)
+        | Expression::IsEmpty(_) => unreachable!(),
+    }
+}
+
+// The value of the cell at a place.
+#[cycle(evaluate)]
+#[tactic(auto, using(crate::proofs::Reaches::begins, crate::proofs::Reaches::moves, crate::proofs::Reaches::reached))]
+#[inline(always)]
+fn loaded(place: &Place, permanents: &[i16], room: &Room, frame: &Frame) -> Result<i16, ErrorName>
+    requires { CanReach (memory_of permanents.now room.now) frame.now place.now 1 }
+    ensures { result ≡ spec.loaded (memory_of permanents.now room.now) (spec.address_at (memory_of permanents.now room.now) frame.now place.now) }
+{
+    match place.indices.as_slice() {
+        [] => {
+            let at = begun(place.origin, room, frame).moved(place.offset);
+            Ok(cell(permanents, room, at))
+        }
+        _ => element(place, permanents, room, frame).result(),
+    }
+}
+
+// The value of the cell at a place with indices: apart, so that places without them are read where they stand.
+#[cycle(evaluate)]
+#[tactic(auto, using(crate::proofs::Reaches::begins, crate::proofs::Reaches::moves))]
+#[inline(never)]
+fn element(place: &Place, permanents: &[i16], room: &Room, frame: &Frame) -> Answer
+    requires { CanReach (memory_of permanents.now room.now) frame.now place.now 1 }
+    ensures { answered result ≡ spec.loaded (memory_of permanents.now room.now) (spec.address_at (memory_of permanents.now room.now) frame.now place.now) }
+{
+    let start = begun(place.origin, room, frame).moved(place.offset);
+    match through(start, place.indices.as_slice(), permanents, room, frame) {
+        Ok(at) => Answer::Value(cell(permanents, room, at)),
+        Err(name) => Answer::failed(name),
+    }
+}
+
+/// The value of a set expression.
+#[cycle(evaluate)]
+pub fn evaluate_set(
+    expression: &SetExpression,
+    permanents: &[i16],
+    room: &Room,
+    frame: &Frame,
+) -> Result<SetValue, ErrorName>
+    requires { CanReadSet (memory_of permanents.now room.now) frame.now expression.now }
+    ensures { result ≡ spec.set_at (memory_of permanents.now room.now) frame.now expression.now }
+{
+    match expression {
+        SetExpression::Load(place) => {
+            let at = address(place, permanents, room, frame)?;
+            Ok(set::stored(permanents, room, at))
+        }
+        SetExpression::Empty => Ok(set::empty()),
+        SetExpression::With(whole, element) => {
+            let whole = evaluate_set(whole, permanents, room, frame)?;
+            let element = evaluate(element, permanents, room, frame)?;
+            set::with(whole, element)
+        }
+        SetExpression::Combine(operation, left, right) => {
+            let left = evaluate_set(left, permanents, room, frame)?;
+            let right = evaluate_set(right, permanents, room, frame)?;
+            Ok(set::combined(*operation, left, right))
+        }
+    }
+}
