@@ -1,0 +1,190 @@
+//! The legend of a program: what its numbers are called in the source.
+
+use crate::components::Components;
+use crate::reader::Reader;
+use crate::shape::{Shape, Shapes};
+use cp_slots::ComponentKind;
+use cp_tree::{SystemKind, Tree};
+use std::alloc::{AllocError, Global};
+
+/// A variable, by its first cell.
+#[derive(Drop)]
+pub struct Variable {
+    pub name: String,
+    pub slot: usize,
+    pub shape: Shape,
+}
+
+/// How an argument is passed.
+#[derive(Clone, Copy, Debug, PartialEq, Eq)]
+pub enum Passing {
+    Value,
+    Reference,
+}
+
+/// A parameter of a routine, by its first cell, or by its number among the `var` parameters.
+#[derive(Clone, Copy, Debug)]
+pub struct Parameter {
+    pub slot: usize,
+    pub shape: Shape,
+    pub passing: Passing,
+}
+
+/// A routine, or an initial statement, whose name is empty.
+#[derive(Drop)]
+pub struct Routine {
+    pub name: String,
+    pub parameters: Vec<Parameter>,
+    /// The parameters with values, the result and the local variables, by their cells of the frame.
+    pub variables: Vec<Variable>,
+}
+
+/// A system type, or the program, which has no kind and no name.
+#[derive(Drop)]
+pub struct SystemType {
+    pub name: String,
+    pub kind: Option<SystemKind>,
+}
+
+/// A component.
+#[derive(Drop)]
+pub struct Component {
+    /// As the source writes it; the program is `program`.
+    pub path: String,
+    pub kind: ComponentKind,
+    pub system: usize,
+    /// The monitor that it is, or the one that it is a part of.
+    pub monitor: Option<u8>,
+    /// The first of its permanent cells.
+    pub base: usize,
+}
+
+/// The names of a program, by the numbers of its tables.
+#[derive(Drop)]
+pub struct Legend {
+    pub shapes: Shapes,
+    /// The constants of all enumerations.
+    pub constants: Vec<String>,
+    pub systems: Vec<SystemType>,
+    /// The permanent variables of each system type.
+    pub permanents: Vec<Vec<Variable>>,
+    pub routines: Vec<Routine>,
+    pub components: Vec<Component>,
+}
+
+/// The legend of a tree that is accepted.
+pub fn legend_of(alloc: Global, tree: &Tree) -> Result<Legend, AllocError> {
+    let mut reader = Reader::new(alloc)?;
+    reader.program(alloc, &tree.program)?;
+    let mut components = Components::new(alloc);
+    components.add_program(alloc, &reader)?;
+    let mut permanents = Vec::new(alloc);
+    for owned in reader.owners {
+        permanents.push(owned.variables)?;
+    }
+    Ok(Legend {
+        shapes: reader.shapes,
+        constants: reader.constants,
+        systems: reader.systems,
+        permanents,
+        routines: reader.routines,
+        components: components.items,
+    })
+}
+
+impl Legend {
+    /// How many processes there are, the program included.
+    pub fn processes(&self) -> u8 {
+        let mut count = 0u8;
+        for component in &self.components {
+            if let ComponentKind::Process(_) = component.kind {
+                count = count.saturating_add(1);
+            }
+        }
+        count
+    }
+
+    /// How many monitors there are.
+    pub fn monitors(&self) -> u8 {
+        let mut count = 0u8;
+        for component in &self.components {
+            if let ComponentKind::Monitor(_) = component.kind {
+                count = count.saturating_add(1);
+            }
+        }
+        count
+    }
+
+    /// The path of a process.
+    pub fn process_name(&self, process: u8) -> &str {
+        match self.process(process) {
+            Some(component) => component.path.as_str(),
+            None => "",
+        }
+    }
+
+    /// The name of the type of a process; the program has none.
+    pub fn process_type(&self, process: u8) -> &str {
+        match self.process(process) {
+            Some(component) => self.type_name(component.system),
+            None => "",
+        }
+    }
+
+    /// The path of a monitor.
+    pub fn monitor_name(&self, monitor: u8) -> &str {
+        match self.monitor(monitor) {
+            Some(component) => component.path.as_str(),
+            None => "",
+        }
+    }
+
+    /// The name of the type of a monitor.
+    pub fn monitor_type(&self, monitor: u8) -> &str {
+        match self.monitor(monitor) {
+            Some(component) => self.type_name(component.system),
+            None => "",
+        }
+    }
+
+    /// The name of a routine.
+    pub fn routine_name(&self, routine: usize) -> &str {
+        match self.routines.get(routine) {
+            Some(routine) => routine.name.as_str(),
+            None => "",
+        }
+    }
+
+    fn type_name(&self, system: usize) -> &str {
+        match self.systems.get(system) {
+            Some(system) => system.name.as_str(),
+            None => "",
+        }
+    }
+
+    fn process(&self, process: u8) -> Option<&Component> {
+        self.components
+            .iter()
+            .find(|component| is_process(component.kind, process))
+    }
+
+    fn monitor(&self, monitor: u8) -> Option<&Component> {
+        self.components
+            .iter()
+            .find(|component| is_monitor(component.kind, monitor))
+    }
+}
+
+fn is_process(kind: ComponentKind, process: u8) -> bool {
+    match kind {
+        ComponentKind::Process(number) => number == process,
+        ComponentKind::Monitor(_) | ComponentKind::Class => false,
+    }
+}
+
+fn is_monitor(kind: ComponentKind, monitor: u8) -> bool {
+    match kind {
+        ComponentKind::Monitor(number) => number == monitor,
+        ComponentKind::Process(_) | ComponentKind::Class => false,
+    }
+}

@@ -1,0 +1,17 @@
+//! The names of a program beside its tables: components, routines and variables, as the source writes them.
+#![tactic(auto)]
+
+mod components;
+pub mod legend;
+mod members;
+mod places;
+mod reader;
+mod routines;
+mod scope;
+pub mod shape;
+pub mod value;
+mod values;
+
+pub use legend::{Component, Legend, Parameter, Passing, Routine, SystemType, Variable, legend_of};
+pub use shape::{Base, Range, Shape, Shapes};
+pub use value::{Member, Value};

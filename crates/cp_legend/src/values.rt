@@ -1,0 +1,153 @@
+//! Values, from cells.
+
+use crate::legend::Legend;
+use crate::shape::{ArrayShape, Base, Range, Shape};
+use crate::value::{Member, Value};
+use std::alloc::{AllocError, Global};
+
+/// The values that a cell of a set has a member or none of.
+const MEMBERS_OF_A_CELL: u8 = 16;
+
+/// Appends an ordinal value as the source writes it.
+pub fn push_ordinal(
+    constants: &[String],
+    text: &mut String,
+    base: Base,
+    number: i16,
+) -> Result<(), AllocError> {
+    match base {
+        Base::Integer => write!(text, "{number}"),
+        Base::Boolean => text.push_str(if number == 0 { "false" } else { "true" }),
+        Base::Character => push_character(text, number),
+        Base::Enumeration(first, _) => {
+            let place = usize::from(first).saturating_add(usize::from(number.unsigned_abs()));
+            match constants.get(place) {
+                Some(name) => text.push_str(name.as_str()),
+                None => write!(text, "{number}"),
+            }
+        }
+    }
+}
+
+fn push_character(text: &mut String, number: i16) -> Result<(), AllocError> {
+    match u8::try_from(number) {
+        Ok(code) if code > 32 && code < 127 && code != 39 => {
+            let character = char::from(code);
+            write!(text, "'{character}'")
+        }
+        _ => write!(text, "'(:{number}:)'"),
+    }
+}
+
+fn cell_at(cells: &[i16], at: usize) -> i16 {
+    cells.get(at).copied().unwrap_or(0)
+}
+
+impl Legend {
+    /// The value of a type whose cells begin at a place.
+    pub fn value(
+        &self,
+        alloc: Global,
+        shape: Shape,
+        cells: &[i16],
+        at: usize,
+    ) -> Result<Value, AllocError> {
+        self.value_below(alloc, shape, cells, at, self.shapes.count())
+    }
+
+    // The same for a type that holds only the first compound types of this number.
+    #[cycle(values)]
+    fn value_below(
+        &self,
+        alloc: Global,
+        shape: Shape,
+        cells: &[i16],
+        at: usize,
+        bound: usize,
+    ) -> Result<Value, AllocError> {
+        match shape {
+            Shape::Ordinal(range) => self.ordinal(alloc, range.base, cell_at(cells, at)),
+            Shape::Queue => {
+                let is_waited = cell_at(cells, at) != 0;
+                let text = if is_waited { "waited in" } else { "empty" };
+                Ok(Value::Named(String::from_str(alloc, text)?))
+            }
+            Shape::Set(range) => self.set(alloc, range, cells, at),
+            Shape::Array(number) | Shape::Record(number) => {
+                if number < bound {
+                    return self.compound(alloc, number, cells, at);
+                }
+                Ok(Value::List(Vec::new(alloc)))
+            }
+            Shape::System(_) => Ok(Value::Named(String::new(alloc))),
+        }
+    }
+
+    #[cycle(values)]
+    fn compound(
+        &self,
+        alloc: Global,
+        number: usize,
+        cells: &[i16],
+        at: usize,
+    ) -> Result<Value, AllocError> {
+        if let Some(array) = self.shapes.array(number) {
+            return self.elements(alloc, array, cells, at, number);
+        }
+        let mut members = Vec::new(alloc);
+        for field in self.shapes.fields(number) {
+            let at = at.saturating_add(field.offset);
+            members.push(Member {
+                name: field.name.clone()?,
+                value: self.value_below(alloc, field.shape, cells, at, number)?,
+            })?;
+        }
+        Ok(Value::Record(members))
+    }
+
+    #[cycle(values)]
+    fn elements(
+        &self,
+        alloc: Global,
+        array: ArrayShape,
+        cells: &[i16],
+        at: usize,
+        bound: usize,
+    ) -> Result<Value, AllocError> {
+        let mut items = Vec::new(alloc);
+        for place in 0..array.index.count() {
+            let further = place.saturating_mul(array.element_cells);
+            let at = at.saturating_add(further);
+            items.push(self.value_below(alloc, array.element, cells, at, bound)?)?;
+        }
+        Ok(Value::List(items))
+    }
+
+    fn ordinal(&self, alloc: Global, base: Base, number: i16) -> Result<Value, AllocError> {
+        if base == Base::Integer {
+            return Ok(Value::Integer(number));
+        }
+        let mut text = String::new(alloc);
+        push_ordinal(&self.constants, &mut text, base, number)?;
+        Ok(Value::Named(text))
+    }
+
+    // Bit number k of the cells is 1 where k is a member.
+    fn set(
+        &self,
+        alloc: Global,
+        range: Range,
+        cells: &[i16],
+        at: usize,
+    ) -> Result<Value, AllocError> {
+        let mut members = Vec::new(alloc);
+        for number in 0..128u8 {
+            let further = usize::from(number / MEMBERS_OF_A_CELL);
+            let cell = cell_at(cells, at.saturating_add(further)).cast_unsigned();
+            if (cell >> (number % MEMBERS_OF_A_CELL)) % 2 == 1 {
+                members.push(self.ordinal(alloc, range.base, i16::from(number))?)?;
+            }
+        }
+        Ok(Value::Set(members))
+    }
+}
