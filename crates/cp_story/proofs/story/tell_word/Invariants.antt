@@ -1,0 +1,18 @@
+use Rattle.std.proofs.Common.{◌≡◌, ◌≤◌, ◌-◌, ◌+◌, ◌*◌, ◌++◌, drop}
+use Rattle.cp_machine.specs.System.{machine_of, IsStateOf}
+use Rattle.cp_run.specs.Run.{run, run_from}
+use Rattle.cp_run.specs.Slots.{slots}
+use Rattle.cp_run.specs.Code.{node_of, further}
+use Rattle.cp_run.specs.Trace.{trace, trace_from}
+use Rattle.cp_story.specs.Told.{lines_of}
+use Rattle.cp_story.proofs.story.tell_word.Given as goal
+
+abbrev pub invariant-loop-place : goal.invariant-loop-place
+invariant-loop-place g l =
+    record {
+      own : IsStateOf l.program l.state;
+      within : l.place ≤ l.limits.choices;
+      same : run (slots l.program l.limits.gates) l.limits.choices l.limits.steps l.word ≡ further l.place (run_from (slots l.program l.limits.gates) l.limits.steps (l.limits.choices - l.place) (drop l.place l.word) (node_of l.halt (machine_of l.state)));
+      lines : trace (slots l.program l.limits.gates) l.limits.choices l.limits.steps l.word ≡ (lines_of l.events.items) ++ trace_from (slots l.program l.limits.gates) l.limits.steps (l.limits.choices - l.place) (drop l.place l.word) (node_of l.halt (machine_of l.state));
+      ticks : l.ticks ≤ l.fn.ticks + (l.place + 1) * l.limits.steps;
+    }

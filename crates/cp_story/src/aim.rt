@@ -1,0 +1,88 @@
+//! What a process is about to do.
+
+ghost use Rattle.std.specs.Prelude.{◌≡◌, ◌∷◌, ◌<◌, ℕ, IsTrue, Some, drop, length, option_copied};
+ghost use Rattle.cp_slots.specs.Tables.{Tables, item_at};
+ghost use Rattle.cp_machine.specs.Fits.{IsStateOf, IsTaken};
+ghost use Rattle.cp_machine.specs.Machine.{is_ready, machine_of, thread_at, under};
+ghost use Rattle.cp_machine.specs.Reach.{CanReach};
+ghost use Rattle.cp_machine.specs.Stack.{above};
+ghost use Rattle.cp_story.specs.Aimed as spec;
+
+use cp_machine::{Entry, State};
+use cp_slots::{Action, Item, Place, Resolved};
+use cp_store::{Address, address};
+
+/// The statement that a process comes to.
+#[derive(Clone, Copy, Debug)]
+pub struct Aim {
+    /// The line of its first token, where it is no end of a call.
+    pub line: Option<u32>,
+    /// The cell of the queue that it continues.
+    pub queue: Option<usize>,
+}
+
+/// The aim of who is let in.
+pub const NONE: Aim = Aim {
+    line: None,
+    queue: None,
+};
+
+// The topmost entry of a process.
+fn top_of(state: &State, pid: u8) -> Option<&Entry>
+    requires { pid < length state.now.processes.items }
+    ensures { (thread_at (machine_of state.now).threads pid).stack ≡ above (option_copied result) (drop 1 (thread_at (machine_of state.now).threads pid).stack) }
+{
+    let process = &state.processes[pid as usize];
+    process.stack.last()
+}
+
+/// What a process is about to do.
+pub fn aim_of(program: &Resolved, state: &State, pid: u8) -> Aim
+    requires own { IsStateOf program.now state.now }
+    requires pid { pid < length state.now.processes.items }
+    requires ready { IsTrue (is_ready (machine_of state.now) pid) }
+    ensures { result.line ≡ spec.line_of_top program.now (thread_at (machine_of state.now).threads pid).stack }
+{
+    match top_of(state, pid) {
+        Some(&Entry::Rest(at)) => aim_at(program, state, pid, at),
+        Some(&Entry::Successor(..)) | Some(&Entry::Return(..)) | Some(&Entry::InitEnd(..)) | None =>
+            NONE,
+    }
+}
+
+// The aim where an item is the topmost entry.
+fn aim_at(program: &Resolved, state: &State, pid: u8, at: usize) -> Aim
+    requires own { IsStateOf program.now state.now }
+    requires pid { pid < length state.now.processes.items }
+    requires ready { IsTrue (is_ready (machine_of state.now) pid) }
+    requires top { (thread_at (machine_of state.now).threads pid).stack ≡ Entry.Rest at ∷ under (machine_of state.now) pid }
+    ensures { result.line ≡ Some (item_at program.now at).line }
+{
+    let item = program.item(at);
+    Aim {
+        line: Some(item.line),
+        queue: continued(state, pid, item),
+    }
+}
+
+// The cell of the queue that an item continues.
+fn continued(state: &State, pid: u8, item: &Item) -> Option<usize>
+    requires { (r : Tables) × (at : ℕ) × IsTaken r state.now pid at item.now }
+{
+    match &item.action {
+        Action::Continue(place) => queue_cell(state, pid, place),
+        _ => None,
+    }
+}
+
+// The permanent cell of a queue; `None` where the machine would stop.
+fn queue_cell(state: &State, pid: u8, place: &Place) -> Option<usize>
+    requires pid { pid < length state.now.processes.items }
+    requires reach { CanReach (machine_of state.now) pid place.now 1 }
+{
+    let process = &state.processes[pid as usize];
+    match address(place, &state.permanents, &process.room, &process.frame) {
+        Ok(Address::Permanent(cell)) => Some(cell),
+        _ => None,
+    }
+}

@@ -1,0 +1,338 @@
+//! A story as JSON.
+
+use crate::event::{Change, Choice, Event, Happening, OpenCall};
+use crate::story::{Story, Wait};
+use crate::words::{error_words, kind_words, output_words, push_shown};
+use cp_legend::{Legend, Member, Value as Written};
+use cp_machine::{Shown, Status};
+use cp_run::{OutcomeKind, RunEnd};
+use serde_json::{Map, Value};
+use std::alloc::{AllocError, Global};
+
+/// An object that is built member by member.
+#[derive(Drop)]
+struct Object {
+    alloc: Global,
+    members: Map<String, Value>,
+}
+
+impl Object {
+    fn new(alloc: Global) -> Object {
+        Object {
+            alloc,
+            members: Map::new(alloc),
+        }
+    }
+
+    fn put(&mut self, name: &str, value: Value) -> Result<(), AllocError> {
+        self.members
+            .insert(String::from_str(self.alloc, name)?, value)?;
+        Ok(())
+    }
+
+    fn text(&mut self, name: &str, text: &str) -> Result<(), AllocError> {
+        let text = String::from_str(self.alloc, text)?;
+        self.put(name, Value::String(text))
+    }
+
+    fn number(&mut self, name: &str, number: u64) -> Result<(), AllocError> {
+        self.put(name, Value::from(number))
+    }
+
+    fn done(self) -> Value {
+        Value::Object(self.members)
+    }
+}
+
+/// The story as one JSON object: processes, monitors, events, the end, and the source.
+pub fn json(
+    alloc: Global,
+    legend: &Legend,
+    story: &Story,
+    word: &[u8],
+    source: &[String],
+) -> Result<String, AllocError> {
+    let mut whole = Object::new(alloc);
+    whole.put("processes", processes(alloc, legend)?)?;
+    whole.put("monitors", monitors(alloc, legend)?)?;
+    whole.put("events", events(alloc, legend, &story.events)?)?;
+    whole.put("end", end(alloc, story)?)?;
+    if let RunEnd::Ended { outcome, used } = &story.end {
+        whole.put("used", numbers(alloc, word.get(..*used).unwrap_or(word))?)?;
+        let output = output_words(alloc, legend, outcome.output.as_slice())?;
+        whole.put("output", Value::String(output))?;
+    }
+    whole.put("final", waits(alloc, legend, &story.waits)?)?;
+    let mut lines = Vec::new(alloc);
+    for line in source {
+        lines.push(Value::String(line.clone()?))?;
+    }
+    whole.put("source", Value::Array(lines))?;
+    let mut text = whole.done().to_string(alloc)?;
+    text.push('\n')?;
+    Ok(text)
+}
+
+fn numbers(alloc: Global, numbers: &[u8]) -> Result<Value, AllocError> {
+    let mut items = Vec::new(alloc);
+    for number in numbers {
+        items.push(Value::from(u64::from(*number)))?;
+    }
+    Ok(Value::Array(items))
+}
+
+fn named(alloc: Global, name: &str, type_name: &str) -> Result<Value, AllocError> {
+    let mut object = Object::new(alloc);
+    object.text("name", name)?;
+    object.text("type", type_name)?;
+    Ok(object.done())
+}
+
+fn processes(alloc: Global, legend: &Legend) -> Result<Value, AllocError> {
+    let mut items = Vec::new(alloc);
+    for process in 0..legend.processes() {
+        let name = legend.process_name(process);
+        items.push(named(alloc, name, legend.process_type(process))?)?;
+    }
+    Ok(Value::Array(items))
+}
+
+fn monitors(alloc: Global, legend: &Legend) -> Result<Value, AllocError> {
+    let mut items = Vec::new(alloc);
+    for monitor in 0..legend.monitors() {
+        let name = legend.monitor_name(monitor);
+        items.push(named(alloc, name, legend.monitor_type(monitor))?)?;
+    }
+    Ok(Value::Array(items))
+}
+
+fn events(alloc: Global, legend: &Legend, events: &[Event]) -> Result<Value, AllocError> {
+    let mut items = Vec::new(alloc);
+    for event in events {
+        items.push(event_object(alloc, legend, event)?)?;
+    }
+    Ok(Value::Array(items))
+}
+
+fn event_object(alloc: Global, legend: &Legend, event: &Event) -> Result<Value, AllocError> {
+    let mut object = Object::new(alloc);
+    object.number("process", u64::from(event.plain.process))?;
+    if let Some(line) = event.line {
+        object.number("line", u64::from(line))?;
+    }
+    if let Some(choice) = &event.choice {
+        object.put("choice", choice_object(alloc, choice)?)?;
+    }
+    put_happening(alloc, legend, &mut object, &event.happening)?;
+    object.put("woken", numbers(alloc, event.woken.as_slice())?)?;
+    object.put("let_in", numbers(alloc, event.let_in.as_slice())?)?;
+    object.put("status", statuses(alloc, legend, &event.statuses)?)?;
+    object.put("holders", holders(alloc, event.plain.holders.as_slice())?)?;
+    object.put("changes", changes(alloc, legend, &event.changes)?)?;
+    Ok(object.done())
+}
+
+fn choice_object(alloc: Global, choice: &Choice) -> Result<Value, AllocError> {
+    let mut object = Object::new(alloc);
+    object.put("options", numbers(alloc, choice.options.as_slice())?)?;
+    object.number("number", u64::from(choice.number))?;
+    if choice.at_gate {
+        object.put("gate", Value::Bool(true))?;
+    }
+    Ok(object.done())
+}
+
+fn put_call(legend: &Legend, object: &mut Object, call: OpenCall) -> Result<(), AllocError> {
+    object.number("monitor", u64::from(call.monitor))?;
+    object.text("routine", legend.routine_name(call.routine))
+}
+
+fn put_happening(
+    alloc: Global,
+    legend: &Legend,
+    object: &mut Object,
+    happening: &Happening,
+) -> Result<(), AllocError> {
+    match happening {
+        Happening::Enter {
+            call,
+            arguments,
+            ..
+        } => {
+            object.text("event", "enter")?;
+            put_call(legend, object, *call)?;
+            object.put("arguments", values(alloc, arguments)?)
+        }
+        Happening::Leave(call) => {
+            object.text("event", "leave")?;
+            put_call(legend, object, *call)
+        }
+        Happening::Delay(queue, call) => {
+            object.text("event", "delay")?;
+            put_call(legend, object, *call)?;
+            object.text("queue", queue.name.as_str())
+        }
+        Happening::Continue(queue, call) => {
+            object.text("event", "continue")?;
+            put_call(legend, object, *call)?;
+            object.text("queue", queue.name.as_str())
+        }
+        Happening::Start(process) => {
+            object.text("event", "init")?;
+            object.text("target", legend.process_name(*process))?;
+            object.number("target_process", u64::from(*process))
+        }
+        Happening::Display(shown) => {
+            object.text("event", "display")?;
+            object.put("value", shown_value(alloc, legend, *shown)?)
+        }
+        Happening::End => object.text("event", "end"),
+        Happening::Admit(call) => {
+            object.text("event", "admit")?;
+            put_call(legend, object, *call)
+        }
+    }
+}
+
+fn shown_value(alloc: Global, legend: &Legend, shown: Shown) -> Result<Value, AllocError> {
+    if let Shown::Integer(number) = shown {
+        return Ok(Value::from(i64::from(number)));
+    }
+    let mut text = String::new(alloc);
+    push_shown(legend, &mut text, shown)?;
+    Ok(Value::String(text))
+}
+
+#[cycle(value_json)]
+fn value(alloc: Global, written: &Written) -> Result<Value, AllocError> {
+    match written {
+        Written::Integer(number) => Ok(Value::from(i64::from(*number))),
+        Written::Named(name) => Ok(Value::String(name.clone()?)),
+        Written::List(items) | Written::Set(items) => values(alloc, items),
+        Written::Record(members) => record(alloc, members),
+    }
+}
+
+#[cycle(value_json)]
+fn values(alloc: Global, items: &[Written]) -> Result<Value, AllocError> {
+    let mut values = Vec::new(alloc);
+    for item in items {
+        values.push(value(alloc, item)?)?;
+    }
+    Ok(Value::Array(values))
+}
+
+#[cycle(value_json)]
+fn record(alloc: Global, members: &[Member]) -> Result<Value, AllocError> {
+    let mut object = Object::new(alloc);
+    for member in members {
+        object.put(member.name.as_str(), value(alloc, &member.value)?)?;
+    }
+    Ok(object.done())
+}
+
+fn put_status(
+    alloc: Global,
+    legend: &Legend,
+    object: &mut Object,
+    status: Status,
+) -> Result<(), AllocError> {
+    match status {
+        Status::Unstarted => object.text("is", "unstarted"),
+        Status::Ready => object.text("is", "ready"),
+        Status::AtGate(monitor) => {
+            object.text("is", "gate")?;
+            object.number("monitor", u64::from(monitor))
+        }
+        Status::Delayed(cell) => {
+            object.text("is", "delayed")?;
+            object.number("monitor", u64::from(legend.monitor_of(cell).unwrap_or(0)))?;
+            let name = legend.permanent_name(alloc, cell, 1)?;
+            object.text("queue", name.as_str())
+        }
+        Status::Ended => object.text("is", "ended"),
+    }
+}
+
+fn statuses(alloc: Global, legend: &Legend, statuses: &[Status]) -> Result<Value, AllocError> {
+    let mut items = Vec::new(alloc);
+    for status in statuses {
+        let mut object = Object::new(alloc);
+        put_status(alloc, legend, &mut object, *status)?;
+        items.push(object.done())?;
+    }
+    Ok(Value::Array(items))
+}
+
+fn holders(alloc: Global, holders: &[Option<u8>]) -> Result<Value, AllocError> {
+    let mut items = Vec::new(alloc);
+    for holder in holders {
+        items.push(match holder {
+            Some(process) => Value::from(u64::from(*process)),
+            None => Value::Null,
+        })?;
+    }
+    Ok(Value::Array(items))
+}
+
+fn changes(alloc: Global, legend: &Legend, changes: &[Change]) -> Result<Value, AllocError> {
+    let mut items = Vec::new(alloc);
+    for change in changes {
+        let mut object = Object::new(alloc);
+        object.number("monitor", u64::from(change.monitor))?;
+        object.text("name", change.name.as_str())?;
+        object.put("value", value(alloc, &change.value)?)?;
+        items.push(object.done())?;
+    }
+    Ok(Value::Array(items))
+}
+
+fn waits(alloc: Global, legend: &Legend, waits: &[Wait]) -> Result<Value, AllocError> {
+    let mut items = Vec::new(alloc);
+    for wait in waits {
+        let mut object = Object::new(alloc);
+        object.number("process", u64::from(wait.process))?;
+        put_status(alloc, legend, &mut object, wait.status)?;
+        object.put("inside", numbers(alloc, &wait.inside)?)?;
+        items.push(object.done())?;
+    }
+    Ok(Value::Array(items))
+}
+
+fn end(alloc: Global, story: &Story) -> Result<Value, AllocError> {
+    let mut object = Object::new(alloc);
+    match &story.end {
+        RunEnd::Ended { outcome, .. } => {
+            object.text("is", "ended")?;
+            put_kind(&mut object, outcome.kind)?;
+        }
+        RunEnd::Wants { ready } => {
+            object.text("is", "wants")?;
+            object.put("ready", numbers(alloc, ready.as_slice())?)?;
+        }
+        RunEnd::NotReady { place } => {
+            object.text("is", "not-ready")?;
+            object.number("place", *place as u64)?;
+        }
+    }
+    if let Some(choice) = &story.last_choice {
+        object.put("choice", choice_object(alloc, choice)?)?;
+    }
+    Ok(object.done())
+}
+
+fn put_kind(object: &mut Object, kind: OutcomeKind) -> Result<(), AllocError> {
+    object.text("kind", kind_words(kind))?;
+    match kind {
+        OutcomeKind::RunError {
+            name,
+            process,
+            line,
+        } => {
+            object.text("name", error_words(name))?;
+            object.number("process", u64::from(process))?;
+            object.number("line", u64::from(line))
+        }
+        _ => Ok(()),
+    }
+}

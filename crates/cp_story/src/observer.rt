@@ -1,0 +1,269 @@
+//! What is remembered from one event to the next.
+
+ghost use Rattle.std.specs.Prelude.{◌≡◌, IfOk};
+
+use crate::aim::Aim;
+use crate::changes::changes;
+use crate::event::{Choice, Event, Happening, OpenCall, Queue};
+use crate::happening::arguments;
+use arrayvec::ArrayVec;
+use cp_legend::Legend;
+use cp_machine::{Kernel, Shown, State, Status};
+use cp_run::{TraceEvent, TraceLine};
+use std::alloc::{AllocError, Global};
+
+/// In place of a call where none is open.
+const NO_CALL: OpenCall = OpenCall {
+    monitor: 0,
+    routine: 0,
+    line: 0,
+};
+
+/// The state as the last event left it.
+#[derive(Drop)]
+pub struct Observer<'a> {
+    legend: &'a Legend,
+    /// The choice that was taken, where no event has come since.
+    pub choice: Option<Choice>,
+    /// The open calls of monitors of each process, the innermost last.
+    calls: Vec<Vec<OpenCall>>,
+    statuses: Vec<Status>,
+    permanents: Vec<i16>,
+}
+
+impl<'a> Observer<'a> {
+    /// Begins to observe a state.
+    pub fn new(
+        alloc: Global,
+        legend: &'a Legend,
+        state: &State,
+    ) -> Result<Observer<'a>, AllocError> {
+        let mut calls = Vec::new(alloc);
+        for _ in 0..state.processes.len() {
+            calls.push(Vec::new(alloc))?;
+        }
+        Ok(Observer {
+            legend,
+            choice: None,
+            calls,
+            statuses: statuses_of(alloc, state)?,
+            permanents: Vec::from_slice(alloc, &state.permanents)?,
+        })
+    }
+
+    /// The innermost open call of a process.
+    pub fn call_of(&self, process: u8) -> Option<OpenCall> {
+        self.calls.get(process as usize)?.last().copied()
+    }
+
+    /// The event that led to a state, by its line of the trace.
+    pub fn observe(
+        &mut self,
+        alloc: Global,
+        state: &State,
+        plain: TraceLine,
+        aim: Aim,
+    ) -> Result<Event, AllocError>
+        ensures { IfOk result (λ e. e.plain ≡ plain) }
+    {
+        let process = plain.process;
+        let happening = self.happening(alloc, state, process, plain.event, aim)?;
+        let line = line_of(&happening, aim);
+        let woken = self.gone_on(state, process, Waited::Delayed);
+        let let_in = self.gone_on(state, process, Waited::AtGate);
+        let changes = changes(alloc, self.legend, &self.permanents, &state.permanents)?;
+        let choice = self.choice.take();
+        self.remember(alloc, state)?;
+        Ok(Event {
+            plain,
+            choice,
+            line,
+            happening,
+            woken,
+            let_in,
+            statuses: statuses_of(alloc, state)?,
+            changes,
+        })
+    }
+
+    fn remember(&mut self, alloc: Global, state: &State) -> Result<(), AllocError> {
+        self.statuses = statuses_of(alloc, state)?;
+        self.permanents = Vec::from_slice(alloc, &state.permanents)?;
+        Ok(())
+    }
+
+    fn happening(
+        &mut self,
+        alloc: Global,
+        state: &State,
+        process: u8,
+        event: TraceEvent,
+        aim: Aim,
+    ) -> Result<Happening, AllocError> {
+        Ok(match event {
+            TraceEvent::Kernel(Kernel::Enter) => self.enter(alloc, state, process, aim)?,
+            TraceEvent::Kernel(Kernel::Leave) => Happening::Leave(self.close_call(process)),
+            TraceEvent::Kernel(Kernel::Delay) => {
+                let queue = self.delayed(alloc, state, process)?;
+                Happening::Delay(queue, self.call_of(process).unwrap_or(NO_CALL))
+            }
+            TraceEvent::Kernel(Kernel::Continue) => {
+                let queue = self.continued(alloc, state, aim)?;
+                Happening::Continue(queue, self.close_call(process))
+            }
+            TraceEvent::Kernel(Kernel::StartProcess) => Happening::Start(self.started(state)),
+            TraceEvent::Kernel(Kernel::Display) => Happening::Display(last_shown(state)),
+            TraceEvent::End => Happening::End,
+            TraceEvent::Admit => Happening::Admit(self.call_of(process).unwrap_or(NO_CALL)),
+        })
+    }
+
+    fn enter(
+        &mut self,
+        alloc: Global,
+        state: &State,
+        process: u8,
+        aim: Aim,
+    ) -> Result<Happening, AllocError> {
+        let call = self.begun(state, process, aim.line.unwrap_or(0));
+        if let Some(calls) = self.calls.get_mut(process as usize) {
+            calls.push(call)?;
+        }
+        Ok(Happening::Enter {
+            call,
+            arguments: arguments(alloc, self.legend, state, process)?,
+            waits: is_at_gate(status_of(state, process)),
+        })
+    }
+
+    // The call that a process has just begun.
+    fn begun(&self, state: &State, process: u8, line: u32) -> OpenCall {
+        let Some(process) = state.processes.get(process as usize) else {
+            return NO_CALL;
+        };
+        let monitor = match self.legend.components.get(process.frame.component) {
+            Some(component) => component.monitor.unwrap_or(0),
+            None => 0,
+        };
+        OpenCall {
+            monitor,
+            routine: process.frame.routine,
+            line,
+        }
+    }
+
+    fn close_call(&mut self, process: u8) -> OpenCall {
+        match self.calls.get_mut(process as usize) {
+            Some(calls) => calls.pop().unwrap_or(NO_CALL),
+            None => NO_CALL,
+        }
+    }
+
+    // The queue that a process is delayed in.
+    fn delayed(&self, alloc: Global, state: &State, process: u8) -> Result<Queue, AllocError> {
+        let cell = match status_of(state, process) {
+            Status::Delayed(cell) => Some(cell),
+            _ => None,
+        };
+        self.queue(alloc, cell)
+    }
+
+    // The queue that was continued: the one that somebody left, or that the statement names.
+    fn continued(&self, alloc: Global, state: &State, aim: Aim) -> Result<Queue, AllocError> {
+        let mut left = None;
+        for (number, before) in self.statuses.iter().enumerate() {
+            if let (Status::Delayed(cell), Status::Ready) = (*before, nth_status(state, number)) {
+                left = Some(cell);
+            }
+        }
+        self.queue(alloc, left.or(aim.queue))
+    }
+
+    fn queue(&self, alloc: Global, cell: Option<usize>) -> Result<Queue, AllocError> {
+        match cell {
+            Some(cell) => Ok(Queue {
+                monitor: self.legend.monitor_of(cell).unwrap_or(0),
+                name: self.legend.permanent_name(alloc, cell, 1)?,
+            }),
+            None => Ok(Queue {
+                monitor: 0,
+                name: String::new(alloc),
+            }),
+        }
+    }
+
+    // The process that was not started before.
+    fn started(&self, state: &State) -> u8 {
+        let mut found = 0;
+        for (number, before) in self.statuses.iter().enumerate() {
+            if *before == Status::Unstarted && nth_status(state, number) != Status::Unstarted {
+                found = number;
+            }
+        }
+        u8::try_from(found).unwrap_or(0)
+    }
+
+    // The processes other than one that waited so and are ready now.
+    fn gone_on(&self, state: &State, process: u8, waited: Waited) -> ArrayVec<u8, 16> {
+        let mut gone = ArrayVec::new();
+        for (number, before) in self.statuses.iter().enumerate() {
+            let has_waited = match waited {
+                Waited::AtGate => is_at_gate(*before),
+                Waited::Delayed => is_delayed(*before),
+            };
+            let is_other = number != usize::from(process);
+            if has_waited && is_other && nth_status(state, number).is_ready() && !gone.is_full() {
+                gone.push(u8::try_from(number).unwrap_or(0));
+            }
+        }
+        gone
+    }
+}
+
+/// How a process waited.
+#[derive(Clone, Copy)]
+enum Waited {
+    AtGate,
+    Delayed,
+}
+
+fn is_at_gate(status: Status) -> bool {
+    matches!(status, Status::AtGate(_))
+}
+
+fn is_delayed(status: Status) -> bool {
+    matches!(status, Status::Delayed(_))
+}
+
+fn status_of(state: &State, process: u8) -> Status {
+    nth_status(state, process as usize)
+}
+
+fn nth_status(state: &State, number: usize) -> Status {
+    match state.processes.get(number) {
+        Some(process) => process.status,
+        None => Status::Unstarted,
+    }
+}
+
+/// What each process does.
+pub fn statuses_of(alloc: Global, state: &State) -> Result<Vec<Status>, AllocError> {
+    let mut statuses = Vec::new(alloc);
+    for process in &state.processes {
+        statuses.push(process.status)?;
+    }
+    Ok(statuses)
+}
+
+fn last_shown(state: &State) -> Shown {
+    state.output().last().copied().unwrap_or(Shown::Integer(0))
+}
+
+// The line of what happened: a return stands where the call does.
+fn line_of(happening: &Happening, aim: Aim) -> Option<u32> {
+    match happening {
+        Happening::Leave(call) => Some(call.line),
+        Happening::End | Happening::Admit(_) => None,
+        _ => aim.line,
+    }
+}

@@ -1,0 +1,108 @@
+//! A story as lines of text.
+
+use crate::event::{Change, Choice, Event};
+use crate::story::Story;
+use crate::tables::{Row, push_rows};
+use crate::words::{Stop, happening_words, push_process, stop_words, wait_words};
+use cp_legend::Legend;
+use std::alloc::{AllocError, Global};
+
+/// The lines of a story: one for each event, one for each process that waits, and `end`, the last line of the plain trace.
+pub fn text(
+    alloc: Global,
+    legend: &Legend,
+    story: &Story,
+    end: &str,
+) -> Result<String, AllocError> {
+    let mut text = String::new(alloc);
+    let mut rows = Vec::new(alloc);
+    for event in &story.events {
+        rows.push(event_row(alloc, legend, event)?)?;
+    }
+    if let Some(stop) = stop_words(story) {
+        rows.push(stop_row(alloc, legend, story, stop)?)?;
+    }
+    push_rows(alloc, &mut text, &rows)?;
+    for wait in &story.waits {
+        text.push_str(wait_words(alloc, legend, wait)?.as_str())?;
+        text.push('\n')?;
+    }
+    text.push_str(end)?;
+    Ok(text)
+}
+
+fn event_row(alloc: Global, legend: &Legend, event: &Event) -> Result<Row, AllocError> {
+    let mut cells = Vec::new(alloc);
+    cells.push(choice_text(alloc, &event.choice)?)?;
+    cells.push(process_text(alloc, legend, Some(event.plain.process))?)?;
+    cells.push(line_text(alloc, event.line)?)?;
+    cells.push(happening_words(alloc, legend, event)?)?;
+    cells.push(changes_text(alloc, legend, &event.changes)?)?;
+    Ok(Row::new(cells))
+}
+
+fn stop_row(alloc: Global, legend: &Legend, story: &Story, stop: Stop) -> Result<Row, AllocError> {
+    let mut cells = Vec::new(alloc);
+    cells.push(choice_text(alloc, &story.last_choice)?)?;
+    cells.push(process_text(alloc, legend, stop.process)?)?;
+    cells.push(line_text(alloc, stop.line)?)?;
+    cells.push(String::from_str(alloc, stop.words)?)?;
+    Ok(Row::new(cells))
+}
+
+/// A choice as `0 of 01`: the number taken, and the numbers that could be.
+pub fn choice_text(alloc: Global, choice: &Option<Choice>) -> Result<String, AllocError> {
+    let mut text = String::new(alloc);
+    let Some(choice) = choice else {
+        return Ok(text);
+    };
+    let number = choice.number;
+    write!(text, "{number} of ")?;
+    let is_short = choice.options.as_slice().iter().all(|option| *option < 10);
+    let mut is_first = true;
+    for option in choice.options.as_slice() {
+        if !is_short && !is_first {
+            text.push(',')?;
+        }
+        is_first = false;
+        write!(text, "{option}")?;
+    }
+    Ok(text)
+}
+
+fn process_text(alloc: Global, legend: &Legend, process: Option<u8>) -> Result<String, AllocError> {
+    let mut text = String::new(alloc);
+    if let Some(process) = process {
+        push_process(legend, &mut text, process)?;
+    }
+    Ok(text)
+}
+
+fn line_text(alloc: Global, line: Option<u32>) -> Result<String, AllocError> {
+    match line {
+        Some(line) => format!(in alloc; "line {line}"),
+        None => Ok(String::new(alloc)),
+    }
+}
+
+/// What changed, as `forks[1].taken=true`.
+pub fn changes_text(
+    alloc: Global,
+    legend: &Legend,
+    changes: &[Change],
+) -> Result<String, AllocError> {
+    let mut text = String::new(alloc);
+    let mut is_first = true;
+    for change in changes {
+        if !is_first {
+            text.push_str("  ")?;
+        }
+        is_first = false;
+        text.push_str(legend.monitor_name(change.monitor))?;
+        text.push('.')?;
+        text.push_str(change.name.as_str())?;
+        text.push('=')?;
+        change.value.push_to(&mut text)?;
+    }
+    Ok(text)
+}
