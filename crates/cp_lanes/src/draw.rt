@@ -1,0 +1,194 @@
+//! Lanes: lives, stays, waits and holds.
+
+use crate::labels::cut_plain;
+use crate::palette::{RED, hue_of};
+use crate::pictures::Subject;
+use crate::plan::{Plan, row_middle, rows_end};
+use crate::spans::{Hold, Life, Pause, Spans, Stay};
+use crate::svg::{Block, Style, Svg};
+use cp_run::{OutcomeKind, RunEnd};
+use cp_story::{Story, push_call, stop_words};
+use std::alloc::{AllocError, Global};
+
+/// How many monitors a process is drawn inside of at once.
+const DEEPEST: usize = 16;
+
+/// Draws what lasts longer than an event.
+pub fn spans_drawn(
+    alloc: Global,
+    svg: &mut Svg,
+    subject: Subject<'_>,
+    plan: &Plan,
+    spans: &Spans,
+) -> Result<(), AllocError> {
+    for life in &spans.lives {
+        draw_life(svg, plan, life)?;
+    }
+    for depth in 0..DEEPEST {
+        for stay in &spans.stays {
+            if stay.depth == depth {
+                draw_stay(alloc, svg, subject, plan, stay)?;
+            }
+        }
+    }
+    let is_stuck = all_wait(subject.story);
+    for pause in &spans.pauses {
+        draw_pause(alloc, svg, subject, plan, pause, is_stuck)?;
+    }
+    for hold in &spans.holds {
+        draw_hold(alloc, svg, subject, plan, hold)?;
+    }
+    Ok(())
+}
+
+/// Whether nobody is left who could wake the others.
+pub fn all_wait(story: &Story) -> bool {
+    match &story.end {
+        RunEnd::Ended { outcome, .. } => outcome.kind == OutcomeKind::AllWaiting,
+        RunEnd::Wants { .. } | RunEnd::NotReady { .. } => false,
+    }
+}
+
+fn draw_life(svg: &mut Svg, plan: &Plan, life: &Life) -> Result<(), AllocError> {
+    let x = plan.dot(life.process);
+    svg.line(
+        (x, life.top),
+        (x, life.bottom),
+        "#9aa5b1",
+        "stroke-width=\"1.6\"",
+    )
+}
+
+fn draw_stay(
+    alloc: Global,
+    svg: &mut Svg,
+    subject: Subject<'_>,
+    plan: &Plan,
+    stay: &Stay,
+) -> Result<(), AllocError> {
+    let lane = plan.lane(stay.process);
+    let hue = hue_of(stay.call.monitor);
+    let inset = crate::labels::points(stay.depth) * 8.0;
+    let process = stay.process;
+    let mut title = format!(in alloc; "{process} ")?;
+    title.push_str(subject.legend.process_name(stay.process))?;
+    title.push_str(" is inside ")?;
+    push_call(subject.legend, &mut title, stay.call, &[])?;
+    svg.open(title.as_str())?;
+    svg.block(Block {
+        left: lane.left + 1.0 + inset,
+        top: stay.top,
+        width: lane.width - 2.0 - inset - inset,
+        height: stay.bottom - stay.top,
+        radius: 7.0,
+        fill: hue.soft,
+        stroke: hue.strong,
+        stroke_width: 1.5,
+    })?;
+    svg.close()
+}
+
+fn draw_pause(
+    alloc: Global,
+    svg: &mut Svg,
+    subject: Subject<'_>,
+    plan: &Plan,
+    pause: &Pause,
+    is_stuck: bool,
+) -> Result<(), AllocError> {
+    let hue = hue_of(pause.monitor);
+    let is_red = pause.lasts && is_stuck;
+    let process = pause.process;
+    let mut title = format!(in alloc; "{process} ")?;
+    title.push_str(subject.legend.process_name(pause.process))?;
+    title.push_str(if pause.at_gate {
+        " waits at the gate of "
+    } else {
+        " waits in a queue of "
+    })?;
+    title.push_str(subject.legend.monitor_name(pause.monitor))?;
+    svg.open(title.as_str())?;
+    svg.block(Block {
+        left: plan.dot(pause.process) - 9.0,
+        top: pause.top,
+        width: 18.0,
+        height: (pause.bottom - pause.top).max(6.0),
+        radius: 5.0,
+        fill: if pause.at_gate { hue.gate } else { hue.queue },
+        stroke: if is_red { RED } else { hue.strong },
+        stroke_width: if is_red { 2.0 } else { 1.2 },
+    })?;
+    svg.close()
+}
+
+fn draw_hold(
+    alloc: Global,
+    svg: &mut Svg,
+    subject: Subject<'_>,
+    plan: &Plan,
+    hold: &Hold,
+) -> Result<(), AllocError> {
+    let bar = plan.bar(hold.monitor);
+    let middle = bar.left + bar.width / 2.0;
+    let process = hold.process;
+    let mut title = String::new(alloc);
+    title.push_str(subject.legend.monitor_name(hold.monitor))?;
+    write!(title, " is held by {process} ")?;
+    title.push_str(subject.legend.process_name(hold.process))?;
+    svg.open(title.as_str())?;
+    svg.block(Block {
+        left: middle - 12.0,
+        top: hold.top,
+        width: 24.0,
+        height: (hold.bottom - hold.top).max(14.0),
+        radius: 5.0,
+        fill: hue_of(hold.monitor).strong,
+        stroke: "",
+        stroke_width: 0.0,
+    })?;
+    let y = (hold.top + hold.bottom) / 2.0 + 4.0;
+    svg.number(
+        middle,
+        y,
+        Style {
+            size: 11.0,
+            fill: "#fff",
+            more: "text-anchor=\"middle\" font-weight=\"bold\"",
+        },
+        u32::from(hold.process),
+    )?;
+    svg.close()
+}
+
+/// Draws where a process goes on whom another one let go on, if no event of its own follows at once.
+pub fn draw_resumed(
+    alloc: Global,
+    svg: &mut Svg,
+    subject: Subject<'_>,
+    plan: &Plan,
+    stay: &Stay,
+) -> Result<(), AllocError> {
+    let Some(row) = stay.resumed else {
+        return Ok(());
+    };
+    let row = row.saturating_add(1);
+    let next = match subject.story.events.get(row) {
+        Some(event) => Some(event.plain.process),
+        None => stop_words(subject.story).and_then(|stop| stop.process),
+    };
+    let is_own = next == Some(stay.process);
+    let y = row_middle(row);
+    if is_own || y > stay.bottom || y > rows_end(plan.rows) {
+        return Ok(());
+    }
+    let mut words = String::from_str(alloc, "in ")?;
+    push_call(subject.legend, &mut words, stay.call, &[])?;
+    let lane = plan.lane(stay.process);
+    let words = cut_plain(alloc, words.as_str(), lane.width - 40.0, 11.5)?;
+    let style = Style {
+        size: 11.5,
+        fill: hue_of(stay.call.monitor).strong,
+        more: "font-style=\"italic\"",
+    };
+    svg.words(lane.left + 31.0, y + 4.0, style, words.as_str())
+}
