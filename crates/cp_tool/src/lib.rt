@@ -6,12 +6,12 @@ mod command;
 pub mod command_line;
 mod numbers;
 pub mod options;
-mod refusal;
+pub mod refusal;
 mod schedule;
 pub mod stream;
 #[cfg(test)]
 mod tests;
-mod transfer;
+pub mod transfer;
 pub mod wrapped;
 
 pub use answering::{Status, explore_stream};

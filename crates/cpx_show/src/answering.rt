@@ -1,0 +1,269 @@
+//! From the bytes of a source to the bytes of what is shown.
+
+ghost use Rattle.std.specs.Prelude.{◌≡◌, ◌+◌, ◌≤◌, IfOk, length};
+ghost use Rattle.cp_explore.specs.Rows.{UsedWithin};
+ghost use Rattle.cpx_show.specs.Showing as spec;
+
+use crate::parts::{Asked, Part};
+use cp_check::check;
+use cp_explore::trace_report;
+use cp_lanes::{Subject, picture};
+use cp_legend::{Legend, legend_of};
+use cp_machine::Ticks;
+use cp_run::Limits;
+use cp_slots::{Resolved, resolve};
+use cp_story::{Story, json, tell, text};
+use cp_text::{Tokens, scan};
+use cp_tool::refusal::{check_reason, parse_reason, refusal, scan_reason};
+use cp_tool::transfer::{MOST_BYTES, ReadFault, read_source, write_text};
+use cp_tool::{Options, Sink, Source};
+use cp_tree::{Tree, parse};
+use std::alloc::{AllocError, Global};
+use std::marker::Brand;
+use std::sync::ledger::{Blank, Ledger};
+
+/// A text, and whether the source was accepted.
+#[derive(Drop)]
+struct Answer {
+    accepted: bool,
+    text: String,
+}
+
+/// How a source was shown.
+#[derive(Clone, Copy)]
+pub enum Ending {
+    /// The whole text was written; whether the source was accepted.
+    Told(bool),
+    /// Memory was refused.
+    OutOfMemory,
+    /// A read failed.
+    ReadFailed,
+    /// A write failed or took nothing.
+    WriteFailed,
+}
+
+fn code_of(ending: Ending) -> u8
+    ensures { result ≡ spec.code_of ending }
+{
+    match ending {
+        Ending::Told(true) => 0,
+        Ending::Told(false) => 1,
+        Ending::OutOfMemory => 3,
+        Ending::ReadFailed | Ending::WriteFailed => 4,
+    }
+}
+
+/// Reads a source, shows what is asked for, and answers the exit code: 0 reported, 1 source refused, 3 memory refused, 4 read or
+/// write fault. The whole text is built before the first write, and nothing is written after a failed read or where memory is refused.
+pub fn show_stream<R: Source, W: Sink>(
+    alloc: Global,
+    asked: &Asked,
+    source: &mut R,
+    sink: &mut W,
+) -> u8
+    // Status 4 comes exactly where a call failed or took nothing.
+    ensures told { (ending : spec.Ending) × (result ≡ spec.code_of ending) × (spec.IsSilent ending → W.writes sink.new ≡ W.writes sink.old) × (R.failed_reads source.new + (W.failed_writes sink.new + W.empty_writes sink.new) ≡ R.failed_reads source.old + (W.failed_writes sink.old + W.empty_writes sink.old) + spec.faults_of ending) }
+    ensures reads { R.reads source.new ≤ R.reads source.old + 65536 }
+{
+    code_of(streamed(alloc, asked, source, sink))
+}
+
+fn streamed<R: Source, W: Sink>(
+    alloc: Global,
+    asked: &Asked,
+    source: &mut R,
+    sink: &mut W,
+) -> Ending
+    ensures silent { spec.IsSilent result → W.writes sink.new ≡ W.writes sink.old }
+    ensures faults { R.failed_reads source.new + (W.failed_writes sink.new + W.empty_writes sink.new) ≡ R.failed_reads source.old + (W.failed_writes sink.old + W.empty_writes sink.old) + spec.faults_of result }
+    ensures reads { R.reads source.new ≤ R.reads source.old + 65536 }
+{
+    match read_source(alloc, source, MOST_BYTES) {
+        Ok(bytes) => match answered(alloc, asked, &bytes) {
+            Ok(answer) => written(sink, &answer),
+            Err(_) => Ending::OutOfMemory,
+        },
+        Err(ReadFault::Memory) => Ending::OutOfMemory,
+        Err(ReadFault::Failed) => Ending::ReadFailed,
+    }
+}
+
+// Writes an answer.
+fn written<W: Sink>(sink: &mut W, answer: &Answer) -> Ending
+    ensures loud { spec.IsSilent result → W.writes sink.new ≡ W.writes sink.old }
+    ensures faults { W.failed_writes sink.new + W.empty_writes sink.new ≡ W.failed_writes sink.old + W.empty_writes sink.old + spec.faults_of result }
+{
+    match write_text(sink, answer.text.as_str().as_bytes()) {
+        Ok(()) => Ending::Told(answer.accepted),
+        Err(_) => Ending::WriteFailed,
+    }
+}
+
+fn answered(alloc: Global, asked: &Asked, source: &[u8]) -> Result<Answer, AllocError> {
+    match scan(alloc, source) {
+        Ok(tokens) => parsed(alloc, asked, source, &tokens),
+        Err(fault) => refused(alloc, fault.line, scan_reason(fault.cause)),
+    }
+}
+
+fn parsed(
+    alloc: Global,
+    asked: &Asked,
+    source: &[u8],
+    tokens: &Tokens,
+) -> Result<Answer, AllocError> {
+    match parse(alloc, tokens) {
+        Ok(tree) => checked(alloc, asked, source, tokens, tree),
+        Err(fault) => refused_at(alloc, tokens, parse_reason(&fault)),
+    }
+}
+
+fn checked(
+    alloc: Global,
+    asked: &Asked,
+    source: &[u8],
+    tokens: &Tokens,
+    tree: Tree,
+) -> Result<Answer, AllocError> {
+    match check(alloc, tree) {
+        Ok(checked) => {
+            let legend = legend_of(alloc, checked.tree())?;
+            let program = resolve(alloc, &checked)?;
+            let text = shown(alloc, asked, &program, &legend, source)?;
+            Ok(Answer {
+                accepted: true,
+                text,
+            })
+        }
+        Err((fault, _tree)) => refused_at(alloc, tokens, check_reason(&fault)),
+    }
+}
+
+fn refused(alloc: Global, line: u32, reason: Option<&str>) -> Result<Answer, AllocError> {
+    let Some(reason) = reason else {
+        return Err(AllocError);
+    };
+    Ok(Answer {
+        accepted: false,
+        text: refusal(alloc, line, reason)?,
+    })
+}
+
+// The refusal at a token, or at the last one for the end of the source.
+fn refused_at(
+    alloc: Global,
+    tokens: &Tokens,
+    reason: Option<(usize, &str)>,
+) -> Result<Answer, AllocError> {
+    let Some((at, reason)) = reason else {
+        return Err(AllocError);
+    };
+    let line = tokens.line(at.min(tokens.count()));
+    refused(alloc, line, Some(reason))
+}
+
+// The part that is asked for.
+fn shown(
+    alloc: Global,
+    asked: &Asked,
+    program: &Resolved,
+    legend: &Legend,
+    source: &[u8],
+) -> Result<String, AllocError> {
+    let word = word_of(&asked.options);
+    let story = told::<Brand>(alloc, &asked.options, program, legend, word, Blank::new(1))?;
+    match asked.part {
+        Part::Trace { json: true } => {
+            json(alloc, legend, &story, word, &lines_of(alloc, source)?)
+        }
+        Part::Trace { json: false } => {
+            let end = trace_report(alloc, program, &[], &story.end, word)?;
+            text(alloc, legend, &story, end.text.as_str())
+        }
+        Part::Lanes => {
+            let end = trace_report(alloc, program, &[], &story.end, word)?;
+            let source = lines_of(alloc, source)?;
+            drawn(alloc, legend, &story, word, end.text.as_str(), &source)
+        }
+    }
+}
+
+fn word_of(options: &Options) -> &[u8]
+    ensures { length result.now ≤ 20 }
+{
+    match &options.schedule {
+        Some(word) => word.as_slice(),
+        None => &[],
+    }
+}
+
+// The story of the word.
+fn told<L: Ledger>(
+    alloc: Global,
+    options: &Options,
+    program: &Resolved,
+    legend: &Legend,
+    word: &[u8],
+    blank: Blank,
+) -> Result<Story, AllocError>
+    requires name { blank.name ≡ L.name }
+    requires parts { blank.parts ≡ L.parts }
+    requires one { L.parts ≡ 1 }
+    requires word { length word.now ≤ 20 }
+    ensures { IfOk result (λ story. UsedWithin story.end (length word.now)) }
+{
+    let Some(limits) = Limits::new(options.choices, options.steps, options.gates) else {
+        unreachable!()
+    };
+    let mut ticks: Ticks<L> = Ticks::new(blank);
+    tell(alloc, program, legend, limits, word, &mut ticks)
+}
+
+// The picture of a story.
+fn drawn(
+    alloc: Global,
+    legend: &Legend,
+    story: &Story,
+    word: &[u8],
+    end: &str,
+    source: &[String],
+) -> Result<String, AllocError> {
+    let schedule = schedule_of(alloc, word)?;
+    let subject = Subject {
+        legend,
+        story,
+        schedule: schedule.as_str(),
+        end,
+        source,
+    };
+    picture(alloc, subject)
+}
+
+// A word as it is written.
+fn schedule_of(alloc: Global, word: &[u8]) -> Result<String, AllocError> {
+    let mut text = String::new(alloc);
+    for (place, number) in word.iter().enumerate() {
+        if place > 0 {
+            text.push('.')?;
+        }
+        write!(text, "{number}")?;
+    }
+    if word.is_empty() {
+        text.push_str("none")?;
+    }
+    Ok(text)
+}
+
+// The lines of a source; what is no printed character is a space.
+fn lines_of(alloc: Global, source: &[u8]) -> Result<Vec<String>, AllocError> {
+    let mut lines = Vec::new(alloc);
+    for line in source.split(|byte| *byte == b'\n') {
+        let mut text = String::new(alloc);
+        for byte in line {
+            let is_printed = *byte >= 32 && *byte < 127;
+            text.push(if is_printed { char::from(*byte) } else { ' ' })?;
+        }
+        lines.push(text)?;
+    }
+    Ok(lines)
+}

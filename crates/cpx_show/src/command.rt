@@ -1,0 +1,88 @@
+//! The command of `cpx_show`, as `clap` knows it: a subcommand for each part.
+
+use clap::{Arg, ArgAction, Command};
+use std::alloc::{AllocError, Global};
+
+const ABOUT: &str =
+    "Reads a program in Concurrent Pascal from standard input, and shows what cpx finds\nin names and pictures.";
+
+const USAGE: &str = "cpx_show PART [OPTIONS] < PROGRAM";
+
+const NOTES: &str =
+    "Example: cpx_show trace --schedule 0.1 < program.cp\n\nStatus: 0 reported, 1 source refused, 2 options refused, 3 no memory, 4 read or write fault";
+
+const TRACE: &str = "Tells one schedule in names: a line for each kernel call";
+
+const LANES: &str = "Draws one schedule as a picture: SVG with a lane for each process";
+
+/// The command with all its parts; `clap` adds `--help` and `-h` to each.
+pub fn command<'a>(alloc: Global) -> Result<Command<'a>, AllocError> {
+    let command = Command::new(alloc, "cpx_show")
+        .about(ABOUT)
+        .override_usage(USAGE)
+        .after_help(NOTES)
+        .subcommand_required(true)
+        .disable_help_subcommand(true)
+        .subcommand(trace(alloc)?)?
+        .subcommand(lanes(alloc)?)?;
+    Ok(command)
+}
+
+fn trace<'a>(alloc: Global) -> Result<Command<'a>, AllocError> {
+    let json = Arg::new(alloc, "json")
+        .long("json")
+        .action(ArgAction::SetTrue)
+        .help("Write one JSON object");
+    let command = Command::new(alloc, "trace")
+        .about(TRACE)
+        .override_usage("cpx_show trace --schedule WORD [OPTIONS] < PROGRAM");
+    Ok(with_schedule(alloc, command)?.arg(json)?)
+}
+
+fn lanes<'a>(alloc: Global) -> Result<Command<'a>, AllocError> {
+    let command = Command::new(alloc, "lanes").about(LANES).override_usage(
+        "cpx_show lanes --schedule WORD [OPTIONS] < PROGRAM > PICTURE.svg",
+    );
+    with_schedule(alloc, command)
+}
+
+// A part of one schedule, with the options of a run.
+fn with_schedule<'a>(alloc: Global, command: Command<'a>) -> Result<Command<'a>, AllocError> {
+    let schedule = option(
+        alloc,
+        "schedule",
+        "WORD",
+        "The schedule: `none`, or up to 20 numbers 0 to 15 joined by periods",
+    )
+    .required(true);
+    with_limits(alloc, command.arg(schedule)?)
+}
+
+fn with_limits<'a>(alloc: Global, command: Command<'a>) -> Result<Command<'a>, AllocError> {
+    let choices = option(
+        alloc,
+        "choices",
+        "K",
+        "Choices of a schedule, 0 to 20 [default: 8]",
+    );
+    let steps = option(
+        alloc,
+        "steps",
+        "L",
+        "Steps of a stretch between choices, 1 to 100000 [default: 1000]",
+    );
+    let gates = option(
+        alloc,
+        "gates",
+        "WHO",
+        "Who enters a monitor that becomes free: `first` in line, or `any` [default: first]",
+    );
+    Ok(command.arg(choices)?.arg(steps)?.arg(gates)?)
+}
+
+fn option<'a>(alloc: Global, name: &'a str, value: &'a str, help: &'a str) -> Arg<'a> {
+    Arg::new(alloc, name)
+        .long(name)
+        .value_name(value)
+        .help(help)
+}

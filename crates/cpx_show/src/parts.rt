@@ -1,0 +1,80 @@
+//! What the words of a call ask for.
+
+use crate::command::command;
+use clap::ArgMatches;
+use clap::error::ErrorKind;
+use cp_tool::{OptionFault, Options, read_options};
+use std::alloc::{AllocError, Global};
+
+/// The options that are those of `cpx`.
+const SHARED: [&str; 4] = ["choices", "steps", "gates", "schedule"];
+
+/// What is to be shown.
+#[derive(Clone, Copy, Debug, PartialEq, Eq)]
+pub enum Part {
+    /// The schedule in names, as lines or as JSON.
+    Trace { json: bool },
+    /// The schedule as a picture.
+    Lanes,
+}
+
+/// A part, and the options that are those of `cpx`.
+#[derive(Drop)]
+pub struct Asked {
+    pub part: Part,
+    pub options: Options,
+}
+
+/// What the words ask for, of which the first is the program's name. The options of `cpx` are read as `cpx` reads them.
+pub fn read_parts<'a>(alloc: Global, words: &'a [&'a str]) -> Result<Asked, OptionFault> {
+    let command = command(alloc)?;
+    match command.try_get_matches_from(words) {
+        Ok(matches) => read_matches(alloc, &matches),
+        Err(error) => Err(match error.kind() {
+            ErrorKind::OutOfMemory => OptionFault::Memory,
+            ErrorKind::DisplayHelp => OptionFault::Help(format!(in alloc; "{error}")?),
+            _ => OptionFault::Refused,
+        }),
+    }
+}
+
+fn read_matches(alloc: Global, matches: &ArgMatches<'_>) -> Result<Asked, OptionFault> {
+    let Some((name, inner)) = matches.subcommand() else {
+        return Err(OptionFault::Refused);
+    };
+    let part = match name {
+        "trace" => Part::Trace {
+            json: inner.get_flag("json"),
+        },
+        "lanes" => Part::Lanes,
+        _ => return Err(OptionFault::Refused),
+    };
+    Ok(Asked {
+        part,
+        options: options(alloc, inner)?,
+    })
+}
+
+// The options of a part, read by `cpx`.
+fn options(alloc: Global, matches: &ArgMatches<'_>) -> Result<Options, OptionFault> {
+    let words = shared_words(alloc, matches)?;
+    let mut texts = Vec::new(alloc);
+    for word in &words {
+        if texts.push(word.as_str()).is_err() {
+            return Err(OptionFault::Memory);
+        }
+    }
+    read_options(alloc, &texts)
+}
+
+// The options of `cpx` as its own words.
+fn shared_words(alloc: Global, matches: &ArgMatches<'_>) -> Result<Vec<String>, AllocError> {
+    let mut words = Vec::new(alloc);
+    words.push(String::from_str(alloc, "cpx")?)?;
+    for name in SHARED {
+        if let Some(value) = matches.get_str(name) {
+            words.push(format!(in alloc; "--{name}={value}")?)?;
+        }
+    }
+    Ok(words)
+}
