@@ -1,0 +1,4 @@
+var x: integer;
+begin
+  cycle x := 0 end
+end.
