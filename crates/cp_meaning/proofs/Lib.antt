@@ -10,6 +10,8 @@ mod Good
 mod Held
 pub mod Holder
 mod KernelLaw
+mod Least
+mod LeastPrograms
 mod LineLaw
 mod LinedPrograms
 mod Lines
@@ -22,6 +24,7 @@ mod OwnLocal
 mod OwnOpening
 pub mod OwnershipLemmas
 mod PlainItems
+mod Room
 mod Shown
 mod ShownPrograms
 mod Stored
