@@ -7,7 +7,7 @@ use Rattle.cp_meaning.specs.Systems.{system_of}
 use Rattle.cp_meaning.specs.State.{refers, knows, Environment, uninitialised, initialising, Component, component_at, Status, unstarted, ready, at_gate, delayed, ended, Process, process_at, Gates, first_gates, any_gates, State}
 use Rattle.cp_meaning.specs.Places.{content_of, with_permanents}
 use Rattle.cp_meaning.specs.Move.{Move, stays, enters, leaves, delays, continues, starts, shows, ends, Doing}
-use Rattle.cp_meaning.specs.Kernel.{output_room, line_of, with_line_of, moved_to, with_process_status, made_ready, first_in, one_in, let_in, is_anybody_inside, entering, is_delayed_in, continuing, after, process_of, begun, with_begun, starting_as, starting, displaying, settles}
+use Rattle.cp_meaning.specs.Kernel.{output_room, line_of, with_line_of, moved_to, with_process_status, made_ready, first_in, one_in, let_in, is_anybody_inside, entering, is_delayed_in, continuing, after, process_of, begun, with_begun, starting_as, starting, displaying, kernel_step}
 use Rattle.cp_meaning.specs.Ownership.{owner_of, IsStarted, is_parameter, IsParameterOf}
 use Rattle.cp_meaning.proofs.Frames.{Frame, frames}
 use Rattle.cp_meaning.proofs.Good.{status_at}
@@ -301,12 +301,12 @@ module _ (p : Program) (s : State) (pid : ℕ) (base : List Component) (old : Ow
   StartsProcess (shows x) = Unit {0}
   StartsProcess ends = Unit {0}
 
-  pub settles_steps : (move : Move) → Owned p base me.component fs cs d.calls ds move → StartsProcess move → Steps (settles p s pid d move).state
-  settles_steps stays h k = steps_moved stays h ready
-  settles_steps (enters n) h k = entering_steps n (is_anybody_inside n s.processes) h
-  settles_steps (leaves n) h k = steps_to (leaves n) h ready _ (let_in_keeps base s.gates (moved_to ready s pid d) n)
-  settles_steps (delays n) h k = steps_to (delays n) h (delayed n) _ (let_in_keeps base s.gates (moved_to (delayed n) s pid d) n)
-  settles_steps (continues n o) h k = steps_to (continues n o) h ready _ (continuing_keeps base (moved_to ready s pid d) n o)
-  settles_steps (starts c e) h k = starting_steps c (process_of c (moved_to ready s pid d).processes) e h k refl
-  settles_steps (shows x) h k = displaying_steps (length s.output == output_room) x h
-  settles_steps ends h k = steps_moved ends h ended
+  pub kernel_step_owned : (move : Move) → Owned p base me.component fs cs d.calls ds move → StartsProcess move → Steps (kernel_step p s pid d move).state
+  kernel_step_owned stays h k = steps_moved stays h ready
+  kernel_step_owned (enters n) h k = entering_steps n (is_anybody_inside n s.processes) h
+  kernel_step_owned (leaves n) h k = steps_to (leaves n) h ready _ (let_in_keeps base s.gates (moved_to ready s pid d) n)
+  kernel_step_owned (delays n) h k = steps_to (delays n) h (delayed n) _ (let_in_keeps base s.gates (moved_to (delayed n) s pid d) n)
+  kernel_step_owned (continues n o) h k = steps_to (continues n o) h ready _ (continuing_keeps base (moved_to ready s pid d) n o)
+  kernel_step_owned (starts c e) h k = starting_steps c (process_of c (moved_to ready s pid d).processes) e h k refl
+  kernel_step_owned (shows x) h k = displaying_steps (length s.output == output_room) x h
+  kernel_step_owned ends h k = steps_moved ends h ended

@@ -18,7 +18,7 @@ use Rattle.cp_meaning.specs.Places.{View, Target, content_of, call_above, enviro
 use Rattle.cp_meaning.specs.Operations.{same_integer, checked}
 use Rattle.cp_meaning.specs.Expressions.{value, target_value, selected, chosen, with_element_of, first_value, meaning_here, routine_called, variable_in}
 use Rattle.cp_meaning.specs.Move.{Move, stays, enters, leaves, delays, continues, starts, shows, ends, Doing}
-use Rattle.cp_meaning.specs.Calls.{refers_to, of_system, knows_of, bound_variable, bound_value, bound_argument, bound, least_of, least_result, opened, is_initialised, is_uninitialised, entered_as, with_move, nothing, entered, called_as, called, with_status, initial, initialised_in, started_as, started_at, started}
+use Rattle.cp_meaning.specs.Calls.{refers_to, of_system, knows_of, bound_variable, bound_value, bound_argument, bound, least_of, least_result, opened, is_initialised, is_uninitialised, entered_as, with_move, with_items, entered, called_as, called, with_status, initial, initialised_in, started_as, started_at, started}
 use Rattle.cp_meaning.specs.LocalRules.{scope_here, becomes, assigned, arm_for, is_beyond, next_value, goes_on_with, queue_free, delayed_in, after_return, continued_from, in_place_of, argument_of, invoked, does, outer, with_result, return_move, returned, finished, takes}
 use Rattle.cp_meaning.specs.Ownership.{owner_of, is_parameter, IsParameterOf}
 use Rattle.cp_meaning.specs.WellFormed.{HasNoClass, HasEarlier}
@@ -131,12 +131,12 @@ module _ (p : Program) (c : Call) (calls : List Call) (cs : List Component) (pid
         only = stored_changed base me fs v q w h;
       }
 
-  nothing_owned : (u : View) (items : List Item) (move : Move) → Alike u → MoveOwned p base move → OwnedDoing (with_move (nothing u items) move)
-  nothing_owned u items move a m =
+  items_owned : (u : View) (items : List Item) (move : Move) → Alike u → MoveOwned p base move → OwnedDoing (with_move (with_items u items) move)
+  items_owned u items move a m =
       record { tree = a.still; held = a.still_held; bottom = subst (Bottom me) (sym a.same_frames) bottom; classes = a.still_known; earlier = a.still_earlier; changed = λ n x ne. inl (a.only n x ne); starting = m }
 
   becomes_owned : (u : View) (items : List Item) → Alike u → OwnedOutcome (becomes u items)
-  becomes_owned u items a = nothing_owned u items stays a tt
+  becomes_owned u items a = items_owned u items stays a tt
 
   -- ---- places
 
@@ -513,7 +513,7 @@ module _ (p : Program) (c : Call) (calls : List Call) (cs : List Component) (pid
   entry_as system_kind.Class d r o items e is owns refs =
       let class = in_base d system_kind.Class is in
       opened_owned d entry_routine r o items e stays (class_held d entry_routine (owns class)) (not_past d class) refs tt
-  entry_as system_kind.Process d r o items e is owns refs = nothing_owned v items stays alike tt
+  entry_as system_kind.Process d r o items e is owns refs = items_owned v items stays alike tt
 
   entered_owned : (q : Place) (r : RoutineMeaning) (o : Option Name) (es : Expressions) (items : List Item) → OwnedOutcome (entered v (component_there v q) r o es items)
   entered_owned q r o es items =
@@ -602,7 +602,7 @@ module _ (p : Program) (c : Call) (calls : List Call) (cs : List Component) (pid
       initialised_owned d (system_of p (component_at cs d).system) items e lt (monitor_started d (in_base d system_kind.Monitor is))
       (λ n x t k. absurd (free (system_not_class d lt (λ b. (let bad : system_kind.Monitor ≡ system_kind.Class = sym is ∙ b in cc))) n x t k)) lower names
   started_owned system_kind.Process d items (Ok e) is owns h free lower names =
-      nothing_owned v items (starts d e) alike
+      items_owned v items (starts d e) alike
       ((λ lt n x t. ((λ k. absurd (free (system_not_class d lt (λ b. (let bad : system_kind.Process ≡ system_kind.Class = sym is ∙ b in cc))) n x t k)), lower n x t)), names)
 
   start_owned : (t : Start) (items : List Item) → OwnedOutcome (started v t items)
@@ -651,9 +651,9 @@ module _ (p : Program) (c : Call) (calls : List Call) (cs : List Component) (pid
       record { tree = tree; held = stored_held base me (outer v) q w held.3; bottom = subst (Bottom me) (sym (stored_frames (outer v) q w)) rest_bottom; classes = classes; earlier = earlier; changed = unchanged; starting = back_owned }
 
   continued_owned : (k : CallKind) (items : List Item) (q : Place) → HeldPlace base me fs q.holder → OwnedDoing (continued_from v k items q)
-  continued_owned own_statement items q h = nothing_owned v items stays alike tt
-  continued_owned initial_statement items q h = nothing_owned v items stays alike tt
-  continued_owned local_routine items q h = nothing_owned v items stays alike tt
+  continued_owned own_statement items q h = items_owned v items stays alike tt
+  continued_owned initial_statement items q h = items_owned v items stays alike tt
+  continued_owned local_routine items q h = items_owned v items stays alike tt
   continued_owned entry_routine items q h =
       let u = stored v q (queue_value None) in
       let a = alike_stored q (queue_value None) h in
@@ -704,14 +704,14 @@ module _ (p : Program) (c : Call) (calls : List Call) (cs : List Component) (pid
   place_owned None go items h = becomes_owned v items alike
   place_owned (Some d) go items h = with_target (target_value v d) _ (target_held d) (λ t k. h t.place k)
 
-  delay_owned : (o : Option ℕ) (items : List Item) (q : Place) → HeldPlace base me fs q.holder → OwnedOutcome (queue_free o >>= λ x. Ok (with_move (nothing (stored v q (queue_value (Some pid))) items) (delays c.component)))
-  delay_owned None items q h = nothing_owned (stored v q (queue_value (Some pid))) items (delays c.component) (alike_stored q (queue_value (Some pid)) h) tt
+  delay_owned : (o : Option ℕ) (items : List Item) (q : Place) → HeldPlace base me fs q.holder → OwnedOutcome (queue_free o >>= λ x. Ok (with_move (with_items (stored v q (queue_value (Some pid))) items) (delays c.component)))
+  delay_owned None items q h = items_owned (stored v q (queue_value (Some pid))) items (delays c.component) (alike_stored q (queue_value (Some pid)) h) tt
   delay_owned (Some r) items q h = tt
 
   invoked_owned : (m : Option Meaning) (d : Designator) (es : Expressions) (items : List Item) → OwnedOutcome (invoked v pid m d es items)
   invoked_owned (Some (standard_meaning delay_procedure)) d es items = place_owned (argument_of es) (delayed_in v pid items) items (λ q h. delay_owned (waiting_in (value_at v q)) items q h)
   invoked_owned (Some (standard_meaning continue_procedure)) d es items = place_owned (argument_of es) _ items (λ q h. continued_owned c.kind items q h)
-  invoked_owned (Some (standard_meaning display_procedure)) d es items = bind_owned (first_value v es) _ (λ x. nothing_owned v items _ alike tt)
+  invoked_owned (Some (standard_meaning display_procedure)) d es items = bind_owned (first_value v es) _ (λ x. items_owned v items _ alike tt)
   invoked_owned m d es items = call_owned d es None items
 
   does_owned : (s : Statement) (items : List Item) → OwnedOutcome (does v pid s items)
@@ -739,4 +739,4 @@ module _ (p : Program) (c : Call) (calls : List Call) (cs : List Component) (pid
   takes_owned (successor at i z d b s ∷ items) = outcome_if (same_integer z b) _ _ (λ h. becomes_owned v items alike) (next_owned at i (next_value d z) d b s items)
   takes_owned (return o ∷ items) = returned_owned o items
   takes_owned (init_end m ∷ items) = finished_owned m items
-  takes_owned (end ∷ items) = nothing_owned v items ends alike tt
+  takes_owned (end ∷ items) = items_owned v items ends alike tt

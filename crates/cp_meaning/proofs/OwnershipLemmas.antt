@@ -23,7 +23,7 @@ use Rattle.cp_meaning.proofs.Exclusion.{opening_orderly, outcome_law, item_law, 
 use Rattle.cp_meaning.proofs.ComponentTree.{owner_same, Distinct, ContainedEarlier}
 use Rattle.cp_meaning.proofs.Held.{HeldBy, HeldPlace, HeldCalls, Bottom, permanents_at, held_more, length-frames}
 use Rattle.cp_meaning.proofs.OwnLocal.{OwnedBy, there_below, takes_owned}
-use Rattle.cp_meaning.proofs.OwnKernel.{OwnedProcess, OwnedState, Keeps, keeps_all, goes_in, StartsProcess, settles_steps}
+use Rattle.cp_meaning.proofs.OwnKernel.{OwnedProcess, OwnedState, Keeps, keeps_all, goes_in, StartsProcess, kernel_step_owned}
 use Rattle.cp_meaning.proofs.OwnOpening.{first_kinds, opening_owned}
 
 -- ---- from what is held to the definition
@@ -136,7 +136,7 @@ module _ (p : Program) (ok : IsWellFormed p) where
     module _ (none : s.pending ≡ None) where
       settled_result : (o : Outcome Doing) → GoodOutcome s.components (frames x.calls) o × OwnedBy p base x.component (frames x.calls) s.components o → Result (settled p s pid o).state
       settled_result (Ok d) h =
-          let k = settles_steps p s pid base owned lt is_ready d d.move h.1 (starts_process d d.move h.0) in
+          let k = kernel_step_owned p s pid base owned lt is_ready d d.move h.1 (starts_process d d.move h.0) in
           record { owned_after = k.owned; orderly_after = outcome_law p s pid (Ok d) orderly none lt is_ready h.0; changed = k.changed; others = k.others }
       settled_result (Err e) h = record { owned_after = owned; orderly_after = orderly; changed = λ n y ne. absurd (ne refl); others = λ q l ne. inl refl }
 

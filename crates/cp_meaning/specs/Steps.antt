@@ -12,7 +12,7 @@ use Rattle.cp_meaning.specs.Places.{View}
 use Rattle.cp_meaning.specs.Calls.{least_of}
 use Rattle.cp_meaning.specs.Move.{Doing}
 use Rattle.cp_meaning.specs.LocalRules.{takes}
-use Rattle.cp_meaning.specs.Kernel.{fault_event, Stepped, with_line_of, with_pending, made_ready, line_of, begun, settles}
+use Rattle.cp_meaning.specs.Kernel.{fault_event, Stepped, with_line_of, with_pending, made_ready, line_of, begun, kernel_step}
 
 -- ---- the opening state
 
@@ -60,9 +60,9 @@ opening p g = record { processes = own_begun p (first_components p) (processes_f
 abbrev pub view_of : Program → State → ℕ → View
 view_of p s pid = record { program = p; calls = (process_at s.processes pid).calls; components = s.components }
 
--- after a run error the state is as it was
+-- what the item did, and then what the kernel does; after a run error the state is as it was
 abbrev pub settled : Program → State → ℕ → Outcome Doing → Stepped
-settled p s pid (Ok d) = settles p s pid d d.move
+settled p s pid (Ok d) = kernel_step p s pid d d.move
 settled p s pid (Err e) = record { state = s; event = fault_event e }
 
 -- one step of a process that is ready, where nothing is pending
@@ -131,10 +131,3 @@ pub data IsReached (p : Program) (g : Gates) : State → Type 0 where
   at_first : IsReached p g (opening p g)
   by_step : (s : State) (pid : ℕ) → IsReached p g s → s.pending ≡ None → pid < length s.processes → (process_at s.processes pid).status ≡ ready → IsReached p g (step_of p s pid).state
   by_admission : (s : State) (m q : ℕ) → IsReached p g s → s.pending ≡ Some m → is_member q (line_of s m) ≡ true → IsReached p g (admitted s q)
-
--- ---- several steps
-
--- the state after these processes took a step each, in order
-abbrev pub follow : Program → State → List ℕ → State
-follow p s [] = s
-follow p s (pid ∷ word) = follow p (step_of p s pid).state word
