@@ -1,24 +1,24 @@
 mod ComponentTree
 mod CountedPrograms
 mod Counts
-mod Exclusion
+pub mod Exclusion
 mod FeaturePrograms
 mod Features
 mod Following
-mod Frames
-mod Good
+pub mod Frames
+pub mod Good
 mod Held
 pub mod Holder
 mod KernelLaw
 mod Least
 mod LeastPrograms
-mod LineLaw
+pub mod LineLaw
 mod LinedPrograms
 mod Lines
 mod LocalLaw
 mod Order
 mod OrderPrograms
-mod Orderly
+pub mod Orderly
 mod OwnKernel
 mod OwnLocal
 mod OwnOpening

@@ -1,13 +1,14 @@
 -- Steps, admissions, and the states that are reached (this profile's own).
-use Rattle.std.specs.Prelude.{◌≡◌, ℕ, suc, ◌<◌, ◌==◌, true, if◌then◌else◌, List, [], ◌∷◌, map, length, Option, Some, None, Ok, Err, slice_index}
+use Rattle.std.specs.Prelude.{◌≡◌, ℕ, suc, ◌<◌, ◌==◌, true, if◌then◌else◌, List, [], ◌∷◌, ◌++◌, map, length, Option, Some, None, Ok, Err, slice_index}
 use Rattle.cp_tree.specs.declared.declaration.SystemKind.{SystemKind}
 use Rattle.cp_tree.specs.declared.declaration.SystemKind.TheVariants as system_kind
 use Rattle.cp_tree.specs.Syntax.{Expression, alone, related, Designator, designator, Statement, empty, assign, invoke, block, if_then, if_else, case_of, while_do, repeat_until, for_do, cycle, init, Program, Tree}
 use Rattle.cp_meaning.specs.Outcome.{Outcome}
 use Rattle.cp_meaning.specs.Values.{is_member}
-use Rattle.cp_meaning.specs.Systems.{system_of}
+use Rattle.cp_meaning.specs.Declarations.{Variable, Parameter}
+use Rattle.cp_meaning.specs.Systems.{SystemMeaning, system_of}
 use Rattle.cp_meaning.specs.Components.{Listed, components_of}
-use Rattle.cp_meaning.specs.State.{uninitialised, Component, Item, statement_item, function_call, start_item, until, successor, return, init_end, end, unstarted, ready, Process, process_at, Gates, State}
+use Rattle.cp_meaning.specs.State.{Environment, uninitialised, Component, Item, statement_item, function_call, start_item, until, successor, return, init_end, end, unstarted, ready, Process, process_at, Gates, State}
 use Rattle.cp_meaning.specs.Places.{View}
 use Rattle.cp_meaning.specs.Calls.{least_of}
 use Rattle.cp_meaning.specs.Move.{Doing}
@@ -15,6 +16,13 @@ use Rattle.cp_meaning.specs.LocalRules.{takes}
 use Rattle.cp_meaning.specs.Kernel.{fault_event, Stepped, with_line_of, with_pending, made_ready, line_of, begun, kernel_step}
 
 -- ---- the opening state
+
+abbrev pub parameter_variables : List Parameter → List Variable
+parameter_variables qs = map (λ q. (let v : Variable = record { name = q.name; ty = q.ty } in v)) qs
+
+-- Least values, for the parameters that are values too. Nothing of a component runs before its start has bound them, so no program sees these.
+abbrev pub first_environment : SystemMeaning → Environment
+first_environment m = least_of (parameter_variables m.parameters) ++ least_of m.variables
 
 -- uninitialised, with least values and an empty line
 abbrev pub first_component : Program → Listed → Component
@@ -24,7 +32,7 @@ first_component p l =
       system = l.system;
       kind = (system_of p l.system).kind;
       status = uninitialised;
-      environment = least_of (system_of p l.system).variables;
+      environment = first_environment (system_of p l.system);
       line = [];
     }
 
