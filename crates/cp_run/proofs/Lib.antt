@@ -1,3 +1,4 @@
+pub mod Choices
 pub mod Choosing
 pub mod Owning
 pub mod Prefixes
@@ -8,4 +9,3 @@ pub mod TraceBounds
 pub mod TraceRuns
 pub mod Tracing
 pub mod Turning
-pub mod Wanted
