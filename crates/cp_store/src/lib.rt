@@ -12,8 +12,6 @@ pub mod law;
 pub mod memory;
 pub mod room;
 pub mod set;
-#[cfg(test)]
-mod tests;
 pub mod writing;
 
 pub use argument::{Bound, evaluate_argument, evaluate_arguments};

@@ -4,8 +4,6 @@ ghost use Rattle.clap.specs.Words.{rows_of, found_of};
 ghost use Rattle.cp_tool.specs.Finds.{Finds};
 ghost use Rattle.cp_tool.specs.Options.{Gives, HasOptions, HasRefusedValue, IsScheduled, IsFaultFor, IsGated};
 
-#[cfg(test)]
-mod tests;
 
 use crate::command::command;
 use crate::numbers::chosen;
