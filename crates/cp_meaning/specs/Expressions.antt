@@ -128,7 +128,8 @@ abbrev mutual
 
 -- ---- an expression that is a variable or a component
 
--- Also in parentheses, in which a component may stand as an argument; no accepted program has a queue (C5) or the argument of a `var` parameter (C6) there.
+-- Also one in parentheses, as a component may be where it is an argument. Of accepted programs a queue (C5) and the argument of a `var` parameter (C6)
+-- never are.
 
 abbrev mutual
   pub variable_in : Expression → Option Designator

@@ -12,6 +12,6 @@ same_name = bytes_eq
 abbrev pub temporary : ℕ → Name
 temporary at = 0 ∷ at ∷ []
 
--- the name under which the environment of a function's call has the result; no name of a tree that spells tokens either
+-- the name under which the environment of a function's call has the result; it has the code 0 too
 abbrev pub result_name : Name
 result_name = 0 ∷ []

@@ -130,9 +130,9 @@ abbrev pub component_known : View → Place → Option Content → ℕ
 component_known v q (Some (knows n)) = n
 component_known v q o = component_with (step_down (around_of v q.holder) q.name (element_chosen q.choices)) v.components
 
--- A component is named by a variable or parameter of the component that names it. The tests are guards: another place has no component, and the number
--- past the last one. An accepted program always passes them, since no routine has a component as a parameter, a variable or a result (C13), and
--- what is called or started is a component (C5, C17).
+-- A component is named by a variable or parameter of the component whose statement names it. The tests are guards: another place has no component, but the
+-- number past the last one. An accepted program always passes them, since no routine has a component as a parameter, a variable or a result (C13),
+-- and what is called or started is a component (C5, C17).
 abbrev pub component_by : View → Place → Holder → ℕ
 component_by v q (in_call below) = length v.components
 component_by v q (in_component n) = if n == this_component v then component_known v q (content_of q.name (component_at v.components n).environment) else length v.components

@@ -17,6 +17,7 @@ use Rattle.cp_meaning.specs.Kernel.{fault_event, Stepped, with_line_of, with_pen
 
 -- ---- the opening state
 
+-- parameters as variables
 abbrev pub parameter_variables : List Parameter → List Variable
 parameter_variables qs = map (λ q. (let v : Variable = record { name = q.name; ty = q.ty } in v)) qs
 
