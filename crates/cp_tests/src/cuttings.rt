@@ -1,6 +1,6 @@
 //! Cuttings, pieces that are put together, and beginnings.
 
-ghost use Rattle.std.specs.Prelude.{◌≡◌, ◌≤◌, length, map, IfOk};
+ghost use Rattle.std.specs.Prelude.{◌≡◌, map, IfOk};
 ghost use Rattle.cp_run.specs.Slots.{slots};
 ghost use Rattle.cp_run.specs.Table.{table};
 ghost use Rattle.cp_explore.specs.Rows.{line_of};
@@ -20,8 +20,7 @@ use std::test::Fail;
 
 /// A job's table.
 fn table_of(alloc: Global, program: &Resolved, limits: Limits) -> Result<Table, Fail>
-    ensures table { IfOk result (λ t. map line_of t.rows ≡ table (slots program.now limits.gates) limits.choices limits.steps) }
-    ensures few { IfOk result (λ t. length t.rows ≤ 50000) }
+    ensures { IfOk result (λ t. map line_of t.rows ≡ table (slots program.now limits.gates) limits.choices limits.steps) }
 {
     table_counted::<Brand>(alloc, program, limits, Blank::new(1))
 }
@@ -35,8 +34,7 @@ fn table_counted<L: Ledger>(
     requires name { blank.name ≡ L.name }
     requires parts { blank.parts ≡ L.parts }
     requires one { L.parts ≡ 1 }
-    ensures table { IfOk result (λ t. map line_of t.rows ≡ table (slots program.now limits.gates) limits.choices limits.steps) }
-    ensures few { IfOk result (λ t. length t.rows ≤ 50000) }
+    ensures { IfOk result (λ t. map line_of t.rows ≡ table (slots program.now limits.gates) limits.choices limits.steps) }
 {
     let mut calls: Ticks<L> = Ticks::new(blank);
     match explore_one(alloc, Job { program, limits }, &mut calls) {
