@@ -64,7 +64,7 @@ pub fn member_rows<S: Ledger, C: Ledger>(
         alloc,
         program,
         limits,
-        &state,
+        &mut state,
         halt,
         kept.as_mut_slice(),
         &mut path,
