@@ -1,5 +1,5 @@
 -- A state as bytes: each list after its length, each choice of a kind after its number.
-use Rattle.std.specs.Prelude.{reverse, ℕ, List, [], ◌∷◌, ◌++◌, true, false, Option, None, Some}
+use Rattle.std.specs.Prelude.{reverse, ℕ, ◌<◌, List, [], ◌∷◌, ◌++◌, true, false, Option, None, Some}
 use Rattle.cp_store.specs.declared.memory.Address.{Address}
 use Rattle.cp_store.specs.declared.memory.Address.TheVariants.{Permanent, Local}
 use Rattle.cp_store.specs.declared.memory.Frame.{Frame}
@@ -26,6 +26,14 @@ address_key (Local n) = 1 ∷ number_key n
 
 abbrev pub frame_key : Frame → List ℕ
 frame_key f = number_key f.routine ++ (number_key f.component ++ (number_key f.own ++ (number_key f.base ++ number_key f.references)))
+
+-- each number of the frame is one byte
+pub record IsSmall (f : Frame) : Type 0 where
+  pub routine : f.routine < 254
+  pub component : f.component < 254
+  pub own : f.own < 254
+  pub base : f.base < 254
+  pub references : f.references < 254
 
 abbrev pub entry_key : Entry → List ℕ
 entry_key (Rest item) = 0 ∷ number_key item

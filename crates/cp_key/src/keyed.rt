@@ -31,6 +31,7 @@ pub fn freeze_list<T: Keyed>(list: &[T], key: &mut Vec<u8>) -> Result<(), AllocE
 }
 
 /// The list whose key is next, in a vector that has room for it.
+#[inline(always)]
 pub fn thaw_list<T: Keyed>(key: &mut Reader, list: &mut Vec<T>)
     ensures list { (xs : List T) (more : List ℕ) → key.old.bytes.now ≡ list_key T.key_of xs ++ more → length xs ≤ vec_capacity list.old → (list.new.items ≡ xs) × (key.new.bytes.now ≡ more) }
     ensures room { vec_capacity list.old ≤ vec_capacity list.new }
@@ -40,6 +41,7 @@ pub fn thaw_list<T: Keyed>(key: &mut Reader, list: &mut Vec<T>)
     thaw_elements(key, count, list);
 }
 
+#[inline(always)]
 fn thaw_elements<T: Keyed>(key: &mut Reader, count: usize, list: &mut Vec<T>)
     requires { list.old.items ≡ [] }
     ensures list { (xs : List T) (more : List ℕ) → key.old.bytes.now ≡ flat_map T.key_of xs ++ more → length xs ≡ count → length xs ≤ vec_capacity list.old → (list.new.items ≡ xs) × (key.new.bytes.now ≡ more) }

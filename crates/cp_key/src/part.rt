@@ -1,7 +1,7 @@
 //! The parts of a state as bytes.
 
-ghost use Rattle.std.specs.Prelude.{◌≡◌, ◌∷◌, ◌++◌, ℕ, List, IfOk};
-ghost use Rattle.cp_key.specs.Key.{address_key, entry_key, frame_key, gates_key, option_key, phase_key, shown_key, status_key};
+ghost use Rattle.std.specs.Prelude.{◌≡◌, ◌++◌, ℕ, List, IfOk, IsTrue};
+ghost use Rattle.cp_key.specs.Key.{IsSmall, address_key, entry_key, frame_key, gates_key, option_key, phase_key, shown_key, status_key};
 
 use crate::keyed::Keyed;
 use crate::number::{freeze_short, thaw_short};
@@ -13,6 +13,7 @@ use std::alloc::AllocError;
 impl<T: Keyed> Keyed for Option<T> {
     ghost key_of = { option_key T.key_of };
 
+    #[inline(always)]
     fn freeze(self, key: &mut Vec<u8>) -> Result<(), AllocError> {
         match self {
             None => key.push(0)?,
@@ -24,6 +25,7 @@ impl<T: Keyed> Keyed for Option<T> {
         Ok(())
     }
 
+    #[inline(always)]
     fn thaw(key: &mut Reader) -> Option<T> {
         match key.byte() {
             0 => None,
@@ -35,6 +37,7 @@ impl<T: Keyed> Keyed for Option<T> {
 impl Keyed for Phase {
     ghost key_of = { phase_key };
 
+    #[inline(always)]
     fn freeze(self, key: &mut Vec<u8>) -> Result<(), AllocError> {
         key.push(match self {
             Phase::Uninitialised => 0,
@@ -44,6 +47,7 @@ impl Keyed for Phase {
         Ok(())
     }
 
+    #[inline(always)]
     fn thaw(key: &mut Reader) -> Phase {
         match key.byte() {
             0 => Phase::Uninitialised,
@@ -56,6 +60,7 @@ impl Keyed for Phase {
 impl Keyed for Gates {
     ghost key_of = { gates_key };
 
+    #[inline(always)]
     fn freeze(self, key: &mut Vec<u8>) -> Result<(), AllocError> {
         key.push(match self {
             Gates::First => 0,
@@ -64,6 +69,7 @@ impl Keyed for Gates {
         Ok(())
     }
 
+    #[inline(always)]
     fn thaw(key: &mut Reader) -> Gates {
         match key.byte() {
             0 => Gates::First,
@@ -75,6 +81,7 @@ impl Keyed for Gates {
 impl Keyed for Address {
     ghost key_of = { address_key };
 
+    #[inline(always)]
     fn freeze(self, key: &mut Vec<u8>) -> Result<(), AllocError> {
         match self {
             Address::Permanent(cell) => {
@@ -88,6 +95,7 @@ impl Keyed for Address {
         }
     }
 
+    #[inline(always)]
     fn thaw(key: &mut Reader) -> Address {
         match key.byte() {
             0 => Address::Permanent(usize::thaw(key)),
@@ -96,17 +104,57 @@ impl Keyed for Address {
     }
 }
 
+// Whether each number of a frame is one byte of its key.
+#[inline(always)]
+fn is_small(frame: &Frame) -> bool
+    ensures { IsTrue result → IsSmall frame.now }
+{
+    frame.routine < 254
+        && frame.component < 254
+        && frame.own < 254
+        && frame.base < 254
+        && frame.references < 254
+}
+
+#[inline(always)]
+fn freeze_small(frame: &Frame, key: &mut Vec<u8>) -> Result<(), AllocError>
+    requires { IsSmall frame.now }
+    ensures { IfOk result (λ _. key.new.items ≡ key.old.items ++ frame_key frame.now) }
+{
+    key.extend_from_slice(&[
+        frame.routine as u8,
+        frame.component as u8,
+        frame.own as u8,
+        frame.base as u8,
+        frame.references as u8,
+    ])
+}
+
+#[cold]
+#[inline(never)]
+fn freeze_large(frame: &Frame, key: &mut Vec<u8>) -> Result<(), AllocError>
+    ensures { IfOk result (λ _. key.new.items ≡ key.old.items ++ frame_key frame.now) }
+{
+    frame.routine.freeze(key)?;
+    frame.component.freeze(key)?;
+    frame.own.freeze(key)?;
+    frame.base.freeze(key)?;
+    frame.references.freeze(key)
+}
+
 impl Keyed for Frame {
     ghost key_of = { frame_key };
 
+    #[inline(always)]
     fn freeze(self, key: &mut Vec<u8>) -> Result<(), AllocError> {
-        self.routine.freeze(key)?;
-        self.component.freeze(key)?;
-        self.own.freeze(key)?;
-        self.base.freeze(key)?;
-        self.references.freeze(key)
+        if is_small(&self) {
+            freeze_small(&self, key)
+        } else {
+            freeze_large(&self, key)
+        }
     }
 
+    #[inline(always)]
     fn thaw(key: &mut Reader) -> Frame {
         Frame {
             routine: usize::thaw(key),
@@ -128,6 +176,7 @@ fn freeze_both<T: Keyed, U: Keyed>(first: T, second: U, key: &mut Vec<u8>) -> Re
 impl Keyed for Entry {
     ghost key_of = { entry_key };
 
+    #[inline(always)]
     fn freeze(self, key: &mut Vec<u8>) -> Result<(), AllocError> {
         match self {
             Entry::Rest(item) => {
@@ -152,6 +201,7 @@ impl Keyed for Entry {
         }
     }
 
+    #[inline(always)]
     fn thaw(key: &mut Reader) -> Entry {
         match key.byte() {
             0 => Entry::Rest(usize::thaw(key)),
@@ -165,6 +215,7 @@ impl Keyed for Entry {
 impl Keyed for Status {
     ghost key_of = { status_key };
 
+    #[inline(always)]
     fn freeze(self, key: &mut Vec<u8>) -> Result<(), AllocError> {
         match self {
             Status::Unstarted => key.push(0)?,
@@ -182,6 +233,7 @@ impl Keyed for Status {
         Ok(())
     }
 
+    #[inline(always)]
     fn thaw(key: &mut Reader) -> Status {
         match key.byte() {
             0 => Status::Unstarted,
@@ -196,6 +248,7 @@ impl Keyed for Status {
 impl Keyed for Shown {
     ghost key_of = { shown_key };
 
+    #[inline(always)]
     fn freeze(self, key: &mut Vec<u8>) -> Result<(), AllocError> {
         match self {
             Shown::Integer(number) => {
@@ -215,6 +268,7 @@ impl Keyed for Shown {
         Ok(())
     }
 
+    #[inline(always)]
     fn thaw(key: &mut Reader) -> Shown {
         match key.byte() {
             0 => Shown::Integer(i16::thaw(key)),

@@ -24,6 +24,7 @@ pub fn thaw(key: &[u8], state: &mut State)
     thaw_state(&mut Reader { bytes: key }, state);
 }
 
+#[inline(always)]
 fn thaw_state(key: &mut Reader, state: &mut State)
     ensures same { (m : Machine) (more : List ℕ) → key.old.bytes.now ≡ key_of m ++ more → HasMachineRoom state.old m → machine_of state.new ≡ m }
     ensures reserved { (r : Tables) → IsReserved r state.old → vec_len state.new.output ≤ LIMIT → IsReserved r state.new }
@@ -38,6 +39,7 @@ fn thaw_state(key: &mut Reader, state: &mut State)
     thaw_list(key, &mut state.output);
 }
 
+#[inline(always)]
 fn thaw_processes(key: &mut Reader, processes: &mut [Process])
     ensures same { (ts : List Thread) (more : List ℕ) → key.old.bytes.now ≡ list_key thread_key ts ++ more → HaveThreadRoom processes.old ts → (map thread_of processes.new ≡ ts) × (key.new.bytes.now ≡ more) }
     ensures stacks { (depth : ℕ) → HaveStacks depth processes.old → HaveStacks depth processes.new }
@@ -50,6 +52,7 @@ fn thaw_processes(key: &mut Reader, processes: &mut [Process])
     }
 }
 
+#[inline(always)]
 fn thaw_process(key: &mut Reader, process: &mut Process)
     ensures same { (t : Thread) (more : List ℕ) → key.old.bytes.now ≡ thread_key t ++ more → HasThreadRoom process.old t → (thread_of process.new ≡ t) × (key.new.bytes.now ≡ more) }
     ensures stack { vec_capacity process.old.stack ≤ vec_capacity process.new.stack }
@@ -63,6 +66,7 @@ fn thaw_process(key: &mut Reader, process: &mut Process)
     thaw_list(key, &mut process.room.references);
 }
 
+#[inline(always)]
 fn thaw_guards(key: &mut Reader, guards: &mut [Guard])
     ensures { (ms : List Monitor) (more : List ℕ) → key.old.bytes.now ≡ list_key monitor_key ms ++ more → length ms ≡ length guards.old → AreShort ms → (map monitor_of guards.new ≡ ms) × (key.new.bytes.now ≡ more) }
 {
@@ -72,6 +76,7 @@ fn thaw_guards(key: &mut Reader, guards: &mut [Guard])
     }
 }
 
+#[inline(always)]
 fn thaw_guard(key: &mut Reader) -> Guard
     ensures { (m : Monitor) (more : List ℕ) → key.old.bytes.now ≡ monitor_key m ++ more → length m.line ≤ 16 → (monitor_of result ≡ m) × (key.new.bytes.now ≡ more) }
 {
@@ -81,6 +86,7 @@ fn thaw_guard(key: &mut Reader) -> Guard
     }
 }
 
+#[inline(always)]
 fn thaw_line(key: &mut Reader) -> ArrayVec<u8, 16>
     ensures { (line : List ℕ) (more : List ℕ) → key.old.bytes.now ≡ list_key byte_key line ++ more → length line ≤ 16 → (result.items ≡ line) × (key.new.bytes.now ≡ more) }
 {
