@@ -1,5 +1,11 @@
+pub mod Code
 pub mod Fits
 pub mod Inside
+pub mod Kinds
+pub mod LaidExpressions
+pub mod LaidStatements
+pub mod Layers
 pub mod Parameters
 pub mod Systems
 pub mod Tables
+pub mod Values

@@ -57,8 +57,8 @@ impl<'a> Layer<'a> {
 
     fn system(&mut self, alloc: Global, node: &'a WrittenSystem) -> Result<ValueType, AllocError> {
         let outer = mem::replace(&mut self.owned, Owned::new(alloc));
-        let names = self.names.open();
-        self.names.seal();
+        let inside = self.names.inside(alloc)?;
+        let names = mem::replace(&mut self.names, inside);
         let first = self.routines.len();
         let parameters = self.system_parameters(alloc, &node.parameters)?;
         for part in &node.parts {
@@ -72,8 +72,7 @@ impl<'a> Layer<'a> {
         self.set_parameters(parameters);
         let body = self.list(alloc, &node.body.statements)?;
         self.add_routine(alloc, body)?;
-        self.names.close(names);
-        self.names.unseal();
+        self.names = names;
         let owned = mem::replace(&mut self.owned, outer);
         let number = self.systems.len();
         self.systems.push(System {

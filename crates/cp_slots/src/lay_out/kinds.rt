@@ -1,5 +1,9 @@
 //! The types of a program, with the cells of their values.
 
+ghost use Rattle.std.specs.Prelude.{◌≡◌, map, option_map};
+ghost use Rattle.cp_slots.specs.Kinds as spec;
+ghost use Rattle.cp_slots.specs.Kinds.{types_seen, field_seen};
+
 use cp_text::Name;
 use std::alloc::{AllocError, Global};
 
@@ -18,7 +22,9 @@ pub enum Base {
 
 impl Base {
     /// All values.
-    pub fn whole(self) -> Range {
+    pub fn whole(self) -> Range
+        ensures { result ≡ spec.whole self }
+    {
         let (low, high) = match self {
             Base::Integer => (i16::MIN, i16::MAX),
             Base::Boolean => (0, 1),
@@ -67,7 +73,9 @@ pub enum ValueType {
 }
 
 /// The type of all values of a base.
-pub fn values_of(base: Base) -> ValueType {
+pub fn values_of(base: Base) -> ValueType
+    ensures { result ≡ spec.values_of base }
+{
     ValueType::Ordinal(base.whole())
 }
 
@@ -99,6 +107,17 @@ enum Compound<'a> {
     Record(RecordType<'a>),
 }
 
+fn field_named<'a>(fields: &[Field<'a>], name: &Name) -> Option<Field<'a>>
+    ensures { option_map field_seen result ≡ spec.field_in name.now (map field_seen fields.now) }
+{
+    for field in fields {
+        if field.name.as_str() == name.as_str() {
+            return Some(*field);
+        }
+    }
+    None
+}
+
 /// The arrays and records of a program. Each holds earlier ones alone.
 #[derive(Drop)]
 pub struct Types<'a> {
@@ -113,7 +132,10 @@ impl<'a> Types<'a> {
     }
 
     /// How many cells a value has. A component has none.
-    pub fn cells_of(&self, value_type: ValueType) -> usize {
+    #[tactic(auto, unfolding(crate::specs::Kinds::types_seen))]
+    pub fn cells_of(&self, value_type: ValueType) -> usize
+        ensures { result ≡ spec.cells_of (types_seen self.now) value_type }
+    {
         match value_type {
             ValueType::Ordinal(_) | ValueType::Queue => 1,
             ValueType::Set(_) => SET_CELLS,
@@ -129,7 +151,10 @@ impl<'a> Types<'a> {
     }
 
     /// An array's index and elements.
-    pub fn array(&self, value_type: ValueType) -> Option<ArrayType> {
+    #[tactic(auto, unfolding(crate::specs::Kinds::types_seen))]
+    pub fn array(&self, value_type: ValueType) -> Option<ArrayType>
+        ensures { result ≡ spec.array_of (types_seen self.now) value_type }
+    {
         let ValueType::Array(number) = value_type else {
             return None;
         };
@@ -140,19 +165,17 @@ impl<'a> Types<'a> {
     }
 
     /// A field of a record.
-    pub fn field(&self, value_type: ValueType, name: &Name) -> Option<Field<'a>> {
+    #[tactic(auto, unfolding(crate::specs::Kinds::types_seen))]
+    pub fn field(&self, value_type: ValueType, name: &Name) -> Option<Field<'a>>
+        ensures { option_map field_seen result ≡ spec.field_of (types_seen self.now) value_type name.now }
+    {
         let ValueType::Record(number) = value_type else {
             return None;
         };
         let Some(Compound::Record(record)) = self.compounds.get(number) else {
             return None;
         };
-        for field in &record.fields {
-            if field.name.as_str() == name.as_str() {
-                return Some(*field);
-            }
-        }
-        None
+        field_named(&record.fields, name)
     }
 
     /// A new array type.

@@ -1,5 +1,10 @@
 //! Constants and types as they are written.
 
+ghost use Rattle.std.specs.Prelude.{◌≡◌};
+ghost use Rattle.cp_slots.specs.Layers.{layer_seen, find};
+ghost use Rattle.cp_slots.specs.LaidStatements as spec;
+
+use crate::lay_out::expression::integer;
 use crate::lay_out::kinds::{Base, Field, Range, ValueType, values_of};
 use crate::lay_out::layer::Layer;
 use crate::lay_out::names::Meaning;
@@ -15,37 +20,58 @@ pub struct Value {
     pub number: i16,
 }
 
-fn signed(sign: Option<Sign>, number: i16) -> i16 {
+// There is no opposite of the least integer.
+fn opposite_number(number: i16) -> i16
+    ensures { result ≡ spec.opposite_number number }
+{
+    if number <= i16::MIN {
+        i16::MAX
+    } else {
+        -number
+    }
+}
+
+fn signed(sign: Option<Sign>, number: i16) -> i16
+    ensures { result ≡ spec.signed_number sign number }
+{
     match sign {
-        Some(Sign::Minus) => number.saturating_neg(),
+        Some(Sign::Minus) => opposite_number(number),
         _ => number,
     }
 }
 
 impl<'a> Layer<'a> {
     /// A constant.
-    pub fn constant(&self, node: &Constant) -> Value {
+    pub fn constant(&self, node: &Constant) -> Value
+        ensures { (result.base, result.number) ≡ spec.constant_of (layer_seen self.now).names node.now }
+    {
         match &node.kind {
             ConstantKind::Number(sign, number) => Value {
                 base: Base::Integer,
-                number: signed(*sign, i16::try_from(*number).unwrap_or(i16::MAX)),
+                number: signed(*sign, integer(*number)),
             },
             ConstantKind::Character(code) => Value {
                 base: Base::Char,
                 number: i16::from(*code),
             },
-            ConstantKind::Name(sign, identifier) => match self
-                .names
-                .look(identifier.name.as_str())
-            {
-                Some(Meaning::Constant(base, number)) => Value {
-                    base,
-                    number: signed(*sign, number),
-                },
-                _ => Value {
-                    base: Base::Integer,
-                    number: 0,
-                },
+            ConstantKind::Name(sign, identifier) => {
+                self.named_constant(*sign, identifier.name.as_str())
+            }
+        }
+    }
+
+    #[tactic(auto, unfolding(crate::specs::Layers::layer_seen))]
+    fn named_constant(&self, sign: Option<Sign>, name: &str) -> Value
+        ensures { (result.base, result.number) ≡ spec.constant_meant sign (find name.now (layer_seen self.now).names) }
+    {
+        match self.names.look(name) {
+            Some(Meaning::Constant(base, number)) => Value {
+                base,
+                number: signed(sign, number),
+            },
+            _ => Value {
+                base: Base::Integer,
+                number: 0,
             },
         }
     }
