@@ -10,7 +10,8 @@ use Rattle.cp_tree.specs.View.{statement_view, statements_view, statements_of, a
 use Rattle.cp_slots.specs.declared.item.Arm as code_arm
 use Rattle.cp_slots.specs.Code.{Arm, arm_seen}
 use Rattle.cp_slots.specs.Layers.{Layer, Names, settled}
-use Rattle.cp_slots.specs.LaidStatements.{statement, statements, one_arm, arms, starts, started, labels_of, constant_of}
+use Rattle.cp_slots.specs.LaidStatements.{statement, statements, one_arm, arms, starts, started}
+use Rattle.cp_slots.specs.LaidTypes.{labels_of, constant_of}
 
 module _ (l : Layer) (xs : List tree_statement.Statement) where
   pub statements_step : (i j : ℕ) (x : tree_statement.Statement) → i < length xs → x ≡ get_or xs i x → j ≡ i + 1 → (next first : Option ℕ) (m n : Layer)

@@ -4,3 +4,7 @@ pub mod NamesSeen
 pub mod Settling
 pub mod Laid
 pub mod LaidLists
+pub mod LaidParts
+pub mod Least
+pub mod Listed
+pub mod Systems

@@ -1,4 +1,4 @@
--- What is laid out of expressions: their values with slots, and the state behind their calls.
+-- What is laid out of expressions: their values with slots, and the state behind their calls. In the shape of the code, as `Laid` says.
 use Rattle.std.specs.Prelude.{ℕ, ◌+◌, max, nat_le, nat_lt, ℤ, pos, int_le, unsigned_abs, if◌then◌else◌, Bool, true, false, ◌&&◌, List, [], ◌∷◌, length, Option, Some, None, slice_get}
 use Rattle.std.specs.Str.{bytes_eq}
 use Rattle.cp_tree.specs.declared.constant.Sign.{Sign}
@@ -16,12 +16,12 @@ use Rattle.cp_slots.specs.declared.lay_out.layer.Passing.{Passing}
 use Rattle.cp_slots.specs.declared.lay_out.layer.Passing.TheVariants as passing
 use Rattle.cp_slots.specs.declared.lay_out.layer.Parameter.{Parameter}
 use Rattle.cp_slots.specs.declared.lay_out.layer.FunctionResult.{FunctionResult}
-use Rattle.cp_slots.specs.Kinds.{Field, field_of, array_of, cells_of}
+use Rattle.cp_slots.specs.Kinds.{Field, field_of, array_of, cells_of, plus}
 use Rattle.cp_slots.specs.Code as code
 use Rattle.cp_slots.specs.Code.{Place, Indices, Index, Expression, SetExpression, ComponentPlace, ArgumentValue, Argument}
 use Rattle.cp_slots.specs.Values as values
 use Rattle.cp_slots.specs.Values.{Value, component_value, Designated, a_value, a_variable, a_contained, a_component, a_routine, an_entry, a_standard, no_designated, number_value, no_value, place_at, loaded, place_of, ordinal_of, set_of, set_value, component_value, applied}
-use Rattle.cp_slots.specs.Layers.{find, Layer, Heading, System, plus, parameter_of, result_of, with_cell, with_room, call_need, added}
+use Rattle.cp_slots.specs.Layers.{find, Layer, Heading, System, parameter_of, result_of, with_cell, with_room, call_need, added}
 
 -- ---- names
 

@@ -1,10 +1,5 @@
--- What is laid out of statements: their items, last to first, each list behind those inside it.
-use Rattle.std.specs.Prelude.{ℕ, max, ℤ, pos, negsuc, neg_ℤ, int_le, if◌then◌else◌, Bool, true, false, List, [], ◌∷◌, map, Option, Some, None, slice_get}
-use Rattle.cp_tree.specs.declared.constant.Sign.{Sign}
-use Rattle.cp_tree.specs.declared.constant.Sign.TheVariants as sign
-use Rattle.cp_tree.specs.declared.constant.Constant.{Constant}
-use Rattle.cp_tree.specs.declared.constant.ConstantKind.{ConstantKind}
-use Rattle.cp_tree.specs.declared.constant.ConstantKind.TheVariants as constant_kind
+-- What is laid out of statements: their items, last to first, each list behind those inside it. In the shape of the code, as `Laid` says.
+use Rattle.std.specs.Prelude.{ℕ, max, ℤ, pos, negsuc, Bool, true, false, List, [], ◌∷◌, Option, Some, None, slice_get}
 use Rattle.cp_tree.specs.declared.statement.Direction.{Direction}
 use Rattle.cp_tree.specs.declared.statement.Direction.TheVariants as direction
 use Rattle.cp_tree.specs.Syntax as syntax
@@ -13,12 +8,9 @@ use Rattle.cp_slots.specs.declared.item.ShownKind.{ShownKind}
 use Rattle.cp_slots.specs.declared.item.ShownKind.TheVariants as shown
 use Rattle.cp_slots.specs.declared.place.Origin.{Origin}
 use Rattle.cp_slots.specs.declared.place.Origin.TheVariants as origin
-use Rattle.cp_slots.specs.declared.lay_out.kinds.Base.{Base}
 use Rattle.cp_slots.specs.declared.lay_out.kinds.Base.TheVariants as base
 use Rattle.cp_slots.specs.declared.lay_out.kinds.ValueType.{ValueType}
 use Rattle.cp_slots.specs.declared.lay_out.kinds.ValueType.TheVariants as types
-use Rattle.cp_slots.specs.declared.lay_out.names.Meaning.{Meaning}
-use Rattle.cp_slots.specs.declared.lay_out.names.Meaning.TheVariants as meaning
 use Rattle.cp_slots.specs.declared.lay_out.names.Predeclared.{Predeclared}
 use Rattle.cp_slots.specs.declared.lay_out.names.Predeclared.TheVariants as predeclared
 use Rattle.cp_slots.specs.declared.lay_out.layer.FunctionResult.{FunctionResult}
@@ -30,34 +22,9 @@ use Rattle.cp_slots.specs.Kinds.{cells_of, values_of}
 use Rattle.cp_slots.specs.Code as code
 use Rattle.cp_slots.specs.Code.{Place, place_seen, ComponentPlace, component_seen, Arm, Action}
 use Rattle.cp_slots.specs.Values.{Value, ordinal_value, Designated, a_variable, a_component, a_routine, an_entry, a_standard, place_at, place_of, ordinal_of, set_of}
-use Rattle.cp_slots.specs.Layers.{Names, find, Layer, System, is_own, need_inside, with_room, call_need, pending_need, again, added, settled, result_of}
-use Rattle.cp_slots.specs.LaidExpressions.{as_integer, begun, byte_or, name_at, expression, first_value, arguments, designator}
-
--- ---- constants
-
--- there is no opposite of the least integer
-abbrev pub opposite_number : ℤ → ℤ
-opposite_number z = if int_le z (negsuc 32767) then pos 32767 else neg_ℤ z
-
-abbrev pub signed_number : Option Sign → ℤ → ℤ
-signed_number (Some sign.Minus) z = opposite_number z
-signed_number s z = z
-
-abbrev pub constant_meant : Option Sign → Option Meaning → Base × ℤ
-constant_meant s (Some (meaning.Constant b z)) = (b, signed_number s z)
-constant_meant s m = (base.Integer, pos 0)
-
-abbrev pub constant_of_kind : Names → ConstantKind → Base × ℤ
-constant_of_kind names (constant_kind.Number s n) = (base.Integer, signed_number s (as_integer n))
-constant_of_kind names (constant_kind.Name s i) = constant_meant s (find i.name names)
-constant_of_kind names (constant_kind.Character c) = (base.Char, pos c)
-
--- the base and the value of a constant
-abbrev pub constant_of : Names → Constant → Base × ℤ
-constant_of names c = constant_of_kind names c.kind
-
-abbrev pub labels_of : Names → List Constant → List ℤ
-labels_of names cs = map (λ c. (constant_of names c).1) cs
+use Rattle.cp_slots.specs.Layers.{Layer, System, is_own, need_inside, with_room, call_need, pending_need, again, added, settled, result_of}
+use Rattle.cp_slots.specs.LaidTypes.{labels_of}
+use Rattle.cp_slots.specs.LaidExpressions.{begun, byte_or, name_at, expression, first_value, arguments, designator}
 
 -- ---- assignments
 

@@ -1,5 +1,5 @@
 -- What is laid out so far.
-use Rattle.std.specs.Prelude.{◌≡◌, ℕ, ◌+◌, max, min, ℤ, pos, nat_lt, if◌then◌else◌, Bool, true, false, ◌==◌, List, [], ◌∷◌, ◌++◌, map, length, Option, Some, None, slice_get, slice_index, codes, Result, Ok, Err}
+use Rattle.std.specs.Prelude.{◌≡◌, ℕ, max, ℤ, pos, nat_lt, if◌then◌else◌, Bool, true, false, ◌==◌, List, [], ◌∷◌, ◌++◌, map, length, Option, Some, None, slice_get, slice_index, codes, Result, Ok, Err}
 use Rattle.std.specs.String.{string_bytes}
 use Rattle.std.specs.Str.{bytes_eq}
 use Rattle.cp_tree.specs.declared.declaration.SystemKind.{SystemKind}
@@ -21,7 +21,7 @@ use Rattle.cp_slots.specs.declared.lay_out.layer.System as code_system
 use Rattle.cp_slots.specs.declared.lay_out.layer.Pending as code_pending
 use Rattle.cp_slots.specs.declared.lay_out.layer.Layer as code_layer
 use Rattle.cp_slots.specs.Tables.{RoutineView, routine_view}
-use Rattle.cp_slots.specs.Kinds.{Compounds, types_seen, most, values_of}
+use Rattle.cp_slots.specs.Kinds.{Compounds, types_seen, plus, values_of}
 use Rattle.cp_slots.specs.Code.{Action, action_seen, Item, item_seen}
 
 -- ---- names
@@ -165,6 +165,32 @@ layer_seen l =
       arguments = l.arguments;
     }
 
+-- the frame of a routine that begins
+abbrev pub no_frame : Frame
+no_frame = record { image = []; extents = []; room = 0; reference_room = 0 }
+
+-- the cells and components of a system type that begins
+abbrev pub no_owned : Owned
+no_owned = record { image = []; parameters = []; contained = []; count = 1 }
+
+-- the predeclared names alone, with the lines of the tokens
+abbrev pub nothing_laid : List ℕ → Layer
+nothing_laid lines =
+    record {
+      lines = lines;
+      types = [];
+      names = outermost;
+      systems = [];
+      headings = [];
+      routines = [];
+      items = [];
+      constants = [];
+      owned = no_owned;
+      frame = no_frame;
+      pending = [];
+      arguments = 0;
+    }
+
 -- what a function lays out: an answer and a new state, unless memory fails
 abbrev pub Lays : {X A E : Type 0} → (X → A) → A × Layer → Layer → Result X E → Type 0
 Lays view laid new (Ok x) = laid ≡ (view x, new)
@@ -175,12 +201,11 @@ abbrev pub Leads : {E : Type 0} → Layer → Layer → Result (Unit {0}) E → 
 Leads laid new (Ok x) = laid ≡ new
 Leads laid new (Err e) = Unit {0}
 
--- ---- numbers of a machine word, that stop at the greatest
-
-abbrev pub plus : ℕ → ℕ → ℕ
-plus m n = min (m + n) most
-
 -- ---- parts of the state
+
+-- a name, declared
+abbrev pub with_name : Layer → List ℕ → Meaning → Layer
+with_name l x m = record l { names = (x, m) ∷ l.names }
 
 abbrev pub parameter_at : Option Heading → ℕ → Option Parameter
 parameter_at None n = None
@@ -268,3 +293,32 @@ without_pending l = record l { pending = [] }
 
 abbrev pub settled : Layer → Option ℕ → Option ℕ × Layer
 settled l next = settled_all (without_pending l) l.pending next
+
+-- ---- whole routines
+
+abbrev pub result_slot : Option FunctionResult → ℕ
+result_slot None = 0
+result_slot (Some r) = r.slot
+
+-- the cell of the result of the function that is laid out
+abbrev pub own_result : Layer → ℕ
+own_result l = result_slot (result_of l (length l.routines))
+
+-- the routine of the frame
+abbrev pub routine_of : Layer → Option ℕ → RoutineView
+routine_of l body =
+    record {
+      body = body;
+      image = l.frame.image;
+      references = length l.frame.extents;
+      result = own_result l;
+      room = plus (length l.frame.image) l.frame.room;
+      reference_room = plus (length l.frame.extents) l.frame.reference_room;
+      own = length l.owned.image;
+      extents = l.frame.extents;
+      system = length l.systems;
+    }
+
+-- the routine of the frame is whole
+abbrev pub with_routine : Layer → Option ℕ → Layer
+with_routine l body = record l { frame = no_frame; routines = l.routines ++ routine_of l body ∷ [] }

@@ -496,6 +496,17 @@ pub fn integer(value: u16) -> i16
     }
 }
 
+/// A count as a number, at most the greatest integer.
+pub fn integer_of(count: usize) -> i16
+    ensures { result ≡ spec.as_integer count }
+{
+    if count <= 32767 {
+        count as i16
+    } else {
+        i16::MAX
+    }
+}
+
 /// A number of a byte, or the other one.
 pub fn byte_or(other: u8, number: i16) -> u8
     ensures { result ≡ spec.byte_or other number }

@@ -3,13 +3,13 @@
 ghost use Rattle.std.specs.Prelude.{◌≡◌, map, length, IfOk, OnOk, Some};
 ghost use Rattle.cp_slots.specs.Code.{action_seen, item_seen};
 ghost use Rattle.cp_slots.specs.Layers as spec;
-ghost use Rattle.cp_slots.specs.Layers.{layer_seen, pending_seen, Lays, Leads};
+ghost use Rattle.cp_slots.specs.Layers.{layer_seen, frame_seen, owned_seen, pending_seen, Lays, Leads};
 
 use crate::item::{Action, Item};
 use crate::lay_out::kinds::{Types, ValueType};
-use crate::lay_out::names::Names;
+use crate::lay_out::names::{Meaning, Names};
 use crate::tables::{ComponentParameter, Routine};
-use cp_tree::{SystemKind, Tree};
+use cp_tree::{Identifier, SystemKind, Tree};
 use std::alloc::{AllocError, Global};
 use std::mem;
 
@@ -114,7 +114,9 @@ pub struct Layer<'a> {
 }
 
 impl Frame {
-    pub fn new(alloc: Global) -> Frame {
+    pub fn new(alloc: Global) -> Frame
+        ensures { frame_seen result ≡ spec.no_frame }
+    {
         Frame {
             image: Vec::new(alloc),
             extents: Vec::new(alloc),
@@ -125,7 +127,9 @@ impl Frame {
 }
 
 impl Owned {
-    pub fn new(alloc: Global) -> Owned {
+    pub fn new(alloc: Global) -> Owned
+        ensures { owned_seen result ≡ spec.no_owned }
+    {
         Owned {
             image: Vec::new(alloc),
             parameters: Vec::new(alloc),
@@ -137,7 +141,10 @@ impl Owned {
 
 impl<'a> Layer<'a> {
     /// The predeclared names alone.
-    pub fn new(alloc: Global, tree: &'a Tree) -> Result<Layer<'a>, AllocError> {
+    #[tactic(auto, unfolding(crate::specs::Layers::layer_seen))]
+    pub fn new(alloc: Global, tree: &'a Tree) -> Result<Layer<'a>, AllocError>
+        ensures { IfOk result (λ l. layer_seen l ≡ spec.nothing_laid tree.now.lines.items) }
+    {
         Ok(Layer {
             tree,
             types: Types::new(alloc),
@@ -152,6 +159,14 @@ impl<'a> Layer<'a> {
             pending: Vec::new(alloc),
             arguments: 0,
         })
+    }
+
+    /// Declares a name.
+    #[tactic(auto, unfolding(crate::specs::Layers::layer_seen))]
+    pub fn declare(&mut self, node: &'a Identifier, meaning: Meaning) -> Result<(), AllocError>
+        ensures { Leads (spec.with_name (layer_seen self.old) node.now.name meaning) (layer_seen self.new) result }
+    {
+        self.names.add(node.name.as_str(), meaning)
     }
 
     /// A parameter of a routine.
@@ -307,27 +322,36 @@ impl<'a> Layer<'a> {
     }
 
     /// The routine of the frame is whole.
-    pub fn add_routine(&mut self, alloc: Global, body: Option<usize>) -> Result<(), AllocError> {
+    #[tactic(auto, unfolding(crate::specs::Layers::layer_seen))]
+    pub fn add_routine(&mut self, alloc: Global, body: Option<usize>) -> Result<(), AllocError>
+        ensures { Leads (spec.with_routine (layer_seen self.old) body) (layer_seen self.new) result }
+    {
+        let result = self.result_slot();
         let frame = mem::replace(&mut self.frame, Frame::new(alloc));
-        let result = match self.result(self.routines.len()) {
-            Some(result) => result.slot,
-            None => 0,
-        };
-        let room = frame.image.len().saturating_add(frame.room);
         let references = frame.extents.len();
-        let reference_room = references.saturating_add(frame.reference_room);
         self.routines.push(Routine {
             body,
+            room: frame.image.len().saturating_add(frame.room),
             image: frame.image,
             references,
             result,
-            room,
-            reference_room,
+            reference_room: references.saturating_add(frame.reference_room),
             own: self.owned.image.len(),
             extents: frame.extents,
             system: self.systems.len(),
         })?;
         Ok(())
+    }
+
+    // The cell of the result of the function that is laid out.
+    #[tactic(auto, unfolding(crate::specs::Layers::layer_seen))]
+    fn result_slot(&self) -> usize
+        ensures { result ≡ spec.own_result (layer_seen self.now) }
+    {
+        match self.result(self.routines.len()) {
+            Some(result) => result.slot,
+            None => 0,
+        }
     }
 }
 

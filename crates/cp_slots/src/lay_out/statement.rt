@@ -5,6 +5,7 @@ ghost use Rattle.cp_tree.specs.View.{expression_view, expressions_view, expressi
 ghost use Rattle.cp_slots.specs.Code.{action_seen, arm_seen, component_seen};
 ghost use Rattle.cp_slots.specs.Values.{value_seen, designated_seen};
 ghost use Rattle.cp_slots.specs.Layers.{layer_seen, Lays, Leads, is_own, result_of, settled, added};
+ghost use Rattle.cp_slots.specs.LaidTypes.{labels_of};
 ghost use Rattle.cp_slots.specs.LaidStatements as spec;
 ghost use Rattle.cp_slots.specs.LaidStatements.{target_seen, callee_seen, placed_seen, token_of};
 
@@ -151,11 +152,11 @@ impl<'a> Layer<'a> {
 
     #[tactic(auto, using(crate::proofs::LaidLists::labels_step, crate::proofs::LaidLists::labels_none))]
     fn labels(&self, alloc: Global, nodes: &[Constant]) -> Result<Vec<i16>, AllocError>
-        ensures { IfOk result (λ v. v.items ≡ spec.labels_of (layer_seen self.now).names nodes.now) }
+        ensures { IfOk result (λ v. v.items ≡ labels_of (layer_seen self.now).names nodes.now) }
     {
         let mut labels = Vec::new(alloc);
         for node in nodes {
-            labels.push(self.constant(node).number)?;
+            labels.push(self.constant(node).value)?;
         }
         Ok(labels)
     }

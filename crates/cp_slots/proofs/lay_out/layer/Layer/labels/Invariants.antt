@@ -1,6 +1,6 @@
 use Rattle.std.proofs.Common.{◌≡◌, take}
 use Rattle.cp_slots.specs.Layers.{layer_seen}
-use Rattle.cp_slots.specs.LaidStatements.{labels_of}
+use Rattle.cp_slots.specs.LaidTypes.{labels_of}
 use Rattle.cp_slots.proofs.lay_out.layer.Layer.labels.Given as goal
 
 abbrev pub invariant-loop-node : goal.invariant-loop-node
