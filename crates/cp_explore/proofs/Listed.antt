@@ -52,7 +52,7 @@ joined_those f h (suc n) =
     one true = append_none (h n)
     one false = refl
 
--- the rows behind each of these numbers
+-- the rows that begin with each of these numbers
 abbrev pub behind_each : {S : Type 0} → System S → ℕ → ℕ → S → List ℕ → List Line
 behind_each sys steps k s ps = flat_map (λ p. map (behind (p ∷ [])) (walk sys steps k (chosen sys steps s p))) ps
 
@@ -82,7 +82,7 @@ module _ {S : Type 0} (sys : System S) (steps k : ℕ) (s : S) (others : List �
   pub may_last : may sys s last ≡ true
   may_last = ap (may sys s) (sym last_is) ∙ last_at.1
 
-  -- what is behind those before a number is what is behind the numbers below it
+  -- what is after those before a number is what is after the numbers below it
   pub before_other : (i p : ℕ) → i < length others → p ≡ get_or others i 0 → behind_each sys steps k s (take i others) ≡ joined_below p (branch sys steps k s)
   before_other i p lt e =
       let same : take i others ≡ those_below p (may sys s) = sym (take-append-le i others (last ∷ []) (omega (arith, lt))) ∙ (others_at i lt).0 ∙ ap (λ q. those_below q (may sys s)) (first_of i lt ∙ sym e) in

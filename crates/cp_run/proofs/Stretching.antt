@@ -16,7 +16,7 @@ one_step sys left s p = refl
 moved : {S : Type 0} (sys : System S) (left : ℕ) (s t : S) (p : ℕ) (turn : Turn) → t ≡ sys.step s p → turn ≡ turn_after sys t p (sys.event s p) → node_at (sys.step s p) (stretch sys left (sys.step s p)) (turn_after sys (sys.step s p) p (sys.event s p)) ≡ node_at t (stretch sys left t) turn
 moved sys left s t p turn e h = rw (h, e) refl
 
--- the next step of a stretch of which so many are made, to the state t
+-- the next step of a stretch of which this many are made, to the state t
 pub step_on : {S : Type 0} (sys : System S) (steps made : ℕ) (s t : S) (p : ℕ) (turn : Turn) → made < steps → t ≡ sys.step s p → turn ≡ turn_after sys t p (sys.event s p) → stretch sys (steps - made) s p ≡ node_at t (stretch sys (steps - (made + 1)) t) turn
 step_on sys steps made s t p turn lt e h =
     let n : steps - made ≡ suc (steps - (made + 1)) = omega (arith, lt) in

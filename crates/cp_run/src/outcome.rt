@@ -118,7 +118,7 @@ pub struct Outcome {
 /// How a run stands after its word.
 #[derive(Debug, Drop)]
 pub enum RunEnd {
-    /// It is over, and used so many numbers of the word.
+    /// It is over, and used this many numbers of the word.
     Ended { outcome: Outcome, used: usize },
     /// A choice is due, and the word is used up: the numbers that it may take, in rising order.
     Wants { ready: ArrayVec<u8, 16> },

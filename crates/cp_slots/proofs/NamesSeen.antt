@@ -16,7 +16,7 @@ length_before (x ∷ xs) before = let h = length_before xs (declared_seen x ∷ 
 pub seen_length : (xs : List Declared) → length (latest_first xs []) ≡ length xs
 seen_length xs = let h = length_before xs [] in grind (arith, h)
 
--- the earlier ones stand behind the later ones
+-- the earlier ones stand after the later ones
 shift : (xs : List Declared) (before : Names) → latest_first xs before ≡ latest_first xs [] ++ before
 shift [] before = refl
 shift (x ∷ xs) before =
@@ -39,7 +39,7 @@ first_of xs before n =
 pub seen_first : (xs : List Declared) (n : ℕ) → latest_first (take n xs) [] ≡ drop (length (latest_first xs []) - n) (latest_first xs [])
 seen_first xs n = rw (seen_length xs) (first_of xs [] n)
 
--- the last of so many
+-- the last of this many
 pub seen_last : (xs : List Declared) (n : ℕ) (d : Declared) → n < length xs → d ≡ get_or xs n d → latest_first (take (n + 1) xs) [] ≡ declared_seen d ∷ latest_first (take n xs) []
 seen_last xs n d h e = rw (add-one, take-suc xs n d h, ← e) (seen_push (take n xs) d [])
 

@@ -196,7 +196,7 @@ abbrev pub Lays : {X A E : Type 0} → (X → A) → A × Layer → Layer → Re
 Lays view laid new (Ok x) = laid ≡ (view x, new)
 Lays view laid new (Err e) = Unit {0}
 
--- the same of a function that answers nothing
+-- the same for a function that answers nothing
 abbrev pub Leads : {E : Type 0} → Layer → Layer → Result (Unit {0}) E → Type 0
 Leads laid new (Ok x) = laid ≡ new
 Leads laid new (Err e) = Unit {0}
@@ -240,7 +240,7 @@ abbrev pub need_of : List Item → Option ℕ → ℕ
 need_of is None = 0
 need_of is (Some at) = item_need (slice_get is at)
 
--- the same of a list inside an item
+-- the same for a list inside an item
 abbrev pub need_inside : List Item → Option ℕ → ℕ
 need_inside is None = 0
 need_inside is (Some at) = plus (need_of is (Some at)) 1

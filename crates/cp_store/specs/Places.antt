@@ -105,7 +105,7 @@ address_at m f p = code_place.fold-Place ToValue ToSet ToElement ToAddress expre
 abbrev pub element_at : code_index.Index → ToElement
 element_at = code_index.fold-Index ToValue ToSet ToElement ToAddress expression_step set_step index_step place_step
 
--- the address behind all indices
+-- the address after all indices
 abbrev pub indexed_at : Memory → Frame → Address → List code_index.Index → Result Address ErrorName
 indexed_at m f at is = through (map element_at is) m f at
 

@@ -62,7 +62,7 @@ pub fn address(
     }
 }
 
-// The address behind all indices: apart, since addresses go through memory.
+// The address after all indices: apart, since addresses go through memory.
 #[cycle(evaluate)]
 #[inline(never)]
 fn indexed(
@@ -78,7 +78,7 @@ fn indexed(
     through(start, indices, permanents, room, frame)
 }
 
-// The address behind all indices.
+// The address after all indices.
 #[cycle(evaluate)]
 #[inline(always)]
 #[tactic(auto, using(crate::proofs::Reaches::index_reads))]

@@ -125,7 +125,7 @@ fn empty_row(alloc: Global) -> Row {
     }
 }
 
-/// A piece of so many rows with nothing displayed.
+/// A piece of this many rows with nothing displayed.
 fn empty_piece(alloc: Global, task: u32, count: u32) -> Result<Piece, Fail> {
     let mut rows = Vec::new(alloc);
     for _ in 0..count {

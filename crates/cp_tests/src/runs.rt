@@ -5,7 +5,7 @@ use cp_machine::{ErrorName, Gates, Shown};
 use cp_run::{Limits, OutcomeKind, RunEnd};
 use std::test::Fail;
 
-/// A source, the steps of a stretch, a word that its run uses wholly, and how it ends, with so many times 1 displayed.
+/// A source, the steps of a stretch, a word that its run uses wholly, and how it ends, with this many times 1 displayed.
 struct Ending {
     source: &'static str,
     steps: u32,

@@ -99,7 +99,7 @@ fn integers(rt: HostRuntime) -> Result<(), Fail> {
     Ok(())
 }
 
-// `table[2]`, a row of two cells in an array of rows 1 .. 3, behind a cell of something else.
+// `table[2]`, a row of two cells in an array of rows 1 .. 3, after a cell of something else.
 fn row(rt: &HostRuntime, index: i16) -> Result<Place, Fail>
     ensures { IfOk result (λ p. (r : RoutineView) → 7 ≤ r.own → IsTrue (has 2 (place_room r p))) }
 {

@@ -32,7 +32,7 @@ fn program_of(alloc: Global, source: &str) -> Result<Resolved, Fail> {
     Ok(resolve(alloc, &checked)?)
 }
 
-/// The report of `TWO_DISPLAYS` by workers that draw the words of so many choices.
+/// The report of `TWO_DISPLAYS` by workers that draw the words of this many choices.
 fn reported<X: Threads + Sync, G: Gate + Sync>(
     rt: &X,
     alloc: Global,
