@@ -100,8 +100,7 @@ fn thaw_eight(key: &mut Reader) -> usize
     let seventh = usize::from(key.byte());
     let eighth = usize::from(key.byte());
     let high = fifth + 256 * (sixth + 256 * (seventh + 256 * eighth));
-    let number = first + 256 * (second + 256 * (third + 256 * (fourth + 256 * high)));
-    number
+    first + 256 * (second + 256 * (third + 256 * (fourth + 256 * high)))
 }
 
 impl Keyed for i16 {
