@@ -49,7 +49,7 @@ plain t =
 -- ---- system types
 
 abbrev pub system_type : Owned → SystemView
-system_type o = record { own = length o.image; parameters = o.parameters }
+system_type o = record { own = o.cells; parameters = o.parameters }
 
 abbrev pub types_of : List System → List SystemView
 types_of ss = map (λ s. system_type s.owned) ss
@@ -98,7 +98,7 @@ tables_listed l c = tables_with l c (room_from l no_room c.processes)
 
 -- the program is a process, and its initial statement is the last routine
 unfoldable pub tables_laid : Layer → PlainTables
-tables_laid l = tables_listed l (program_listed l.systems l.owned (length l.routines - 1))
+tables_laid l = tables_listed l (program_listed l.types l.systems l.owned (length l.routines - 1))
 
 unfoldable pub laid : Tree → PlainTables
 laid t = tables_laid (program (nothing_laid t.lines) t.program)

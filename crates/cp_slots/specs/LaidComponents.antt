@@ -1,5 +1,5 @@
 -- What is listed of components: each with its cells, followed by those that it contains. In the shape of the code, as `Laid` says.
-use Rattle.std.specs.Prelude.{ℕ, zero, suc, ◌+◌, min, ℤ, if◌then◌else◌, ◌==◌, List, [], ◌∷◌, ◌++◌, length, Option, Some, None, slice_get}
+use Rattle.std.specs.Prelude.{ℕ, zero, suc, ◌+◌, min, ℤ, pos, if◌then◌else◌, ◌==◌, List, [], ◌∷◌, ◌++◌, length, Option, Some, None, slice_get}
 use Rattle.cp_tree.specs.declared.declaration.SystemKind.{SystemKind}
 use Rattle.cp_tree.specs.declared.declaration.SystemKind.TheVariants as system_kind
 use Rattle.cp_slots.specs.declared.tables.Component.{Component}
@@ -8,6 +8,9 @@ use Rattle.cp_slots.specs.declared.tables.ComponentKind.TheVariants as component
 use Rattle.cp_slots.specs.declared.tables.Process.{Process}
 use Rattle.cp_slots.specs.declared.lay_out.layer.Contained.{Contained}
 use Rattle.cp_slots.specs.declared.lay_out.component.Components as code_components
+use Rattle.cp_slots.specs.declared.lay_out.layer.Content.{Content}
+use Rattle.cp_slots.specs.declared.lay_out.layer.Content.TheVariants as content
+use Rattle.cp_slots.specs.Kinds.{Compounds, least}
 use Rattle.cp_slots.specs.Layers.{Owned, System}
 
 -- the components so far
@@ -22,6 +25,18 @@ listing_seen c = record { components = c.items.items; processes = c.processes.it
 
 abbrev pub nothing_listed : Listing
 nothing_listed = record { components = []; processes = []; monitors = 0; permanents = [] }
+
+-- ---- cells as a run begins
+
+abbrev pub content_least : Compounds → Content → List ℤ
+content_least ts (content.Variable t) = least ts t
+content_least ts content.Component = pos 0 ∷ []
+
+unfoldable pub contents_least : Compounds → List Content → List ℤ
+contents_least ts [] = []
+contents_least ts (c ∷ cs) = content_least ts c ++ contents_least ts cs
+
+-- ---- components
 
 -- a number of a byte, that stops at the greatest
 abbrev pub byte : ℕ → ℕ
@@ -54,18 +69,18 @@ unfoldable pub contained_by : (ℕ → Listing → Listing) → List Contained �
 contained_by one [] c = c
 contained_by one (k ∷ ks) c = contained_by one ks (again_and_again k.count (one k.system) c)
 
-abbrev pub owned_by : (ℕ → Listing → Listing) → ComponentKind × Listing → Owned → (system : ℕ) → Listing
-owned_by one x o system = contained_by one o.contained (with_component x.1 x.0 o.image system)
+abbrev pub owned_by : Compounds → (ℕ → Listing → Listing) → ComponentKind × Listing → Owned → (system : ℕ) → Listing
+owned_by ts one x o system = contained_by one o.contained (with_component x.1 x.0 (contents_least ts o.contents) system)
 
-abbrev pub system_by : (ℕ → Listing → Listing) → Option System → (number : ℕ) → Listing → Listing
-system_by one None number c = c
-system_by one (Some s) number c = owned_by one (next_kind c s.kind s.initial) s.owned number
+abbrev pub system_by : Compounds → (ℕ → Listing → Listing) → Option System → (number : ℕ) → Listing → Listing
+system_by ts one None number c = c
+system_by ts one (Some s) number c = owned_by ts one (next_kind c s.kind s.initial) s.owned number
 
 -- a component of a system type with those that it contains, if the type is one of the first `bound`
-unfoldable pub listed_below : List System → (bound : ℕ) → (system : ℕ) → Listing → Listing
-listed_below ss zero n c = c
-listed_below ss (suc bound) n c = if n == bound then system_by (listed_below ss bound) (slice_get ss bound) bound c else listed_below ss bound n c
+unfoldable pub listed_below : Compounds → List System → (bound : ℕ) → (system : ℕ) → Listing → Listing
+listed_below ts ss zero n c = c
+listed_below ts ss (suc bound) n c = if n == bound then system_by ts (listed_below ts ss bound) (slice_get ss bound) bound c else listed_below ts ss bound n c
 
 -- the program as a process, and all that it contains
-unfoldable pub program_listed : List System → Owned → (initial : ℕ) → Listing
-program_listed ss o initial = owned_by (listed_below ss (length ss)) (next_kind nothing_listed system_kind.Process initial) o (length ss)
+unfoldable pub program_listed : Compounds → List System → Owned → (initial : ℕ) → Listing
+program_listed ts ss o initial = owned_by ts (listed_below ts ss (length ss)) (next_kind nothing_listed system_kind.Process initial) o (length ss)

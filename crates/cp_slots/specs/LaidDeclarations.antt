@@ -1,5 +1,5 @@
 -- What is laid out of declarations: parts, headings, routines, system types and the program. In the shape of the code, as `Laid` says.
-use Rattle.std.specs.Prelude.{ℕ, ◌-◌, ℤ, pos, if◌then◌else◌, List, [], ◌∷◌, ◌++◌, length, drop, Option, Some, None}
+use Rattle.std.specs.Prelude.{ℕ, ◌-◌, ℤ, if◌then◌else◌, List, [], ◌∷◌, ◌++◌, length, drop, Option, Some, None}
 use Rattle.cp_tree.specs.declared.constant.Identifier.{Identifier}
 use Rattle.cp_tree.specs.declared.declaration.SystemKind.{SystemKind}
 use Rattle.cp_tree.specs.Syntax as syntax
@@ -13,6 +13,7 @@ use Rattle.cp_slots.specs.declared.lay_out.kinds.ArrayType.{ArrayType}
 use Rattle.cp_slots.specs.declared.lay_out.names.Meaning.{Meaning}
 use Rattle.cp_slots.specs.declared.lay_out.names.Meaning.TheVariants as meaning
 use Rattle.cp_slots.specs.declared.lay_out.layer.Contained.{Contained}
+use Rattle.cp_slots.specs.declared.lay_out.layer.Content.TheVariants as content
 use Rattle.cp_slots.specs.declared.lay_out.layer.Passing.TheVariants as passing
 use Rattle.cp_slots.specs.declared.lay_out.layer.Parameter.{Parameter}
 use Rattle.cp_slots.specs.declared.lay_out.layer.FunctionResult.{FunctionResult}
@@ -73,7 +74,7 @@ component_variable l x t c =
 
 -- more permanent cells, and the first of them
 abbrev pub with_permanent : Layer → ValueType → ℕ × Layer
-with_permanent l t = (length l.owned.image, record l { owned = record l.owned { image = l.owned.image ++ least l.types t } })
+with_permanent l t = (l.owned.cells, record l { owned = record l.owned { cells = plus l.owned.cells (cells_of l.types t); contents = l.owned.contents ++ content.Variable t ∷ [] } })
 
 -- a variable of permanent cells, and the first of them
 abbrev pub cell_variable : Layer → List ℕ → ValueType → ℕ × Layer
@@ -281,8 +282,8 @@ component_cell slot k = record { slot = slot; system = k }
 -- the permanent cell of a component parameter
 abbrev pub with_component_cell : Layer → ℕ → ℕ × Layer
 with_component_cell l k = (
-  length l.owned.image,
-  record l { owned = record l.owned { image = l.owned.image ++ pos 0 ∷ []; parameters = l.owned.parameters ++ component_cell (length l.owned.image) k ∷ [] } },
+  l.owned.cells,
+  record l { owned = record l.owned { cells = plus l.owned.cells 1; contents = l.owned.contents ++ content.Component ∷ []; parameters = l.owned.parameters ++ component_cell l.owned.cells k ∷ [] } },
 )
 
 abbrev pub passed_component : ℕ → Parameter

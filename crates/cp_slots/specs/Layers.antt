@@ -14,6 +14,7 @@ use Rattle.cp_slots.specs.declared.lay_out.names.Declared as code_declared
 use Rattle.cp_slots.specs.declared.lay_out.layer.Parameter.{Parameter}
 use Rattle.cp_slots.specs.declared.lay_out.layer.FunctionResult.{FunctionResult}
 use Rattle.cp_slots.specs.declared.lay_out.layer.Contained.{Contained}
+use Rattle.cp_slots.specs.declared.lay_out.layer.Content.{Content}
 use Rattle.cp_slots.specs.declared.lay_out.layer.Heading as code_heading
 use Rattle.cp_slots.specs.declared.lay_out.layer.Frame as code_frame
 use Rattle.cp_slots.specs.declared.lay_out.layer.Owned as code_owned
@@ -102,7 +103,8 @@ pub record Frame : Type 0 where
   pub reference_room : ℕ
 
 pub record Owned : Type 0 where
-  pub image : List ℤ
+  pub cells : ℕ
+  pub contents : List Content
   pub parameters : List ComponentParameter
   pub contained : List Contained
   pub count : ℕ
@@ -140,7 +142,7 @@ abbrev pub frame_seen : code_frame.Frame → Frame
 frame_seen f = record { image = f.image.items; extents = f.extents.items; room = f.room; reference_room = f.reference_room }
 
 abbrev pub owned_seen : code_owned.Owned → Owned
-owned_seen o = record { image = o.image.items; parameters = o.parameters.items; contained = o.contained.items; count = o.count }
+owned_seen o = record { cells = o.cells; contents = o.contents.items; parameters = o.parameters.items; contained = o.contained.items; count = o.count }
 
 abbrev pub system_seen : code_system.System → System
 system_seen s = record { kind = s.kind; owned = owned_seen s.owned; first = s.first; initial = s.initial }
@@ -171,7 +173,7 @@ no_frame = record { image = []; extents = []; room = 0; reference_room = 0 }
 
 -- the cells and components of a system type that begins
 abbrev pub no_owned : Owned
-no_owned = record { image = []; parameters = []; contained = []; count = 1 }
+no_owned = record { cells = 0; contents = []; parameters = []; contained = []; count = 1 }
 
 -- the predeclared names alone, with the lines of the tokens
 abbrev pub nothing_laid : List ℕ → Layer
@@ -314,7 +316,7 @@ routine_of l body =
       result = own_result l;
       room = plus (length l.frame.image) l.frame.room;
       reference_room = plus (length l.frame.extents) l.frame.reference_room;
-      own = length l.owned.image;
+      own = l.owned.cells;
       extents = l.frame.extents;
       system = length l.systems;
     }

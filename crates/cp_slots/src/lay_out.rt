@@ -42,7 +42,13 @@ fn tables(alloc: Global, layer: Layer<'_>) -> Result<Layout, AllocError>
     ensures { IfOk result (λ l. plain (tables_of l) ≡ spec.tables_laid (layer_seen layer.entry)) }
 {
     let initial = layer.routines.len().saturating_sub(1);
-    let components = Components::of_program(alloc, &layer.systems, &layer.owned, initial)?;
+    let components = Components::of_program(
+        alloc,
+        &layer.types,
+        &layer.systems,
+        &layer.owned,
+        initial,
+    )?;
     let room = room_of(&layer, &components.processes);
     let systems = system_types(alloc, &layer.systems, &layer.owned)?;
     Ok(Layout {
@@ -89,7 +95,7 @@ fn system_type(alloc: Global, owned: &Owned) -> Result<SystemType, AllocError>
     ensures { IfOk result (λ t. system_view t ≡ spec.system_type (owned_seen owned.now)) }
 {
     Ok(SystemType {
-        own: owned.image.len(),
+        own: owned.cells,
         parameters: Vec::from_slice(alloc, &owned.parameters)?,
     })
 }

@@ -1,11 +1,13 @@
 //! The components of a program, each followed by those that it contains.
 
 ghost use Rattle.std.specs.Prelude.{◌≡◌, ◌++◌, map, length, slice_get, IfOk, OnOk};
+ghost use Rattle.cp_slots.specs.Kinds.{types_seen};
 ghost use Rattle.cp_slots.specs.Layers.{system_seen, owned_seen};
 ghost use Rattle.cp_slots.specs.LaidComponents as spec;
-ghost use Rattle.cp_slots.specs.LaidComponents.{listing_seen};
+ghost use Rattle.cp_slots.specs.LaidComponents.{listing_seen, content_least, contents_least};
 
-use crate::lay_out::layer::{Contained, Owned, System};
+use crate::lay_out::kinds::Types;
+use crate::lay_out::layer::{Contained, Content, Owned, System};
 use crate::tables::{Component, ComponentKind, Process};
 use cp_tree::SystemKind;
 use std::alloc::{AllocError, Global};
@@ -35,58 +37,66 @@ impl Components {
     #[tactic(auto, unfolding(crate::specs::LaidComponents::program_listed))]
     pub fn of_program(
         alloc: Global,
+        types: &Types<'_>,
         systems: &[System],
         owned: &Owned,
         initial: usize,
     ) -> Result<Components, AllocError>
-        ensures { IfOk result (λ c. listing_seen c ≡ spec.program_listed (map system_seen systems.now) (owned_seen owned.now) initial) }
+        ensures { IfOk result (λ c. listing_seen c ≡ spec.program_listed (types_seen types.now) (map system_seen systems.now) (owned_seen owned.now) initial) }
     {
         let mut components = Components::new(alloc);
         let kind = components.new_kind(SystemKind::Process, initial)?;
-        components.add_owned(systems, kind, owned, systems.len())?;
+        components.add_owned(types, systems, kind, owned, systems.len())?;
         Ok(components)
     }
 
     // A component of a system type, by its number.
     #[cycle(components)]
     #[tactic(auto, using(crate::proofs::Listed::nothing_there))]
-    fn add(&mut self, systems: &[System], number: usize) -> Result<(), AllocError>
-        ensures { OnOk result (listing_seen self.new ≡ spec.system_by (spec.listed_below (map system_seen systems.now) number) (slice_get (map system_seen systems.now) number) number (listing_seen self.old)) }
+    fn add(
+        &mut self,
+        types: &Types<'_>,
+        systems: &[System],
+        number: usize,
+    ) -> Result<(), AllocError>
+        ensures { OnOk result (listing_seen self.new ≡ spec.system_by (types_seen types.now) (spec.listed_below (types_seen types.now) (map system_seen systems.now) number) (slice_get (map system_seen systems.now) number) number (listing_seen self.old)) }
     {
         let Some(system) = systems.get(number) else {
             return Ok(());
         };
         let kind = self.new_kind(system.kind, system.initial)?;
-        self.add_owned(systems, kind, &system.owned, number)
+        self.add_owned(types, systems, kind, &system.owned, number)
     }
 
     // A component and what it owns; it contains components of types before its own.
     #[cycle(components)]
     fn add_owned(
         &mut self,
+        types: &Types<'_>,
         systems: &[System],
         kind: ComponentKind,
         owned: &Owned,
         number: usize,
     ) -> Result<(), AllocError>
-        ensures { OnOk result (listing_seen self.new ≡ spec.owned_by (spec.listed_below (map system_seen systems.now) number) (kind, listing_seen self.old) (owned_seen owned.now) number) }
+        ensures { OnOk result (listing_seen self.new ≡ spec.owned_by (types_seen types.now) (spec.listed_below (types_seen types.now) (map system_seen systems.now) number) (kind, listing_seen self.old) (owned_seen owned.now) number) }
     {
-        self.add_component(kind, &owned.image, number)?;
-        self.add_contained(systems, &owned.contained, number)
+        self.add_component(types, kind, &owned.contents, number)?;
+        self.add_contained(types, systems, &owned.contained, number)
     }
 
     #[cycle(components)]
     #[tactic(auto, using(crate::proofs::Listed::contained_step, crate::proofs::Listed::contained_none))]
     fn add_contained(
         &mut self,
+        types: &Types<'_>,
         systems: &[System],
         contained: &[Contained],
         bound: usize,
     ) -> Result<(), AllocError>
-        ensures { OnOk result (listing_seen self.new ≡ spec.contained_by (spec.listed_below (map system_seen systems.now) bound) contained.now (listing_seen self.old)) }
+        ensures { OnOk result (listing_seen self.new ≡ spec.contained_by (spec.listed_below (types_seen types.now) (map system_seen systems.now) bound) contained.now (listing_seen self.old)) }
     {
         for components in contained {
-            self.add_each(systems, *components, bound)?;
+            self.add_each(types, systems, *components, bound)?;
         }
         Ok(())
     }
@@ -95,14 +105,15 @@ impl Components {
     #[tactic(auto, using(crate::proofs::Listed::again_step, crate::proofs::Listed::again_none))]
     fn add_each(
         &mut self,
+        types: &Types<'_>,
         systems: &[System],
         components: Contained,
         bound: usize,
     ) -> Result<(), AllocError>
-        ensures { OnOk result (listing_seen self.new ≡ spec.again_and_again components.count (spec.listed_below (map system_seen systems.now) bound components.system) (listing_seen self.old)) }
+        ensures { OnOk result (listing_seen self.new ≡ spec.again_and_again components.count (spec.listed_below (types_seen types.now) (map system_seen systems.now) bound components.system) (listing_seen self.old)) }
     {
         for _ in 0..components.count {
-            self.add_below(systems, components.system, bound)?;
+            self.add_below(types, systems, components.system, bound)?;
         }
         Ok(())
     }
@@ -112,30 +123,31 @@ impl Components {
     #[tactic(auto, using(crate::proofs::Listed::listed_inside, crate::proofs::Listed::listed_outside))]
     fn add_below(
         &mut self,
+        types: &Types<'_>,
         systems: &[System],
         number: usize,
         bound: usize,
     ) -> Result<(), AllocError>
-        ensures { OnOk result (listing_seen self.new ≡ spec.listed_below (map system_seen systems.now) bound number (listing_seen self.old)) }
+        ensures { OnOk result (listing_seen self.new ≡ spec.listed_below (types_seen types.now) (map system_seen systems.now) bound number (listing_seen self.old)) }
     {
         if number < bound {
-            return self.add(systems, number);
+            return self.add(types, systems, number);
         }
         Ok(())
     }
 
     fn add_component(
         &mut self,
+        types: &Types<'_>,
         kind: ComponentKind,
-        image: &[i16],
+        contents: &[Content],
         system: usize,
     ) -> Result<(), AllocError>
-        ensures { OnOk result (listing_seen self.new ≡ spec.with_component (listing_seen self.old) kind image.now system) }
+        ensures { OnOk result (listing_seen self.new ≡ spec.with_component (listing_seen self.old) kind (contents_least (types_seen types.now) contents.now) system) }
     {
         let base = self.permanents.len();
         self.items.push(Component { kind, base, system })?;
-        self.permanents.extend_from_slice(image)?;
-        Ok(())
+        add_contents(&mut self.permanents, types, contents)
     }
 
     // The kind of the next component, a process or a monitor with the next number.
@@ -159,4 +171,29 @@ impl Components {
             }
         }
     }
+}
+
+// The cells as a run begins.
+#[tactic(auto, using(crate::proofs::Listed::contents_step, crate::proofs::Listed::contents_none))]
+fn add_contents(
+    cells: &mut Vec<i16>,
+    types: &Types<'_>,
+    contents: &[Content],
+) -> Result<(), AllocError>
+    ensures { OnOk result (cells.new.items ≡ cells.old.items ++ contents_least (types_seen types.now) contents.now) }
+{
+    for content in contents {
+        add_content(cells, types, *content)?;
+    }
+    Ok(())
+}
+
+fn add_content(cells: &mut Vec<i16>, types: &Types<'_>, content: Content) -> Result<(), AllocError>
+    ensures { OnOk result (cells.new.items ≡ cells.old.items ++ content_least (types_seen types.now) content) }
+{
+    match content {
+        Content::Variable(value_type) => types.add_least(cells, value_type)?,
+        Content::Component => cells.push(0)?,
+    }
+    Ok(())
 }

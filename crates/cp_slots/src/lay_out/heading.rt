@@ -6,7 +6,7 @@ ghost use Rattle.cp_slots.specs.Layers.{layer_seen, heading_seen, Lays, Leads};
 ghost use Rattle.cp_slots.specs.LaidDeclarations as spec;
 
 use crate::lay_out::kinds::ValueType;
-use crate::lay_out::layer::{FunctionResult, Heading, Layer, Parameter, Passing};
+use crate::lay_out::layer::{Content, FunctionResult, Heading, Layer, Parameter, Passing};
 use crate::lay_out::names::Meaning;
 use crate::place::Origin;
 use crate::tables::ComponentParameter;
@@ -272,8 +272,9 @@ impl<'a> Layer<'a> {
     fn add_component_cell(&mut self, system: usize) -> Result<usize, AllocError>
         ensures { Lays (λ n. n) (spec.with_component_cell (layer_seen self.old) system) (layer_seen self.new) result }
     {
-        let slot = self.owned.image.len();
-        self.owned.image.push(0)?;
+        let slot = self.owned.cells;
+        self.owned.cells = slot.saturating_add(1);
+        self.owned.contents.push(Content::Component)?;
         self.owned
             .parameters
             .push(ComponentParameter { slot, system })?;

@@ -62,10 +62,21 @@ pub struct Contained {
     pub count: usize,
 }
 
+/// What is in permanent cells that follow one another.
+#[derive(Clone, Copy, Drop)]
+pub enum Content {
+    Variable(ValueType),
+    /// A parameter that is a component, in one cell.
+    Component,
+}
+
 /// The permanent cells and the components of a system type, or of the program.
 #[derive(Drop)]
 pub struct Owned {
-    pub image: Vec<i16>,
+    /// How many cells there are.
+    pub cells: usize,
+    /// What is in them, from the first on.
+    pub contents: Vec<Content>,
     /// The parameters that are components.
     pub parameters: Vec<ComponentParameter>,
     pub contained: Vec<Contained>,
@@ -131,7 +142,8 @@ impl Owned {
         ensures { owned_seen result ≡ spec.no_owned }
     {
         Owned {
-            image: Vec::new(alloc),
+            cells: 0,
+            contents: Vec::new(alloc),
             parameters: Vec::new(alloc),
             contained: Vec::new(alloc),
             count: 1,
@@ -336,7 +348,7 @@ impl<'a> Layer<'a> {
             references,
             result,
             reference_room: references.saturating_add(frame.reference_room),
-            own: self.owned.image.len(),
+            own: self.owned.cells,
             extents: frame.extents,
             system: self.systems.len(),
         })?;

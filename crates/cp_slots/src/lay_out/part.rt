@@ -7,7 +7,7 @@ ghost use Rattle.cp_slots.specs.Layers.{layer_seen, Lays, Leads};
 ghost use Rattle.cp_slots.specs.LaidDeclarations as spec;
 
 use crate::lay_out::kinds::{Types, ValueType};
-use crate::lay_out::layer::{Contained, Layer};
+use crate::lay_out::layer::{Contained, Content, Layer};
 use crate::lay_out::names::Meaning;
 use crate::place::Origin;
 use cp_tree::{ConstantDefinition, Identifier, Part, PartKind, TypeDefinition, VariableGroup};
@@ -192,8 +192,9 @@ impl<'a> Layer<'a> {
     fn add_permanent(&mut self, value_type: ValueType) -> Result<usize, AllocError>
         ensures { Lays (λ n. n) (spec.with_permanent (layer_seen self.old) value_type) (layer_seen self.new) result }
     {
-        let slot = self.owned.image.len();
-        self.types.add_least(&mut self.owned.image, value_type)?;
+        let slot = self.owned.cells;
+        self.owned.cells = slot.saturating_add(self.types.cells_of(value_type));
+        self.owned.contents.push(Content::Variable(value_type))?;
         Ok(slot)
     }
 
