@@ -167,6 +167,6 @@ with_record ts r = (types.Record (length ts), ts ++ record_with r.fields r.cells
 abbrev pub no_fields : Fields
 no_fields = record { fields = []; cells = 0 }
 
--- one more field, that takes so many cells
+-- one more field, that takes this number of cells
 abbrev pub with_field : Fields → List ℕ → ValueType → (cells : ℕ) → Fields
 with_field r x t n = record { fields = r.fields ++ (let f : Field = record { name = x; value_type = t; offset = r.cells } in f) ∷ []; cells = plus r.cells n }

@@ -36,7 +36,7 @@ unfoldable pub constants : Layer → List ConstantDefinition → Layer
 constants l [] = l
 constants l (d ∷ ds) = constants (constant l d) ds
 
--- a name for a type, by the type and the state behind it
+-- a name for a type, by the type and the state after it
 abbrev pub type_named : List ℕ → ValueType × Layer → Layer
 type_named x t = with_name t.1 x (meaning.Kind t.0)
 
@@ -183,7 +183,7 @@ constant_groups l ps (g ∷ gs) =
 abbrev pub reference_parameter : ℕ → Parameter
 reference_parameter slot = record { slot = slot; passing = passing.Reference }
 
--- the cells behind a `var` parameter, by its number among these
+-- the cells that a `var` parameter stands for, by its number among these
 abbrev pub with_extent : Layer → ValueType → ℕ × Layer
 with_extent l t = (length l.frame.extents, record l { frame = record l.frame { extents = l.frame.extents ++ cells_of l.types t ∷ [] } })
 
@@ -217,7 +217,7 @@ heading_with x ps result = record { name = x; parameters = ps; result = result }
 abbrev pub result_at : ℕ → ValueType → FunctionResult
 result_at slot t = record { slot = slot; value_type = t }
 
--- a function's result comes behind its parameters
+-- a function's result comes after its parameters
 abbrev pub function_heading : List ℕ → Parameters × Layer → ValueType → Heading × Layer
 function_heading x p t =
     let y = with_local p.1 t in
@@ -255,7 +255,7 @@ opened l x =
 abbrev pub closed : Layer → ℕ → Layer
 closed l count = record l { names = drop (length l.names - count) l.names }
 
--- behind its name: parameters, parts and statements
+-- after its name: parameters, parts and statements
 abbrev pub routine_inside : Layer → Routine → Layer
 routine_inside l r =
     let h = heading l r.name.name r.kind in
@@ -339,7 +339,7 @@ abbrev pub left : Layer → Outer → SystemKind → (first initial : ℕ) → V
 left l o kind first last =
     (types.System (length l.systems), record l { names = o.names; owned = o.owned; systems = l.systems ++ system_of kind l.owned first last ∷ [] })
 
--- its parts and its routines, behind its parameters
+-- its parts and its routines, after its parameters
 abbrev pub system_inside : Layer → syntax.System → Layer
 system_inside l s = routines (permanent_parts l s.parts) s.routines
 

@@ -1,4 +1,4 @@
--- What is laid out of expressions: their values with slots, and the state behind their calls. In the shape of the code, as `Laid` says.
+-- What is laid out of expressions: their values with slots, and the state after their calls. In the shape of the code, as `Laid` says.
 use Rattle.std.specs.Prelude.{ℕ, ◌+◌, max, nat_le, nat_lt, ℤ, pos, int_le, unsigned_abs, if◌then◌else◌, Bool, true, false, ◌&&◌, List, [], ◌∷◌, length, Option, Some, None, slice_get}
 use Rattle.std.specs.Str.{bytes_eq}
 use Rattle.cp_tree.specs.declared.constant.Sign.{Sign}
@@ -258,6 +258,6 @@ arguments l r es = counted (arguments_from l r 0 es)
 unfoldable pub function : Layer → (at : ℕ) → ComponentPlace → Bool → ℕ → Expressions → Value × Layer
 function l at c is_entry r es = function_as l at c is_entry r (result_of l r) (λ m k. arguments_from m k 0 es)
 
--- a name with its selectors, and with arguments behind it
+-- a name with its selectors, and then arguments
 unfoldable pub named : Layer → (at : ℕ) → Designated → Expressions → Value × Layer
 named l at d es = named_as l at d (λ m. first_value m es) (λ m k. arguments_from m k 0 es)

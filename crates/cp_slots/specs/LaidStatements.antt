@@ -1,4 +1,4 @@
--- What is laid out of statements: their items, last to first, each list behind those inside it. In the shape of the code, as `Laid` says.
+-- What is laid out of statements: their items, last to first, each list after those inside it. In the shape of the code, as `Laid` says.
 use Rattle.std.specs.Prelude.{ℕ, max, ℤ, pos, negsuc, Bool, true, false, List, [], ◌∷◌, Option, Some, None, slice_get}
 use Rattle.cp_tree.specs.declared.statement.Direction.{Direction}
 use Rattle.cp_tree.specs.declared.statement.Direction.TheVariants as direction
@@ -146,7 +146,7 @@ abbrev pub token_of : syntax.Expression → ℕ
 token_of (syntax.alone at a) = at
 token_of (syntax.related at a r b) = at
 
--- the list as a block, and `until` behind it
+-- the list as a block, and `until` after it
 abbrev pub repeated : Layer → ℕ → Option ℕ → syntax.Expression → Option ℕ → Option ℕ × Layer
 repeated l at body e next =
     let y = settled (until_item l (token_of e) e body) next in

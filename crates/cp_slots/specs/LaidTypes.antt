@@ -1,4 +1,4 @@
--- What is laid out of constants and types as they are written, and the state behind the constants of their enumerations. In the shape of the code, as `Laid` says.
+-- What is laid out of constants and types as they are written, and the state after the constants of their enumerations. In the shape of the code, as `Laid` says.
 use Rattle.std.specs.Prelude.{ℕ, ◌+◌, ◌-◌, nat_le, pos, negsuc, neg_ℤ, int_le, ℤ, if◌then◌else◌, List, [], ◌∷◌, ◌++◌, map, length, Option, Some}
 use Rattle.cp_tree.specs.declared.constant.Identifier.{Identifier}
 use Rattle.cp_tree.specs.declared.constant.Sign.{Sign}

@@ -518,7 +518,7 @@ pub fn byte_or(other: u8, number: i16) -> u8
     }
 }
 
-// A value behind its sign.
+// A value with its sign.
 fn signed(alloc: Global, sign: Option<Sign>, value: Value) -> Result<Value, AllocError>
     ensures { IfOk result (λ v. value_seen v ≡ spec.signed sign (value_seen value)) }
 {
@@ -540,7 +540,7 @@ fn with_element(
     Ok(SetExpression::With(fewer, Box::new(alloc, element)?))
 }
 
-// A part of a variable, so many cells further.
+// A part of a variable, this number of cells further.
 fn with_offset(place: Place, cells: usize) -> Place
     ensures { place_seen result ≡ spec.with_offset (place_seen place) cells }
 {

@@ -182,7 +182,7 @@ impl<'a> Layer<'a> {
         Ok(parameters)
     }
 
-    // The cells behind a `var` parameter, by its number among these.
+    // The cells that a `var` parameter stands for, by its number among these.
     #[tactic(auto, unfolding(crate::specs::Layers::layer_seen))]
     fn add_extent(&mut self, value_type: ValueType) -> Result<usize, AllocError>
         ensures { Lays (λ n. n) (spec.with_extent (layer_seen self.old) value_type) (layer_seen self.new) result }

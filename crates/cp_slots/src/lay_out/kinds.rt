@@ -139,7 +139,7 @@ impl<'a> RecordType<'a> {
         }
     }
 
-    /// Adds a field that takes so many cells.
+    /// Adds a field that takes this number of cells.
     pub fn add(
         &mut self,
         name: &'a Name,
@@ -249,7 +249,7 @@ impl<'a> Types<'a> {
         self.add_least_below(cells, value_type, self.compounds.len())
     }
 
-    // The same for a type that holds only the first so many compound types.
+    // The same for a type that holds only compound types below a bound.
     #[cycle(least)]
     #[tactic(auto, using(crate::proofs::Least::compound_inside, crate::proofs::Least::compound_outside, crate::proofs::Least::nothing_more))]
     fn add_least_below(

@@ -48,7 +48,7 @@ pub struct Heading<'a> {
 pub struct Frame {
     /// The cells as a call begins.
     pub image: Vec<i16>,
-    /// The cells behind each `var` parameter.
+    /// The cells that each `var` parameter stands for.
     pub extents: Vec<usize>,
     /// The most cells and `var` parameters of what is called.
     pub room: usize,

@@ -145,7 +145,7 @@ impl<'a> Names<'a> {
         self.items.len()
     }
 
-    /// Closes the scope that began with so many names.
+    /// Closes the scope that began with this number of names.
     #[tactic(auto, unfolding(crate::specs::Layers::names_seen), using(crate::proofs::NamesSeen::seen_first))]
     pub fn close(&mut self, count: usize)
         ensures { names_seen self.new ≡ drop (length (names_seen self.old) - count) (names_seen self.old) }

@@ -1,4 +1,4 @@
-//! Statements as items. The items of a list are added last to first, each behind those inside it.
+//! Statements as items. The items of a list are added last to first, each after those inside it.
 
 ghost use Rattle.std.specs.Prelude.{◌≡◌, map, option_map, IfOk};
 ghost use Rattle.cp_tree.specs.View.{expression_view, expressions_view, expressions_of, designator_view, statement_view, statements_view, statements_of, arm_view, arms_view, arms_of, start_view};
@@ -418,7 +418,7 @@ impl<'a> Layer<'a> {
         self.finish(alloc, at, Action::While { test, body, again }, need, next)
     }
 
-    // The list as a block, and `until` behind it.
+    // The list as a block, and `until` after it.
     fn repeat(
         &mut self,
         alloc: Global,
