@@ -8,4 +8,4 @@ pub mod TraceBounds
 pub mod TraceRuns
 pub mod Tracing
 pub mod Turning
-pub mod Wanted
+pub mod Wanting

@@ -2,7 +2,7 @@ use Rattle.std.proofs.Common.{◌∙◌, ap, ◌==◌}
 use Rattle.std.specs.List.{list_any}
 use Rattle.cp_machine.specs.System.{machine_of}
 use Rattle.cp_run.specs.Slots.{slots}
-use Rattle.cp_run.proofs.Wanted.{any_wanted}
+use Rattle.cp_run.proofs.Wanting.{any_wanted}
 use Rattle.cp_run.proofs.choice.may.Goals as goal
 
 pub returns : goal.returns

@@ -7,7 +7,7 @@ use Rattle.cp_run.specs.Run.{those_below, turn_among, settled_turn as spec_turn}
 use Rattle.cp_run.specs.Slots.{slots, processes_of}
 use Rattle.cp_run.proofs.Owning.{own_ready}
 use Rattle.cp_run.proofs.Turning.{among_nobody, among_one, among_several, first_may}
-use Rattle.cp_run.proofs.Wanted.{goes_on}
+use Rattle.cp_run.proofs.Wanting.{goes_on}
 use Rattle.cp_run.proofs.turn.settled_turn.Goals as goal
 
 pub returns-then-waits-clause-turn : goal.returns-then-waits-clause-turn
