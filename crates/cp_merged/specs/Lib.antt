@@ -1,0 +1,4 @@
+pub mod Complete
+pub mod Layers
+pub mod Tallies
+pub mod Told
