@@ -66,7 +66,7 @@ keeper v = view (v.parts - 1) v.tasks v.drawn v.notes v.spent
 abbrev pub dealt : View → View
 dealt v = view 1 v.tasks [] [] 0
 
--- A join step gives one seat both lists and the sums of the parts and of the spent claims, and leaves nothing behind.
+-- A join step gives one seat both lists and the sums of the parts and of the spent claims, and has nothing left itself.
 abbrev pub together : View → View → View
 together v w = view (v.parts + w.parts) v.tasks (v.drawn ++ w.drawn) (v.notes ++ w.notes) (v.spent + w.spent)
 

@@ -21,7 +21,7 @@ seats_of b = b.table.shared.key.seats
 abbrev pub IsSeatOf : Board → Seat → Type 0
 IsSeatOf b s = (s.inner.table_id ≡ b.table.shared.table_id) × ((view_of s).tasks ≡ tasks_of b)
 
--- what `new` gives: a board of so many tasks, and so many seats of it, each of one part, which have drawn and noted nothing
+-- what `new` gives: a board of this many tasks, and this many seats of it, each of one part, which have drawn and noted nothing
 pub record IsDealt (tasks seats : ℕ) (b : Board) (ss : List Seat) : Type 0 where
   pub tasks_are : tasks_of b ≡ tasks
   pub seats_are : seats_of b ≡ seats

@@ -72,7 +72,7 @@ pub struct Closed {
 impl Board {
     ghost use Rattle.cp_board.specs.Seats.{view_of, tasks_of, seats_of, IsSeatOf, IsDealt};
 
-    /// Gives a board of so many tasks, and its seats.
+    /// Gives a board of this many tasks, and its seats.
     ///
     /// # Errors
     ///

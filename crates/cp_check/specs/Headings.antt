@@ -78,7 +78,7 @@ result_type s i = type_named s i.at i.name >>= returned_in s i.at >>= some_type
 
 -- ---- headings
 
--- the type of a function's result, and what is visible behind a heading
+-- the type of a function's result, and what is visible after a heading
 pub record Headed : Type 0 where
   pub result : Judged (Option ValueType)
   pub scopes : Scopes
@@ -112,7 +112,7 @@ heading_faults owner r t = result_faults r.at t ++ entry_faults (r.name.at - 1) 
 abbrev pub ruled : Option SystemKind → Routine → Option ValueType → Judged (Option ValueType)
 ruled owner r t = unless (heading_faults owner r t) t
 
--- the heading of a routine in a system type or in the program, behind the faults of its name
+-- the heading of a routine in a system type or in the program, after the faults of its name
 abbrev pub ruled_behind : Option SystemKind → Routine → List CheckFault → Headed → Headed
 ruled_behind owner r fs h = record { result = after_faults fs h.result >>= ruled owner r; scopes = h.scopes }
 

@@ -39,7 +39,7 @@ add_fields f ns m = without_pending (with_fields f ns m)
 
 -- ---- fields
 
--- What fields leave: the faults in them, their scope, and what is visible behind them.
+-- What fields leave: the faults in them, their scope, and what is visible after them.
 pub record Fields : Type 0 where
   pub faults : List CheckFault
   pub fields : Scope

@@ -29,7 +29,7 @@ use Rattle.cp_check.specs.Records.{Reserved, reserve_fields, add_fields, Fields,
 
 -- ---- steps
 
--- What declarations leave: the faults in them, and what is visible behind them.
+-- What declarations leave: the faults in them, and what is visible after them.
 pub record Step : Type 0 where
   pub faults : List CheckFault
   pub scopes : Scopes
@@ -41,7 +41,7 @@ then_step a f = record { faults = a.faults ++ (f a.scopes).faults; scopes = (f a
 abbrev pub nothing : Scopes → Step
 nothing s = record { faults = []; scopes = s }
 
--- a type, and what is visible behind it
+-- a type, and what is visible after it
 pub record Typed : Type 0 where
   pub type : Judged ValueType
   pub scopes : Scopes
@@ -226,7 +226,7 @@ unfoldable mutual
   typed s p (set_type at b) = set_typed at (simple_at b) (simple_typed s spot.Base b)
   typed s p (record_of at gs b) = record_typed at (groups_typed new_scope s gs)
 
-  -- fields that are declared behind others
+  -- fields that are declared after others
   pub groups_typed : Scope → Scopes → FieldGroups → Fields
   groups_typed f s no_fields = declared f s
   groups_typed f s (more_fields g gs) = then_fields (group_typed f s g) (λ before after. groups_typed before after gs)

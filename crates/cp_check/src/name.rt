@@ -121,7 +121,7 @@ fn nothing(at: usize, uses: Use) -> Designated
     }
 }
 
-/// What stands behind a period.
+/// What follows a period.
 pub fn selected(
     table: &Table,
     name: &Identifier,

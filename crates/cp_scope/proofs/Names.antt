@@ -86,7 +86,7 @@ or_assoc : {A : Type 0} (a b c : Option A) → or_else (or_else a b) c ≡ or_el
 or_assoc (Some x) b c = refl
 or_assoc None b c = refl
 
--- the scopes from the i-th on, behind what was found before
+-- the scopes from the i-th on, after what was found before
 pub look_next : {X : Type 0} (view : X → Scope) (n : List ℕ) (xs : List X) (i : ℕ) (x : X) (old : Option (Option Meaning)) → i < length xs → x ≡ get_or xs i x → or_else (look_outer n (map view (drop i xs))) old ≡ or_else (look_outer n (map view (drop (i + 1) xs))) (or_else (look_in n (view x)) old)
 look_next view n xs i x old within here =
     let e : look_outer n (map view (drop i xs)) ≡ or_else (look_outer n (map view (drop (i + 1) xs))) (look_in n (view x)) = rw (add-one, drop-cons xs i x, ← here) refl in

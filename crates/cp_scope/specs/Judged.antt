@@ -15,7 +15,7 @@ broken at rule = Err (check_fault.Rule at rule ∷ [])
 abbrev pub silent : {A : Type 0} → Judged A
 silent = Err []
 
--- two parts, the second behind the first
+-- two parts, the second after the first
 abbrev pub both : {A B : Type 0} → Judged A → Judged B → Judged (A × B)
 both (Ok a) (Ok b) = Ok (a, b)
 both (Ok a) (Err gs) = Err gs
@@ -48,7 +48,7 @@ abbrev pub Judges : {X A : Type 0} → (X → A) → Judged A → Result X Check
 Judges view judged (Ok x) = judged ≡ Ok (view x)
 Judges view judged (Err e) = Refuses e judged
 
--- ---- the same of declarations, by the list of their faults
+-- ---- the same for declarations, by the list of their faults
 
 abbrev pub IsFirstOf : CheckFault → List CheckFault → Type 0
 IsFirstOf f [] = ⊥

@@ -86,7 +86,7 @@ fault_somewhere count text e (too_many s piece rest is stands full lexeme cause)
 
 -- ---- what the next piece tells
 
--- the kind of a piece's token, if it is a lexeme, after so many tokens
+-- the kind of a piece's token, if it is a lexeme, after this many tokens
 abbrev pub KindAfter : ℕ → Shape → List ℕ → Option Kind → Type 0
 KindAfter count s piece None = is_lexeme s ≡ false
 KindAfter count s piece (Some k) = IsLexeme s piece k × (count < 20000)

@@ -102,7 +102,7 @@ abbrev pub ScanTells : ℕ → List Token → List ℕ → Outcome → Type 0
 ScanTells line found text (Ok ts) = Whole line found text ts
 ScanTells line found text (Err f) = Failed line found text f
 
--- tokens behind one more piece
+-- tokens after one more piece
 more_tokens : (line : ℕ) (found : List Token) (s : Shape) (piece : List ℕ) (k : Option Kind) (ps : List Part) (new : List Token)
     → KindAfter (length found) s piece k → AreTokens (line + line_feeds piece) ps new
     → (all : List Token) × (added found k line ++ new ≡ found ++ all) × AreTokens line (record { shape = s; text = piece } ∷ ps) all
@@ -110,7 +110,7 @@ more_tokens line found s piece None ps new is tokens = (new, refl, blank is toke
 more_tokens line found s piece (Some k) ps new is tokens =
     (record { kind = k; line = line } ∷ new, append_assoc found (record { kind = k; line = line } ∷ []) new, lexeme is.0 refl tokens)
 
--- what the text behind a piece tells, told of the text
+-- what the text after a piece tells, told of the text
 behind : (line : ℕ) (found : List Token) (text : List ℕ) (k : Option Kind) (n : ℕ) (o : Outcome) → NextPiece (length found) text k n
     → ScanTells (line + line_feeds (take n text)) (added found k line) (drop n text) o → ScanTells line found text o
 behind line found text k n (Ok ts) p h =

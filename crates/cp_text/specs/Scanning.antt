@@ -19,12 +19,12 @@ added found (Some k) line = found ++ record { kind = k; line = line } ∷ []
 abbrev pub after_line : ℕ → ℕ → ℕ
 after_line b line = if b == 10 then line + 1 else line
 
--- on behind the piece at the front, by `go` on the bytes that are left of it and the tokens found
+-- on after the piece at the front, by `go` on the bytes that are left of it and the tokens found
 abbrev pub go_on : ℕ → List Token → (ℕ → List Token → Outcome) → Result (Option Kind × ℕ) ScanCause → Outcome
 go_on line found go (Ok p) = go (p.1 - 1) (added found p.0 line)
 go_on line found go (Err e) = Err (fault_at line e)
 
--- What a text reads to behind the tokens found. The first number counts the bytes that are left of a piece.
+-- What a text reads to after the tokens found. The first number counts the bytes that are left of a piece.
 unfoldable pub scan_from : ℕ → ℕ → List Token → List ℕ → Outcome
 scan_from left line found [] = Ok found
 scan_from (suc left) line found (b ∷ text) = scan_from left (after_line b line) found text

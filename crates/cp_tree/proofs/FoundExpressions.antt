@@ -81,7 +81,7 @@ factors_shape total = record { put = λ xs. put_factors (factors_of xs); indexed
 abbrev pub factor_shape : ℕ → Shape Factor
 factor_shape total = record { put = put_factor; indexed = IsIndexedFactor total; depth = factor_depth }
 
--- a factor behind `not`
+-- a factor after `not`
 abbrev pub deeper_shape : ℕ → Shape Factor
 deeper_shape total = record { put = put_factor; indexed = IsIndexedFactor total; depth = λ f. suc (factor_depth f) }
 
@@ -178,7 +178,7 @@ module _ (total b : ℕ) (factor : Parser Factor) (law : Takes total b (factor_s
       found_after total (IsItem (Taken total b (operator_of relation_mark (sum_shape total))) k) (Taken total (suc b) (expression_shape total) i) (relation k) (right_side factor) (λ right. pure (expression_of i.at left right)) (right_takes k p.1) (λ o j q.
       expression_made i k j left o placed p q))
 
--- ---- factors, where expressions and factors behind `not` may have the number's levels
+-- ---- factors, where expressions and factors after `not` may have the number's levels
 
 module _ (total b : ℕ) (expression : Parser Expression) (law : Takes total b (expression_shape total) expression) where
   pub expressions_take : Takes total b (expressions_shape total) (expressions_with expression)

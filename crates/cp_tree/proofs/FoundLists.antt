@@ -102,7 +102,7 @@ taken_found total to of law i placed =
       | Some x ↦ λ e. passed total (to x) i placed (law (Input.mark i) x e)
     ] refl
 
--- an operator, and what stands behind it
+-- an operator, and what follows it
 abbrev pub operator_of : {A B : Type 0} → (A → Mark) → Shape B → Shape (A × B)
 operator_of to s = record { put = λ p ks. kind.Mark (to p.0) ∷ s.put p.1 ks; indexed = λ p. s.indexed p.1; depth = λ p. s.depth p.1 }
 

@@ -73,7 +73,7 @@ unfolding after sees Input.mark advance
 eat_lands total b m true n ks placed indexed = let e = same_refl m in subst (λ (c : Bool). (c ≡ true) × ((cond c (on (n + 1) ks) (on n (kind.Mark m ∷ ks))).rest ≡ ks) × At total (cond c (on (n + 1) ks) (on n (kind.Mark m ∷ ks)))) (sym e) (refl, refl, omega arith)
 eat_lands total b m false n ks placed indexed = let e = indexed refl in subst (λ (c : Bool). (c ≡ false) × ((cond c (advance (on n ks)) (on n ks)).rest ≡ ks) × At total (cond c (advance (on n ks)) (on n ks))) (sym e) (refl, refl, placed)
 
--- a parser behind a mark that is there, and one where it is not
+-- a parser after a mark that is there, and one where it is not
 pub eaten : {A : Type 0} (total : ℕ) (D : Type 0) (m : Mark) (p q : Parser A) (n : ℕ) (ks : List Kind) (x : A) (rest : List Kind) → Begins total n (kind.Mark m ∷ ks)
     → ((k : ℕ) → Begins total k ks → Lands total D x rest (p (on k ks)))
     → Lands total D x rest ((cond (sees m (on n (kind.Mark m ∷ ks))) p q) (after m (on n (kind.Mark m ∷ ks))))

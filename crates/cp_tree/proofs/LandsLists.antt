@@ -150,7 +150,7 @@ ended_of all = record { put = λ y ks. all.put y.0 (put_optional mark.Semicolon 
 
 module _ {A : Type 0} (total b : ℕ) (one : Shape A) (more all : Shape (List A)) (apart : IsApart (behind_of mark.Semicolon one) more) (led : IsApartLed one more all) (item : Parser A)
     (law : LandsAll total b one item) (grows : (x : A) (ks : List Kind) → length ks ≤ length (one.put x ks)) (starts : (x : A) (ks : List Kind) → is_mark mark.End (first_mark (one.put x ks)) ≡ false) where
-  -- behind a semicolon that is there
+  -- after a semicolon that is there
   behind_semicolon : (E : Type 0) (found : List A) (turns n : ℕ) (ks : List Kind) (y : List A × Bool) (rest : List Kind) → Begins total n (kind.Mark mark.Semicolon ∷ ks)
       → ((k : ℕ) → Begins total k ks → Lands total E y rest ((cond (sees mark.End (on k ks)) (pure (found, true)) (item >>= (λ x. ended_from item turns (found ++ x ∷ [])))) (on k ks)))
       → Lands total E y rest (ended_from item (suc turns) found (on n (kind.Mark mark.Semicolon ∷ ks)))
@@ -227,7 +227,7 @@ module _ {A : Type 0} (total b : ℕ) (one : Shape A) (more all : Shape (List A)
       subst (λ (ts : List Kind). all.indexed y.0 (put_optional mark.Semicolon y.1 ts) → Begins total n (all.put y.0 (put_optional mark.Semicolon y.1 ts)) → Lands total (b < all.depth y.0) y ts (ended_list item (on n (all.put y.0 (put_optional mark.Semicolon y.1 ts))))) (sym indexed.2)
       (λ i p. ended_before (b < all.depth y.0) y.0 y.1 n rest (λ d. d) i p) indexed.0 placed
 
--- ---- an operator, and what stands behind it
+-- ---- an operator, and what follows it
 
 pub operated_lands : {A B : Type 0} (total b : ℕ) (to : A → Mark) (s : Shape B) (operator : Parser (Option A)) (p : Parser B) (by : Option A → Parser (Option (A × B))) (a : A) (x : B)
     → ((n : ℕ) (ks : List Kind) → Begins total n (kind.Mark (to a) ∷ ks) → Lands total ⊥ (Some a) ks (operator (on n (kind.Mark (to a) ∷ ks)))) → LandsOn total b s p x

@@ -1,4 +1,4 @@
--- How a rule of the grammar is spelled, numbered and nested, as one value; and the same of rules one after the other.
+-- How a rule of the grammar is spelled, numbered and nested, as one value; and the same for rules one after the other.
 use Rattle.std.proofs.Common.{◌≡◌, ℕ, max, List, [], ◌∷◌, refl}
 use Rattle.cp_text.specs.declared.token.Kind.{Kind}
 use Rattle.cp_text.specs.declared.token.Kind.TheVariants as kind

@@ -66,7 +66,7 @@ took_onto b s start x rest onto t e = subst (λ (ks : List Kind). Took b s start
 abbrev pub Taken : {A : Type 0} → ℕ → ℕ → Shape A → Input → A → Input → Type 0
 Taken total b s i x j = Took b s i.rest x j.rest × At total j
 
--- The parser reads this shape, in at most so many levels.
+-- The parser reads this shape, in at most this many levels.
 abbrev pub Takes : {A : Type 0} → ℕ → ℕ → Shape A → Parser A → Type 0
 Takes total b s p = (i : Input) → At total i → Found total (Taken total b s i) (p i)
 

@@ -1,4 +1,4 @@
--- What is answered for a list of tokens: the program that is read, or the fault as it is told.
+-- What is answered for a list of tokens: the program that is read, or the fault as it is reported.
 use Rattle.std.specs.Prelude.{◌≡◌, ◌≢◌, Bool, true, false, if◌then◌else◌, List, Option, Some, Result, Ok, Err, slice_get}
 use Rattle.cp_text.specs.declared.token.Kind.{Kind}
 use Rattle.cp_text.specs.declared.token.Kind.TheVariants as kind
@@ -18,7 +18,7 @@ is_left_out (Some (kind.Mark mark.Univ)) = true
 is_left_out (Some (kind.Mark mark.Program)) = true
 is_left_out _ = false
 
--- An unexpected word that is left out is told as such.
+-- An unexpected word that is left out is reported as such.
 abbrev pub told : List Kind → ParseFault → ParseFault
 told ks (Unexpected at) = if is_left_out (slice_get ks at) then OutsideProfile at else Unexpected at
 told ks (OutsideProfile at) = OutsideProfile at

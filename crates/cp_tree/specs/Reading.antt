@@ -30,19 +30,19 @@ many item = many_after [] item
 abbrev pub some : {A : Type 0} → Parser A → Parser (Option A)
 some p = p >>= (λ x. pure (Some x))
 
--- an item behind this mark
+-- an item after this mark
 abbrev pub behind : {A : Type 0} → Mark → Parser A → Parser (Option A)
 behind m p = do
   found ← eat m
   if found then some p else pure None
 
--- one item, and further ones behind this mark
+-- one item, and further ones after this mark
 unfoldable pub separated : {A : Type 0} → Mark → Parser A → Parser (List A)
 separated m item = do
   first ← item
   many_after (first ∷ []) (behind m item)
 
--- Items behind semicolons, and whether a semicolon ends them: the `end` that follows tells.
+-- Items after semicolons, and whether a semicolon ends them: the `end` that follows tells.
 unfoldable pub ended_from : {A : Type 0} → Parser A → ℕ → List A → Parser (List A × Bool)
 ended_from item zero found = pure (found, false)
 ended_from item (suc n) found = do

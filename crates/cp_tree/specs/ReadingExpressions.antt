@@ -100,13 +100,13 @@ module _ (expression : Parser Expression) where
   unfoldable pub expressions_with : Parser (List Expression)
   expressions_with = separated mark.Comma expression
 
-  -- the arguments behind a name; none where no parenthesis opens
+  -- the arguments after a name; none where no parenthesis opens
   unfoldable pub arguments_with : Parser (List Expression)
   arguments_with = do
     is_open ← eat mark.OpenParenthesis
     if is_open then (do es ← expressions_with; expect mark.CloseParenthesis; pure es) else pure []
 
-  -- the elements of a set constructor, behind its bracket
+  -- the elements of a set constructor, after its bracket
   unfoldable pub elements_with : Parser (List Expression)
   elements_with = do
     is_closed ← eat mark.CloseBracket
@@ -153,7 +153,7 @@ unfoldable mutual
   expression zero = deep
   expression (suc b) = expression_with (factor_with (expression b) (deeper b))
 
-  -- a factor behind `not`
+  -- a factor after `not`
   pub deeper : ℕ → Parser Factor
   deeper zero = deep
   deeper (suc b) = factor_with (expression b) (deeper b)

@@ -21,7 +21,7 @@ abbrev pub type_named : ℕ → Option (List ℕ) → Parser Simple
 type_named at (Some n) = pure (type_name at n)
 type_named at None = refuse
 
--- A constant with no `..` behind it names a type.
+-- A constant with no `..` after it names a type.
 unfoldable pub simple_from : ℕ → Constant → Parser Simple
 simple_from at c = do
   is_subrange ← eat mark.DoublePeriod

@@ -272,7 +272,7 @@ put_group g rest = put_names g.names (kind.Mark mark.Colon ∷ put_identifier g.
 abbrev pub put_parameter_group : ParameterGroup → List Kind → List Kind
 put_parameter_group g rest = put_optional mark.Var g.is_var (put_group g.group rest)
 
--- ["(" group {";" group} ")"], and the same of vgroup
+-- ["(" group {";" group} ")"], and the same for vgroup
 abbrev pub put_parameters : {A : Type 0} → (A → List Kind → List Kind) → List A → List Kind → List Kind
 put_parameters put [] rest = rest
 put_parameters put (g ∷ gs) rest = kind.Mark mark.OpenParenthesis ∷ put_separated mark.Semicolon put (g ∷ gs) (kind.Mark mark.CloseParenthesis ∷ rest)

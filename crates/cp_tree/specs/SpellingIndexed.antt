@@ -16,7 +16,7 @@ use Rattle.cp_tree.specs.Spelling.{relation_mark, direction_mark, put_optional, 
 abbrev pub Begins : ℕ → ℕ → List Kind → Type 0
 Begins total at rest = at + length rest ≡ total
 
--- whether a statement ends in an `if` without `else`, to which an `else` behind it would belong
+-- whether a statement ends in an `if` without `else`, to which an `else` after it would belong
 abbrev pub ends_open : Statement → Bool
 ends_open (empty at) = false
 ends_open (assign at d e) = false

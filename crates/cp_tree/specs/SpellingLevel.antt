@@ -1,4 +1,4 @@
--- The levels of a tree's nodes: one more than the nearest statement, expression, factor behind `not` or type around it.
+-- The levels of a tree's nodes: one more than the nearest statement, expression, factor after `not` or type around it.
 use Rattle.std.specs.Prelude.{◌≤◌, ℕ, suc, max, List, [], ◌∷◌}
 use Rattle.cp_tree.specs.Syntax.{Expression, alone, related, Sum, sum, Terms, no_terms, more_terms, Term, term, Factors, no_factors, more_factors, Factor, number, character, named, group, negated, set_of, Expressions, no_expressions, more_expressions, Designator, designator, Selectors, no_selectors, more_selectors, Selector, field, index, Start, Statement, empty, assign, invoke, block, if_then, if_else, case_of, while_do, repeat_until, for_do, cycle, init, Statements, no_statements, more_statements, Arms, no_arms, more_arms, Arm, arm, TypeTerm, simple, array_of, set_type, record_of, FieldGroups, no_fields, more_fields, FieldGroup, fields, TypeDefinition, VariableGroup, Part, constants, types, variables, Routine, Body, System, Definition, type_definition, system_definition, SystemDefinition, ProgramPart, program_constants, program_types, program_variables, Program}
 use Rattle.cp_tree.specs.SpellingIndexed.{IsIndexed}
@@ -29,7 +29,7 @@ abbrev mutual
   factors_depth no_factors = 0
   factors_depth (more_factors m f fs) = max (factor_depth f) (factors_depth fs)
 
-  -- The factor behind `not` has a level; the elements of a constructor are expressions, and so have each theirs.
+  -- The factor after `not` has a level; the elements of a constructor are expressions, and so have each theirs.
   pub factor_depth : Factor → ℕ
   factor_depth (number at n) = 0
   factor_depth (character at c) = 0

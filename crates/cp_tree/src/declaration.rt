@@ -23,7 +23,7 @@ pub struct VariableGroup {
     pub variable_type: Type,
 }
 
-/// Definitions behind one word `const`, `type` or `var`.
+/// Definitions after one word `const`, `type` or `var`.
 #[derive(Drop)]
 pub struct Part {
     pub at: usize,
@@ -89,7 +89,7 @@ pub struct System {
     pub at: usize,
     pub kind: SystemKind,
     pub parameters: Vec<Group>,
-    /// Whether a semicolon stands behind the heading.
+    /// Whether a semicolon follows the heading.
     pub has_semicolon: bool,
     pub parts: Vec<Part>,
     pub routines: Vec<Routine>,

@@ -70,7 +70,7 @@ fn lines(alloc: Global, tokens: &Tokens) -> Result<Vec<u32>, AllocError>
     Ok(found)
 }
 
-// An unexpected word that is left out of the language is told as such.
+// An unexpected word that is left out of the language is reported as such.
 fn told(tokens: &Tokens, fault: ParseFault) -> ParseFault
     ensures { result ≡ spec.told (kinds tokens.now) fault }
 {

@@ -233,7 +233,7 @@ fn factor(alloc: Global, cursor: &mut Cursor<'_>, budget: usize) -> Result<Facto
     Ok(Factor { at, kind })
 }
 
-// A factor behind `not`.
+// A factor after `not`.
 #[cycle(expression)]
 #[tactic(auto, unfolding(crate::specs::ReadingExpressions::deeper, crate::specs::ReadingExpressions::factor_at))]
 fn deeper(alloc: Global, cursor: &mut Cursor<'_>, budget: usize) -> Result<Factor, ParseFault>
@@ -245,7 +245,7 @@ fn deeper(alloc: Global, cursor: &mut Cursor<'_>, budget: usize) -> Result<Facto
     factor(alloc, cursor, budget - 1)
 }
 
-// The elements of a set constructor, behind its bracket.
+// The elements of a set constructor, after its bracket.
 #[cycle(expression)]
 #[tactic(auto, unfolding(crate::specs::ReadingExpressions::elements_at, crate::specs::ReadingExpressions::elements_with, crate::specs::ReadingExpressions::expressions_at))]
 fn elements(
@@ -263,7 +263,7 @@ fn elements(
     Ok(found)
 }
 
-/// The arguments behind a name, or none where no parenthesis opens.
+/// The arguments after a name, or none where no parenthesis opens.
 #[cycle(expression)]
 #[tactic(auto, unfolding(crate::specs::ReadingExpressions::arguments_at, crate::specs::ReadingExpressions::arguments_with, crate::specs::ReadingExpressions::expressions_at))]
 pub fn arguments(

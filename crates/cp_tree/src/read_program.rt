@@ -134,7 +134,7 @@ fn program_parts(alloc: Global, cursor: &mut Cursor<'_>) -> Result<Vec<ProgramPa
     Ok(found)
 }
 
-/// A whole program, with nothing behind its period.
+/// A whole program, with nothing after its period.
 #[tactic(auto, unfolding(crate::specs::ReadingDeclarations::program))]
 pub fn program(alloc: Global, cursor: &mut Cursor<'_>) -> Result<Program, ParseFault>
     ensures { Reads program_view (spec.program cursor.old) result cursor.new }

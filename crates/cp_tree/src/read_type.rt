@@ -31,7 +31,7 @@ fn simple(alloc: Global, cursor: &mut Cursor<'_>) -> Result<Simple, ParseFault>
     simple_from(alloc, cursor, at, first)
 }
 
-// A constant with no `..` behind it names a type.
+// A constant with no `..` after it names a type.
 #[tactic(auto, unfolding(crate::specs::ReadingTypes::simple_from))]
 fn simple_from(
     alloc: Global,

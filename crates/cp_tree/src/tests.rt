@@ -28,7 +28,7 @@ fn fault(rt: &HostRuntime, source: &str) -> Result<ParseFault, Fail> {
     Ok(parsed(rt, source)?.err().ok_or("it is refused")?)
 }
 
-// The statements of `begin .. end.` with so many `begin` before as many `end`.
+// The statements of `begin .. end.` with this many `begin` before as many `end`.
 fn nested(rt: &HostRuntime, levels: usize) -> Result<String, Fail> {
     let mut text = String::new(rt.alloc());
     for _ in 0..levels {
