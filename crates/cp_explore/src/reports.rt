@@ -1,7 +1,8 @@
 //! The report of a table.
 
-ghost use Rattle.std.specs.Prelude.{◌≡◌, ◌++◌, map, IfOk, string_bytes, decimal, codes};
+ghost use Rattle.std.specs.Prelude.{◌≡◌, ◌++◌, map, IfOk, string_bytes, codes};
 ghost use Rattle.indexmap.specs.IndexMap.{values};
+ghost use Rattle.cp_natural.specs.Decimal.{number_text};
 ghost use Rattle.cp_run.specs.Table.{each};
 ghost use Rattle.cp_explore.specs.Groups.{tally, tally_text};
 ghost use Rattle.cp_explore.specs.Report.{report_text, row_text, rows_text};
@@ -11,7 +12,7 @@ use crate::groups::{Group, grouped};
 use crate::key::OutcomeKey;
 use crate::printed::{Report, Text};
 use crate::row::{Row, Table};
-use crate::text::{push_number, push_outcome, push_word};
+use crate::text::{push_count, push_outcome, push_word};
 use cp_slots::Resolved;
 use indexmap::IndexMap;
 use std::alloc::{AllocError, Global};
@@ -53,7 +54,7 @@ fn push_group(
 ) -> Result<(), AllocError>
     ensures { IfOk result (λ _. string_bytes text.new ≡ string_bytes text.old ++ tally_text program.now (tally group.now)) }
 {
-    push_number(alloc, text, group.count as u64)?;
+    push_count(alloc, text, group.count)?;
     text.push_str(" first ")?;
     push_word(alloc, text, group.first.word.as_slice())?;
     text.push_str(" ")?;
@@ -76,10 +77,10 @@ fn push_groups(
 }
 
 fn push_line(alloc: Global, text: &mut String, name: &str, number: usize) -> Result<(), AllocError>
-    ensures { IfOk result (λ _. string_bytes text.new ≡ string_bytes text.old ++ name.now ++ decimal number ++ codes "\n") }
+    ensures { IfOk result (λ _. string_bytes text.new ≡ string_bytes text.old ++ name.now ++ number_text number ++ codes "\n") }
 {
     text.push_str(name)?;
-    push_number(alloc, text, number as u64)?;
+    push_count(alloc, text, number)?;
     text.push_str("\n")
 }
 

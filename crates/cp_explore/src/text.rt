@@ -2,6 +2,7 @@
 
 ghost use Rattle.std.specs.Prelude.{◌≡◌, ◌++◌, ◌∷◌, [], ◌==◌, IfOk, string_bytes, decimal, codes};
 ghost use Rattle.std.specs.Fmt.{signed_decimal};
+ghost use Rattle.cp_natural.specs.Decimal.{number_text};
 ghost use Rattle.cp_explore.specs.Text.{word_text, char_text, shown_text, output_text, error_text, kind_text, outcome_text};
 
 use cp_machine::{ErrorName, Shown};
@@ -19,6 +20,13 @@ pub fn push_number(alloc: Global, text: &mut String, number: u64) -> Result<(), 
     }
     let digits = format!(in alloc; "{number}")?;
     text.push_str(digits.as_str())
+}
+
+/// Appends a count in decimal.
+pub fn push_count(alloc: Global, text: &mut String, count: usize) -> Result<(), AllocError>
+    ensures { IfOk result (λ _. string_bytes text.new ≡ string_bytes text.old ++ number_text count) }
+{
+    push_number(alloc, text, count as u64)
 }
 
 /// Appends a word: its numbers joined by periods, or a hyphen.

@@ -34,7 +34,7 @@ pub fn run<L: Ledger>(
     word: &[u8],
     ticks: &mut Ticks<L>,
 ) -> Result<RunEnd, AllocError>
-    requires { length word.now ≤ 20 }
+    requires { length word.now ≤ 100 }
     ensures answer { IfOk result (λ end. answer_of end ≡ run (slots program.now limits.gates) limits.choices limits.steps word.now) }
     ensures ticks { ticks.new ≤ ticks.old + (limits.choices + 1) * limits.steps }
 {
