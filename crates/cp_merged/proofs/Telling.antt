@@ -1,11 +1,12 @@
 -- The report of a table is told by its tallies.
-use Rattle.std.proofs.Common.{◌≡◌, ◌∙◌, ◌+◌, ℕ, Bool, true, false, if◌then◌else◌, List, [], ◌∷◌, ◌++◌, length, map, refl, sym, ap, arith, decimal, codes}
+use Rattle.std.proofs.Common.{◌≡◌, ◌∙◌, ◌+◌, ℕ, Bool, true, false, if◌then◌else◌, List, [], ◌∷◌, ◌++◌, length, map, refl, sym, ap, arith, codes}
 use Rattle.std.specs.Prelude.{nat_eq}
 use Rattle.std.specs.Map.{lookup}
 use Rattle.std.proofs.lemmas.Cmp.{nat_list_eq_equiv}
 use Rattle.std.proofs.lemmas.List.{append_assoc, length-map}
 use Rattle.indexmap.specs.IndexMap.{insert_entry}
 use lib.Pointwise.{pointwise}
+use Rattle.cp_natural.specs.Decimal.{number_text}
 use Rattle.cp_slots.specs.Tables.{Tables}
 use Rattle.cp_run.specs.Table.{Line, each}
 use Rattle.cp_explore.specs.Report.{outcome_numbers, same_outcome, outcomes_of, group_text, groups_text, report_text}
@@ -13,6 +14,9 @@ use Rattle.cp_explore.specs.Groups as groups
 use Rattle.cp_explore.specs.Groups.{Tally, tally_text}
 use Rattle.cp_explore.proofs.Grouping.{tallies_more}
 use Rattle.cp_merged.specs.Tallies.{one, more, noted, tally_onto, tally}
+use Rattle.cp_merged.specs.Code.{tally_of}
+use Rattle.cp_merged.specs.declared.tally.Tally as code
+use Rattle.cp_merged.specs.Holds.{counts}
 use Rattle.cp_merged.specs.Told.{rows_in, told_text}
 use Rattle.std.specs.Prelude.{sum_by}
 use Rattle.std.proofs.lemmas.List.Sums.{sum_by-append}
@@ -51,14 +55,18 @@ texts_groups : (r : Tables) (lines fs : List Line) → each (λ e. groups.tally_
 texts_groups r lines [] = refl
 texts_groups r lines (f ∷ fs) = ap (λ l. group_text r lines f ++ l) (texts_groups r lines fs)
 
--- the sum of the counts, by recursion
-abbrev counts : List Tally → ℕ
-counts [] = 0
-counts (t ∷ ts) = t.count + counts ts
-
 pub counts_sum : (ts : List Tally) → rows_in ts ≡ counts ts
 counts_sum [] = refl
 counts_sum (t ∷ ts) = let d = sum_by-append (λ (u : Tally). u.count) (t ∷ []) ts in let e = counts_sum ts in omega (arith, d, e)
+
+-- the same of the tallies of the code
+pub rows_sum : (ts : List code.Tally) → rows_in (map tally_of ts) ≡ sum_by (λ t. t.count) ts
+rows_sum [] = refl
+rows_sum (t ∷ ts) =
+    let d = sum_by-append (λ (u : Tally). u.count) (tally_of t ∷ []) (map tally_of ts) in
+    let e = sum_by-append (λ (u : code.Tally). u.count) (t ∷ []) ts in
+    let f = rows_sum ts in
+    omega (arith, d, e, f)
 
 counts_noted : (ts : List Tally) (l : Line) → counts (noted same_outcome ts (one l)) ≡ counts ts + 1
 counts_noted [] l = omega arith
@@ -79,4 +87,4 @@ told_report r lines =
     let n : rows_in ts ≡ length lines = (let c = counts_onto [] lines in let d = counts_sum ts in omega (arith, c, d)) in
     let m : length ts ≡ length (outcomes_of lines) = sym (length-map ts entry) ∙ ap length (entries lines) ∙ length-map (outcomes_of lines) (groups.tally_of lines) in
     let texts : each (tally_text r) ts ≡ groups_text r lines (outcomes_of lines) = texts_entries r ts ∙ ap (each (λ e. groups.tally_text r e.1)) (entries lines) ∙ texts_groups r lines (outcomes_of lines) in
-    ap (λ k. codes "schedules " ++ decimal k ++ codes "\n" ++ codes "outcomes " ++ decimal (length ts) ++ codes "\n" ++ each (tally_text r) ts) n ∙ ap (λ k. codes "schedules " ++ decimal (length lines) ++ codes "\n" ++ codes "outcomes " ++ decimal k ++ codes "\n" ++ each (tally_text r) ts) m ∙ ap (λ t. codes "schedules " ++ decimal (length lines) ++ codes "\n" ++ codes "outcomes " ++ decimal (length (outcomes_of lines)) ++ codes "\n" ++ t) texts
+    ap (λ k. codes "schedules " ++ number_text k ++ codes "\n" ++ codes "outcomes " ++ number_text (length ts) ++ codes "\n" ++ each (tally_text r) ts) n ∙ ap (λ k. codes "schedules " ++ number_text (length lines) ++ codes "\n" ++ codes "outcomes " ++ number_text k ++ codes "\n" ++ each (tally_text r) ts) m ∙ ap (λ t. codes "schedules " ++ number_text (length lines) ++ codes "\n" ++ codes "outcomes " ++ number_text (length (outcomes_of lines)) ++ codes "\n" ++ t) texts

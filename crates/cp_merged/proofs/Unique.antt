@@ -197,7 +197,7 @@ score_has same P o (t ∷ ts) h = holds_plus P (score_one same o t) (score_in sa
     by false = tt
 
 -- no score where no tally is of the outcome
-no_score : (same : Sameness) (o : Outcome) (ts : List Tally) → Each (λ u. same u.first.outcome o ≡ false) ts → score_in same o ts ≡ None
+pub no_score : (same : Sameness) (o : Outcome) (ts : List Tally) → Each (λ u. same u.first.outcome o ≡ false) ts → score_in same o ts ≡ None
 no_score same o [] h = refl
 no_score same o (t ∷ ts) h = ap (λ b. plus (if b then Some (scored t.count t.first.word) else None) (score_in same o ts)) h.0 ∙ no_score same o ts h.1
 
@@ -205,10 +205,10 @@ no_score same o (t ∷ ts) h = ap (λ b. plus (if b then Some (scored t.count t.
 none_behind : (same : Sameness) → IsSameness same → (t : Tally) (ts : List Tally) (o : Outcome) → Each (λ u. same t.first.outcome u.first.outcome ≡ false) ts → same t.first.outcome o ≡ true → score_in same o ts ≡ None
 none_behind same is t ts o h e = no_score same o ts (each_to (λ u. same t.first.outcome u.first.outcome ≡ false) (λ u. same u.first.outcome o ≡ false) ts (λ u f. is.flip u.first.outcome o ∙ sym (is.alike t.first.outcome o u.first.outcome e) ∙ f) h)
 
-first_score : (same : Sameness) → IsSameness same → (t : Tally) (ts : List Tally) (o : Outcome) → Each (λ u. same t.first.outcome u.first.outcome ≡ false) ts → same t.first.outcome o ≡ true → score_in same o (t ∷ ts) ≡ Some (scored t.count t.first.word)
+pub first_score : (same : Sameness) → IsSameness same → (t : Tally) (ts : List Tally) (o : Outcome) → Each (λ u. same t.first.outcome u.first.outcome ≡ false) ts → same t.first.outcome o ≡ true → score_in same o (t ∷ ts) ≡ Some (scored t.count t.first.word)
 first_score same is t ts o h e = ap (λ b. plus (if b then Some (scored t.count t.first.word) else None) (score_in same o ts)) e ∙ ap (λ r. plus (Some (scored t.count t.first.word)) r) (none_behind same is t ts o h e)
 
-other_score : (same : Sameness) (t : Tally) (ts : List Tally) (o : Outcome) → same t.first.outcome o ≡ false → score_in same o (t ∷ ts) ≡ score_in same o ts
+pub other_score : (same : Sameness) (t : Tally) (ts : List Tally) (o : Outcome) → same t.first.outcome o ≡ false → score_in same o (t ∷ ts) ≡ score_in same o ts
 other_score same t ts o e = ap (λ b. plus (if b then Some (scored t.count t.first.word) else None) (score_in same o ts)) e
 
 abbrev of_score : Score → Outcome → Tally
