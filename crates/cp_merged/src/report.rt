@@ -28,32 +28,22 @@ fn words_in(tallies: &[Tally]) -> Natural
     sum
 }
 
-fn push_tally(
-    alloc: Global,
-    text: &mut String,
-    program: &Resolved,
-    tally: &Tally,
-) -> Result<(), AllocError>
+fn push_tally(text: &mut String, program: &Resolved, tally: &Tally) -> Result<(), AllocError>
     ensures { IfOk result (λ _. string_bytes text.new ≡ string_bytes text.old ++ tally_text program.now (tally_of tally.now)) }
 {
     push_natural(text, &tally.count)?;
     text.push_str(" first ")?;
-    push_word(alloc, text, tally.first.as_slice())?;
+    push_word(text, tally.first.as_slice())?;
     text.push_str(" ")?;
-    push_outcome(alloc, text, program, &tally.outcome)?;
+    push_outcome(text, program, &tally.outcome)?;
     text.push_str("\n")
 }
 
-fn push_tallies(
-    alloc: Global,
-    text: &mut String,
-    program: &Resolved,
-    tallies: &[Tally],
-) -> Result<(), AllocError>
+fn push_tallies(text: &mut String, program: &Resolved, tallies: &[Tally]) -> Result<(), AllocError>
     ensures { IfOk result (λ _. string_bytes text.new ≡ string_bytes text.old ++ each (tally_text program.now) (map tally_of tallies.now)) }
 {
     for tally in tallies {
-        push_tally(alloc, text, program, tally)?;
+        push_tally(text, program, tally)?;
     }
     Ok(())
 }
@@ -66,9 +56,9 @@ fn told(alloc: Global, program: &Resolved, tallies: &Tallies) -> Result<Report, 
     lines.push_str("schedules ")?;
     push_natural(&mut lines, &words_in(all))?;
     lines.push_str("\noutcomes ")?;
-    push_count(alloc, &mut lines, all.len())?;
+    push_count(&mut lines, all.len())?;
     lines.push_str("\n")?;
-    push_tallies(alloc, &mut lines, program, all)?;
+    push_tallies(&mut lines, program, all)?;
     Ok(Report {
         text: Text::new(lines),
     })
