@@ -2,6 +2,7 @@
 
 mod cuttings;
 mod fakes;
+mod merged;
 mod programs;
 mod readings;
 mod rows;
