@@ -1,4 +1,4 @@
-//! The rows behind a member of a cutting.
+//! The rows that begin with a member of a cutting.
 
 ghost use Rattle.std.specs.Prelude.{◌≡◌, ◌<◌, ◌≤◌, length, map, IfOk, IfErr};
 ghost use Rattle.cp_run.specs.Slots.{slots};
@@ -64,7 +64,7 @@ pub fn member_rows<S: Ledger, C: Ledger>(
         alloc,
         program,
         limits,
-        &state,
+        &mut state,
         halt,
         kept.as_mut_slice(),
         &mut path,

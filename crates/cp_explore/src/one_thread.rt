@@ -64,7 +64,7 @@ fn explore_counted<S: Ledger, C: Ledger>(
         alloc,
         program,
         limits,
-        &first,
+        &mut first,
         halt,
         kept.as_mut_slice(),
         &mut word,

@@ -19,11 +19,8 @@ use std::sync::ledger::{Blank, Ledger};
 pub fn outcome_at(alloc: Global, kind: OutcomeKind, state: &State) -> Result<Outcome, AllocError>
     ensures { IfOk result (λ o. o ≡ record { kind = kind; output = output_of (machine_of state.now) }) }
 {
-    let values = Vec::from_slice(alloc, state.output())?;
-    Ok(Outcome {
-        kind,
-        output: Output::new(values),
-    })
+    let output = Output::of(alloc, state.output())?;
+    Ok(Outcome { kind, output })
 }
 
 /// Runs a word from the opening state. `ticks` counts the steps that succeed.

@@ -187,7 +187,7 @@ fn trace_opening<S: Ledger>(
     }
 }
 
-/// Whether a run is over where its stretch halted, after so many choices.
+/// Whether a run is over where its stretch halted, after this many choices.
 pub fn is_over(limits: Limits, halt: Halt, used: usize) -> bool
     requires { used ≤ limits.choices }
     ensures { result ≡ is_over (limits.choices - used) halt }

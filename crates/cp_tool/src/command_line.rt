@@ -5,8 +5,6 @@ ghost use Rattle.cp_tool.specs.Finds.{Finds};
 ghost use Rattle.cp_tool.specs.Options.{Gives, HasOptions, HasRefusedValue, IsScheduled, IsFaultFor, IsGated, is_asked};
 ghost use Rattle.cp_tool.specs.Words.{most_choices};
 
-#[cfg(test)]
-mod tests;
 
 use crate::command::command;
 use crate::numbers::chosen;

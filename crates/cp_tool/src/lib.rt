@@ -9,8 +9,6 @@ pub mod options;
 mod refusal;
 mod schedule;
 pub mod stream;
-#[cfg(test)]
-mod tests;
 mod transfer;
 pub mod wrapped;
 
