@@ -20,6 +20,7 @@ use std::test::Fail;
 
 /// A job's table.
 fn table_of(alloc: Global, program: &Resolved, limits: Limits) -> Result<Table, Fail>
+    requires { limits.choices ≤ 20 }
     ensures { IfOk result (λ t. map line_of t.rows ≡ table (slots program.now limits.gates) limits.choices limits.steps) }
 {
     table_counted::<Brand>(alloc, program, limits, Blank::new(1))
@@ -34,6 +35,7 @@ fn table_counted<L: Ledger>(
     requires name { blank.name ≡ L.name }
     requires parts { blank.parts ≡ L.parts }
     requires one { L.parts ≡ 1 }
+    requires few { limits.choices ≤ 20 }
     ensures { IfOk result (λ t. map line_of t.rows ≡ table (slots program.now limits.gates) limits.choices limits.steps) }
 {
     let mut calls: Ticks<L> = Ticks::new(blank);
@@ -288,7 +290,9 @@ fn gather_wrong_pieces(rt: HostRuntime) -> Result<(), Fail> {
 }
 
 /// How many words begin those of a job's table.
-fn beginnings_of(alloc: Global, program: &Resolved, limits: Limits) -> Result<u64, Fail> {
+fn beginnings_of(alloc: Global, program: &Resolved, limits: Limits) -> Result<u64, Fail>
+    requires { limits.choices ≤ 20 }
+{
     let table = table_of(alloc, program, limits)?;
     Ok(beginnings(&table))
 }

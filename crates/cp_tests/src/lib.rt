@@ -11,6 +11,8 @@ mod cuttings;
 #[cfg(test)]
 mod fakes;
 #[cfg(test)]
+mod merged;
+#[cfg(test)]
 mod parses;
 #[cfg(test)]
 mod programs;

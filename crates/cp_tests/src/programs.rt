@@ -1,6 +1,6 @@
 //! Programs of the worked rows, resolved, and what is asked of them by words.
 
-ghost use Rattle.std.specs.Prelude.{◌≡◌, ◌≤◌, length};
+ghost use Rattle.std.specs.Prelude.{◌≡◌, ◌≤◌, IfOk, length};
 
 use arrayvec::ArrayVec;
 use cp_check::check;
@@ -51,8 +51,13 @@ pub fn program_of(alloc: Global, source: &str) -> Result<Resolved, Fail> {
     Ok(resolve(alloc, &checked).ok().ok_or("it is not resolved")?)
 }
 
-/// Limits with 1,000 steps.
-pub fn limits_of(choices: u8, gates: Gates) -> Result<Limits, Fail> {
+/// Limits with 1,000 steps, and no more choices than tables have.
+pub fn limits_of(choices: u8, gates: Gates) -> Result<Limits, Fail>
+    ensures { IfOk result (λ l. l.choices ≤ 20) }
+{
+    if choices > 20 {
+        return Err(Fail::from("too many choices"));
+    }
     Ok(Limits::new(choices, 1000, gates).ok_or("no such limits")?)
 }
 

@@ -4,12 +4,12 @@ use crate::streams::{NEVER, Refusals, answer_to};
 use std::test::Fail;
 
 /// A source, the words of the call, and what is written, with which status.
-struct Row {
-    name: &'static str,
-    words: &'static [&'static str],
-    source: &'static str,
-    code: u8,
-    text: &'static str,
+pub struct Row {
+    pub name: &'static str,
+    pub words: &'static [&'static str],
+    pub source: &'static str,
+    pub code: u8,
+    pub text: &'static str,
 }
 
 static ROWS: [Row; 16] = [

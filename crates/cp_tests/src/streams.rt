@@ -42,8 +42,19 @@ pub fn answer_to<'a, X: Threads + Sync>(
     let Ok(options) = read_options(alloc, words) else {
         return Err(Fail::from("refused words"));
     };
+    Ok(answer_by(rt, alloc, &options, source, refusals))
+}
+
+/// What the program answers to a source with these options.
+pub fn answer_by<X: Threads + Sync>(
+    rt: &X,
+    alloc: Global,
+    options: &Options,
+    source: &[u8],
+    refusals: Refusals,
+) -> Told {
     let (reads, writes) = (Blank::new(3), Blank::new(3));
-    Ok(told_by::<X, Brand, Brand>(rt, alloc, &options, source, refusals, reads, writes))
+    told_by::<X, Brand, Brand>(rt, alloc, options, source, refusals, reads, writes)
 }
 
 fn told_by<X: Threads + Sync, A: Ledger, B: Ledger>(

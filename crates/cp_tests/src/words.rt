@@ -33,6 +33,18 @@ static SPELLINGS: [&str; 10] = [
     "first",
 ];
 
+/// Words that ask for merging, with numbers that only then are in their ranges.
+static MERGED: [&str; 8] = [
+    "cpx",
+    "--merge",
+    "--states",
+    "10000000",
+    "--choices=100",
+    "--schedule",
+    "0.0.0.0.0.0.0.0.0.0.0.0.0.0.0.0.0.0.0.0.15",
+    "--workers=1",
+];
+
 static LONGEST: [&str; 3] = [
     "cpx",
     "--schedule",
@@ -40,7 +52,7 @@ static LONGEST: [&str; 3] = [
 ];
 
 /// Words that are refused.
-static REFUSED: [&[&str]; 33] = [
+static REFUSED: [&[&str]; 42] = [
     &["cpx", "--choices", "21"],
     &["cpx", "--steps", "0"],
     &["cpx", "--steps", "100001"],
@@ -78,16 +90,32 @@ static REFUSED: [&[&str]; 33] = [
     &["cpx", "--choices", "99", "--help"],
     &["cpx", "--rows", "--schedule=00", "-h"],
     &["cpx", "--gates", "last", "--cut", "2", "--help"],
+    &["cpx", "--merge", "--choices", "101"],
+    &["cpx", "--choices", "21", "--states", "5"],
+    &["cpx", "--merge", "--cut", "21"],
+    &["cpx", "--merge", "--states", "0"],
+    &["cpx", "--states", "10000001"],
+    &["cpx", "--merge", "--rows", "--schedule", "none"],
+    &["cpx", "--rows", "--merge", "--help"],
+    &["cpx", "--merge", "--merge"],
+    &[
+        "cpx",
+        "--merge",
+        "--schedule",
+        "0.0.0.0.0.0.0.0.0.0.0.0.0.0.0.0.0.0.0.0.0.0.0.0.0.0.0.0.0.0.0.0.0.0.0.0.0.0.0.0.0.0.0.0.0.0.0.0.0.0.0.0.0.0.0.0.0.0.0.0.0.0.0.0.0.0.0.0.0.0.0.0.0.0.0.0.0.0.0.0.0.0.0.0.0.0.0.0.0.0.0.0.0.0.0.0.0.0.0.0.0",
+    ],
 ];
 
 /// Words that ask for help.
-static HELP: [&[&str]; 6] = [
+static HELP: [&[&str]; 8] = [
     &["cpx", "--help"],
     &["cpx", "-h"],
     &["cpx", "--rows", "--help"],
     &["cpx", "--help", "--nothing"],
     &["cpx", "--choices", "20", "--help"],
     &["cpx", "-h", "--choices", "99"],
+    &["cpx", "--merge", "--choices", "99", "--help"],
+    &["cpx", "--merge", "--help", "--rows"],
 ];
 
 #[test]
@@ -97,7 +125,20 @@ fn without_words_each_option_has_its_default(rt: HostRuntime) -> Result<(), Fail
     };
     assert!(rt; options.choices == 8 && options.steps == 1_000 && options.workers == 2);
     assert!(rt; options.cut == 2 && !options.rows && options.schedule.is_none());
-    assert!(rt; options.gates == Gates::First);
+    assert!(rt; options.gates == Gates::First && !options.merge && options.states == 200_000);
+    Ok(())
+}
+
+#[test]
+fn merging_has_wider_ranges(rt: HostRuntime) -> Result<(), Fail> {
+    let Ok(options) = read_options(rt.alloc(), MERGED.as_slice()) else {
+        panic!(rt; "refused")
+    };
+    assert!(rt; options.merge && options.states == 10_000_000 && options.choices == 100);
+    let Some(word) = &options.schedule else {
+        panic!(rt; "no schedule")
+    };
+    assert!(rt; word.len() == 21 && word.last() == Some(&15));
     Ok(())
 }
 
@@ -205,11 +246,11 @@ fn a_schedule_may_have_twenty_numbers(rt: HostRuntime) -> Result<(), Fail> {
     let Ok(options) = read_options(rt.alloc(), LONGEST.as_slice()) else {
         panic!(rt; "refused")
     };
-    let is_full = match &options.schedule {
-        Some(word) => word.is_full(),
-        None => false,
+    let count = match &options.schedule {
+        Some(word) => word.len(),
+        None => 0,
     };
-    assert!(rt; is_full);
+    assert_eq!(rt; count, 20);
     Ok(())
 }
 
@@ -232,7 +273,7 @@ fn help_names_each_option_and_shows_a_call(rt: HostRuntime) -> Result<(), Fail> 
         for part in [
             "Usage: cpx [OPTIONS] < PROGRAM",
             "--choices <K>",
-            "0 to 20 [default: 8]",
+            "0 to 20, with --merge to 100 [default: 8]",
             "--steps <L>",
             "1 to 100000 [default: 1000]",
             "--workers <N>",
@@ -240,6 +281,10 @@ fn help_names_each_option_and_shows_a_call(rt: HostRuntime) -> Result<(), Fail> 
             "--cut <D>",
             "0 to 20 [default: 2]",
             "--rows",
+            "--merge",
+            "Count schedules that come to one state together, without rows",
+            "--states <N>",
+            "States that a layer may have with --merge, 1 to 10000000",
             "--schedule <WORD>",
             "--gates <WHO>",
             "[default: first]",
