@@ -6,8 +6,6 @@
 
 mod plays;
 mod seats;
-#[cfg(test)]
-mod tests;
 mod views;
 
 pub use seats::{Board, BoardFault, Closed, Seat};

@@ -20,6 +20,7 @@ use std::alloc::Global;
 #[derive(Drop)]
 pub struct Checked {
     tree: Tree,
+    ghost accepted: { faults_of (tree_view tree) ≡ [] },
 }
 
 impl Checked {

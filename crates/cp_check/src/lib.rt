@@ -16,8 +16,6 @@ mod record;
 mod routine;
 mod statement;
 mod system;
-#[cfg(test)]
-mod tests;
 mod types;
 
 pub use checker::{Checked, check};

@@ -1,4 +1,4 @@
--- The rows behind one number after the other.
+-- The rows that begin with one number after the other.
 use Rattle.std.proofs.Common.{◌≡◌, ℕ, zero, suc, ◌+◌, true, false, if◌then◌else◌, List, [], ◌∷◌, ◌++◌, map, sym, refl, ap, ◌∙◌, subst, arith, Result, Ok, Err, IfOk, take, length, All, ◌≤◌, ◌<◌, ◌⊎◌, ⊎_elim}
 use Rattle.std.proofs.lemmas.Bool.{cases_order}
 use Rattle.std.proofs.Math.Seq.{take-append_seam}
@@ -14,7 +14,7 @@ use Rattle.cp_run.specs.Run.{joined_below, Node, Halted, Choosing, may, chosen}
 use Rattle.cp_run.specs.Table.{Line}
 use Rattle.cp_explore.specs.Walk.{behind, walk}
 
--- the rows behind one number
+-- the rows that begin with one number
 abbrev pub branch : {S : Type 0} → System S → ℕ → ℕ → S → ℕ → List Line
 branch sys steps choices s p = if may sys s p then map (behind (p ∷ [])) (walk sys steps choices (chosen sys steps s p)) else []
 
@@ -38,7 +38,7 @@ pub append_none : {A : Type 0} (l : List A) → l ++ [] ≡ l
 append_none [] = refl
 append_none (x ∷ xs) = ap (λ l. x ∷ l) (append_none xs)
 
--- a row behind a word
+-- a row that begins with a word
 pub one_behind : {E : Type 0} (word shown : List ℕ) (outcome : Outcome) (old new : List Line) (lines : List Line) (r : Result (Unit {0}) E) → shown ≡ word → lines ≡ record { word = []; outcome = outcome } ∷ [] → IfOk r (λ _. new ≡ old ++ record { word = shown; outcome = outcome } ∷ []) → IfOk r (λ _. new ≡ old ++ map (behind word) lines)
 one_behind word shown outcome old new lines (Err e) same is h = h
 one_behind word shown outcome old new lines (Ok x) same is h =

@@ -60,7 +60,7 @@ last_child : (p : ℕ) (prev : List ℕ) (ws : List (List ℕ)) → Below (suc p
 last_child p prev [] h = h
 last_child p prev (w ∷ ws) h = last_child p (p ∷ w) ws (omega arith)
 
--- ---- the words behind one number
+-- ---- the words that begin with one number
 
 words_behind : (p : ℕ) (ls : List Line) → words_in (map (behind (p ∷ [])) ls) ≡ map (λ w. p ∷ w) (words_in ls)
 words_behind p [] = refl
@@ -83,7 +83,7 @@ last_joined sys steps k s (suc n) =
 joined_next : {A : Type 0} (p : ℕ) (f : ℕ → List A) → joined_below (p + 1) f ≡ joined_below p f ++ f p
 joined_next p f = let e : p + 1 ≡ suc p = omega arith in ap (λ n. joined_below n f) e
 
--- what the words behind one number more add
+-- what the words that begin with one number more add
 added_next : {S : Type 0} (sys : System S) (steps k : ℕ) (s : S) (p : ℕ) → added [] (words_in (joined_below (p + 1) (branch sys steps k s))) ≡ added [] (words_in (joined_below p (branch sys steps k s))) + added (last_of [] (words_in (joined_below p (branch sys steps k s)))) (words_in (branch sys steps k s p))
 added_next sys steps k s p =
     let f = branch sys steps k s in

@@ -20,3 +20,8 @@ ok_both (Err e) P Q R h k f = h
 pub err_then : {A : Type 0} (r : Result A ExploreFault) (P Q : ExploreFault → Type 0) → IfErr r P → ((e : ExploreFault) → P e → Q e) → IfErr r Q
 err_then (Ok a) P Q h f = h
 err_then (Err e) P Q h f = f e h
+
+-- what holds of an answer, from what holds of it
+pub ok_as : {A : Type 0} (r : Result A ExploreFault) (P Q : A → Type 0) → IfOk r P → ((a : A) → P a → Q a) → IfOk r Q
+ok_as (Ok a) P Q h f = f a h
+ok_as (Err e) P Q h f = h

@@ -12,6 +12,7 @@ pub mod Gathering
 pub mod Grouping
 pub mod Joining
 pub mod Leading
+pub mod Listed
 pub mod MemberTables
 pub mod Orders
 pub mod Parting

@@ -50,7 +50,7 @@ rising (suc n) f = pairs_append nat_lt (those_below n f) (if f n then n ∷ [] e
     above true p lt = (lt-ltb p n lt, tt)
     above false p lt = tt
 
--- ---- the rows behind the children are those behind the word
+-- ---- the rows that begin with the children are those that begin with the word
 
 list_one : {A : Type 0} (f : ℕ → List A) (n : ℕ) (b : Bool) → each f (if b then n ∷ [] else []) ≡ (if b then f n else [])
 list_one f n true = none (f n)
@@ -202,7 +202,7 @@ split_apart before after word ready rise apart =
     family w [] h = tt
     family w (p ∷ ps) h = (each_map_to (λ q. nat_lt p q ≡ true) (λ v. parts_before (w ++ p ∷ []) v ≡ true) (λ q. w ++ q ∷ []) ps (λ q lt. siblings w p q (ltb-true p q lt)) h.0, family w ps h.1)
 
--- every row behind a word begins with it
+-- every row after a word begins with it
 rows_begin : {S : Type 0} (sys : System S) (steps k : ℕ) (word : List ℕ) (node : Node S) → Each (λ l. begins word l.word ≡ true) (rows_from sys steps k word node)
 unfolding rows_from
 rows_begin sys steps k [] node = all_begin (rows_from sys steps k [] node)

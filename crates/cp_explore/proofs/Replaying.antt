@@ -1,4 +1,4 @@
--- The rows behind a word, number by number.
+-- The rows that begin with a word, number by number.
 use Rattle.std.proofs.Common.{◌≡◌, ℕ, zero, suc, ◌+◌, ◌-◌, ◌<◌, true, false, if◌then◌else◌, List, [], ◌∷◌, ◌++◌, length, map, take, drop, get_or, refl, sym, ap, ◌∙◌, arith, take-suc}
 use Rattle.std.proofs.lemmas.List.{append_assoc}
 use Rattle.cp_run.specs.declared.outcome.Halt.{Halt}

@@ -24,7 +24,7 @@ is_before v [] = false
 is_before [] (q ∷ w) = true
 is_before (p ∷ v) (q ∷ w) = nat_lt p q || ((p == q) && is_before v w)
 
--- each element with all behind it
+-- each element with all that follow it
 abbrev pub Pairwise : {A : Type 0} → (A → A → Bool) → List A → Type 0
 Pairwise r [] = Unit {0}
 Pairwise r (x ∷ xs) = Each (λ y. r x y ≡ true) xs × Pairwise r xs
@@ -41,7 +41,7 @@ pub record IsCutting {S : Type 0} (sys : System S) (choices steps : ℕ) (words 
   pub used : Each (λ word. IsUsed word (run sys choices steps word)) words
   pub one : Each (λ l. count_by (λ word. begins word l.word) words ≡ 1) (table sys choices steps)
 
--- the rows that begin with a word, from where a run stands, with so many choices left
+-- the rows that begin with a word, from where a run stands, with this many choices left
 unfoldable pub rows_from : {S : Type 0} → System S → ℕ → ℕ → List ℕ → Node S → List Line
 rows_from sys steps choices [] node = walk sys steps choices node
 rows_from sys steps zero (p ∷ word) node = []
@@ -58,7 +58,7 @@ parts_before [] w = false
 parts_before (p ∷ v) [] = false
 parts_before (p ∷ v) (q ∷ w) = nat_lt p q || ((p == q) && parts_before v w)
 
--- what holds of a cutting beside: no member begins another, and the rows behind the members, one after the other, are the table
+-- what holds of a cutting beside: no member begins another, and the rows that begin with the members, one after the other, are the table
 pub record Parts {S : Type 0} (sys : System S) (choices steps : ℕ) (words : List (List ℕ)) : Type 0 where
   pub apart : Pairwise parts_before words
   pub rows : each (rows_behind sys choices steps) words ≡ table sys choices steps
@@ -119,7 +119,7 @@ abbrev pub deeper_from : {S : Type 0} → System S → (choices steps d : ℕ) �
 deeper_from sys choices steps d None = None
 deeper_from sys choices steps d (Some words) = deeper sys choices steps d words
 
--- after so many of these splits
+-- after this many of these splits
 abbrev pub deepened : {S : Type 0} → System S → (choices steps d n : ℕ) → List (List ℕ) → Option (List (List ℕ))
 deepened sys choices steps d zero words = Some words
 deepened sys choices steps d (suc n) words = deeper_from sys choices steps d (deepened sys choices steps d n words)

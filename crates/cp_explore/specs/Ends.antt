@@ -1,4 +1,4 @@
--- What a worker leaves behind.
+-- What a worker leaves.
 use Rattle.cp_explore.specs.declared.row.Row.{Row}
 use Rattle.std.specs.Prelude.{◌≡◌, ℕ, ◌<◌, ◌≤◌, List, [], length, map, take, All, Any}
 use Rattle.cp_board.specs.Views.{view}

@@ -28,7 +28,7 @@ abbrev pub placed : Slots → List Piece → Result Slots GatherFault
 placed slots [] = Ok slots
 placed slots (p ∷ ps) = then_with (placed_one slots p) (λ next. placed next ps)
 
--- the rows of the slots from this task on, behind those found
+-- the rows of the slots from this task on, after those found
 abbrev pub joined : ℕ → List Row → Slots → Result (List Row) GatherFault
 joined task rows [] = if nat_lt 50000 (length rows) then Err TooManyRows else Ok rows
 joined task rows (None ∷ slots) = Err (Missing task)

@@ -1,5 +1,6 @@
 -- The outcomes of a table with their first rows and counts.
-use Rattle.std.specs.Prelude.{ℕ, ◌+◌, List, ◌++◌, map, Option, None, Some, decimal, codes}
+use Rattle.std.specs.Prelude.{ℕ, ◌+◌, List, ◌++◌, map, Option, None, Some, codes}
+use Rattle.cp_natural.specs.Decimal.{number_text}
 use Rattle.cp_slots.specs.Tables.{Tables}
 use Rattle.cp_run.specs.Table.{Line}
 use Rattle.cp_explore.specs.Report.{outcome_numbers, outcomes_of, count_of}
@@ -27,4 +28,4 @@ abbrev pub tally : Group → Tally
 tally g = record { first = line_of g.first.now; count = g.count }
 
 abbrev pub tally_text : Tables → Tally → List ℕ
-tally_text r t = decimal t.count ++ codes " first " ++ word_text t.first.word ++ codes " " ++ outcome_text r t.first.outcome ++ codes "\n"
+tally_text r t = number_text t.count ++ codes " first " ++ word_text t.first.word ++ codes " " ++ outcome_text r t.first.outcome ++ codes "\n"

@@ -5,6 +5,7 @@ pub mod Deepening
 pub mod Ends
 pub mod Gather
 pub mod Groups
+pub mod Hashing
 pub mod Members
 pub mod Report
 pub mod Rows

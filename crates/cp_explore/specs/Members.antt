@@ -1,4 +1,4 @@
--- The words of a cutting, and the rows behind each.
+-- The words of a cutting, and the rows that begin with each.
 use Rattle.std.specs.Prelude.{◌≤◌, ℕ, List, [], length, map, Option, None, Some, slice_get}
 use Rattle.arrayvec.specs.ArrayVec.{ArrayVec}
 use Rattle.cp_slots.specs.Tables.{Tables}
@@ -18,7 +18,7 @@ abbrev pub lines_behind : Tables → Limits → Option (ArrayVec ℕ) → List L
 lines_behind r l None = []
 lines_behind r l (Some word) = rows_behind (slots r l.gates) l.choices l.steps word.items
 
--- the rows behind the member of this number
+-- the rows that begin with the member of this number
 abbrev pub member_rows : Tables → Limits → List (ArrayVec ℕ) → ℕ → List Row
 member_rows r l words i = map row_of (lines_behind r l (slice_get words i))
 

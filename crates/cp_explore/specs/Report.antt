@@ -1,8 +1,9 @@
 -- The report of a table.
-use Rattle.std.specs.Prelude.{ℕ, List, [], ◌∷◌, ◌++◌, length, count_by, nat_eq, unsigned_abs, Bool, decimal, codes, if◌then◌else◌}
+use Rattle.std.specs.Prelude.{ℕ, List, [], ◌∷◌, ◌++◌, length, count_by, nat_eq, unsigned_abs, Bool, codes, if◌then◌else◌}
 use Rattle.std.specs.Int.{is_negative}
 use Rattle.std.specs.List.{list_any}
 use lib.Pointwise.{pointwise}
+use Rattle.cp_natural.specs.Decimal.{number_text}
 use Rattle.cp_slots.specs.Tables.{Tables}
 use Rattle.cp_machine.specs.declared.shown.Shown.{Shown}
 use Rattle.cp_machine.specs.declared.shown.Shown.TheVariants.{Integer, Char, Truth, Constant}
@@ -66,7 +67,7 @@ abbrev pub rows_text : Tables → List Line → List ℕ
 rows_text r lines = each (row_text r) lines
 
 abbrev pub group_text : Tables → List Line → Line → List ℕ
-group_text r lines first = decimal (count_of lines first) ++ codes " first " ++ word_text first.word ++ codes " " ++ outcome_text r first.outcome ++ codes "\n"
+group_text r lines first = number_text (count_of lines first) ++ codes " first " ++ word_text first.word ++ codes " " ++ outcome_text r first.outcome ++ codes "\n"
 
 abbrev pub groups_text : Tables → List Line → List Line → List ℕ
 groups_text r lines firsts = each (group_text r lines) firsts
@@ -74,4 +75,4 @@ groups_text r lines firsts = each (group_text r lines) firsts
 -- the report; the lines of the rows where `rows` is true
 abbrev pub report_text : Tables → List Line → Bool → List ℕ
 report_text r lines rows =
-    (if rows then rows_text r lines else []) ++ codes "schedules " ++ decimal (length lines) ++ codes "\n" ++ codes "outcomes " ++ decimal (length (outcomes_of lines)) ++ codes "\n" ++ groups_text r lines (outcomes_of lines)
+    (if rows then rows_text r lines else []) ++ codes "schedules " ++ number_text (length lines) ++ codes "\n" ++ codes "outcomes " ++ number_text (length (outcomes_of lines)) ++ codes "\n" ++ groups_text r lines (outcomes_of lines)

@@ -19,7 +19,7 @@ IsTooMany TooManyRows = Unit {0}
 abbrev pub lines_at : List (Bor Row) → List Line
 lines_at rows = map (λ r. line_of r.now) rows
 
--- the part of the word that a run's end used is within so many numbers
+-- the part of the word that a run's end used is within this many numbers
 abbrev pub UsedWithin : RunEnd → ℕ → Type 0
 UsedWithin (end.Ended outcome used) n = used ≤ n
 UsedWithin (end.Wants ready) n = Unit {0}

@@ -5,11 +5,11 @@ use Rattle.cp_run.specs.System.{System}
 use Rattle.cp_run.specs.Run.{joined_below, Node, Halted, Choosing, may, chosen}
 use Rattle.cp_run.specs.Table.{Line}
 
--- a row, behind more numbers
+-- a row, after more numbers
 abbrev pub behind : List ℕ → Line → Line
 behind word l = record { word = word ++ l.word; outcome = l.outcome }
 
--- the rows from where a run stands, with so many choices left
+-- the rows from where a run stands, with this many choices left
 unfoldable pub walk : {S : Type 0} → System S → ℕ → ℕ → Node S → List Line
 walk sys steps choices (Halted kind s) = record { word = []; outcome = record { kind = kind; output = sys.output s } } ∷ []
 walk sys steps zero (Choosing s) = record { word = []; outcome = record { kind = ChoiceLimit; output = sys.output s } } ∷ []

@@ -1,6 +1,6 @@
 //! Cuttings: words that cut a table into parts.
 
-ghost use Rattle.std.specs.Prelude.{◌≡◌, ◌<◌, ℕ, Ok, Err, Some, None, [], ◌∷◌, length, IfOk, IfErr, OnOk};
+ghost use Rattle.std.specs.Prelude.{◌≡◌, ◌<◌, ◌≤◌, ℕ, Ok, Err, Some, None, [], ◌∷◌, length, IfOk, IfErr, OnOk};
 ghost use Rattle.cp_run.specs.Slots.{slots};
 ghost use Rattle.cp_explore.specs.Cutting.{split_of, deeper, deepened, IsSplitFault};
 ghost use Rattle.cp_explore.specs.CuttingProps.{cuts_prop};
@@ -22,12 +22,14 @@ pub const MOST_MEMBERS: usize = 4096;
 pub struct Cutting<'a> {
     pub job: Job<'a>,
     pub words: Vec<ArrayVec<u8, 20>>,
+    pub ghost few_choices: { job.limits.choices ≤ 20 },
     pub ghost cuts: { CutsTable job.program.now job.limits words.items } by { cuts_prop job.program.now job.limits words.items },
 }
 
 impl<'a> Cutting<'a> {
     /// The one empty word.
     pub fn whole(alloc: Global, job: Job<'a>) -> Result<Cutting<'a>, AllocError>
+        requires { job.limits.choices ≤ 20 }
         ensures job { IfOk result (λ c. c.job ≡ job.entry) }
         ensures words { IfOk result (λ c. words_of c.words.items ≡ [] ∷ []) }
     {

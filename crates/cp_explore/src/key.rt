@@ -5,6 +5,7 @@ ghost use Rattle.std.specs.Hash as fed;
 ghost use Rattle.std.specs.Cmp.Lexicographic.{bytes_decides, nat_list_eq_equiv};
 ghost use Rattle.std.specs.Cmp.{on_equiv, on_per, partial_equiv_from_equiv};
 ghost use Rattle.std.proofs.Common.{ap};
+ghost use Rattle.cp_explore.specs.Hashing.{hashed};
 ghost use Rattle.cp_explore.specs.Report.{outcome_numbers, same_outcome};
 
 use crate::numbers::{feed_kind, feed_output, is_same};
@@ -32,9 +33,9 @@ impl Eq for OutcomeKey<'_> {
 }
 
 impl Hash for OutcomeKey<'_> {
-    ghost hash_input = { λ x. flat_map fed.u32 (outcome_numbers x.row.now.outcome) };
+    ghost hash_input = { λ x. flat_map fed.u32 (hashed (outcome_numbers x.row.now.outcome)) };
 
-    ghost respects_eq = { λ x y h. ap (flat_map fed.u32) ((bytes_decides (outcome_numbers x.row.now.outcome) (outcome_numbers y.row.now.outcome)).0 h) };
+    ghost respects_eq = { λ x y h. ap (λ numbers. flat_map fed.u32 (hashed numbers)) ((bytes_decides (outcome_numbers x.row.now.outcome) (outcome_numbers y.row.now.outcome)).0 h) };
 
     fn hash<H: Hasher>(&self, state: &mut H) {
         feed_kind(self.row.outcome.kind, state);

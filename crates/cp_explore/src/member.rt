@@ -1,4 +1,4 @@
-//! The rows behind a member of a cutting.
+//! The rows that begin with a member of a cutting.
 
 ghost use Rattle.std.specs.Prelude.{◌≡◌, ◌<◌, ◌≤◌, length, map, IfOk, IfErr};
 ghost use Rattle.cp_run.specs.Slots.{slots};
@@ -32,6 +32,7 @@ pub fn member_rows<S: Ledger, C: Ledger>(
     requires other_parts { other.parts ≡ C.parts }
     requires other_one { C.parts ≡ 1 }
     requires short { length word.now ≤ 20 }
+    requires few { limits.choices ≤ 20 }
     ensures rows { IfOk result (λ v. map line_of v.items ≡ rows_behind (slots program.now limits.gates) limits.choices limits.steps word.now) }
     ensures few { IfOk result (λ v. length v.items ≤ 50000) }
     ensures many { IfErr result (λ e. IsTooMany e → 50000 < length (rows_behind (slots program.now limits.gates) limits.choices limits.steps word.now)) }
@@ -63,7 +64,7 @@ pub fn member_rows<S: Ledger, C: Ledger>(
         alloc,
         program,
         limits,
-        &state,
+        &mut state,
         halt,
         kept.as_mut_slice(),
         &mut path,

@@ -4,6 +4,7 @@ ghost use Rattle.std.specs.Prelude.{◌≡◌, ℕ, List, ◌++◌, ◌∷◌, [
 ghost use Rattle.std.specs.Hash as fed;
 ghost use lib.Pointwise.{pointwise};
 ghost use Rattle.cp_run.specs.Table.{each};
+ghost use Rattle.cp_explore.specs.Hashing.{shown_code};
 ghost use Rattle.cp_explore.specs.Report.{number_of, shown_numbers, kind_numbers, same_outcome};
 
 use cp_machine::{ErrorName, Shown};
@@ -24,26 +25,24 @@ fn number_of(name: ErrorName) -> u32
     }
 }
 
-/// The numbers of a value: its type and sign, and its number.
-fn numbers_of(value: Shown) -> (u32, u32)
-    ensures { shown_numbers value ≡ result.0 ∷ result.1 ∷ [] }
+/// One number for a value: its type and sign, and its number.
+fn code_of(value: Shown) -> u32
+    ensures { result ≡ shown_code value }
 {
     match value {
-        Shown::Integer(n) => (if n < 0 { 1 } else { 0 }, u32::from(n.unsigned_abs())),
-        Shown::Char(code) => (2, u32::from(code)),
-        Shown::Truth(is_true) => (3, if is_true { 1 } else { 0 }),
-        Shown::Constant(constant) => (4, u32::from(constant)),
+        Shown::Integer(n) => (if n < 0 { 65_536 } else { 0 }) + u32::from(n.unsigned_abs()),
+        Shown::Char(code) => 131_072 + u32::from(code),
+        Shown::Truth(is_true) => 196_608 + (if is_true { 1 } else { 0 }),
+        Shown::Constant(constant) => 262_144 + u32::from(constant),
     }
 }
 
-/// Feeds a hasher the numbers of displayed values.
+/// Feeds a hasher one number for each displayed value.
 pub fn feed_output<H: Hasher>(values: &[Shown], state: &mut H)
-    ensures { state.new ≡ fold H.write state.old (flat_map (λ v. flat_map fed.u32 (shown_numbers v)) values.now) }
+    ensures { state.new ≡ fold H.write state.old (flat_map (λ v. fed.u32 (shown_code v)) values.now) }
 {
     for value in values {
-        let (tag, number) = numbers_of(*value);
-        state.write_u32(tag);
-        state.write_u32(number);
+        state.write_u32(code_of(*value));
     }
 }
 
@@ -76,6 +75,13 @@ fn is_same_kind(mine: OutcomeKind, theirs: OutcomeKind) -> bool
     mine == theirs
 }
 
+#[inline(always)]
+fn is_same_value(mine: Shown, theirs: Shown) -> bool
+    ensures { (r s : List ℕ) → pointwise nat_eq (shown_numbers mine ++ r) (shown_numbers theirs ++ s) ≡ (result && pointwise nat_eq r s) }
+{
+    mine == theirs
+}
+
 fn is_same_output(mine: &[Shown], theirs: &[Shown]) -> bool
     ensures { result ≡ pointwise nat_eq (each shown_numbers mine.now) (each shown_numbers theirs.now) }
 {
@@ -85,9 +91,7 @@ fn is_same_output(mine: &[Shown], theirs: &[Shown]) -> bool
     let Some((second, others)) = theirs.split_first() else {
         return false;
     };
-    let (tag, number) = numbers_of(*first);
-    let (other_tag, other) = numbers_of(*second);
-    tag == other_tag && number == other && is_same_output(rest, others)
+    is_same_value(*first, *second) && is_same_output(rest, others)
 }
 
 /// Whether two outcomes have the same numbers.

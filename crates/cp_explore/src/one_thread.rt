@@ -25,6 +25,7 @@ pub fn explore_one<L: Ledger>(
     job: Job,
     calls: &mut Ticks<L>,
 ) -> Result<Table, ExploreFault>
+    requires { job.limits.choices ≤ 20 }
     ensures table { IfOk result (λ t. map line_of t.rows ≡ table (slots job.entry.program.now job.entry.limits.gates) job.entry.limits.choices job.entry.limits.steps) }
     ensures few { IfOk result (λ t. length t.rows ≤ 50000) }
     ensures many { IfErr result (λ e. IsTooMany e → 50000 < length (table (slots job.entry.program.now job.entry.limits.gates) job.entry.limits.choices job.entry.limits.steps)) }
@@ -43,6 +44,7 @@ fn explore_counted<S: Ledger, C: Ledger>(
     requires name { blank.name ≡ S.name }
     requires parts { blank.parts ≡ S.parts }
     requires one { S.parts ≡ 1 }
+    requires short { limits.choices ≤ 20 }
     ensures table { IfOk result (λ t. map line_of t.rows ≡ table (slots program.now limits.gates) limits.choices limits.steps) }
     ensures few { IfOk result (λ t. length t.rows ≤ 50000) }
     ensures many { IfErr result (λ e. IsTooMany e → 50000 < length (table (slots program.now limits.gates) limits.choices limits.steps)) }
@@ -62,7 +64,7 @@ fn explore_counted<S: Ledger, C: Ledger>(
         alloc,
         program,
         limits,
-        &first,
+        &mut first,
         halt,
         kept.as_mut_slice(),
         &mut word,

@@ -1,7 +1,8 @@
 //! The report of a table.
 
-ghost use Rattle.std.specs.Prelude.{◌≡◌, ◌++◌, map, IfOk, string_bytes, decimal, codes};
+ghost use Rattle.std.specs.Prelude.{◌≡◌, ◌++◌, map, IfOk, string_bytes, codes};
 ghost use Rattle.indexmap.specs.IndexMap.{values};
+ghost use Rattle.cp_natural.specs.Decimal.{number_text};
 ghost use Rattle.cp_run.specs.Table.{each};
 ghost use Rattle.cp_explore.specs.Groups.{tally, tally_text};
 ghost use Rattle.cp_explore.specs.Report.{report_text, row_text, rows_text};
@@ -11,58 +12,42 @@ use crate::groups::{Group, grouped};
 use crate::key::OutcomeKey;
 use crate::printed::{Report, Text};
 use crate::row::{Row, Table};
-use crate::text::{push_number, push_outcome, push_word};
+use crate::text::{push_count, push_outcome, push_word};
 use cp_slots::Resolved;
 use indexmap::IndexMap;
 use std::alloc::{AllocError, Global};
 
-fn push_row(
-    alloc: Global,
-    text: &mut String,
-    program: &Resolved,
-    row: &Row,
-) -> Result<(), AllocError>
+fn push_row(text: &mut String, program: &Resolved, row: &Row) -> Result<(), AllocError>
     ensures { IfOk result (λ _. string_bytes text.new ≡ string_bytes text.old ++ row_text program.now (line_of row.now)) }
 {
     text.push_str("row ")?;
-    push_word(alloc, text, row.word.as_slice())?;
+    push_word(text, row.word.as_slice())?;
     text.push_str(" ")?;
-    push_outcome(alloc, text, program, &row.outcome)?;
+    push_outcome(text, program, &row.outcome)?;
     text.push_str("\n")
 }
 
-fn push_rows(
-    alloc: Global,
-    text: &mut String,
-    program: &Resolved,
-    rows: &[Row],
-) -> Result<(), AllocError>
+fn push_rows(text: &mut String, program: &Resolved, rows: &[Row]) -> Result<(), AllocError>
     ensures { IfOk result (λ _. string_bytes text.new ≡ string_bytes text.old ++ rows_text program.now (map line_of rows.now)) }
 {
     for row in rows {
-        push_row(alloc, text, program, row)?;
+        push_row(text, program, row)?;
     }
     Ok(())
 }
 
-fn push_group(
-    alloc: Global,
-    text: &mut String,
-    program: &Resolved,
-    group: &Group,
-) -> Result<(), AllocError>
+fn push_group(text: &mut String, program: &Resolved, group: &Group) -> Result<(), AllocError>
     ensures { IfOk result (λ _. string_bytes text.new ≡ string_bytes text.old ++ tally_text program.now (tally group.now)) }
 {
-    push_number(alloc, text, group.count as u64)?;
+    push_count(text, group.count)?;
     text.push_str(" first ")?;
-    push_word(alloc, text, group.first.word.as_slice())?;
+    push_word(text, group.first.word.as_slice())?;
     text.push_str(" ")?;
-    push_outcome(alloc, text, program, &group.first.outcome)?;
+    push_outcome(text, program, &group.first.outcome)?;
     text.push_str("\n")
 }
 
 fn push_groups(
-    alloc: Global,
     text: &mut String,
     program: &Resolved,
     groups: &IndexMap<OutcomeKey, Group>,
@@ -70,16 +55,16 @@ fn push_groups(
     ensures { IfOk result (λ _. string_bytes text.new ≡ string_bytes text.old ++ each (tally_text program.now) (map tally (values groups.now))) }
 {
     for group in groups.values() {
-        push_group(alloc, text, program, group)?;
+        push_group(text, program, group)?;
     }
     Ok(())
 }
 
-fn push_line(alloc: Global, text: &mut String, name: &str, number: usize) -> Result<(), AllocError>
-    ensures { IfOk result (λ _. string_bytes text.new ≡ string_bytes text.old ++ name.now ++ decimal number ++ codes "\n") }
+fn push_line(text: &mut String, name: &str, number: usize) -> Result<(), AllocError>
+    ensures { IfOk result (λ _. string_bytes text.new ≡ string_bytes text.old ++ name.now ++ number_text number ++ codes "\n") }
 {
     text.push_str(name)?;
-    push_number(alloc, text, number as u64)?;
+    push_count(text, number)?;
     text.push_str("\n")
 }
 
@@ -97,11 +82,11 @@ pub fn report(
     let groups = grouped(alloc, all)?;
     let mut lines = String::new(alloc);
     if rows {
-        push_rows(alloc, &mut lines, program, all)?;
+        push_rows(&mut lines, program, all)?;
     }
-    push_line(alloc, &mut lines, "schedules ", all.len())?;
-    push_line(alloc, &mut lines, "outcomes ", groups.len())?;
-    push_groups(alloc, &mut lines, program, &groups)?;
+    push_line(&mut lines, "schedules ", all.len())?;
+    push_line(&mut lines, "outcomes ", groups.len())?;
+    push_groups(&mut lines, program, &groups)?;
     Ok(Report {
         text: Text::new(lines),
     })

@@ -29,58 +29,57 @@ fn event_name(event: TraceEvent) -> &'static str
     }
 }
 
-fn push_holder(alloc: Global, text: &mut String, holder: Option<u8>) -> Result<(), AllocError>
+fn push_holder(text: &mut String, holder: Option<u8>) -> Result<(), AllocError>
     ensures { IfOk result (λ _. string_bytes text.new ≡ string_bytes text.old ++ holder_text holder) }
 {
     match holder {
         None => text.push_str("free"),
-        Some(process) => push_number(alloc, text, u64::from(process)),
+        Some(process) => push_number(text, u64::from(process)),
     }
 }
 
-fn push_holders(alloc: Global, text: &mut String, holders: &[Option<u8>]) -> Result<(), AllocError>
+fn push_holders(text: &mut String, holders: &[Option<u8>]) -> Result<(), AllocError>
     ensures { IfOk result (λ _. string_bytes text.new ≡ string_bytes text.old ++ behind_each 32 holder_text holders.now) }
 {
     for holder in holders {
         text.push_str(" ")?;
-        push_holder(alloc, text, *holder)?;
+        push_holder(text, *holder)?;
     }
     Ok(())
 }
 
-fn push_numbers(alloc: Global, text: &mut String, numbers: &[u8]) -> Result<(), AllocError>
+fn push_numbers(text: &mut String, numbers: &[u8]) -> Result<(), AllocError>
     ensures { IfOk result (λ _. string_bytes text.new ≡ string_bytes text.old ++ behind_each 32 decimal numbers.now) }
 {
     for number in numbers {
         text.push_str(" ")?;
-        push_number(alloc, text, u64::from(*number))?;
+        push_number(text, u64::from(*number))?;
     }
     Ok(())
 }
 
-fn push_line(alloc: Global, text: &mut String, line: &TraceLine) -> Result<(), AllocError>
+fn push_line(text: &mut String, line: &TraceLine) -> Result<(), AllocError>
     ensures { IfOk result (λ _. string_bytes text.new ≡ string_bytes text.old ++ trace_line_text line.now) }
 {
     text.push_str("process ")?;
-    push_number(alloc, text, u64::from(line.process))?;
+    push_number(text, u64::from(line.process))?;
     text.push_str(" ")?;
     text.push_str(event_name(line.event))?;
     text.push_str(" holders")?;
-    push_holders(alloc, text, line.holders.as_slice())?;
+    push_holders(text, line.holders.as_slice())?;
     text.push_str("\n")
 }
 
-fn push_lines(alloc: Global, text: &mut String, lines: &[TraceLine]) -> Result<(), AllocError>
+fn push_lines(text: &mut String, lines: &[TraceLine]) -> Result<(), AllocError>
     ensures { IfOk result (λ _. string_bytes text.new ≡ string_bytes text.old ++ each trace_line_text lines.now) }
 {
     for line in lines {
-        push_line(alloc, text, line)?;
+        push_line(text, line)?;
     }
     Ok(())
 }
 
 fn push_end(
-    alloc: Global,
     text: &mut String,
     program: &Resolved,
     end: &RunEnd,
@@ -92,17 +91,17 @@ fn push_end(
     match end {
         RunEnd::Ended { outcome, used } => {
             text.push_str("ended ")?;
-            push_word(alloc, text, &word[..*used])?;
+            push_word(text, &word[..*used])?;
             text.push_str(" ")?;
-            push_outcome(alloc, text, program, outcome)?;
+            push_outcome(text, program, outcome)?;
         }
         RunEnd::Wants { ready } => {
             text.push_str("wants")?;
-            push_numbers(alloc, text, ready.as_slice())?;
+            push_numbers(text, ready.as_slice())?;
         }
         RunEnd::NotReady { place } => {
             text.push_str("not-ready ")?;
-            push_number(alloc, text, *place as u64)?;
+            push_number(text, *place as u64)?;
         }
     }
     text.push_str("\n")
@@ -120,8 +119,8 @@ pub fn trace_report(
     ensures { IfOk result (λ r. r.text ≡ trace_text program.now lines.now (answer_of end.now) word.now) }
 {
     let mut text = String::new(alloc);
-    push_lines(alloc, &mut text, lines)?;
-    push_end(alloc, &mut text, program, end, word)?;
+    push_lines(&mut text, lines)?;
+    push_end(&mut text, program, end, word)?;
     Ok(Report {
         text: Text::new(text),
     })

@@ -1,8 +1,9 @@
 //! The walk over the tree of words.
 
-ghost use Rattle.std.specs.Prelude.{◌≡◌, ◌<◌, ◌≤◌, ◌+◌, ◌++◌, [], ◌∷◌, length, map, All, IfOk, IfErr};
+ghost use Rattle.std.specs.Prelude.{◌≡◌, true, ◌<◌, ◌≤◌, ◌+◌, ◌++◌, [], ◌∷◌, length, map, All, IfOk, IfErr};
 ghost use Rattle.arrayvec.specs.ArrayVec.{array_vec_len};
 ghost use Rattle.cp_machine.specs.System.{machine_of, output_of, IsStateOf};
+ghost use Rattle.cp_run.specs.Run.{chosen, may};
 ghost use Rattle.cp_run.specs.Slots.{slots};
 ghost use Rattle.cp_run.specs.Code.{node_of};
 ghost use Rattle.cp_explore.specs.Beginnings.{beginnings, words_in};
@@ -14,7 +15,7 @@ use crate::row::Row;
 use crate::word::word_of;
 use arrayvec::ArrayVec;
 use cp_machine::{State, Ticks};
-use cp_run::{Halt, Limits, OutcomeKind, choose, may, outcome_at};
+use cp_run::{Halt, Limits, OutcomeKind, choose, outcome_at, wanted};
 use cp_slots::Resolved;
 use std::alloc::Global;
 use std::sync::ledger::Ledger;
@@ -49,12 +50,14 @@ fn add_row(
     }
 }
 
-/// Walks from a node, at the end of `word`; there is a kept state for each choice left.
+/// Walks from a node, at the end of `word`; there is a kept state for each choice left. The node's state goes on with the last number
+/// that may be chosen, so that it is copied once less than there are numbers.
+#[cycle(walk_from)]
 pub fn walk_from<S: Ledger, C: Ledger>(
     alloc: Global,
     program: &Resolved,
     limits: Limits,
-    state: &State,
+    state: &mut State,
     halt: Halt,
     kept: &mut [State],
     word: &mut ArrayVec<u8, 20>,
@@ -62,18 +65,19 @@ pub fn walk_from<S: Ledger, C: Ledger>(
     steps: &mut Ticks<S>,
     calls: &mut Ticks<C>,
 ) -> Result<(), ExploreFault>
-    requires own { IsStateOf program.now state.now }
+    requires own { IsStateOf program.now state.old }
     requires kept { All (IsStateOf program.now) kept.old }
     requires room { array_vec_len word.old + length kept.old ≤ 20 }
     requires rows { length rows.old.items ≤ 50000 }
-    requires due { IsDue (slots program.now limits.gates) (node_of halt (machine_of state.now)) }
-    ensures rows { IfOk result (λ _. map line_of rows.new.items ≡ map line_of rows.old.items ++ map (behind word.old.items) (walk (slots program.now limits.gates) limits.steps (length kept.old) (node_of halt (machine_of state.now)))) }
+    requires due { IsDue (slots program.now limits.gates) (node_of halt (machine_of state.old)) }
+    ensures rows { IfOk result (λ _. map line_of rows.new.items ≡ map line_of rows.old.items ++ map (behind word.old.items) (walk (slots program.now limits.gates) limits.steps (length kept.old) (node_of halt (machine_of state.old)))) }
     ensures word { IfOk result (λ _. word.new.items ≡ word.old.items) }
+    ensures own { IsStateOf program.now state.new }
     ensures kept { All (IsStateOf program.now) kept.new }
     ensures few { IfOk result (λ _. length rows.new.items ≤ 50000) }
-    ensures many { IfErr result (λ e. IsTooMany e → 50000 < length rows.old.items + length (walk (slots program.now limits.gates) limits.steps (length kept.old) (node_of halt (machine_of state.now)))) }
-    ensures some { IfOk result (λ _. 0 < length (walk (slots program.now limits.gates) limits.steps (length kept.old) (node_of halt (machine_of state.now)))) }
-    ensures calls { IfOk result (λ _. calls.new + 1 ≤ calls.old + beginnings (words_in (walk (slots program.now limits.gates) limits.steps (length kept.old) (node_of halt (machine_of state.now))))) }
+    ensures many { IfErr result (λ e. IsTooMany e → 50000 < length rows.old.items + length (walk (slots program.now limits.gates) limits.steps (length kept.old) (node_of halt (machine_of state.old)))) }
+    ensures some { IfOk result (λ _. 0 < length (walk (slots program.now limits.gates) limits.steps (length kept.old) (node_of halt (machine_of state.old)))) }
+    ensures calls { IfOk result (λ _. calls.new + 1 ≤ calls.old + beginnings (words_in (walk (slots program.now limits.gates) limits.steps (length kept.old) (node_of halt (machine_of state.old))))) }
 {
     if let Halt::Ended(kind) = halt {
         return add_row(alloc, state, kind, word, rows);
@@ -81,17 +85,54 @@ pub fn walk_from<S: Ledger, C: Ledger>(
     let Some((next, deeper)) = kept.split_first_mut() else {
         return add_row(alloc, state, OutcomeKind::ChoiceLimit, word, rows);
     };
-    let depth = word.len();
-    for process in 0..program.processes() {
-        if may(program, limits, state, process) {
-            next.take_from(state);
-            let halt = choose(program, limits, next, process, steps, calls);
-            word.push(process);
-            walk_from(
-                alloc, program, limits, next, halt, deeper, word, rows, steps, calls,
-            )?;
-            word.truncate(depth);
-        }
+    let numbers = wanted(program, limits, state);
+    let Some((last, others)) = numbers.as_slice().split_last() else {
+        unreachable!()
+    };
+    for process in others {
+        next.take_from(state);
+        walk_child(
+            alloc, program, limits, next, *process, deeper, word, rows, steps, calls,
+        )?;
     }
+    walk_child(
+        alloc, program, limits, state, *last, deeper, word, rows, steps, calls,
+    )
+}
+
+/// Takes a due choice in a state, and walks from where it leads to.
+#[cycle(walk_from)]
+fn walk_child<S: Ledger, C: Ledger>(
+    alloc: Global,
+    program: &Resolved,
+    limits: Limits,
+    state: &mut State,
+    process: u8,
+    deeper: &mut [State],
+    word: &mut ArrayVec<u8, 20>,
+    rows: &mut Vec<Row>,
+    steps: &mut Ticks<S>,
+    calls: &mut Ticks<C>,
+) -> Result<(), ExploreFault>
+    requires own { IsStateOf program.now state.old }
+    requires may { may (slots program.now limits.gates) (machine_of state.old) process ≡ true }
+    requires deeper { All (IsStateOf program.now) deeper.old }
+    requires room { array_vec_len word.old + length deeper.old < 20 }
+    requires rows { length rows.old.items ≤ 50000 }
+    ensures rows { IfOk result (λ _. map line_of rows.new.items ≡ map line_of rows.old.items ++ map (behind (word.old.items ++ process ∷ [])) (walk (slots program.now limits.gates) limits.steps (length deeper.old) (chosen (slots program.now limits.gates) limits.steps (machine_of state.old) process))) }
+    ensures word { IfOk result (λ _. word.new.items ≡ word.old.items) }
+    ensures own { IsStateOf program.now state.new }
+    ensures deeper { All (IsStateOf program.now) deeper.new }
+    ensures few { IfOk result (λ _. length rows.new.items ≤ 50000) }
+    ensures many { IfErr result (λ e. IsTooMany e → 50000 < length rows.old.items + length (walk (slots program.now limits.gates) limits.steps (length deeper.old) (chosen (slots program.now limits.gates) limits.steps (machine_of state.old) process))) }
+    ensures some { IfOk result (λ _. 0 < length (walk (slots program.now limits.gates) limits.steps (length deeper.old) (chosen (slots program.now limits.gates) limits.steps (machine_of state.old) process))) }
+    ensures calls { IfOk result (λ _. calls.new ≤ calls.old + beginnings (words_in (walk (slots program.now limits.gates) limits.steps (length deeper.old) (chosen (slots program.now limits.gates) limits.steps (machine_of state.old) process)))) }
+{
+    let halt = choose(program, limits, state, process, steps, calls);
+    word.push(process);
+    walk_from(
+        alloc, program, limits, state, halt, deeper, word, rows, steps, calls,
+    )?;
+    let _ = word.pop();
     Ok(())
 }

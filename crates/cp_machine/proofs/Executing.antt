@@ -66,7 +66,7 @@ bound_kept r m n bindings statuses keeps h = λ component number lt begun count.
 
 -- ---- parts of a machine
 
--- the same of one process
+-- the same for one process
 abbrev pub ThreadExecutes : Tables → Machine → (pid : ℕ) → Thread → Type 0
 ThreadExecutes r m pid t = StackExecutes r m pid t.frame t.stack × EndsBegun m t.stack
 

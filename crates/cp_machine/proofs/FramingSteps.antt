@@ -30,7 +30,7 @@ use Rattle.cp_machine.proofs.Covered.{covered}
 use Rattle.cp_machine.proofs.Framing.{Framed, Agree, rest_reaches, stack_agrees, thread_framed, names_below}
 use Rattle.cp_machine.proofs.Keeping.{behind_follows}
 
--- what the caller's memory has lies behind the new frame
+-- what the caller's memory has lies below the new frame
 has_behind : (r : Tables) (m : Memory) (g : Frame) (a : Address) (cells : ℕ) → length m.permanents ≡ length r.permanents → g.base ≡ length m.cells → HasCells m a cells → IsBehind r g a cells
 has_behind r m g (Permanent number) cells p c h = omega (arith, h, p)
 has_behind r m g (Local number) cells p c h = omega (arith, h, c)

@@ -23,6 +23,7 @@ pub mod LineLemmas
 pub mod LineLists
 pub mod ListLemmas
 pub mod LocalReady
+pub mod LocalSteps
 pub mod NamingLemmas
 pub mod OpeningFits
 pub mod OpeningLines

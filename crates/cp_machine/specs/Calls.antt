@@ -27,7 +27,7 @@ use Rattle.cp_machine.specs.Statements.{Stepped, local, fault, with_value}
 
 -- ---- the frame of a call, or of an initial statement
 
--- behind the cells and references that the process has
+-- after the cells and references that the process has
 abbrev pub frame_behind : Tables → Thread → (routine component : ℕ) → Frame
 frame_behind r t routine component =
     record {

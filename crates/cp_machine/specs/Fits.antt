@@ -20,13 +20,13 @@ pub record FrameFits (r : Tables) (f : Frame) : Type 0 where
   pub cells : f.base + (routine_at r f.routine).room ≤ r.cells
   pub references : f.references + (routine_at r f.routine).reference_room ≤ r.references
 
--- the frame stands behind that of its caller
+-- the frame follows that of its caller
 pub record Follows (r : Tables) (f caller : Frame) : Type 0 where
   pub fits : FrameFits r f
   pub cells : f.base ≡ caller.base + size_of r caller.routine
   pub references : f.references ≡ caller.references + (routine_at r caller.routine).references
 
--- an item whose list fits above so many entries
+-- an item whose list fits above this many entries
 pub record EntryFits (r : Tables) (f : Frame) (at below : ℕ) : Type 0 where
   pub nests : Nests r f.routine (item_at r at).need at
   pub deep : below + 1 + (item_at r at).need ≤ r.depth

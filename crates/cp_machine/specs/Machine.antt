@@ -1,5 +1,5 @@
 -- The slot machine as plain data.
-use Rattle.std.specs.Prelude.{drop, ℕ, [], List, length, Option, Some, None, ℤ, Bool, true, false, map, slice_set, slice_index_or, ◌==◌}
+use Rattle.std.specs.Prelude.{drop, ℕ, [], ◌∷◌, List, length, Option, Some, None, ℤ, Bool, true, false, map, slice_set, slice_index_or, ◌==◌}
 use Rattle.std.specs.List.{filter, range_with_len, list_any}
 use Rattle.cp_store.specs.declared.memory.Address.{Address}
 use Rattle.cp_store.specs.declared.memory.Frame.{Frame}
@@ -12,6 +12,8 @@ use Rattle.cp_machine.specs.declared.shown.Shown.{Shown}
 use Rattle.cp_machine.specs.declared.state.Guard.{Guard}
 use Rattle.cp_machine.specs.declared.state.Phase.{Phase}
 use Rattle.cp_machine.specs.declared.state.Phase.TheVariants.{Uninitialised, Initialised}
+use Rattle.cp_machine.specs.declared.state.Readiness.{Readiness}
+use Rattle.cp_machine.specs.declared.state.Readiness.TheVariants.{Nobody, One, Several}
 use Rattle.cp_machine.specs.declared.state.State.{State}
 use Rattle.cp_machine.specs.Stack.{top_first}
 
@@ -123,6 +125,18 @@ is_ready m pid = is_ready_status (thread_at m.threads pid).status
 -- the processes that are ready, in rising order
 abbrev pub ready_of : Machine → List ℕ
 ready_of m = filter (is_ready m) (range_with_len 0 (length m.threads))
+
+-- whether that is nobody, one process alone, or several
+abbrev pub readiness_of : List ℕ → Readiness
+readiness_of [] = Nobody
+readiness_of (p ∷ []) = One p
+readiness_of (p ∷ q ∷ ps) = Several
+
+-- one process more
+abbrev pub one_ready_more : Readiness → ℕ → Readiness
+one_ready_more Nobody p = One p
+one_ready_more (One q) p = Several
+one_ready_more Several p = Several
 
 -- the processes at the gate of a monitor, in rising order
 abbrev pub waiting_of : Machine → ℕ → List ℕ

@@ -30,12 +30,12 @@ size_of r routine = length (routine_at r routine).image
 
 -- ---- frames
 
--- A `var` parameter names a place with so many cells: permanent cells, or cells of frames below its own.
+-- A `var` parameter names a place with this many cells: permanent cells, or cells of frames below its own.
 abbrev pub IsBehind : Tables → Frame → Address → ℕ → Type 0
 IsBehind r f (Permanent number) cells = number + cells ≤ length r.permanents
 IsBehind r f (Local number) cells = number + cells ≤ f.base
 
--- what a frame may name: the permanent cells of its component, and the cells behind each `var` parameter
+-- what a frame may name: the permanent cells of its component, and the cells of each `var` parameter
 pub record FrameReaches (r : Tables) (references : List Address) (f : Frame) : Type 0 where
   pub component : IsOf r (routine_at r f.routine).system f.component
   pub own : f.own ≡ (component_at r f.component).base
@@ -47,7 +47,7 @@ abbrev pub ResultReaches : Tables → (f caller : Frame) → Option ℕ → Type
 ResultReaches r f caller None = Unit {0}
 ResultReaches r f caller (Some slot) = (slot < size_of r caller.routine) × ((routine_at r f.routine).result < size_of r f.routine)
 
--- the same of all frames of a process, from the innermost on
+-- the same for all frames of a process, from the innermost on
 abbrev pub StackReaches : Tables → List Address → Frame → List Entry → Type 0
 StackReaches r references f [] = FrameReaches r references f
 StackReaches r references f (Rest at ∷ es) = StackReaches r references f es
@@ -90,7 +90,7 @@ ExecutesAs m pid component _ = is_uninitialised (phase_at m component) ≡ false
 abbrev pub Executes : Tables → Machine → (pid component : ℕ) → Type 0
 Executes r m pid component = ExecutesAs m pid component (component_at r component).kind
 
--- the same of all frames of a process
+-- the same for all frames of a process
 abbrev pub StackExecutes : Tables → Machine → (pid : ℕ) → Frame → List Entry → Type 0
 StackExecutes r m pid f [] = Executes r m pid f.component
 StackExecutes r m pid f (Rest at ∷ es) = StackExecutes r m pid f es
@@ -127,7 +127,7 @@ CanRead m pid e = store.CanRead (memory_at m pid) (frame_at m pid) e
 abbrev pub CanReadSet : Machine → (pid : ℕ) → SetExpression → Type 0
 CanReadSet m pid e = store.CanReadSet (memory_at m pid) (frame_at m pid) e
 
--- so many cells from a place, or from where a variable lies, on are there
+-- this many cells from a place, or from where a variable lies, on are there
 abbrev pub CanReach : Machine → (pid : ℕ) → Place → (cells : ℕ) → Type 0
 CanReach m pid place cells = store.CanReach (memory_at m pid) (frame_at m pid) place cells
 

@@ -22,7 +22,7 @@ act r m pid at item Empty es = local (with_stack m pid (rest_of item.next es))
 act r m pid at item (Assign target value low high) es = assign m pid item.line target value low high (rest_of item.next es)
 act r m pid at item (AssignSet target value low high) es = assign_set m pid item.line target value low high (rest_of item.next es)
 act r m pid at item (Copy target source size) es = copy m pid item.line target source size (rest_of item.next es)
--- `begin`, and `repeat`, behind which its `until` follows: becomes its statements
+-- `begin`, and `repeat`, after which its `until` follows: becomes its statements
 act r m pid at item (Block list) es = local (with_stack m pid (rest_of list (rest_of item.next es)))
 -- `if`: becomes the chosen branch, or nothing
 act r m pid at item (If test list other) es = branch m pid item.line test list other (rest_of item.next es)

@@ -67,7 +67,9 @@ fn take_state(to: &mut State, from: &State)
     to.pending = from.pending;
     to.gates = from.gates;
     to.output.clear();
-    let _ = to.output.extend_from_slice(&from.output);
+    if !from.output.is_empty() {
+        let _ = to.output.extend_from_slice(&from.output);
+    }
 }
 
 fn copies_of_processes(alloc: Global, from: &[Process]) -> Result<Vec<Process>, AllocError>
@@ -117,7 +119,9 @@ fn copy_of_guard(from: &Guard) -> Guard
     ensures { monitor_of result ≡ monitor_of from.now }
 {
     let mut line = ArrayVec::new();
-    let _ = line.try_extend_from_slice(from.line.as_slice());
+    if !from.line.is_empty() {
+        let _ = line.try_extend_from_slice(from.line.as_slice());
+    }
     Guard {
         holder: from.holder,
         line,
@@ -149,7 +153,9 @@ fn take_process(to: &mut Process, from: &Process)
     to.status = from.status;
     to.frame = from.frame;
     to.stack.clear();
-    let _ = to.stack.extend_from_slice(&from.stack);
+    if !from.stack.is_empty() {
+        let _ = to.stack.extend_from_slice(&from.stack);
+    }
     take_room(&mut to.room, &from.room);
 }
 
@@ -162,9 +168,13 @@ fn take_room(to: &mut Room, from: &Room)
     ensures more { vec_capacity to.old.references ≤ vec_capacity to.new.references }
 {
     to.cells.clear();
-    let _ = to.cells.extend_from_slice(&from.cells);
+    if !from.cells.is_empty() {
+        let _ = to.cells.extend_from_slice(&from.cells);
+    }
     to.references.clear();
-    let _ = to.references.extend_from_slice(&from.references);
+    if !from.references.is_empty() {
+        let _ = to.references.extend_from_slice(&from.references);
+    }
 }
 
 fn take_guards(mine: &mut [Guard], theirs: &[Guard])

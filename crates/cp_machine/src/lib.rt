@@ -9,6 +9,7 @@ pub mod event;
 mod frame;
 pub mod gates;
 mod kernel;
+mod local;
 mod loops;
 mod memory;
 mod perform;
@@ -27,8 +28,9 @@ pub mod ticks;
 
 pub use event::{ErrorName, Event, Kernel, RunError};
 pub use gates::Gates;
+pub use local::local_step;
 pub use process::{Entry, Process, Status};
 pub use shown::Shown;
-pub use state::{Guard, LIMIT, Phase, State};
+pub use state::{Guard, LIMIT, Phase, Readiness, State};
 pub use stepper::step;
 pub use ticks::Ticks;

@@ -18,6 +18,7 @@ use cp_slots::{Expression, Item, Origin};
 use cp_store::arithmetic::{self, is_true, ranged};
 
 /// `while`: true: becomes its list and itself; false: removed.
+#[inline(always)]
 pub fn while_do(
     state: &mut State,
     pid: u8,
@@ -43,6 +44,7 @@ pub fn while_do(
 }
 
 /// The end of `repeat`: true: removed; false: becomes its list and itself.
+#[inline(always)]
 pub fn until(
     state: &mut State,
     pid: u8,
@@ -170,6 +172,7 @@ fn is_last(value: i16, last: i16) -> bool
 }
 
 /// The successor of a value: after the last one removed; else becomes the list and the successor of the next value.
+#[inline(always)]
 pub fn successor(
     state: &mut State,
     pid: u8,

@@ -18,7 +18,7 @@ use cp_slots::{Argument, ComponentPlace, Expression, Origin, Place, SetExpressio
 use cp_store::set::SetValue;
 use cp_store::{
     Address, Frame, address, begun, bind_component, bind_frame, component, copy_cells, evaluate,
-    evaluate_arguments, evaluate_set, write, write_set,
+    evaluate_arguments, evaluate_here, evaluate_set, write, write_set,
 };
 
 /// The frame that a process executes.
@@ -47,6 +47,17 @@ pub fn value_of(state: &State, pid: u8, expression: &Expression) -> Result<i16, 
 {
     let process = &state.processes[pid as usize];
     evaluate(expression, &state.permanents, &process.room, &process.frame)
+}
+
+/// The same, computed where it is asked for.
+#[inline(always)]
+pub fn value_here(state: &State, pid: u8, expression: &Expression) -> Result<i16, ErrorName>
+    requires pid { pid < length state.now.processes.items }
+    requires reads { CanRead (machine_of state.now) pid expression.now }
+    ensures { result ≡ spec.value_of (machine_of state.now) pid expression.now }
+{
+    let process = &state.processes[pid as usize];
+    evaluate_here(expression, &state.permanents, &process.room, &process.frame)
 }
 
 /// The value of a set expression.

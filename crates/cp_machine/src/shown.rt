@@ -10,3 +10,9 @@ pub enum Shown {
     /// The number of an enumeration constant.
     Constant(u16),
 }
+
+impl Default for Shown {
+    fn default() -> Shown {
+        Shown::Integer(0)
+    }
+}

@@ -17,7 +17,7 @@ pub fn put(stack: &mut Vec<Entry>, list: Option<usize>)
     ensures room { vec_capacity stack.old ≤ vec_capacity stack.new }
 {
     if let Some(at) = list {
-        let _ = stack.push(Entry::Rest(at));
+        stack.push_reserved(Entry::Rest(at));
     }
 }
 
@@ -30,7 +30,7 @@ pub fn put_instead(stack: &mut Vec<Entry>, entry: Entry)
     ensures room { vec_capacity stack.old ≤ vec_capacity stack.new }
 {
     let _ = stack.pop();
-    let _ = stack.push(entry);
+    stack.push_reserved(entry);
 }
 
 /// Puts the rest of a list in place of the topmost entry.
@@ -53,7 +53,7 @@ pub fn go_into(stack: &mut Vec<Entry>, next: Option<usize>, end: Entry, body: Op
     ensures room { vec_capacity stack.old ≤ vec_capacity stack.new }
 {
     go_on(stack, next);
-    let _ = stack.push(end);
+    stack.push_reserved(end);
     put(stack, body);
 }
 

@@ -28,6 +28,30 @@ pub enum Phase {
     Initialised,
 }
 
+/// Which processes are ready: none, one alone, or several.
+#[derive(Clone, Copy, Debug, PartialEq, Eq)]
+pub enum Readiness {
+    Nobody,
+    One(u8),
+    Several,
+}
+
+impl Readiness {
+    ghost use Rattle.std.specs.Prelude.{◌≡◌};
+    ghost use Rattle.cp_machine.specs.Machine.{one_ready_more};
+
+    // One process more is ready.
+    #[inline(always)]
+    fn more(self, pid: u8) -> Readiness
+        ensures { result ≡ one_ready_more self pid }
+    {
+        match self {
+            Readiness::Nobody => Readiness::One(pid),
+            Readiness::One(_) | Readiness::Several => Readiness::Several,
+        }
+    }
+}
+
 /// The state of a run of a program.
 #[derive(Drop)]
 pub struct State {
@@ -48,7 +72,7 @@ pub struct State {
 
 impl State {
     ghost use Rattle.std.specs.Prelude.{◌≡◌, ◌<◌, length};
-    ghost use Rattle.cp_machine.specs.Machine.{machine_of, output_of, waits as some_waits, ready_of, waiting_of, monitor_at, in_line};
+    ghost use Rattle.cp_machine.specs.Machine.{machine_of, output_of, waits as some_waits, readiness_of, ready_of, waiting_of, monitor_at, in_line};
     ghost use Rattle.std.specs.Prelude.{IsTrue};
     ghost use Rattle.cp_slots.specs.Tables.{Tables};
     ghost use Rattle.cp_machine.specs.Fits.{IsStateOf};
@@ -65,6 +89,22 @@ impl State {
             }
         }
         ready
+    }
+
+    /// Whether no process is ready, one alone, or several.
+    pub fn readiness(&self) -> Readiness
+        ensures { result ≡ readiness_of (ready_of (machine_of self.now)) }
+    {
+        let mut readiness = Readiness::Nobody;
+        for (pid, process) in self.processes.iter().enumerate() {
+            if process.status.is_ready() {
+                readiness = readiness.more(pid as u8);
+            }
+            if let Readiness::Several = readiness {
+                return Readiness::Several;
+            }
+        }
+        readiness
     }
 
     /// Whether some process is at a gate or delayed.

@@ -10,7 +10,7 @@ ghost use Rattle.cp_machine.specs.Stack.{rest_of};
 ghost use Rattle.cp_machine.specs.Statements as spec;
 
 use crate::event::{ErrorName, Event, Kernel};
-use crate::memory::{address_of, put_cells, put_number, put_set, set_of, value_of};
+use crate::memory::{address_of, put_cells, put_number, put_set, set_of, value_here, value_of};
 use crate::shown::Shown;
 use crate::stack::replace;
 use crate::state::{LIMIT, State};
@@ -19,6 +19,7 @@ use cp_store::arithmetic::{is_true, ranged};
 use cp_store::set;
 
 /// An assignment: the right side first, then the place, and the range last.
+#[inline(always)]
 pub fn assign(
     state: &mut State,
     pid: u8,
@@ -35,7 +36,7 @@ pub fn assign(
     ensures after { spec.assign (machine_of state.old) pid item.now.line target.now value.now low high (rest_of item.now.next (under (machine_of state.old) pid)) ≡ spec.outcome result (machine_of state.new) pid item.now.line }
     ensures reserved { (r : Tables) → IsReserved r state.old → IsReserved r state.new }
 {
-    let right = value_of(state, pid, value)?;
+    let right = value_here(state, pid, value)?;
     let left = address_of(state, pid, target)?;
     let value = ranged(right, low, high)?;
     replace(state, pid, None, item.next);
@@ -94,6 +95,7 @@ pub fn copy(
 }
 
 /// `if`: becomes the chosen branch, or nothing.
+#[inline(always)]
 pub fn branch(
     state: &mut State,
     pid: u8,

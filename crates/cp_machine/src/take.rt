@@ -42,8 +42,9 @@ pub fn take_item(program: &Resolved, state: &mut State, pid: u8, at: usize) -> E
     }
 }
 
-// Goes on with a `for`; another item is passed over.
-fn perform_successor(
+/// Goes on with a `for`; another item is passed over.
+#[inline(always)]
+pub fn perform_successor(
     state: &mut State,
     pid: u8,
     at: usize,

@@ -21,7 +21,7 @@ use Rattle.cp_meaning.proofs.Good.{IsMonitor, GoodOutcome, or_cases}
 use Rattle.cp_meaning.proofs.LocalLaw.{takes_good}
 use Rattle.cp_meaning.proofs.Orderly.{inside_parts, ProcessFits, IsAbsent, LineFits, line_at, initialises_now, Orderly}
 use Rattle.cp_meaning.proofs.LineLaw.{OrderlyState, gone_in, some_is}
-use Rattle.cp_meaning.proofs.KernelLaw.{settles_law}
+use Rattle.cp_meaning.proofs.KernelLaw.{kernel_step_law}
 
 -- ---- the opening state
 
@@ -112,7 +112,7 @@ opening_orderly p g =
 
 pub outcome_law : (p : Program) (s : State) (pid : ℕ) (o : Outcome Doing) → OrderlyState s → s.pending ≡ None → pid < length s.processes → (process_at s.processes pid).status ≡ ready → GoodOutcome s.components (frames (process_at s.processes pid).calls) o →
     OrderlyState (settled p s pid o).state
-outcome_law p s pid (Ok d) old none lt is_ready good = settles_law p s pid old.orderly none lt is_ready d d.move good
+outcome_law p s pid (Ok d) old none lt is_ready good = kernel_step_law p s pid old.orderly none lt is_ready d d.move good
 outcome_law p s pid (Err e) old none lt is_ready good = old
 
 -- an item of a process that has an open call

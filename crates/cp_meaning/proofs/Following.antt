@@ -15,7 +15,7 @@ is_last (fault_event e) = true
 is_last output_full = true
 is_last e = false
 
--- steps of one process up to the event that passes, of which there are at most so many more
+-- steps of one process up to the event that passes, of which there are at most this many more
 abbrev pub up_to : (Event → Bool) → ℕ → Program → ℕ → State → Stepped
 up_to passes zero p pid s = step_of p s pid
 up_to passes (suc n) p pid s =

@@ -8,7 +8,7 @@ use Rattle.cp_meaning.specs.State.{Environment, uninitialised, initialising, ini
 use Rattle.cp_meaning.specs.Lifting.{items_of_all}
 use Rattle.cp_meaning.specs.Places.{with_permanents}
 use Rattle.cp_meaning.specs.Move.{Move, stays, enters, leaves, delays, continues, starts, shows, ends, Doing}
-use Rattle.cp_meaning.specs.Kernel.{output_room, moved_to, made_ready, let_in, is_anybody_inside, entering, is_delayed_in, continuing, process_of, begun, starting_as, starting, displaying, settles}
+use Rattle.cp_meaning.specs.Kernel.{output_room, moved_to, made_ready, let_in, is_anybody_inside, entering, is_delayed_in, continuing, process_of, begun, starting_as, starting, displaying, kernel_step}
 use Rattle.cp_meaning.proofs.Frames.{frames, entry_in, initial_in, descends_same, plain-fit}
 use Rattle.cp_meaning.proofs.PlainItems.{plain_all}
 use Rattle.cp_meaning.proofs.Good.{IsMonitor, status_at, NoneEntered, Left, Good}
@@ -202,12 +202,12 @@ module _ (p : Program) (s : State) (pid : ℕ) (old : Orderly s.components s.pro
   displaying_law true x good = record { orderly = old; pending = λ m h. not_pending m h }
   displaying_law false x good = record { orderly = goes_on (shows x) good ready good.moves; pending = λ m h. not_pending m h }
 
-  pub settles_law : (move : Move) → Good cs (frames me.calls) (frames d.calls) ds d.items move → OrderlyState (settles p s pid d move).state
-  settles_law stays good = record { orderly = goes_on stays good ready good.moves; pending = λ m h. not_pending m h }
-  settles_law (enters n) good = entering_law n (is_anybody_inside n s.processes) refl good
-  settles_law (leaves n) good = let_in_law s.gates (moved_to ready s pid d) n (goes_on (leaves n) good ready good.moves.0) (nobody_left (leaves n) good n good.moves.1) none
-  settles_law (delays n) good = let_in_law s.gates (moved_to (delayed n) s pid d) n (goes_on (delays n) good (delayed n) good.moves.0) (nobody_delayed (delays n) good n good.moves.1) none
-  settles_law (continues n o) good = continuing_law n o (moved_to ready s pid d) (goes_on (continues n o) good ready good.moves.0) (nobody_left (continues n o) good n good.moves.1) none
-  settles_law (starts c e) good = starting_law c (process_of c (after ready)) e (goes_on (starts c e) good ready good.moves.0) (good.layout.kind c ∙ good.moves.1)
-  settles_law (shows x) good = displaying_law (length s.output == output_room) x good
-  settles_law ends good = record { orderly = goes_on ends good ended good.moves; pending = λ m h. not_pending m h }
+  pub kernel_step_law : (move : Move) → Good cs (frames me.calls) (frames d.calls) ds d.items move → OrderlyState (kernel_step p s pid d move).state
+  kernel_step_law stays good = record { orderly = goes_on stays good ready good.moves; pending = λ m h. not_pending m h }
+  kernel_step_law (enters n) good = entering_law n (is_anybody_inside n s.processes) refl good
+  kernel_step_law (leaves n) good = let_in_law s.gates (moved_to ready s pid d) n (goes_on (leaves n) good ready good.moves.0) (nobody_left (leaves n) good n good.moves.1) none
+  kernel_step_law (delays n) good = let_in_law s.gates (moved_to (delayed n) s pid d) n (goes_on (delays n) good (delayed n) good.moves.0) (nobody_delayed (delays n) good n good.moves.1) none
+  kernel_step_law (continues n o) good = continuing_law n o (moved_to ready s pid d) (goes_on (continues n o) good ready good.moves.0) (nobody_left (continues n o) good n good.moves.1) none
+  kernel_step_law (starts c e) good = starting_law c (process_of c (after ready)) e (goes_on (starts c e) good ready good.moves.0) (good.layout.kind c ∙ good.moves.1)
+  kernel_step_law (shows x) good = displaying_law (length s.output == output_room) x good
+  kernel_step_law ends good = record { orderly = goes_on ends good ended good.moves; pending = λ m h. not_pending m h }

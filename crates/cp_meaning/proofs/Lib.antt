@@ -1,27 +1,30 @@
 mod ComponentTree
 mod CountedPrograms
 mod Counts
-mod Exclusion
+pub mod Exclusion
 mod FeaturePrograms
 mod Features
 mod Following
-mod Frames
-mod Good
+pub mod Frames
+pub mod Good
 mod Held
 pub mod Holder
 mod KernelLaw
-mod LineLaw
+mod Least
+mod LeastPrograms
+pub mod LineLaw
 mod LinedPrograms
 mod Lines
 mod LocalLaw
 mod Order
 mod OrderPrograms
-mod Orderly
+pub mod Orderly
 mod OwnKernel
 mod OwnLocal
 mod OwnOpening
 pub mod OwnershipLemmas
 mod PlainItems
+mod Room
 mod Shown
 mod ShownPrograms
 mod Stored

@@ -17,7 +17,7 @@ use Rattle.cp_meaning.specs.Operations.{same_integer, is_true, checked}
 use Rattle.cp_meaning.specs.Expressions.{value, target_value, first_value, meaning_here, routine_called}
 use Rattle.cp_meaning.specs.Lifting.{items_of, items_of_all, until_items}
 use Rattle.cp_meaning.specs.Move.{Move, enters, stays, delays, continues, starts, ends, Doing}
-use Rattle.cp_meaning.specs.Calls.{bound, opened, is_initialised, is_uninitialised, entered_as, with_move, nothing, entered, called_as, called, with_status, initial, initialised_in, started_as, started}
+use Rattle.cp_meaning.specs.Calls.{bound, opened, is_initialised, is_uninitialised, entered_as, with_move, with_items, entered, called_as, called, with_status, initial, initialised_in, started_as, started}
 use Rattle.cp_meaning.specs.LocalRules.{scope_here, becomes, assigned, arm_for, is_beyond, goes_on_with, queue_free, delayed_in, after_return, continued_from, in_place_of, argument_of, invoked, does, outer, with_result, leaving_move, return_move, returned, finished, takes}
 use Rattle.cp_meaning.proofs.Frames.{at_set, Frame, frames, entry_in, initial_in, below, frames-callers, TopReturns, TopStarts, ItemsFit, ArePlain, plain-append, plain-fit, system_at, Descends, no_entry_below, no_initial_below, entry_or_initial}
 use Rattle.cp_meaning.proofs.PlainItems.{plain_items, plain_all, plain_until}
@@ -82,11 +82,11 @@ module _ (p : Program) (c : Call) (calls : List Call) (cs : List Component) (pid
   same_entries : NoneEntered cs fs fs
   same_entries m mon h = h
 
-  nothing_good : (u : View) (items : List Item) (move : Move) → Alike u → ItemsFit fs items → MoveFits cs fs fs move → GoodDoing cs fs (with_move (nothing u items) move)
-  nothing_good u items move a f h = quiet cs fs (with_move (nothing u items) move) tt order starting entering a.same_frames a.same_static f h
+  items_good : (u : View) (items : List Item) (move : Move) → Alike u → ItemsFit fs items → MoveFits cs fs fs move → GoodDoing cs fs (with_move (with_items u items) move)
+  items_good u items move a f h = quiet cs fs (with_move (with_items u items) move) tt order starting entering a.same_frames a.same_static f h
 
   becomes_good : (u : View) (items : List Item) → Alike u → ItemsFit fs items → GoodOutcome cs fs (becomes u items)
-  becomes_good u items a f = nothing_good u items stays a f same_entries
+  becomes_good u items a f = items_good u items stays a f same_entries
 
   stored_good : (o : Outcome Value) (t : Target) (f : View → Outcome Doing) → ((u : View) → Alike u → GoodOutcome cs fs (f u)) → GoodOutcome cs fs ((o >>= λ x. Ok (stored v t.place x)) >>= f)
   stored_good (Ok x) t f h = h (stored v t.place x) (alike_stored v t.place x alike)
@@ -149,7 +149,7 @@ module _ (p : Program) (c : Call) (calls : List Call) (cs : List Component) (pid
       entry_good d r o items e (enters d) f was (lt (λ b. (let bad : system_kind.Monitor ≡ system_kind.Process = sym is ∙ b in cc))) (is, rw (eq-eqb d d refl) refl, λ m mon ne h. entry_others d m ne (or_cases (d == m) _ h))
   entry_as system_kind.Class d r o items e is f was lt =
       entry_good d r o items e stays f was (lt (λ b. (let bad : system_kind.Class ≡ system_kind.Process = sym is ∙ b in cc))) (λ m mon h. class_entry d is m mon (or_cases (d == m) _ h))
-  entry_as system_kind.Process d r o items e is f was lt = nothing_good v items stays alike f same_entries
+  entry_as system_kind.Process d r o items e is f was lt = items_good v items stays alike f same_entries
 
   entered_good : (q : Place) (r : RoutineMeaning) (o : Option _) (es : Expressions) (items : List Item) → ItemsFit fs items → GoodOutcome cs fs (entered v (component_there v q) r o es items)
   entered_good q r o es items f =
@@ -230,7 +230,7 @@ module _ (p : Program) (c : Call) (calls : List Call) (cs : List Component) (pid
   started_good : (k : SystemKind) (d : ℕ) (s : SystemMeaning) (items : List Item) (e : Environment) → (component_at cs d).kind ≡ k → ItemsFit fs items → (((component_at cs d).kind ≡ system_kind.Process → ⊥) → system_at cs d < system_at cs c.component) → GoodOutcome cs fs (started_as k v d s items e)
   started_good system_kind.Class d s items e is f lt = initialised_good d s items e f (λ b. (let bad : system_kind.Class ≡ system_kind.Process = sym is ∙ b in cc)) lt
   started_good system_kind.Monitor d s items e is f lt = initialised_good d s items e f (λ b. (let bad : system_kind.Monitor ≡ system_kind.Process = sym is ∙ b in cc)) lt
-  started_good system_kind.Process d s items e is f lt = nothing_good v items (starts d e) alike f (same_entries, is)
+  started_good system_kind.Process d s items e is f lt = items_good v items (starts d e) alike f (same_entries, is)
 
   start_good : (t : Start) (items : List Item) → ItemsFit fs items → GoodOutcome cs fs (started v t items)
   start_good t items f =
@@ -258,9 +258,9 @@ module _ (p : Program) (c : Call) (calls : List Call) (cs : List Component) (pid
 
   -- where the innermost call ends
   ended_good : (u : View) (items : List Item) (move : Move) → frames u.calls ≡ frames calls → SameComponents cs u.components → (c.kind ≡ own_statement → ⊥) → ItemsFit (frames calls) items →
-      MoveFits cs fs (frames calls) move → GoodDoing cs fs (with_move (nothing u items) move)
+      MoveFits cs fs (frames calls) move → GoodDoing cs fs (with_move (with_items u items) move)
   ended_good u items move e same not_own f moves =
-      good_at cs fs (frames calls) (with_move (nothing u items) move) e (record {
+      good_at cs fs (frames calls) (with_move (with_items u items) move) e (record {
         layout = same.layout;
         open_calls = some_below c.kind c.component (frames calls) not_own order;
         fits = f;
@@ -320,9 +320,9 @@ module _ (p : Program) (c : Call) (calls : List Call) (cs : List Component) (pid
   after_fits n (successor at i z d b s ∷ items) h = after_fits n items h
 
   continued_good : (k : CallKind) (items : List Item) (q : Place) → c.kind ≡ k → ItemsFit fs items → GoodDoing cs fs (continued_from v k items q)
-  continued_good own_statement items q e f = nothing_good v items stays alike f same_entries
-  continued_good initial_statement items q e f = nothing_good v items stays alike f same_entries
-  continued_good local_routine items q e f = nothing_good v items stays alike f same_entries
+  continued_good own_statement items q e f = items_good v items stays alike f same_entries
+  continued_good initial_statement items q e f = items_good v items stays alike f same_entries
+  continued_good local_routine items q e f = items_good v items stays alike f same_entries
   continued_good entry_routine items q e f =
       let u = stored v q (queue_value None) in
       let w : View = record { program = p; calls = callers u.calls; components = u.components } in
@@ -405,8 +405,8 @@ module _ (p : Program) (c : Call) (calls : List Call) (cs : List Component) (pid
   next_good : (at : ℕ) (i : Identifier) (z : ℤ) (d : Direction) (b : ℤ) (s : Statement) (items : List Item) → ItemsFit fs items → GoodOutcome cs fs (goes_on_with v at i z d b s items)
   next_good at i z d b s items f = assigned_good (target_named v i.name) (number_value z) _ (λ u a. becomes_good u _ a (plain-fit fs (items_of (scope_here v) s) _ (plain_items (scope_here v) s) f))
 
-  delayed_good : (o : Option ℕ) (items : List Item) (q : Place) → ItemsFit fs items → GoodOutcome cs fs (queue_free o >>= λ x. Ok (with_move (nothing (stored v q (queue_value (Some pid))) items) (delays c.component)))
-  delayed_good None items q f = nothing_good (stored v q _) items (delays c.component) (alike_stored v q _ alike) f (same_entries, entry_or_initial cs (c.kind, c.component) (frames calls) order)
+  delayed_good : (o : Option ℕ) (items : List Item) (q : Place) → ItemsFit fs items → GoodOutcome cs fs (queue_free o >>= λ x. Ok (with_move (with_items (stored v q (queue_value (Some pid))) items) (delays c.component)))
+  delayed_good None items q f = items_good (stored v q _) items (delays c.component) (alike_stored v q _ alike) f (same_entries, entry_or_initial cs (c.kind, c.component) (frames calls) order)
   delayed_good (Some r) items q f = tt
 
   place_good : (d : Option Designator) (go : Place → Outcome Doing) (items : List Item) → ItemsFit fs items → ((q : Place) → GoodOutcome cs fs (go q)) → GoodOutcome cs fs (in_place_of v d go items)
@@ -419,7 +419,7 @@ module _ (p : Program) (c : Call) (calls : List Call) (cs : List Component) (pid
   invoked_good : (m : Option Meaning) (d : Designator) (es : Expressions) (items : List Item) → ItemsFit fs items → GoodOutcome cs fs (invoked v pid m d es items)
   invoked_good (Some (standard_meaning delay_procedure)) d es items f = place_good (argument_of es) (delayed_in v pid items) items f (λ q. delayed_good (waiting_in (value_at v q)) items q f)
   invoked_good (Some (standard_meaning continue_procedure)) d es items f = place_good (argument_of es) _ items f (λ q. continued_good c.kind items q refl f)
-  invoked_good (Some (standard_meaning display_procedure)) d es items f = bind_good cs fs (first_value v es) _ (λ x. nothing_good v items _ alike f same_entries)
+  invoked_good (Some (standard_meaning display_procedure)) d es items f = bind_good cs fs (first_value v es) _ (λ x. items_good v items _ alike f same_entries)
   invoked_good m d es items f = call_good d es None items f
 
   does_good : (s : Statement) (items : List Item) → ItemsFit fs items → GoodOutcome cs fs (does v pid s items)
@@ -453,4 +453,4 @@ module _ (p : Program) (c : Call) (calls : List Call) (cs : List Component) (pid
   takes_good (successor at i z d b s ∷ items) f = outcome_if cs fs (same_integer z b) _ _ (λ h. becomes_good v items alike f) (λ h. next_good at i _ d b s items f)
   takes_good (return o ∷ items) f = returned_good o items f.0 f.1
   takes_good (init_end m ∷ items) f = finished_good m items f.0 f.1
-  takes_good (end ∷ items) f = nothing_good v items ends alike f same_entries
+  takes_good (end ∷ items) f = items_good v items ends alike f same_entries

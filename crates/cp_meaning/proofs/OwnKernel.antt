@@ -7,15 +7,15 @@ use Rattle.cp_meaning.specs.Systems.{system_of}
 use Rattle.cp_meaning.specs.State.{refers, knows, Environment, uninitialised, initialising, Component, component_at, Status, unstarted, ready, at_gate, delayed, ended, Process, process_at, Gates, first_gates, any_gates, State}
 use Rattle.cp_meaning.specs.Places.{content_of, with_permanents}
 use Rattle.cp_meaning.specs.Move.{Move, stays, enters, leaves, delays, continues, starts, shows, ends, Doing}
-use Rattle.cp_meaning.specs.Kernel.{output_room, line_of, with_line_of, moved_to, with_process_status, made_ready, first_in, one_in, let_in, is_anybody_inside, entering, is_delayed_in, continuing, after, process_of, begun, with_begun, starting_as, starting, displaying, settles}
-use Rattle.cp_meaning.specs.Ownership.{owner_of, IsStarted}
+use Rattle.cp_meaning.specs.Kernel.{output_room, line_of, with_line_of, moved_to, with_process_status, made_ready, first_in, one_in, let_in, is_anybody_inside, entering, is_delayed_in, continuing, after, process_of, begun, with_begun, starting_as, starting, displaying, kernel_step}
+use Rattle.cp_meaning.specs.Ownership.{owner_of, IsStarted, is_parameter, IsParameterOf}
 use Rattle.cp_meaning.proofs.Frames.{Frame, frames}
 use Rattle.cp_meaning.proofs.Good.{status_at}
 use Rattle.cp_meaning.proofs.Stored.{field_kept}
 use Rattle.cp_meaning.proofs.Orderly.{which, within_set}
 use Rattle.cp_meaning.proofs.ComponentTree.{kind_at, SameTree, tree_after, set_tree, own_owner}
 use Rattle.cp_meaning.proofs.Held.{HeldBy, HeldCalls, Bottom, permanents_at, ClassesKnown, append_content, EarlierKnown, permanents_set, known_set}
-use Rattle.cp_meaning.proofs.OwnLocal.{Owned}
+use Rattle.cp_meaning.proofs.OwnLocal.{Owned, nothing_append}
 
 pub record OwnedProcess (base : List Component) (p : Process) : Type 0 where
   pub held : HeldCalls base p.component p.calls
@@ -47,12 +47,12 @@ abbrev SameCalls : List Process → List Process → Type 0
 SameCalls ps qs = (q : ℕ) → q < length ps → (process_at qs q).calls ≡ (process_at ps q).calls
 
 -- from one state to another with the same variables and open calls
-record Keeps (base : List Component) (s t : State) : Type 0 where
-  owned : OwnedState base s → OwnedState base t
-  variables : SameVariables s.components t.components
-  calls : SameCalls s.processes t.processes
+pub record Keeps (base : List Component) (s t : State) : Type 0 where
+  pub owned : OwnedState base s → OwnedState base t
+  pub variables : SameVariables s.components t.components
+  pub calls : SameCalls s.processes t.processes
 
-keeps_all : (base : List Component) (s : State) → Keeps base s s
+pub keeps_all : (base : List Component) (s : State) → Keeps base s s
 keeps_all base s = record { owned = λ h. h; variables = λ n. (refl, refl); calls = λ q lt. refl }
 
 lined : (base : List Component) (s : State) (m : ℕ) (line : List ℕ) → Keeps base s (with_line_of s m line)
@@ -79,10 +79,10 @@ readied base s r =
       calls = readied_calls s.processes r;
     }
 
-pub gone_in : (base : List Component) (s : State) (m q : ℕ) (line : List ℕ) → OwnedState base s → OwnedState base (with_line_of (made_ready s q) m line)
+gone_in : (base : List Component) (s : State) (m q : ℕ) (line : List ℕ) → OwnedState base s → OwnedState base (with_line_of (made_ready s q) m line)
 gone_in base s m q line h = (lined base (made_ready s q) m line).owned ((readied base s q).owned h)
 
-goes_in : (base : List Component) (s : State) (m q : ℕ) (line : List ℕ) → Keeps base s (with_line_of (made_ready s q) m line)
+pub goes_in : (base : List Component) (s : State) (m q : ℕ) (line : List ℕ) → Keeps base s (with_line_of (made_ready s q) m line)
 goes_in base s m q line =
     record {
       owned = gone_in base s m q line;
@@ -143,7 +143,7 @@ module _ (p : Program) (s : State) (pid : ℕ) (base : List Component) (old : Ow
   -- what a step from s to t keeps
   pub record Steps (t : State) : Type 0 where
     pub owned : OwnedState base t
-    pub changed : (n : ℕ) (x : Name) → content_of x (permanents_at cs n) ≢ content_of x (permanents_at t.components n) → HeldBy base me.component fs n ⊎ IsStarted s t n
+    pub changed : (n : ℕ) (x : Name) → content_of x (permanents_at cs n) ≢ content_of x (permanents_at t.components n) → HeldBy base me.component fs n ⊎ (IsStarted s t n × IsParameterOf p base n x)
     pub others : (q : ℕ) → q < length s.processes → q ≢ pid → ((process_at t.processes q).calls ≡ (process_at s.processes q).calls) ⊎ (((process_at s.processes q).status ≡ unstarted) × ((process_at t.processes q).status ≡ ready))
 
   abbrev become : Status → Process
@@ -152,7 +152,7 @@ module _ (p : Program) (s : State) (pid : ℕ) (base : List Component) (old : Ow
   no_step : Steps s
   no_step = record { owned = old; changed = λ n x ne. absurd (ne refl); others = λ q l ne. inl refl }
 
-  module _ (move : Move) (h : Owned base me.component fs cs d.calls ds move) where
+  module _ (move : Move) (h : Owned p base me.component fs cs d.calls ds move) where
     moved_owned : (status : Status) → OwnedState base (moved_to status s pid d)
     moved_owned status =
         record {
@@ -174,22 +174,22 @@ module _ (p : Program) (s : State) (pid : ℕ) (base : List Component) (old : Ow
     steps_to status t keeps =
         record {
           owned = keeps.owned (moved_owned status);
-          changed = λ n x ne. go n (h.changed n x (λ e. ne (e ∙ ap (content_of x) (sym (keeps.variables n).0))));
+          changed = λ n x ne. go n x (h.changed n x (λ e. ne (e ∙ ap (content_of x) (sym (keeps.variables n).0))));
           others = λ q l ne. inl (keeps.calls q (rw (length-set s.processes pid (become status)) l) ∙ ap (λ y. y.calls) (other_process status q l ne));
         }
       where
-        go : (n : ℕ) → HeldBy base me.component fs n ⊎ ((status_at cs n ≡ uninitialised) × (status_at ds n ≡ initialising)) → HeldBy base me.component fs n ⊎ IsStarted s t n
-        go n (inl k) = inl k
-        go n (inr k) = inr (inl (k.0, (keeps.variables n).1 ∙ k.1))
+        go : (n : ℕ) (x : Name) → HeldBy base me.component fs n ⊎ (((status_at cs n ≡ uninitialised) × (status_at ds n ≡ initialising)) × IsParameterOf p base n x) → HeldBy base me.component fs n ⊎ (IsStarted s t n × IsParameterOf p base n x)
+        go n x (inl k) = inl k
+        go n x (inr k) = inr (inl (k.0.0, (keeps.variables n).1 ∙ k.0.1), k.1)
 
     steps_moved : (status : Status) → Steps (moved_to status s pid d)
     steps_moved status = steps_to status (moved_to status s pid d) (keeps_all base (moved_to status s pid d))
 
-  entering_steps : (m : ℕ) (b : Bool) → Owned base me.component fs cs d.calls ds (enters m) → Steps (entering b s pid m d)
+  entering_steps : (m : ℕ) (b : Bool) → Owned p base me.component fs cs d.calls ds (enters m) → Steps (entering b s pid m d)
   entering_steps m false h = steps_moved (enters m) h ready
   entering_steps m true h = steps_to (enters m) h (at_gate m) _ (lined base (moved_to (at_gate m) s pid d) m _)
 
-  displaying_steps : (b : Bool) (x : _) → Owned base me.component fs cs d.calls ds (shows x) → Steps (displaying b s pid d x).state
+  displaying_steps : (b : Bool) (x : _) → Owned p base me.component fs cs d.calls ds (shows x) → Steps (displaying b s pid d x).state
   displaying_steps true x h = no_step
   displaying_steps false x h =
       let k = steps_moved (shows x) h ready in
@@ -197,7 +197,7 @@ module _ (p : Program) (s : State) (pid : ℕ) (base : List Component) (old : Ow
 
   -- ---- a process begins
 
-  module _ (c r : ℕ) (e : Environment) (h : Owned base me.component fs cs d.calls ds (starts c e)) (its_kind : kind_at ds c ≡ system_kind.Process)
+  module _ (c r : ℕ) (e : Environment) (h : Owned p base me.component fs cs d.calls ds (starts c e)) (its_kind : kind_at ds c ≡ system_kind.Process)
       (there : r < length (moved_to ready s pid d).processes) (its : (process_at (moved_to ready s pid d).processes r).component ≡ c) (idle : (process_at (moved_to ready s pid d).processes r).status ≡ unstarted) where
     abbrev moved : State
     moved = moved_to ready s pid d
@@ -215,11 +215,11 @@ module _ (p : Program) (s : State) (pid : ℕ) (base : List Component) (old : Ow
     in_range = subst (λ j. j < length base) its (now.processes r there).component
 
     known : (n : ℕ) (x : Name) → kind_at base n ≡ system_kind.Class → (content_of x e ≡ Some (knows n)) ⊎ (content_of x (permanents_at ds c) ≡ Some (knows n)) → owner_of base n ≡ owner_of base c
-    known n x class (inl t) = (h.starting in_range n x t).0 class
+    known n x class (inl t) = (h.starting.0 in_range n x t).0 class
     known n x class (inr t) = h.classes c n x t class
 
     lower : (n : ℕ) (x : Name) → (kind_at base n ≡ system_kind.Process → ⊥) → (content_of x e ≡ Some (knows n)) ⊎ (content_of x (permanents_at ds c) ≡ Some (knows n)) → (component_at base n).system < (component_at base c).system
-    lower n x never (inl t) = (h.starting in_range n x t).1 never
+    lower n x never (inl t) = (h.starting.0 in_range n x t).1 never
     lower n x never (inr t) = h.earlier c n x t never
 
     begun_owned : OwnedState base (with_begun p moved r c e)
@@ -249,15 +249,20 @@ module _ (p : Program) (s : State) (pid : ℕ) (base : List Component) (old : Ow
     started_now : IsStarted s (with_begun p moved r c e) c
     started_now = inr (r, sym (ap (λ y. y.component) before_begun) ∙ its, sym (ap (λ y. y.status) before_begun) ∙ idle, ap (λ y. y.status) begun_there)
 
-    begun_changed : (n : ℕ) (x : Name) → content_of x (permanents_at cs n) ≢ content_of x (permanents_at es n) → HeldBy base me.component fs n ⊎ IsStarted s (with_begun p moved r c e) n
+    begun_changed : (n : ℕ) (x : Name) → content_of x (permanents_at cs n) ≢ content_of x (permanents_at es n) → HeldBy base me.component fs n ⊎ (IsStarted s (with_begun p moved r c e) n × IsParameterOf p base n x)
     begun_changed n x ne = go (permanents_set ds c n _)
       where
-        later : HeldBy base me.component fs n ⊎ ((status_at cs n ≡ uninitialised) × (status_at ds n ≡ initialising)) → HeldBy base me.component fs n ⊎ IsStarted s (with_begun p moved r c e) n
+        later : HeldBy base me.component fs n ⊎ (((status_at cs n ≡ uninitialised) × (status_at ds n ≡ initialising)) × IsParameterOf p base n x) → HeldBy base me.component fs n ⊎ (IsStarted s (with_begun p moved r c e) n × IsParameterOf p base n x)
         later (inl k) = inl k
-        later (inr k) = inr (inl (k.0, field_kept (λ y. y.status) ds c _ refl n ∙ k.1))
+        later (inr k) = inr (inl (k.0.0, field_kept (λ y. y.status) ds c _ refl n ∙ k.0.1), k.1)
 
-        go : ((n ≡ c) × (permanents_at (with_permanents ds c (e ++ permanents_at ds c)) n ≡ e ++ permanents_at ds c)) ⊎ (permanents_at (with_permanents ds c (e ++ permanents_at ds c)) n ≡ permanents_at ds n) → HeldBy base me.component fs n ⊎ IsStarted s (with_begun p moved r c e) n
-        go (inl k) = inr (subst (IsStarted s (with_begun p moved r c e)) (sym k.0) started_now)
+        named : (n ≡ c) → permanents_at (with_permanents ds c (e ++ permanents_at ds c)) n ≡ e ++ permanents_at ds c → (b : Bool) → is_parameter x (system_of p (component_at base c).system).parameters ≡ b →
+            HeldBy base me.component fs n ⊎ (IsStarted s (with_begun p moved r c e) n × IsParameterOf p base n x)
+        named k u true t = inr (subst (IsStarted s (with_begun p moved r c e)) (sym k) started_now, subst (λ j. IsParameterOf p base j x) (sym k) t)
+        named k u false t = later (h.changed n x (λ same. ne (same ∙ ap (λ j. content_of x (permanents_at ds j)) k ∙ sym (nothing_append x e (permanents_at ds c) (h.starting.1 x t)) ∙ ap (content_of x) (sym u))))
+
+        go : ((n ≡ c) × (permanents_at (with_permanents ds c (e ++ permanents_at ds c)) n ≡ e ++ permanents_at ds c)) ⊎ (permanents_at (with_permanents ds c (e ++ permanents_at ds c)) n ≡ permanents_at ds n) → HeldBy base me.component fs n ⊎ (IsStarted s (with_begun p moved r c e) n × IsParameterOf p base n x)
+        go (inl k) = named k.0 k.1 (is_parameter x (system_of p (component_at base c).system).parameters) refl
         go (inr k) = later (h.changed n x (λ t. ne (t ∙ ap (content_of x) (sym k))))
 
     begun_others : (q : ℕ) → q < length s.processes → q ≢ pid → ((process_at (slice_set moved.processes r new) q).calls ≡ (process_at s.processes q).calls) ⊎ (((process_at s.processes q).status ≡ unstarted) × ((process_at (slice_set moved.processes r new) q).status ≡ ready))
@@ -271,7 +276,7 @@ module _ (p : Program) (s : State) (pid : ℕ) (base : List Component) (old : Ow
     begun_steps : Steps (with_begun p moved r c e)
     begun_steps = record { owned = begun_owned; changed = begun_changed; others = begun_others }
 
-  starting_as_steps : (c r : ℕ) (e : Environment) (status : Status) → Owned base me.component fs cs d.calls ds (starts c e) → kind_at ds c ≡ system_kind.Process → r < length (moved_to ready s pid d).processes →
+  starting_as_steps : (c r : ℕ) (e : Environment) (status : Status) → Owned p base me.component fs cs d.calls ds (starts c e) → kind_at ds c ≡ system_kind.Process → r < length (moved_to ready s pid d).processes →
       (process_at (moved_to ready s pid d).processes r).component ≡ c → (process_at (moved_to ready s pid d).processes r).status ≡ status → Steps (starting_as p s pid d r status c e).state
   starting_as_steps c r e unstarted h its_kind there its idle = begun_steps c r e h its_kind there its idle
   starting_as_steps c r e ready h its_kind there its idle = no_step
@@ -279,7 +284,7 @@ module _ (p : Program) (s : State) (pid : ℕ) (base : List Component) (old : Ow
   starting_as_steps c r e (delayed n) h its_kind there its idle = no_step
   starting_as_steps c r e ended h its_kind there its idle = no_step
 
-  starting_steps : (c : ℕ) (o : Option ℕ) (e : Environment) → Owned base me.component fs cs d.calls ds (starts c e) → kind_at ds c ≡ system_kind.Process → process_of c (moved_to ready s pid d).processes ≡ o → Steps (starting p s pid d o c e).state
+  starting_steps : (c : ℕ) (o : Option ℕ) (e : Environment) → Owned p base me.component fs cs d.calls ds (starts c e) → kind_at ds c ≡ system_kind.Process → process_of c (moved_to ready s pid d).processes ≡ o → Steps (starting p s pid d o c e).state
   starting_steps c None e h its_kind is = steps_moved (starts c e) h ready
   starting_steps c (Some r) e h its_kind is =
       let f = process_found c (moved_to ready s pid d).processes r is in
@@ -296,12 +301,12 @@ module _ (p : Program) (s : State) (pid : ℕ) (base : List Component) (old : Ow
   StartsProcess (shows x) = Unit {0}
   StartsProcess ends = Unit {0}
 
-  pub settles_steps : (move : Move) → Owned base me.component fs cs d.calls ds move → StartsProcess move → Steps (settles p s pid d move).state
-  settles_steps stays h k = steps_moved stays h ready
-  settles_steps (enters n) h k = entering_steps n (is_anybody_inside n s.processes) h
-  settles_steps (leaves n) h k = steps_to (leaves n) h ready _ (let_in_keeps base s.gates (moved_to ready s pid d) n)
-  settles_steps (delays n) h k = steps_to (delays n) h (delayed n) _ (let_in_keeps base s.gates (moved_to (delayed n) s pid d) n)
-  settles_steps (continues n o) h k = steps_to (continues n o) h ready _ (continuing_keeps base (moved_to ready s pid d) n o)
-  settles_steps (starts c e) h k = starting_steps c (process_of c (moved_to ready s pid d).processes) e h k refl
-  settles_steps (shows x) h k = displaying_steps (length s.output == output_room) x h
-  settles_steps ends h k = steps_moved ends h ended
+  pub kernel_step_owned : (move : Move) → Owned p base me.component fs cs d.calls ds move → StartsProcess move → Steps (kernel_step p s pid d move).state
+  kernel_step_owned stays h k = steps_moved stays h ready
+  kernel_step_owned (enters n) h k = entering_steps n (is_anybody_inside n s.processes) h
+  kernel_step_owned (leaves n) h k = steps_to (leaves n) h ready _ (let_in_keeps base s.gates (moved_to ready s pid d) n)
+  kernel_step_owned (delays n) h k = steps_to (delays n) h (delayed n) _ (let_in_keeps base s.gates (moved_to (delayed n) s pid d) n)
+  kernel_step_owned (continues n o) h k = steps_to (continues n o) h ready _ (continuing_keeps base (moved_to ready s pid d) n o)
+  kernel_step_owned (starts c e) h k = starting_steps c (process_of c (moved_to ready s pid d).processes) e h k refl
+  kernel_step_owned (shows x) h k = displaying_steps (length s.output == output_room) x h
+  kernel_step_owned ends h k = steps_moved ends h ended

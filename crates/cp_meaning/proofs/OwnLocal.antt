@@ -1,5 +1,5 @@
 -- Each local rule changes only what the process holds, and keeps what is held.
-use Rattle.std.proofs.Common.{◌≡◌, ℕ, ◌<◌, ◌≤◌, ◌-◌, ◌==◌, ◌∙◌, ◌⊎◌, inl, inr, ℤ, Bool, true, false, if◌then◌else◌, List, [], ◌∷◌, ◌++◌, length, Option, Some, None, Ok, Err, ap, sym, refl, subst, arith, eqb-true, eq-eqb}
+use Rattle.std.proofs.Common.{◌≡◌, ℕ, ◌<◌, ◌≤◌, ◌-◌, ◌==◌, ◌∙◌, ◌⊎◌, inl, inr, ℤ, Bool, true, false, ◌||◌, if◌then◌else◌, List, [], ◌∷◌, ◌++◌, length, Option, Some, None, Ok, Err, ap, sym, refl, subst, arith, eqb-true, eq-eqb}
 use Rattle.cp_tree.specs.declared.constant.Identifier.{Identifier}
 use Rattle.cp_tree.specs.declared.statement.Direction.{Direction}
 use Rattle.cp_tree.specs.declared.declaration.SystemKind.{SystemKind}
@@ -18,9 +18,9 @@ use Rattle.cp_meaning.specs.Places.{View, Target, content_of, call_above, enviro
 use Rattle.cp_meaning.specs.Operations.{same_integer, checked}
 use Rattle.cp_meaning.specs.Expressions.{value, target_value, selected, chosen, with_element_of, first_value, meaning_here, routine_called, variable_in}
 use Rattle.cp_meaning.specs.Move.{Move, stays, enters, leaves, delays, continues, starts, shows, ends, Doing}
-use Rattle.cp_meaning.specs.Calls.{refers_to, of_system, knows_of, bound_variable, bound_value, bound_argument, bound, least_of, least_result, opened, is_initialised, is_uninitialised, entered_as, with_move, nothing, entered, called_as, called, with_status, initial, initialised_in, started_as, started_at, started}
+use Rattle.cp_meaning.specs.Calls.{refers_to, of_system, knows_of, bound_variable, bound_value, bound_argument, bound, least_of, least_result, opened, is_initialised, is_uninitialised, entered_as, with_move, with_items, entered, called_as, called, with_status, initial, initialised_in, started_as, started_at, started}
 use Rattle.cp_meaning.specs.LocalRules.{scope_here, becomes, assigned, arm_for, is_beyond, next_value, goes_on_with, queue_free, delayed_in, after_return, continued_from, in_place_of, argument_of, invoked, does, outer, with_result, return_move, returned, finished, takes}
-use Rattle.cp_meaning.specs.Ownership.{owner_of}
+use Rattle.cp_meaning.specs.Ownership.{owner_of, is_parameter, IsParameterOf}
 use Rattle.cp_meaning.specs.WellFormed.{HasNoClass, HasEarlier}
 use Rattle.cp_meaning.proofs.Frames.{Frame, frames, frames-callers, below, system_at}
 use Rattle.cp_meaning.proofs.Good.{status_at}
@@ -29,35 +29,49 @@ use Rattle.cp_meaning.proofs.LocalLaw.{within, status_set}
 use Rattle.cp_meaning.proofs.ComponentTree.{path_at, kind_at, SameTree, tree_after, set_tree, own_owner, Distinct, contained_owner, ContainedEarlier, contained_below}
 use Rattle.cp_meaning.proofs.Held.{HeldBy, HeldPlace, RefersHeld, HeldCalls, Bottom, permanents_at, ClassesKnown, held_more, place_more, held_alike, length-frames, kind_past, IsValue, cons_content, append_content, least_values, least_result_value, stored_held, EarlierKnown, permanents_set, known_set, stored_known, stored_tree, stored_changed}
 
--- the components among the parameters of a process that is started
-abbrev pub MoveOwned : List Component → Move → Type 0
-MoveOwned base (starts c e) =
-    c < length base → (d : ℕ) (x : Name) → content_of x e ≡ Some (knows d) →
-    (kind_at base d ≡ system_kind.Class → owner_of base d ≡ owner_of base c) × ((kind_at base d ≡ system_kind.Process → ⊥) → system_at base d < system_at base c)
-MoveOwned base stays = Unit {0}
-MoveOwned base (enters n) = Unit {0}
-MoveOwned base (leaves n) = Unit {0}
-MoveOwned base (delays n) = Unit {0}
-MoveOwned base (continues n o) = Unit {0}
-MoveOwned base (shows x) = Unit {0}
-MoveOwned base ends = Unit {0}
+-- names that are none of these parameters have nothing in the environment
+abbrev pub NamedBy : List Parameter → Environment → Type 0
+NamedBy qs e = (x : Name) → is_parameter x qs ≡ false → content_of x e ≡ None
+
+-- what a started process is given: components that it may know, under names of its parameters
+abbrev pub MoveOwned : Program → List Component → Move → Type 0
+MoveOwned p base (starts c e) =
+    (c < length base → (d : ℕ) (x : Name) → content_of x e ≡ Some (knows d) →
+    (kind_at base d ≡ system_kind.Class → owner_of base d ≡ owner_of base c) × ((kind_at base d ≡ system_kind.Process → ⊥) → system_at base d < system_at base c)) ×
+    NamedBy (system_of p (component_at base c).system).parameters e
+MoveOwned p base stays = Unit {0}
+MoveOwned p base (enters n) = Unit {0}
+MoveOwned p base (leaves n) = Unit {0}
+MoveOwned p base (delays n) = Unit {0}
+MoveOwned p base (continues n o) = Unit {0}
+MoveOwned p base (shows x) = Unit {0}
+MoveOwned p base ends = Unit {0}
 
 -- what a component was before it is begun to be initialised
 abbrev pub Begins : (cs ds : List Component) → ℕ → Type 0
 Begins cs ds n = (status_at cs n ≡ uninitialised) × (status_at ds n ≡ initialising)
 
-pub record Owned (base : List Component) (me : ℕ) (fs : List Frame) (cs : List Component) (calls : List Call) (ds : List Component) (move : Move) : Type 0 where
+pub record Owned (p : Program) (base : List Component) (me : ℕ) (fs : List Frame) (cs : List Component) (calls : List Call) (ds : List Component) (move : Move) : Type 0 where
   pub tree : SameTree base ds
   pub held : HeldCalls base me calls
   pub bottom : Bottom me (frames calls)
   pub classes : ClassesKnown base ds
   pub earlier : EarlierKnown base ds
-  pub changed : (n : ℕ) (x : Name) → (content_of x (permanents_at cs n) ≡ content_of x (permanents_at ds n) → ⊥) → HeldBy base me fs n ⊎ Begins cs ds n
-  pub starting : MoveOwned base move
+  pub changed : (n : ℕ) (x : Name) → (content_of x (permanents_at cs n) ≡ content_of x (permanents_at ds n) → ⊥) → HeldBy base me fs n ⊎ (Begins cs ds n × IsParameterOf p base n x)
+  pub starting : MoveOwned p base move
 
-abbrev pub OwnedBy : List Component → ℕ → List Frame → List Component → Outcome Doing → Type 0
-OwnedBy base me fs cs (Ok d) = Owned base me fs cs d.calls d.components d.move
-OwnedBy base me fs cs (Err e) = Unit {0}
+abbrev pub OwnedBy : Program → List Component → ℕ → List Frame → List Component → Outcome Doing → Type 0
+OwnedBy p base me fs cs (Ok d) = Owned p base me fs cs d.calls d.components d.move
+OwnedBy p base me fs cs (Err e) = Unit {0}
+
+-- where the first environment has nothing for a name, the second one decides
+pub nothing_append : (x : Name) (a b : Environment) → content_of x a ≡ None → content_of x (a ++ b) ≡ content_of x b
+nothing_append x [] b h = refl
+nothing_append x (c ∷ a) b h = go (same_name x c.0) h (nothing_append x a b)
+  where
+    go : (s : Bool) → (if s then Some c.1 else content_of x a) ≡ None → (content_of x a ≡ None → content_of x (a ++ b) ≡ content_of x b) → (if s then Some c.1 else content_of x (a ++ b)) ≡ content_of x b
+    go true h rest = absurd (let bad : Some c.1 ≡ None = h in cc)
+    go false h rest = rest h
 
 uninitialised_told : (s : ComponentStatus) → is_uninitialised s ≡ true → s ≡ uninitialised
 uninitialised_told uninitialised h = refl
@@ -76,10 +90,10 @@ module _ (p : Program) (c : Call) (calls : List Call) (cs : List Component) (pid
   fs = frames (c ∷ calls)
 
   abbrev OwnedDoing : Doing → Type 0
-  OwnedDoing d = Owned base me fs cs d.calls d.components d.move
+  OwnedDoing d = Owned p base me fs cs d.calls d.components d.move
 
   abbrev OwnedOutcome : Outcome Doing → Type 0
-  OwnedOutcome o = OwnedBy base me fs cs o
+  OwnedOutcome o = OwnedBy p base me fs cs o
 
   bind_owned : {A : Type 0} (o : Outcome A) (f : A → Outcome Doing) → ((a : A) → OwnedOutcome (f a)) → OwnedOutcome (o >>= f)
   bind_owned (Ok a) f h = h a
@@ -117,12 +131,12 @@ module _ (p : Program) (c : Call) (calls : List Call) (cs : List Component) (pid
         only = stored_changed base me fs v q w h;
       }
 
-  nothing_owned : (u : View) (items : List Item) (move : Move) → Alike u → MoveOwned base move → OwnedDoing (with_move (nothing u items) move)
-  nothing_owned u items move a m =
+  items_owned : (u : View) (items : List Item) (move : Move) → Alike u → MoveOwned p base move → OwnedDoing (with_move (with_items u items) move)
+  items_owned u items move a m =
       record { tree = a.still; held = a.still_held; bottom = subst (Bottom me) (sym a.same_frames) bottom; classes = a.still_known; earlier = a.still_earlier; changed = λ n x ne. inl (a.only n x ne); starting = m }
 
   becomes_owned : (u : View) (items : List Item) → Alike u → OwnedOutcome (becomes u items)
-  becomes_owned u items a = nothing_owned u items stays a tt
+  becomes_owned u items a = items_owned u items stays a tt
 
   -- ---- places
 
@@ -339,6 +353,24 @@ module _ (p : Program) (c : Call) (calls : List Call) (cs : List Component) (pid
   bound_held (q ∷ qs) no_expressions = nothing_bound
   bound_held (q ∷ qs) (more_expressions e es) = bound_cons q.name (bound_argument v q e) (bound v qs es) (argument_held q e) (bound_held qs es)
 
+  abbrev BoundNamed : List Parameter → Outcome Environment → Type 0
+  BoundNamed qs (Ok e) = NamedBy qs e
+  BoundNamed qs (Err e) = Unit {0}
+
+  named_cons : (q : Parameter) (qs : List Parameter) (o : Outcome Content) (r : Outcome Environment) → BoundNamed qs r → BoundNamed (q ∷ qs) (o >>= λ k. r >>= λ rest. Ok ((q.name, k) ∷ rest))
+  named_cons q qs (Ok k) (Ok e) g = λ x h. go x (same_name x q.name) h
+    where
+      go : (x : Name) (b : Bool) → (b || is_parameter x qs) ≡ false → (if b then Some k else content_of x e) ≡ None
+      go x true h = absurd (let bad : true ≡ false = h in cc)
+      go x false h = g x h
+  named_cons q qs (Ok k) (Err e) g = tt
+  named_cons q qs (Err e) r g = tt
+
+  bound_named : (qs : List Parameter) (es : Expressions) → BoundNamed qs (bound v qs es)
+  bound_named [] es = λ x h. refl
+  bound_named (q ∷ qs) no_expressions = λ x h. refl
+  bound_named (q ∷ qs) (more_expressions e es) = named_cons q qs (bound_argument v q e) (bound v qs es) (bound_named qs es)
+
   with_bound : (o : Outcome Environment) (f : Environment → Outcome Doing) → BoundHeld o → ((e : Environment) → RefersHeld base me fs e → KnowsOwned e → OwnedOutcome (f e)) → OwnedOutcome (o >>= f)
   with_bound (Ok e) f h k = k e h.0 h.1
   with_bound (Err e) f h k = tt
@@ -437,7 +469,7 @@ module _ (p : Program) (c : Call) (calls : List Call) (cs : List Component) (pid
 
   -- ---- calls
 
-  unchanged : (n : ℕ) (x : Name) → (content_of x (permanents_at cs n) ≡ content_of x (permanents_at cs n) → ⊥) → HeldBy base me fs n ⊎ Begins cs cs n
+  unchanged : (n : ℕ) (x : Name) → (content_of x (permanents_at cs n) ≡ content_of x (permanents_at cs n) → ⊥) → HeldBy base me fs n ⊎ (Begins cs cs n × IsParameterOf p base n x)
   unchanged n x ne = absurd (ne refl)
 
   no_reference : (x : Name) (q : Place) → IsValue (refers q) → HeldPlace base me fs q.holder
@@ -454,7 +486,7 @@ module _ (p : Program) (c : Call) (calls : List Call) (cs : List Component) (pid
       go (inl t) = inner (append_content x e (least_of r.variables) (refers q) t)
       go (inr t) = no_reference x q (least_result_value x r.result (refers q) t)
 
-  opened_owned : (d : ℕ) (kind : CallKind) (r : RoutineMeaning) (o : Option Name) (items : List Item) (e : Environment) (move : Move) → HeldBy base me ((kind, d) ∷ fs) d → d < length base → RefersHeld base me fs e → MoveOwned base move →
+  opened_owned : (d : ℕ) (kind : CallKind) (r : RoutineMeaning) (o : Option Name) (items : List Item) (e : Environment) (move : Move) → HeldBy base me ((kind, d) ∷ fs) d → d < length base → RefersHeld base me fs e → MoveOwned p base move →
       OwnedDoing (with_move (opened v d kind r o items e) move)
   opened_owned d kind r o items e move h lt refs m =
       record { tree = tree; held = (h, lt, opened_refers r e refs, held); bottom = bottom; classes = classes; earlier = earlier; changed = unchanged; starting = m }
@@ -481,7 +513,7 @@ module _ (p : Program) (c : Call) (calls : List Call) (cs : List Component) (pid
   entry_as system_kind.Class d r o items e is owns refs =
       let class = in_base d system_kind.Class is in
       opened_owned d entry_routine r o items e stays (class_held d entry_routine (owns class)) (not_past d class) refs tt
-  entry_as system_kind.Process d r o items e is owns refs = nothing_owned v items stays alike tt
+  entry_as system_kind.Process d r o items e is owns refs = items_owned v items stays alike tt
 
   entered_owned : (q : Place) (r : RoutineMeaning) (o : Option Name) (es : Expressions) (items : List Item) → OwnedOutcome (entered v (component_there v q) r o es items)
   entered_owned q r o es items =
@@ -509,8 +541,8 @@ module _ (p : Program) (c : Call) (calls : List Call) (cs : List Component) (pid
   -- ---- starts
 
   initial_owned : (d : ℕ) (s : SystemMeaning) (items : List Item) (e : Environment) → d < length base → status_at cs d ≡ uninitialised → HeldBy base me ((initial_statement, d) ∷ fs) d →
-      ((n : ℕ) (x : Name) → content_of x e ≡ Some (knows n) → kind_at base n ≡ system_kind.Class → owner_of base n ≡ owner_of base d) → ((n : ℕ) (x : Name) → content_of x e ≡ Some (knows n) → Below (system_at base d) n) → OwnedDoing (initial v d s items e)
-  initial_owned d s items e lt free h known lower =
+      ((n : ℕ) (x : Name) → content_of x e ≡ Some (knows n) → kind_at base n ≡ system_kind.Class → owner_of base n ≡ owner_of base d) → ((n : ℕ) (x : Name) → content_of x e ≡ Some (knows n) → Below (system_at base d) n) → NamedBy (system_of p (component_at base d).system).parameters e → OwnedDoing (initial v d s items e)
+  initial_owned d s items e lt free h known lower names =
       record {
         tree = tree_after base cs ds tree (set_tree cs d _ refl refl refl);
         held = (h, lt, (λ x q t. no_content x (refers q) t), held);
@@ -534,35 +566,44 @@ module _ (p : Program) (c : Call) (calls : List Call) (cs : List Component) (pid
 
       go : (n : ℕ) (x : Name) → (content_of x (permanents_at cs n) ≡ content_of x (permanents_at (with_status cs d initialising (e ++ permanents_at cs d)) n) → ⊥) →
           ((n ≡ d) × (status_at (with_status cs d initialising (e ++ permanents_at cs d)) n ≡ initialising)) ⊎ ((n ≡ d → length cs ≤ d) × (status_at (with_status cs d initialising (e ++ permanents_at cs d)) n ≡ status_at cs n)) →
-          HeldBy base me fs n ⊎ Begins cs (with_status cs d initialising (e ++ permanents_at cs d)) n
-      go n x ne (inl t) = inr (ap (status_at cs) t.0 ∙ free, t.1)
+          HeldBy base me fs n ⊎ (Begins cs (with_status cs d initialising (e ++ permanents_at cs d)) n × IsParameterOf p base n x)
+      go n x ne (inl t) = named (is_parameter x (system_of p (component_at base d).system).parameters) refl
+        where
+          same : content_of x e ≡ None → ((n ≡ d) × (permanents_at (with_status cs d initialising (e ++ permanents_at cs d)) n ≡ e ++ permanents_at cs d)) ⊎ (permanents_at (with_status cs d initialising (e ++ permanents_at cs d)) n ≡ permanents_at cs n) →
+              content_of x (permanents_at cs n) ≡ content_of x (permanents_at (with_status cs d initialising (e ++ permanents_at cs d)) n)
+          same h (inl u) = ap (λ j. content_of x (permanents_at cs j)) t.0 ∙ sym (nothing_append x e (permanents_at cs d) h) ∙ ap (content_of x) (sym u.1)
+          same h (inr u) = ap (content_of x) (sym u)
+
+          named : (b : Bool) → is_parameter x (system_of p (component_at base d).system).parameters ≡ b → HeldBy base me fs n ⊎ (Begins cs (with_status cs d initialising (e ++ permanents_at cs d)) n × IsParameterOf p base n x)
+          named true h = inr ((ap (status_at cs) t.0 ∙ free, t.1), subst (λ j. IsParameterOf p base j x) (sym t.0) h)
+          named false h = absurd (ne (same (names x h) (permanents_set cs d n _)))
       go n x ne (inr t) = other (permanents_set cs d n _)
         where
-          other : ((n ≡ d) × (permanents_at (with_status cs d initialising (e ++ permanents_at cs d)) n ≡ e ++ permanents_at cs d)) ⊎ (permanents_at (with_status cs d initialising (e ++ permanents_at cs d)) n ≡ permanents_at cs n) → HeldBy base me fs n ⊎ Begins cs (with_status cs d initialising (e ++ permanents_at cs d)) n
+          other : ((n ≡ d) × (permanents_at (with_status cs d initialising (e ++ permanents_at cs d)) n ≡ e ++ permanents_at cs d)) ⊎ (permanents_at (with_status cs d initialising (e ++ permanents_at cs d)) n ≡ permanents_at cs n) → HeldBy base me fs n ⊎ (Begins cs (with_status cs d initialising (e ++ permanents_at cs d)) n × IsParameterOf p base n x)
           other (inl u) = absurd (let le = t.0 u.0 in let size = tree.size in omega arith)
           other (inr u) = absurd (ne (ap (content_of x) (sym u)))
 
   initialised_owned : (d : ℕ) (s : SystemMeaning) (items : List Item) (e : Environment) → d < length base → HeldBy base me ((initial_statement, d) ∷ fs) d →
-      ((n : ℕ) (x : Name) → content_of x e ≡ Some (knows n) → kind_at base n ≡ system_kind.Class → owner_of base n ≡ owner_of base d) → ((n : ℕ) (x : Name) → content_of x e ≡ Some (knows n) → Below (system_at base d) n) → OwnedOutcome (initialised_in v d s items e)
-  initialised_owned d s items e lt h known lower =
-      outcome_if (is_uninitialised (status_at cs d)) _ _ (λ u. initial_owned d s items e lt (uninitialised_told (status_at cs d) u) h known lower) tt
+      ((n : ℕ) (x : Name) → content_of x e ≡ Some (knows n) → kind_at base n ≡ system_kind.Class → owner_of base n ≡ owner_of base d) → ((n : ℕ) (x : Name) → content_of x e ≡ Some (knows n) → Below (system_at base d) n) → NamedBy (system_of p (component_at base d).system).parameters e → OwnedOutcome (initialised_in v d s items e)
+  initialised_owned d s items e lt h known lower names =
+      outcome_if (is_uninitialised (status_at cs d)) _ _ (λ u. initial_owned d s items e lt (uninitialised_told (status_at cs d) u) h known lower names) tt
 
   system_not_class : (d : ℕ) → d < length base → (kind_at cs d ≡ system_kind.Class → ⊥) → (system_of p (component_at cs d).system).kind ≡ system_kind.Class → ⊥
   system_not_class d lt h k = h (tree.kind d ∙ kinds d lt ∙ ap (λ j. (system_of p j).kind) (sym (tree.system d)) ∙ k)
 
   started_owned : (k : SystemKind) (d : ℕ) (items : List Item) (o : Outcome Environment) → kind_at cs d ≡ k → (kind_at base d ≡ system_kind.Class → owner_of base d ≡ owner_of base c.component) → BoundHeld o →
-      (((system_of p (component_at cs d).system).kind ≡ system_kind.Class → ⊥) → BoundFits NoClass o) → BoundFits (Below (system_at base d)) o → OwnedOutcome (o >>= λ e. started_as k v d (system_of p (component_at cs d).system) items e)
-  started_owned k d items (Err e) is owns h free lower = tt
-  started_owned system_kind.Class d items (Ok e) is owns h free lower =
+      (((system_of p (component_at cs d).system).kind ≡ system_kind.Class → ⊥) → BoundFits NoClass o) → BoundFits (Below (system_at base d)) o → BoundNamed (system_of p (component_at base d).system).parameters o → OwnedOutcome (o >>= λ e. started_as k v d (system_of p (component_at cs d).system) items e)
+  started_owned k d items (Err e) is owns h free lower names = tt
+  started_owned system_kind.Class d items (Ok e) is owns h free lower names =
       let class = in_base d system_kind.Class is in
-      initialised_owned d (system_of p (component_at cs d).system) items e (not_past d class) (class_held d initial_statement (owns class)) (λ n x t k. h.1 n x t k ∙ sym (owns class)) lower
-  started_owned system_kind.Monitor d items (Ok e) is owns h free lower =
+      initialised_owned d (system_of p (component_at cs d).system) items e (not_past d class) (class_held d initial_statement (owns class)) (λ n x t k. h.1 n x t k ∙ sym (owns class)) lower names
+  started_owned system_kind.Monitor d items (Ok e) is owns h free lower names =
       let lt = within base d (λ b. (let bad : system_kind.Monitor ≡ system_kind.Process = sym (in_base d system_kind.Monitor is) ∙ b in cc)) in
       initialised_owned d (system_of p (component_at cs d).system) items e lt (monitor_started d (in_base d system_kind.Monitor is))
-      (λ n x t k. absurd (free (system_not_class d lt (λ b. (let bad : system_kind.Monitor ≡ system_kind.Class = sym is ∙ b in cc))) n x t k)) lower
-  started_owned system_kind.Process d items (Ok e) is owns h free lower =
-      nothing_owned v items (starts d e) alike
-      (λ lt n x t. ((λ k. absurd (free (system_not_class d lt (λ b. (let bad : system_kind.Process ≡ system_kind.Class = sym is ∙ b in cc))) n x t k)), lower n x t))
+      (λ n x t k. absurd (free (system_not_class d lt (λ b. (let bad : system_kind.Monitor ≡ system_kind.Class = sym is ∙ b in cc))) n x t k)) lower names
+  started_owned system_kind.Process d items (Ok e) is owns h free lower names =
+      items_owned v items (starts d e) alike
+      ((λ lt n x t. ((λ k. absurd (free (system_not_class d lt (λ b. (let bad : system_kind.Process ≡ system_kind.Class = sym is ∙ b in cc))) n x t k)), lower n x t)), names)
 
   start_owned : (t : Start) (items : List Item) → OwnedOutcome (started v t items)
   start_owned t items = bind_owned (target_value v t.target) _ (λ u. place u.place)
@@ -575,6 +616,7 @@ module _ (p : Program) (c : Call) (calls : List Call) (cs : List Component) (pid
           started_owned (kind_at cs d) d items (bound v s.parameters t.arguments) refl (there_owned q) (bound_held s.parameters t.arguments)
           (λ h. bound_fits NoClass s.parameters t.arguments (no_class_fits s.parameters (class_parameters k h)))
           (subst (λ j. BoundFits (Below j) (bound v s.parameters t.arguments)) (tree.system d) (bound_fits (Below k) s.parameters t.arguments (below_fits k s.parameters (parameters_earlier k))))
+          (subst (λ j. BoundNamed (system_of p j).parameters (bound v s.parameters t.arguments)) (tree.system d) (bound_named s.parameters t.arguments))
 
   -- ---- ends of calls
 
@@ -589,15 +631,15 @@ module _ (p : Program) (c : Call) (calls : List Call) (cs : List Component) (pid
   rest_bottom : Bottom me (frames calls)
   rest_bottom = bottom_rest (c.kind, c.component) (frames calls) bottom
 
-  leaving_owned : (k : SystemKind) (m : ℕ) → MoveOwned base (Rattle.cp_meaning.specs.LocalRules.leaving_move k m)
+  leaving_owned : (k : SystemKind) (m : ℕ) → MoveOwned p base (Rattle.cp_meaning.specs.LocalRules.leaving_move k m)
   leaving_owned system_kind.Monitor m = tt
   leaving_owned system_kind.Class m = tt
   leaving_owned system_kind.Process m = tt
 
-  back_owned : MoveOwned base (return_move cs c)
+  back_owned : MoveOwned p base (return_move cs c)
   back_owned = go (Rattle.cp_meaning.specs.State.is_entry_kind c.kind)
     where
-      go : (b : Bool) → MoveOwned base (if b then Rattle.cp_meaning.specs.LocalRules.leaving_move (component_at cs c.component).kind c.component else stays)
+      go : (b : Bool) → MoveOwned p base (if b then Rattle.cp_meaning.specs.LocalRules.leaving_move (component_at cs c.component).kind c.component else stays)
       go true = leaving_owned (component_at cs c.component).kind c.component
       go false = tt
 
@@ -609,9 +651,9 @@ module _ (p : Program) (c : Call) (calls : List Call) (cs : List Component) (pid
       record { tree = tree; held = stored_held base me (outer v) q w held.3; bottom = subst (Bottom me) (sym (stored_frames (outer v) q w)) rest_bottom; classes = classes; earlier = earlier; changed = unchanged; starting = back_owned }
 
   continued_owned : (k : CallKind) (items : List Item) (q : Place) → HeldPlace base me fs q.holder → OwnedDoing (continued_from v k items q)
-  continued_owned own_statement items q h = nothing_owned v items stays alike tt
-  continued_owned initial_statement items q h = nothing_owned v items stays alike tt
-  continued_owned local_routine items q h = nothing_owned v items stays alike tt
+  continued_owned own_statement items q h = items_owned v items stays alike tt
+  continued_owned initial_statement items q h = items_owned v items stays alike tt
+  continued_owned local_routine items q h = items_owned v items stays alike tt
   continued_owned entry_routine items q h =
       let u = stored v q (queue_value None) in
       let a = alike_stored q (queue_value None) h in
@@ -642,7 +684,7 @@ module _ (p : Program) (c : Call) (calls : List Call) (cs : List Component) (pid
 
       go : (n : ℕ) (x : Name) → (content_of x (permanents_at cs n) ≡ content_of x (permanents_at (with_status cs m initialised (permanents_at cs m)) n) → ⊥) →
           ((n ≡ m) × (permanents_at (with_status cs m initialised (permanents_at cs m)) n ≡ permanents_at cs m)) ⊎ (permanents_at (with_status cs m initialised (permanents_at cs m)) n ≡ permanents_at cs n) →
-          HeldBy base me fs n ⊎ Begins cs (with_status cs m initialised (permanents_at cs m)) n
+          HeldBy base me fs n ⊎ (Begins cs (with_status cs m initialised (permanents_at cs m)) n × IsParameterOf p base n x)
       go n x ne (inl t) = absurd (ne (ap (λ j. content_of x (permanents_at cs j)) t.0 ∙ ap (content_of x) (sym t.1)))
       go n x ne (inr t) = absurd (ne (ap (content_of x) (sym t)))
 
@@ -662,14 +704,14 @@ module _ (p : Program) (c : Call) (calls : List Call) (cs : List Component) (pid
   place_owned None go items h = becomes_owned v items alike
   place_owned (Some d) go items h = with_target (target_value v d) _ (target_held d) (λ t k. h t.place k)
 
-  delay_owned : (o : Option ℕ) (items : List Item) (q : Place) → HeldPlace base me fs q.holder → OwnedOutcome (queue_free o >>= λ x. Ok (with_move (nothing (stored v q (queue_value (Some pid))) items) (delays c.component)))
-  delay_owned None items q h = nothing_owned (stored v q (queue_value (Some pid))) items (delays c.component) (alike_stored q (queue_value (Some pid)) h) tt
+  delay_owned : (o : Option ℕ) (items : List Item) (q : Place) → HeldPlace base me fs q.holder → OwnedOutcome (queue_free o >>= λ x. Ok (with_move (with_items (stored v q (queue_value (Some pid))) items) (delays c.component)))
+  delay_owned None items q h = items_owned (stored v q (queue_value (Some pid))) items (delays c.component) (alike_stored q (queue_value (Some pid)) h) tt
   delay_owned (Some r) items q h = tt
 
   invoked_owned : (m : Option Meaning) (d : Designator) (es : Expressions) (items : List Item) → OwnedOutcome (invoked v pid m d es items)
   invoked_owned (Some (standard_meaning delay_procedure)) d es items = place_owned (argument_of es) (delayed_in v pid items) items (λ q h. delay_owned (waiting_in (value_at v q)) items q h)
   invoked_owned (Some (standard_meaning continue_procedure)) d es items = place_owned (argument_of es) _ items (λ q h. continued_owned c.kind items q h)
-  invoked_owned (Some (standard_meaning display_procedure)) d es items = bind_owned (first_value v es) _ (λ x. nothing_owned v items _ alike tt)
+  invoked_owned (Some (standard_meaning display_procedure)) d es items = bind_owned (first_value v es) _ (λ x. items_owned v items _ alike tt)
   invoked_owned m d es items = call_owned d es None items
 
   does_owned : (s : Statement) (items : List Item) → OwnedOutcome (does v pid s items)
@@ -697,4 +739,4 @@ module _ (p : Program) (c : Call) (calls : List Call) (cs : List Component) (pid
   takes_owned (successor at i z d b s ∷ items) = outcome_if (same_integer z b) _ _ (λ h. becomes_owned v items alike) (next_owned at i (next_value d z) d b s items)
   takes_owned (return o ∷ items) = returned_owned o items
   takes_owned (init_end m ∷ items) = finished_owned m items
-  takes_owned (end ∷ items) = nothing_owned v items ends alike tt
+  takes_owned (end ∷ items) = items_owned v items ends alike tt

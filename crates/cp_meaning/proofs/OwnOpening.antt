@@ -1,23 +1,31 @@
 -- The opening state of a program whose components have distinct paths.
-use Rattle.std.proofs.Common.{◌≡◌, ℕ, zero, suc, ◌<◌, ◌≤◌, ◌+◌, inl, List, [], ◌∷◌, length, map, Some, None, refl, arith}
+use Rattle.std.proofs.Common.{◌≡◌, ℕ, zero, suc, ◌<◌, ◌≤◌, ◌+◌, ◌⊎◌, inl, inr, List, [], ◌∷◌, length, map, Some, None, refl, arith}
 use Rattle.cp_tree.specs.declared.declaration.SystemKind.{SystemKind}
 use Rattle.cp_tree.specs.declared.declaration.SystemKind.TheVariants as system_kind
 use Rattle.cp_tree.specs.Syntax.{Program}
 use Rattle.cp_meaning.specs.Names.{Name}
-use Rattle.cp_meaning.specs.Systems.{system_of}
+use Rattle.cp_meaning.specs.Systems.{SystemMeaning, system_of}
 use Rattle.cp_meaning.specs.Components.{Listed, components_of}
 use Rattle.cp_meaning.specs.State.{Content, refers, knows, Component, component_at, Process, Gates}
 use Rattle.cp_meaning.specs.Places.{content_of}
+use Rattle.cp_meaning.specs.Calls.{least_of}
 use Rattle.cp_meaning.specs.Kernel.{begun}
-use Rattle.cp_meaning.specs.Steps.{first_component, first_components, unstarted_process, process_first, processes_from, own_begun, opening}
+use Rattle.cp_meaning.specs.Steps.{parameter_variables, first_environment, first_component, first_components, unstarted_process, process_first, processes_from, own_begun, opening}
 use Rattle.cp_meaning.proofs.ComponentTree.{kind_at, same_tree, own_owner}
-use Rattle.cp_meaning.proofs.Held.{permanents_at, IsValue, least_values}
+use Rattle.cp_meaning.proofs.Held.{permanents_at, IsValue, append_content, least_values}
 use Rattle.cp_meaning.proofs.OwnKernel.{OwnedProcess, AllOwned, OwnedState}
 use Rattle.cp_meaning.proofs.Exclusion.{program_kind}
 
+first_value : (m : SystemMeaning) (x : Name) (k : Content) → content_of x (first_environment m) ≡ Some k → IsValue k
+first_value m x k h = go (append_content x (least_of (parameter_variables m.parameters)) (least_of m.variables) k h)
+  where
+    go : (content_of x (least_of (parameter_variables m.parameters)) ≡ Some k) ⊎ (content_of x (least_of m.variables) ≡ Some k) → IsValue k
+    go (inl t) = least_values x (parameter_variables m.parameters) k t
+    go (inr t) = least_values x m.variables k t
+
 first_values : (p : Program) (ls : List Listed) (n : ℕ) (x : Name) (k : Content) → content_of x (permanents_at (map (first_component p) ls) n) ≡ Some k → IsValue k
 first_values p [] n x k h = absurd (let bad : None ≡ Some k = h in cc)
-first_values p (l ∷ ls) zero x k h = least_values x (system_of p l.system).variables k h
+first_values p (l ∷ ls) zero x k h = first_value (system_of p l.system) x k h
 first_values p (l ∷ ls) (suc n) x k h = first_values p ls n x k h
 
 kinds_listed : (p : Program) (ls : List Listed) (n : ℕ) → n < length (map (first_component p) ls) → kind_at (map (first_component p) ls) n ≡ (system_of p (component_at (map (first_component p) ls) n).system).kind

@@ -1,5 +1,5 @@
 -- In every step each changed variable is one that the process holds.
-use Rattle.std.proofs.Common.{◌≡◌, ◌≢◌, ℕ, ◌<◌, ◌≤◌, ◌==◌, ◌∙◌, ◌⊎◌, inl, inr, Bool, true, false, ◌&&◌, List, [], ◌∷◌, length, Option, Some, None, Ok, Err, sym, refl, subst, arith, eqb-true}
+use Rattle.std.proofs.Common.{◌≡◌, ◌≢◌, ℕ, ◌<◌, ◌≤◌, ◌==◌, ◌∙◌, ◌⊎◌, inl, inr, Bool, true, false, ◌&&◌, List, [], ◌∷◌, length, Option, Some, None, Ok, Err, ap, sym, refl, subst, arith, eqb-true}
 use Rattle.cp_tree.specs.declared.declaration.SystemKind.TheVariants as system_kind
 use Rattle.cp_tree.specs.Syntax.{Program}
 use Rattle.cp_meaning.specs.Names.{Name}
@@ -9,8 +9,9 @@ use Rattle.cp_meaning.specs.Places.{content_of}
 use Rattle.cp_meaning.specs.Move.{Move, stays, enters, leaves, delays, continues, starts, shows, ends, Doing}
 use Rattle.cp_meaning.specs.LocalRules.{takes}
 use Rattle.cp_meaning.specs.Kernel.{line_of}
-use Rattle.cp_meaning.specs.Steps.{first_components, opening, settled, step_of, without, admitted_to, IsReached, at_first, by_step, by_admission}
-use Rattle.cp_meaning.specs.Ownership.{owner_of, IsStarted, HoldsComponent, HoldsPlace, HoldsCalls, below_or_same, CallsDescend, IsLawfulProcess, IsLawful, ChangesHeld, OthersKept}
+use Rattle.cp_meaning.specs.Steps.{first_components, opening, settled, step_of, without, admitted_to, admitted, IsReached, at_first, by_step, by_admission}
+use Rattle.cp_meaning.specs.Ownership.{owner_of, IsStarted, HoldsComponent, HoldsPlace, HoldsCalls, below_or_same, CallsDescend, IsLawfulProcess, IsLawful, is_parameter, IsParameterOf, ChangesHeld, OthersKept, VariablesKept}
+use Rattle.cp_meaning.specs.Systems.{system_of}
 use Rattle.cp_meaning.specs.Exclusive.{IsExclusive}
 use Rattle.cp_meaning.specs.OwnershipLaw.{Ownership}
 use Rattle.cp_meaning.specs.WellFormed.{IsWellFormed}
@@ -22,7 +23,7 @@ use Rattle.cp_meaning.proofs.Exclusion.{opening_orderly, outcome_law, item_law, 
 use Rattle.cp_meaning.proofs.ComponentTree.{owner_same, Distinct, ContainedEarlier}
 use Rattle.cp_meaning.proofs.Held.{HeldBy, HeldPlace, HeldCalls, Bottom, permanents_at, held_more, length-frames}
 use Rattle.cp_meaning.proofs.OwnLocal.{OwnedBy, there_below, takes_owned}
-use Rattle.cp_meaning.proofs.OwnKernel.{OwnedProcess, OwnedState, gone_in, StartsProcess, settles_steps}
+use Rattle.cp_meaning.proofs.OwnKernel.{OwnedProcess, OwnedState, Keeps, keeps_all, goes_in, StartsProcess, kernel_step_owned}
 use Rattle.cp_meaning.proofs.OwnOpening.{first_kinds, opening_owned}
 
 -- ---- from what is held to the definition
@@ -108,7 +109,7 @@ module _ (p : Program) (ok : IsWellFormed p) where
     x = process_at s.processes pid
 
     both : (calls : List Call) (items : List Item) → x.calls ≡ calls → x.items ≡ items → NonEmpty (frames calls) → HeldCalls base x.component calls → Bottom x.component (frames calls) →
-        GoodOutcome s.components (frames calls) (takes (record { program = p; calls = calls; components = s.components }) pid items) × OwnedBy base x.component (frames calls) s.components (takes (record { program = p; calls = calls; components = s.components }) pid items)
+        GoodOutcome s.components (frames calls) (takes (record { program = p; calls = calls; components = s.components }) pid items) × OwnedBy p base x.component (frames calls) s.components (takes (record { program = p; calls = calls; components = s.components }) pid items)
     both [] items e i some held bottom = absurd some
     both (c ∷ calls) items e i some held bottom = (
       item_law p s.components c calls items pid x e i (orderly.orderly.processes pid lt) (there_below p c calls s.components pid x.component base owned.tree distinct (first_kinds p) ok.class_parameters contained ok.parameters_earlier owned.earlier held bottom owned.classes),
@@ -119,7 +120,7 @@ module _ (p : Program) (ok : IsWellFormed p) where
     record Result (t : State) : Type 0 where
       owned_after : OwnedState base t
       orderly_after : OrderlyState t
-      changed : (n : ℕ) (y : Name) → content_of y (permanents_at s.components n) ≢ content_of y (permanents_at t.components n) → HeldBy base x.component (frames x.calls) n ⊎ IsStarted s t n
+      changed : (n : ℕ) (y : Name) → content_of y (permanents_at s.components n) ≢ content_of y (permanents_at t.components n) → HeldBy base x.component (frames x.calls) n ⊎ (IsStarted s t n × IsParameterOf p base n y)
       others : OthersKept s t pid
 
     starts_process : (d : Doing) (move : Move) → Good s.components (frames x.calls) (frames d.calls) d.components d.items move → StartsProcess p s pid base owned lt is_ready d move
@@ -133,9 +134,9 @@ module _ (p : Program) (ok : IsWellFormed p) where
     starts_process d ends good = tt
 
     module _ (none : s.pending ≡ None) where
-      settled_result : (o : Outcome Doing) → GoodOutcome s.components (frames x.calls) o × OwnedBy base x.component (frames x.calls) s.components o → Result (settled p s pid o).state
+      settled_result : (o : Outcome Doing) → GoodOutcome s.components (frames x.calls) o × OwnedBy p base x.component (frames x.calls) s.components o → Result (settled p s pid o).state
       settled_result (Ok d) h =
-          let k = settles_steps p s pid base owned lt is_ready d d.move h.1 (starts_process d d.move h.0) in
+          let k = kernel_step_owned p s pid base owned lt is_ready d d.move h.1 (starts_process d d.move h.0) in
           record { owned_after = k.owned; orderly_after = outcome_law p s pid (Ok d) orderly none lt is_ready h.0; changed = k.changed; others = k.others }
       settled_result (Err e) h = record { owned_after = owned; orderly_after = orderly; changed = λ n y ne. absurd (ne refl); others = λ q l ne. inl refl }
 
@@ -146,9 +147,14 @@ module _ (p : Program) (ok : IsWellFormed p) where
           let o = owned.processes pid lt in
           settled_result _ (both x.calls x.items refl refl some o.held o.bottom)
 
-  admitted_owned : (s : State) (q : ℕ) (o : Option ℕ) → OwnedState base s → OwnedState base (admitted_to o s q)
-  admitted_owned s q None h = h
-  admitted_owned s q (Some m) h = let k = gone_in base s m q (without q (line_of s m)) h in record { tree = k.tree; classes = k.classes; earlier = k.earlier; processes = k.processes }
+  admitted_keeps : (s : State) (q : ℕ) (o : Option ℕ) → Keeps base s (admitted_to o s q)
+  admitted_keeps s q None = keeps_all base s
+  admitted_keeps s q (Some m) =
+      let k = goes_in base s m q (without q (line_of s m)) in
+      record { owned = λ h. (let o = k.owned h in record { tree = o.tree; classes = o.classes; earlier = o.earlier; processes = o.processes }); variables = k.variables; calls = k.calls }
+
+  admission_keeps : (s : State) (q : ℕ) → VariablesKept s (admitted s q)
+  admission_keeps s q = let k = admitted_keeps s q s.pending in ((λ n y ne. ne (ap (content_of y) (sym (k.variables n).0))), k.calls)
 
   -- ---- reached states
 
@@ -160,7 +166,7 @@ module _ (p : Program) (ok : IsWellFormed p) where
       (r.owned_after, r.orderly_after)
   reached g _ (by_admission s m q before is member) =
       let old = reached g s before in
-      (admitted_owned s q s.pending old.0, admitted_law s m q s.pending old.1 is is member)
+      ((admitted_keeps s q s.pending).owned old.0, admitted_law s m q s.pending old.1 is is member)
 
   lawful : (g : Gates) (s : State) → IsReached p g s → IsLawful s
   lawful g s before = let old = reached g s before in lawful_from base s old.0 old.1
@@ -168,15 +174,15 @@ module _ (p : Program) (ok : IsWellFormed p) where
   pub exclusive : (g : Gates) (s : State) → IsReached p g s → IsExclusive s
   exclusive g s before = orderly_exclusive s (reached g s before).1
 
-  changes : (g : Gates) (s : State) (pid : ℕ) → IsReached p g s → s.pending ≡ None → pid < length s.processes → (process_at s.processes pid).status ≡ ready → ChangesHeld s (step_of p s pid).state pid
+  changes : (g : Gates) (s : State) (pid : ℕ) → IsReached p g s → s.pending ≡ None → pid < length s.processes → (process_at s.processes pid).status ≡ ready → ChangesHeld p s (step_of p s pid).state pid
   changes g s pid before none lt is_ready n y ne =
       let old = reached g s before in
       let r = step_result s pid old.0 old.1 lt is_ready none in
       go old.0 old.1 (r.changed n y ne)
     where
-      go : OwnedState base s → OrderlyState s → HeldBy base (process_at s.processes pid).component (frames (process_at s.processes pid).calls) n ⊎ IsStarted s (step_of p s pid).state n → HoldsComponent s (process_at s.processes pid) n ⊎ IsStarted s (step_of p s pid).state n
+      go : OwnedState base s → OrderlyState s → HeldBy base (process_at s.processes pid).component (frames (process_at s.processes pid).calls) n ⊎ (IsStarted s (step_of p s pid).state n × IsParameterOf p base n y) → HoldsComponent s (process_at s.processes pid) n ⊎ (IsStarted s (step_of p s pid).state n × IsParameterOf p s.components n y)
       go owned orderly (inl k) = inl (holds_from base s owned (process_at s.processes pid) (orderly.orderly.processes pid lt) n k)
-      go owned orderly (inr k) = inr k
+      go owned orderly (inr k) = inr (k.0, subst (λ j. is_parameter y (system_of p j).parameters ≡ true) (sym (owned.tree.system n)) k.1)
 
   pub ownership : (g : Gates) → Ownership p g
   ownership g =
@@ -186,4 +192,5 @@ module _ (p : Program) (ok : IsWellFormed p) where
         admissions_lawful = λ s m q before law is member. lawful g _ (by_admission s m q before is member);
         changes_held = λ s pid before law none lt is_ready. changes g s pid before none lt is_ready;
         others_kept = λ s pid before law none lt is_ready. (let old = reached g s before in let r = step_result s pid old.0 old.1 lt is_ready none in r.others);
+        admissions_keep = λ s m q before law is member. admission_keeps s q;
       }

@@ -23,7 +23,8 @@ use Rattle.cp_meaning.specs.Move.{Doing, Move, stays, enters, starts}
 abbrev pub refers_to : Outcome Target → Outcome Content
 refers_to target = target >>= λ t. Ok (refers t.place)
 
--- the component, if it is of system type k, as every argument of an accepted program is
+-- A component as an argument of a parameter of system type k. The test is a guard: what is of another type counts as no component. An accepted
+-- program always passes it, since its argument has the parameter's type (C5), and a name of type k stands for a component of type k.
 abbrev pub of_system : View → ℕ → ℕ → ℕ
 of_system v k n = if (component_at v.components n).system == k then n else length v.components
 
@@ -83,15 +84,19 @@ is_uninitialised s = false
 abbrev pub with_move : Doing → Move → Doing
 with_move d m = record { calls = d.calls; items = d.items; components = d.components; move = m }
 
--- what no accepted program does
-abbrev pub nothing : View → List Item → Doing
-nothing v items = record { calls = v.calls; items = items; components = v.components; move = stays }
+-- these items remain, and nothing else changes
+abbrev pub with_items : View → List Item → Doing
+with_items v items = record { calls = v.calls; items = items; components = v.components; move = stays }
+
+-- what no accepted program does: the item goes, and nothing else changes
+abbrev pub passed_over : View → List Item → Doing
+passed_over = with_items
 
 -- the event of an entry call of a monitor is the kernel's; a process has no entries
 abbrev pub entered_as : SystemKind → View → ℕ → RoutineMeaning → Option Name → List Item → Environment → Doing
 entered_as system_kind.Monitor v d r o items e = with_move (opened v d entry_routine r o items e) (enters d)
 entered_as system_kind.Class v d r o items e = opened v d entry_routine r o items e
-entered_as system_kind.Process v d r o items e = nothing v items
+entered_as system_kind.Process v d r o items e = passed_over v items
 
 -- the arguments first, and then whether the component is initialised
 abbrev pub entered : View → ℕ → RoutineMeaning → Option Name → Expressions → List Item → Outcome Doing
@@ -103,7 +108,7 @@ entered v d r o es items =
 
 -- the arguments of a routine of the own component are bound at once; else the place of the component comes first
 abbrev pub called_as : View → Option Meaning → Designator → Option RoutineMeaning → Option Name → Expressions → List Item → Outcome Doing
-called_as v m d None o es items = Ok (nothing v items)
+called_as v m d None o es items = Ok (passed_over v items)
 called_as v (Some (routine_meaning q)) d (Some r) o es items = bound v r.parameters es >>= λ e. Ok (opened v (this_component v) local_routine r o items e)
 called_as v m d (Some r) o es items = target_value v d >>= λ t. entered v (component_there v t.place) r o es items
 
@@ -140,7 +145,7 @@ initialised_in v d s items e =
 abbrev pub started_as : SystemKind → View → ℕ → SystemMeaning → List Item → Environment → Outcome Doing
 started_as system_kind.Class v d s items e = initialised_in v d s items e
 started_as system_kind.Monitor v d s items e = initialised_in v d s items e
-started_as system_kind.Process v d s items e = Ok (with_move (nothing v items) (starts d e))
+started_as system_kind.Process v d s items e = Ok (with_move (with_items v items) (starts d e))
 
 -- the arguments are bound first
 abbrev pub started_at : View → ℕ → SystemMeaning → Expressions → List Item → Outcome Doing

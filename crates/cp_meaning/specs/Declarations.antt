@@ -145,7 +145,7 @@ pub record Parameter : Type 0 where
   pub ty : Ty
   pub is_var : Bool
 
--- the parameters in order, and the scope behind them
+-- the parameters in order, and the scope after them
 pub record Heading : Type 0 where
   pub parameters : List Parameter
   pub scope : Scope

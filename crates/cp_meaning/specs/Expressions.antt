@@ -109,7 +109,7 @@ abbrev mutual
   members_value v no_expressions ns = Ok ns
   members_value v (more_expressions e es) ns = value v e >>= λ x. with_member_checked ns x >>= λ ms. members_value v es ms
 
-  -- the argument of a standard function
+  -- the argument of a standard function or of `display`, which have one each (C7)
   pub first_value : View → Expressions → Outcome Typed
   first_value v no_expressions = Ok (integer (pos 0))
   first_value v (more_expressions e es) = value v e
@@ -126,7 +126,10 @@ abbrev mutual
   chosen v (field i) t = Ok (with_field t i.name)
   chosen v (index e) t = value v e >>= λ x. with_index t x
 
--- ---- an expression that is a variable or a component, also in parentheses
+-- ---- an expression that is a variable or a component
+
+-- Also one in parentheses, as a component may be where it is an argument. Of accepted programs a queue (C5) and the argument of a `var` parameter (C6)
+-- never are.
 
 abbrev mutual
   pub variable_in : Expression → Option Designator

@@ -100,12 +100,14 @@ abbrev pub is_delayed_in : ℕ → Status → Bool
 is_delayed_in m (delayed n) = n == m
 is_delayed_in m status = false
 
--- continue: the process that waits in the queue is ready and inside; else the line is let in
+-- continue: the process that waits in the queue is ready and inside; else the line is let in. The test is a guard. An accepted program always passes it:
+-- a queue is a variable of one monitor (C11), no parameter (C15) and never assigned (C6), and `delay` and `continue` stand in that monitor (C12); so it
+-- has the number of a process exactly while that process is delayed in the monitor.
 abbrev pub continuing : State → ℕ → Option ℕ → State
 continuing s m None = let_in s.gates s m
 continuing s m (Some r) = if is_delayed_in m (process_at s.processes r).status then made_ready s r else let_in s.gates s m
 
--- the process whose component this is
+-- the number after this one, if there is one
 abbrev pub after : Option ℕ → Option ℕ
 after None = None
 after (Some q) = Some (suc q)
@@ -138,7 +140,8 @@ abbrev pub starting_as : Program → State → ℕ → Doing → ℕ → Status 
 starting_as p s pid d r unstarted c e = record { state = with_begun p (moved_to ready s pid d) r c e; event = start_event }
 starting_as p s pid d r status c e = record { state = s; event = fault_event init_twice }
 
--- start of a process: its parameters are bound and it is ready; the caller goes on
+-- Start of a process: its parameters are bound and it is ready; the caller goes on. The first clause is a guard for a component that is no process of the
+-- program. No accepted program meets it: what it starts is a component variable (C17), and each component of kind process has a process.
 abbrev pub starting : Program → State → ℕ → Doing → Option ℕ → ℕ → Environment → Stepped
 starting p s pid d None c e = record { state = moved_to ready s pid d; event = start_event }
 starting p s pid d (Some r) c e = starting_as p s pid d r (process_at (moved_to ready s pid d).processes r).status c e
@@ -150,13 +153,14 @@ displaying false s pid d x =
     let t = moved_to ready s pid d in
     record { state = record t { output = t.output ++ x ∷ [] }; event = display_event }
 
--- one case for each kernel call; a local step changes nothing beside what its item did
-abbrev pub settles : Program → State → ℕ → Doing → Move → Stepped
-settles p s pid d stays = record { state = moved_to ready s pid d; event = local_event }
-settles p s pid d (enters m) = record { state = entering (is_anybody_inside m s.processes) s pid m d; event = enter_event }
-settles p s pid d (leaves m) = record { state = let_in s.gates (moved_to ready s pid d) m; event = leave_event }
-settles p s pid d (delays m) = record { state = let_in s.gates (moved_to (delayed m) s pid d) m; event = delay_event }
-settles p s pid d (continues m o) = record { state = continuing (moved_to ready s pid d) m o; event = continue_event }
-settles p s pid d (starts c e) = starting p s pid d (process_of c (moved_to ready s pid d).processes) c e
-settles p s pid d (shows x) = displaying (length s.output == output_room) s pid d x
-settles p s pid d ends = record { state = moved_to ended s pid d; event = ended_event }
+-- One case for each kernel call; a local step changes nothing beside what its item did. A process that has ended keeps its own call open, which
+-- nothing reads.
+abbrev pub kernel_step : Program → State → ℕ → Doing → Move → Stepped
+kernel_step p s pid d stays = record { state = moved_to ready s pid d; event = local_event }
+kernel_step p s pid d (enters m) = record { state = entering (is_anybody_inside m s.processes) s pid m d; event = enter_event }
+kernel_step p s pid d (leaves m) = record { state = let_in s.gates (moved_to ready s pid d) m; event = leave_event }
+kernel_step p s pid d (delays m) = record { state = let_in s.gates (moved_to (delayed m) s pid d) m; event = delay_event }
+kernel_step p s pid d (continues m o) = record { state = continuing (moved_to ready s pid d) m o; event = continue_event }
+kernel_step p s pid d (starts c e) = starting p s pid d (process_of c (moved_to ready s pid d).processes) c e
+kernel_step p s pid d (shows x) = displaying (length s.output == output_room) s pid d x
+kernel_step p s pid d ends = record { state = moved_to ended s pid d; event = ended_event }

@@ -89,11 +89,11 @@ items_of s (block at ts) = statement_item (block at ts) ∷ []
 items_of s (repeat_until at ts e) = statement_item (repeat_until at ts e) ∷ []
 items_of s (cycle at ts) = statement_item (cycle at ts) ∷ []
 
--- the items of statements, one behind the other
+-- the items of statements, one after the other
 abbrev pub items_of_all : Scope → Statements → List Item
 items_of_all s no_statements = []
 items_of_all s (more_statements t ts) = items_of s t ++ items_of_all s ts
 
--- the test behind the statements of a `repeat`
+-- the test after the statements of a `repeat`
 abbrev pub until_items : Scope → Statements → Expression → List Item
 until_items s ts e = expression_calls s e ++ until ts e ∷ []

@@ -19,7 +19,10 @@ use Rattle.cp_meaning.specs.Operations.{Typed, same_integer, is_true, checked}
 use Rattle.cp_meaning.specs.Expressions.{value, target_value, first_value, variable_in, meaning_here}
 use Rattle.cp_meaning.specs.Lifting.{items_of, items_of_all, until_items}
 use Rattle.cp_meaning.specs.Move.{Move, stays, leaves, delays, continues, shows, ends, Doing}
-use Rattle.cp_meaning.specs.Calls.{called, started, nothing, with_move, with_status}
+use Rattle.cp_meaning.specs.Calls.{called, started, with_items, passed_over, with_move, with_status}
+
+-- `takes` has one case for each item, `does` one for each statement, and `invoked` one for each standard procedure. Most of them end in `becomes`: other
+-- items in place of the first one. A `for` and its successor end alike, in `goes_on_with`. What the kernel then does is the case of the move in `Kernel`.
 
 -- the scope of the statement that is done
 abbrev pub scope_here : View → Scope
@@ -27,7 +30,7 @@ scope_here v = (current v.calls).scope
 
 -- the items go on, and nothing else changes
 abbrev pub becomes : View → List Item → Outcome Doing
-becomes v items = Ok (nothing v items)
+becomes v items = Ok (with_items v items)
 
 -- the value in the range of the target; the check comes last
 abbrev pub assigned : View → Target → Value → Outcome View
@@ -74,7 +77,7 @@ queue_free (Some r) = Err queue_in_use
 abbrev pub delayed_in : View → ℕ → List Item → Place → Outcome Doing
 delayed_in v pid items q =
     queue_free (waiting_in (value_at v q)) >>= λ o.
-    Ok (with_move (nothing (stored v q (queue_value (Some pid))) items) (delays (this_component v)))
+    Ok (with_move (with_items (stored v q (queue_value (Some pid))) items) (delays (this_component v)))
 
 -- what follows the innermost call
 abbrev pub after_return : List Item → List Item
@@ -87,16 +90,18 @@ abbrev pub continued_from : View → CallKind → List Item → Place → Doing
 continued_from v entry_routine items q =
     let u = stored v q (queue_value None) in
     record { calls = callers u.calls; items = after_return items; components = u.components; move = continues (this_component v) (waiting_in (value_at v q)) }
-continued_from v kind items q = nothing v items
+continued_from v kind items q = passed_over v items
 
 -- `display`: the value and its base go to the output
 abbrev pub shown : View → List Item → Typed → Doing
-shown v items x = with_move (nothing v items) (shows (record { base = (range_of x.ty).base; number = number_of x.value }))
+shown v items x = with_move (with_items v items) (shows (record { base = (range_of x.ty).base; number = number_of x.value }))
 
+-- where the argument is a variable, as that of `delay` and `continue` always is (C5)
 abbrev pub in_place_of : View → Option Designator → (Place → Outcome Doing) → List Item → Outcome Doing
-in_place_of v None go items = becomes v items
+in_place_of v None go items = Ok (passed_over v items)
 in_place_of v (Some d) go items = target_value v d >>= λ t. go t.place
 
+-- the variable that is the first argument
 abbrev pub argument_of : Expressions → Option Designator
 argument_of no_expressions = None
 argument_of (more_expressions e es) = variable_in e
@@ -137,7 +142,7 @@ does v pid (for_do at i e d f s) items =
 -- `cycle S1; ..; Sn end`: becomes S1, .., Sn and itself
 does v pid (cycle at ss) items = becomes v (items_of_all (scope_here v) ss ++ items_of (scope_here v) (cycle at ss) ++ items)
 -- an `init` stands for its starts and is no item
-does v pid (init at ts) items = becomes v items
+does v pid (init at ts) items = Ok (passed_over v items)
 
 -- ---- the ends of calls and of initial statements
 
@@ -162,7 +167,7 @@ return_move cs c = if is_entry_kind c.kind then leaving_move (component_at cs c.
 
 -- the call is given up, and the kernel hears of it if it was an entry of a monitor
 abbrev pub returned : View → Option Name → List Item → Doing
-returned v o items = with_move (nothing (with_result v o) items) (return_move v.components (current v.calls))
+returned v o items = with_move (with_items (with_result v o) items) (return_move v.components (current v.calls))
 
 -- the component is initialised
 abbrev pub finished : View → ℕ → List Item → Doing
@@ -170,9 +175,9 @@ finished v m items = record { calls = callers v.calls; items = items; components
 
 -- ---- items
 
--- the first remaining item of process pid
+-- the first remaining item of process pid; one that has ended has none, and takes no step
 abbrev pub takes : View → ℕ → List Item → Outcome Doing
-takes v pid [] = becomes v []
+takes v pid [] = Ok (passed_over v [])
 takes v pid (statement_item s ∷ items) = does v pid s items
 -- call of a function, whose result goes to a temporary name
 takes v pid (function_call at d es ∷ items) = called v d es (Some (temporary at)) items
@@ -187,4 +192,4 @@ takes v pid (return o ∷ items) = Ok (returned v o items)
 -- init end: the component is initialised
 takes v pid (init_end m ∷ items) = Ok (finished v m items)
 -- end: the process has ended
-takes v pid (end ∷ items) = Ok (with_move (nothing v items) ends)
+takes v pid (end ∷ items) = Ok (with_move (with_items v items) ends)

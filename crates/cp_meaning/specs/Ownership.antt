@@ -1,8 +1,11 @@
 -- Who owns a component, and which variables a process holds (access rights: the book, chapter 8).
-use Rattle.std.specs.Prelude.{◌≡◌, ◌≢◌, ℕ, zero, suc, ◌<◌, ◌⊎◌, true, List, [], ◌∷◌, length, Some}
+use Rattle.std.specs.Prelude.{◌≡◌, ◌≢◌, ℕ, zero, suc, ◌<◌, ◌⊎◌, Bool, true, false, ◌||◌, List, [], ◌∷◌, length, Some}
+use Rattle.cp_tree.specs.Syntax.{Program}
 use Rattle.cp_tree.specs.declared.declaration.SystemKind.{SystemKind}
 use Rattle.cp_tree.specs.declared.declaration.SystemKind.TheVariants as system_kind
-use Rattle.cp_meaning.specs.Names.{Name}
+use Rattle.cp_meaning.specs.Names.{Name, same_name}
+use Rattle.cp_meaning.specs.Declarations.{Parameter}
+use Rattle.cp_meaning.specs.Systems.{system_of}
 use Rattle.cp_meaning.specs.Components.{around}
 use Rattle.cp_meaning.specs.State.{Holder, in_call, in_component, Place, refers, knows, uninitialised, initialising, unstarted, ready, Component, component_at, Call, Process, process_at, State, has_entry, initialises}
 use Rattle.cp_meaning.specs.Places.{content_of, component_with}
@@ -75,14 +78,33 @@ IsStarted before after n =
     (((component_at before.components n).status ≡ uninitialised) × ((component_at after.components n).status ≡ initialising)) ⊎
     ((r : ℕ) × ((process_at before.processes r).component ≡ n) × ((process_at before.processes r).status ≡ unstarted) × ((process_at after.processes r).status ≡ ready))
 
--- each changed permanent variable is held before the step by the process that steps, or is a parameter of a component that it starts
-abbrev pub ChangesHeld : State → State → ℕ → Type 0
-ChangesHeld before after pid =
-    (n : ℕ) (x : Name) → content_of x (component_at before.components n).environment ≢ content_of x (component_at after.components n).environment →
-    HoldsComponent before (process_at before.processes pid) n ⊎ IsStarted before after n
+-- the name is that of one of these parameters
+abbrev pub is_parameter : Name → List Parameter → Bool
+is_parameter x [] = false
+is_parameter x (q ∷ qs) = same_name x q.name || is_parameter x qs
+
+-- the name is that of a parameter of the system type of component n
+abbrev pub IsParameterOf : Program → List Component → ℕ → Name → Type 0
+IsParameterOf p cs n x = is_parameter x (system_of p (component_at cs n).system).parameters ≡ true
+
+-- a permanent variable or parameter of component n has another content afterwards than before
+abbrev pub IsChanged : State → State → ℕ → Name → Type 0
+IsChanged before after n x = content_of x (component_at before.components n).environment ≢ content_of x (component_at after.components n).environment
+
+-- each variable that a step changes is held before the step by the process that steps, or is a parameter of a component that the step starts
+abbrev pub ChangesHeld : Program → State → State → ℕ → Type 0
+ChangesHeld p before after pid =
+    (n : ℕ) (x : Name) → IsChanged before after n x →
+    HoldsComponent before (process_at before.processes pid) n ⊎ (IsStarted before after n × IsParameterOf p before.components n x)
 
 -- the open calls of another process stay as they are, unless it begins
 abbrev pub OthersKept : State → State → ℕ → Type 0
 OthersKept before after pid =
     (q : ℕ) → q < length before.processes → q ≢ pid →
     ((process_at after.processes q).calls ≡ (process_at before.processes q).calls) ⊎ (((process_at before.processes q).status ≡ unstarted) × ((process_at after.processes q).status ≡ ready))
+
+-- no variable is changed, neither a permanent one nor one of an open call
+abbrev pub VariablesKept : State → State → Type 0
+VariablesKept before after =
+    ((n : ℕ) (x : Name) → IsChanged before after n x → ⊥) ×
+    ((q : ℕ) → q < length before.processes → (process_at after.processes q).calls ≡ (process_at before.processes q).calls)

@@ -1,20 +1,22 @@
--- In every step each changed variable is one that the process holds: the three clauses.
+-- In every step each changed variable is one that the process holds.
 use Rattle.std.specs.Prelude.{◌≡◌, ℕ, ◌<◌, length, Some, None, true}
 use Rattle.cp_tree.specs.Syntax.{Program}
 use Rattle.cp_meaning.specs.Values.{is_member}
 use Rattle.cp_meaning.specs.State.{ready, process_at, Gates, State}
 use Rattle.cp_meaning.specs.Kernel.{line_of}
 use Rattle.cp_meaning.specs.Steps.{opening, step_of, admitted, IsReached}
-use Rattle.cp_meaning.specs.Ownership.{IsLawful, ChangesHeld, OthersKept}
+use Rattle.cp_meaning.specs.Ownership.{IsLawful, ChangesHeld, OthersKept, VariablesKept}
 use Rattle.cp_meaning.specs.WellFormed.{IsWellFormed}
 
--- the opening state is lawful; each step and admission leads from a lawful state to a lawful one; a step changes only what is held
+-- The opening state is lawful, and each step and admission leads from a lawful state to a lawful one.
+-- A step changes only what is held, but for the parameters that a start binds. An admission changes no variable.
 pub record Ownership (p : Program) (g : Gates) : Type 0 where
   pub opening_lawful : IsLawful (opening p g)
   pub steps_lawful : (s : State) (pid : ℕ) → IsReached p g s → IsLawful s → s.pending ≡ None → pid < length s.processes → (process_at s.processes pid).status ≡ ready → IsLawful (step_of p s pid).state
   pub admissions_lawful : (s : State) (m q : ℕ) → IsReached p g s → IsLawful s → s.pending ≡ Some m → is_member q (line_of s m) ≡ true → IsLawful (admitted s q)
-  pub changes_held : (s : State) (pid : ℕ) → IsReached p g s → IsLawful s → s.pending ≡ None → pid < length s.processes → (process_at s.processes pid).status ≡ ready → ChangesHeld s (step_of p s pid).state pid
+  pub changes_held : (s : State) (pid : ℕ) → IsReached p g s → IsLawful s → s.pending ≡ None → pid < length s.processes → (process_at s.processes pid).status ≡ ready → ChangesHeld p s (step_of p s pid).state pid
   pub others_kept : (s : State) (pid : ℕ) → IsReached p g s → IsLawful s → s.pending ≡ None → pid < length s.processes → (process_at s.processes pid).status ≡ ready → OthersKept s (step_of p s pid).state pid
+  pub admissions_keep : (s : State) (m q : ℕ) → IsReached p g s → IsLawful s → s.pending ≡ Some m → is_member q (line_of s m) ≡ true → VariablesKept s (admitted s q)
 
 -- for every well-formed program, under both gates
 abbrev pub OwnershipLaw : Type 0

@@ -32,7 +32,7 @@ abbrev pub with_content : Name → Content → Environment → Environment
 with_content x c [] = (x, c) ∷ []
 with_content x c (b ∷ bs) = if same_name x b.0 then (b.0, c) ∷ bs else b ∷ with_content x c bs
 
--- the open call that has so many open calls below it
+-- the open call with this number of open calls below it
 abbrev pub call_above : List Call → ℕ → Call
 call_above [] below = no_call
 call_above (c ∷ cs) below = if length cs == below then c else call_above cs below
@@ -130,7 +130,9 @@ abbrev pub component_known : View → Place → Option Content → ℕ
 component_known v q (Some (knows n)) = n
 component_known v q o = component_with (step_down (around_of v q.holder) q.name (element_chosen q.choices)) v.components
 
--- A component is named by a variable or parameter of the component itself. Another place has none, and the number past the last component.
+-- A component is named by a variable or parameter of the component whose statement names it. The tests are guards: another place has no component, but the
+-- number past the last one. An accepted program always passes them, since no routine has a component as a parameter, a variable or a result (C13),
+-- and what is called or started is a component (C5, C17).
 abbrev pub component_by : View → Place → Holder → ℕ
 component_by v q (in_call below) = length v.components
 component_by v q (in_component n) = if n == this_component v then component_known v q (content_of q.name (component_at v.components n).environment) else length v.components

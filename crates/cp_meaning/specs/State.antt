@@ -81,7 +81,7 @@ pub data Item : Type 0 where
   init_end : ℕ → Item
   end : Item
 
--- at the gate of a monitor; delayed in a queue of a monitor
+-- At the gate of a monitor; delayed in a queue of a monitor. In which queue is said by the queue alone, which has the number of the process.
 pub data Status : Type 0 where
   unstarted : Status
   ready : Status

@@ -1,20 +1,29 @@
 -- Steps, admissions, and the states that are reached (this profile's own).
-use Rattle.std.specs.Prelude.{◌≡◌, ℕ, suc, ◌<◌, ◌==◌, true, if◌then◌else◌, List, [], ◌∷◌, map, length, Option, Some, None, Ok, Err, slice_index}
+use Rattle.std.specs.Prelude.{◌≡◌, ℕ, suc, ◌<◌, ◌==◌, true, if◌then◌else◌, List, [], ◌∷◌, ◌++◌, map, length, Option, Some, None, Ok, Err, slice_index}
 use Rattle.cp_tree.specs.declared.declaration.SystemKind.{SystemKind}
 use Rattle.cp_tree.specs.declared.declaration.SystemKind.TheVariants as system_kind
 use Rattle.cp_tree.specs.Syntax.{Expression, alone, related, Designator, designator, Statement, empty, assign, invoke, block, if_then, if_else, case_of, while_do, repeat_until, for_do, cycle, init, Program, Tree}
 use Rattle.cp_meaning.specs.Outcome.{Outcome}
 use Rattle.cp_meaning.specs.Values.{is_member}
-use Rattle.cp_meaning.specs.Systems.{system_of}
+use Rattle.cp_meaning.specs.Declarations.{Variable, Parameter}
+use Rattle.cp_meaning.specs.Systems.{SystemMeaning, system_of}
 use Rattle.cp_meaning.specs.Components.{Listed, components_of}
-use Rattle.cp_meaning.specs.State.{uninitialised, Component, Item, statement_item, function_call, start_item, until, successor, return, init_end, end, unstarted, ready, Process, process_at, Gates, State}
+use Rattle.cp_meaning.specs.State.{Environment, uninitialised, Component, Item, statement_item, function_call, start_item, until, successor, return, init_end, end, unstarted, ready, Process, process_at, Gates, State}
 use Rattle.cp_meaning.specs.Places.{View}
 use Rattle.cp_meaning.specs.Calls.{least_of}
 use Rattle.cp_meaning.specs.Move.{Doing}
 use Rattle.cp_meaning.specs.LocalRules.{takes}
-use Rattle.cp_meaning.specs.Kernel.{fault_event, Stepped, with_line_of, with_pending, made_ready, line_of, begun, settles}
+use Rattle.cp_meaning.specs.Kernel.{fault_event, Stepped, with_line_of, with_pending, made_ready, line_of, begun, kernel_step}
 
 -- ---- the opening state
+
+-- parameters as variables
+abbrev pub parameter_variables : List Parameter → List Variable
+parameter_variables qs = map (λ q. (let v : Variable = record { name = q.name; ty = q.ty } in v)) qs
+
+-- Least values, for the parameters that are values too. Nothing of a component runs before its start has bound them, so no program sees these.
+abbrev pub first_environment : SystemMeaning → Environment
+first_environment m = least_of (parameter_variables m.parameters) ++ least_of m.variables
 
 -- uninitialised, with least values and an empty line
 abbrev pub first_component : Program → Listed → Component
@@ -24,7 +33,7 @@ first_component p l =
       system = l.system;
       kind = (system_of p l.system).kind;
       status = uninitialised;
-      environment = least_of (system_of p l.system).variables;
+      environment = first_environment (system_of p l.system);
       line = [];
     }
 
@@ -60,9 +69,9 @@ opening p g = record { processes = own_begun p (first_components p) (processes_f
 abbrev pub view_of : Program → State → ℕ → View
 view_of p s pid = record { program = p; calls = (process_at s.processes pid).calls; components = s.components }
 
--- after a run error the state is as it was
+-- what the item did, and then what the kernel does; after a run error the state is as it was
 abbrev pub settled : Program → State → ℕ → Outcome Doing → Stepped
-settled p s pid (Ok d) = settles p s pid d d.move
+settled p s pid (Ok d) = kernel_step p s pid d d.move
 settled p s pid (Err e) = record { state = s; event = fault_event e }
 
 -- one step of a process that is ready, where nothing is pending
@@ -131,10 +140,3 @@ pub data IsReached (p : Program) (g : Gates) : State → Type 0 where
   at_first : IsReached p g (opening p g)
   by_step : (s : State) (pid : ℕ) → IsReached p g s → s.pending ≡ None → pid < length s.processes → (process_at s.processes pid).status ≡ ready → IsReached p g (step_of p s pid).state
   by_admission : (s : State) (m q : ℕ) → IsReached p g s → s.pending ≡ Some m → is_member q (line_of s m) ≡ true → IsReached p g (admitted s q)
-
--- ---- several steps
-
--- the state after these processes took a step each, in order
-abbrev pub follow : Program → State → List ℕ → State
-follow p s [] = s
-follow p s (pid ∷ word) = follow p (step_of p s pid).state word

@@ -3,7 +3,7 @@ use Rattle.std.specs.Prelude.{ℕ, zero, suc, ℤ, pos, negsuc, int_lt, Bool, fa
 use Rattle.cp_meaning.specs.Names.{Name, same_name}
 use Rattle.cp_meaning.specs.Types.{Range, Ty, ordinal, queue_type, set_over, array_over, record_with, component_of, FieldTypes, no_field_types, more_field_types, length_of_range}
 
--- A queue has the process that waits in it, if one does. A set has its members, each once and in rising order.
+-- A queue has the process that waits in it, if one does. A set has its members, each once and in rising order: it is empty or comes from `set_where`.
 mutual
   -- a number, an array, a record, a set of numbers 0 to 127, or a queue with at most one process
   pub data Value : Type 0 where
@@ -28,7 +28,7 @@ abbrev pub copies : ℕ → Value → Values
 copies zero v = no_values
 copies (suc n) v = more_values v (copies n v)
 
--- the lower bound; that of all integers counts as 0
+-- The lower bound; of all integers 0. No constant is below -32767, so no subrange of integers begins as low as they do.
 abbrev pub least_number : Range → ℤ
 least_number r = if int_lt r.low (negsuc 32766) then pos 0 else r.low
 
@@ -47,7 +47,7 @@ abbrev mutual
 
 -- ---- parts
 
--- a field, or the element so many places after the first one
+-- a field, or an element by the number of elements before it
 pub data Choice : Type 0 where
   the_field : Name → Choice
   the_element : ℕ → Choice

@@ -1,24 +1,33 @@
 -- What comes before the next step, by how many processes are ready.
-use Rattle.std.proofs.Common.{◌≡◌, ℕ, zero, suc, ◌<◌, ◌≤◌, Bool, true, false, if◌then◌else◌, List, [], ◌∷◌, ◌++◌, length, get_or, refl, subst, arith}
+use Rattle.std.proofs.Common.{◌≡◌, ℕ, zero, suc, Bool, true, false, if◌then◌else◌, List, [], ◌∷◌, ◌++◌, ap, sym, ◌∙◌, refl, subst}
+use Rattle.cp_machine.specs.declared.state.Readiness.{Readiness}
+use Rattle.cp_machine.specs.declared.state.Readiness.TheVariants.{Nobody, One, Several}
+use Rattle.cp_machine.specs.System.{readiness_of}
 use Rattle.cp_run.specs.declared.outcome.Turn.TheVariants.{Over, Due, Goes}
 use Rattle.cp_run.specs.declared.outcome.OutcomeKind.TheVariants.{AllWaiting, Finished}
 use Rattle.cp_run.specs.System.{System}
 use Rattle.cp_run.specs.Run.{those_below, turn_among}
 use Rattle.cp_run.specs.Table.{IsAmong, Here, There}
 
-pub among_nobody : {S : Type 0} (sys : System S) (s : S) (kernel : Bool) (p : ℕ) (ready : List ℕ) → length ready < 1 → turn_among sys s kernel p ready ≡ (if sys.waits s then Over AllWaiting else Over Finished)
-among_nobody sys s kernel p [] none = refl
-among_nobody sys s kernel p (q ∷ qs) none = absurd (omega (arith, none))
+pub among_nobody : {S : Type 0} (sys : System S) (s : S) (kernel : Bool) (p : ℕ) (ready : List ℕ) → readiness_of ready ≡ Nobody → turn_among sys s kernel p ready ≡ (if sys.waits s then Over AllWaiting else Over Finished)
+among_nobody sys s kernel p [] e = refl
+among_nobody sys s kernel p (q ∷ []) e = absurd (cc)
+among_nobody sys s kernel p (q ∷ r ∷ qs) e = absurd (cc)
 
-pub among_one : {S : Type 0} (sys : System S) (s : S) (kernel : Bool) (p : ℕ) (ready : List ℕ) → 1 ≤ length ready → length ready < 2 → turn_among sys s kernel p ready ≡ Goes (get_or ready 0 0)
-among_one sys s kernel p [] some few = absurd (omega (arith, some))
-among_one sys s kernel p (q ∷ []) some few = refl
-among_one sys s kernel p (q ∷ r ∷ qs) some few = absurd (omega (arith, few))
+abbrev the_one : Readiness → ℕ
+the_one Nobody = 0
+the_one (One p) = p
+the_one Several = 0
 
-pub among_several : {S : Type 0} (sys : System S) (s : S) (kernel : Bool) (p : ℕ) (ready : List ℕ) → 2 ≤ length ready → turn_among sys s kernel p ready ≡ (if kernel then Due else Goes p)
-among_several sys s kernel p [] some = absurd (omega (arith, some))
-among_several sys s kernel p (q ∷ []) some = absurd (omega (arith, some))
-among_several sys s kernel p (q ∷ r ∷ qs) some = refl
+pub among_one : {S : Type 0} (sys : System S) (s : S) (kernel : Bool) (p : ℕ) (ready : List ℕ) (q : ℕ) → readiness_of ready ≡ One q → turn_among sys s kernel p ready ≡ Goes q
+among_one sys s kernel p [] q e = absurd (cc)
+among_one sys s kernel p (r ∷ []) q e = ap (λ x. Goes (the_one x)) e
+among_one sys s kernel p (r ∷ t ∷ qs) q e = absurd (cc)
+
+pub among_several : {S : Type 0} (sys : System S) (s : S) (kernel : Bool) (p : ℕ) (ready : List ℕ) → readiness_of ready ≡ Several → turn_among sys s kernel p ready ≡ (if kernel then Due else Goes p)
+among_several sys s kernel p [] e = absurd (cc)
+among_several sys s kernel p (q ∷ []) e = absurd (cc)
+among_several sys s kernel p (q ∷ r ∷ qs) e = refl
 
 among_append : {A : Type 0} (P : A → Type 0) (x : A) (xs ys : List A) → (IsAmong x xs → P x) → (IsAmong x ys → P x) → IsAmong x (xs ++ ys) → P x
 among_append P x [] ys h k i = k i
@@ -35,9 +44,10 @@ pub those_may : (n : ℕ) (f : ℕ → Bool) (q : ℕ) → IsAmong q (those_belo
 those_may zero f q i = elim i [ ]
 those_may (suc n) f q i = among_append (λ x. f x ≡ true) q (those_below n f) (if f n then n ∷ [] else []) (those_may n f q) (among_if f n q (f n) refl) i
 
-first_among : (ready : List ℕ) → 1 ≤ length ready → IsAmong (get_or ready 0 0) ready
-first_among [] some = absurd (omega (arith, some))
-first_among (q ∷ qs) some = Here qs
-
-pub first_may : (n : ℕ) (f : ℕ → Bool) (ready : List ℕ) → ready ≡ those_below n f → 1 ≤ length ready → f (get_or ready 0 0) ≡ true
-first_may n f ready e some = those_may n f (get_or ready 0 0) (subst (IsAmong (get_or ready 0 0)) e (first_among ready some))
+pub one_may : (n : ℕ) (f : ℕ → Bool) (q : ℕ) → readiness_of (those_below n f) ≡ One q → f q ≡ true
+one_may n f q e = by (those_below n f) refl e
+  where
+    by : (ready : List ℕ) → those_below n f ≡ ready → readiness_of ready ≡ One q → f q ≡ true
+    by [] is h = absurd (cc)
+    by (p ∷ []) is h = ap f (sym (ap the_one h)) ∙ those_may n f p (subst (IsAmong p) (sym is) (Here []))
+    by (p ∷ r ∷ ps) is h = absurd (cc)

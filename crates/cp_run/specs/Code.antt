@@ -23,13 +23,13 @@ answer_of (end.Ended outcome used) = Ended outcome used
 answer_of (end.Wants ready) = Wants ready.items
 answer_of (end.NotReady place) = NotReady place
 
--- an answer, so many numbers of the word further
+-- an answer, this many numbers of the word further
 abbrev pub further : ℕ → Answer → Answer
 further n (Ended outcome used) = Ended outcome (n + used)
 further n (Wants ready) = Wants ready
 further n (NotReady place) = NotReady (n + place)
 
--- whether a run is over where its stretch halted, with so many choices left
+-- whether a run is over where its stretch halted, with this many choices left
 abbrev pub is_over : ℕ → Halt → Bool
 is_over choices Choice = choices == 0
 is_over choices (HasEnded kind) = true

@@ -1,4 +1,5 @@
 pub mod System
+pub mod Outputs
 pub mod Run
 pub mod Slots
 pub mod Code

@@ -9,7 +9,7 @@ use Rattle.cp_run.specs.declared.outcome.Turn.{Turn}
 use Rattle.cp_run.specs.declared.outcome.Turn.TheVariants.{Over, Due, Goes}
 use Rattle.cp_run.specs.System.{System}
 
--- the lists of the numbers below n, in rising order, one behind the other
+-- the lists of the numbers below n, in rising order, one after the other
 abbrev pub joined_below : {A : Type 0} → ℕ → (ℕ → List A) → List A
 joined_below zero f = []
 joined_below (suc n) f = joined_below n f ++ f n
@@ -50,7 +50,7 @@ node_at s on (Over kind) = Halted kind s
 node_at s on Due = Choosing s
 node_at s on (Goes q) = on q
 
--- process p goes on, with so many steps left, to the next due choice or other end
+-- process p goes on, with this many steps left, to the next due choice or other end
 unfoldable pub stretch : {S : Type 0} → System S → ℕ → S → ℕ → Node S
 stretch sys zero s p = Halted StepLimit s
 stretch sys (suc left) s p =
@@ -81,7 +81,7 @@ later (Ended outcome used) = Ended outcome (suc used)
 later (Wants ready) = Wants ready
 later (NotReady place) = NotReady (suc place)
 
--- the run from where it stands, with so many choices left
+-- the run from where it stands, with this many choices left
 unfoldable pub run_from : {S : Type 0} → System S → ℕ → ℕ → List ℕ → Node S → Answer
 run_from sys steps choices word (Halted kind s) = Ended (record { kind = kind; output = sys.output s }) 0
 run_from sys steps zero word (Choosing s) = Ended (record { kind = ChoiceLimit; output = sys.output s }) 0

@@ -20,7 +20,7 @@ lines_of word (Ended outcome used) = if used == length word then record { word =
 lines_of word (Wants ready) = []
 lines_of word (NotReady place) = []
 
--- the lists of the elements, one behind the other
+-- the lists of the elements, one after the other
 abbrev pub each : {A B : Type 0} → (A → List B) → List A → List B
 each f [] = []
 each f (x ∷ xs) = f x ++ each f xs

@@ -41,7 +41,7 @@ unfoldable pub chosen_lines : {S : Type 0} → System S → ℕ → S → ℕ �
 chosen_lines sys steps s p =
     if sys.is_pending s then (let t = sys.admit s p in record { process = p; event = Admit; holders = holders_in sys t } ∷ lines_on (stretch_lines sys steps t) (settled_turn sys t true p)) else stretch_lines sys steps s p
 
--- the lines from where a run stands, with so many choices left
+-- the lines from where a run stands, with this many choices left
 unfoldable pub trace_from : {S : Type 0} → System S → ℕ → ℕ → List ℕ → Node S → List TraceLine
 trace_from sys steps choices word (Halted kind s) = []
 trace_from sys steps zero word (Choosing s) = []

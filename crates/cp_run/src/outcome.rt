@@ -4,6 +4,7 @@ ghost use Rattle.std.specs.Prelude.{◌≡◌};
 
 use arrayvec::ArrayVec;
 use cp_machine::{ErrorName, Shown};
+use std::alloc::{AllocError, Global};
 use std::marker::Model;
 
 /// The kind of a run's end.
@@ -41,34 +42,69 @@ pub enum Halt {
     Ended(OutcomeKind),
 }
 
+// How many values an output holds without memory of its own.
+const FEW: usize = 6;
+
+// Displayed values: few of them in place, or any number in memory.
+#[derive(Debug, Drop)]
+enum Values {
+    Few(ArrayVec<Shown, FEW>),
+    Many(Vec<Shown>),
+}
+
 /// The values that a run displayed, in order.
 #[derive(Debug, Drop)]
 pub struct Output {
-    values: Vec<Shown>,
+    values: Values,
 }
 
 impl Model for Output {
     ghost use Rattle.std.specs.Prelude.{List};
     ghost use Rattle.cp_machine.specs.declared.shown.Shown.{Shown};
+    ghost use Rattle.cp_run.specs.Outputs.{items_of};
 
     ghost Value = { List Shown };
 
-    ghost view = { λ o. o.values.items };
+    ghost view = { λ o. items_of o.values };
 }
 
 impl Output {
+    ghost use Rattle.std.specs.Prelude.{IfOk};
+
     /// These values.
     pub fn new(values: Vec<Shown>) -> Output
         ensures { result ≡ values.items }
     {
-        Output { values }
+        Output {
+            values: Values::Many(values),
+        }
+    }
+
+    /// A copy of these values.
+    pub fn of(alloc: Global, values: &[Shown]) -> Result<Output, AllocError>
+        ensures { IfOk result (λ o. o ≡ values.now) }
+    {
+        if values.len() > FEW {
+            let many = Vec::from_slice(alloc, values)?;
+            return Ok(Output {
+                values: Values::Many(many),
+            });
+        }
+        let mut few = ArrayVec::new();
+        let _ = few.try_extend_from_slice(values);
+        Ok(Output {
+            values: Values::Few(few),
+        })
     }
 
     /// The values as a slice.
     pub fn as_slice(&self) -> &[Shown]
         ensures { result.now ≡ self.now }
     {
-        self.values.as_slice()
+        match &self.values {
+            Values::Few(few) => few.as_slice(),
+            Values::Many(many) => many.as_slice(),
+        }
     }
 }
 
@@ -82,7 +118,7 @@ pub struct Outcome {
 /// How a run stands after its word.
 #[derive(Debug, Drop)]
 pub enum RunEnd {
-    /// It is over, and used so many numbers of the word.
+    /// It is over, and used this many numbers of the word.
     Ended { outcome: Outcome, used: usize },
     /// A choice is due, and the word is used up: the numbers that it may take, in rising order.
     Wants { ready: ArrayVec<u8, 16> },

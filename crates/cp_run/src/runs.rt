@@ -19,11 +19,8 @@ use std::sync::ledger::{Blank, Ledger};
 pub fn outcome_at(alloc: Global, kind: OutcomeKind, state: &State) -> Result<Outcome, AllocError>
     ensures { IfOk result (λ o. o ≡ record { kind = kind; output = output_of (machine_of state.now) }) }
 {
-    let values = Vec::from_slice(alloc, state.output())?;
-    Ok(Outcome {
-        kind,
-        output: Output::new(values),
-    })
+    let output = Output::of(alloc, state.output())?;
+    Ok(Outcome { kind, output })
 }
 
 /// Runs a word from the opening state. `ticks` counts the steps that succeed.
@@ -34,7 +31,7 @@ pub fn run<L: Ledger>(
     word: &[u8],
     ticks: &mut Ticks<L>,
 ) -> Result<RunEnd, AllocError>
-    requires { length word.now ≤ 20 }
+    requires { length word.now ≤ 100 }
     ensures answer { IfOk result (λ end. answer_of end ≡ run (slots program.now limits.gates) limits.choices limits.steps word.now) }
     ensures ticks { ticks.new ≤ ticks.old + (limits.choices + 1) * limits.steps }
 {

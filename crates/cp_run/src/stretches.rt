@@ -9,7 +9,7 @@ ghost use Rattle.cp_run.specs.Code.{node_of, IfGoes};
 use crate::limits::Limits;
 use crate::outcome::{Halt, OutcomeKind, Turn};
 use crate::turn::turn_at;
-use cp_machine::{Event, State, Ticks, step};
+use cp_machine::{Event, State, Ticks, local_step, step};
 use cp_slots::Resolved;
 use std::sync::ledger::Ledger;
 
@@ -44,6 +44,32 @@ fn turn_after_step<S: Ledger>(
     }
 }
 
+// The same. A process that is under way is tried for a local step first: the next step is often one, and no rule comes after it.
+#[inline(always)]
+fn next_turn<S: Ledger>(
+    program: &Resolved,
+    limits: Limits,
+    state: &mut State,
+    pid: u8,
+    is_under_way: bool,
+    steps: &mut Ticks<S>,
+) -> Turn
+    requires own { IsStateOf program.now state.old }
+    requires ready { is_ready (machine_of state.old) pid ≡ true }
+    requires free { is_pending (machine_of state.old) ≡ false }
+    ensures state { machine_of state.new ≡ (slots program.now limits.gates).step (machine_of state.old) pid }
+    ensures turn { result ≡ turn_after (slots program.now limits.gates) (machine_of state.new) pid ((slots program.now limits.gates).event (machine_of state.old) pid) }
+    ensures own { IsStateOf program.now state.new }
+    ensures ready { IfGoes result (λ q. is_ready (machine_of state.new) q ≡ true) }
+    ensures free { IfGoes result (λ q. is_pending (machine_of state.new) ≡ false) }
+    ensures steps { steps.new ≤ steps.old + 1 }
+{
+    if is_under_way && local_step(program, state, pid, steps) {
+        return Turn::Goes(pid);
+    }
+    turn_after_step(program, limits, state, pid, steps)
+}
+
 /// Goes on with `pid` until a choice of either kind is due, or the run ends for a cause other than the number of choices.
 /// `steps` counts the steps that succeed, `calls` this call.
 pub fn stretch<S: Ledger, C: Ledger>(
@@ -64,12 +90,14 @@ pub fn stretch<S: Ledger, C: Ledger>(
 {
     calls.tick();
     let mut going = pid;
+    let mut is_under_way = false;
     for _ in 0..limits.steps {
-        match turn_after_step(program, limits, state, going, steps) {
+        match next_turn(program, limits, state, going, is_under_way, steps) {
             Turn::Over(kind) => return Halt::Ended(kind),
             Turn::Due => return Halt::Choice,
             Turn::Goes(next) => going = next,
         }
+        is_under_way = true;
     }
     Halt::Ended(OutcomeKind::StepLimit)
 }

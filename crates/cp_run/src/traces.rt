@@ -187,7 +187,7 @@ fn trace_opening<S: Ledger>(
     }
 }
 
-/// Whether a run is over where its stretch halted, after so many choices.
+/// Whether a run is over where its stretch halted, after this many choices.
 pub fn is_over(limits: Limits, halt: Halt, used: usize) -> bool
     requires { used ≤ limits.choices }
     ensures { result ≡ is_over (limits.choices - used) halt }
@@ -207,7 +207,7 @@ pub fn trace<L: Ledger>(
     word: &[u8],
     ticks: &mut Ticks<L>,
 ) -> Result<(Vec<TraceLine>, RunEnd), AllocError>
-    requires { length word.now ≤ 20 }
+    requires { length word.now ≤ 100 }
     ensures lines { IfOk result (λ t. t.0.items ≡ trace (slots program.now limits.gates) limits.choices limits.steps word.now) }
     ensures answer { IfOk result (λ t. answer_of t.1 ≡ run (slots program.now limits.gates) limits.choices limits.steps word.now) }
     ensures few { IfOk result (λ t. length t.0.items ≤ (limits.choices + 1) * limits.steps + limits.choices) }

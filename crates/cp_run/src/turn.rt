@@ -8,7 +8,7 @@ ghost use Rattle.cp_run.specs.Code.{IfGoes};
 
 use crate::limits::Limits;
 use crate::outcome::{OutcomeKind, Turn};
-use cp_machine::{Event, State};
+use cp_machine::{Event, Readiness, State};
 use cp_slots::Resolved;
 
 /// Nobody ready, choice of process, going on: what comes before the next step, where no gate choice is due. The last step was one of
@@ -29,17 +29,16 @@ pub fn settled_turn(
     if !kernel {
         return Turn::Goes(process);
     }
-    let ready = state.ready();
-    match ready.as_slice() {
-        [] => {
+    match state.readiness() {
+        Readiness::Nobody => {
             if state.waits() {
                 Turn::Over(OutcomeKind::AllWaiting)
             } else {
                 Turn::Over(OutcomeKind::Finished)
             }
         }
-        [one] => Turn::Goes(*one),
-        [_, _, ..] => Turn::Due,
+        Readiness::One(one) => Turn::Goes(one),
+        Readiness::Several => Turn::Due,
     }
 }
 

@@ -1,2 +1,10 @@
 pub mod Sharing
 pub mod TypedTables
+pub mod NamesSeen
+pub mod Settling
+pub mod Laid
+pub mod LaidLists
+pub mod LaidParts
+pub mod Least
+pub mod Listed
+pub mod Systems

@@ -33,7 +33,7 @@ abbrev pub ArmsFit : Tables → (routine need : ℕ) → List Arm → Type 0
 ArmsFit t routine need arms = (k : ℕ) (d : Arm) → k < length arms → InnerFits t routine need (slice_index_or arms k d).body
 
 -- A call, or a start of whatever kind of component: the callee's statements stand above its end, which stands above the items after the call;
--- and its frame stands behind that of the caller.
+-- and its frame follows that of the caller.
 pub record CallFits (t : Tables) (caller need callee : ℕ) (arguments : List Argument) : Type 0 where
   pub routine : callee < length t.routines
   pub deep : 2 ≤ need

@@ -1,4 +1,4 @@
--- When what an item reads and writes is inside what it names: the permanent cells of its component, its frame, or the cells behind a `var` parameter.
+-- When what an item reads and writes is inside what it names: the permanent cells of its component, its frame, or the cells of a `var` parameter.
 use Rattle.std.specs.Prelude.{ℕ, ◌-◌, ◌+◌, ◌*◌, nat_le, nat_lt, ◌==◌, Bool, true, false, ◌&&◌, if◌then◌else◌, List, [], ◌∷◌, length, map, Option, Some, None, ◌-ℤ◌, slice_index_or, unsigned_abs}
 use Rattle.cp_slots.specs.declared.item.Action.{Action}
 use Rattle.cp_slots.specs.declared.item.Action.TheVariants.{Empty, Assign, AssignSet, Copy, Block, If, Case, While, Until, For, Cycle, Call, Start, Delay, Continue, Display}
@@ -16,7 +16,7 @@ use Rattle.cp_slots.specs.declared.place.SetExpression as code_set
 use Rattle.cp_slots.specs.declared.place.Expression.TheOpen.{Expression-F, SetExpression-F, Index-F, Place-F}
 use Rattle.cp_slots.specs.Tables.{Tables, RoutineView, routine_at}
 
--- what is left of so many cells behind the first ones, if there are that many
+-- what is left of this many cells after the first ones, if there are that many
 abbrev pub behind : (first cells : ℕ) → Option ℕ
 behind first cells = if nat_le first cells then Some (cells - first) else None
 
@@ -32,7 +32,7 @@ ToInside = RoutineView → Bool
 abbrev pub ToRoom : Type 0
 ToRoom = RoutineView → Option ℕ
 
--- an index: how many cells there are from the element on, where there are so many from the array on
+-- an index: how many cells there are from the element on, where there are this many from the array on
 abbrev pub ToRoomBehind : Type 0
 ToRoomBehind = RoutineView → ℕ → Option ℕ
 
@@ -53,7 +53,7 @@ abbrev pub room_through : List ToRoomBehind → RoutineView → ℕ → Option �
 room_through [] r left = Some left
 room_through (i ∷ is) r left = then_some (i r left) (λ inner. room_through is r inner)
 
--- there are so many cells
+-- there are this many cells
 abbrev pub has : ℕ → Option ℕ → Bool
 has cells None = false
 has cells (Some left) = nat_le cells left
@@ -107,7 +107,7 @@ indices_room r left is = room_through (map index_room is) r left
 
 -- ---- statements
 
--- so many cells from a slot on are inside an extent
+-- this many cells from a slot on are inside an extent
 abbrev pub is_within : (slot cells extent : ℕ) → Bool
 is_within slot cells extent = has cells (behind slot extent)
 
@@ -128,7 +128,7 @@ abbrev pub arguments_inside : (caller callee : RoutineView) → (extent : ℕ) �
 arguments_inside r callee extent [] = true
 arguments_inside r callee extent (x ∷ xs) = argument_inside r callee extent x.slot x.value && arguments_inside r callee extent xs
 
--- the arguments name a place for each of so many `var` parameters from a number on, in their order
+-- the arguments name a place for each of this many `var` parameters from a number on, in their order
 abbrev pub follows : ArgumentValue → (count slot next : ℕ) → Option ℕ
 follows (value.Reference place) count slot next = if nat_lt next count && slot == next then Some (next + 1) else None
 follows _ count slot next = Some next

@@ -19,7 +19,7 @@ pub record RoutineView : Type 0 where
   pub result : ℕ
   pub room : ℕ
   pub reference_room : ℕ
-  -- how many permanent cells its component has at least, and how many cells are behind each `var` parameter
+  -- how many permanent cells its component has at least, and how many cells each `var` parameter has
   pub own : ℕ
   pub extents : List ℕ
   -- the system type of its component

@@ -12,7 +12,7 @@ use crate::tables::Routine;
 /// The cells of a set.
 pub const SET_CELLS: usize = 8;
 
-// What is left of so many cells behind the first ones, if there are that many.
+// What is left of this many cells after the first ones, if there are that many.
 fn behind(first: usize, cells: usize) -> Option<usize>
     ensures { result ≡ spec.behind first cells }
 {
@@ -44,7 +44,7 @@ pub fn room_from(routine: &Routine, origin: Origin) -> Option<usize>
     }
 }
 
-/// Whether there are so many cells.
+/// Whether there are this many cells.
 pub fn has(cells: usize, room: Option<usize>) -> bool
     ensures { result ≡ spec.has cells room }
 {
@@ -54,7 +54,7 @@ pub fn has(cells: usize, room: Option<usize>) -> bool
     }
 }
 
-// What is left behind an index that reaches so far over elements of this size.
+// What is left after an index that reaches so far over elements of this size.
 fn behind_elements(elements: u16, size: usize, left: usize) -> Option<usize>
     ensures { result ≡ spec.behind (elements * size) left }
 {
@@ -140,7 +140,7 @@ pub fn set_inside(routine: &Routine, expression: &SetExpression) -> bool
     }
 }
 
-// Whether so many cells from a slot on are inside an extent.
+// Whether this many cells from a slot on are inside an extent.
 fn is_within(slot: usize, cells: usize, extent: usize) -> bool
     ensures { result ≡ spec.is_within slot cells extent }
 {
@@ -214,7 +214,7 @@ fn follows(argument: &Argument, count: usize, next: usize) -> Option<usize>
     }
 }
 
-/// Whether the arguments name a place for each of so many `var` parameters, in their order.
+/// Whether the arguments name a place for each of this many `var` parameters, in their order.
 pub fn binds_all(count: usize, arguments: &[Argument]) -> bool
     ensures { result ≡ spec.binds_from count 0 arguments.now }
 {

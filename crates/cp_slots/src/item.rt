@@ -43,7 +43,7 @@ pub enum Action {
         source: Place,
         size: usize,
     },
-    /// `begin`, and `repeat`, behind which its `until` follows.
+    /// `begin`, and `repeat`, after which its `until` follows.
     Block(Option<usize>),
     If {
         test: Expression,

@@ -1,8 +1,10 @@
 //! From a checked tree to its resolved program.
 
 ghost use Rattle.std.specs.Prelude.{◌≡◌, IfOk};
+ghost use Rattle.cp_tree.specs.TreeView.{tree_view};
 ghost use Rattle.cp_slots.specs.Tables.{tables_of};
 ghost use Rattle.cp_slots.specs.Fits.{IsSound};
+ghost use Rattle.cp_slots.specs.Laid.{LaidOrNothing, no_program};
 
 use crate::lay_out::lay_out;
 use crate::resolved::Resolved;
@@ -11,8 +13,11 @@ use crate::tables::{Component, ComponentKind, Layout, Process, Routine, SystemTy
 use cp_check::Checked;
 use std::alloc::{AllocError, Global};
 
-/// The resolved program of a checked tree. A tree whose numbers can't be laid out, which no accepted program has, gives the empty program.
-pub fn resolve(alloc: Global, checked: &Checked) -> Result<Resolved, AllocError> {
+/// The resolved program of a checked tree: the tables that are laid out of it, which are a function of the tree.
+/// Where these are not found to be sound, which is the case of no accepted program that was tried, it is the program of no statements.
+pub fn resolve(alloc: Global, checked: &Checked) -> Result<Resolved, AllocError>
+    ensures { IfOk result (λ r. LaidOrNothing (tree_view checked.now.tree) r) }
+{
     let layout = lay_out(alloc, checked.tree())?;
     if is_sound(&layout) {
         return Ok(Resolved::new(layout));
@@ -22,7 +27,8 @@ pub fn resolve(alloc: Global, checked: &Checked) -> Result<Resolved, AllocError>
 
 // The program of no statements.
 fn nothing(alloc: Global) -> Result<Layout, AllocError>
-    ensures { IfOk result (λ l. IsSound (tables_of l)) }
+    ensures sound { IfOk result (λ l. IsSound (tables_of l)) }
+    ensures tables { IfOk result (λ l. tables_of l ≡ no_program) }
 {
     let routine = Routine {
         body: None,

@@ -19,7 +19,7 @@ pub struct Routine {
     pub reference_room: usize,
     /// The permanent cells of its component, at least.
     pub own: usize,
-    /// The cells behind each `var` parameter.
+    /// The cells of each `var` parameter.
     pub extents: Vec<usize>,
     /// The system type of its component.
     pub system: usize,

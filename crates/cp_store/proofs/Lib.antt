@@ -3,7 +3,6 @@ pub mod Bindings
 pub mod Fitting
 pub mod Members
 pub mod Opened
-pub mod OwnCells
 pub mod ReadBack
 pub mod Reaches
 pub mod Widths

@@ -23,7 +23,7 @@ bound_at m bindings f (value.Copy source size) = then_with (address_at m f sourc
 bound_at m bindings f (value.Reference place) = then_with (address_at m f place) (λ at. Ok (Reference at))
 bound_at m bindings f (value.Component c) = then_with (component_at m bindings f c) (λ n. Ok (Component n))
 
--- what some arguments give, behind what others gave
+-- what some arguments give, after what others gave
 abbrev pub bounds_after : Memory → (bindings : List ℕ) → Frame → List Bound → List Argument → Result (List Bound) ErrorName
 bounds_after m bindings f bs [] = Ok bs
 bounds_after m bindings f bs (x ∷ xs) = then_with (bound_at m bindings f x.value) (λ b. bounds_after m bindings f (bs ++ b ∷ []) xs)

@@ -24,12 +24,12 @@ use Rattle.cp_store.specs.Arguments.{bound_in_frame, bounds_at, put_value}
 use Rattle.cp_store.specs.Memory.{Memory, opened}
 use Rattle.cp_store.specs.Places.{address_at, begun, referred}
 
--- so many cells from an address on are cells of the memory
+-- this many cells from an address on are cells of the memory
 abbrev pub HasCells : Memory → Address → ℕ → Type 0
 HasCells m (Permanent number) cells = number + cells ≤ length m.permanents
 HasCells m (Local number) cells = number + cells ≤ length m.cells
 
--- The memory has what a routine may name in a frame: the permanent cells of its component, its own cells, and the cells behind
+-- The memory has what a routine may name in a frame: the permanent cells of its component, its own cells, and the cells of
 -- each of its `var` parameters. Memories are not larger than a machine word can number.
 pub record Covers (m : Memory) (r : RoutineView) (f : Frame) : Type 0 where
   pub own : f.own + r.own ≤ length m.permanents
@@ -49,16 +49,16 @@ CanRead m f e = (r : RoutineView) × Covers m r f × IsTrue (expression_inside r
 abbrev pub CanReadSet : Memory → Frame → SetExpression → Type 0
 CanReadSet m f e = (r : RoutineView) × Covers m r f × IsTrue (set_inside r e)
 
--- and there are so many cells from a place on
+-- and there are this many cells from a place on
 abbrev pub CanReach : Memory → Frame → Place → (cells : ℕ) → Type 0
 CanReach m f p cells = (r : RoutineView) × Covers m r f × IsTrue (has cells (place_room r p))
 
--- the indices lead from an address on to so many cells
+-- the indices lead from an address on to this many cells
 abbrev pub CanGoThrough : Memory → Frame → Address → List Index → (cells : ℕ) → Type 0
 CanGoThrough m f at is cells =
     (r : RoutineView) × Covers m r f × ((left : ℕ) × HasCells m at left × IsTrue (has cells (indices_room r left is)))
 
--- a machine word numbers the address so many cells further on
+-- a machine word numbers the address this many cells further on
 abbrev pub MovesBy : Address → (cells : ℕ) → Type 0
 MovesBy (Permanent number) cells = number + cells < 2 ^ 64
 MovesBy (Local number) cells = number + cells < 2 ^ 64
@@ -138,13 +138,13 @@ AllFitComponent m bindings base (x ∷ xs) (b ∷ bs) = FitsComponent m bindings
 
 -- ---- laws
 
--- where a place leaves room for so many cells, whatever its indices are, its address has these
+-- where a place leaves room for this many cells, whatever its indices are, its address has these
 abbrev pub PlacesHaveTheirCells : Type 0
 PlacesHaveTheirCells =
     (m : Memory) (r : RoutineView) (f : Frame) (p : Place) (cells : ℕ) (a : Address) →
     Covers m r f → place_room r p ≡ Some cells → address_at m f p ≡ Ok a → HasCells m a cells
 
--- where there are so many cells from the beginning of a variable on, it begins at an address that has these
+-- where there are this many cells from the beginning of a variable on, it begins at an address that has these
 abbrev pub VariablesHaveTheirCells : Type 0
 VariablesHaveTheirCells =
     (m : Memory) (r : RoutineView) (f : Frame) (o : Origin) (cells : ℕ) →
@@ -156,8 +156,8 @@ WritesKeepCells =
     (m : Memory) (r : RoutineView) (f : Frame) (at : Address) (b : Bound) →
     Covers m r f → Covers (put_value m at b) r f
 
--- A call whose arguments are inside covers the frame that it opens behind all others, once the parameters are bound: each `var`
--- parameter names a place that has the cells behind it. Two things are left to whoever opens the frame: that the component has the
+-- A call whose arguments are inside covers the frame that it opens after all others, once the parameters are bound: each `var`
+-- parameter names a place that has its cells. Two things are left to whoever opens the frame: that the component has the
 -- permanent cells of the routine, and that all sums stay numbers of a machine word.
 abbrev pub CallsCoverTheirFrames : Type 0
 CallsCoverTheirFrames =
@@ -177,7 +177,7 @@ ArgumentsAreRead =
     Covers m caller f → IsTrue (arguments_inside caller callee extent arguments) → FindsAll bindings caller f arguments →
     CanGiveAll m bindings f arguments
 
--- what the arguments of a call give fits into the frame that is opened behind all others
+-- what the arguments of a call give fits into the frame that is opened after all others
 abbrev pub CallsFit : Type 0
 CallsFit =
     (m : Memory) (bindings : List ℕ) (caller callee : RoutineView) (f g : Frame) (arguments : List Argument) (bounds : List Bound) →

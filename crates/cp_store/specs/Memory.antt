@@ -14,11 +14,11 @@ pub record Memory : Type 0 where
 abbrev pub memory_of : List ℤ → Room → Memory
 memory_of permanents room = record { permanents = permanents; cells = room.cells.items; references = room.references.items }
 
--- The number of the cell that is so many further on. No cell has the greatest number of a machine word, which is where sums end.
+-- The number of the cell that is this many further on. No cell has the greatest number of a machine word, which is where sums end.
 abbrev pub onward : ℕ → ℕ → ℕ
 onward number cells = min (number + cells) (2 ^ 64 - 1)
 
--- the number of cells that so many elements of a size take
+-- the number of cells that this many elements of a size take
 abbrev pub stretch : ℕ → ℕ → ℕ
 stretch elements size = min (elements * size) (2 ^ 64 - 1)
 
@@ -49,11 +49,11 @@ put_copy m to from (suc n) = put_number (put_copy m to from n) (moved to n) (cel
 abbrev pub put_reference : Memory → ℕ → Address → Memory
 put_reference m number at = record m { references = slice_set m.references number at }
 
--- a frame more, with the cells of an image and so many references
+-- a frame more, with the cells of an image and this many references
 abbrev pub opened : Memory → List ℤ → ℕ → Memory
 opened m image references = record m { cells = m.cells ++ image; references = m.references ++ replicate references nowhere }
 
--- the frames within the first so many cells and references
+-- the frames within the first this many cells and references
 abbrev pub closed : Memory → ℕ → ℕ → Memory
 closed m cells references = record m { cells = take cells m.cells; references = take references m.references }
 

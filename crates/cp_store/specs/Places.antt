@@ -105,7 +105,7 @@ address_at m f p = code_place.fold-Place ToValue ToSet ToElement ToAddress expre
 abbrev pub element_at : code_index.Index → ToElement
 element_at = code_index.fold-Index ToValue ToSet ToElement ToAddress expression_step set_step index_step place_step
 
--- the address behind all indices
+-- the address after all indices
 abbrev pub indexed_at : Memory → Frame → Address → List code_index.Index → Result Address ErrorName
 indexed_at m f at is = through (map element_at is) m f at
 
@@ -117,3 +117,16 @@ is_set_test_step e = false
 
 abbrev pub is_set_test : code_expression.Expression → Bool
 is_set_test e = code_expression.fold-Expression Bool Bool Bool Bool is_set_test_step (λ _. false) (λ _. false) (λ _. false) e
+
+-- whether an expression is of a form that few programs use
+abbrev pub is_rare_step : Expression-F Bool Bool Bool Bool → Bool
+is_rare_step (Expression-F.Negate e) = true
+is_rare_step (Expression-F.Absolute e) = true
+is_rare_step (Expression-F.Successor e last) = true
+is_rare_step (Expression-F.Predecessor e first) = true
+is_rare_step (Expression-F.Character e) = true
+is_rare_step (Expression-F.IsEmpty p) = true
+is_rare_step e = false
+
+abbrev pub is_rare : code_expression.Expression → Bool
+is_rare e = code_expression.fold-Expression Bool Bool Bool Bool is_rare_step (λ _. false) (λ _. false) (λ _. false) e

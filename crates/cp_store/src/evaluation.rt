@@ -62,7 +62,7 @@ pub fn address(
     }
 }
 
-// The address behind all indices: apart, since addresses go through memory.
+// The address after all indices: apart, since addresses go through memory.
 #[cycle(evaluate)]
 #[inline(never)]
 fn indexed(
@@ -78,7 +78,7 @@ fn indexed(
     through(start, indices, permanents, room, frame)
 }
 
-// The address behind all indices.
+// The address after all indices.
 #[cycle(evaluate)]
 #[inline(always)]
 #[tactic(auto, using(crate::proofs::Reaches::index_reads))]
@@ -115,111 +115,180 @@ pub fn evaluate(
     match expression {
         Expression::Number(value) => Ok(*value),
         Expression::Load(place) => loaded(place, permanents, room, frame),
-        _ => answer(expression, permanents, room, frame).result(),
+        _ => answer(
+            expression,
+            &View {
+                permanents,
+                room,
+                frame,
+            },
+        )
+        .result(),
+    }
+}
+
+/// The value of an expression, computed where it is asked for: worth its length for right sides of assignments, which mostly are
+/// operations.
+#[inline(always)]
+pub fn evaluate_here(
+    expression: &Expression,
+    permanents: &[i16],
+    room: &Room,
+    frame: &Frame,
+) -> Result<i16, ErrorName>
+    requires { CanRead (memory_of permanents.now room.now) frame.now expression.now }
+    ensures { result ≡ spec.value_at (memory_of permanents.now room.now) frame.now expression.now }
+{
+    let view = View {
+        permanents,
+        room,
+        frame,
+    };
+    computed(expression, &view)
+}
+
+// What an expression is read in. The functions of its parts share one, so that each takes two arguments and not four.
+#[derive(Clone, Copy)]
+struct View<'a> {
+    permanents: &'a [i16],
+    room: &'a Room,
+    frame: &'a Frame,
+}
+
+// The value of a part.
+#[cycle(evaluate)]
+#[inline(always)]
+fn part(expression: &Expression, view: &View) -> Result<i16, ErrorName>
+    requires { CanRead (memory_of view.now.permanents.now view.now.room.now) view.now.frame.now expression.now }
+    ensures { result ≡ spec.value_at (memory_of view.now.permanents.now view.now.room.now) view.now.frame.now expression.now }
+{
+    match expression {
+        Expression::Number(value) => Ok(*value),
+        Expression::Load(place) => loaded(place, view.permanents, view.room, view.frame),
+        _ => answer(expression, view).result(),
     }
 }
 
 // The value of an expression, handed over in a register.
 #[cycle(evaluate)]
 #[inline(never)]
-fn answer(expression: &Expression, permanents: &[i16], room: &Room, frame: &Frame) -> Answer
-    requires { CanRead (memory_of permanents.now room.now) frame.now expression.now }
-    ensures { answered result ≡ spec.value_at (memory_of permanents.now room.now) frame.now expression.now }
+fn answer(expression: &Expression, view: &View) -> Answer
+    requires { CanRead (memory_of view.now.permanents.now view.now.room.now) view.now.frame.now expression.now }
+    ensures { answered result ≡ spec.value_at (memory_of view.now.permanents.now view.now.room.now) view.now.frame.now expression.now }
 {
-    Answer::of(computed(expression, permanents, room, frame))
+    Answer::of(computed(expression, view))
 }
 
 // The value of an expression by its parts.
 #[cycle(evaluate)]
 #[inline(always)]
-fn computed(
-    expression: &Expression,
-    permanents: &[i16],
-    room: &Room,
-    frame: &Frame,
-) -> Result<i16, ErrorName>
-    requires { CanRead (memory_of permanents.now room.now) frame.now expression.now }
-    ensures { result ≡ spec.value_at (memory_of permanents.now room.now) frame.now expression.now }
+fn computed(expression: &Expression, view: &View) -> Result<i16, ErrorName>
+    requires { CanRead (memory_of view.now.permanents.now view.now.room.now) view.now.frame.now expression.now }
+    ensures { result ≡ spec.value_at (memory_of view.now.permanents.now view.now.room.now) view.now.frame.now expression.now }
 {
+    // The most frequent form is not looked up in a table.
+    if let Expression::Arithmetic(operator, left, right) = expression {
+        let left = part(left, view)?;
+        let right = part(right, view)?;
+        return calculated(*operator, left, right);
+    }
     match expression {
         Expression::Number(value) => Ok(*value),
-        Expression::Load(place) => loaded(place, permanents, room, frame),
-        Expression::Negate(operand) => {
-            negated(answer(operand, permanents, room, frame).result()?)
-        }
-        Expression::Absolute(operand) => {
-            absolute(answer(operand, permanents, room, frame).result()?)
-        }
-        Expression::Not(operand) => {
-            let value = answer(operand, permanents, room, frame).result()?;
-            Ok(truth(!is_true(value)))
-        }
-        Expression::Successor(operand, last) => {
-            successor(answer(operand, permanents, room, frame).result()?, *last)
-        }
-        Expression::Predecessor(operand, first) => {
-            predecessor(answer(operand, permanents, room, frame).result()?, *first)
-        }
-        Expression::Character(operand) => {
-            let number = answer(operand, permanents, room, frame).result()?;
-            ranged(number, 0, 127)
-        }
-        Expression::Arithmetic(operator, left, right) => {
-            let left = evaluate(left, permanents, room, frame)?;
-            let right = evaluate(right, permanents, room, frame)?;
-            calculated(*operator, left, right)
-        }
-        Expression::Logic(operator, left, right) => {
-            let left = answer(left, permanents, room, frame).result()?;
-            let right = answer(right, permanents, room, frame).result()?;
-            Ok(combined(*operator, left, right))
-        }
+        Expression::Load(place) => loaded(place, view.permanents, view.room, view.frame),
+        Expression::Arithmetic(_, _, _) => unreachable!(),
         Expression::Compare(relation, left, right) => {
-            let left = evaluate(left, permanents, room, frame)?;
-            let right = evaluate(right, permanents, room, frame)?;
+            let left = part(left, view)?;
+            let right = part(right, view)?;
             Ok(compared(*relation, left, right))
         }
+        Expression::Logic(operator, left, right) => {
+            let left = part(left, view)?;
+            let right = part(right, view)?;
+            Ok(combined(*operator, left, right))
+        }
+        Expression::Not(operand) => {
+            let value = part(operand, view)?;
+            Ok(truth(!is_true(value)))
+        }
+        Expression::Negate(_) | Expression::Absolute(_) | Expression::Successor(_, _) => {
+            rare(expression, view).result()
+        }
+        Expression::Predecessor(_, _) | Expression::Character(_) | Expression::IsEmpty(_) => {
+            rare(expression, view).result()
+        }
         Expression::SameSet(_, _, _) | Expression::Member(_, _) => {
-            set_test(expression, permanents, room, frame).result()
+            set_test(expression, view).result()
+        }
+    }
+}
+
+// The value of a rarer form: apart, so that the frequent ones save fewer registers.
+#[cycle(evaluate)]
+#[inline(never)]
+fn rare(expression: &Expression, view: &View) -> Answer
+    requires form { IsTrue (spec.is_rare expression.now) }
+    requires reads { CanRead (memory_of view.now.permanents.now view.now.room.now) view.now.frame.now expression.now }
+    ensures { answered result ≡ spec.value_at (memory_of view.now.permanents.now view.now.room.now) view.now.frame.now expression.now }
+{
+    Answer::of(rarely(expression, view))
+}
+
+#[cycle(evaluate)]
+fn rarely(expression: &Expression, view: &View) -> Result<i16, ErrorName>
+    requires form { IsTrue (spec.is_rare expression.now) }
+    requires reads { CanRead (memory_of view.now.permanents.now view.now.room.now) view.now.frame.now expression.now }
+    ensures { result ≡ spec.value_at (memory_of view.now.permanents.now view.now.room.now) view.now.frame.now expression.now }
+{
+    match expression {
+        Expression::Negate(operand) => negated(part(operand, view)?),
+        Expression::Absolute(operand) => absolute(part(operand, view)?),
+        Expression::Successor(operand, last) => successor(part(operand, view)?, *last),
+        Expression::Predecessor(operand, first) => predecessor(part(operand, view)?, *first),
+        Expression::Character(operand) => {
+            let number = part(operand, view)?;
+            ranged(number, 0, 127)
         }
         Expression::IsEmpty(queue) => {
-            let waits = loaded(queue, permanents, room, frame)?;
+            let waits = loaded(queue, view.permanents, view.room, view.frame)?;
             Ok(truth(!is_true(waits)))
         }
+        Expression::Number(_)
+        | Expression::Load(_)
+        | Expression::Not(_)
+        | Expression::Arithmetic(_, _, _)
+        | Expression::Logic(_, _, _)
+        | Expression::Compare(_, _, _)
+        | Expression::SameSet(_, _, _)
+        | Expression::Member(_, _) => unreachable!(),
     }
 }
 
 // Whether two sets are the same, or an element belongs to a set: apart, since sets go through memory.
 #[cycle(evaluate)]
 #[inline(never)]
-fn set_test(expression: &Expression, permanents: &[i16], room: &Room, frame: &Frame) -> Answer
+fn set_test(expression: &Expression, view: &View) -> Answer
     requires test { IsTrue (spec.is_set_test expression.now) }
-    requires reads { CanRead (memory_of permanents.now room.now) frame.now expression.now }
-    ensures { answered result ≡ spec.value_at (memory_of permanents.now room.now) frame.now expression.now }
+    requires reads { CanRead (memory_of view.now.permanents.now view.now.room.now) view.now.frame.now expression.now }
+    ensures { answered result ≡ spec.value_at (memory_of view.now.permanents.now view.now.room.now) view.now.frame.now expression.now }
 {
-    Answer::of(tested(expression, permanents, room, frame))
+    Answer::of(tested(expression, view))
 }
 
 #[cycle(evaluate)]
-fn tested(
-    expression: &Expression,
-    permanents: &[i16],
-    room: &Room,
-    frame: &Frame,
-) -> Result<i16, ErrorName>
+fn tested(expression: &Expression, view: &View) -> Result<i16, ErrorName>
     requires test { IsTrue (spec.is_set_test expression.now) }
-    requires reads { CanRead (memory_of permanents.now room.now) frame.now expression.now }
-    ensures { result ≡ spec.value_at (memory_of permanents.now room.now) frame.now expression.now }
+    requires reads { CanRead (memory_of view.now.permanents.now view.now.room.now) view.now.frame.now expression.now }
+    ensures { result ≡ spec.value_at (memory_of view.now.permanents.now view.now.room.now) view.now.frame.now expression.now }
 {
     match expression {
         Expression::SameSet(wanted, left, right) => {
-            let left = evaluate_set(left, permanents, room, frame)?;
-            let right = evaluate_set(right, permanents, room, frame)?;
+            let left = evaluate_set(left, view.permanents, view.room, view.frame)?;
+            let right = evaluate_set(right, view.permanents, view.room, view.frame)?;
             Ok(set::compared(*wanted, left, right))
         }
         Expression::Member(element, whole) => {
-            let element = answer(element, permanents, room, frame).result()?;
-            let whole = evaluate_set(whole, permanents, room, frame)?;
+            let element = part(element, view)?;
+            let whole = evaluate_set(whole, view.permanents, view.room, view.frame)?;
             Ok(truth(set::is_member(whole, element)))
         }
         Expression::Number(_)

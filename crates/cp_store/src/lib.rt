@@ -12,14 +12,12 @@ pub mod law;
 pub mod memory;
 pub mod room;
 pub mod set;
-#[cfg(test)]
-mod tests;
 pub mod writing;
 
 pub use argument::{Bound, evaluate_argument, evaluate_arguments};
 pub use bind::{bind_component, bind_frame};
 pub use error::ErrorName;
-pub use evaluation::{address, begun, distance, evaluate, evaluate_set};
+pub use evaluation::{address, begun, distance, evaluate, evaluate_here, evaluate_set};
 pub use memory::{Address, Frame, Room, cell};
 pub use room::{close_frame, open_frame};
 pub use writing::{copy_cells, write, write_set};

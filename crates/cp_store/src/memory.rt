@@ -35,7 +35,7 @@ pub struct Room {
 }
 
 impl Address {
-    /// The address so many cells further on.
+    /// The address this many cells further on.
     #[tactic(auto, using(crate::proofs::Reaches::onward_exact))]
     pub fn moved(self, cells: usize) -> Address
         requires { MovesBy self cells }

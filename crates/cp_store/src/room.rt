@@ -5,7 +5,7 @@ ghost use Rattle.cp_store.specs.Memory.{nowhere, KeepsRoom};
 
 use crate::memory::{Address, Room};
 
-/// Puts a frame on top, with the cells of an image and so many references to nothing.
+/// Puts a frame on top, with the cells of an image and this many references to nothing.
 pub fn open_frame(room: &mut Room, image: &[i16], references: usize)
     requires cells { vec_len room.old.cells + length image.now ≤ vec_capacity room.old.cells }
     requires references { vec_len room.old.references + references ≤ vec_capacity room.old.references }
@@ -27,7 +27,7 @@ fn push_references(references: &mut Vec<Address>, count: usize)
     }
 }
 
-/// Takes off what lies above so many cells and references.
+/// Takes off what lies above this many cells and references.
 pub fn close_frame(room: &mut Room, cells: usize, references: usize)
     ensures cells { room.new.cells.items ≡ take cells room.old.cells.items }
     ensures references { room.new.references.items ≡ take references room.old.references.items }

@@ -23,7 +23,7 @@ use std::alloc::{AllocError, Global};
 use std::sync::ledger::Ledger;
 
 /// The most numbers of a word that is told.
-pub const MOST_NUMBERS: usize = 20;
+pub const MOST_NUMBERS: usize = 100;
 
 /// A process that waits when the run stops.
 #[derive(Drop)]
@@ -286,7 +286,7 @@ fn tell_word<L: Ledger>(
     observer: &mut Observer<'_>,
     events: &mut Vec<Event>,
 ) -> Result<RunEnd, AllocError>
-    requires word { length word.now ≤ 20 }
+    requires word { length word.now ≤ 100 }
     requires own { IsStateOf program.now state.old }
     requires start { machine_of state.old ≡ opening program.now limits.gates }
     requires none { events.old.items ≡ [] }
@@ -323,7 +323,7 @@ pub fn tell<L: Ledger>(
     word: &[u8],
     ticks: &mut Ticks<L>,
 ) -> Result<Story, AllocError>
-    requires { length word.now ≤ 20 }
+    requires { length word.now ≤ 100 }
     ensures lines { IfOk result (λ s. lines_of s.events.items ≡ trace (slots program.now limits.gates) limits.choices limits.steps word.now) }
     ensures answer { IfOk result (λ s. answer_of s.end ≡ run (slots program.now limits.gates) limits.choices limits.steps word.now) }
     ensures ticks { ticks.new ≤ ticks.old + (limits.choices + 1) * limits.steps }

@@ -5,8 +5,6 @@ pub mod fault;
 mod lexeme;
 mod piece;
 pub mod scanner;
-#[cfg(test)]
-mod tests;
 pub mod token;
 mod word;
 

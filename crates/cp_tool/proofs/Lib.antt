@@ -2,3 +2,4 @@ pub mod Telling
 pub mod Using
 mod Matched
 mod WordLemmas
+pub mod Merging

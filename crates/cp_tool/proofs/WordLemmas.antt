@@ -8,7 +8,7 @@ use Rattle.std.proofs.lemmas.Fmt.{decimal_by_steps, decimal_nonempty}
 use Rattle.std.proofs.lemmas.List.{append-nil, get_or_append_left, get_or-map, length-map}
 use Rattle.std.proofs.lemmas.List.Elements.{All-cons, All-nil, All-push, All-weaker, All-get_or, All-head, All-tail}
 use Rattle.std.proofs.lemmas.List.Splits.{slice_split_at, slice_split_none}
-use Rattle.cp_tool.specs.Words.{IsWord, spelled}
+use Rattle.cp_tool.specs.Words.{spelled}
 
 abbrev pub parts_of : List ℕ → List (List ℕ)
 parts_of text = slice_split (λ b. eqb b 46) text
@@ -65,15 +65,15 @@ IsNext w i part =
     (i < length w) × (get_or w i 0 ≤ 15) × (part ≡ decimal (get_or w i 0))
     × (take (i + 1) w ≡ take i w ++ get_or w i 0 ∷ [])
 
-pub next_part : (text : List ℕ) → (text ≡ codes "none" → ⊥) → (i : ℕ) (part : List ℕ) → (i < length (parts_of text)) × (part ≡ get_or (parts_of text) i part) → (w : List ℕ) → IsWord w → spelled w ≡ text → IsNext w i part
-next_part text other i part turn w word e =
-    let parts = parts_from text other w word.1 e in
+pub next_part : (text : List ℕ) → (text ≡ codes "none" → ⊥) → (i : ℕ) (part : List ℕ) → (i < length (parts_of text)) × (part ≡ get_or (parts_of text) i part) → (w : List ℕ) → Small w → spelled w ≡ text → IsNext w i part
+next_part text other i part turn w small e =
+    let parts = parts_from text other w small e in
     let inside : i < length w = omega (arith, turn.0, ap length parts, length-map w decimal) in
-    let item = part_at i w part word.1 inside (turn.1 ∙ ap (λ ps. get_or ps i part) parts) in
+    let item = part_at i w part small inside (turn.1 ∙ ap (λ ps. get_or ps i part) parts) in
     let next : i + 1 ≡ suc i = omega arith in
     (inside, item.0, item.1, ap (λ j. take j w) next ∙ item.2)
 
-pub all_parts : (text : List ℕ) → (text ≡ codes "none" → ⊥) → (w : List ℕ) → IsWord w → spelled w ≡ text → (n : ℕ) → n ≡ length (parts_of text) → take n w ≡ w
-all_parts text other w word e n all =
-    let count : n ≡ length w = all ∙ ap length (parts_from text other w word.1 e) ∙ length-map w decimal in
+pub all_parts : (text : List ℕ) → (text ≡ codes "none" → ⊥) → (w : List ℕ) → Small w → spelled w ≡ text → (n : ℕ) → n ≡ length (parts_of text) → take n w ≡ w
+all_parts text other w small e n all =
+    let count : n ≡ length w = all ∙ ap length (parts_from text other w small e) ∙ length-map w decimal in
     ap (λ j. take j w) count ∙ take-length w

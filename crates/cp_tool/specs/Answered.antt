@@ -1,5 +1,6 @@
 -- What is answered to a source: a verdict and a text. Refused memory is no answer.
-use Rattle.std.specs.Prelude.{◌≡◌, ℕ, ◌<◌, ◌≤◌, ◌⊎◌, ◌++◌, take, List, [], length, min, Result, Ok, Err, Option, Some, None, MatchOption, codes}
+use Rattle.std.specs.Prelude.{◌≡◌, ℕ, ◌<◌, ◌≤◌, ◌⊎◌, ◌+◌, ◌++◌, false, take, List, [], length, min, Result, Ok, Err, Option, Some, None, MatchOption, codes}
+use Rattle.std.specs.Bool.{MatchBool}
 use Rattle.std.specs.Io.KnownBytes.{Appends}
 use Rattle.cp_text.specs.Kinds.{kinds}
 use Rattle.cp_text.specs.Lines.{line_of}
@@ -20,10 +21,12 @@ use Rattle.cp_run.specs.Table.{table}
 use Rattle.cp_run.specs.Trace.{trace}
 use Rattle.cp_explore.specs.Report.{report_text}
 use Rattle.cp_explore.specs.TraceText.{trace_text}
+use Rattle.cp_merged.specs.TooMany.{FitsBefore, IsDueFault}
+use Rattle.cp_merged.specs.declared.fault.MergeFault.TheVariants as fault
 use Rattle.cp_tool.specs.Refusals.{refusal, scan_reason, parse_reason, check_reason}
 use Rattle.cp_tool.specs.declared.options.Options.{Options}
 use Rattle.cp_tool.specs.declared.answering.Verdict.{Verdict}
-use Rattle.cp_tool.specs.declared.answering.Verdict.TheVariants.{Reported, Refused, TooManyRows}
+use Rattle.cp_tool.specs.declared.answering.Verdict.TheVariants.{Reported, Refused, TooManyRows, TooManyStates, TooManyOutcomes}
 use Rattle.cp_tool.specs.declared.answering.Ending.{Ending}
 use Rattle.cp_tool.specs.declared.answering.Ending.TheVariants.{Told, OutOfMemory, ReadFailed, WriteFailed}
 
@@ -43,6 +46,14 @@ IsReported o program verdict text =
     ((verdict ≡ Reported) × (length rows ≤ 50000) × (text ≡ report_text program rows o.rows))
     ⊎ ((verdict ≡ TooManyRows) × (50000 < length rows) × (text ≡ codes "too many rows\n"))
 
+-- the report of the whole table of any size, or what is too many first
+abbrev pub IsMerged : Options → Tables → Verdict → List ℕ → Type 0
+IsMerged o program verdict text =
+    let sys = slots program o.gates in
+    ((verdict ≡ Reported) × FitsBefore sys o.choices o.steps o.states (o.choices + 1) × (text ≡ report_text program (table sys o.choices o.steps) false))
+    ⊎ (((verdict ≡ TooManyStates) × IsDueFault sys o.choices o.steps o.states fault.TooManyStates × (text ≡ codes "too many states\n"))
+    ⊎ ((verdict ≡ TooManyOutcomes) × IsDueFault sys o.choices o.steps o.states fault.TooManyOutcomes × (text ≡ codes "too many outcomes\n")))
+
 -- the trace of this schedule
 abbrev pub IsTraced : Options → Tables → List ℕ → Verdict → List ℕ → Type 0
 IsTraced o program word verdict text =
@@ -51,7 +62,7 @@ IsTraced o program word verdict text =
 
 -- one schedule is traced, or all are reported
 abbrev pub IsExplored : Options → Tables → Verdict → List ℕ → Type 0
-IsExplored o program verdict text = MatchOption o.schedule (IsReported o program verdict text) (λ word. IsTraced o program word.items verdict text)
+IsExplored o program verdict text = MatchOption o.schedule (MatchBool o.merge (IsMerged o program verdict text) (IsReported o program verdict text)) (λ word. IsTraced o program word.items verdict text)
 
 -- A tree is refused for the first rule that it breaks, or its program's table is reported.
 abbrev pub AnswersTree : Options → List Token → tree.Tree → Verdict → List ℕ → Type 0
@@ -80,6 +91,8 @@ abbrev pub code_of : Ending → ℕ
 code_of (Told Reported) = 0
 code_of (Told Refused) = 1
 code_of (Told TooManyRows) = 5
+code_of (Told TooManyStates) = 5
+code_of (Told TooManyOutcomes) = 5
 code_of OutOfMemory = 3
 code_of ReadFailed = 4
 code_of WriteFailed = 4

@@ -1,13 +1,14 @@
 -- What the options have of the words, and which fault the words have.
-use Rattle.std.specs.Prelude.{◌≡◌, ℕ, true, false, List, [], ◌∷◌, Some, None, codes, IsSomeAnd, MatchOption, Option, take}
+use Rattle.std.specs.Prelude.{◌≡◌, ℕ, Bool, false, List, [], ◌∷◌, Some, None, codes, IsSomeAnd, MatchOption, Option, take}
 use Rattle.arrayvec.specs.ArrayVec.{ArrayVec}
-use Rattle.clap.specs.Words.{IsAmong, Row, Text, first_of, one_of}
+use Rattle.clap.specs.Words.{IsAmong, Row, Text, first_of}
+use Rattle.std.specs.Str.{bytes_eq}
 use Rattle.clap.specs.declared.error.kind.ErrorKind.TheVariants.{DisplayHelp}
 use Rattle.cp_machine.specs.declared.gates.Gates.{Gates}
 use Rattle.cp_machine.specs.declared.gates.Gates.TheVariants.{First, Any}
 use Rattle.cp_tool.specs.Command.{faults_for, rows_for}
 use Rattle.cp_tool.specs.Numbers.{IsChosen}
-use Rattle.cp_tool.specs.Words.{IsWord, spelled}
+use Rattle.cp_tool.specs.Words.{IsWord, most_choices, spelled}
 use Rattle.cp_tool.specs.declared.options.Options.{Options}
 use Rattle.cp_tool.specs.declared.options.OptionFault.{OptionFault}
 use Rattle.cp_tool.specs.declared.options.OptionFault.TheVariants.{Refused, Memory, Help}
@@ -20,19 +21,25 @@ gates_text Any = codes "any"
 abbrev pub IsGated : Option Text → Gates → Type 0
 IsGated text gates = MatchOption text (gates ≡ First) (λ t. t ≡ gates_text gates)
 
--- the word that the text spells, or none where there is no text
-abbrev pub IsScheduled : Option Text → Option (ArrayVec ℕ) → Type 0
-IsScheduled text schedule = MatchOption text (schedule ≡ None) (λ t. IsSomeAnd schedule (λ w. IsWord w.items × (spelled w.items ≡ t)))
+-- the word of at most so many numbers that the text spells, or none where there is no text
+abbrev pub IsScheduled : ℕ → Option Text → Option (ArrayVec ℕ) → Type 0
+IsScheduled most text schedule = MatchOption text (schedule ≡ None) (λ t. IsSomeAnd schedule (λ w. IsWord most w.items × (spelled w.items ≡ t)))
 
--- each option has the value that the matches have for it
+-- whether the text of a flag says that it was given
+abbrev pub is_asked : Option Text → Bool
+is_asked None = false
+is_asked (Some text) = bytes_eq text (codes "true")
+
+-- each option has the value that the matches have for it; where states are merged there are no rows
 pub record HasOptions (rows : List Row) (o : Options) : Type 0 where
-  pub choices : IsChosen 8 0 20 (first_of (codes "choices") rows) o.choices
+  pub merge : o.merge ≡ is_asked (first_of (codes "merge") rows)
+  pub choices : IsChosen 8 0 (most_choices o.merge) (first_of (codes "choices") rows) o.choices
   pub steps : IsChosen 1000 1 100000 (first_of (codes "steps") rows) o.steps
   pub workers : IsChosen 2 1 16 (first_of (codes "workers") rows) o.workers
   pub cut : IsChosen 2 0 20 (first_of (codes "cut") rows) o.cut
-  pub rows_asked : one_of (codes "rows") rows ≡ Some (codes "true") → o.rows ≡ true
-  pub rows_not_asked : one_of (codes "rows") rows ≡ Some (codes "false") → o.rows ≡ false
-  pub schedule : IsScheduled (first_of (codes "schedule") rows) o.schedule
+  pub rows_asked : o.rows ≡ is_asked (first_of (codes "rows") rows)
+  pub states : IsChosen 200000 1 10000000 (first_of (codes "states") rows) o.states
+  pub schedule : IsScheduled (most_choices o.merge) (first_of (codes "schedule") rows) o.schedule
   pub gates : IsGated (first_of (codes "gates") rows) o.gates
 
 -- no word is refused, and each option has the value that the words have for it

@@ -1,9 +1,13 @@
 -- Schedule words and how they are spelled.
-use Rattle.std.specs.Prelude.{ℕ, ◌≤◌, List, [], ◌∷◌, ◌++◌, codes, decimal, length, All, flat_map}
+use Rattle.std.specs.Prelude.{ℕ, Bool, if◌then◌else◌, ◌≤◌, List, [], ◌∷◌, ◌++◌, codes, decimal, length, All, flat_map}
 
--- at most 20 numbers of at most 15
-abbrev pub IsWord : List ℕ → Type 0
-IsWord w = (length w ≤ 20) × All (λ n. n ≤ 15) w
+-- the most choices of a schedule, where states are merged and where not
+abbrev pub most_choices : Bool → ℕ
+most_choices merge = if merge then 100 else 20
+
+-- at most so many numbers of at most 15
+abbrev pub IsWord : ℕ → List ℕ → Type 0
+IsWord most w = (length w ≤ most) × All (λ n. n ≤ 15) w
 
 -- the text of a schedule word: its numbers joined by periods (46)
 abbrev pub spelled : List ℕ → List ℕ

@@ -1,5 +1,5 @@
 //! From the bytes of a source to the bytes of an answer.
-ghost use Rattle.std.specs.Prelude.{◌≡◌, ◌+◌, ◌<◌, ◌≤◌, length, max, min, IfOk, option_map};
+ghost use Rattle.std.specs.Prelude.{◌≡◌, ◌+◌, ◌<◌, ◌≤◌, false, length, max, min, IfOk, option_map};
 ghost use Rattle.cp_tool.specs.Answered as spec;
 ghost use Rattle.cp_tool.specs.declared.answering.Ending.{Ending};
 
@@ -10,6 +10,7 @@ use crate::transfer::{MOST_BYTES, ReadFault, read_source, write_text};
 use cp_check::check;
 use cp_explore::{Cutting, ExploreFault, Job, NoGate, Text, explore, report, trace_report};
 use cp_machine::Ticks;
+use cp_merged::{MergeFault, explore_merged, merged_report};
 use cp_run::{Limits, trace};
 use cp_slots::{Resolved, resolve};
 use cp_text::{Tokens, scan};
@@ -22,7 +23,7 @@ use std::thread::Threads;
 /// How a call of the program ended, as its exit code.
 #[derive(Clone, Copy, Debug, PartialEq, Eq)]
 pub struct Status {
-    /// 0 reported, 1 source refused, 3 memory refused, 4 read or write fault, 5 too many rows.
+    /// 0 reported, 1 source refused, 3 memory refused, 4 read or write fault, 5 too many rows, states or outcomes.
     pub code: u8,
 }
 
@@ -32,6 +33,8 @@ pub enum Verdict {
     Reported,
     Refused,
     TooManyRows,
+    TooManyStates,
+    TooManyOutcomes,
 }
 
 /// How an exploration of a stream ended.
@@ -61,6 +64,8 @@ fn code_of(ending: Ending) -> u8
         Ending::Told(Verdict::Reported) => 0,
         Ending::Told(Verdict::Refused) => 1,
         Ending::Told(Verdict::TooManyRows) => 5,
+        Ending::Told(Verdict::TooManyStates) => 5,
+        Ending::Told(Verdict::TooManyOutcomes) => 5,
         Ending::OutOfMemory => 3,
         Ending::ReadFailed => 4,
         Ending::WriteFailed => 4,
@@ -206,7 +211,13 @@ fn explored<X: Threads + Sync>(
 {
     match &options.schedule {
         Some(word) => traced::<Brand>(alloc, options, program, word.as_slice(), Blank::new(1)),
-        None => counted(rt, alloc, options, program),
+        None => {
+            if options.merge {
+                merged(alloc, options, program)
+            } else {
+                counted(rt, alloc, options, program)
+            }
+        }
     }
 }
 
@@ -220,7 +231,7 @@ fn traced<L: Ledger>(
     requires name { blank.name ≡ L.name }
     requires parts { blank.parts ≡ L.parts }
     requires one { L.parts ≡ 1 }
-    requires word { length word.now ≤ 20 }
+    requires word { length word.now ≤ 100 }
     ensures { IfOk result (λ a. spec.IsTraced options.now program.now word.now a.verdict a.text) }
 {
     let Some(limits) = Limits::new(options.choices, options.steps, options.gates) else {
@@ -235,6 +246,30 @@ fn traced<L: Ledger>(
     })
 }
 
+/// The report of a program's table by its outcomes alone, or what there are too many of.
+fn merged(alloc: Global, options: &Options, program: &Resolved) -> Result<Answer, AllocError>
+    ensures { IfOk result (λ a. spec.IsMerged options.now program.now a.verdict a.text) }
+{
+    let Some(limits) = Limits::new(options.choices, options.steps, options.gates) else {
+        unreachable!()
+    };
+    match explore_merged(alloc, Job { program, limits }, options.states as usize) {
+        Ok(tallies) => Ok(Answer {
+            verdict: Verdict::Reported,
+            text: merged_report(alloc, program, &tallies)?.text,
+        }),
+        Err(MergeFault::TooManyStates) => Ok(Answer {
+            verdict: Verdict::TooManyStates,
+            text: Text::new("too many states\n".to_string(alloc)?),
+        }),
+        Err(MergeFault::TooManyOutcomes) => Ok(Answer {
+            verdict: Verdict::TooManyOutcomes,
+            text: Text::new("too many outcomes\n".to_string(alloc)?),
+        }),
+        Err(MergeFault::Memory) => Err(AllocError),
+    }
+}
+
 /// The report of a program's table, or that it has too many rows. The threads draw the members of a cutting.
 fn counted<X: Threads + Sync>(
     rt: &X,
@@ -242,6 +277,7 @@ fn counted<X: Threads + Sync>(
     options: &Options,
     program: &Resolved,
 ) -> Result<Answer, AllocError>
+    requires { options.now.merge ≡ false }
     ensures { IfOk result (λ a. spec.IsReported options.now program.now a.verdict a.text) }
 {
     let Some(limits) = Limits::new(options.choices, options.steps, options.gates) else {

@@ -12,9 +12,9 @@ const ABOUT: &str =
 const USAGE: &str = "cpx [OPTIONS] < PROGRAM";
 
 const NOTES: &str =
-    "Example: cpx --choices 5 < program.cp\n\nStatus: 0 reported, 1 source refused, 2 options refused, 3 no memory, 4 read or write fault,\n5 too many rows";
+    "Example: cpx --choices 5 < program.cp\n\nStatus: 0 reported, 1 source refused, 2 options refused, 3 no memory, 4 read or write fault,\n5 too many rows, states or outcomes";
 
-/// Seven options, each with a long name alone; `clap` adds `--help` and `-h`.
+/// Nine options, each with a long name alone; `clap` adds `--help` and `-h`.
 pub fn command<'a>(alloc: Global) -> Result<Command<'a>, AllocError>
     ensures { IfOk result (λ c. app_of c ≡ cpx) }
 {
@@ -22,7 +22,7 @@ pub fn command<'a>(alloc: Global) -> Result<Command<'a>, AllocError>
         alloc,
         "choices",
         "K",
-        "Choices of a schedule, 0 to 20 [default: 8]",
+        "Choices of a schedule, 0 to 20, with --merge to 100 [default: 8]",
     );
     let steps = option(
         alloc,
@@ -47,11 +47,22 @@ pub fn command<'a>(alloc: Global) -> Result<Command<'a>, AllocError>
         "rows",
         "Write a line for each schedule, before the report",
     );
+    let merge = switch(
+        alloc,
+        "merge",
+        "Count schedules that come to one state together, without rows",
+    );
+    let states = option(
+        alloc,
+        "states",
+        "N",
+        "States that a layer may have with --merge, 1 to 10000000 [default: 200000]",
+    );
     let schedule = option(
         alloc,
         "schedule",
         "WORD",
-        "Trace this one schedule: `none`, or up to 20 numbers 0 to 15 joined by periods",
+        "Trace this one schedule: `none`, or up to 20 numbers 0 to 15 joined by periods, with --merge up to 100",
     );
     let gates = option(
         alloc,
@@ -65,6 +76,8 @@ pub fn command<'a>(alloc: Global) -> Result<Command<'a>, AllocError>
         .arg(workers)?
         .arg(cut)?
         .arg(rows)?
+        .arg(merge)?
+        .arg(states)?
         .arg(schedule)?
         .arg(gates)?;
     Ok(command)

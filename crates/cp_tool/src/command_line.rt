@@ -1,11 +1,10 @@
 //! The options of the words.
-ghost use Rattle.std.specs.Prelude.{◌≡◌, ◌≤◌, IfErr, IfOk, length, map, option_map, true};
-ghost use Rattle.clap.specs.Words.{rows_of, found_of};
+ghost use Rattle.std.specs.Prelude.{◌≡◌, ◌≤◌, IfErr, IfOk, codes, length, map, option_map, true};
+ghost use Rattle.clap.specs.Words.{first_of, found_of, rows_of};
 ghost use Rattle.cp_tool.specs.Finds.{Finds};
-ghost use Rattle.cp_tool.specs.Options.{Gives, HasOptions, HasRefusedValue, IsScheduled, IsFaultFor, IsGated};
+ghost use Rattle.cp_tool.specs.Options.{Gives, HasOptions, HasRefusedValue, IsScheduled, IsFaultFor, IsGated, is_asked};
+ghost use Rattle.cp_tool.specs.Words.{most_choices};
 
-#[cfg(test)]
-mod tests;
 
 use crate::command::command;
 use crate::numbers::chosen;
@@ -73,45 +72,64 @@ fn has_refused_value<'a>(alloc: Global, words: &'a [&'a str]) -> Result<bool, Al
 fn options_of(alloc: Global, matches: &ArgMatches<'_>) -> Result<Option<Options>, AllocError>
     ensures { IfOk result (Finds (HasOptions (rows_of (found_of matches.now)))) }
 {
-    let Some(choices) = chosen(matches.get_str("choices"), 8, 0, 20) else {
-        return Ok(None);
-    };
-    let Some(steps) = chosen(matches.get_str("steps"), 1_000, 1, 100_000) else {
-        return Ok(None);
-    };
-    let Some(workers) = chosen(matches.get_str("workers"), 2, 1, 16) else {
-        return Ok(None);
-    };
-    let Some(cut) = chosen(matches.get_str("cut"), 2, 0, 20) else {
-        return Ok(None);
-    };
-    let Some(gates) = gates_of(matches.get_str("gates")) else {
-        return Ok(None);
-    };
-    let Some(schedule) = schedule_of(alloc, matches.get_str("schedule"))? else {
-        return Ok(None);
-    };
-    Ok(Some(Options {
-        choices: choices as u8,
-        steps,
-        workers: workers as u8,
-        cut: cut as u8,
-        rows: matches.get_flag("rows"),
-        schedule,
-        gates,
-    }))
+    let merge = is_asked(matches.get_str("merge"));
+    let schedule = schedule_of(alloc, matches.get_str("schedule"), most_choices(merge))?;
+    Ok(options_with(matches, merge, schedule))
+}
+
+fn options_with(
+    matches: &ArgMatches<'_>,
+    merge: bool,
+    schedule: Option<Option<ArrayVec<u8, 100>>>,
+) -> Option<Options>
+    requires merge { merge ≡ is_asked (first_of (codes "merge") (rows_of (found_of matches.now))) }
+    requires schedule { Finds (IsScheduled (most_choices merge) (first_of (codes "schedule") (rows_of (found_of matches.now)))) schedule }
+    ensures { Finds (HasOptions (rows_of (found_of matches.now))) result }
+{
+    let rows = is_asked(matches.get_str("rows"));
+    if merge && rows {
+        return None;
+    }
+    let most = u32::from(most_choices(merge));
+    Some(Options {
+        choices: chosen(matches.get_str("choices"), 8, 0, most)? as u8,
+        steps: chosen(matches.get_str("steps"), 1_000, 1, 100_000)?,
+        workers: chosen(matches.get_str("workers"), 2, 1, 16)? as u8,
+        cut: chosen(matches.get_str("cut"), 2, 0, 20)? as u8,
+        rows,
+        merge,
+        states: chosen(matches.get_str("states"), 200_000, 1, 10_000_000)?,
+        schedule: schedule?,
+        gates: gates_of(matches.get_str("gates"))?,
+    })
+}
+
+/// The most choices of a schedule, where states are merged and where not.
+fn most_choices(merge: bool) -> u8
+    ensures { result ≡ most_choices merge }
+{
+    if merge { 100 } else { 20 }
+}
+
+/// Whether the text of a flag says that it was given.
+fn is_asked(text: Option<&str>) -> bool
+    ensures { result ≡ is_asked (option_map (λ s. s.now) text.entry) }
+{
+    text == Some("true")
 }
 
 fn schedule_of(
     alloc: Global,
     text: Option<&str>,
-) -> Result<Option<Option<ArrayVec<u8, 20>>>, AllocError>
-    ensures { IfOk result (Finds (IsScheduled (option_map (λ s. s.now) text.entry))) }
+    most: u8,
+) -> Result<Option<Option<ArrayVec<u8, 100>>>, AllocError>
+    requires { most ≤ 100 }
+    ensures { IfOk result (Finds (IsScheduled most (option_map (λ s. s.now) text.entry))) }
 {
     let Some(text) = text else {
         return Ok(Some(None));
     };
-    let Some(word) = word_of(alloc, text)? else {
+    let Some(word) = word_of(alloc, text, most)? else {
         return Ok(None);
     };
     Ok(Some(Some(word)))

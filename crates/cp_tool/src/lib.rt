@@ -9,8 +9,6 @@ pub mod options;
 pub mod refusal;
 mod schedule;
 pub mod stream;
-#[cfg(test)]
-mod tests;
 pub mod transfer;
 pub mod wrapped;
 

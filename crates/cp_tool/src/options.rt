@@ -1,7 +1,7 @@
 //! The options and their ranges, and why there are none.
-ghost use Rattle.std.specs.Prelude.{◌≤◌};
+ghost use Rattle.std.specs.Prelude.{◌≡◌, ◌≤◌, ◌&&◌, false};
 ghost use Rattle.std.specs.Option.{ForSome};
-ghost use Rattle.cp_tool.specs.Words.{IsWord};
+ghost use Rattle.cp_tool.specs.Words.{IsWord, most_choices};
 
 use arrayvec::ArrayVec;
 use cp_machine::Gates;
@@ -20,17 +20,24 @@ pub struct Options {
     pub cut: u8,
     /// Whether the report has a line for each row.
     pub rows: bool,
+    /// Whether schedules that come to one state are counted together.
+    pub merge: bool,
+    /// The most states of a layer, where they are.
+    pub states: u32,
     /// The one schedule to be traced, if any.
-    pub schedule: Option<ArrayVec<u8, 20>>,
+    pub schedule: Option<ArrayVec<u8, 100>>,
     /// Who goes into a monitor that becomes free.
     pub gates: Gates,
-    ghost choices_range: { choices ≤ 20 },
+    ghost choices_range: { choices ≤ most_choices merge },
     ghost steps_range: { steps ≤ 100000 },
     ghost some_step: { 1 ≤ steps },
     ghost workers_range: { workers ≤ 16 },
     ghost some_worker: { 1 ≤ workers },
     ghost cut_range: { cut ≤ 20 },
-    ghost schedule_range: { ForSome schedule (λ w. IsWord w.items) },
+    ghost rows_or_merge: { (merge && rows) ≡ false },
+    ghost states_range: { states ≤ 10000000 },
+    ghost some_state: { 1 ≤ states },
+    ghost schedule_range: { ForSome schedule (λ w. IsWord (most_choices merge) w.items) },
 }
 
 /// Why there are no options.

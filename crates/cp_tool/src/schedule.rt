@@ -1,17 +1,18 @@
 //! Schedule words and their texts.
-ghost use Rattle.std.specs.Prelude.{◌≡◌, ℕ, List, IfOk, IfSome, IsSomeAnd, string_bytes};
+ghost use Rattle.std.specs.Prelude.{◌≡◌, ◌≤◌, ℕ, List, IfOk, IfSome, IsSomeAnd, string_bytes};
 ghost use Rattle.cp_tool.specs.Finds.{Finds};
 ghost use Rattle.cp_tool.specs.Words.{IsWord, spelled};
 
 use arrayvec::ArrayVec;
 use std::alloc::{AllocError, Global};
 
-/// The word that the text spells, or `None` where it spells none. The text is read leniently, and
+/// The word of at most so many numbers that the text spells, or `None` where it spells none. The text is read leniently, and
 /// what was read is spelled again: where that is another text, the first spells no word.
-pub fn word_of(alloc: Global, text: &str) -> Result<Option<ArrayVec<u8, 20>>, AllocError>
-    ensures { IfOk result (Finds (λ w. IsWord w.items × (spelled w.items ≡ text.now))) }
+pub fn word_of(alloc: Global, text: &str, most: u8) -> Result<Option<ArrayVec<u8, 100>>, AllocError>
+    requires { most ≤ 100 }
+    ensures { IfOk result (Finds (λ w. IsWord most w.items × (spelled w.items ≡ text.now))) }
 {
-    let Some(word) = numbers_of(text) else {
+    let Some(word) = numbers_of(text, most) else {
         return Ok(None);
     };
     let again = spell(alloc, word.as_slice())?;
@@ -22,9 +23,10 @@ pub fn word_of(alloc: Global, text: &str) -> Result<Option<ArrayVec<u8, 20>>, Al
     }
 }
 
-fn numbers_of(text: &str) -> Option<ArrayVec<u8, 20>>
-    ensures word { IfSome result (λ v. IsWord v.items) }
-    ensures reads { (w : List ℕ) → IsWord w → spelled w ≡ text.now
+fn numbers_of(text: &str, most: u8) -> Option<ArrayVec<u8, 100>>
+    requires { most ≤ 100 }
+    ensures word { IfSome result (λ v. IsWord most v.items) }
+    ensures reads { (w : List ℕ) → IsWord most w → spelled w ≡ text.now
         → IsSomeAnd result (λ v. v.items ≡ w) }
 {
     let mut word = ArrayVec::new();
@@ -35,7 +37,7 @@ fn numbers_of(text: &str) -> Option<ArrayVec<u8, 20>>
         let Ok(number) = part.parse::<u8>() else {
             return None;
         };
-        if number > 15 || word.is_full() {
+        if number > 15 || word.len() >= most as usize {
             return None;
         }
         word.push(number);

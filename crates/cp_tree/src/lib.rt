@@ -15,8 +15,6 @@ mod read_routine;
 mod read_statement;
 mod read_type;
 pub mod statement;
-#[cfg(test)]
-mod tests;
 pub mod tree;
 pub mod types;
 

@@ -189,7 +189,7 @@ fn shown(
 }
 
 fn word_of(options: &Options) -> &[u8]
-    ensures { length result.now ≤ 20 }
+    ensures { length result.now ≤ 100 }
 {
     match &options.schedule {
         Some(word) => word.as_slice(),
@@ -209,7 +209,7 @@ fn told<L: Ledger>(
     requires name { blank.name ≡ L.name }
     requires parts { blank.parts ≡ L.parts }
     requires one { L.parts ≡ 1 }
-    requires word { length word.now ≤ 20 }
+    requires word { length word.now ≤ 100 }
     ensures { IfOk result (λ story. UsedWithin story.end (length word.now)) }
 {
     let Some(limits) = Limits::new(options.choices, options.steps, options.gates) else {

@@ -52,7 +52,7 @@ fn with_schedule<'a>(alloc: Global, command: Command<'a>) -> Result<Command<'a>,
         alloc,
         "schedule",
         "WORD",
-        "The schedule: `none`, or up to 20 numbers 0 to 15 joined by periods",
+        "The schedule: `none`, or up to 100 numbers 0 to 15 joined by periods",
     )
     .required(true);
     with_limits(alloc, command.arg(schedule)?)
@@ -63,7 +63,7 @@ fn with_limits<'a>(alloc: Global, command: Command<'a>) -> Result<Command<'a>, A
         alloc,
         "choices",
         "K",
-        "Choices of a schedule, 0 to 20 [default: 8]",
+        "Choices of a schedule, 0 to 20, with --merge 0 to 100 [default: 8]",
     );
     let steps = option(
         alloc,
@@ -77,7 +77,11 @@ fn with_limits<'a>(alloc: Global, command: Command<'a>) -> Result<Command<'a>, A
         "WHO",
         "Who enters a monitor that becomes free: `first` in line, or `any` [default: first]",
     );
-    Ok(command.arg(choices)?.arg(steps)?.arg(gates)?)
+    let merge = Arg::new(alloc, "merge")
+        .long("merge")
+        .action(ArgAction::SetTrue)
+        .help("Take schedules of up to 100 choices");
+    Ok(command.arg(choices)?.arg(steps)?.arg(gates)?.arg(merge)?)
 }
 
 fn option<'a>(alloc: Global, name: &'a str, value: &'a str, help: &'a str) -> Arg<'a> {

@@ -76,5 +76,8 @@ fn shared_words(alloc: Global, matches: &ArgMatches<'_>) -> Result<Vec<String>, 
             words.push(format!(in alloc; "--{name}={value}")?)?;
         }
     }
+    if matches.get_flag("merge") {
+        words.push(String::from_str(alloc, "--merge")?)?;
+    }
     Ok(words)
 }

@@ -1,83 +1,142 @@
-//! Parts, routines and system types.
+//! Routines, system types and the program.
+
+ghost use Rattle.std.specs.Prelude.{◌≡◌, map, length, OnOk};
+ghost use Rattle.cp_tree.specs.View.{routine_view, body_view, system_view, definition_view, system_definition_view, program_part_view, program_view};
+ghost use Rattle.cp_slots.specs.Layers.{layer_seen, heading_seen, Lays, Leads};
+ghost use Rattle.cp_slots.specs.LaidDeclarations as spec;
+ghost use Rattle.cp_slots.specs.LaidDeclarations.{outer_seen};
 
 use crate::lay_out::kinds::ValueType;
-use crate::lay_out::layer::{
-    Contained, Frame, FunctionResult, Heading, Layer, Owned, Parameter, Passing, System,
-};
-use crate::lay_out::names::Meaning;
-use crate::place::Origin;
-use crate::tables::ComponentParameter;
+use crate::lay_out::layer::{Frame, Heading, Layer, Owned, Parameter, System};
+use crate::lay_out::names::{Meaning, Names};
 use cp_tree::{
-    ConstantDefinition, Definition, Group, Identifier, ParameterGroup, Part, PartKind, Program,
-    ProgramPart, ProgramPartKind, Routine, RoutineKind, System as WrittenSystem, SystemDefinition,
-    TypeDefinition, VariableGroup,
+    Body, Definition, Program, ProgramPart, ProgramPartKind, Routine, System as WrittenSystem,
+    SystemDefinition, SystemKind,
 };
 use std::alloc::{AllocError, Global};
 use std::mem;
 
+/// The names and the cells of the program, while a system type is laid out.
+#[derive(Drop)]
+struct Outer<'a> {
+    names: Names<'a>,
+    owned: Owned,
+}
+
 impl<'a> Layer<'a> {
     /// The whole program. The last routine is its initial statement.
-    pub fn program(&mut self, alloc: Global, node: &'a Program) -> Result<(), AllocError> {
-        for part in &node.parts {
-            self.program_part(alloc, part)?;
-        }
-        for routine in &node.routines {
-            self.routine(alloc, routine)?;
-        }
-        self.begin(alloc, "")?;
-        let body = self.list(alloc, &node.body.statements)?;
-        self.add_routine(alloc, body)
+    #[tactic(auto, unfolding(crate::specs::LaidDeclarations::program))]
+    pub fn program(&mut self, alloc: Global, node: &'a Program) -> Result<(), AllocError>
+        ensures { Leads (spec.program (layer_seen self.old) (program_view node.now)) (layer_seen self.new) result }
+    {
+        self.program_parts(alloc, &node.parts)?;
+        self.routines(alloc, &node.routines)?;
+        self.initial_statement(alloc, Vec::new(alloc), &node.body)
     }
 
-    fn program_part(&mut self, alloc: Global, node: &'a ProgramPart) -> Result<(), AllocError> {
+    #[tactic(auto, using(crate::proofs::LaidParts::program_parts_step, crate::proofs::LaidParts::program_parts_none))]
+    fn program_parts(&mut self, alloc: Global, parts: &'a [ProgramPart]) -> Result<(), AllocError>
+        ensures { Leads (spec.program_parts (layer_seen self.old) (map program_part_view parts.now)) (layer_seen self.new) result }
+    {
+        for part in parts {
+            self.program_part(alloc, part)?;
+        }
+        Ok(())
+    }
+
+    fn program_part(&mut self, alloc: Global, node: &'a ProgramPart) -> Result<(), AllocError>
+        ensures { Leads (spec.program_part (layer_seen self.old) (program_part_view node.now)) (layer_seen self.new) result }
+    {
         match &node.kind {
             ProgramPartKind::Constants(definitions) => self.constants(definitions),
-            ProgramPartKind::Types(definitions) => {
-                for definition in definitions {
-                    self.system_definition(alloc, definition)?;
-                }
-                Ok(())
-            }
+            ProgramPartKind::Types(definitions) => self.system_definitions(alloc, definitions),
             ProgramPartKind::Variables(groups) => self.variables(alloc, groups),
         }
+    }
+
+    #[tactic(auto, using(crate::proofs::LaidParts::system_definitions_step, crate::proofs::LaidParts::system_definitions_none))]
+    fn system_definitions(
+        &mut self,
+        alloc: Global,
+        definitions: &'a [SystemDefinition],
+    ) -> Result<(), AllocError>
+        ensures { Leads (spec.system_definitions (layer_seen self.old) (map system_definition_view definitions.now)) (layer_seen self.new) result }
+    {
+        for definition in definitions {
+            self.system_definition(alloc, definition)?;
+        }
+        Ok(())
     }
 
     fn system_definition(
         &mut self,
         alloc: Global,
         node: &'a SystemDefinition,
-    ) -> Result<(), AllocError> {
-        let value_type = match &node.value {
-            Definition::Type(written) => self.value_type(alloc, written)?,
-            Definition::System(system) => self.system(alloc, system)?,
-        };
-        self.names
-            .add(node.name.name.as_str(), Meaning::Kind(value_type))
+    ) -> Result<(), AllocError>
+        ensures { Leads (spec.system_definition (layer_seen self.old) (system_definition_view node.now)) (layer_seen self.new) result }
+    {
+        let value_type = self.definition(alloc, &node.value)?;
+        self.declare(&node.name, Meaning::Kind(value_type))
     }
 
-    fn system(&mut self, alloc: Global, node: &'a WrittenSystem) -> Result<ValueType, AllocError> {
-        let outer = mem::replace(&mut self.owned, Owned::new(alloc));
-        let names = self.names.open();
-        self.names.seal();
-        let first = self.routines.len();
-        let parameters = self.system_parameters(alloc, &node.parameters)?;
-        for part in &node.parts {
-            self.permanent_part(alloc, part)?;
+    fn definition(&mut self, alloc: Global, node: &'a Definition) -> Result<ValueType, AllocError>
+        ensures { Lays (λ t. t) (spec.definition (layer_seen self.old) (definition_view node.now)) (layer_seen self.new) result }
+    {
+        match node {
+            Definition::Type(written) => self.value_type(alloc, written),
+            Definition::System(system) => self.system(alloc, system),
         }
-        for routine in &node.routines {
-            self.routine(alloc, routine)?;
-        }
-        let initial = self.routines.len();
-        self.begin(alloc, "")?;
-        self.set_parameters(parameters);
-        let body = self.list(alloc, &node.body.statements)?;
-        self.add_routine(alloc, body)?;
-        self.names.close(names);
-        self.names.unseal();
-        let owned = mem::replace(&mut self.owned, outer);
+    }
+
+    #[tactic(auto, unfolding(crate::specs::LaidDeclarations::system))]
+    fn system(&mut self, alloc: Global, node: &'a WrittenSystem) -> Result<ValueType, AllocError>
+        ensures { Lays (λ t. t) (spec.system (layer_seen self.old) (system_view node.now)) (layer_seen self.new) result }
+    {
+        let first = self.routine_count();
+        let outer = self.enter(alloc)?;
+        let parameters = self.system_groups(alloc, &node.parameters)?;
+        self.permanent_parts(alloc, &node.parts)?;
+        self.routines(alloc, &node.routines)?;
+        let initial = self.routine_count();
+        self.initial_statement(alloc, parameters, &node.body)?;
+        self.leave(outer, node.kind, first, initial)
+    }
+
+    #[tactic(auto, unfolding(crate::specs::Layers::layer_seen))]
+    fn routine_count(&self) -> usize
+        ensures { result ≡ length (layer_seen self.now).routines }
+    {
+        self.routines.len()
+    }
+
+    // A system type begins: it sees some of the names, and has its own cells.
+    #[tactic(auto, unfolding(crate::specs::Layers::layer_seen))]
+    fn enter(&mut self, alloc: Global) -> Result<Outer<'a>, AllocError>
+        ensures { Lays outer_seen (spec.entered (layer_seen self.old)) (layer_seen self.new) result }
+    {
+        let inside = self.names.inside(alloc)?;
+        Ok(Outer {
+            names: mem::replace(&mut self.names, inside),
+            owned: mem::replace(&mut self.owned, Owned::new(alloc)),
+        })
+    }
+
+    // A system type is whole.
+    #[tactic(auto, unfolding(crate::specs::Layers::layer_seen))]
+    fn leave(
+        &mut self,
+        outer: Outer<'a>,
+        kind: SystemKind,
+        first: usize,
+        initial: usize,
+    ) -> Result<ValueType, AllocError>
+        ensures { Lays (λ t. t) (spec.left (layer_seen self.old) (outer_seen outer.entry) kind first initial) (layer_seen self.new) result }
+    {
+        self.names = outer.names;
+        let owned = mem::replace(&mut self.owned, outer.owned);
         let number = self.systems.len();
         self.systems.push(System {
-            kind: node.kind,
+            kind,
             owned,
             first,
             initial,
@@ -85,269 +144,91 @@ impl<'a> Layer<'a> {
         Ok(ValueType::System(number))
     }
 
-    // The routine that is laid out has these parameters.
-    fn set_parameters(&mut self, parameters: Vec<Parameter>) {
-        if let Some(heading) = self.headings.last_mut() {
-            heading.parameters = parameters;
-        }
-    }
-
-    fn system_parameters(
-        &mut self,
-        alloc: Global,
-        groups: &'a [Group],
-    ) -> Result<Vec<Parameter>, AllocError> {
-        let mut parameters = Vec::new(alloc);
-        for group in groups {
-            let value_type = self.named_type(group.type_name.name.as_str());
-            for identifier in &group.names {
-                let parameter = self.system_parameter(identifier, value_type)?;
-                parameters.push(parameter)?;
-            }
-        }
-        Ok(parameters)
-    }
-
-    fn system_parameter(
-        &mut self,
-        identifier: &'a Identifier,
-        value_type: ValueType,
-    ) -> Result<Parameter, AllocError> {
-        let name = identifier.name.as_str();
-        let slot = self.owned.image.len();
-        if let ValueType::System(system) = value_type {
-            self.owned.image.push(0)?;
-            self.owned
-                .parameters
-                .push(ComponentParameter { slot, system })?;
-            self.names.add(name, Meaning::Bound(slot, system))?;
-            return Ok(Parameter {
-                slot,
-                passing: Passing::Component,
-            });
-        }
-        self.types.add_least(&mut self.owned.image, value_type)?;
-        self.names.add(name, Meaning::Variable(Origin::Permanent(slot), value_type))?;
-        Ok(Parameter {
-            slot,
-            passing: Passing::Value(value_type),
-        })
-    }
-
-    fn permanent_part(&mut self, alloc: Global, node: &'a Part) -> Result<(), AllocError> {
-        match &node.kind {
-            PartKind::Constants(definitions) => self.constants(definitions),
-            PartKind::Types(definitions) => self.type_definitions(alloc, definitions),
-            PartKind::Variables(groups) => self.variables(alloc, groups),
-        }
-    }
-
-    fn local_part(&mut self, alloc: Global, node: &'a Part) -> Result<(), AllocError> {
-        match &node.kind {
-            PartKind::Constants(definitions) => self.constants(definitions),
-            PartKind::Types(definitions) => self.type_definitions(alloc, definitions),
-            PartKind::Variables(groups) => self.local_variables(alloc, groups),
-        }
-    }
-
-    fn constants(&mut self, definitions: &'a [ConstantDefinition]) -> Result<(), AllocError> {
-        for definition in definitions {
-            let value = self.constant(&definition.value);
-            let meaning = Meaning::Constant(value.base, value.number);
-            self.names.add(definition.name.name.as_str(), meaning)?;
+    #[tactic(auto, using(crate::proofs::LaidParts::routines_step, crate::proofs::LaidParts::routines_none))]
+    fn routines(&mut self, alloc: Global, nodes: &'a [Routine]) -> Result<(), AllocError>
+        ensures { Leads (spec.routines (layer_seen self.old) (map routine_view nodes.now)) (layer_seen self.new) result }
+    {
+        for node in nodes {
+            self.routine(alloc, node)?;
         }
         Ok(())
     }
 
-    fn type_definitions(
-        &mut self,
-        alloc: Global,
-        definitions: &'a [TypeDefinition],
-    ) -> Result<(), AllocError> {
-        for definition in definitions {
-            let value_type = self.value_type(alloc, &definition.value)?;
-            self.names
-                .add(definition.name.name.as_str(), Meaning::Kind(value_type))?;
-        }
+    fn routine(&mut self, alloc: Global, node: &'a Routine) -> Result<(), AllocError>
+        ensures { Leads (spec.routine (layer_seen self.old) (routine_view node.now)) (layer_seen self.new) result }
+    {
+        let names = self.open(alloc, node)?;
+        self.routine_inside(alloc, node)?;
+        self.close(names);
         Ok(())
     }
 
-    fn variables(&mut self, alloc: Global, groups: &'a [VariableGroup]) -> Result<(), AllocError> {
-        for group in groups {
-            let value_type = self.value_type(alloc, &group.variable_type)?;
-            for identifier in &group.names {
-                self.variable(identifier, value_type)?;
-            }
-        }
-        Ok(())
-    }
-
-    // A permanent variable.
-    fn variable(
-        &mut self,
-        identifier: &'a Identifier,
-        value_type: ValueType,
-    ) -> Result<(), AllocError> {
-        let name = identifier.name.as_str();
-        if let Some(contained) = self.components_of(value_type) {
-            let first = self.owned.count;
-            let each = self.component_count(contained.system);
-            self.owned.count = first.saturating_add(each.saturating_mul(contained.count));
-            self.owned.contained.push(contained)?;
-            return self.names.add(name, Meaning::Contained(first, value_type));
-        }
-        let slot = self.owned.image.len();
-        self.types.add_least(&mut self.owned.image, value_type)?;
-        self.names.add(name, Meaning::Variable(Origin::Permanent(slot), value_type))
-    }
-
-    // The components of a variable.
-    fn components_of(&self, value_type: ValueType) -> Option<Contained> {
-        if let ValueType::System(system) = value_type {
-            return Some(Contained { system, count: 1 });
-        }
-        let array = self.types.array(value_type)?;
-        match array.element {
-            ValueType::System(system) => Some(Contained {
-                system,
-                count: array.index.count(),
-            }),
-            _ => None,
-        }
-    }
-
-    fn local_variables(
-        &mut self,
-        alloc: Global,
-        groups: &'a [VariableGroup],
-    ) -> Result<(), AllocError> {
-        for group in groups {
-            let value_type = self.value_type(alloc, &group.variable_type)?;
-            for identifier in &group.names {
-                self.local(identifier, value_type)?;
-            }
-        }
-        Ok(())
-    }
-
-    // A variable or a constant parameter of a routine, by its first cell.
-    fn local(
-        &mut self,
-        identifier: &'a Identifier,
-        value_type: ValueType,
-    ) -> Result<usize, AllocError> {
-        let slot = self.add_local(value_type)?;
-        let meaning = Meaning::Variable(Origin::Local(slot), value_type);
-        self.names.add(identifier.name.as_str(), meaning)?;
-        Ok(slot)
-    }
-
-    fn add_local(&mut self, value_type: ValueType) -> Result<usize, AllocError> {
-        let slot = self.frame.image.len();
-        self.types.add_least(&mut self.frame.image, value_type)?;
-        Ok(slot)
-    }
-
-    // Begins a routine or an initial statement.
-    fn begin(&mut self, alloc: Global, name: &'a str) -> Result<(), AllocError> {
+    // Declares a routine. The answer is how many names there are then.
+    #[tactic(auto, unfolding(crate::specs::Layers::layer_seen))]
+    fn open(&mut self, alloc: Global, node: &'a Routine) -> Result<usize, AllocError>
+        ensures { Lays (λ n. n) (spec.opened (layer_seen self.old) node.now.name.name) (layer_seen self.new) result }
+    {
+        let number = self.routines.len();
+        self.names
+            .add(node.name.name.as_str(), Meaning::Routine(number))?;
         self.frame = Frame::new(alloc);
-        self.headings.push(Heading {
-            name,
-            parameters: Vec::new(alloc),
+        Ok(self.names.open())
+    }
+
+    fn routine_inside(&mut self, alloc: Global, node: &'a Routine) -> Result<(), AllocError>
+        ensures { Leads (spec.routine_inside (layer_seen self.old) (routine_view node.now)) (layer_seen self.new) result }
+    {
+        let heading = self.heading(alloc, node.name.name.as_str(), &node.kind)?;
+        self.add_heading(heading)?;
+        self.local_parts(alloc, &node.parts)?;
+        self.body(alloc, &node.body)
+    }
+
+    // Only the first names remain.
+    #[tactic(auto, unfolding(crate::specs::Layers::layer_seen))]
+    fn close(&mut self, count: usize)
+        ensures { layer_seen self.new ≡ spec.closed (layer_seen self.old) count }
+    {
+        self.names.close(count);
+    }
+
+    #[tactic(auto, unfolding(crate::specs::Layers::layer_seen))]
+    fn add_heading(&mut self, heading: Heading<'a>) -> Result<(), AllocError>
+        ensures { Leads (spec.with_heading (layer_seen self.old) (heading_seen heading.entry)) (layer_seen self.new) result }
+    {
+        self.headings.push(heading)?;
+        Ok(())
+    }
+
+    fn body(&mut self, alloc: Global, node: &'a Body) -> Result<(), AllocError>
+        ensures { Leads (spec.body (layer_seen self.old) (body_view node.now)) (layer_seen self.new) result }
+    {
+        let list = self.list(alloc, &node.statements)?;
+        self.add_routine(alloc, list)
+    }
+
+    // The initial statement of a system type or of the program, whose name is empty.
+    fn initial_statement(
+        &mut self,
+        alloc: Global,
+        parameters: Vec<Parameter>,
+        node: &'a Body,
+    ) -> Result<(), AllocError>
+        ensures { Leads (spec.initial_statement (layer_seen self.old) parameters.items (body_view node.now)) (layer_seen self.new) result }
+    {
+        self.begin_frame(alloc);
+        self.add_heading(Heading {
+            name: "",
+            parameters,
             result: None,
         })?;
-        Ok(())
+        self.body(alloc, node)
     }
 
-    fn routine(&mut self, alloc: Global, node: &'a Routine) -> Result<(), AllocError> {
-        let name = node.name.name.as_str();
-        let number = self.routines.len();
-        self.names.add(name, Meaning::Routine(number))?;
-        let names = self.names.open();
-        self.begin(alloc, name)?;
-        match &node.kind {
-            RoutineKind::Procedure(groups) => self.procedure_parameters(alloc, groups)?,
-            RoutineKind::Function(groups, type_name) => {
-                self.function_parameters(alloc, groups, type_name)?
-            }
-        }
-        for part in &node.parts {
-            self.local_part(alloc, part)?;
-        }
-        let body = self.list(alloc, &node.body.statements)?;
-        self.add_routine(alloc, body)?;
-        self.names.close(names);
-        Ok(())
-    }
-
-    fn procedure_parameters(
-        &mut self,
-        alloc: Global,
-        groups: &'a [ParameterGroup],
-    ) -> Result<(), AllocError> {
-        let mut parameters = Vec::new(alloc);
-        for group in groups {
-            if group.is_var {
-                self.var_parameters(&mut parameters, &group.group)?;
-            } else {
-                self.constant_parameters(&mut parameters, &group.group)?;
-            }
-        }
-        self.set_parameters(parameters);
-        Ok(())
-    }
-
-    fn function_parameters(
-        &mut self,
-        alloc: Global,
-        groups: &'a [Group],
-        type_name: &Identifier,
-    ) -> Result<(), AllocError> {
-        let mut parameters = Vec::new(alloc);
-        for group in groups {
-            self.constant_parameters(&mut parameters, group)?;
-        }
-        self.set_parameters(parameters);
-        let value_type = self.named_type(type_name.name.as_str());
-        let slot = self.add_local(value_type)?;
-        if let Some(heading) = self.headings.last_mut() {
-            heading.result = Some(FunctionResult { slot, value_type });
-        }
-        Ok(())
-    }
-
-    fn constant_parameters(
-        &mut self,
-        parameters: &mut Vec<Parameter>,
-        group: &'a Group,
-    ) -> Result<(), AllocError> {
-        let value_type = self.named_type(group.type_name.name.as_str());
-        for identifier in &group.names {
-            let slot = self.local(identifier, value_type)?;
-            parameters.push(Parameter {
-                slot,
-                passing: Passing::Value(value_type),
-            })?;
-        }
-        Ok(())
-    }
-
-    fn var_parameters(
-        &mut self,
-        parameters: &mut Vec<Parameter>,
-        group: &'a Group,
-    ) -> Result<(), AllocError> {
-        let value_type = self.named_type(group.type_name.name.as_str());
-        for identifier in &group.names {
-            let slot = self.frame.extents.len();
-            self.frame.extents.push(self.types.cells_of(value_type))?;
-            let meaning = Meaning::Variable(Origin::Reference(slot), value_type);
-            self.names.add(identifier.name.as_str(), meaning)?;
-            parameters.push(Parameter {
-                slot,
-                passing: Passing::Reference,
-            })?;
-        }
-        Ok(())
+    #[tactic(auto, unfolding(crate::specs::Layers::layer_seen))]
+    fn begin_frame(&mut self, alloc: Global)
+        ensures { layer_seen self.new ≡ spec.with_new_frame (layer_seen self.old) }
+    {
+        self.frame = Frame::new(alloc);
     }
 }

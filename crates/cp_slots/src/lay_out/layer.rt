@@ -1,10 +1,15 @@
 //! What is laid out so far.
 
+ghost use Rattle.std.specs.Prelude.{◌≡◌, map, length, IfOk, OnOk, Some};
+ghost use Rattle.cp_slots.specs.Code.{action_seen, item_seen};
+ghost use Rattle.cp_slots.specs.Layers as spec;
+ghost use Rattle.cp_slots.specs.Layers.{layer_seen, frame_seen, owned_seen, pending_seen, Lays, Leads};
+
 use crate::item::{Action, Item};
 use crate::lay_out::kinds::{Types, ValueType};
-use crate::lay_out::names::Names;
+use crate::lay_out::names::{Meaning, Names};
 use crate::tables::{ComponentParameter, Routine};
-use cp_tree::{SystemKind, Tree};
+use cp_tree::{Identifier, SystemKind, Tree};
 use std::alloc::{AllocError, Global};
 use std::mem;
 
@@ -43,7 +48,7 @@ pub struct Heading<'a> {
 pub struct Frame {
     /// The cells as a call begins.
     pub image: Vec<i16>,
-    /// The cells behind each `var` parameter.
+    /// The cells of each `var` parameter.
     pub extents: Vec<usize>,
     /// The most cells and `var` parameters of what is called.
     pub room: usize,
@@ -57,10 +62,21 @@ pub struct Contained {
     pub count: usize,
 }
 
+/// What is in permanent cells that follow one another.
+#[derive(Clone, Copy, Drop)]
+pub enum Content {
+    Variable(ValueType),
+    /// A parameter that is a component, in one cell.
+    Component,
+}
+
 /// The permanent cells and the components of a system type, or of the program.
 #[derive(Drop)]
 pub struct Owned {
-    pub image: Vec<i16>,
+    /// How many cells there are.
+    pub cells: usize,
+    /// What is in them, from the first on.
+    pub contents: Vec<Content>,
     /// The parameters that are components.
     pub parameters: Vec<ComponentParameter>,
     pub contained: Vec<Contained>,
@@ -109,7 +125,9 @@ pub struct Layer<'a> {
 }
 
 impl Frame {
-    pub fn new(alloc: Global) -> Frame {
+    pub fn new(alloc: Global) -> Frame
+        ensures { frame_seen result ≡ spec.no_frame }
+    {
         Frame {
             image: Vec::new(alloc),
             extents: Vec::new(alloc),
@@ -120,9 +138,12 @@ impl Frame {
 }
 
 impl Owned {
-    pub fn new(alloc: Global) -> Owned {
+    pub fn new(alloc: Global) -> Owned
+        ensures { owned_seen result ≡ spec.no_owned }
+    {
         Owned {
-            image: Vec::new(alloc),
+            cells: 0,
+            contents: Vec::new(alloc),
             parameters: Vec::new(alloc),
             contained: Vec::new(alloc),
             count: 1,
@@ -132,7 +153,10 @@ impl Owned {
 
 impl<'a> Layer<'a> {
     /// The predeclared names alone.
-    pub fn new(alloc: Global, tree: &'a Tree) -> Result<Layer<'a>, AllocError> {
+    #[tactic(auto, unfolding(crate::specs::Layers::layer_seen))]
+    pub fn new(alloc: Global, tree: &'a Tree) -> Result<Layer<'a>, AllocError>
+        ensures { IfOk result (λ l. layer_seen l ≡ spec.nothing_laid tree.now.lines.items) }
+    {
         Ok(Layer {
             tree,
             types: Types::new(alloc),
@@ -149,31 +173,54 @@ impl<'a> Layer<'a> {
         })
     }
 
+    /// Declares a name.
+    #[tactic(auto, unfolding(crate::specs::Layers::layer_seen))]
+    pub fn declare(&mut self, node: &'a Identifier, meaning: Meaning) -> Result<(), AllocError>
+        ensures { Leads (spec.with_name (layer_seen self.old) node.now.name meaning) (layer_seen self.new) result }
+    {
+        self.names.add(node.name.as_str(), meaning)
+    }
+
     /// A parameter of a routine.
-    pub fn parameter(&self, routine: usize, place: usize) -> Option<Parameter> {
+    #[tactic(auto, unfolding(crate::specs::Layers::layer_seen))]
+    pub fn parameter(&self, routine: usize, place: usize) -> Option<Parameter>
+        ensures { result ≡ spec.parameter_of (layer_seen self.now) routine place }
+    {
         let heading = self.headings.get(routine)?;
         heading.parameters.get(place).copied()
     }
 
     /// A function's result.
-    pub fn result(&self, routine: usize) -> Option<FunctionResult> {
+    #[tactic(auto, unfolding(crate::specs::Layers::layer_seen))]
+    pub fn result(&self, routine: usize) -> Option<FunctionResult>
+        ensures { result ≡ spec.result_of (layer_seen self.now) routine }
+    {
         self.headings.get(routine)?.result
     }
 
     /// Whether it is the routine that is laid out.
-    pub fn is_own(&self, routine: usize) -> bool {
+    #[tactic(auto, unfolding(crate::specs::Layers::layer_seen))]
+    pub fn is_own(&self, routine: usize) -> bool
+        ensures { result ≡ spec.is_own (layer_seen self.now) routine }
+    {
         routine == self.routines.len()
     }
 
     /// A new cell of the frame, for the result of a call.
-    pub fn add_cell(&mut self) -> Result<usize, AllocError> {
+    #[tactic(auto, unfolding(crate::specs::Layers::layer_seen))]
+    pub fn add_cell(&mut self) -> Result<usize, AllocError>
+        ensures { Lays (λ n. n) (length (layer_seen self.old).frame.image, spec.with_cell (layer_seen self.old)) (layer_seen self.new) result }
+    {
         let slot = self.frame.image.len();
         self.frame.image.push(0)?;
         Ok(slot)
     }
 
     /// How many entries of a control stack a list needs.
-    pub fn need_of(&self, list: Option<usize>) -> usize {
+    #[tactic(auto, unfolding(crate::specs::Layers::layer_seen))]
+    pub fn need_of(&self, list: Option<usize>) -> usize
+        ensures { result ≡ spec.need_of (layer_seen self.now).items list }
+    {
         match list {
             Some(at) => match self.items.get(at) {
                 Some(item) => item.need,
@@ -184,7 +231,9 @@ impl<'a> Layer<'a> {
     }
 
     /// The same of a list inside an item.
-    pub fn need_inside(&self, list: Option<usize>) -> usize {
+    pub fn need_inside(&self, list: Option<usize>) -> usize
+        ensures { result ≡ spec.need_inside (layer_seen self.now).items list }
+    {
         match list {
             Some(_) => self.need_of(list).saturating_add(1),
             None => 0,
@@ -192,7 +241,11 @@ impl<'a> Layer<'a> {
     }
 
     /// The frame has room for those of a routine that is called, and the answer is what the call needs of a control stack.
-    pub fn reserve(&mut self, routine: usize) -> usize {
+    #[tactic(auto, unfolding(crate::specs::Layers::layer_seen))]
+    pub fn reserve(&mut self, routine: usize) -> usize
+        ensures need { result ≡ spec.call_need (layer_seen self.old) routine }
+        ensures room { layer_seen self.new ≡ spec.with_room (layer_seen self.old) routine }
+    {
         let Some(callee) = self.routines.get(routine) else {
             return 2;
         };
@@ -203,23 +256,26 @@ impl<'a> Layer<'a> {
     }
 
     /// The most that the items of the statement need.
-    pub fn pending_need(&self) -> usize {
-        let mut most = 0;
-        for item in &self.pending {
-            if item.need > most {
-                most = item.need;
-            }
-        }
-        most
+    #[tactic(auto, unfolding(crate::specs::Layers::layer_seen))]
+    pub fn pending_need(&self) -> usize
+        ensures { result ≡ spec.pending_need (layer_seen self.now) }
+    {
+        most_need(&self.pending)
     }
 
     /// The number that the first item of the statement will have, where one more is to come.
-    pub fn again(&self) -> usize {
+    #[tactic(auto, unfolding(crate::specs::Layers::layer_seen))]
+    pub fn again(&self) -> usize
+        ensures { result ≡ spec.again (layer_seen self.now) }
+    {
         self.items.len().saturating_add(self.pending.len())
     }
 
     /// One more item of the statement, by the token at which it begins.
-    pub fn add(&mut self, at: usize, action: Action, need: usize) -> Result<(), AllocError> {
+    #[tactic(auto, unfolding(crate::specs::Layers::layer_seen))]
+    pub fn add(&mut self, at: usize, action: Action, need: usize) -> Result<(), AllocError>
+        ensures { Leads (spec.added (layer_seen self.old) at (action_seen action) need) (layer_seen self.new) result }
+    {
         let line = self.tree.line(at);
         self.pending.push(Pending { action, line, need })?;
         Ok(())
@@ -230,16 +286,41 @@ impl<'a> Layer<'a> {
         &mut self,
         alloc: Global,
         next: Option<usize>,
-    ) -> Result<Option<usize>, AllocError> {
-        let pending = mem::replace(&mut self.pending, Vec::new(alloc));
+    ) -> Result<Option<usize>, AllocError>
+        ensures { Lays (λ o. o) (spec.settled (layer_seen self.old) next) (layer_seen self.new) result }
+    {
+        let pending = self.take_pending(alloc);
+        self.add_items(pending, next)
+    }
+
+    #[tactic(auto, unfolding(crate::specs::Layers::layer_seen))]
+    fn take_pending(&mut self, alloc: Global) -> Vec<Pending>
+        ensures taken { map pending_seen result.items ≡ (layer_seen self.old).pending }
+        ensures left { layer_seen self.new ≡ spec.without_pending (layer_seen self.old) }
+    {
+        mem::replace(&mut self.pending, Vec::new(alloc))
+    }
+
+    #[tactic(auto, using(crate::proofs::Settling::settled_last, crate::proofs::Settling::settled_none))]
+    fn add_items(
+        &mut self,
+        pending: Vec<Pending>,
+        next: Option<usize>,
+    ) -> Result<Option<usize>, AllocError>
+        ensures { Lays (λ o. o) (spec.settled_all (layer_seen self.old) (map pending_seen pending.items) next) (layer_seen self.new) result }
+    {
+        let mut left = pending;
         let mut first = next;
-        for item in pending.into_iter().rev() {
+        while let Some(item) = left.pop() {
             first = Some(self.add_item(item, first)?);
         }
         Ok(first)
     }
 
-    fn add_item(&mut self, pending: Pending, next: Option<usize>) -> Result<usize, AllocError> {
+    #[tactic(auto, unfolding(crate::specs::Layers::layer_seen))]
+    fn add_item(&mut self, pending: Pending, next: Option<usize>) -> Result<usize, AllocError>
+        ensures { Lays (λ n. n) (length (layer_seen self.old).items, spec.with_item (layer_seen self.old) (pending_seen pending) next) (layer_seen self.new) result }
+    {
         let need = self.need_of(next).max(pending.need);
         let at = self.items.len();
         self.items.push(Item {
@@ -253,26 +334,48 @@ impl<'a> Layer<'a> {
     }
 
     /// The routine of the frame is whole.
-    pub fn add_routine(&mut self, alloc: Global, body: Option<usize>) -> Result<(), AllocError> {
+    #[tactic(auto, unfolding(crate::specs::Layers::layer_seen))]
+    pub fn add_routine(&mut self, alloc: Global, body: Option<usize>) -> Result<(), AllocError>
+        ensures { Leads (spec.with_routine (layer_seen self.old) body) (layer_seen self.new) result }
+    {
+        let result = self.result_slot();
         let frame = mem::replace(&mut self.frame, Frame::new(alloc));
-        let result = match self.result(self.routines.len()) {
-            Some(result) => result.slot,
-            None => 0,
-        };
-        let room = frame.image.len().saturating_add(frame.room);
         let references = frame.extents.len();
-        let reference_room = references.saturating_add(frame.reference_room);
         self.routines.push(Routine {
             body,
+            room: frame.image.len().saturating_add(frame.room),
             image: frame.image,
             references,
             result,
-            room,
-            reference_room,
-            own: self.owned.image.len(),
+            reference_room: references.saturating_add(frame.reference_room),
+            own: self.owned.cells,
             extents: frame.extents,
             system: self.systems.len(),
         })?;
         Ok(())
     }
+
+    // The cell of the result of the function that is laid out.
+    #[tactic(auto, unfolding(crate::specs::Layers::layer_seen))]
+    fn result_slot(&self) -> usize
+        ensures { result ≡ spec.own_result (layer_seen self.now) }
+    {
+        match self.result(self.routines.len()) {
+            Some(result) => result.slot,
+            None => 0,
+        }
+    }
+}
+
+// The most that items need.
+fn most_need(items: &[Pending]) -> usize
+    ensures { result ≡ spec.pending_need_from 0 (map pending_seen items.now) }
+{
+    let mut most = 0;
+    for item in items {
+        if most < item.need {
+            most = item.need;
+        }
+    }
+    most
 }

@@ -1,5 +1,9 @@
 //! What names stand for, with slots.
 
+ghost use Rattle.std.specs.Prelude.{◌≡◌, ◌∷◌, ◌-◌, length, drop, IfOk, OnOk};
+ghost use Rattle.cp_slots.specs.Layers as spec;
+ghost use Rattle.cp_slots.specs.Layers.{names_seen, declared_seen};
+
 use crate::lay_out::kinds::{Base, ValueType, values_of};
 use crate::place::Origin;
 use std::alloc::{AllocError, Global};
@@ -35,7 +39,9 @@ pub enum Meaning {
 
 impl Meaning {
     // Whether a system type sees it where it is the program's.
-    fn is_open(self) -> bool {
+    fn is_open(self) -> bool
+        ensures { result ≡ spec.is_open self }
+    {
         match self {
             Meaning::Constant(..) | Meaning::Kind(_) | Meaning::Predeclared(_) => true,
             _ => false,
@@ -49,73 +55,123 @@ struct Declared<'a> {
     meaning: Meaning,
 }
 
-/// The names that are declared, the innermost last.
+/// The names that are visible, the latest last.
 #[derive(Drop)]
 pub struct Names<'a> {
     items: Vec<Declared<'a>>,
-    /// Variables and routines among the first so many are not visible.
-    sealed: usize,
 }
 
 impl<'a> Names<'a> {
-    /// The predeclared names.
-    pub fn new(alloc: Global) -> Result<Names<'a>, AllocError> {
-        let mut names = Names {
+    #[tactic(auto, unfolding(crate::specs::Layers::names_seen))]
+    fn empty(alloc: Global) -> Names<'a>
+        ensures { names_seen result ≡ spec.no_names }
+    {
+        Names {
             items: Vec::new(alloc),
-            sealed: 0,
-        };
-        names.add("integer", Meaning::Kind(values_of(Base::Integer)))?;
-        names.add("boolean", Meaning::Kind(values_of(Base::Boolean)))?;
-        names.add("char", Meaning::Kind(values_of(Base::Char)))?;
-        names.add("queue", Meaning::Kind(ValueType::Queue))?;
-        names.add("false", Meaning::Constant(Base::Boolean, 0))?;
+        }
+    }
+
+    /// The predeclared names.
+    pub fn new(alloc: Global) -> Result<Names<'a>, AllocError>
+        ensures { IfOk result (λ n. names_seen n ≡ spec.outermost) }
+    {
+        let mut names = Names::empty(alloc);
+        names.add_procedures()?;
+        names.add_functions()?;
         names.add("true", Meaning::Constant(Base::Boolean, 1))?;
-        names.add("succ", Meaning::Predeclared(Predeclared::Succ))?;
-        names.add("pred", Meaning::Predeclared(Predeclared::Pred))?;
-        names.add("chr", Meaning::Predeclared(Predeclared::Chr))?;
-        names.add("ord", Meaning::Predeclared(Predeclared::Ord))?;
-        names.add("abs", Meaning::Predeclared(Predeclared::Abs))?;
-        names.add("empty", Meaning::Predeclared(Predeclared::Empty))?;
-        names.add("delay", Meaning::Predeclared(Predeclared::Delay))?;
-        names.add("continue", Meaning::Predeclared(Predeclared::Continue))?;
-        names.add("display", Meaning::Predeclared(Predeclared::Display))?;
+        names.add("false", Meaning::Constant(Base::Boolean, 0))?;
+        names.add_types()?;
         Ok(names)
     }
 
+    fn add_procedures(&mut self) -> Result<(), AllocError>
+        ensures { OnOk result (names_seen self.new ≡ spec.with_procedures (names_seen self.old)) }
+    {
+        self.add("display", Meaning::Predeclared(Predeclared::Display))?;
+        self.add("continue", Meaning::Predeclared(Predeclared::Continue))?;
+        self.add("delay", Meaning::Predeclared(Predeclared::Delay))
+    }
+
+    fn add_functions(&mut self) -> Result<(), AllocError>
+        ensures { OnOk result (names_seen self.new ≡ spec.with_functions (names_seen self.old)) }
+    {
+        self.add("empty", Meaning::Predeclared(Predeclared::Empty))?;
+        self.add("abs", Meaning::Predeclared(Predeclared::Abs))?;
+        self.add("ord", Meaning::Predeclared(Predeclared::Ord))?;
+        self.add("chr", Meaning::Predeclared(Predeclared::Chr))?;
+        self.add("pred", Meaning::Predeclared(Predeclared::Pred))?;
+        self.add("succ", Meaning::Predeclared(Predeclared::Succ))
+    }
+
+    fn add_types(&mut self) -> Result<(), AllocError>
+        ensures { OnOk result (names_seen self.new ≡ spec.with_types (names_seen self.old)) }
+    {
+        self.add("queue", Meaning::Kind(ValueType::Queue))?;
+        self.add("char", Meaning::Kind(values_of(Base::Char)))?;
+        self.add("boolean", Meaning::Kind(values_of(Base::Boolean)))?;
+        self.add("integer", Meaning::Kind(values_of(Base::Integer)))
+    }
+
     /// Declares a name.
-    pub fn add(&mut self, name: &'a str, meaning: Meaning) -> Result<(), AllocError> {
+    #[tactic(auto, unfolding(crate::specs::Layers::names_seen), using(crate::proofs::NamesSeen::seen_push))]
+    pub fn add(&mut self, name: &'a str, meaning: Meaning) -> Result<(), AllocError>
+        ensures { OnOk result (names_seen self.new ≡ (name.now, meaning) ∷ names_seen self.old) }
+    {
         self.items.push(Declared { name, meaning })?;
         Ok(())
     }
 
-    /// What a name stands for: its last declaration that is visible.
-    pub fn look(&self, name: &str) -> Option<Meaning> {
-        let mut found = None;
-        for (number, declared) in self.items.iter().enumerate() {
-            if declared.name == name && (number >= self.sealed || declared.meaning.is_open()) {
-                found = Some(declared.meaning);
+    /// What a name stands for: its latest declaration.
+    #[tactic(auto, unfolding(crate::specs::Layers::names_seen), using(crate::proofs::NamesSeen::seen_all, crate::proofs::NamesSeen::seen_none, crate::proofs::NamesSeen::seen_last))]
+    pub fn look(&self, name: &str) -> Option<Meaning>
+        ensures { result ≡ spec.find name.now (names_seen self.now) }
+    {
+        let mut left = self.items.len();
+        while 0 < left {
+            left -= 1;
+            let declared = self.items[left];
+            if declared.name == name {
+                return Some(declared.meaning);
             }
         }
-        found
+        None
     }
 
     /// How many names there are, as a scope begins.
-    pub fn open(&self) -> usize {
+    #[tactic(auto, unfolding(crate::specs::Layers::names_seen), using(crate::proofs::NamesSeen::seen_length))]
+    pub fn open(&self) -> usize
+        ensures { result ≡ length (names_seen self.now) }
+    {
         self.items.len()
     }
 
-    /// Closes the scope that began with so many names.
-    pub fn close(&mut self, count: usize) {
+    /// Closes the scope that began with this many names.
+    #[tactic(auto, unfolding(crate::specs::Layers::names_seen), using(crate::proofs::NamesSeen::seen_first))]
+    pub fn close(&mut self, count: usize)
+        ensures { names_seen self.new ≡ drop (length (names_seen self.old) - count) (names_seen self.old) }
+    {
         self.items.truncate(count);
     }
 
-    /// Hides the variables and routines that there are.
-    pub fn seal(&mut self) {
-        self.sealed = self.items.len();
+    // Declares a name again, if a system type sees it.
+    fn add_open(&mut self, declared: Declared<'a>) -> Result<(), AllocError>
+        ensures { OnOk result (names_seen self.new ≡ spec.with_open (declared_seen declared.entry) (names_seen self.old)) }
+    {
+        if declared.meaning.is_open() {
+            return self.add(declared.name, declared.meaning);
+        }
+        Ok(())
     }
 
-    /// Hides nothing.
-    pub fn unseal(&mut self) {
-        self.sealed = 0;
+    /// What a system type sees of these names: no variables and no routines.
+    #[tactic(auto, unfolding(crate::specs::Layers::names_seen), using(crate::proofs::NamesSeen::open_more, crate::proofs::NamesSeen::open_all))]
+    pub fn inside(&self, alloc: Global) -> Result<Names<'a>, AllocError>
+        ensures { IfOk result (λ n. names_seen n ≡ spec.seen_inside (names_seen self.now)) }
+    {
+        let mut names = Names::empty(alloc);
+        for declared in &self.items {
+            names.add_open(*declared)?;
+        }
+        Ok(names)
     }
 }

@@ -1,10 +1,20 @@
-//! Statements as items. The items of a list are added last to first, each behind those inside it.
+//! Statements as items. The items of a list are added last to first, each after those inside it.
+
+ghost use Rattle.std.specs.Prelude.{◌≡◌, map, option_map, IfOk};
+ghost use Rattle.cp_tree.specs.View.{expression_view, expressions_view, expressions_of, designator_view, statement_view, statements_view, statements_of, arm_view, arms_view, arms_of, start_view};
+ghost use Rattle.cp_slots.specs.Code.{action_seen, arm_seen, component_seen};
+ghost use Rattle.cp_slots.specs.Values.{value_seen, designated_seen};
+ghost use Rattle.cp_slots.specs.Layers.{layer_seen, Lays, Leads, is_own, result_of, settled, added};
+ghost use Rattle.cp_slots.specs.LaidTypes.{labels_of};
+ghost use Rattle.cp_slots.specs.LaidStatements as spec;
+ghost use Rattle.cp_slots.specs.LaidStatements.{target_seen, callee_seen, placed_seen, token_of};
 
 use crate::item::{Action, Arm, ShownKind};
+use crate::lay_out::expression::byte_or;
 use crate::lay_out::kinds::{Base, ValueType, values_of};
 use crate::lay_out::layer::Layer;
 use crate::lay_out::names::Predeclared;
-use crate::lay_out::value::{Designated, Value, only, ordinal, place_at, place_of, set};
+use crate::lay_out::value::{Designated, Value, ordinal, place_at, place_of, set};
 use crate::place::{ComponentPlace, Origin, Place};
 use cp_tree::{
     Arm as WrittenArm, Constant, Designator, Direction, Expression as Written, Identifier, Start,
@@ -19,102 +29,142 @@ struct Target {
     value_type: ValueType,
 }
 
+/// What a call statement calls.
+#[derive(Drop)]
+enum Callee {
+    Predeclared(Predeclared),
+    /// A routine of a component, and whether it is called by the component.
+    Routine(ComponentPlace, bool, usize),
+    Nothing,
+}
+
+fn callee_of(named: Designated) -> Callee
+    ensures { callee_seen result ≡ spec.callee_of (designated_seen named) }
+{
+    match named {
+        Designated::Predeclared(routine) => Callee::Predeclared(routine),
+        Designated::Routine(routine) => Callee::Routine(ComponentPlace::Own, false, routine),
+        Designated::Entry(place, routine) => Callee::Routine(place, true, routine),
+        _ => Callee::Nothing,
+    }
+}
+
+// A component with its system type.
+fn placed_of(named: Designated) -> Option<(ComponentPlace, usize)>
+    ensures { option_map placed_seen result ≡ spec.placed_of (designated_seen named) }
+{
+    match named {
+        Designated::Component(place, system) => Some((place, system)),
+        _ => None,
+    }
+}
+
 impl<'a> Layer<'a> {
     /// The items of a list, and the first of them.
     #[cycle(statement)]
-    pub fn list(
-        &mut self,
-        alloc: Global,
-        nodes: &[Statement],
-    ) -> Result<Option<usize>, AllocError> {
+    #[tactic(auto, using(crate::proofs::LaidLists::statements_step, crate::proofs::LaidLists::statements_none))]
+    pub fn list(&mut self, alloc: Global, nodes: &[Statement]) -> Result<Option<usize>, AllocError>
+        ensures { Lays (λ o. o) (spec.statements (layer_seen self.old) (statements_of (statements_view nodes.now))) (layer_seen self.new) result }
+    {
         let mut next = None;
-        for node in nodes.iter().rev() {
-            next = self.statement(alloc, node, next)?;
+        let mut left = nodes.len();
+        while 0 < left {
+            left -= 1;
+            next = self.statement(alloc, &nodes[left], next)?;
         }
         Ok(next)
     }
 
     // The items of a statement, before those that begin at `next`.
     #[cycle(statement)]
+    #[tactic(auto, unfolding(crate::specs::LaidStatements::statement))]
     fn statement(
         &mut self,
         alloc: Global,
         node: &Statement,
         next: Option<usize>,
-    ) -> Result<Option<usize>, AllocError> {
+    ) -> Result<Option<usize>, AllocError>
+        ensures { Lays (λ o. o) (spec.statement (layer_seen self.old) (statement_view node.now) next) (layer_seen self.new) result }
+    {
         let at = node.at;
         match &node.kind {
-            StatementKind::Empty => self.add(at, Action::Empty, 0)?,
-            StatementKind::Assign(target, value) => self.assign(alloc, at, target, value)?,
-            StatementKind::Call(name, arguments) => self.call(alloc, at, name, arguments)?,
+            StatementKind::Empty => self.finish(alloc, at, Action::Empty, 0, next),
+            StatementKind::Assign(target, value) => self.assign(alloc, at, target, value, next),
+            StatementKind::Call(name, arguments) => self.call(alloc, at, name, arguments, next),
             StatementKind::Block(list) => {
                 let list = self.list(alloc, list)?;
-                self.block(at, list)?;
+                self.block(alloc, at, list, next)
             }
-            StatementKind::If(test, then, otherwise) => {
+            StatementKind::If(test, then, None) => {
                 let then = self.statement(alloc, then, None)?;
-                let otherwise = self.otherwise(alloc, otherwise)?;
-                self.choose(alloc, at, test, then, otherwise)?;
+                self.choose(alloc, at, test, then, None, next)
+            }
+            StatementKind::If(test, then, Some(otherwise)) => {
+                let then = self.statement(alloc, then, None)?;
+                let otherwise = self.statement(alloc, otherwise, None)?;
+                self.choose(alloc, at, test, then, otherwise, next)
             }
             StatementKind::Case(selector, arms, _) => {
                 let arms = self.arms(alloc, arms)?;
-                self.select(alloc, at, selector, arms)?;
+                self.select(alloc, at, selector, arms, next)
             }
             StatementKind::While(test, body) => {
                 let body = self.statement(alloc, body, None)?;
-                self.while_item(alloc, at, test, body)?;
+                self.while_item(alloc, at, test, body, next)
             }
             StatementKind::Repeat(list, test) => {
                 let body = self.list(alloc, list)?;
-                return self.repeat(alloc, at, body, test, next);
+                self.repeat(alloc, at, body, test, next)
             }
             StatementKind::For(name, from, direction, to, body) => {
                 let body = self.statement(alloc, body, None)?;
-                self.for_item(alloc, at, name, from, *direction, to, body)?;
+                self.for_item(alloc, at, name, from, *direction, to, body, next)
             }
             StatementKind::Cycle(list) => {
                 let list = self.list(alloc, list)?;
-                let need = self.need_inside(list);
-                self.add(at, Action::Cycle(list), need)?;
+                self.cycle_item(alloc, at, list, next)
             }
-            StatementKind::Init(starts) => return self.starts(alloc, starts, next),
-        }
-        self.settle(alloc, next)
-    }
-
-    #[cycle(statement)]
-    fn otherwise(
-        &mut self,
-        alloc: Global,
-        node: &Option<Box<Statement>>,
-    ) -> Result<Option<usize>, AllocError> {
-        match node {
-            Some(node) => self.statement(alloc, node, None),
-            None => Ok(None),
+            StatementKind::Init(starts) => self.starts(alloc, starts, next),
         }
     }
 
     #[cycle(statement)]
-    fn arms(&mut self, alloc: Global, nodes: &[WrittenArm]) -> Result<Vec<Arm>, AllocError> {
+    #[tactic(auto, using(crate::proofs::LaidLists::arms_step, crate::proofs::LaidLists::arms_none))]
+    fn arms(&mut self, alloc: Global, nodes: &[WrittenArm]) -> Result<Vec<Arm>, AllocError>
+        ensures { Lays (λ v. map arm_seen v.items) (spec.arms (layer_seen self.old) (arms_of (arms_view nodes.now))) (layer_seen self.new) result }
+    {
         let mut arms = Vec::new(alloc);
         for node in nodes {
-            let body = self.statement(alloc, &node.body, None)?;
-            let labels = self.labels(alloc, &node.labels)?;
-            arms.push(Arm { labels, body })?;
+            arms.push(self.arm(alloc, node)?)?;
         }
         Ok(arms)
     }
 
-    fn labels(&self, alloc: Global, nodes: &[Constant]) -> Result<Vec<i16>, AllocError> {
+    #[cycle(statement)]
+    #[tactic(auto, unfolding(crate::specs::LaidStatements::one_arm))]
+    fn arm(&mut self, alloc: Global, node: &WrittenArm) -> Result<Arm, AllocError>
+        ensures { Lays arm_seen (spec.one_arm (layer_seen self.old) (arm_view node.now)) (layer_seen self.new) result }
+    {
+        let body = self.statement(alloc, &node.body, None)?;
+        let labels = self.labels(alloc, &node.labels)?;
+        Ok(Arm { labels, body })
+    }
+
+    #[tactic(auto, using(crate::proofs::LaidLists::labels_step, crate::proofs::LaidLists::labels_none))]
+    fn labels(&self, alloc: Global, nodes: &[Constant]) -> Result<Vec<i16>, AllocError>
+        ensures { IfOk result (λ v. v.items ≡ labels_of (layer_seen self.now).names nodes.now) }
+    {
         let mut labels = Vec::new(alloc);
         for node in nodes {
-            labels.push(self.constant(node).number)?;
+            labels.push(self.constant(node).value)?;
         }
         Ok(labels)
     }
 
     // The variable on the left of an assignment, or of a `for`.
-    fn target(&self, alloc: Global, named: Designated) -> Target {
+    fn target(&self, alloc: Global, named: Designated) -> Target
+        ensures { target_seen result ≡ spec.target_of (layer_seen self.now) (designated_seen named) }
+    {
         match named {
             Designated::Variable(place, value_type) => Target { place, value_type },
             Designated::Routine(routine) => self.result_target(alloc, routine),
@@ -123,31 +173,47 @@ impl<'a> Layer<'a> {
     }
 
     // The result of the function that is laid out.
-    fn result_target(&self, alloc: Global, routine: usize) -> Target {
+    fn result_target(&self, alloc: Global, routine: usize) -> Target
+        ensures { target_seen result ≡ spec.result_target (is_own (layer_seen self.now) routine) (result_of (layer_seen self.now) routine) }
+    {
+        let is_own = self.is_own(routine);
         match self.result(routine) {
-            Some(result) if self.is_own(routine) => Target {
-                place: place_at(alloc, Origin::Local(result.slot)),
-                value_type: result.value_type,
-            },
-            _ => no_target(alloc),
+            Some(result) => {
+                if is_own {
+                    Target {
+                        place: place_at(alloc, Origin::Local(result.slot)),
+                        value_type: result.value_type,
+                    }
+                } else {
+                    no_target(alloc)
+                }
+            }
+            None => no_target(alloc),
         }
     }
 
+    #[tactic(auto, unfolding(crate::specs::LaidStatements::assigned))]
     fn assign(
         &mut self,
         alloc: Global,
         at: usize,
         left: &Designator,
         right: &Written,
-    ) -> Result<(), AllocError> {
+        next: Option<usize>,
+    ) -> Result<Option<usize>, AllocError>
+        ensures { Lays (λ o. o) (settled (spec.assigned (layer_seen self.old) at (designator_view left.now) (expression_view right.now)) next) (layer_seen self.new) result }
+    {
         let named = self.designator(alloc, left)?;
         let target = self.target(alloc, named);
         let value = self.expression(alloc, right)?;
         let action = self.assignment(alloc, target, value);
-        self.add(at, action, 0)
+        self.finish(alloc, at, action, 0, next)
     }
 
-    fn assignment(&self, alloc: Global, target: Target, value: Value) -> Action {
+    #[tactic(auto, unfolding(crate::specs::Layers::layer_seen))]
+    fn assignment(&self, alloc: Global, target: Target, value: Value) -> Action
+        ensures { action_seen result ≡ spec.assignment (layer_seen self.now) (target_seen target) (value_seen value) }
+    {
         match target.value_type {
             ValueType::Ordinal(range) => Action::Assign {
                 target: target.place,
@@ -158,8 +224,8 @@ impl<'a> Layer<'a> {
             ValueType::Set(base) => Action::AssignSet {
                 target: target.place,
                 value: set(value),
-                low: u8::try_from(base.low).unwrap_or(0),
-                high: u8::try_from(base.high).unwrap_or(u8::MAX),
+                low: byte_or(0, base.low),
+                high: byte_or(u8::MAX, base.high),
             },
             whole => Action::Copy {
                 target: target.place,
@@ -169,28 +235,42 @@ impl<'a> Layer<'a> {
         }
     }
 
+    #[tactic(auto, unfolding(crate::specs::LaidStatements::invoked))]
     fn call(
         &mut self,
         alloc: Global,
         at: usize,
         name: &Designator,
-        arguments: &[Written],
-    ) -> Result<(), AllocError> {
+        nodes: &[Written],
+        next: Option<usize>,
+    ) -> Result<Option<usize>, AllocError>
+        ensures { Lays (λ o. o) (settled (spec.invoked (layer_seen self.old) at (designator_view name.now) (expressions_of (expressions_view nodes.now))) next) (layer_seen self.new) result }
+    {
         let whole = self.designator(alloc, name)?;
-        let values = self.values(alloc, arguments)?;
-        match whole {
-            Designated::Predeclared(routine) => self.perform(alloc, at, routine, only(values)),
-            Designated::Routine(routine) => {
-                self.invoke(alloc, at, ComponentPlace::Own, false, routine, values)
+        self.call_of(alloc, at, callee_of(whole), nodes)?;
+        self.settle(alloc, next)
+    }
+
+    fn call_of(
+        &mut self,
+        alloc: Global,
+        at: usize,
+        callee: Callee,
+        nodes: &[Written],
+    ) -> Result<(), AllocError>
+        ensures { Leads (spec.invoked_as (layer_seen self.old) at (callee_seen callee) (expressions_of (expressions_view nodes.now))) (layer_seen self.new) result }
+    {
+        match callee {
+            Callee::Predeclared(routine) => self.perform(alloc, at, routine, nodes),
+            Callee::Routine(component, is_entry, routine) => {
+                self.invoke(alloc, at, component, is_entry, routine, nodes)
             }
-            Designated::Entry(place, routine) => {
-                self.invoke(alloc, at, place, true, routine, values)
-            }
-            _ => self.add(at, Action::Empty, 0),
+            Callee::Nothing => self.add(at, Action::Empty, 0),
         }
     }
 
     // A call of a procedure.
+    #[tactic(auto, unfolding(crate::specs::LaidStatements::procedure))]
     fn invoke(
         &mut self,
         alloc: Global,
@@ -198,9 +278,11 @@ impl<'a> Layer<'a> {
         component: ComponentPlace,
         is_entry: bool,
         routine: usize,
-        values: Vec<Value>,
-    ) -> Result<(), AllocError> {
-        let arguments = self.arguments(alloc, routine, values)?;
+        nodes: &[Written],
+    ) -> Result<(), AllocError>
+        ensures { Leads (spec.procedure (layer_seen self.old) at (component_seen component) is_entry routine (expressions_of (expressions_view nodes.now))) (layer_seen self.new) result }
+    {
+        let arguments = self.arguments(alloc, routine, nodes)?;
         let need = self.reserve(routine);
         let action = Action::Call {
             routine,
@@ -213,28 +295,63 @@ impl<'a> Layer<'a> {
     }
 
     // A call of a predeclared procedure.
+    #[tactic(auto, unfolding(crate::specs::LaidStatements::standard))]
     fn perform(
         &mut self,
         alloc: Global,
         at: usize,
         routine: Predeclared,
-        value: Value,
-    ) -> Result<(), AllocError> {
-        let action = match routine {
-            Predeclared::Delay => Action::Delay(place_of(alloc, value)),
-            Predeclared::Continue => Action::Continue(place_of(alloc, value)),
-            Predeclared::Display => display(value),
-            _ => Action::Empty,
-        };
-        self.add(at, action, 0)
+        nodes: &[Written],
+    ) -> Result<(), AllocError>
+        ensures { Leads (spec.standard (layer_seen self.old) at routine (expressions_of (expressions_view nodes.now))) (layer_seen self.new) result }
+    {
+        let value = self.first_value(alloc, nodes)?;
+        self.add(at, performed(alloc, routine, value), 0)
     }
 
-    fn block(&mut self, at: usize, list: Option<usize>) -> Result<(), AllocError> {
+    fn block(
+        &mut self,
+        alloc: Global,
+        at: usize,
+        list: Option<usize>,
+        next: Option<usize>,
+    ) -> Result<Option<usize>, AllocError>
+        ensures { Lays (λ o. o) (settled (spec.blocked (layer_seen self.old) at list) next) (layer_seen self.new) result }
+    {
         let need = self.need_inside(list);
-        self.add(at, Action::Block(list), need)
+        self.finish(alloc, at, Action::Block(list), need, next)
+    }
+
+    fn cycle_item(
+        &mut self,
+        alloc: Global,
+        at: usize,
+        list: Option<usize>,
+        next: Option<usize>,
+    ) -> Result<Option<usize>, AllocError>
+        ensures { Lays (λ o. o) (settled (spec.cycled (layer_seen self.old) at list) next) (layer_seen self.new) result }
+    {
+        let need = self.need_inside(list);
+        self.finish(alloc, at, Action::Cycle(list), need, next)
+    }
+
+    // The last item of a statement, before those that begin at `next`.
+    fn finish(
+        &mut self,
+        alloc: Global,
+        at: usize,
+        action: Action,
+        need: usize,
+        next: Option<usize>,
+    ) -> Result<Option<usize>, AllocError>
+        ensures { Lays (λ o. o) (settled (added (layer_seen self.old) at (action_seen action) need) next) (layer_seen self.new) result }
+    {
+        self.add(at, action, need)?;
+        self.settle(alloc, next)
     }
 
     // `if`.
+    #[tactic(auto, unfolding(crate::specs::LaidStatements::chosen))]
     fn choose(
         &mut self,
         alloc: Global,
@@ -242,7 +359,10 @@ impl<'a> Layer<'a> {
         test: &Written,
         then: Option<usize>,
         otherwise: Option<usize>,
-    ) -> Result<(), AllocError> {
+        next: Option<usize>,
+    ) -> Result<Option<usize>, AllocError>
+        ensures { Lays (λ o. o) (settled (spec.chosen (layer_seen self.old) at (expression_view test.now) then otherwise) next) (layer_seen self.new) result }
+    {
         let test = ordinal(self.expression(alloc, test)?);
         let need = self.need_inside(then).max(self.need_inside(otherwise));
         let action = Action::If {
@@ -250,39 +370,55 @@ impl<'a> Layer<'a> {
             then,
             otherwise,
         };
-        self.add(at, action, need)
+        self.finish(alloc, at, action, need, next)
     }
 
     // `case`.
+    #[tactic(auto, unfolding(crate::specs::LaidStatements::selected))]
     fn select(
         &mut self,
         alloc: Global,
         at: usize,
         selector: &Written,
         arms: Vec<Arm>,
-    ) -> Result<(), AllocError> {
+        next: Option<usize>,
+    ) -> Result<Option<usize>, AllocError>
+        ensures { Lays (λ o. o) (settled (spec.selected (layer_seen self.old) at (expression_view selector.now) (map arm_seen arms.items)) next) (layer_seen self.new) result }
+    {
         let selector = ordinal(self.expression(alloc, selector)?);
-        let mut need = 0;
-        for arm in &arms {
-            need = self.need_inside(arm.body).max(need);
-        }
-        self.add(at, Action::Case { selector, arms }, need)
+        let need = self.arms_need(&arms);
+        self.finish(alloc, at, Action::Case { selector, arms }, need, next)
     }
 
+    // The most that arms need.
+    fn arms_need(&self, arms: &[Arm]) -> usize
+        ensures { result ≡ spec.arms_need (layer_seen self.now) 0 (map arm_seen arms.now) }
+    {
+        let mut need = 0;
+        for arm in arms {
+            need = self.need_inside(arm.body).max(need);
+        }
+        need
+    }
+
+    #[tactic(auto, unfolding(crate::specs::LaidStatements::while_item))]
     fn while_item(
         &mut self,
         alloc: Global,
         at: usize,
         test: &Written,
         body: Option<usize>,
-    ) -> Result<(), AllocError> {
+        next: Option<usize>,
+    ) -> Result<Option<usize>, AllocError>
+        ensures { Lays (λ o. o) (settled (spec.while_item (layer_seen self.old) at (expression_view test.now) body) next) (layer_seen self.new) result }
+    {
         let test = ordinal(self.expression(alloc, test)?);
         let need = self.need_inside(body).max(self.pending_need());
         let again = self.again();
-        self.add(at, Action::While { test, body, again }, need)
+        self.finish(alloc, at, Action::While { test, body, again }, need, next)
     }
 
-    // The list as a block, and `until` behind it.
+    // The list as a block, and `until` after it.
     fn repeat(
         &mut self,
         alloc: Global,
@@ -290,17 +426,31 @@ impl<'a> Layer<'a> {
         body: Option<usize>,
         test: &Written,
         next: Option<usize>,
-    ) -> Result<Option<usize>, AllocError> {
-        let until_at = test.at;
+    ) -> Result<Option<usize>, AllocError>
+        ensures { Lays (λ o. o) (spec.repeated (layer_seen self.old) at body (expression_view test.now) next) (layer_seen self.new) result }
+    {
+        self.until_item(alloc, test, body)?;
+        let until = self.settle(alloc, next)?;
+        self.block(alloc, at, body, until)
+    }
+
+    #[tactic(auto, unfolding(crate::specs::LaidStatements::until_item))]
+    fn until_item(
+        &mut self,
+        alloc: Global,
+        test: &Written,
+        body: Option<usize>,
+    ) -> Result<(), AllocError>
+        ensures { Leads (spec.until_item (layer_seen self.old) (token_of (expression_view test.now)) (expression_view test.now) body) (layer_seen self.new) result }
+    {
+        let at = test.at;
         let test = ordinal(self.expression(alloc, test)?);
         let need = self.need_inside(body).max(self.pending_need());
         let again = self.again();
-        self.add(until_at, Action::Until { test, body, again }, need)?;
-        let until = self.settle(alloc, next)?;
-        self.block(at, body)?;
-        self.settle(alloc, until)
+        self.add(at, Action::Until { test, body, again }, need)
     }
 
+    #[tactic(auto, unfolding(crate::specs::LaidStatements::for_item))]
     fn for_item(
         &mut self,
         alloc: Global,
@@ -310,13 +460,13 @@ impl<'a> Layer<'a> {
         direction: Direction,
         to: &Written,
         body: Option<usize>,
-    ) -> Result<(), AllocError> {
+        next: Option<usize>,
+    ) -> Result<Option<usize>, AllocError>
+        ensures { Lays (λ o. o) (settled (spec.for_item (layer_seen self.old) at name.now.name (expression_view from.now) direction (expression_view to.now) body) next) (layer_seen self.new) result }
+    {
         let named = self.begun(alloc, name);
         let target = self.target(alloc, named);
-        let (low, high) = match target.value_type {
-            ValueType::Ordinal(range) => (range.low, range.high),
-            _ => (i16::MIN, i16::MAX),
-        };
+        let (low, high) = bounds_of(target.value_type);
         let from = ordinal(self.expression(alloc, from)?);
         let to = ordinal(self.expression(alloc, to)?);
         let need = self.need_inside(body);
@@ -326,36 +476,59 @@ impl<'a> Layer<'a> {
             high,
             from,
             to,
-            down: direction == Direction::Downto,
+            down: is_down(direction),
             body,
         };
-        self.add(at, action, need)
+        self.finish(alloc, at, action, need, next)
     }
 
     // The starts of an `init`, each with the calls in its arguments before it.
+    #[tactic(auto, using(crate::proofs::LaidLists::starts_step, crate::proofs::LaidLists::starts_none))]
     fn starts(
         &mut self,
         alloc: Global,
         nodes: &[Start],
         next: Option<usize>,
-    ) -> Result<Option<usize>, AllocError> {
+    ) -> Result<Option<usize>, AllocError>
+        ensures { Lays (λ o. o) (spec.starts (layer_seen self.old) (map start_view nodes.now) next) (layer_seen self.new) result }
+    {
         let mut first = next;
-        for node in nodes.iter().rev() {
-            self.start(alloc, node)?;
+        let mut left = nodes.len();
+        while 0 < left {
+            left -= 1;
+            self.start(alloc, &nodes[left])?;
             first = self.settle(alloc, first)?;
         }
         Ok(first)
     }
 
-    fn start(&mut self, alloc: Global, node: &Start) -> Result<(), AllocError> {
+    #[tactic(auto, unfolding(crate::specs::LaidStatements::started))]
+    fn start(&mut self, alloc: Global, node: &Start) -> Result<(), AllocError>
+        ensures { Leads (spec.started (layer_seen self.old) (start_view node.now)) (layer_seen self.new) result }
+    {
         let at = node.target.name.at;
         let named = self.designator(alloc, &node.target)?;
-        let Designated::Component(component, system) = named else {
-            return self.add(at, Action::Empty, 0);
-        };
-        let routine = self.initial(system);
-        let values = self.values(alloc, &node.arguments)?;
-        let arguments = self.arguments(alloc, routine, values)?;
+        match placed_of(named) {
+            Some((component, system)) => {
+                let routine = self.initial(system);
+                self.begin_component(alloc, at, component, routine, &node.arguments)
+            }
+            None => self.add(at, Action::Empty, 0),
+        }
+    }
+
+    #[tactic(auto, unfolding(crate::specs::LaidStatements::begun_component))]
+    fn begin_component(
+        &mut self,
+        alloc: Global,
+        at: usize,
+        component: ComponentPlace,
+        routine: usize,
+        nodes: &[Written],
+    ) -> Result<(), AllocError>
+        ensures { Leads (spec.begun_component (layer_seen self.old) at (component_seen component) routine (expressions_of (expressions_view nodes.now))) (layer_seen self.new) result }
+    {
+        let arguments = self.arguments(alloc, routine, nodes)?;
         let need = self.reserve(routine);
         let action = Action::Start {
             component,
@@ -366,7 +539,10 @@ impl<'a> Layer<'a> {
     }
 
     // The initial statement of a system type.
-    fn initial(&self, system: usize) -> usize {
+    #[tactic(auto, unfolding(crate::specs::Layers::layer_seen))]
+    fn initial(&self, system: usize) -> usize
+        ensures { result ≡ spec.initial_of (layer_seen self.now) system }
+    {
         match self.systems.get(system) {
             Some(system) => system.initial,
             None => 0,
@@ -374,23 +550,64 @@ impl<'a> Layer<'a> {
     }
 }
 
-fn no_target(alloc: Global) -> Target {
+fn no_target(alloc: Global) -> Target
+    ensures { target_seen result ≡ spec.no_target }
+{
     Target {
         place: place_at(alloc, Origin::Local(0)),
         value_type: values_of(Base::Integer),
     }
 }
 
+// The bounds of a type.
+fn bounds_of(value_type: ValueType) -> (i16, i16)
+    ensures { result ≡ (spec.low_of value_type, spec.high_of value_type) }
+{
+    match value_type {
+        ValueType::Ordinal(range) => (range.low, range.high),
+        _ => (i16::MIN, i16::MAX),
+    }
+}
+
+fn is_down(direction: Direction) -> bool
+    ensures { result ≡ spec.is_down direction }
+{
+    match direction {
+        Direction::To => false,
+        Direction::Downto => true,
+    }
+}
+
+// What a predeclared procedure does.
+fn performed(alloc: Global, routine: Predeclared, value: Value) -> Action
+    ensures { action_seen result ≡ spec.performed routine (value_seen value) }
+{
+    match routine {
+        Predeclared::Delay => Action::Delay(place_of(alloc, value)),
+        Predeclared::Continue => Action::Continue(place_of(alloc, value)),
+        Predeclared::Display => display(value),
+        _ => Action::Empty,
+    }
+}
+
 // `display` of a value.
-fn display(value: Value) -> Action {
-    let kind = match &value {
+fn display(value: Value) -> Action
+    ensures { action_seen result ≡ spec.displayed (value_seen value) }
+{
+    let kind = shown_kind(&value);
+    Action::Display {
+        value: ordinal(value),
+        kind,
+    }
+}
+
+fn shown_kind(value: &Value) -> ShownKind
+    ensures { result ≡ spec.shown_kind (value_seen value.now) }
+{
+    match value {
         Value::Ordinal(_, Base::Char) => ShownKind::Character,
         Value::Ordinal(_, Base::Boolean) => ShownKind::Truth,
         Value::Ordinal(_, Base::Enumeration(first, _)) => ShownKind::Constant(*first),
         _ => ShownKind::Integer,
-    };
-    Action::Display {
-        value: ordinal(value),
-        kind,
     }
 }

@@ -1,5 +1,10 @@
 //! Values and variables with slots, and the operations on values.
 
+ghost use Rattle.std.specs.Prelude.{◌≡◌, IfOk};
+ghost use Rattle.cp_slots.specs.Code.{place_seen, expression_seen, set_seen};
+ghost use Rattle.cp_slots.specs.Values as spec;
+ghost use Rattle.cp_slots.specs.Values.{value_seen};
+
 use crate::lay_out::kinds::{Base, ValueType};
 use crate::lay_out::names::Predeclared;
 use crate::place::{
@@ -35,22 +40,23 @@ pub enum Designated {
 }
 
 /// A number.
-pub fn number(number: i16, base: Base) -> Value {
+pub fn number(number: i16, base: Base) -> Value
+    ensures { value_seen result ≡ spec.number_value number base }
+{
     Value::Ordinal(Expression::Number(number), base)
 }
 
 /// What stands for a value that cannot be.
-pub fn no_value() -> Value {
+pub fn no_value() -> Value
+    ensures { value_seen result ≡ spec.no_value }
+{
     number(0, Base::Integer)
 }
 
-/// The value that stands alone.
-pub fn only(values: Vec<Value>) -> Value {
-    values.into_iter().next().unwrap_or(no_value())
-}
-
 /// A whole variable.
-pub fn place_at(alloc: Global, origin: Origin) -> Place {
+pub fn place_at(alloc: Global, origin: Origin) -> Place
+    ensures { place_seen result ≡ spec.place_at origin }
+{
     Place {
         origin,
         offset: 0,
@@ -59,7 +65,9 @@ pub fn place_at(alloc: Global, origin: Origin) -> Place {
 }
 
 /// The value of a variable.
-pub fn load(place: Place, value_type: ValueType) -> Value {
+pub fn load(place: Place, value_type: ValueType) -> Value
+    ensures { value_seen result ≡ spec.loaded (place_seen place) value_type }
+{
     match value_type {
         ValueType::Ordinal(range) => Value::Ordinal(Expression::Load(place), range.base),
         ValueType::Set(_) => Value::Set(SetExpression::Load(place)),
@@ -68,7 +76,9 @@ pub fn load(place: Place, value_type: ValueType) -> Value {
 }
 
 /// The variable whose value it is.
-pub fn place_of(alloc: Global, value: Value) -> Place {
+pub fn place_of(alloc: Global, value: Value) -> Place
+    ensures { place_seen result ≡ spec.place_of (value_seen value) }
+{
     match value {
         Value::Ordinal(Expression::Load(place), _) => place,
         Value::Set(SetExpression::Load(place)) => place,
@@ -78,7 +88,9 @@ pub fn place_of(alloc: Global, value: Value) -> Place {
 }
 
 /// The expression of an ordinal value.
-pub fn ordinal(value: Value) -> Expression {
+pub fn ordinal(value: Value) -> Expression
+    ensures { expression_seen result ≡ spec.ordinal_of (value_seen value) }
+{
     match value {
         Value::Ordinal(expression, _) => expression,
         _ => Expression::Number(0),
@@ -86,7 +98,9 @@ pub fn ordinal(value: Value) -> Expression {
 }
 
 /// The expression of a set.
-pub fn set(value: Value) -> SetExpression {
+pub fn set(value: Value) -> SetExpression
+    ensures { set_seen result ≡ spec.set_of (value_seen value) }
+{
     match value {
         Value::Set(expression) => expression,
         _ => SetExpression::Empty,
@@ -94,13 +108,17 @@ pub fn set(value: Value) -> SetExpression {
 }
 
 /// `not` of a value.
-pub fn negated(alloc: Global, value: Value) -> Result<Value, AllocError> {
+pub fn negated(alloc: Global, value: Value) -> Result<Value, AllocError>
+    ensures { IfOk result (λ v. value_seen v ≡ spec.negated (value_seen value)) }
+{
     let inner = Box::new(alloc, ordinal(value))?;
     Ok(Value::Ordinal(Expression::Not(inner), Base::Boolean))
 }
 
 /// A value with the sign `-`.
-pub fn opposite(alloc: Global, value: Value) -> Result<Value, AllocError> {
+pub fn opposite(alloc: Global, value: Value) -> Result<Value, AllocError>
+    ensures { IfOk result (λ v. value_seen v ≡ spec.opposite (value_seen value)) }
+{
     let inner = Box::new(alloc, ordinal(value))?;
     Ok(Value::Ordinal(Expression::Negate(inner), Base::Integer))
 }
@@ -110,7 +128,9 @@ fn arithmetic(
     operation: Arithmetic,
     left: Value,
     right: Value,
-) -> Result<Value, AllocError> {
+) -> Result<Value, AllocError>
+    ensures { IfOk result (λ v. value_seen v ≡ spec.arithmetic_of operation (value_seen left) (value_seen right)) }
+{
     let left = Box::new(alloc, ordinal(left))?;
     let right = Box::new(alloc, ordinal(right))?;
     Ok(Value::Ordinal(
@@ -119,7 +139,9 @@ fn arithmetic(
     ))
 }
 
-fn logic(alloc: Global, operation: Logic, left: Value, right: Value) -> Result<Value, AllocError> {
+fn logic(alloc: Global, operation: Logic, left: Value, right: Value) -> Result<Value, AllocError>
+    ensures { IfOk result (λ v. value_seen v ≡ spec.logic_of operation (value_seen left) (value_seen right)) }
+{
     let left = Box::new(alloc, ordinal(left))?;
     let right = Box::new(alloc, ordinal(right))?;
     Ok(Value::Ordinal(Expression::Logic(operation, left, right), Base::Boolean))
@@ -130,7 +152,9 @@ fn combined(
     operation: SetOperation,
     left: Value,
     right: Value,
-) -> Result<Value, AllocError> {
+) -> Result<Value, AllocError>
+    ensures { IfOk result (λ v. value_seen v ≡ spec.combined operation (value_seen left) (value_seen right)) }
+{
     let left = Box::new(alloc, set(left))?;
     let right = Box::new(alloc, set(right))?;
     Ok(Value::Set(SetExpression::Combine(operation, left, right)))
@@ -142,7 +166,9 @@ pub fn added(
     operation: Addition,
     left: Value,
     right: Value,
-) -> Result<Value, AllocError> {
+) -> Result<Value, AllocError>
+    ensures { IfOk result (λ v. value_seen v ≡ spec.added operation (value_seen left) (value_seen right)) }
+{
     match (operation, &left) {
         (Addition::Plus, _) => arithmetic(alloc, Arithmetic::Add, left, right),
         (Addition::Minus, Value::Set(_)) => combined(alloc, SetOperation::Difference, left, right),
@@ -158,7 +184,9 @@ pub fn multiplied(
     operation: Multiplication,
     left: Value,
     right: Value,
-) -> Result<Value, AllocError> {
+) -> Result<Value, AllocError>
+    ensures { IfOk result (λ v. value_seen v ≡ spec.multiplied operation (value_seen left) (value_seen right)) }
+{
     match (operation, &left) {
         (Multiplication::Times, _) => arithmetic(alloc, Arithmetic::Multiply, left, right),
         (Multiplication::Div, _) => arithmetic(alloc, Arithmetic::Divide, left, right),
@@ -170,13 +198,17 @@ pub fn multiplied(
     }
 }
 
-fn member(alloc: Global, left: Value, right: Value) -> Result<Value, AllocError> {
+fn member(alloc: Global, left: Value, right: Value) -> Result<Value, AllocError>
+    ensures { IfOk result (λ v. value_seen v ≡ spec.member_of (value_seen left) (value_seen right)) }
+{
     let element = Box::new(alloc, ordinal(left))?;
     let set = Box::new(alloc, set(right))?;
     Ok(Value::Ordinal(Expression::Member(element, set), Base::Boolean))
 }
 
-fn same_set(alloc: Global, is_same: bool, left: Value, right: Value) -> Result<Value, AllocError> {
+fn same_set(alloc: Global, is_same: bool, left: Value, right: Value) -> Result<Value, AllocError>
+    ensures { IfOk result (λ v. value_seen v ≡ spec.same_sets is_same (value_seen left) (value_seen right)) }
+{
     let left = Box::new(alloc, set(left))?;
     let right = Box::new(alloc, set(right))?;
     Ok(Value::Ordinal(Expression::SameSet(is_same, left, right), Base::Boolean))
@@ -187,7 +219,9 @@ fn comparison(
     relation: Comparison,
     left: Value,
     right: Value,
-) -> Result<Value, AllocError> {
+) -> Result<Value, AllocError>
+    ensures { IfOk result (λ v. value_seen v ≡ spec.compared relation (value_seen left) (value_seen right)) }
+{
     let left = Box::new(alloc, ordinal(left))?;
     let right = Box::new(alloc, ordinal(right))?;
     Ok(Value::Ordinal(Expression::Compare(relation, left, right), Base::Boolean))
@@ -199,7 +233,9 @@ pub fn related(
     relation: Relation,
     left: Value,
     right: Value,
-) -> Result<Value, AllocError> {
+) -> Result<Value, AllocError>
+    ensures { IfOk result (λ v. value_seen v ≡ spec.related relation (value_seen left) (value_seen right)) }
+{
     match (relation, &left) {
         (Relation::In, _) => member(alloc, left, right),
         (Relation::Equal, Value::Set(_)) => same_set(alloc, true, left, right),
@@ -214,7 +250,9 @@ pub fn related(
 }
 
 /// What a predeclared function answers for an argument.
-pub fn applied(alloc: Global, function: Predeclared, value: Value) -> Result<Value, AllocError> {
+pub fn applied(alloc: Global, function: Predeclared, value: Value) -> Result<Value, AllocError>
+    ensures { IfOk result (λ v. value_seen v ≡ spec.applied function (value_seen value)) }
+{
     let (inner, base) = match value {
         Value::Ordinal(inner, base) => (inner, base),
         Value::Whole(place, _) => return Ok(is_empty(place)),
@@ -240,6 +278,8 @@ pub fn applied(alloc: Global, function: Predeclared, value: Value) -> Result<Val
     })
 }
 
-fn is_empty(place: Place) -> Value {
+fn is_empty(place: Place) -> Value
+    ensures { value_seen result ≡ spec.empty_queue (place_seen place) }
+{
     Value::Ordinal(Expression::IsEmpty(place), Base::Boolean)
 }

@@ -1,40 +1,92 @@
-use Rattle.std.proofs.Common.{rules, refl, true, false, ◌≡◌, ◌≤◌, ◌<◌, ◌+◌, ◌∙◌, ap, sym, subst, arith, All, List, [], ◌∷◌, ◌++◌, length, map, take, ℕ}
+use Rattle.std.proofs.Common.{rules, refl, true, false, ◌≡◌, ◌≤◌, ◌<◌, ◌+◌, ◌*◌, ◌∙◌, ap, sym, subst, arith, All, List, [], ◌∷◌, ◌++◌, length, get_or, map, take, take_all, ℕ}
+use Rattle.std.proofs.lemmas.List.{length-map}
 use Rattle.cp_run.specs.declared.outcome.OutcomeKind.TheVariants.{ChoiceLimit}
 use Rattle.cp_explore.specs.declared.row.Row.{Row}
 use Rattle.cp_machine.specs.System.{machine_of, IsStateOf}
 use Rattle.cp_run.specs.Code.{node_of}
 use Rattle.cp_run.specs.Slots.{slots}
-use Rattle.cp_explore.specs.Rows.{line_of}
-use Rattle.cp_run.specs.Run.{Choosing, joined_below, may, chosen}
+use Rattle.cp_run.specs.Run.{Choosing, Node, those_below, may, chosen}
 use Rattle.cp_explore.specs.Beginnings.{beginnings, words_in}
+use Rattle.cp_explore.specs.Rows.{line_of, IsTooMany}
 use Rattle.cp_explore.specs.Walk.{behind, walk, IsDue}
+use Rattle.cp_explore.proofs.Branches.{walk_over, walk_limit, one_behind, not_ended, append_none, all_parts}
+use Rattle.cp_explore.proofs.Calling.{calls_leaf, if_ok}
 use Rattle.cp_explore.proofs.Counted.{added}
-use Rattle.cp_explore.proofs.Branches.{branch, walk_over, walk_limit, walk_due, one_behind, not_ended, taken, passed, cut_back, too_many, append_none, all_parts}
-use Rattle.cp_explore.proofs.Calling.{calls_taken, calls_passed, calls_all, calls_leaf, if_ok, some_taken, some_passed, some_all, some_walk}
+use Rattle.cp_explore.proofs.Errors.{err_more, err_as, err_then, ok_as, ok_both}
 use Rattle.cp_explore.proofs.Leading.{due_chosen}
-use Rattle.cp_explore.proofs.Errors.{err_more, err_as}
-use Rattle.cp_explore.specs.Rows.{IsTooMany}
-use Rattle.std.proofs.lemmas.List.{length-map}
+use Rattle.cp_explore.proofs.Listed.{behind_each, may_other, may_last, rows_other, calls_other, many_other, rows_last, some_last, calls_last, many_last, none_due}
 use Rattle.cp_explore.proofs.walk.+walk_from.Goals as goal
-use Rattle.cp_explore.proofs.walk.+walk_from.Goals.{then-may+in_ok-walk_from, else-may}
 
-pub returns-in-Ended-clause-rows : goal.returns-in-Ended-clause-rows
-returns-in-Ended-clause-rows g t c =
+pub walk_from-returns-in-Ended-clause-rows : goal.walk_from-returns-in-Ended-clause-rows
+walk_from-returns-in-Ended-clause-rows g t c =
     let s = machine_of c.args.state.now in
     let sys = slots c.args.program.now c.args.limits.gates in
     let n = length c.args.kept.now in
     one_behind c.args.word.now.items c.args.word.now.items (record { kind = c.in-Ended.kind; output = sys.output s }) (map line_of c.args.rows.now.items) (map line_of c.add_row.new.rows.items) (walk sys c.args.limits.steps n (node_of c.args.halt s)) c.add_row.result refl (ap (λ h. walk sys c.args.limits.steps n (node_of h s)) c.in-Ended.is ∙ walk_over sys c.args.limits.steps n c.in-Ended.kind s) c.add_row.ensures.row
 
-pub returns-in_default-split_first_mut-clause-rows :
-    goal.returns-in_default-split_first_mut-clause-rows
-returns-in_default-split_first_mut-clause-rows g t c =
+pub walk_from-returns-in_default-split_first_mut-clause-rows :
+    goal.walk_from-returns-in_default-split_first_mut-clause-rows
+walk_from-returns-in_default-split_first_mut-clause-rows g t c =
     let s = machine_of c.args.state.now in
     let sys = slots c.args.program.now c.args.limits.gates in
     let n = length c.args.kept.now in
     one_behind c.args.word.now.items c.args.word.now.items (record { kind = ChoiceLimit; output = sys.output s }) (map line_of c.args.rows.now.items) (map line_of c.add_row-in_default-split_first_mut.new.rows.items) (walk sys c.args.limits.steps n (node_of c.args.halt s)) c.add_row-in_default-split_first_mut.result refl (ap (λ h. walk sys c.args.limits.steps n (node_of h s)) (not_ended c.args.halt c.in_default.not-Ended) ∙ walk_limit sys c.args.limits.steps n s c.in_default-split_first_mut.ensures.cases) c.add_row-in_default-split_first_mut.ensures.row
 
-pub loop-process-init : goal.loop-process-init
-loop-process-init g t c =
+pub walk_from-returns-in-Ended-clause-many : goal.walk_from-returns-in-Ended-clause-many
+walk_from-returns-in-Ended-clause-many g t c =
+    let s = machine_of c.args.state.now in
+    let n = length c.args.kept.now in
+    let one : length (walk (slots c.args.program.now c.args.limits.gates) c.args.limits.steps n (node_of c.args.halt s)) ≡ 1 = ap length (ap (λ h. walk (slots c.args.program.now c.args.limits.gates) c.args.limits.steps n (node_of h s)) c.in-Ended.is ∙ walk_over (slots c.args.program.now c.args.limits.gates) c.args.limits.steps n c.in-Ended.kind s) in
+    err_more c.add_row.result (length c.args.rows.now.items) _ one c.add_row.ensures.many
+
+pub walk_from-returns-in_default-split_first_mut-clause-many : goal.walk_from-returns-in_default-split_first_mut-clause-many
+walk_from-returns-in_default-split_first_mut-clause-many g t c =
+    let s = machine_of c.args.state.now in
+    let n = length c.args.kept.now in
+    let one : length (walk (slots c.args.program.now c.args.limits.gates) c.args.limits.steps n (node_of c.args.halt s)) ≡ 1 = ap length (ap (λ h. walk (slots c.args.program.now c.args.limits.gates) c.args.limits.steps n (node_of h s)) (not_ended c.args.halt c.in_default.not-Ended) ∙ walk_limit (slots c.args.program.now c.args.limits.gates) c.args.limits.steps n s c.in_default-split_first_mut.ensures.cases) in
+    err_more c.add_row-in_default-split_first_mut.result (length c.args.rows.now.items) _ one c.add_row-in_default-split_first_mut.ensures.many
+
+pub walk_from-returns-in-Ended-clause-some : goal.walk_from-returns-in-Ended-clause-some
+walk_from-returns-in-Ended-clause-some g t c =
+    let s = machine_of c.args.state.now in
+    let n = length c.args.kept.now in
+    let sys = slots c.args.program.now c.args.limits.gates in
+    let one = ap length (ap (λ h. walk sys c.args.limits.steps n (node_of h s)) c.in-Ended.is ∙ walk_over sys c.args.limits.steps n c.in-Ended.kind s) in
+    if_ok _ c.add_row.result (omega (arith, one))
+
+pub walk_from-returns-in-Ended-clause-calls : goal.walk_from-returns-in-Ended-clause-calls
+walk_from-returns-in-Ended-clause-calls g t c =
+    let s = machine_of c.args.state.now in
+    let n = length c.args.kept.now in
+    let sys = slots c.args.program.now c.args.limits.gates in
+    if_ok _ c.add_row.result (calls_leaf (walk sys c.args.limits.steps n (node_of c.args.halt s)) (record { word = []; outcome = record { kind = c.in-Ended.kind; output = sys.output s } }) c.args.calls.now (ap (λ h. walk sys c.args.limits.steps n (node_of h s)) c.in-Ended.is ∙ walk_over sys c.args.limits.steps n c.in-Ended.kind s) refl)
+
+pub walk_from-returns-in_default-split_first_mut-clause-some :
+    goal.walk_from-returns-in_default-split_first_mut-clause-some
+walk_from-returns-in_default-split_first_mut-clause-some g t c =
+    let s = machine_of c.args.state.now in
+    let n = length c.args.kept.now in
+    let sys = slots c.args.program.now c.args.limits.gates in
+    let one = ap length (ap (λ h. walk sys c.args.limits.steps n (node_of h s)) (not_ended c.args.halt c.in_default.not-Ended) ∙ walk_limit sys c.args.limits.steps n s c.in_default-split_first_mut.ensures.cases) in
+    if_ok _ c.add_row-in_default-split_first_mut.result (omega (arith, one))
+
+pub walk_from-returns-in_default-split_first_mut-clause-calls :
+    goal.walk_from-returns-in_default-split_first_mut-clause-calls
+walk_from-returns-in_default-split_first_mut-clause-calls g t c =
+    let s = machine_of c.args.state.now in
+    let n = length c.args.kept.now in
+    let sys = slots c.args.program.now c.args.limits.gates in
+    if_ok _ c.add_row-in_default-split_first_mut.result (calls_leaf (walk sys c.args.limits.steps n (node_of c.args.halt s)) (record { word = []; outcome = record { kind = ChoiceLimit; output = sys.output s } }) c.args.calls.now (ap (λ h. walk sys c.args.limits.steps n (node_of h s)) (not_ended c.args.halt c.in_default.not-Ended) ∙ walk_limit sys c.args.limits.steps n s c.in_default-split_first_mut.ensures.cases) refl)
+
+pub walk_from-unreachable-requires : goal.walk_from-unreachable-requires
+walk_from-unreachable-requires g t c =
+    let s = machine_of c.args.state.now in
+    let sys = slots c.args.program.now c.args.limits.gates in
+    let due = subst (λ h. IsDue sys (node_of h s)) (not_ended c.args.halt c.in_default.not-Ended) c.requires.due in
+    none_due sys s c.as_slice.result.now (c.as_slice.ensures.value ∙ c.wanted-numbers.ensures) c.in_default-split_last.ensures.cases due
+
+pub walk_from-loop-process-init : goal.walk_from-loop-process-init
+walk_from-loop-process-init g t c =
     let parts = all_parts (IsStateOf c.args.program.now) c.args.kept.now c.in-Some.next.now c.in-Some.deeper.now c.in-Some.ensures.cases.0 c.requires.kept in
     record {
       rows = sym (append_none (map line_of c.args.rows.now.items));
@@ -43,154 +95,184 @@ loop-process-init g t c =
       next = parts.0;
       deeper = parts.1;
       calls = omega arith;
-      some = λ q lt on. absurd (omega (arith, lt));
     }
 
-pub loop-process-preserved : goal.loop-process-preserved
-loop-process-preserved g t c =
+pub walk_from-walk_child-requires : goal.walk_from-walk_child-requires
+walk_from-walk_child-requires g t c =
     let s = machine_of c.args.state.now in
     let sys = slots c.args.program.now c.args.limits.gates in
-    let p = c.loop-process.process in
+    let i = c.loop-process.process-index in
+    let others = c.in-Some-split_last.others.now in
+    let last = c.in-Some-split_last.last.now in
+    let listed : others ++ last ∷ [] ≡ those_below sys.processes (may sys s) = sym c.in-Some-split_last.ensures.cases.0 ∙ c.as_slice.ensures.value ∙ c.wanted-numbers.ensures in
+    let lt : i < length others = omega arith in
+    let on : may sys (machine_of c.take_from.new.self) (get_or others i 0) ≡ true = ap (λ m. may sys m (get_or others i 0)) c.take_from.ensures.same ∙ may_other sys c.args.limits.steps 0 s others last listed i (get_or others i 0) lt refl in
+    search (rules, on)
+
+pub walk_from-loop-process-preserved : goal.walk_from-loop-process-preserved
+walk_from-loop-process-preserved g t c =
+    let s = machine_of c.args.state.now in
+    let sys = slots c.args.program.now c.args.limits.gates in
+    let steps = c.args.limits.steps in
+    let i = c.loop-process.process-index in
+    let others = c.in-Some-split_last.others.now in
+    let last = c.in-Some-split_last.last.now in
+    let p = get_or others i 0 in
     let n = length c.loop-process.deeper in
     let word = c.args.word.now.items in
     let old = map line_of c.args.rows.now.items in
     let rows = map line_of c.loop-process.rows.items in
-    elim c.if-may.branch [
-      | then-may+in_ok-walk_from w ↦ (
-          let more : length c.if-may.deeper ≡ n = c.if-may.auto.deeper in
-          let is : may sys s p ≡ true = sym c.may.ensures ∙ w.if-may.true in
-          let node = node_of w.choose-halt.result (machine_of w.choose-halt.new.state) in
-          let at : chosen sys c.args.limits.steps s p ≡ node = ap (λ x. chosen sys c.args.limits.steps x p) (sym w.take_from.ensures.same) ∙ w.choose-halt.ensures.node in
-          let longer : w.push.new.self.items ≡ word ++ p ∷ [] = w.push.ensures.items ∙ ap (λ x. x ++ p ∷ []) c.loop-process.invariant.word in
-          let new = map line_of w.walk_from.new.rows.items in
-          let grown : new ≡ rows ++ map (behind (word ++ p ∷ [])) (walk sys c.args.limits.steps n node) = w.in_ok-walk_from.ensures.rows ∙ ap (λ x. rows ++ map (behind x) (walk sys c.args.limits.steps n node)) longer in
-          record {
-            rows = ap (λ r. map line_of r.items) w.rows-is ∙ subst (λ (k : ℕ). new ≡ old ++ map (behind word) (joined_below (p + 1) (branch sys c.args.limits.steps k s))) (sym more) (taken sys c.args.limits.steps n s p word old rows new node is at c.loop-process.invariant.rows grown);
-            word = ap (λ x. x.items) w.word-is ∙ w.truncate.ensures.items ∙ ap (take c.len-depth.result) (w.in_ok-walk_from.ensures.word ∙ longer) ∙ cut_back word c.len-depth.result p c.len-depth.ensures.value;
-            few = subst (λ (r : List Row). length r ≤ 50000) (sym (ap (λ r. r.items) w.rows-is)) w.in_ok-walk_from.ensures.few;
-            next = subst (IsStateOf c.args.program.now) (sym w.next-is) w.choose-halt.ensures.own;
-            deeper = subst (All (IsStateOf c.args.program.now)) (sym w.deeper-is) w.walk_from.ensures.kept;
-            calls = let counted = calls_taken sys c.args.limits.steps n s p node c.args.calls.now c.loop-process.calls w.choose-halt.new.calls w.walk_from.new.calls is at c.loop-process.invariant.calls w.choose-halt.ensures.calls w.in_ok-walk_from.ensures.calls in subst (λ (k : ℕ). c.if-may.calls ≤ c.args.calls.now + added [] (words_in (joined_below (p + 1) (branch sys c.args.limits.steps k s)))) (sym more) (subst (λ (k : ℕ). k ≤ c.args.calls.now + added [] (words_in (joined_below (p + 1) (branch sys c.args.limits.steps n s)))) (sym w.calls-is) counted);
-            some = subst (λ (k : ℕ). (q : ℕ) → q < p + 1 → may sys s q ≡ true → 0 < length (joined_below (p + 1) (branch sys c.args.limits.steps k s))) (sym more) (some_taken sys c.args.limits.steps n s p node is at w.in_ok-walk_from.ensures.some);
-          }
-          )
-      | else-may w ↦ (
-          let more : length c.if-may.deeper ≡ n = ap length w.deeper-is in
-          let is : may sys s p ≡ false = sym c.may.ensures ∙ w.if-may.false in
-          record {
-            rows = ap (λ r. map line_of r.items) w.rows-is ∙ subst (λ (k : ℕ). rows ≡ old ++ map (behind word) (joined_below (p + 1) (branch sys c.args.limits.steps k s))) (sym more) (passed sys c.args.limits.steps n s p word old rows is c.loop-process.invariant.rows);
-            word = ap (λ x. x.items) w.word-is ∙ c.loop-process.invariant.word;
-            few = subst (λ (r : List Row). length r ≤ 50000) (sym (ap (λ r. r.items) w.rows-is)) c.loop-process.invariant.few;
-            next = subst (IsStateOf c.args.program.now) (sym w.next-is) c.loop-process.invariant.next;
-            deeper = subst (All (IsStateOf c.args.program.now)) (sym w.deeper-is) c.loop-process.invariant.deeper;
-            calls = let counted = calls_passed sys c.args.limits.steps n s p c.args.calls.now c.loop-process.calls is c.loop-process.invariant.calls in subst (λ (k : ℕ). c.if-may.calls ≤ c.args.calls.now + added [] (words_in (joined_below (p + 1) (branch sys c.args.limits.steps k s)))) (sym more) (subst (λ (k : ℕ). k ≤ c.args.calls.now + added [] (words_in (joined_below (p + 1) (branch sys c.args.limits.steps n s)))) (sym w.calls-is) counted);
-            some = subst (λ (k : ℕ). (q : ℕ) → q < p + 1 → may sys s q ≡ true → 0 < length (joined_below (p + 1) (branch sys c.args.limits.steps k s))) (sym more) (some_passed sys c.args.limits.steps n s p is c.loop-process.invariant.some);
-          }
-          )
-    ]
+    let new = map line_of c.walk_child.new.rows.items in
+    let listed : others ++ last ∷ [] ≡ those_below sys.processes (may sys s) = sym c.in-Some-split_last.ensures.cases.0 ∙ c.as_slice.ensures.value ∙ c.wanted-numbers.ensures in
+    let lt : i < length others = omega arith in
+    let more : length c.walk_child.new.deeper ≡ n = c.walk_child.auto.deeper in
+    let grown : new ≡ rows ++ map (behind (word ++ p ∷ [])) (walk sys steps n (chosen sys steps s p)) = c.in_ok-walk_child.ensures.rows ∙ ap (λ w. rows ++ map (behind (w ++ p ∷ [])) (walk sys steps n (chosen sys steps (machine_of c.take_from.new.self) p))) c.loop-process.invariant.word ∙ ap (λ m. rows ++ map (behind (word ++ p ∷ [])) (walk sys steps n (chosen sys steps m p))) c.take_from.ensures.same in
+    let called : c.walk_child.new.calls ≤ c.loop-process.calls + beginnings (words_in (walk sys steps n (chosen sys steps s p))) = subst (λ m. c.walk_child.new.calls ≤ c.loop-process.calls + beginnings (words_in (walk sys steps n (chosen sys steps m p)))) c.take_from.ensures.same c.in_ok-walk_child.ensures.calls in
+    record {
+      rows = subst (λ (k : ℕ). new ≡ old ++ map (behind word) (behind_each sys steps k s (take (i + 1) others))) (sym more) (rows_other sys steps n s others last listed i p lt refl word old rows new c.loop-process.invariant.rows grown);
+      word = c.in_ok-walk_child.ensures.word ∙ c.loop-process.invariant.word;
+      few = c.in_ok-walk_child.ensures.few;
+      next = c.walk_child.ensures.own;
+      deeper = c.walk_child.ensures.deeper;
+      calls = subst (λ (k : ℕ). c.walk_child.new.calls ≤ c.args.calls.now + added [] (words_in (behind_each sys steps k s (take (i + 1) others)))) (sym more) (calls_other sys steps n s others last listed i p lt refl c.args.calls.now c.loop-process.calls c.walk_child.new.calls c.loop-process.invariant.calls called);
+    }
 
-pub returns-clause-rows : goal.returns-clause-rows
-returns-clause-rows g t c =
+pub walk_from-returns-in_err-walk_child-clause-many : goal.walk_from-returns-in_err-walk_child-clause-many
+walk_from-returns-in_err-walk_child-clause-many g t c =
     let s = machine_of c.args.state.now in
     let sys = slots c.args.program.now c.args.limits.gates in
-    let p = c.loop-process.process in
+    let steps = c.args.limits.steps in
+    let i = c.loop-process.process-index in
+    let others = c.in-Some-split_last.others.now in
+    let last = c.in-Some-split_last.last.now in
+    let p = get_or others i 0 in
+    let n = length c.loop-process.deeper in
+    let left = length c.args.kept.now in
+    let listed : others ++ last ∷ [] ≡ those_below sys.processes (may sys s) = sym c.in-Some-split_last.ensures.cases.0 ∙ c.as_slice.ensures.value ∙ c.wanted-numbers.ensures in
+    let lt : i < length others = omega arith in
+    let deep : left ≡ n + 1 = sym c.in-Some.ensures.cases.1 ∙ ap (λ k. k + 1) (sym c.loop-process.auto.deeper) in
+    let bound = many_other sys steps n s others last listed i p left lt refl deep c.args.word.now.items (map line_of c.args.rows.now.items) (map line_of c.loop-process.rows.items) c.loop-process.invariant.rows in
+    let same = ap (λ m. length (walk sys steps n (chosen sys steps m p))) c.take_from.ensures.same in
+    let due = ap (λ h. length (walk sys steps left (node_of h s))) (not_ended c.args.halt c.in_default.not-Ended) in
+    let a = length-map c.args.rows.now.items line_of in
+    let b = length-map c.loop-process.rows.items line_of in
+    err_as c.from_residual.result _ (λ e. IsTooMany e → 50000 < length c.args.rows.now.items + length (walk sys steps left (node_of c.args.halt s))) c.from_residual.ensures.1 (λ f h many. let more = c.in_err-walk_child.ensures.many (subst IsTooMany h many) in omega (arith, bound, same, due, a, b, more))
+
+pub walk_from-walk_child-requires-2 : goal.walk_from-walk_child-requires-2
+walk_from-walk_child-requires-2 g t c =
+    let s = machine_of c.args.state.now in
+    let sys = slots c.args.program.now c.args.limits.gates in
+    let others = c.in-Some-split_last.others.now in
+    let last = c.in-Some-split_last.last.now in
+    let listed : others ++ last ∷ [] ≡ those_below sys.processes (may sys s) = sym c.in-Some-split_last.ensures.cases.0 ∙ c.as_slice.ensures.value ∙ c.wanted-numbers.ensures in
+    let on : may sys s last ≡ true = may_last sys c.args.limits.steps 0 s others last listed in
+    search (rules, on)
+
+pub walk_from-returns-clause-rows : goal.walk_from-returns-clause-rows
+walk_from-returns-clause-rows g t c =
+    let s = machine_of c.args.state.now in
+    let sys = slots c.args.program.now c.args.limits.gates in
+    let steps = c.args.limits.steps in
+    let others = c.in-Some-split_last.others.now in
+    let last = c.in-Some-split_last.last.now in
     let n = length c.loop-process.deeper in
     let left = length c.args.kept.now in
     let word = c.args.word.now.items in
     let old = map line_of c.args.rows.now.items in
-    let all : p ≡ sys.processes = omega (arith, c.loop-process.auto.process-end, c.processes-process-end.ensures.value) in
+    let rows = map line_of c.loop-process.rows.items in
+    let new = map line_of c.walk_child-2.new.rows.items in
+    let listed : others ++ last ∷ [] ≡ those_below sys.processes (may sys s) = sym c.in-Some-split_last.ensures.cases.0 ∙ c.as_slice.ensures.value ∙ c.wanted-numbers.ensures in
     let deep : left ≡ n + 1 = sym c.in-Some.ensures.cases.1 ∙ ap (λ k. k + 1) (sym c.loop-process.auto.deeper) in
-    c.loop-process.invariant.rows ∙ ap (λ l. old ++ map (behind word) l) (ap (λ q. joined_below q (branch sys c.args.limits.steps n s)) all ∙ sym (ap (λ h. walk sys c.args.limits.steps left (node_of h s)) (not_ended c.args.halt c.in_default.not-Ended) ∙ walk_due sys c.args.limits.steps n left s deep))
+    let whole : take c.loop-process.process-index others ≡ others = take_all c.loop-process.process-index others (omega arith) in
+    let so_far : rows ≡ old ++ map (behind word) (behind_each sys steps n s others) = c.loop-process.invariant.rows ∙ ap (λ ps. old ++ map (behind word) (behind_each sys steps n s ps)) whole in
+    let due = not_ended c.args.halt c.in_default.not-Ended in
+    ok_as c.walk_child-2.result _ (λ _. new ≡ old ++ map (behind word) (walk sys steps left (node_of c.args.halt s))) c.walk_child-2.ensures.rows (λ a h. subst (λ k. new ≡ old ++ map (behind word) (walk sys steps left (node_of k s))) (sym due) (rows_last sys steps n s others last listed left deep word old rows new so_far (h ∙ ap (λ w. rows ++ map (behind (w ++ last ∷ [])) (walk sys steps n (chosen sys steps s last))) c.loop-process.invariant.word)))
 
-pub returns-in_err-walk_from-clause-many : goal.returns-in_err-walk_from-clause-many
-returns-in_err-walk_from-clause-many g t c =
+pub walk_from-returns-clause-word : goal.walk_from-returns-clause-word
+walk_from-returns-clause-word g t c = ok_as c.walk_child-2.result _ (λ _. c.walk_child-2.new.word.items ≡ c.args.word.now.items) c.walk_child-2.ensures.word (λ a h. h ∙ c.loop-process.invariant.word)
+
+pub walk_from-returns-clause-many : goal.walk_from-returns-clause-many
+walk_from-returns-clause-many g t c =
     let s = machine_of c.args.state.now in
     let sys = slots c.args.program.now c.args.limits.gates in
-    let p = c.loop-process.process in
+    let steps = c.args.limits.steps in
+    let others = c.in-Some-split_last.others.now in
+    let last = c.in-Some-split_last.last.now in
     let n = length c.loop-process.deeper in
     let left = length c.args.kept.now in
-    let node = node_of c.choose-halt.result (machine_of c.choose-halt.new.state) in
+    let word = c.args.word.now.items in
+    let old = map line_of c.args.rows.now.items in
+    let rows = map line_of c.loop-process.rows.items in
+    let listed : others ++ last ∷ [] ≡ those_below sys.processes (may sys s) = sym c.in-Some-split_last.ensures.cases.0 ∙ c.as_slice.ensures.value ∙ c.wanted-numbers.ensures in
     let deep : left ≡ n + 1 = sym c.in-Some.ensures.cases.1 ∙ ap (λ k. k + 1) (sym c.loop-process.auto.deeper) in
-    let is : may sys s p ≡ true = sym c.may.ensures ∙ c.if-may.true in
-    let at : chosen sys c.args.limits.steps s p ≡ node = ap (λ x. chosen sys c.args.limits.steps x p) (sym c.take_from.ensures.same) ∙ c.choose-halt.ensures.node in
-    let below : p < sys.processes = omega (arith, c.loop-process-test.true, c.processes-process-end.ensures.value) in
-    let bound = too_many sys c.args.limits.steps n left p s c.args.word.now.items (map line_of c.args.rows.now.items) (map line_of c.loop-process.rows.items) node deep below is at c.loop-process.invariant.rows in
-    let due = ap (λ h. length (walk sys c.args.limits.steps left (node_of h s))) (not_ended c.args.halt c.in_default.not-Ended) in
+    let whole : take c.loop-process.process-index others ≡ others = take_all c.loop-process.process-index others (omega arith) in
+    let so_far : rows ≡ old ++ map (behind word) (behind_each sys steps n s others) = c.loop-process.invariant.rows ∙ ap (λ ps. old ++ map (behind word) (behind_each sys steps n s ps)) whole in
+    let bound = many_last sys steps n s others last listed left deep word old rows so_far in
+    let due = ap (λ h. length (walk sys steps left (node_of h s))) (not_ended c.args.halt c.in_default.not-Ended) in
     let a = length-map c.args.rows.now.items line_of in
     let b = length-map c.loop-process.rows.items line_of in
-    err_as c.from_residual.result _ (λ e. IsTooMany e → 50000 < length c.args.rows.now.items + length (walk sys c.args.limits.steps left (node_of c.args.halt s))) c.from_residual.ensures.1 (λ f h many. let more = c.in_err-walk_from.ensures.many (subst IsTooMany h many) in omega (arith, bound, due, a, b, more))
+    err_then c.walk_child-2.result _ (λ e. IsTooMany e → 50000 < length c.args.rows.now.items + length (walk sys steps left (node_of c.args.halt s))) c.walk_child-2.ensures.many (λ e h many. let more = h many in omega (arith, bound, due, a, b, more))
 
-pub returns-in-Ended-clause-many : goal.returns-in-Ended-clause-many
-returns-in-Ended-clause-many g t c =
+pub walk_from-returns-clause-some : goal.walk_from-returns-clause-some
+walk_from-returns-clause-some g t c =
     let s = machine_of c.args.state.now in
-    let n = length c.args.kept.now in
-    let one : length (walk (slots c.args.program.now c.args.limits.gates) c.args.limits.steps n (node_of c.args.halt s)) ≡ 1 = ap length (ap (λ h. walk (slots c.args.program.now c.args.limits.gates) c.args.limits.steps n (node_of h s)) c.in-Ended.is ∙ walk_over (slots c.args.program.now c.args.limits.gates) c.args.limits.steps n c.in-Ended.kind s) in
-    err_more c.add_row.result (length c.args.rows.now.items) _ one c.add_row.ensures.many
+    let sys = slots c.args.program.now c.args.limits.gates in
+    let steps = c.args.limits.steps in
+    let others = c.in-Some-split_last.others.now in
+    let last = c.in-Some-split_last.last.now in
+    let n = length c.loop-process.deeper in
+    let left = length c.args.kept.now in
+    let listed : others ++ last ∷ [] ≡ those_below sys.processes (may sys s) = sym c.in-Some-split_last.ensures.cases.0 ∙ c.as_slice.ensures.value ∙ c.wanted-numbers.ensures in
+    let deep : left ≡ n + 1 = sym c.in-Some.ensures.cases.1 ∙ ap (λ k. k + 1) (sym c.loop-process.auto.deeper) in
+    let due = not_ended c.args.halt c.in_default.not-Ended in
+    ok_as c.walk_child-2.result _ (λ _. 0 < length (walk sys steps left (node_of c.args.halt s))) c.walk_child-2.ensures.some (λ a h. subst (λ k. 0 < length (walk sys steps left (node_of k s))) (sym due) (some_last sys steps n s others last listed left deep h))
 
-pub returns-in_default-split_first_mut-clause-many : goal.returns-in_default-split_first_mut-clause-many
-returns-in_default-split_first_mut-clause-many g t c =
+pub walk_from-returns-clause-calls : goal.walk_from-returns-clause-calls
+walk_from-returns-clause-calls g t c =
     let s = machine_of c.args.state.now in
-    let n = length c.args.kept.now in
-    let one : length (walk (slots c.args.program.now c.args.limits.gates) c.args.limits.steps n (node_of c.args.halt s)) ≡ 1 = ap length (ap (λ h. walk (slots c.args.program.now c.args.limits.gates) c.args.limits.steps n (node_of h s)) (not_ended c.args.halt c.in_default.not-Ended) ∙ walk_limit (slots c.args.program.now c.args.limits.gates) c.args.limits.steps n s c.in_default-split_first_mut.ensures.cases) in
-    err_more c.add_row-in_default-split_first_mut.result (length c.args.rows.now.items) _ one c.add_row-in_default-split_first_mut.ensures.many
+    let sys = slots c.args.program.now c.args.limits.gates in
+    let steps = c.args.limits.steps in
+    let others = c.in-Some-split_last.others.now in
+    let last = c.in-Some-split_last.last.now in
+    let n = length c.loop-process.deeper in
+    let left = length c.args.kept.now in
+    let new = c.walk_child-2.new.calls in
+    let listed : others ++ last ∷ [] ≡ those_below sys.processes (may sys s) = sym c.in-Some-split_last.ensures.cases.0 ∙ c.as_slice.ensures.value ∙ c.wanted-numbers.ensures in
+    let deep : left ≡ n + 1 = sym c.in-Some.ensures.cases.1 ∙ ap (λ k. k + 1) (sym c.loop-process.auto.deeper) in
+    let whole : take c.loop-process.process-index others ≡ others = take_all c.loop-process.process-index others (omega arith) in
+    let so_far : c.loop-process.calls ≤ c.args.calls.now + added [] (words_in (behind_each sys steps n s others)) = subst (λ ps. c.loop-process.calls ≤ c.args.calls.now + added [] (words_in (behind_each sys steps n s ps))) whole c.loop-process.invariant.calls in
+    let due = not_ended c.args.halt c.in_default.not-Ended in
+    ok_both c.walk_child-2.result _ _ (λ _. new + 1 ≤ c.args.calls.now + beginnings (words_in (walk sys steps left (node_of c.args.halt s)))) c.walk_child-2.ensures.calls c.walk_child-2.ensures.some (λ a h some. subst (λ k. new + 1 ≤ c.args.calls.now + beginnings (words_in (walk sys steps left (node_of k s)))) (sym due) (calls_last sys steps n s others last listed left deep c.args.calls.now c.loop-process.calls new so_far h some))
 
-pub walk_from-requires : goal.walk_from-requires
-walk_from-requires g t c =
-    let due : IsDue (slots c.args.program.now c.args.limits.gates) (node_of c.choose-halt.result (machine_of c.choose-halt.new.state)) = due_chosen c.args.program.now c.args.limits.gates c.args.limits.steps (machine_of c.take_from.new.self) c.loop-process.process c.choose-halt.result c.choose-halt.new.state c.choose-halt.ensures.own c.choose-halt.ensures.node in
+pub walk_child-walk_from-requires : goal.walk_child-walk_from-requires
+walk_child-walk_from-requires g t c =
+    let due : IsDue (slots c.args.program.now c.args.limits.gates) (node_of c.choose-halt.result (machine_of c.choose-halt.new.state)) = due_chosen c.args.program.now c.args.limits.gates c.args.limits.steps (machine_of c.args.state.now) c.args.process c.choose-halt.result c.choose-halt.new.state c.choose-halt.ensures.own c.choose-halt.ensures.node in
     search (rules, due)
 
-pub returns-in-Ended-clause-some : goal.returns-in-Ended-clause-some
-returns-in-Ended-clause-some g t c =
-    let s = machine_of c.args.state.now in
-    let n = length c.args.kept.now in
+pub walk_child-returns-clause-rows : goal.walk_child-returns-clause-rows
+walk_child-returns-clause-rows g t c =
     let sys = slots c.args.program.now c.args.limits.gates in
-    let one = ap length (ap (λ h. walk sys c.args.limits.steps n (node_of h s)) c.in-Ended.is ∙ walk_over sys c.args.limits.steps n c.in-Ended.kind s) in
-    if_ok _ c.add_row.result (omega (arith, one))
+    let steps = c.args.limits.steps in
+    let n = length c.args.deeper.now in
+    let rows = map line_of c.args.rows.now.items in
+    c.in_ok-walk_from.ensures.rows ∙ ap (λ w. rows ++ map (behind w) (walk sys steps n (node_of c.choose-halt.result (machine_of c.choose-halt.new.state)))) c.push.ensures.items ∙ ap (λ x. rows ++ map (behind (c.args.word.now.items ++ c.args.process ∷ [])) (walk sys steps n x)) (sym c.choose-halt.ensures.node)
 
-pub returns-in-Ended-clause-calls : goal.returns-in-Ended-clause-calls
-returns-in-Ended-clause-calls g t c =
-    let s = machine_of c.args.state.now in
-    let n = length c.args.kept.now in
+pub walk_child-returns-clause-some : goal.walk_child-returns-clause-some
+walk_child-returns-clause-some g t c =
     let sys = slots c.args.program.now c.args.limits.gates in
-    if_ok _ c.add_row.result (calls_leaf (walk sys c.args.limits.steps n (node_of c.args.halt s)) (record { word = []; outcome = record { kind = c.in-Ended.kind; output = sys.output s } }) c.args.calls.now (ap (λ h. walk sys c.args.limits.steps n (node_of h s)) c.in-Ended.is ∙ walk_over sys c.args.limits.steps n c.in-Ended.kind s) refl)
+    let n = length c.args.deeper.now in
+    subst (λ x. 0 < length (walk sys c.args.limits.steps n x)) (sym c.choose-halt.ensures.node) c.in_ok-walk_from.ensures.some
 
-pub returns-in_default-split_first_mut-clause-some :
-    goal.returns-in_default-split_first_mut-clause-some
-returns-in_default-split_first_mut-clause-some g t c =
-    let s = machine_of c.args.state.now in
-    let n = length c.args.kept.now in
+pub walk_child-returns-clause-calls : goal.walk_child-returns-clause-calls
+walk_child-returns-clause-calls g t c =
     let sys = slots c.args.program.now c.args.limits.gates in
-    let one = ap length (ap (λ h. walk sys c.args.limits.steps n (node_of h s)) (not_ended c.args.halt c.in_default.not-Ended) ∙ walk_limit sys c.args.limits.steps n s c.in_default-split_first_mut.ensures.cases) in
-    if_ok _ c.add_row-in_default-split_first_mut.result (omega (arith, one))
+    let n = length c.args.deeper.now in
+    let same = ap (λ x. beginnings (words_in (walk sys c.args.limits.steps n x))) c.choose-halt.ensures.node in
+    omega (arith, same, c.choose-halt.ensures.calls, c.in_ok-walk_from.ensures.calls)
 
-pub returns-in_default-split_first_mut-clause-calls :
-    goal.returns-in_default-split_first_mut-clause-calls
-returns-in_default-split_first_mut-clause-calls g t c =
-    let s = machine_of c.args.state.now in
-    let n = length c.args.kept.now in
+pub walk_child-returns-in_err-walk_from-clause-many : goal.walk_child-returns-in_err-walk_from-clause-many
+walk_child-returns-in_err-walk_from-clause-many g t c =
     let sys = slots c.args.program.now c.args.limits.gates in
-    if_ok _ c.add_row-in_default-split_first_mut.result (calls_leaf (walk sys c.args.limits.steps n (node_of c.args.halt s)) (record { word = []; outcome = record { kind = ChoiceLimit; output = sys.output s } }) c.args.calls.now (ap (λ h. walk sys c.args.limits.steps n (node_of h s)) (not_ended c.args.halt c.in_default.not-Ended) ∙ walk_limit sys c.args.limits.steps n s c.in_default-split_first_mut.ensures.cases) refl)
-
-pub returns-clause-some : goal.returns-clause-some
-returns-clause-some g t c =
-    let s = machine_of c.args.state.now in
-    let sys = slots c.args.program.now c.args.limits.gates in
-    let n = length c.loop-process.deeper in
-    let left = length c.args.kept.now in
-    let due = not_ended c.args.halt c.in_default.not-Ended in
-    let all : c.loop-process.process ≡ sys.processes = omega (arith, c.loop-process.auto.process-end, c.processes-process-end.ensures.value) in
-    let deep : left ≡ n + 1 = sym c.in-Some.ensures.cases.1 ∙ ap (λ k. k + 1) (sym c.loop-process.auto.deeper) in
-    let first = some_all sys c.args.limits.steps n c.loop-process.process s (subst (λ h. IsDue sys (node_of h s)) due c.requires.due) all c.loop-process.invariant.some in
-    subst (λ h. 0 < length (walk sys c.args.limits.steps left (node_of h s))) (sym due) (some_walk sys c.args.limits.steps n left c.loop-process.process s deep all first)
-
-pub returns-clause-calls : goal.returns-clause-calls
-returns-clause-calls g t c =
-    let s = machine_of c.args.state.now in
-    let sys = slots c.args.program.now c.args.limits.gates in
-    let n = length c.loop-process.deeper in
-    let left = length c.args.kept.now in
-    let due = not_ended c.args.halt c.in_default.not-Ended in
-    let all : c.loop-process.process ≡ sys.processes = omega (arith, c.loop-process.auto.process-end, c.processes-process-end.ensures.value) in
-    let deep : left ≡ n + 1 = sym c.in-Some.ensures.cases.1 ∙ ap (λ k. k + 1) (sym c.loop-process.auto.deeper) in
-    let first = some_all sys c.args.limits.steps n c.loop-process.process s (subst (λ h. IsDue sys (node_of h s)) due c.requires.due) all c.loop-process.invariant.some in
-    subst (λ h. c.loop-process.calls + 1 ≤ c.args.calls.now + beginnings (words_in (walk sys c.args.limits.steps left (node_of h s)))) (sym due) (calls_all sys c.args.limits.steps n left c.loop-process.process s c.args.calls.now c.loop-process.calls deep all first c.loop-process.invariant.calls)
+    let n = length c.args.deeper.now in
+    let same = ap (λ x. length (walk sys c.args.limits.steps n x)) c.choose-halt.ensures.node in
+    err_as c.from_residual.result _ (λ e. IsTooMany e → 50000 < length c.args.rows.now.items + length (walk sys c.args.limits.steps n (chosen sys c.args.limits.steps (machine_of c.args.state.now) c.args.process))) c.from_residual.ensures.1 (λ f h many. let more = c.in_err-walk_from.ensures.many (subst IsTooMany h many) in omega (arith, same, more))

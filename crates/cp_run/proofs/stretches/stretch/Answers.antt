@@ -8,12 +8,12 @@ use Rattle.cp_run.proofs.stretches.stretch.Goals as goal
 pub returns-in-Over-clause-node : goal.returns-in-Over-clause-node
 returns-in-Over-clause-node g c =
     let lt : c.loop.counter < c.args.limits.steps = omega arith in
-    c.loop.invariant.node ∙ step_on (slots c.args.program.now c.args.limits.gates) c.args.limits.steps c.loop.counter (machine_of c.loop.state) (machine_of c.turn_after_step.new.state) c.loop.going (Over c.in-Over.kind) lt c.in-Over.ensures.state c.in-Over.ensures.turn
+    c.loop.invariant.node ∙ step_on (slots c.args.program.now c.args.limits.gates) c.args.limits.steps c.loop.counter (machine_of c.loop.state) (machine_of c.next_turn.new.state) c.loop.going (Over c.in-Over.kind) lt c.in-Over.ensures.state c.in-Over.ensures.turn
 
 pub returns-in-Due-clause-node : goal.returns-in-Due-clause-node
 returns-in-Due-clause-node g c =
     let lt : c.loop.counter < c.args.limits.steps = omega arith in
-    c.loop.invariant.node ∙ step_on (slots c.args.program.now c.args.limits.gates) c.args.limits.steps c.loop.counter (machine_of c.loop.state) (machine_of c.turn_after_step.new.state) c.loop.going Due lt c.in-Due.ensures.state c.in-Due.ensures.turn
+    c.loop.invariant.node ∙ step_on (slots c.args.program.now c.args.limits.gates) c.args.limits.steps c.loop.counter (machine_of c.loop.state) (machine_of c.next_turn.new.state) c.loop.going Due lt c.in-Due.ensures.state c.in-Due.ensures.turn
 
 pub loop-preserved : goal.loop-preserved
 loop-preserved g c =
@@ -22,7 +22,7 @@ loop-preserved g c =
       own = c.in-Goes.ensures.own;
       ready = c.in-Goes.ensures.ready;
       free = c.in-Goes.ensures.free;
-      node = c.loop.invariant.node ∙ step_on (slots c.args.program.now c.args.limits.gates) c.args.limits.steps c.loop.counter (machine_of c.loop.state) (machine_of c.turn_after_step.new.state) c.loop.going (Goes c.in-Goes.next) lt c.in-Goes.ensures.state c.in-Goes.ensures.turn;
+      node = c.loop.invariant.node ∙ step_on (slots c.args.program.now c.args.limits.gates) c.args.limits.steps c.loop.counter (machine_of c.loop.state) (machine_of c.next_turn.new.state) c.loop.going (Goes c.in-Goes.next) lt c.in-Goes.ensures.state c.in-Goes.ensures.turn;
       steps = omega (arith, c.in-Goes.ensures.steps);
       calls = c.loop.invariant.calls;
     }

@@ -1,12 +1,13 @@
 use Rattle.std.proofs.Common.{◌≡◌, ◌<◌, ◌∙◌, length, sym, ap, arith, if◌then◌else◌}
-use Rattle.cp_machine.specs.System.{machine_of, is_ready}
+use Rattle.cp_machine.specs.declared.state.Readiness.TheVariants.{Nobody, One, Several}
+use Rattle.cp_machine.specs.System.{machine_of, is_ready, readiness_of}
 use Rattle.cp_run.specs.declared.outcome.Turn.TheVariants.{Over, Due, Goes}
 use Rattle.cp_run.specs.declared.outcome.OutcomeKind.TheVariants.{AllWaiting, Finished}
 use Rattle.cp_machine.proofs.CallerLemmas.{ready_thread, threads_count}
-use Rattle.cp_run.specs.Run.{those_below, turn_among, settled_turn as spec_turn}
+use Rattle.cp_run.specs.Run.{those_below, settled_turn as spec_turn}
 use Rattle.cp_run.specs.Slots.{slots, processes_of}
 use Rattle.cp_run.proofs.Owning.{own_ready}
-use Rattle.cp_run.proofs.Turning.{among_nobody, among_one, among_several, first_may}
+use Rattle.cp_run.proofs.Turning.{among_nobody, among_one, among_several, one_may}
 use Rattle.cp_run.proofs.Wanting.{goes_on}
 use Rattle.cp_run.proofs.turn.settled_turn.Goals as goal
 
@@ -14,35 +15,35 @@ pub returns-then-waits-clause-turn : goal.returns-then-waits-clause-turn
 returns-then-waits-clause-turn c =
     let m = machine_of c.args.state.now in
     let sys = slots c.args.program.now c.args.limits.gates in
-    let list : c.as_slice.result.now ≡ those_below (processes_of c.args.program.now) (is_ready m) = c.as_slice.ensures.value ∙ c.ready-ready.ensures ∙ own_ready c.args.program.now c.args.state.now c.requires.own in
-    sym (ap (turn_among sys m c.args.kernel c.args.process) (sym list) ∙ among_nobody sys m c.args.kernel c.args.process c.as_slice.result.now c.in-empty.len_below ∙ ap (λ b. if b then Over AllWaiting else Over Finished) (sym c.waits.ensures ∙ c.if-waits.true))
+    let alone : readiness_of (those_below (processes_of c.args.program.now) (is_ready m)) ≡ Nobody = ap readiness_of (sym (own_ready c.args.program.now c.args.state.now c.requires.own)) ∙ sym c.readiness.ensures ∙ c.in-Nobody.is in
+    sym (among_nobody sys m c.args.kernel c.args.process (those_below (processes_of c.args.program.now) (is_ready m)) alone ∙ ap (λ b. if b then Over AllWaiting else Over Finished) (sym c.waits.ensures ∙ c.if-waits.true))
 
 pub returns-else-waits-clause-turn : goal.returns-else-waits-clause-turn
 returns-else-waits-clause-turn c =
     let m = machine_of c.args.state.now in
     let sys = slots c.args.program.now c.args.limits.gates in
-    let list : c.as_slice.result.now ≡ those_below (processes_of c.args.program.now) (is_ready m) = c.as_slice.ensures.value ∙ c.ready-ready.ensures ∙ own_ready c.args.program.now c.args.state.now c.requires.own in
-    sym (ap (turn_among sys m c.args.kernel c.args.process) (sym list) ∙ among_nobody sys m c.args.kernel c.args.process c.as_slice.result.now c.in-empty.len_below ∙ ap (λ b. if b then Over AllWaiting else Over Finished) (sym c.waits.ensures ∙ c.if-waits.false))
+    let alone : readiness_of (those_below (processes_of c.args.program.now) (is_ready m)) ≡ Nobody = ap readiness_of (sym (own_ready c.args.program.now c.args.state.now c.requires.own)) ∙ sym c.readiness.ensures ∙ c.in-Nobody.is in
+    sym (among_nobody sys m c.args.kernel c.args.process (those_below (processes_of c.args.program.now) (is_ready m)) alone ∙ ap (λ b. if b then Over AllWaiting else Over Finished) (sym c.waits.ensures ∙ c.if-waits.false))
 
-pub returns-in-len1-clause-turn : goal.returns-in-len1-clause-turn
-returns-in-len1-clause-turn c =
+pub returns-in-One-clause-turn : goal.returns-in-One-clause-turn
+returns-in-One-clause-turn c =
     let m = machine_of c.args.state.now in
     let sys = slots c.args.program.now c.args.limits.gates in
-    let list : c.as_slice.result.now ≡ those_below (processes_of c.args.program.now) (is_ready m) = c.as_slice.ensures.value ∙ c.ready-ready.ensures ∙ own_ready c.args.program.now c.args.state.now c.requires.own in
-    sym (ap (turn_among sys m c.args.kernel c.args.process) (sym list) ∙ among_one sys m c.args.kernel c.args.process c.as_slice.result.now c.in-len1.len_at_least c.in-len1.len_below)
+    let alone : readiness_of (those_below (processes_of c.args.program.now) (is_ready m)) ≡ One c.in-One.one = ap readiness_of (sym (own_ready c.args.program.now c.args.state.now c.requires.own)) ∙ sym c.readiness.ensures ∙ c.in-One.is in
+    sym (among_one sys m c.args.kernel c.args.process (those_below (processes_of c.args.program.now) (is_ready m)) c.in-One.one alone)
 
-pub returns-in-len1-clause-ready : goal.returns-in-len1-clause-ready
-returns-in-len1-clause-ready c =
+pub returns-in-One-clause-ready : goal.returns-in-One-clause-ready
+returns-in-One-clause-ready c =
     let m = machine_of c.args.state.now in
-    let list : c.as_slice.result.now ≡ those_below (processes_of c.args.program.now) (is_ready m) = c.as_slice.ensures.value ∙ c.ready-ready.ensures ∙ own_ready c.args.program.now c.args.state.now c.requires.own in
-    first_may (processes_of c.args.program.now) (is_ready m) c.as_slice.result.now list c.in-len1.len_at_least
+    let alone : readiness_of (those_below (processes_of c.args.program.now) (is_ready m)) ≡ One c.in-One.one = ap readiness_of (sym (own_ready c.args.program.now c.args.state.now c.requires.own)) ∙ sym c.readiness.ensures ∙ c.in-One.is in
+    one_may (processes_of c.args.program.now) (is_ready m) c.in-One.one alone
 
-pub returns-in-len2-up-clause-turn : goal.returns-in-len2-up-clause-turn
-returns-in-len2-up-clause-turn c =
+pub returns-in-Several-clause-turn : goal.returns-in-Several-clause-turn
+returns-in-Several-clause-turn c =
     let m = machine_of c.args.state.now in
     let sys = slots c.args.program.now c.args.limits.gates in
-    let list : c.as_slice.result.now ≡ those_below (processes_of c.args.program.now) (is_ready m) = c.as_slice.ensures.value ∙ c.ready-ready.ensures ∙ own_ready c.args.program.now c.args.state.now c.requires.own in
-    sym (ap (turn_among sys m c.args.kernel c.args.process) (sym list) ∙ among_several sys m c.args.kernel c.args.process c.as_slice.result.now c.in-len2-up.len_at_least ∙ ap (λ b. if b then Due else Goes c.args.process) c.if-not-kernel.false)
+    let alone : readiness_of (those_below (processes_of c.args.program.now) (is_ready m)) ≡ Several = ap readiness_of (sym (own_ready c.args.program.now c.args.state.now c.requires.own)) ∙ sym c.readiness.ensures ∙ c.in-Several.is in
+    sym (among_several sys m c.args.kernel c.args.process (those_below (processes_of c.args.program.now) (is_ready m)) alone ∙ ap (λ b. if b then Due else Goes c.args.process) c.if-not-kernel.false)
 
 pub returns-then-not-kernel-clause-turn : goal.returns-then-not-kernel-clause-turn
 returns-then-not-kernel-clause-turn c =

@@ -1,5 +1,5 @@
 use Rattle.std.proofs.Common.{◌≡◌, ◌∙◌, ap, sym, ◌≤◌, length, [], ◌∷◌, ◌++◌, codes, get_or, take, arith, rules, lit<}
-use Rattle.std.proofs.lemmas.Bool.{eqb-false, eqb-true, false≢true}
+use Rattle.std.proofs.lemmas.Bool.{false≢true}
 use Rattle.std.proofs.lemmas.Fmt.{parse-decimal}
 use Rattle.std.proofs.lemmas.Slice.Eq.{bytes_eq-Decides}
 use Rattle.std.proofs.lemmas.List.{length_push}
@@ -8,7 +8,7 @@ use Rattle.std.proofs.lemmas.Iterator.Consumers.{YieldsList-at, YieldsList-turn,
 use Rattle.std.proofs.lemmas.Iterator.Splits.{YieldsList-from_str_split}
 use Rattle.cp_tool.proofs.WordLemmas.{all_parts, below_wide, empty_from_none, next_part}
 use Rattle.cp_tool.proofs.schedule.numbers_of.Goals as goal
-use Rattle.cp_tool.proofs.schedule.numbers_of.Goals.{then-number-gt15-via-then-number-gt15, then-number-gt15-via-else-number-gt15+then-is_full}
+use Rattle.cp_tool.proofs.schedule.numbers_of.Goals.{then-number-gt15-via-then-number-gt15, then-number-gt15-via-else-number-gt15+then-len-most}
 
 pub returns-then-eq-clause-reads : goal.returns-then-eq-clause-reads
 returns-then-eq-clause-reads c w word e =
@@ -21,7 +21,7 @@ returns-in_default-clause-reads c w word e =
     let other : text ≡ codes "none" → ⊥ = λ none. false≢true (c.if-eq.ensures ∙ (bytes_eq-Decides text (codes "none")).1 none) in
     let split = YieldsList-at c.into_iter-part-iterator.ensures.into_iter_gives (YieldsList-from_str_split 46 text (lit< tt) c.split-part-items.ensures.text c.split-part-items.ensures.has_more c.split-part-items.ensures.pattern) in
     let turn = YieldsList-turn split c.loop-part.yielded _ c.loop-part.yielded_by _ _ c.in-Some.part c.in-Some.is c.next.ensures.steps in
-    let next = next_part text other _ _ turn w word e in
+    let next = next_part text other _ _ turn w word.1 e in
     let read = parse-decimal 8 _ _ c.parse.result (omega (arith, next.1)) (below_wide _ next.1) next.2 c.parse.ensures.value.0 in
     c.in_default.not-Ok _ read
 
@@ -31,16 +31,14 @@ returns-then-number-gt15-clause-reads c w word e =
     let other : text ≡ codes "none" → ⊥ = λ none. false≢true (c.if-eq.ensures ∙ (bytes_eq-Decides text (codes "none")).1 none) in
     let split = YieldsList-at c.into_iter-part-iterator.ensures.into_iter_gives (YieldsList-from_str_split 46 text (lit< tt) c.split-part-items.ensures.text c.split-part-items.ensures.has_more c.split-part-items.ensures.pattern) in
     let turn = YieldsList-turn split c.loop-part.yielded _ c.loop-part.yielded_by _ _ c.in-Some.part c.in-Some.is c.next.ensures.steps in
-    let next = next_part text other _ _ turn w word e in
+    let next = next_part text other _ _ turn w word.1 e in
     let read = parse-decimal 8 _ _ c.parse.result (omega (arith, next.1)) (below_wide _ next.1) next.2 c.parse.ensures.value.0 in
     let same : c.in-Ok.number ≡ get_or w (length c.loop-part.yielded) 0 = cc in
     let count = c.loop-part.invariant.1 in
     let room = word.0 in
     elim c.then-number-gt15.branch [
       | then-number-gt15-via-then-number-gt15 b ↦ omega (arith, b.if-number-gt15.true, same, next.1)
-      | then-number-gt15-via-else-number-gt15+then-is_full b ↦
-          let full = eqb-true _ 20 (sym b.is_full.ensures.value ∙ b.if-is_full.true) in
-          omega (arith, full, count, room, next.0)
+      | then-number-gt15-via-else-number-gt15+then-len-most b ↦ omega (arith, b.if-len-most.true, b.len.ensures.value, count, room, next.0)
     ]
 
 pub loop-part-init : goal.loop-part-init
@@ -54,15 +52,14 @@ loop-part-preserved c =
     let turn = YieldsList-turn split c.loop-part.yielded _ c.loop-part.yielded_by _ _ c.in-Some.part c.in-Some.is c.next.ensures.steps in
     let more = length_push c.loop-part.yielded c.in-Some.part in
     let small : c.in-Ok.number ≤ 15 = omega (arith, c.if-number-gt15.false) in
-    let room = eqb-false _ 20 (sym c.is_full.ensures.value ∙ c.if-is_full.false) in
     let fits = c.loop-part.invariant.0.0 in
     let items = c.push.ensures.items in
     let len = c.push.ensures.len in
     let count = c.loop-part.invariant.1 in (
-      (omega (arith, len, fits, room), All-same (λ n. n ≤ 15) _ _ items (All-push (λ n. n ≤ 15) _ _ c.loop-part.invariant.0.1 small)),
+      (omega (arith, len, fits, c.if-len-most.false, c.len.ensures.value), All-same (λ n. n ≤ 15) _ _ items (All-push (λ n. n ≤ 15) _ _ c.loop-part.invariant.0.1 small)),
       omega (arith, more, len, count),
       λ w word e.
-          let next = next_part text other _ _ turn w word e in
+          let next = next_part text other _ _ turn w word.1 e in
           let read = parse-decimal 8 _ _ c.parse.result (omega (arith, next.1)) (below_wide _ next.1) next.2 c.parse.ensures.value.0 in
           let same : get_or w (length c.loop-part.yielded) 0 ≡ c.in-Ok.number = cc in
           let before = c.loop-part.invariant.2 w word e in
@@ -76,4 +73,4 @@ returns-clause-reads c w word e =
     let other : text ≡ codes "none" → ⊥ = λ none. false≢true (c.if-eq.ensures ∙ (bytes_eq-Decides text (codes "none")).1 none) in
     let split = YieldsList-at c.into_iter-part-iterator.ensures.into_iter_gives (YieldsList-from_str_split 46 text (lit< tt) c.split-part-items.ensures.text c.split-part-items.ensures.has_more c.split-part-items.ensures.pattern) in
     let end = YieldsList-end split c.loop-part.yielded _ c.loop-part.yielded_by _ _ c.in-None.is c.next.ensures.steps in
-    sym (c.loop-part.invariant.2 w word e) ∙ all_parts text other w word e _ end.1
+    sym (c.loop-part.invariant.2 w word e) ∙ all_parts text other w word.1 e _ end.1

@@ -28,7 +28,7 @@ returns-in-Ok-clause-advanced c =
     let lt : c.args.at < length words = omega (arith, c.requires.member, length-map items (λ v. v.items)) in
     let word = ap length (get_or-map (λ v. v.items) items c.args.at c.index.result.now [] c.requires.member ∙ ap (λ v. v.items) (sym c.index.ensures)) in
     let short : length (word_at words c.args.at) < c.args.depth = omega (arith, word, c.len.ensures.value, c.if-len-depth.false) in
-    split_goes_on sys job.limits.choices job.limits.steps c.args.depth words (words_of c.split.new.self.words.items) c.args.at job.limits.few_choices lt short c.requires.settled c.in-Ok.ensures.split
+    split_goes_on sys job.limits.choices job.limits.steps c.args.depth words (words_of c.split.new.self.words.items) c.args.at c.args.self.now.few_choices lt short c.requires.settled c.in-Ok.ensures.split
 
 pub returns-in-Err-Leaf-clause-advanced : goal.returns-in-Err-Leaf-clause-advanced
 returns-in-Err-Leaf-clause-advanced c =

@@ -6,4 +6,4 @@ use Rattle.cp_explore.proofs.cutting.Cutting.whole.Goals as goal
 pub invariant_of-result : goal.invariant_of-result
 invariant_of-result c =
     let words : words_of c.push.new.self.items ≡ [] ∷ [] = ap words_of (c.in_ok-push.ensures.items ∙ ap (λ l. l ++ c.new.result ∷ []) c.new-words.ensures.items) ∙ ap (λ w. w ∷ []) c.new.ensures in
-    record { cuts = whole_cutting c.args.job.program.now c.args.job.limits c.push.new.self.items words }
+    record { few_choices = c.requires; cuts = whole_cutting c.args.job.program.now c.args.job.limits c.push.new.self.items words }

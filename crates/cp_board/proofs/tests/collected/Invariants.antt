@@ -1,5 +1,0 @@
-use Rattle.std.proofs.Common.{◌≡◌, map}
-use Rattle.cp_board.proofs.tests.collected.Given as goal
-
-abbrev pub invariant-loop-drawer : goal.invariant-loop-drawer
-invariant-loop-drawer l = l.seats.items ≡ map (λ d. d.seat) l.yielded

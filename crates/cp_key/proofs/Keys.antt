@@ -1,0 +1,211 @@
+-- The key of a state can be read back.
+use Rattle.std.proofs.Common.{reverse, ◌≡◌, ◌∙◌, ℕ, zero, suc, true, false, List, [], ◌∷◌, ◌++◌, Option, None, Some, ℤ, length, cond, eqb, refl, sym, ap}
+use Rattle.std.specs.List.{flat_map}
+use Rattle.std.proofs.lemmas.List.{append_assoc, append-nil, reverse-reverse}
+use Rattle.cp_store.specs.declared.memory.Address.{Address}
+use Rattle.cp_store.specs.declared.memory.Address.TheVariants.{Permanent, Local}
+use Rattle.cp_store.specs.declared.memory.Frame.{Frame}
+use Rattle.cp_machine.specs.declared.gates.Gates.{Gates}
+use Rattle.cp_machine.specs.declared.gates.Gates.TheVariants.{First, Any}
+use Rattle.cp_machine.specs.declared.process.Entry.{Entry}
+use Rattle.cp_machine.specs.declared.process.Entry.TheVariants.{Rest, Successor, Return, InitEnd}
+use Rattle.cp_machine.specs.declared.process.Status.{Status}
+use Rattle.cp_machine.specs.declared.process.Status.TheVariants.{Unstarted, Ready, AtGate, Delayed, Ended}
+use Rattle.cp_machine.specs.declared.shown.Shown.{Shown}
+use Rattle.cp_machine.specs.declared.shown.Shown.TheVariants.{Integer, Char, Truth, Constant}
+use Rattle.cp_machine.specs.declared.state.Phase.{Phase}
+use Rattle.cp_machine.specs.declared.state.Phase.TheVariants.{Uninitialised, Initialising, Initialised}
+use Rattle.cp_machine.specs.Machine.{Machine, Thread}
+use Rattle.cp_key.specs.Key.{option_key, address_key, frame_key, entry_key, status_key, phase_key, gates_key, shown_key, thread_key, monitor_key, rest_key, key_of}
+use Rattle.cp_key.specs.Numbers.{byte_key, integer_key, number_key, list_key}
+use Rattle.cp_key.proofs.NumberKeys.{Code, byte, short, number, integer}
+
+-- ---- one value after another
+
+abbrev both_key : {A B : Type 0} → (A → List ℕ) → (B → List ℕ) → A × B → List ℕ
+both_key v w p = v p.0 ++ w p.1
+
+both : {A B : Type 0} {v : A → List ℕ} {w : B → List ℕ} → Code v → Code w → Code (both_key v w)
+both {A} {B} {v} {w} a b =
+    record {
+      read = λ ns. read_both ns;
+      back = λ p rest. ap read_both (append_assoc (v p.0) (w p.1) rest) ∙ ap (λ r. second r.0 (b.read r.1)) (a.back p.0 (w p.1 ++ rest)) ∙ ap (λ s. second p.0 s) (b.back p.1 rest);
+    }
+  where
+    second : A → B × List ℕ → (A × B) × List ℕ
+    second x s = ((x, s.0), s.1)
+
+    read_both : List ℕ → (A × B) × List ℕ
+    read_both ns = second (a.read ns).0 (b.read (a.read ns).1)
+
+-- values of another type, by those of this one
+seen_as : {A B : Type 0} {v : A → List ℕ} (w : B → List ℕ) → Code v → (to : B → A) (from : A → B) → ((b : B) → from (to b) ≡ b) → ((b : B) → w b ≡ v (to b)) → Code w
+seen_as w a to from same writes =
+    record {
+      read = λ ns. (from (a.read ns).0, (a.read ns).1);
+      back = λ b rest. ap (λ ns. (from (a.read (ns ++ rest)).0, (a.read (ns ++ rest)).1)) (writes b) ∙ ap (λ r. (from r.0, r.1)) (a.back (to b) rest) ∙ ap (λ x. (x, rest)) (same b);
+    }
+
+read_many : {A : Type 0} → (List ℕ → A × List ℕ) → ℕ → List ℕ → List A × List ℕ
+read_many read zero ns = ([], ns)
+read_many read (suc n) ns = let r = read ns in let s = read_many read n r.1 in (r.0 ∷ s.0, s.1)
+
+many_back : {A : Type 0} (w : A → List ℕ) (a : Code w) (xs : List A) (rest : List ℕ) → read_many a.read (length xs) (flat_map w xs ++ rest) ≡ (xs, rest)
+unfolding read_many
+many_back w a [] rest = refl
+many_back {A} w a (x ∷ xs) rest =
+    let on : A × List ℕ → List A × List ℕ = λ r. (let s = read_many a.read (length xs) r.1 in (r.0 ∷ s.0, s.1)) in
+    let put : List A × List ℕ → List A × List ℕ = λ s. (x ∷ s.0, s.1) in
+    ap (λ ns. on (a.read ns)) (append_assoc (w x) (flat_map w xs) rest) ∙ ap on (a.back x (flat_map w xs ++ rest)) ∙ ap put (many_back w a xs rest)
+
+list : {A : Type 0} {w : A → List ℕ} → Code w → Code (list_key w)
+list {A} {w} a =
+    record {
+      read = λ ns. read_many a.read (number.read ns).0 (number.read ns).1;
+      back = λ xs rest. ap (λ ns. read_many a.read (number.read ns).0 (number.read ns).1) (append_assoc (number_key (length xs)) (flat_map w xs) rest) ∙ ap (λ r. read_many a.read r.0 r.1) (number.back (length xs) (flat_map w xs ++ rest)) ∙ many_back w a xs rest;
+    }
+
+-- what follows the number of a kind
+abbrev of_kind : {A B : Type 0} {w : A → List ℕ} → Code w → (A → B) → List ℕ → B × List ℕ
+of_kind code kind ns = (kind (code.read ns).0, (code.read ns).1)
+
+kind_back : {A B : Type 0} {w : A → List ℕ} (code : Code w) (kind : A → B) (x : A) (rest : List ℕ) → of_kind code kind (w x ++ rest) ≡ (kind x, rest)
+kind_back code kind x rest = ap (λ r. (kind r.0, r.1)) (code.back x rest)
+
+-- ---- choices of a kind
+
+option_read : {A : Type 0} {w : A → List ℕ} → Code w → List ℕ → Option A × List ℕ
+option_read code [] = (None, [])
+option_read code (k ∷ ns) = cond (eqb k 0) (None, ns) (of_kind code Some ns)
+
+option_back : {A : Type 0} {w : A → List ℕ} (code : Code w) (x : Option A) (rest : List ℕ) → option_read code (option_key w x ++ rest) ≡ (x, rest)
+unfolding option_read
+option_back code None rest = refl
+option_back code (Some x) rest = kind_back code Some x rest
+
+option : {A : Type 0} {w : A → List ℕ} → Code w → Code (option_key w)
+option code = record { read = option_read code; back = option_back code }
+
+address_read : List ℕ → Address × List ℕ
+address_read [] = (Permanent 0, [])
+address_read (k ∷ ns) = cond (eqb k 0) (of_kind number Permanent ns) (of_kind number Local ns)
+
+address_back : (x : Address) (rest : List ℕ) → address_read (address_key x ++ rest) ≡ (x, rest)
+unfolding address_read
+address_back (Permanent n) rest = kind_back number Permanent n rest
+address_back (Local n) rest = kind_back number Local n rest
+
+address : Code address_key
+address = record { read = address_read; back = address_back }
+
+frame : Code frame_key
+frame = seen_as frame_key (both number (both number (both number (both number number)))) (λ f. (f.routine, (f.component, (f.own, (f.base, f.references))))) (λ p. record { routine = p.0; component = p.1.0; own = p.1.1.0; base = p.1.1.1.0; references = p.1.1.1.1 }) (λ f. refl) (λ f. refl)
+
+successor : Code (both_key number_key (both_key integer_key integer_key))
+successor = both number (both integer integer)
+
+return : Code (both_key frame_key (both_key (option_key number_key) (option_key byte_key)))
+return = both frame (both (option number) (option byte))
+
+end : Code (both_key frame_key number_key)
+end = both frame number
+
+abbrev as_successor : ℕ × (ℤ × ℤ) → Entry
+as_successor p = Successor p.0 p.1.0 p.1.1
+
+abbrev as_return : Frame × (Option ℕ × Option ℕ) → Entry
+as_return p = Return p.0 p.1.0 p.1.1
+
+abbrev as_end : Frame × ℕ → Entry
+as_end p = InitEnd p.0 p.1
+
+entry_read : List ℕ → Entry × List ℕ
+entry_read [] = (Rest 0, [])
+entry_read (k ∷ ns) = cond (eqb k 0) (of_kind number Rest ns) (cond (eqb k 1) (of_kind successor as_successor ns) (cond (eqb k 2) (of_kind return as_return ns) (of_kind end as_end ns)))
+
+entry_back : (x : Entry) (rest : List ℕ) → entry_read (entry_key x ++ rest) ≡ (x, rest)
+unfolding entry_read
+entry_back (Rest item) rest = kind_back number Rest item rest
+entry_back (Successor item value last) rest = kind_back successor as_successor (item, (value, last)) rest
+entry_back (Return caller slot monitor) rest = kind_back return as_return (caller, (slot, monitor)) rest
+entry_back (InitEnd caller component) rest = kind_back end as_end (caller, component) rest
+
+entry : Code entry_key
+entry = record { read = entry_read; back = entry_back }
+
+status_read : List ℕ → Status × List ℕ
+status_read [] = (Unstarted, [])
+status_read (k ∷ ns) = cond (eqb k 0) (Unstarted, ns) (cond (eqb k 1) (Ready, ns) (cond (eqb k 2) (Ended, ns) (cond (eqb k 3) (of_kind byte AtGate ns) (of_kind number Delayed ns))))
+
+status_back : (x : Status) (rest : List ℕ) → status_read (status_key x ++ rest) ≡ (x, rest)
+unfolding status_read
+status_back Unstarted rest = refl
+status_back Ready rest = refl
+status_back Ended rest = refl
+status_back (AtGate monitor) rest = kind_back byte AtGate monitor rest
+status_back (Delayed cell) rest = kind_back number Delayed cell rest
+
+status : Code status_key
+status = record { read = status_read; back = status_back }
+
+phase_read : List ℕ → Phase × List ℕ
+phase_read [] = (Uninitialised, [])
+phase_read (k ∷ ns) = cond (eqb k 0) (Uninitialised, ns) (cond (eqb k 1) (Initialising, ns) (Initialised, ns))
+
+phase_back : (x : Phase) (rest : List ℕ) → phase_read (phase_key x ++ rest) ≡ (x, rest)
+unfolding phase_read
+phase_back Uninitialised rest = refl
+phase_back Initialising rest = refl
+phase_back Initialised rest = refl
+
+phase : Code phase_key
+phase = record { read = phase_read; back = phase_back }
+
+gates_read : List ℕ → Gates × List ℕ
+gates_read [] = (First, [])
+gates_read (k ∷ ns) = cond (eqb k 0) (First, ns) (Any, ns)
+
+gates_back : (x : Gates) (rest : List ℕ) → gates_read (gates_key x ++ rest) ≡ (x, rest)
+unfolding gates_read
+gates_back First rest = refl
+gates_back Any rest = refl
+
+gates : Code gates_key
+gates = record { read = gates_read; back = gates_back }
+
+shown_read : List ℕ → Shown × List ℕ
+shown_read [] = (Truth false, [])
+shown_read (k ∷ ns) = cond (eqb k 0) (of_kind integer Integer ns) (cond (eqb k 1) (of_kind byte Char ns) (cond (eqb k 2) (Truth false, ns) (cond (eqb k 3) (Truth true, ns) (of_kind short Constant ns))))
+
+shown_back : (x : Shown) (rest : List ℕ) → shown_read (shown_key x ++ rest) ≡ (x, rest)
+unfolding shown_read
+shown_back (Integer z) rest = kind_back integer Integer z rest
+shown_back (Char code) rest = kind_back byte Char code rest
+shown_back (Truth false) rest = refl
+shown_back (Truth true) rest = refl
+shown_back (Constant n) rest = kind_back short Constant n rest
+
+shown : Code shown_key
+shown = record { read = shown_read; back = shown_back }
+
+-- ---- threads, monitors and machines
+
+thread : Code thread_key
+thread = seen_as thread_key (both status (both frame (both (list entry) (both (list integer) (list address))))) (λ t. (t.status, (t.frame, (reverse t.stack, (t.cells, t.references))))) (λ p. record { status = p.0; frame = p.1.0; stack = reverse p.1.1.0; cells = p.1.1.1.0; references = p.1.1.1.1 }) same (λ t. refl)
+  where
+    same : (t : Thread) → record { status = t.status; frame = t.frame; stack = reverse (reverse t.stack); cells = t.cells; references = t.references } ≡ t
+    same t = ap (λ stack. record t { stack = stack }) (reverse-reverse t.stack)
+
+monitor : Code monitor_key
+monitor = seen_as monitor_key (both (option byte) (list byte)) (λ m. (m.holder, m.line)) (λ p. record { holder = p.0; line = p.1 }) (λ m. refl) (λ m. refl)
+
+rest : Code (both_key (list_key monitor_key) (both_key (option_key byte_key) (both_key gates_key (list_key shown_key))))
+rest = both (list monitor) (both (option byte) (both gates (list shown)))
+
+machine : Code key_of
+unfolding key_of rest_key
+machine = seen_as key_of (both (list integer) (both (list number) (both (list phase) (both (list thread) rest)))) (λ m. (m.permanents, (m.bindings, (m.phases, (m.threads, (m.monitors, (m.pending, (m.gates, m.output)))))))) (λ p. record { permanents = p.0; bindings = p.1.0; phases = p.1.1.0; threads = p.1.1.1.0; monitors = p.1.1.1.1.0; pending = p.1.1.1.1.1.0; gates = p.1.1.1.1.1.1.0; output = p.1.1.1.1.1.1.1 }) (λ m. refl) (λ m. refl)
+
+-- states of one key are one
+pub key_tells : (m n : Machine) → key_of m ≡ key_of n → m ≡ n
+key_tells m n e = ap (λ r. r.0) (sym (machine.back m []) ∙ ap machine.read (append-nil (key_of m) ∙ e ∙ sym (append-nil (key_of n))) ∙ machine.back n [])

@@ -1,0 +1,22 @@
+-- Processes and monitors that are read one by one.
+use Rattle.std.proofs.Common.{◌≡◌, ◌∙◌, ℕ, suc, ◌<◌, List, [], ◌∷◌, length, map, ap, refl, arith}
+use Rattle.std.specs.Prelude.{slice_index_or}
+use Rattle.cp_machine.specs.declared.process.Process.{Process}
+use Rattle.cp_machine.specs.declared.state.Guard.{Guard}
+use Rattle.cp_machine.specs.Machine.{Monitor, Thread, monitor_of, no_monitor, no_thread, thread_of}
+
+-- elements that are seen one by one as those of another list
+seen_as : {X Y : Type 0} (see : X → Y) (y : Y) (xs : List X) (ys : List Y) → length ys ≡ length xs → ((k : ℕ) (d : X) → k < length xs → see (slice_index_or xs k d) ≡ slice_index_or ys k y) → map see xs ≡ ys
+seen_as see y [] [] e h = refl
+seen_as see y [] (b ∷ ys) e h = absurd (omega arith)
+seen_as see y (a ∷ xs) [] e h = absurd (omega arith)
+seen_as see y (a ∷ xs) (b ∷ ys) e h =
+    let first : see a ≡ b = h 0 a (omega arith) in
+    let rest = seen_as see y xs ys (omega arith) (λ k d lt. h (suc k) d (omega arith)) in
+    ap (λ z. z ∷ map see xs) first ∙ ap (λ zs. b ∷ zs) rest
+
+pub threads_seen : (ps : List Process) (ts : List Thread) → length ts ≡ length ps → ((k : ℕ) (d : Process) → k < length ps → thread_of (slice_index_or ps k d) ≡ slice_index_or ts k no_thread) → map thread_of ps ≡ ts
+threads_seen = seen_as thread_of no_thread
+
+pub monitors_seen : (gs : List Guard) (ms : List Monitor) → length ms ≡ length gs → ((k : ℕ) (d : Guard) → k < length gs → monitor_of (slice_index_or gs k d) ≡ slice_index_or ms k no_monitor) → map monitor_of gs ≡ ms
+monitors_seen = seen_as monitor_of no_monitor

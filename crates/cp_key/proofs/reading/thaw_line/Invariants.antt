@@ -1,0 +1,7 @@
+use Rattle.std.proofs.Common.{◌≡◌, ◌≤◌, ◌++◌, ℕ, List, length, take, drop}
+use Rattle.std.specs.List.{flat_map}
+use Rattle.cp_key.specs.Numbers.{byte_key}
+use Rattle.cp_key.proofs.reading.thaw_line.Given as goal
+
+abbrev pub invariant-loop-at : goal.invariant-loop-at
+invariant-loop-at l = (line more : List ℕ) → l.initial.key.bytes.now ≡ flat_map byte_key line ++ more → length line ≡ l.count → length line ≤ 16 → (l.line.items ≡ take l.at line) × (l.key.bytes.now ≡ flat_map byte_key (drop l.at line) ++ more)

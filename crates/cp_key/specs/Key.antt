@@ -1,0 +1,82 @@
+-- A state as bytes: each list after its length, each choice of a kind after its number.
+use Rattle.std.specs.Prelude.{reverse, ℕ, ◌<◌, List, [], ◌∷◌, ◌++◌, true, false, Option, None, Some}
+use Rattle.cp_store.specs.declared.memory.Address.{Address}
+use Rattle.cp_store.specs.declared.memory.Address.TheVariants.{Permanent, Local}
+use Rattle.cp_store.specs.declared.memory.Frame.{Frame}
+use Rattle.cp_machine.specs.declared.gates.Gates.{Gates}
+use Rattle.cp_machine.specs.declared.gates.Gates.TheVariants.{First, Any}
+use Rattle.cp_machine.specs.declared.process.Entry.{Entry}
+use Rattle.cp_machine.specs.declared.process.Entry.TheVariants.{Rest, Successor, Return, InitEnd}
+use Rattle.cp_machine.specs.declared.process.Status.{Status}
+use Rattle.cp_machine.specs.declared.process.Status.TheVariants.{Unstarted, Ready, AtGate, Delayed, Ended}
+use Rattle.cp_machine.specs.declared.shown.Shown.{Shown}
+use Rattle.cp_machine.specs.declared.shown.Shown.TheVariants.{Integer, Char, Truth, Constant}
+use Rattle.cp_machine.specs.declared.state.Phase.{Phase}
+use Rattle.cp_machine.specs.declared.state.Phase.TheVariants.{Uninitialised, Initialising, Initialised}
+use Rattle.cp_machine.specs.Machine.{Machine, Thread, Monitor}
+use Rattle.cp_key.specs.Numbers.{byte_key, short_key, number_key, integer_key, list_key}
+
+abbrev pub option_key : {A : Type 0} → (A → List ℕ) → Option A → List ℕ
+option_key key None = 0 ∷ []
+option_key key (Some x) = 1 ∷ key x
+
+abbrev pub address_key : Address → List ℕ
+address_key (Permanent n) = 0 ∷ number_key n
+address_key (Local n) = 1 ∷ number_key n
+
+abbrev pub frame_key : Frame → List ℕ
+frame_key f = number_key f.routine ++ (number_key f.component ++ (number_key f.own ++ (number_key f.base ++ number_key f.references)))
+
+-- each number of the frame is one byte
+pub record IsSmall (f : Frame) : Type 0 where
+  pub routine : f.routine < 254
+  pub component : f.component < 254
+  pub own : f.own < 254
+  pub base : f.base < 254
+  pub references : f.references < 254
+
+abbrev pub entry_key : Entry → List ℕ
+entry_key (Rest item) = 0 ∷ number_key item
+entry_key (Successor item value last) = 1 ∷ number_key item ++ (integer_key value ++ integer_key last)
+entry_key (Return frame slot monitor) = 2 ∷ frame_key frame ++ (option_key number_key slot ++ option_key byte_key monitor)
+entry_key (InitEnd frame component) = 3 ∷ frame_key frame ++ number_key component
+
+abbrev pub status_key : Status → List ℕ
+status_key Unstarted = 0 ∷ []
+status_key Ready = 1 ∷ []
+status_key Ended = 2 ∷ []
+status_key (AtGate monitor) = 3 ∷ byte_key monitor
+status_key (Delayed cell) = 4 ∷ number_key cell
+
+abbrev pub phase_key : Phase → List ℕ
+phase_key Uninitialised = 0 ∷ []
+phase_key Initialising = 1 ∷ []
+phase_key Initialised = 2 ∷ []
+
+abbrev pub gates_key : Gates → List ℕ
+gates_key First = 0 ∷ []
+gates_key Any = 1 ∷ []
+
+abbrev pub shown_key : Shown → List ℕ
+shown_key (Integer z) = 0 ∷ integer_key z
+shown_key (Char c) = 1 ∷ byte_key c
+shown_key (Truth false) = 2 ∷ []
+shown_key (Truth true) = 3 ∷ []
+shown_key (Constant n) = 4 ∷ short_key n
+
+-- what the frames of a thread hold, with the control stack from its bottom
+abbrev pub frames_key : Thread → List ℕ
+frames_key t = list_key entry_key (reverse t.stack) ++ (list_key integer_key t.cells ++ list_key address_key t.references)
+
+abbrev pub thread_key : Thread → List ℕ
+thread_key t = status_key t.status ++ (frame_key t.frame ++ frames_key t)
+
+abbrev pub monitor_key : Monitor → List ℕ
+monitor_key m = option_key byte_key m.holder ++ list_key byte_key m.line
+
+-- the monitors, what is pending, and the output
+unfoldable pub rest_key : Machine → List ℕ
+rest_key m = list_key monitor_key m.monitors ++ (option_key byte_key m.pending ++ (gates_key m.gates ++ list_key shown_key m.output))
+
+unfoldable pub key_of : Machine → List ℕ
+key_of m = list_key integer_key m.permanents ++ (list_key number_key m.bindings ++ (list_key phase_key m.phases ++ (list_key thread_key m.threads ++ rest_key m)))

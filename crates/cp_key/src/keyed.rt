@@ -1,0 +1,53 @@
+//! What has a key.
+
+ghost use Rattle.std.specs.Prelude.{◌≡◌, ◌++◌, ◌≤◌, [], length, ℕ, List, IfOk, flat_map, vec_capacity};
+ghost use Rattle.cp_key.specs.Numbers.{list_key, number_key};
+
+use crate::reader::Reader;
+use std::alloc::AllocError;
+
+/// What is written as bytes, and read back from them.
+pub trait Keyed: Copy + Drop {
+    ghost key_of: { Self → List ℕ };
+
+    /// Appends the key.
+    fn freeze(self, key: &mut Vec<u8>) -> Result<(), AllocError>
+        ensures { IfOk result (λ _. key.new.items ≡ key.old.items ++ key_of self) };
+
+    /// The value whose key is next.
+    fn thaw(key: &mut Reader) -> Self
+        ensures { (x : Self) (more : List ℕ) → key.old.bytes.now ≡ key_of x ++ more → (result ≡ x) × (key.new.bytes.now ≡ more) };
+}
+
+/// Appends the key of a list.
+pub fn freeze_list<T: Keyed>(list: &[T], key: &mut Vec<u8>) -> Result<(), AllocError>
+    ensures { IfOk result (λ _. key.new.items ≡ key.old.items ++ list_key T.key_of list.now) }
+{
+    list.len().freeze(key)?;
+    for x in list {
+        x.freeze(key)?;
+    }
+    Ok(())
+}
+
+/// The list whose key is next, in a vector that has room for it.
+#[inline(always)]
+pub fn thaw_list<T: Keyed>(key: &mut Reader, list: &mut Vec<T>)
+    ensures list { (xs : List T) (more : List ℕ) → key.old.bytes.now ≡ list_key T.key_of xs ++ more → length xs ≤ vec_capacity list.old → (list.new.items ≡ xs) × (key.new.bytes.now ≡ more) }
+    ensures room { vec_capacity list.old ≤ vec_capacity list.new }
+{
+    list.clear();
+    let count = usize::thaw(key);
+    thaw_elements(key, count, list);
+}
+
+#[inline(always)]
+fn thaw_elements<T: Keyed>(key: &mut Reader, count: usize, list: &mut Vec<T>)
+    requires { list.old.items ≡ [] }
+    ensures list { (xs : List T) (more : List ℕ) → key.old.bytes.now ≡ flat_map T.key_of xs ++ more → length xs ≡ count → length xs ≤ vec_capacity list.old → (list.new.items ≡ xs) × (key.new.bytes.now ≡ more) }
+    ensures room { vec_capacity list.old ≤ vec_capacity list.new }
+{
+    for at in 0..count {
+        let _ = list.push(T::thaw(key));
+    }
+}

@@ -1,0 +1,14 @@
+//! The key of a state: the state as bytes, and back.
+#![tactic(auto)]
+
+mod keyed;
+mod law;
+mod number;
+mod part;
+mod reader;
+mod reading;
+mod writing;
+
+pub use law::law_key;
+pub use reading::thaw;
+pub use writing::freeze;

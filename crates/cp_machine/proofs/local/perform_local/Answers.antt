@@ -1,0 +1,87 @@
+use Rattle.std.proofs.Common.{of_z, to_z, w16}
+use Rattle.cp_slots.specs.declared.item.Action.TheVariants.{Assign, If, While, Until}
+use Rattle.cp_machine.specs.Machine.{machine_of, under}
+use Rattle.cp_machine.specs.Stack.{rest_of}
+use Rattle.cp_machine.specs.Statements.{assign, branch, while_do, until}
+use Rattle.cp_machine.proofs.LocalSteps.{assign_calm, branch_calm, while_calm, until_calm, done_pending, done_same}
+use Rattle.cp_machine.proofs.ReadLemmas.{taken_fits, taken_reads, taken_room}
+use Rattle.cp_machine.proofs.local.perform_local.Goals as goal
+
+pub assign-requires-clause-reads : goal.assign-requires-clause-reads
+assign-requires-clause-reads c = (taken_reads c.args.program.now c.args.state.now c.args.pid c.args.at c.args.item.now c.requires.taken (Assign c.in-Assign.target c.in-Assign.value c.in-Assign.low c.in-Assign.high) c.in-Assign.is).0
+
+pub assign-requires-clause-reach : goal.assign-requires-clause-reach
+assign-requires-clause-reach c = (taken_reads c.args.program.now c.args.state.now c.args.pid c.args.at c.args.item.now c.requires.taken (Assign c.in-Assign.target c.in-Assign.value c.in-Assign.low c.in-Assign.high) c.in-Assign.is).1
+
+pub returns-in-Assign-clause-same : goal.returns-in-Assign-clause-same
+returns-in-Assign-clause-same c =
+    let m = machine_of c.args.state.now in
+    λ off. done_same m (machine_of c.assign.new.state) c.args.pid c.args.item.now.line (assign m c.args.pid c.args.item.now.line c.in-Assign.target c.in-Assign.value (to_z w16 (of_z w16 c.in-Assign.low)) (to_z w16 (of_z w16 c.in-Assign.high)) (rest_of c.args.item.now.next (under m c.args.pid))) (assign_calm m c.args.pid c.args.item.now.line c.in-Assign.target c.in-Assign.value (to_z w16 (of_z w16 c.in-Assign.low)) (to_z w16 (of_z w16 c.in-Assign.high)) (rest_of c.args.item.now.next (under m c.args.pid))) c.assign.result c.assign.ensures.after (c.is_done.ensures.no off)
+
+pub returns-in-Assign-clause-pending : goal.returns-in-Assign-clause-pending
+returns-in-Assign-clause-pending c =
+    let m = machine_of c.args.state.now in
+    done_pending m (machine_of c.assign.new.state) c.args.pid c.args.item.now.line (assign m c.args.pid c.args.item.now.line c.in-Assign.target c.in-Assign.value (to_z w16 (of_z w16 c.in-Assign.low)) (to_z w16 (of_z w16 c.in-Assign.high)) (rest_of c.args.item.now.next (under m c.args.pid))) (assign_calm m c.args.pid c.args.item.now.line c.in-Assign.target c.in-Assign.value (to_z w16 (of_z w16 c.in-Assign.low)) (to_z w16 (of_z w16 c.in-Assign.high)) (rest_of c.args.item.now.next (under m c.args.pid))) c.assign.result c.assign.ensures.after
+
+pub returns-in-Assign-clause-reserved : goal.returns-in-Assign-clause-reserved
+returns-in-Assign-clause-reserved c = c.assign.ensures.reserved c.args.program.now c.requires.taken.own.reserved
+
+pub branch-state-requires-clause-reads : goal.branch-state-requires-clause-reads
+branch-state-requires-clause-reads c = (taken_reads c.args.program.now c.args.state.now c.args.pid c.args.at c.args.item.now c.requires.taken (If c.in-If.test c.in-If.then c.in-If.otherwise) c.in-If.is)
+
+pub branch-state-requires-clause-room : goal.branch-state-requires-clause-room
+branch-state-requires-clause-room c = taken_room c.args.program.now c.args.state.now c.args.pid c.args.at c.args.item.now c.requires.taken c.in-If.then ((taken_fits c.args.program.now c.args.state.now c.args.pid c.args.at c.args.item.now c.requires.taken (If c.in-If.test c.in-If.then c.in-If.otherwise) c.in-If.is).0)
+
+pub branch-state-requires-clause-other_room : goal.branch-state-requires-clause-other_room
+branch-state-requires-clause-other_room c = taken_room c.args.program.now c.args.state.now c.args.pid c.args.at c.args.item.now c.requires.taken c.in-If.otherwise ((taken_fits c.args.program.now c.args.state.now c.args.pid c.args.at c.args.item.now c.requires.taken (If c.in-If.test c.in-If.then c.in-If.otherwise) c.in-If.is).1)
+
+pub returns-in-If-clause-same : goal.returns-in-If-clause-same
+returns-in-If-clause-same c =
+    let m = machine_of c.args.state.now in
+    λ off. done_same m (machine_of c.branch-state.new.state) c.args.pid c.args.item.now.line (branch m c.args.pid c.args.item.now.line c.in-If.test c.in-If.then c.in-If.otherwise (rest_of c.args.item.now.next (under m c.args.pid))) (branch_calm m c.args.pid c.args.item.now.line c.in-If.test c.in-If.then c.in-If.otherwise (rest_of c.args.item.now.next (under m c.args.pid))) c.branch-state.result c.branch-state.ensures.after (c.is_done-in-If.ensures.no off)
+
+pub returns-in-If-clause-pending : goal.returns-in-If-clause-pending
+returns-in-If-clause-pending c =
+    let m = machine_of c.args.state.now in
+    done_pending m (machine_of c.branch-state.new.state) c.args.pid c.args.item.now.line (branch m c.args.pid c.args.item.now.line c.in-If.test c.in-If.then c.in-If.otherwise (rest_of c.args.item.now.next (under m c.args.pid))) (branch_calm m c.args.pid c.args.item.now.line c.in-If.test c.in-If.then c.in-If.otherwise (rest_of c.args.item.now.next (under m c.args.pid))) c.branch-state.result c.branch-state.ensures.after
+
+pub returns-in-If-clause-reserved : goal.returns-in-If-clause-reserved
+returns-in-If-clause-reserved c = c.branch-state.ensures.reserved c.args.program.now c.requires.taken.own.reserved
+
+pub while_do-requires-clause-reads : goal.while_do-requires-clause-reads
+while_do-requires-clause-reads c = (taken_reads c.args.program.now c.args.state.now c.args.pid c.args.at c.args.item.now c.requires.taken (While c.in-While.test c.in-While.body c.in-While.again) c.in-While.is)
+
+pub while_do-requires-clause-room : goal.while_do-requires-clause-room
+while_do-requires-clause-room c = taken_room c.args.program.now c.args.state.now c.args.pid c.args.at c.args.item.now c.requires.taken c.in-While.body ((taken_fits c.args.program.now c.args.state.now c.args.pid c.args.at c.args.item.now c.requires.taken (While c.in-While.test c.in-While.body c.in-While.again) c.in-While.is).0)
+
+pub returns-in-While-clause-same : goal.returns-in-While-clause-same
+returns-in-While-clause-same c =
+    let m = machine_of c.args.state.now in
+    λ off. done_same m (machine_of c.while_do.new.state) c.args.pid c.args.item.now.line (while_do m c.args.pid c.args.item.now.line c.in-While.test c.in-While.body c.in-While.again c.args.item.now.next (under m c.args.pid)) (while_calm m c.args.pid c.args.item.now.line c.in-While.test c.in-While.body c.in-While.again c.args.item.now.next (under m c.args.pid)) c.while_do.result c.while_do.ensures.after (c.is_done-in-While.ensures.no off)
+
+pub returns-in-While-clause-pending : goal.returns-in-While-clause-pending
+returns-in-While-clause-pending c =
+    let m = machine_of c.args.state.now in
+    done_pending m (machine_of c.while_do.new.state) c.args.pid c.args.item.now.line (while_do m c.args.pid c.args.item.now.line c.in-While.test c.in-While.body c.in-While.again c.args.item.now.next (under m c.args.pid)) (while_calm m c.args.pid c.args.item.now.line c.in-While.test c.in-While.body c.in-While.again c.args.item.now.next (under m c.args.pid)) c.while_do.result c.while_do.ensures.after
+
+pub returns-in-While-clause-reserved : goal.returns-in-While-clause-reserved
+returns-in-While-clause-reserved c = c.while_do.ensures.reserved c.args.program.now c.requires.taken.own.reserved
+
+pub until-requires-clause-reads : goal.until-requires-clause-reads
+until-requires-clause-reads c = (taken_reads c.args.program.now c.args.state.now c.args.pid c.args.at c.args.item.now c.requires.taken (Until c.in-Until.test c.in-Until.body c.in-Until.again) c.in-Until.is)
+
+pub until-requires-clause-room : goal.until-requires-clause-room
+until-requires-clause-room c = taken_room c.args.program.now c.args.state.now c.args.pid c.args.at c.args.item.now c.requires.taken c.in-Until.body ((taken_fits c.args.program.now c.args.state.now c.args.pid c.args.at c.args.item.now c.requires.taken (Until c.in-Until.test c.in-Until.body c.in-Until.again) c.in-Until.is).0)
+
+pub returns-in-Until-clause-same : goal.returns-in-Until-clause-same
+returns-in-Until-clause-same c =
+    let m = machine_of c.args.state.now in
+    λ off. done_same m (machine_of c.until.new.state) c.args.pid c.args.item.now.line (until m c.args.pid c.args.item.now.line c.in-Until.test c.in-Until.body c.in-Until.again c.args.item.now.next (under m c.args.pid)) (until_calm m c.args.pid c.args.item.now.line c.in-Until.test c.in-Until.body c.in-Until.again c.args.item.now.next (under m c.args.pid)) c.until.result c.until.ensures.after (c.is_done-in-Until.ensures.no off)
+
+pub returns-in-Until-clause-pending : goal.returns-in-Until-clause-pending
+returns-in-Until-clause-pending c =
+    let m = machine_of c.args.state.now in
+    done_pending m (machine_of c.until.new.state) c.args.pid c.args.item.now.line (until m c.args.pid c.args.item.now.line c.in-Until.test c.in-Until.body c.in-Until.again c.args.item.now.next (under m c.args.pid)) (until_calm m c.args.pid c.args.item.now.line c.in-Until.test c.in-Until.body c.in-Until.again c.args.item.now.next (under m c.args.pid)) c.until.result c.until.ensures.after
+
+pub returns-in-Until-clause-reserved : goal.returns-in-Until-clause-reserved
+returns-in-Until-clause-reserved c = c.until.ensures.reserved c.args.program.now c.requires.taken.own.reserved

@@ -1,0 +1,6 @@
+use Rattle.cp_store.specs.Inside as store
+use Rattle.cp_machine.proofs.ReadLemmas.{own_memory}
+use Rattle.cp_machine.proofs.memory.value_here.Goals as goal
+
+pub evaluate_here-requires : goal.evaluate_here-requires
+evaluate_here-requires c = own_memory (λ m f. store.CanRead m f c.args.expression.now) c.args.state.now c.args.pid c.index-process.result.now _ c.requires.pid c.index-process.ensures c.deref.ensures.value c.requires.reads

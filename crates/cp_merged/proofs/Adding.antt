@@ -1,0 +1,103 @@
+-- Leads and tallies are added to the entries of a map.
+use Rattle.std.proofs.Common.{◌≡◌, ◌∙◌, ◌+◌, ◌<◌, ◌⊎◌, inl, inr, ⊎_elim, ℕ, Bool, true, false, not, cond, ◌&&◌, ◌||◌, ◌==◌, nat_lt, if◌then◌else◌, List, [], ◌∷◌, map, Option, None, Some, refl, sym, ap, unwrap_or, arith}
+use Rattle.std.specs.Prelude.{nat_eq}
+use Rattle.std.specs.Ordering.{nat_cmp, is_lt}
+use Rattle.std.specs.Cmp.Lexicographic.{slice_cmp}
+use Rattle.std.specs.Map.{lookup}
+use Rattle.std.proofs.lemmas.Bool.{lt-ltb, le-ltb, eq-eqb, ne_eqb, cases_order}
+use Rattle.std.proofs.lemmas.Cmp.{nat_list_eq_equiv}
+use Rattle.indexmap.specs.IndexMap.{insert_entry}
+use lib.Pointwise.{pointwise}
+use Rattle.cp_explore.specs.Groups.{Tally}
+use Rattle.cp_explore.specs.Report.{outcome_numbers, same_outcome}
+use Rattle.cp_merged.specs.Layers.{up_to, lesser, Lead, with_lead, with_tally}
+use Rattle.cp_merged.specs.Code.{keyed, end_of}
+use Rattle.cp_merged.specs.declared.end_key.EndKey.{EndKey}
+use Rattle.cp_merged.specs.declared.lead.Lead as code
+use Rattle.cp_merged.specs.declared.state_key.StateKey.{StateKey}
+
+-- the order of words by slices
+pub is_less : (w v : List ℕ) → is_lt (slice_cmp nat_cmp w v) ≡ not (up_to v w)
+is_less [] [] = refl
+is_less [] (p ∷ v) = refl
+is_less (q ∷ w) [] = refl
+is_less (q ∷ w) (p ∷ v) = by (is_less w v) (cases_order q p)
+  where
+    by : is_lt (slice_cmp nat_cmp w v) ≡ not (up_to v w) → (q ≡ p) ⊎ ((q < p) ⊎ (p < q)) → is_lt (slice_cmp nat_cmp (q ∷ w) (p ∷ v)) ≡ not (up_to (p ∷ v) (q ∷ w))
+    by on (inl e) = let a = le-ltb q p (omega (arith, e)) in let b = le-ltb p q (omega (arith, e)) in let c = eq-eqb q p e in let d = eq-eqb p q (sym e) in simp (a, b, c, d) on
+    by on (inr (inl l)) = let a = lt-ltb q p l in let b = le-ltb p q (omega (arith, l)) in let d = ne_eqb p q (λ e. omega (arith, e, l)) in simp (a, b, d) refl
+    by on (inr (inr l)) = let a = le-ltb q p (omega (arith, l)) in let b = lt-ltb p q l in let c = ne_eqb q p (λ e. omega (arith, e, l)) in simp (a, b, c) refl
+
+pub lesser_new : (v w : List ℕ) → is_lt (slice_cmp nat_cmp w v) ≡ true → w ≡ lesser v w
+lesser_new v w h = by (up_to v w) (sym (is_less w v) ∙ h)
+  where
+    by : (b : Bool) → not b ≡ true → w ≡ (if b then v else w)
+    by true h = absurd (cc)
+    by false h = refl
+
+pub lesser_old : (v w : List ℕ) → is_lt (slice_cmp nat_cmp w v) ≡ false → v ≡ lesser v w
+lesser_old v w h = by (up_to v w) (sym (is_less w v) ∙ h)
+  where
+    by : (b : Bool) → not b ≡ false → v ≡ (if b then v else w)
+    by true h = refl
+    by false h = absurd (cc)
+
+lesser_self : (w : List ℕ) → lesser w w ≡ w
+lesser_self w = by (up_to w w)
+  where
+    by : (b : Bool) → (if b then w else w) ≡ w
+    by true = refl
+    by false = refl
+
+abbrev scored : List ℕ → ℕ → (List ℕ) → Lead (List ℕ)
+scored key count word = record { state = key; first = word; count = count }
+
+abbrev ended : EndKey → ℕ → List ℕ → Tally
+ended k count word = record { first = record { word = word; outcome = k.outcome }; count = count }
+
+-- what is known of a key, with more
+abbrev Adds : code.Lead → code.Lead → code.Lead → Type 0
+Adds now x v = (v.count ≡ now.count + x.count) × (v.first.items ≡ lesser now.first.items x.first.items)
+
+-- nothing is known
+abbrev IsNone : code.Lead → code.Lead → Type 0
+IsNone z x = (z.count ≡ 0) × (z.first.items ≡ x.first.items)
+
+none_first : (z now x v : code.Lead) → IsNone z x → now ≡ z → Adds now x v → (v.count ≡ x.count) × (v.first.items ≡ x.first.items)
+none_first z now x v n e a =
+    (let c = ap (λ (y : code.Lead). y.count) e in let f = a.0 in let g = n.0 in omega (arith, c, f, g), a.1 ∙ ap (λ w. lesser w x.first.items) (ap (λ (y : code.Lead). y.first.items) e ∙ n.1) ∙ lesser_self x.first.items)
+
+pub added_state : (es new : List (StateKey × code.Lead)) (k : StateKey) (z now x v : code.Lead) → new ≡ insert_entry (λ a b. pointwise nat_eq a.bytes.items b.bytes.items) es k v → now ≡ unwrap_or (lookup (λ j. pointwise nat_eq k.bytes.items j.bytes.items) es) z → IsNone z x → Adds now x v → map keyed new ≡ with_lead (pointwise nat_eq) (map keyed es) (keyed (k, x))
+added_state [] new k z now x v put is none adds =
+    let f = none_first z now x v none is adds in
+    ap (map keyed) put ∙ ap (λ c. scored k.bytes.items c v.first.items ∷ []) f.0 ∙ ap (λ w. scored k.bytes.items x.count w ∷ []) f.1
+added_state (e ∷ es) new k z now x v put is none adds = ap (map keyed) put ∙ by (pointwise nat_eq k.bytes.items e.0.bytes.items) refl is (λ i. added_state es (insert_entry (λ a b. pointwise nat_eq a.bytes.items b.bytes.items) es k v) k z now x v refl i none adds)
+  where
+    at : List ℕ
+    at = k.bytes.items
+
+    by : (b : Bool) → pointwise nat_eq at e.0.bytes.items ≡ b → now ≡ unwrap_or (cond b (Some e.1) (lookup (λ j. pointwise nat_eq at j.bytes.items) es)) z → (now ≡ unwrap_or (lookup (λ j. pointwise nat_eq at j.bytes.items) es) z → map keyed (insert_entry (λ a b. pointwise nat_eq a.bytes.items b.bytes.items) es k v) ≡ with_lead (pointwise nat_eq) (map keyed es) (keyed (k, x))) → map keyed (insert_entry (λ a b. pointwise nat_eq a.bytes.items b.bytes.items) (e ∷ es) k v) ≡ with_lead (pointwise nat_eq) (map keyed (e ∷ es)) (keyed (k, x))
+    by true q i on =
+        let flip : pointwise nat_eq e.0.bytes.items at ≡ true = nat_list_eq_equiv.symm e.0.bytes.items at ∙ q in
+        let count : v.count ≡ e.1.count + x.count = adds.0 ∙ ap (λ (y : code.Lead). y.count + x.count) i in
+        let first : v.first.items ≡ lesser e.1.first.items x.first.items = adds.1 ∙ ap (λ (y : code.Lead). lesser y.first.items x.first.items) i in
+        simp (q, flip) (ap (λ c. scored e.0.bytes.items c v.first.items ∷ map keyed es) count ∙ ap (λ w. scored e.0.bytes.items (e.1.count + x.count) w ∷ map keyed es) first)
+    by false q i on =
+        let flip : pointwise nat_eq e.0.bytes.items at ≡ false = nat_list_eq_equiv.symm e.0.bytes.items at ∙ q in
+        simp (q, flip) (ap (λ l. keyed e ∷ l) (on i))
+
+pub added_end : (es new : List (EndKey × code.Lead)) (k : EndKey) (z now x v : code.Lead) → new ≡ insert_entry (λ a b. same_outcome a.outcome b.outcome) es k v → now ≡ unwrap_or (lookup (λ j. same_outcome k.outcome j.outcome) es) z → IsNone z x → Adds now x v → map end_of new ≡ with_tally same_outcome (map end_of es) (end_of (k, x))
+added_end [] new k z now x v put is none adds =
+    let f = none_first z now x v none is adds in
+    ap (map end_of) put ∙ ap (λ c. ended k c v.first.items ∷ []) f.0 ∙ ap (λ w. ended k x.count w ∷ []) f.1
+added_end (e ∷ es) new k z now x v put is none adds = ap (map end_of) put ∙ by (same_outcome k.outcome e.0.outcome) refl is (λ i. added_end es (insert_entry (λ a b. same_outcome a.outcome b.outcome) es k v) k z now x v refl i none adds)
+  where
+    by : (b : Bool) → same_outcome k.outcome e.0.outcome ≡ b → now ≡ unwrap_or (cond b (Some e.1) (lookup (λ j. same_outcome k.outcome j.outcome) es)) z → (now ≡ unwrap_or (lookup (λ j. same_outcome k.outcome j.outcome) es) z → map end_of (insert_entry (λ a b. same_outcome a.outcome b.outcome) es k v) ≡ with_tally same_outcome (map end_of es) (end_of (k, x))) → map end_of (insert_entry (λ a b. same_outcome a.outcome b.outcome) (e ∷ es) k v) ≡ with_tally same_outcome (map end_of (e ∷ es)) (end_of (k, x))
+    by true q i on =
+        let flip : same_outcome e.0.outcome k.outcome ≡ true = nat_list_eq_equiv.symm (outcome_numbers e.0.outcome) (outcome_numbers k.outcome) ∙ q in
+        let count : v.count ≡ e.1.count + x.count = adds.0 ∙ ap (λ (y : code.Lead). y.count + x.count) i in
+        let first : v.first.items ≡ lesser e.1.first.items x.first.items = adds.1 ∙ ap (λ (y : code.Lead). lesser y.first.items x.first.items) i in
+        simp (q, flip) (ap (λ c. ended e.0 c v.first.items ∷ map end_of es) count ∙ ap (λ w. ended e.0 (e.1.count + x.count) w ∷ map end_of es) first)
+    by false q i on =
+        let flip : same_outcome e.0.outcome k.outcome ≡ false = nat_list_eq_equiv.symm (outcome_numbers e.0.outcome) (outcome_numbers k.outcome) ∙ q in
+        simp (q, flip) (ap (λ l. end_of e ∷ l) (on i))

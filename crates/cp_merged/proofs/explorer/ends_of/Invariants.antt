@@ -1,0 +1,11 @@
+use Rattle.cp_machine.specs.System.{IsStateOf}
+use Rattle.cp_merged.proofs.Exploring.{Reached}
+use Rattle.cp_merged.proofs.explorer.ends_of.Given as goal
+
+abbrev pub invariant-loop-depth : goal.invariant-loop-depth
+invariant-loop-depth g l =
+    record {
+      own : IsStateOf l.program l.state;
+      next : IsStateOf l.program l.next;
+      reached : Reached l.program l.limits.gates l.limits.choices l.limits.steps l.most l.depth l.front.ended.entries l.front.layer.entries;
+    }

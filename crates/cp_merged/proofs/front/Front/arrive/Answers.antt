@@ -1,0 +1,14 @@
+use Rattle.cp_merged.proofs.Arriving.{ended_holds, waits_holds, counts_small, words_small}
+use Rattle.cp_merged.proofs.front.Front.arrive.Goals as goal
+
+pub end-requires : goal.end-requires
+end-requires c = let h = c.requires.2 in (c.requires.1.ended, h.ended, counts_small c.requires.1 c.args.lead.count c.requires.3)
+
+pub wait-requires : goal.wait-requires
+wait-requires c = let h = c.requires.2 in (c.requires.1.layer, h.layer.keys, words_small c.requires.1 c.args.lead.count c.requires.3)
+
+pub returns-in-Ended : goal.returns-in-Ended
+returns-in-Ended c = ended_holds c.end.result c.args.self.now.ended.entries c.end.new.self.ended.entries c.args.self.now.layer.entries c.end.new.self.layer.entries c.in-Ended.kind c.args.lead c.args.state.now c.args.halt c.in-Ended.is c.end.ensures.layer c.end.ensures.ended
+
+pub returns-in-Choice : goal.returns-in-Choice
+returns-in-Choice c = waits_holds c.wait.result c.args.self.now.ended.entries c.wait.new.self.ended.entries c.args.self.now.layer.entries c.wait.new.self.layer.entries c.args.lead c.args.state.now c.args.halt c.in-Choice.is c.wait.ensures.ended c.wait.ensures.layer

@@ -1,0 +1,11 @@
+use Rattle.std.proofs.Common.{ap, ◌∙◌}
+use Rattle.cp_run.specs.Table.{table}
+use Rattle.cp_explore.specs.Report.{same_outcome}
+use Rattle.cp_merged.specs.Told.{told_text}
+use Rattle.cp_merged.proofs.Exact.{exact_outcomes}
+use Rattle.cp_merged.proofs.Sorted.{layers_tally}
+use Rattle.cp_merged.proofs.Telling.{told_report}
+use Rattle.cp_merged.proofs.laws.law_report.Goals as goal
+
+pub returns : goal.returns
+returns c = λ r sys eq sound choices steps. ap (told_text r) (layers_tally sys same_outcome exact_outcomes eq sound choices steps) ∙ told_report r (table sys choices steps)

@@ -1,0 +1,67 @@
+use Rattle.std.proofs.Common.{rules, ◌≡◌, ◌∙◌, ◌<◌, ◌≤◌, [], ◌∷◌, ap, length, sym, subst, arith}
+use Rattle.cp_machine.specs.System.{machine_of}
+use Rattle.cp_key.specs.Key.{key_of}
+use Rattle.cp_run.specs.Slots.{slots}
+use Rattle.cp_explore.specs.Report.{same_outcome}
+use Rattle.cp_merged.specs.Layers.{front_at}
+use Rattle.cp_merged.specs.Holds.{same_key, AreLeads}
+use Rattle.cp_merged.proofs.Making.{Ending, ending_start, ending_next, ending_more, ending_done, ending_small}
+use Rattle.cp_merged.proofs.layering.end_layer.Goals as goal
+
+pub loop-key-init : goal.loop-key-init
+loop-key-init c =
+    let r = c.args.program.now in
+    let l = c.args.limits in
+    let all = c.into_iter-key-iterator.ensures.into_iter_gives ∙ c.iter-key-items.ensures.rest in
+    record {
+      own = c.requires.own;
+      ending = ending_start r l.gates l.steps l.choices c.args.front.now.ended.entries c.into_iter-key-iterator.result c.requires.own.sound.few l.few_choices (subst (λ es. AreLeads r es (front_at (slots r l.gates) same_outcome same_key l.steps l.choices).layer) (sym all) c.requires.layer) c.requires.ended;
+    }
+
+pub thaw-requires : goal.thaw-requires
+thaw-requires c =
+    let r = c.args.program.now in
+    let l = c.args.limits in
+    let old = c.loop-key.front in
+    let es = c.next.new.self in
+    let at : c.loop-key.key-iterator ≡ (c.in-Some.key.now, c.in-Some.lead.now) ∷ c.next.new.self = first_of (search (rules, c.in-Some.ensures.steps), cc (c.in-Some.ensures.steps, c.in-Some.key-is, c.in-Some.lead-is), grind (arith, c.in-Some.ensures.steps, c.in-Some.key-is, c.in-Some.lead-is), assumption c.in-Some.ensures.steps) in
+    let m = subst (Ending r l.gates l.steps l.choices old.ended.entries) at c.loop-key.invariant.ending in
+    let n = ending_next r l.gates l.steps l.choices old.ended.entries es (c.in-Some.key.now, c.in-Some.lead.now) m in
+    let key : c.as_slice.result.now ≡ key_of n.lead.state = c.as_slice.ensures.value ∙ n.key in
+    (r, n.lead.state, c.loop-key.invariant.own, n.own, key)
+
+pub end-requires : goal.end-requires
+end-requires c =
+    let r = c.args.program.now in
+    let l = c.args.limits in
+    let old = c.loop-key.front in
+    let es = c.next.new.self in
+    let at : c.loop-key.key-iterator ≡ (c.in-Some.key.now, c.in-Some.lead.now) ∷ c.next.new.self = first_of (search (rules, c.in-Some.ensures.steps), cc (c.in-Some.ensures.steps, c.in-Some.key-is, c.in-Some.lead-is), grind (arith, c.in-Some.ensures.steps, c.in-Some.key-is, c.in-Some.lead-is), assumption c.in-Some.ensures.steps) in
+    let m = subst (Ending r l.gates l.steps l.choices old.ended.entries) at c.loop-key.invariant.ending in
+    let n = ending_next r l.gates l.steps l.choices old.ended.entries es (c.in-Some.key.now, c.in-Some.lead.now) m in
+    let key : c.as_slice.result.now ≡ key_of n.lead.state = c.as_slice.ensures.value ∙ n.key in
+    ending_small r l.gates l.steps l.choices old.ended.entries es (c.in-Some.key.now, c.in-Some.lead.now) m
+
+pub loop-key-preserved : goal.loop-key-preserved
+loop-key-preserved c =
+    let r = c.args.program.now in
+    let l = c.args.limits in
+    let old = c.loop-key.front in
+    let es = c.next.new.self in
+    let at : c.loop-key.key-iterator ≡ (c.in-Some.key.now, c.in-Some.lead.now) ∷ c.next.new.self = first_of (search (rules, c.in-Some.ensures.steps), cc (c.in-Some.ensures.steps, c.in-Some.key-is, c.in-Some.lead-is), grind (arith, c.in-Some.ensures.steps, c.in-Some.key-is, c.in-Some.lead-is), assumption c.in-Some.ensures.steps) in
+    let m = subst (Ending r l.gates l.steps l.choices old.ended.entries) at c.loop-key.invariant.ending in
+    let n = ending_next r l.gates l.steps l.choices old.ended.entries es (c.in-Some.key.now, c.in-Some.lead.now) m in
+    let key : c.as_slice.result.now ≡ key_of n.lead.state = c.as_slice.ensures.value ∙ n.key in
+    let new = c.end.new.self in
+    let same : machine_of c.thaw.new.state ≡ n.lead.state = c.thaw.ensures.same n.lead.state key in
+    record {
+      own = c.thaw.ensures.own r n.lead.state c.loop-key.invariant.own n.own key;
+      ending = ending_more r l.gates l.steps l.choices old.ended.entries new.ended.entries es (c.in-Some.key.now, c.in-Some.lead.now) m (machine_of c.thaw.new.state) c.word_of.result.items same (c.word_of.ensures ∙ c.as_slice-in-loop-key.ensures.value) (λ ts h. c.in_ok-end.ensures.ended ts h);
+    }
+
+pub returns : goal.returns
+returns c =
+    let r = c.args.program.now in
+    let l = c.args.limits in
+    let front = c.loop-key.front in
+    ending_done r l.gates l.steps l.choices front.ended.entries (subst (Ending r l.gates l.steps l.choices front.ended.entries) c.in-None.ensures.steps.0 c.loop-key.invariant.ending)

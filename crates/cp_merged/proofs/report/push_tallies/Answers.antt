@@ -1,0 +1,8 @@
+use Rattle.std.proofs.Common.{string_bytes, arith}
+use Rattle.cp_explore.specs.Groups.{tally_text}
+use Rattle.cp_merged.specs.Code.{tally_of}
+use Rattle.cp_explore.proofs.Joining.{each_whole}
+use Rattle.cp_merged.proofs.report.push_tallies.Goals as goal
+
+pub returns : goal.returns
+returns c = each_whole c.loop-tally.tally-index (tally_text c.args.program.now) tally_of c.args.tallies.now (string_bytes c.args.text.now) (string_bytes c.loop-tally.text) (omega arith) c.loop-tally.invariant

@@ -1,0 +1,25 @@
+use Rattle.std.proofs.Common.{◌≡◌, ◌∙◌, ◌<◌, length, take, ap, sym, arith}
+use Rattle.std.specs.Prelude.{sum_by}
+use Rattle.std.proofs.lemmas.List.Sums.{sum_by_more_le, sum_by_more}
+use Rattle.cp_explore.proofs.Joining.{take_whole}
+use Rattle.cp_merged.specs.declared.tally.Tally.{Tally}
+use Rattle.cp_merged.proofs.Telling.{rows_sum}
+use Rattle.cp_merged.proofs.report.words_in.Goals as goal
+
+pub plus-sum-requires : goal.plus-sum-requires
+plus-sum-requires c =
+    let xs = c.args.tallies.now in
+    let k = c.loop-tally.tally-index in
+    let lt : k < length xs = omega arith in
+    let le = sum_by_more_le (λ (t : Tally). t.count) xs k c.tally-item.result lt in
+    let here = ap (λ (t : Tally). t.count) c.tally-item.is in
+    let all = rows_sum xs in
+    let few = c.requires in
+    let sum = c.loop-tally.invariant in
+    omega (arith, le, here, all, few, sum)
+
+pub returns : goal.returns
+returns c =
+    let xs = c.args.tallies.now in
+    let k = c.loop-tally.tally-index in
+    c.loop-tally.invariant ∙ ap (λ l. sum_by (λ (t : Tally). t.count) l) (take_whole xs k (omega arith)) ∙ sym (rows_sum xs)

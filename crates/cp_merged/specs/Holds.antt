@@ -1,0 +1,54 @@
+-- What the fronts of the code stand for.
+use Rattle.std.specs.Prelude.{◌≡◌, ◌⊎◌, ◌+◌, ◌<◌, ℕ, Bool, List, [], ◌∷◌, length, map, All, nat_eq}
+use lib.Pointwise.{pointwise}
+use Rattle.cp_slots.specs.Tables.{Tables}
+use Rattle.cp_machine.specs.System.{Machine}
+use Rattle.cp_key.specs.Key.{key_of}
+use Rattle.cp_key.specs.Room.{IsMachineOf}
+use Rattle.cp_explore.specs.Groups.{Tally}
+use Rattle.cp_merged.specs.Layers.{Lead, Front}
+use Rattle.cp_merged.specs.Code.{keyed, end_of}
+use Rattle.cp_merged.specs.declared.end_key.EndKey.{EndKey}
+use Rattle.cp_merged.specs.declared.fault.MergeFault.{MergeFault}
+use Rattle.cp_merged.specs.declared.fault.MergeFault.TheVariants.{Memory, TooManyStates, TooManyOutcomes}
+use Rattle.cp_merged.specs.declared.lead.Lead as code
+use Rattle.cp_merged.specs.declared.state_key.StateKey.{StateKey}
+
+-- whether two machines have one key
+unfoldable pub same_key : Machine → Machine → Bool
+same_key m n = pointwise nat_eq (key_of m) (key_of n)
+
+-- a lead to the key of its state
+abbrev pub frozen : Lead Machine → Lead (List ℕ)
+frozen x = record { state = key_of x.state; first = x.first; count = x.count }
+
+-- the entries of a layer are leads to machines of a program
+pub record AreLeads (r : Tables) (entries : List (StateKey × code.Lead)) (leads : List (Lead Machine)) : Type 0 where
+  pub keys : map keyed entries ≡ map frozen leads
+  pub own : All (λ x. IsMachineOf r x.state) leads
+
+-- the entries are tallies, or there are too many of both
+abbrev pub AreEnds : List (EndKey × code.Lead) → List Tally → Type 0
+AreEnds entries tallies = (map end_of entries ≡ tallies) ⊎ ((50000 < length entries) × (50000 < length tallies))
+
+-- the entries are a front
+pub record Holds (r : Tables) (ends : List (EndKey × code.Lead)) (states : List (StateKey × code.Lead)) (f : Front Machine) : Type 0 where
+  pub ended : AreEnds ends f.ended
+  pub layer : AreLeads r states f.layer
+
+-- how many words lead to the states of a layer, and have ended
+abbrev pub words_of : {S : Type 0} → List (Lead S) → ℕ
+words_of [] = 0
+words_of (x ∷ xs) = x.count + words_of xs
+
+abbrev pub counts : List Tally → ℕ
+counts [] = 0
+counts (t ∷ ts) = t.count + counts ts
+
+abbrev pub total : {S : Type 0} → Front S → ℕ
+total f = counts f.ended + words_of f.layer
+
+abbrev pub IsStates : MergeFault → Type 0 → Type 0
+IsStates Memory P = Unit {0}
+IsStates TooManyStates P = P
+IsStates TooManyOutcomes P = ⊥

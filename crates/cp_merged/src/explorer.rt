@@ -1,0 +1,108 @@
+//! The outcomes of all schedules.
+
+ghost use Rattle.std.specs.Prelude.{◌≡◌, ◌+◌, ◌^◌, ◌<◌, map, IfOk, IfErr};
+ghost use Rattle.cp_run.specs.Slots.{slots};
+ghost use Rattle.cp_run.specs.Table.{table};
+ghost use Rattle.cp_explore.specs.Report.{same_outcome};
+ghost use Rattle.cp_merged.specs.Code.{end_of, tally_of};
+ghost use Rattle.cp_merged.specs.Holds.{same_key};
+ghost use Rattle.cp_merged.specs.Layers.{by_layers};
+ghost use Rattle.cp_merged.specs.Tallies.{tally};
+ghost use Rattle.cp_merged.specs.Told.{rows_in};
+ghost use Rattle.cp_merged.specs.TooMany.{FitsBefore, IsDueFault};
+
+use crate::fault::MergeFault;
+use crate::front::{Ends, Front, MOST_OUTCOMES};
+use crate::layering::{end_layer, next_layer};
+use crate::lead::Lead;
+use crate::ordered::sorted;
+use crate::tallies::Tallies;
+use crate::word::Word;
+use cp_explore::Job;
+use cp_machine::{State, Ticks};
+use cp_natural::Natural;
+use cp_run::{Limits, open};
+use cp_slots::Resolved;
+use std::alloc::Global;
+use std::marker::Brand;
+use std::sync::ledger::{Blank, Ledger};
+
+/// The different outcomes of all complete words of a job, by layers of states. A layer may have `states` states.
+pub fn explore_merged(alloc: Global, job: Job, states: usize) -> Result<Tallies, MergeFault>
+    ensures tallies { IfOk result (λ ts. map tally_of ts ≡ tally same_outcome (table (slots job.entry.program.now job.entry.limits.gates) job.entry.limits.choices job.entry.limits.steps)) }
+    ensures within { IfOk result (λ ts. FitsBefore (slots job.entry.program.now job.entry.limits.gates) job.entry.limits.choices job.entry.limits.steps states (job.entry.limits.choices + 1)) }
+    ensures fault { IfErr result (λ e. IsDueFault (slots job.entry.program.now job.entry.limits.gates) job.entry.limits.choices job.entry.limits.steps states e) }
+{
+    let ends = ends_of::<Brand, Brand>(
+        alloc,
+        job.program,
+        job.limits,
+        states,
+        Blank::new(1),
+        Blank::new(1),
+    )?;
+    match sorted(alloc, ends) {
+        Ok(tallies) => Ok(tallies),
+        Err(_) => Err(MergeFault::Memory),
+    }
+}
+
+/// The outcomes in the order in which they are found.
+fn ends_of<S: Ledger, C: Ledger>(
+    alloc: Global,
+    program: &Resolved,
+    limits: Limits,
+    most: usize,
+    steps: Blank,
+    calls: Blank,
+) -> Result<Ends, MergeFault>
+    requires steps_name { steps.name ≡ S.name }
+    requires steps_parts { steps.parts ≡ S.parts }
+    requires steps_one { S.parts ≡ 1 }
+    requires calls_name { calls.name ≡ C.name }
+    requires calls_parts { calls.parts ≡ C.parts }
+    requires calls_one { C.parts ≡ 1 }
+    ensures ends { IfOk result (λ ends. map end_of ends.entries ≡ by_layers (slots program.now limits.gates) same_outcome same_key limits.choices limits.steps) }
+    ensures small { IfOk result (λ ends. rows_in (map end_of ends.entries) < 10 ^ 126) }
+    ensures within { IfOk result (λ _. FitsBefore (slots program.now limits.gates) limits.choices limits.steps most (limits.choices + 1)) }
+    ensures fault { IfErr result (λ e. IsDueFault (slots program.now limits.gates) limits.choices limits.steps most e) }
+{
+    let mut steps: Ticks<S> = Ticks::new(steps);
+    let mut calls: Ticks<C> = Ticks::new(calls);
+    let Ok(mut state) = State::start(alloc, program, limits.gates) else {
+        return Err(MergeFault::Memory);
+    };
+    let Ok(mut next) = state.copy(alloc) else {
+        return Err(MergeFault::Memory);
+    };
+    let halt = open(program, limits, &mut state, &mut steps, &mut calls);
+    let mut front = Front::new(alloc);
+    let one = Lead {
+        count: Natural::one(),
+        first: Word::new(),
+    };
+    let Ok(()) = front.arrive(alloc, &state, halt, one) else {
+        return Err(MergeFault::Memory);
+    };
+    if front.layer.len() > most {
+        return Err(MergeFault::TooManyStates);
+    }
+    for depth in 0..limits.choices {
+        if front.ended.len() > MOST_OUTCOMES {
+            return Err(MergeFault::TooManyOutcomes);
+        }
+        let layer = front.take_layer(alloc);
+        next_layer(
+            alloc, program, limits, most, depth, &layer, &mut state, &mut next, &mut front,
+            &mut steps, &mut calls,
+        )?;
+    }
+    let layer = front.take_layer(alloc);
+    let Ok(()) = end_layer(alloc, program, limits, &mut state, &layer, &mut front) else {
+        return Err(MergeFault::Memory);
+    };
+    if front.ended.len() > MOST_OUTCOMES {
+        return Err(MergeFault::TooManyOutcomes);
+    }
+    Ok(front.into_ends())
+}

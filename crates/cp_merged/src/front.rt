@@ -1,0 +1,150 @@
+//! Where words have arrived: at ends, and at the states of a layer.
+
+ghost use Rattle.std.specs.Prelude.{◌≡◌, ◌+◌, ◌^◌, ◌<◌, [], List, map, IfOk, IfSome, nat_eq};
+ghost use Rattle.std.specs.Map.{lookup};
+ghost use lib.Pointwise.{pointwise};
+ghost use Rattle.cp_slots.specs.Tables.{Tables};
+ghost use Rattle.cp_machine.specs.System.{Machine, machine_of, output_of, IsStateOf};
+ghost use Rattle.cp_machine.specs.declared.gates.Gates.{Gates};
+ghost use Rattle.cp_run.specs.Slots.{slots};
+ghost use Rattle.cp_run.specs.Code.{node_of};
+ghost use Rattle.cp_explore.specs.Groups.{Tally};
+ghost use Rattle.cp_explore.specs.Report.{same_outcome};
+ghost use Rattle.cp_merged.specs.Layers as layers;
+ghost use Rattle.cp_merged.specs.Layers.{with_lead, with_tally, arrived};
+ghost use Rattle.cp_merged.specs.Code.{keyed, end_of};
+ghost use Rattle.cp_merged.specs.Holds.{same_key, frozen, AreLeads, AreEnds, Holds, words_of, counts, total};
+
+use crate::end_key::EndKey;
+use crate::lead::Lead;
+use crate::state_key::StateKey;
+use crate::word::word_of;
+use cp_key::freeze;
+use cp_machine::State;
+use cp_natural::Natural;
+use cp_run::{Halt, OutcomeKind, outcome_at};
+use indexmap::IndexMap;
+use std::alloc::{AllocError, Global};
+use std::mem;
+
+/// The most outcomes that are kept.
+pub const MOST_OUTCOMES: usize = 50_000;
+
+/// The states of a layer.
+pub type Layer = IndexMap<StateKey, Lead>;
+
+/// The outcomes of the words that have ended.
+pub type Ends = IndexMap<EndKey, Lead>;
+
+fn add_state(layer: &mut Layer, key: StateKey, lead: Lead) -> Result<(), AllocError>
+    requires { IfSome (lookup (λ k. pointwise nat_eq key.bytes.items k.bytes.items) layer.old.entries) (λ y. y.count + lead.count < 10 ^ 126) }
+    ensures { IfOk result (λ _. map keyed layer.new.entries ≡ with_lead (pointwise nat_eq) (map keyed layer.old.entries) (keyed (key, lead))) }
+{
+    let known = layer.entry(key)?.or_insert(Lead {
+        count: Natural::zero(),
+        first: word_of(lead.first.as_slice()),
+    });
+    known.merge(&lead);
+    Ok(())
+}
+
+fn add_end(ended: &mut Ends, key: EndKey, lead: Lead) -> Result<(), AllocError>
+    requires { IfSome (lookup (λ k. same_outcome key.outcome k.outcome) ended.old.entries) (λ y. y.count + lead.count < 10 ^ 126) }
+    ensures { IfOk result (λ _. map end_of ended.new.entries ≡ with_tally same_outcome (map end_of ended.old.entries) (end_of (key, lead))) }
+{
+    let known = ended.entry(key)?.or_insert(Lead {
+        count: Natural::zero(),
+        first: word_of(lead.first.as_slice()),
+    });
+    known.merge(&lead);
+    Ok(())
+}
+
+/// Where words have arrived: the outcomes of those that have ended, and the layer that is made.
+#[derive(Drop)]
+pub struct Front {
+    pub ended: Ends,
+    pub layer: Layer,
+    /// Room for a key.
+    scratch: Vec<u8>,
+}
+
+impl Front {
+    /// Nothing has arrived.
+    pub fn new(alloc: Global) -> Front
+        ensures ended { result.ended.entries ≡ [] }
+        ensures layer { result.layer.entries ≡ [] }
+    {
+        Front {
+            ended: IndexMap::new(alloc),
+            layer: IndexMap::new(alloc),
+            scratch: Vec::new(alloc),
+        }
+    }
+
+    /// The layer, in whose place an empty one begins.
+    pub fn take_layer(&mut self, alloc: Global) -> Layer
+        ensures layer { result.entries ≡ self.old.layer.entries }
+        ensures empty { self.new.layer.entries ≡ [] }
+        ensures ended { self.new.ended.entries ≡ self.old.ended.entries }
+    {
+        mem::replace(&mut self.layer, IndexMap::new(alloc))
+    }
+
+    /// The outcomes.
+    pub fn into_ends(self) -> Ends
+        ensures { result.entries ≡ self.ended.entries }
+    {
+        self.ended
+    }
+
+    /// Words end in a state. Where there are too many outcomes already, nothing changes.
+    pub fn end(
+        &mut self,
+        alloc: Global,
+        kind: OutcomeKind,
+        state: &State,
+        lead: Lead,
+    ) -> Result<(), AllocError>
+        requires { (ts : List Tally) × AreEnds self.old.ended.entries ts × (counts ts + lead.count < 10 ^ 126) }
+        ensures ended { IfOk result (λ _. (ts : List Tally) → AreEnds self.old.ended.entries ts → AreEnds self.new.ended.entries (with_tally same_outcome ts (record { first = record { word = lead.first.items; outcome = record { kind = kind; output = output_of (machine_of state.now) } }; count = lead.count }))) }
+        ensures layer { self.new.layer.entries ≡ self.old.layer.entries }
+    {
+        if self.ended.len() > MOST_OUTCOMES {
+            return Ok(());
+        }
+        let outcome = outcome_at(alloc, kind, state)?;
+        add_end(&mut self.ended, EndKey { outcome }, lead)?;
+        Ok(())
+    }
+
+    /// A choice is due in a state that words lead to.
+    pub fn wait(&mut self, alloc: Global, state: &State, lead: Lead) -> Result<(), AllocError>
+        requires { (xs : List (layers.Lead Machine)) × (map keyed self.old.layer.entries ≡ map frozen xs) × (words_of xs + lead.count < 10 ^ 126) }
+        ensures layer { IfOk result (λ _. (r : Tables) (xs : List (layers.Lead Machine)) → IsStateOf r state.now → AreLeads r self.old.layer.entries xs → AreLeads r self.new.layer.entries (with_lead same_key xs (record { state = machine_of state.now; first = lead.first.items; count = lead.count }))) }
+        ensures ended { self.new.ended.entries ≡ self.old.ended.entries }
+    {
+        self.scratch.clear();
+        freeze(state, &mut self.scratch)?;
+        let bytes = Vec::from_slice(alloc, self.scratch.as_slice())?;
+        add_state(&mut self.layer, StateKey { bytes }, lead)?;
+        Ok(())
+    }
+
+    /// Words arrive at a state, where the run stands still.
+    pub fn arrive(
+        &mut self,
+        alloc: Global,
+        state: &State,
+        halt: Halt,
+        lead: Lead,
+    ) -> Result<(), AllocError>
+        requires { (r : Tables) × (f : layers.Front Machine) × Holds r self.old.ended.entries self.old.layer.entries f × (total f + lead.count < 10 ^ 126) }
+        ensures { IfOk result (λ _. (r : Tables) (gates : Gates) (f : layers.Front Machine) → IsStateOf r state.now → Holds r self.old.ended.entries self.old.layer.entries f → Holds r self.new.ended.entries self.new.layer.entries (arrived (slots r gates) same_outcome same_key lead.first.items lead.count (node_of halt (machine_of state.now)) f)) }
+    {
+        match halt {
+            Halt::Ended(kind) => self.end(alloc, kind, state, lead),
+            Halt::Choice => self.wait(alloc, state, lead),
+        }
+    }
+}

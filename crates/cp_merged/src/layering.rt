@@ -1,0 +1,147 @@
+//! From layer to layer.
+
+ghost use Rattle.std.specs.Prelude.{◌≡◌, ◌+◌, ◌*◌, ◌^◌, ◌<◌, ◌≤◌, [], length, IfOk, IfErr};
+ghost use Rattle.cp_machine.specs.System.{Machine, machine_of, IsStateOf};
+ghost use Rattle.cp_run.specs.Slots.{slots, processes_of};
+ghost use Rattle.cp_explore.specs.Report.{same_outcome};
+ghost use Rattle.cp_merged.specs.Layers as layers;
+ghost use Rattle.cp_merged.specs.Layers.{front_at, by_layers};
+ghost use Rattle.cp_merged.specs.Holds.{same_key, AreLeads, AreEnds, Holds, total, IsStates};
+ghost use Rattle.cp_merged.specs.TooMany.{HasTooManyStates};
+
+use crate::fault::MergeFault;
+use crate::front::{Front, Layer};
+use crate::lead::Lead;
+use crate::word::{longer, word_of};
+use cp_key::thaw;
+use cp_machine::{State, Ticks};
+use cp_run::{Limits, OutcomeKind, choose, may};
+use cp_slots::Resolved;
+use std::alloc::{AllocError, Global};
+use std::sync::ledger::Ledger;
+
+/// A lead goes one choice on with a process, if that may be chosen.
+fn take_choice<S: Ledger, C: Ledger>(
+    alloc: Global,
+    program: &Resolved,
+    limits: Limits,
+    state: &State,
+    lead: &Lead,
+    process: u8,
+    next: &mut State,
+    front: &mut Front,
+    steps: &mut Ticks<S>,
+    calls: &mut Ticks<C>,
+) -> Result<(), AllocError>
+    requires own { IsStateOf program.now state.now }
+    requires next { IsStateOf program.now next.old }
+    requires room { length lead.now.first.items < 100 }
+    requires small { (f : layers.Front Machine) × Holds program.now front.old.ended.entries front.old.layer.entries f × (total f + lead.now.count < 10 ^ 126) }
+    ensures next { IsStateOf program.now next.new }
+    ensures front { IfOk result (λ _. (f : layers.Front Machine) → Holds program.now front.old.ended.entries front.old.layer.entries f → Holds program.now front.new.ended.entries front.new.layer.entries (layers.after_choice (slots program.now limits.gates) same_outcome same_key limits.steps (record { state = machine_of state.now; first = lead.now.first.items; count = lead.now.count }) process f)) }
+{
+    if !may(program, limits, state, process) {
+        return Ok(());
+    }
+    next.take_from(state);
+    let halt = choose(program, limits, next, process, steps, calls);
+    let arriving = Lead {
+        count: lead.count,
+        first: longer(lead.first.as_slice(), process),
+    };
+    front.arrive(alloc, next, halt, arriving)
+}
+
+/// A lead goes one choice on with each process that may be chosen.
+fn take_choices<S: Ledger, C: Ledger>(
+    alloc: Global,
+    program: &Resolved,
+    limits: Limits,
+    state: &State,
+    lead: &Lead,
+    next: &mut State,
+    front: &mut Front,
+    steps: &mut Ticks<S>,
+    calls: &mut Ticks<C>,
+) -> Result<(), AllocError>
+    requires own { IsStateOf program.now state.now }
+    requires next { IsStateOf program.now next.old }
+    requires room { length lead.now.first.items < 100 }
+    requires small { (f : layers.Front Machine) × Holds program.now front.old.ended.entries front.old.layer.entries f × (total f + 16 * lead.now.count < 10 ^ 126) }
+    ensures next { IsStateOf program.now next.new }
+    ensures front { IfOk result (λ _. (f : layers.Front Machine) → Holds program.now front.old.ended.entries front.old.layer.entries f → Holds program.now front.new.ended.entries front.new.layer.entries (layers.after_choices (slots program.now limits.gates) same_outcome same_key limits.steps (record { state = machine_of state.now; first = lead.now.first.items; count = lead.now.count }) (processes_of program.now) f)) }
+{
+    for process in 0..program.processes() {
+        take_choice(
+            alloc, program, limits, state, lead, process, next, front, steps, calls,
+        )?;
+    }
+    Ok(())
+}
+
+/// Each lead of layer `depth` goes one choice on. A layer of more than `most` states is not made to its end.
+pub fn next_layer<S: Ledger, C: Ledger>(
+    alloc: Global,
+    program: &Resolved,
+    limits: Limits,
+    most: usize,
+    depth: u8,
+    layer: &Layer,
+    state: &mut State,
+    next: &mut State,
+    front: &mut Front,
+    steps: &mut Ticks<S>,
+    calls: &mut Ticks<C>,
+) -> Result<(), MergeFault>
+    requires own { IsStateOf program.now state.old }
+    requires next { IsStateOf program.now next.old }
+    requires due { depth < limits.choices }
+    requires layer { AreLeads program.now layer.now.entries (front_at (slots program.now limits.gates) same_outcome same_key limits.steps depth).layer }
+    requires front { Holds program.now front.old.ended.entries front.old.layer.entries (record { ended = (front_at (slots program.now limits.gates) same_outcome same_key limits.steps depth).ended; layer = [] }) }
+    ensures own { IsStateOf program.now state.new }
+    ensures next { IsStateOf program.now next.new }
+    ensures front { IfOk result (λ _. Holds program.now front.new.ended.entries front.new.layer.entries (front_at (slots program.now limits.gates) same_outcome same_key limits.steps (depth + 1))) }
+    ensures few { IfOk result (λ _. length front.new.layer.entries ≤ most) }
+    ensures many { IfErr result (λ e. IsStates e (HasTooManyStates (slots program.now limits.gates) limits.steps most (depth + 1))) }
+{
+    let _ = depth;
+    for (key, lead) in layer.iter() {
+        thaw(key.bytes.as_slice(), state);
+        let Ok(()) = take_choices(
+            alloc, program, limits, state, lead, next, front, steps, calls,
+        ) else {
+            return Err(MergeFault::Memory);
+        };
+        if front.layer.len() > most {
+            return Err(MergeFault::TooManyStates);
+        }
+    }
+    Ok(())
+}
+
+/// No choice is left: the words that lead to the states of the last layer end there.
+pub fn end_layer(
+    alloc: Global,
+    program: &Resolved,
+    limits: Limits,
+    state: &mut State,
+    layer: &Layer,
+    front: &mut Front,
+) -> Result<(), AllocError>
+    requires own { IsStateOf program.now state.old }
+    requires layer { AreLeads program.now layer.now.entries (front_at (slots program.now limits.gates) same_outcome same_key limits.steps limits.choices).layer }
+    requires ended { AreEnds front.old.ended.entries (front_at (slots program.now limits.gates) same_outcome same_key limits.steps limits.choices).ended }
+    ensures { IfOk result (λ _. AreEnds front.new.ended.entries (by_layers (slots program.now limits.gates) same_outcome same_key limits.choices limits.steps)) }
+{
+    let _ = program;
+    let _ = limits;
+    for (key, lead) in layer.iter() {
+        thaw(key.bytes.as_slice(), state);
+        let ending = Lead {
+            count: lead.count,
+            first: word_of(lead.first.as_slice()),
+        };
+        front.end(alloc, OutcomeKind::ChoiceLimit, state, ending)?;
+    }
+    Ok(())
+}

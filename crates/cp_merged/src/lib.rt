@@ -1,0 +1,24 @@
+//! The outcomes of all schedules, counted without rows: schedules that come to one state are counted together.
+#![tactic(auto)]
+
+pub mod end_key;
+pub mod explorer;
+pub mod fault;
+pub mod front;
+pub mod laws;
+pub mod layering;
+pub mod lead;
+pub mod ordered;
+pub mod report;
+pub mod state_key;
+pub mod tallies;
+pub mod tally;
+pub mod word;
+
+pub use explorer::explore_merged;
+pub use fault::MergeFault;
+pub use laws::{law_closed, law_complete, law_layers, law_report};
+pub use report::merged_report;
+pub use tallies::Tallies;
+pub use tally::Tally;
+pub use word::Word;

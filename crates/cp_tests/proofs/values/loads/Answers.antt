@@ -1,0 +1,12 @@
+use Rattle.std.proofs.Common.{refl, lit<, [], ◌∷◌, pos}
+use Rattle.cp_store.specs.declared.memory.Frame.{Frame}
+use Rattle.cp_store.specs.Memory.{memory_of}
+use Rattle.cp_tests.proofs.OwnCells.{own_read}
+use Rattle.cp_tests.proofs.values.loads.Goals as goal
+
+abbrev frame : Frame
+frame = record { routine = 0; component = 0; own = 0; base = 0; references = 0 }
+
+pub evaluate-requires : goal.evaluate-requires
+evaluate-requires g c =
+    own_read (memory_of (pos 0 ∷ pos 1 ∷ pos 2 ∷ pos 3 ∷ pos 4 ∷ pos 5 ∷ pos 6 ∷ []) c.in_ok-room.room) frame refl refl refl (lit< tt) c.in_ok-room.ensures.0 c.in_ok-room.ensures.1 c.in_ok-load.load c.in_ok-load.ensures

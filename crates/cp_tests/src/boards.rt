@@ -1,0 +1,218 @@
+ghost use Rattle.std.specs.Prelude.{◌≡◌, ◌+◌, ◌<◌, ◌≤◌, [], All, length, map, IfOk, vec_len};
+ghost use Rattle.cp_board.specs.Seats.{IsSeatOf, IsDealt, seats_of};
+
+use cp_board::{Board, BoardFault, Closed, Seat};
+use std::alloc::{AllocError, Global};
+use std::test::Fail;
+use std::thread;
+use std::thread::Threads;
+
+// What a thread drew, and its seat.
+#[derive(Drop)]
+struct Drawer {
+    seat: Seat,
+    drawn: Vec<u32>,
+    is_whole: bool,
+}
+
+// What threads drew together, and what the closed board says.
+#[derive(Drop)]
+struct Game {
+    drawn: Vec<u32>,
+    closed: Closed,
+    is_whole: bool,
+}
+
+// Draws until there is nothing more, and notes one row a task.
+fn draw_all(alloc: Global, board: &Board, mut seat: Seat) -> Drawer
+    requires { IsSeatOf board.now seat }
+    ensures { IsSeatOf board.now result.seat }
+{
+    let mut drawn = Vec::new(alloc);
+    while let Some(task) = board.claim(&mut seat) {
+        board.note(&mut seat, 1);
+        if drawn.push(task).is_err() {
+            return Drawer {
+                seat,
+                drawn,
+                is_whole: false,
+            };
+        }
+    }
+    Drawer {
+        seat,
+        drawn,
+        is_whole: true,
+    }
+}
+
+// The seats that come back, in order, and all that was drawn.
+fn collected(alloc: Global, drawers: Vec<Drawer>) -> Result<(Vec<Seat>, Vec<u32>, bool), AllocError>
+    ensures { IfOk result (λ r. r.0.items ≡ map (λ d. d.seat) drawers.items) }
+{
+    let mut seats = Vec::new(alloc);
+    let mut all = Vec::new(alloc);
+    let mut is_whole = true;
+    for drawer in drawers {
+        let Drawer {
+            seat,
+            mut drawn,
+            is_whole: was_whole,
+        } = drawer;
+        is_whole = is_whole && was_whole;
+        seats.push(seat)?;
+        all.append(&mut drawn)?;
+    }
+    Ok((seats, all, is_whole))
+}
+
+// Those seats draw that have no idle one before them, each in a thread of its own where one can be had.
+fn play<R: Threads + Sync>(
+    rt: &R,
+    alloc: Global,
+    tasks: u32,
+    seats: u8,
+    idle: u8,
+) -> Result<Game, BoardFault>
+    requires { idle ≤ seats }
+{
+    let (board, mut seats) = Board::new(alloc, tasks, seats)?;
+    let drawing = seats.split_off(usize::from(idle))?;
+    let shared = &board;
+    let drawers = thread::map_vec(
+        rt,
+        drawing,
+        &|seat: Seat| -> Drawer
+            requires { IsSeatOf shared.now seat }
+            ensures { IsSeatOf shared.entry.now result.seat }
+        { draw_all(alloc, shared, seat) },
+    )?;
+    let (mut drawn_by, drawn, is_whole) = collected(alloc, drawers)?;
+    seats.append(&mut drawn_by)?;
+    Ok(Game {
+        drawn,
+        closed: board.close(seats),
+        is_whole,
+    })
+}
+
+// Whether these are the numbers below the count, each once, and each was noted with one row.
+fn is_each_once(game: Game, count: u32) -> Result<bool, AllocError> {
+    let Game {
+        mut drawn,
+        closed,
+        is_whole,
+    } = game;
+    drawn.sort()?;
+    let mut next = 0;
+    for task in &drawn {
+        if *task != next || next >= count {
+            return Ok(false);
+        }
+        next += 1;
+    }
+    Ok(is_whole && next == count && closed.claimed == count && closed.total == u64::from(count))
+}
+
+#[test]
+fn board_four_threads(rt: HostRuntime) -> Result<(), Fail> {
+    let game = play(&rt, rt.alloc(), 1000, 4, 0)?;
+    assert!(rt; is_each_once(game, 1000)?);
+    Ok(())
+}
+
+#[test]
+fn board_no_tasks(rt: HostRuntime) -> Result<(), Fail> {
+    let game = play(&rt, rt.alloc(), 0, 3, 0)?;
+    assert!(rt; is_each_once(game, 0)?);
+    Ok(())
+}
+
+#[test]
+fn board_idle_seats(rt: HostRuntime) -> Result<(), Fail> {
+    let game = play(&rt, rt.alloc(), 100, 16, 12)?;
+    assert!(rt; is_each_once(game, 100)?);
+    Ok(())
+}
+
+#[test]
+fn board_one_seat(rt: HostRuntime) -> Result<(), Fail> {
+    let (board, mut seats) = Board::new(rt.alloc(), 2, 1)?;
+    let Some(mut seat) = seats.pop() else {
+        return Err(Fail::new("no seat"));
+    };
+    let first = board.claim(&mut seat);
+    assert_eq!(rt; first, Some(0));
+    let many = board.note(&mut seat, 50_001);
+    let second = board.claim(&mut seat);
+    assert_eq!(rt; second, Some(1));
+    let more = board.note(&mut seat, 1);
+    assert!(rt; many == 50_001 && more == 50_002);
+    let none = board.claim(&mut seat);
+    let again = board.claim(&mut seat);
+    assert!(rt; none.is_none() && again.is_none());
+    seats.push(seat)?;
+    let closed = board.close(seats);
+    assert!(rt; closed.claimed == 2 && closed.total == 50_002);
+    Ok(())
+}
+
+#[test]
+fn board_refusals(rt: HostRuntime) -> Result<(), Fail> {
+    assert!(rt;
+        matches!(
+            Board::new(rt.alloc(), 4097, 0),
+            Err(BoardFault::TooManyTasks)
+        )
+    );
+    assert!(rt; matches!(Board::new(rt.alloc(), 4096, 0), Err(BoardFault::BadSeats)));
+    assert!(rt; matches!(Board::new(rt.alloc(), 1, 17), Err(BoardFault::BadSeats)));
+    Ok(())
+}
+
+#[test]
+fn board_claim_without_note(rt: HostRuntime) -> Result<(), Fail> {
+    let (board, mut seats) = Board::new(rt.alloc(), 3, 2)?;
+    let (Some(mut silent), Some(mut noting)) = (seats.pop(), seats.pop()) else {
+        return Err(Fail::new("fewer than two seats"));
+    };
+    let first = board.claim(&mut silent);
+    assert_eq!(rt; first, Some(0));
+    let second = board.claim(&mut noting);
+    assert_eq!(rt; second, Some(1));
+    let total = board.note(&mut noting, 7);
+    let third = board.claim(&mut noting);
+    assert_eq!(rt; third, Some(2));
+    let more = board.note(&mut noting, 5);
+    assert!(rt; total == 7 && more == 12);
+    seats.push(noting)?;
+    seats.push(silent)?;
+    let closed = board.close(seats);
+    assert!(rt; closed.claimed == 3 && closed.total == 12);
+    Ok(())
+}
+
+// Whether memory was refused; else there is a board with nothing drawn.
+fn is_refused(alloc: Global) -> Result<bool, Fail> {
+    match Board::new(alloc, 1, 16) {
+        Ok((board, seats)) => {
+            let closed = board.close(seats);
+            if closed.claimed == 0 && closed.total == 0 {
+                Ok(false)
+            } else {
+                Err(Fail::new("a new board has draws"))
+            }
+        }
+        Err(BoardFault::Memory(_)) => Ok(true),
+        Err(fault) => Err(Fail::from(fault)),
+    }
+}
+
+// Also to be run with each allocation refused in turn: the answer is then `Memory`, and the next call gives a board.
+#[test]
+fn board_growths_refused(rt: HostRuntime) -> Result<(), Fail> {
+    let first = is_refused(rt.alloc())?;
+    let second = is_refused(rt.alloc())?;
+    assert!(rt; !(first && second));
+    Ok(())
+}

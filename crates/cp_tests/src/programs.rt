@@ -1,0 +1,105 @@
+//! Programs of the worked rows, resolved, and what is asked of them by words.
+
+ghost use Rattle.std.specs.Prelude.{◌≡◌, ◌≤◌, IfOk, length};
+
+use arrayvec::ArrayVec;
+use cp_check::check;
+use cp_machine::{Gates, Ticks};
+use cp_run::{Limits, RunEnd, run};
+use cp_slots::{Resolved, resolve};
+use cp_text::scan;
+use cp_tree::parse;
+use std::alloc::Global;
+use std::marker::Brand;
+use std::sync::ledger::{Blank, Ledger};
+use std::test::Fail;
+
+pub const TWO_DISPLAYS: &str =
+    "type p = process(n: integer); begin display(n) end; var a, b: p; begin init a(1), b(2) end.";
+
+pub const TWO_CYCLES: &str =
+    "type p = process; begin cycle display(1) end end; var a: p; begin init a; cycle display(2) end end.";
+
+pub const DELAYED: &str =
+    "type m = monitor; var q: queue; procedure entry hold; begin delay(q) end; begin end; p = process(x: m); begin x.hold end; var x: m; a: p; begin init x, a(x) end.";
+
+pub const THREE_CALLERS: &str =
+    "type m = monitor; var q: queue; procedure entry go(n: integer); begin display(n); continue(q) end; begin end; p = process(x: m; n: integer); begin x.go(n) end; var x: m; a, b, c: p; begin init x, a(x, 1), b(x, 2), c(x, 3) end.";
+
+pub const TWO_IN_A_QUEUE: &str =
+    "type m = monitor; var q: queue; procedure entry hold; begin\ndelay(q) end; begin end; p = process(x: m); begin x.hold end; var x: m; a, b: p; begin init x, a(x), b(x) end.";
+
+pub const CONTINUED: &str =
+    "type m = monitor; var q: queue; procedure entry go(n: integer); begin display(n); continue(q) end; begin end; p = process(x: m; n: integer); begin x.go(n) end; var x: m; a, b: p; begin init x, a(x, 1), b(x, 2) end.";
+
+pub const RESUMED: &str =
+    "type m = monitor; var q: queue; procedure entry hold; begin delay(q); display(1) end; procedure entry go; begin display(2); continue(q) end; procedure entry look; begin display(3) end; begin end; a = process(x: m); begin x.hold end; b = process(x: m); begin x.go end; c = process(x: m); begin x.look end; var x: m; r: a; s: b; t: c; begin init x, r(x), s(x), t(x) end.";
+
+pub const BUFFER: &str =
+    "type buffer = monitor; var full: boolean; slot: integer; sender, receiver: queue; procedure entry put(x: integer); begin if full then delay(sender); slot := x; full := true; continue(receiver) end; procedure entry get(var x: integer); begin if not full then delay(receiver); x := slot; full := false; continue(sender) end; begin full := false end; producer = process(b: buffer); begin b.put(7) end; consumer = process(b: buffer); var v: integer; begin b.get(v); display(v) end; var b: buffer; p: producer; c: consumer; begin init b, p(b), c(b) end.";
+
+pub const INNER_DELAY: &str =
+    "type inner = monitor; var q: queue; procedure entry hold; begin delay(q) end; procedure entry free; begin continue(q) end; begin end; outer = monitor(i: inner); procedure entry go; begin i.hold end; begin end; a = process(o: outer); begin o.go end; b = process(i: inner); begin i.free end; var i: inner; o: outer; p, r: a; s: b; begin init i, o(i), p(o), r(o), s(i) end.";
+
+/// The program of an accepted source.
+pub fn program_of(alloc: Global, source: &str) -> Result<Resolved, Fail> {
+    let tokens = scan(alloc, source.as_bytes())
+        .ok()
+        .ok_or("it is not scanned")?;
+    let tree = parse(alloc, &tokens).ok().ok_or("it is not parsed")?;
+    let checked = check(alloc, tree).ok().ok_or("it is not accepted")?;
+    Ok(resolve(alloc, &checked).ok().ok_or("it is not resolved")?)
+}
+
+/// Limits with 1,000 steps, and no more choices than tables have.
+pub fn limits_of(choices: u8, gates: Gates) -> Result<Limits, Fail>
+    ensures { IfOk result (λ l. l.choices ≤ 20) }
+{
+    if choices > 20 {
+        return Err(Fail::from("too many choices"));
+    }
+    Ok(Limits::new(choices, 1000, gates).ok_or("no such limits")?)
+}
+
+/// How the run of a word ends.
+pub fn end_of(
+    alloc: Global,
+    program: &Resolved,
+    limits: Limits,
+    word: &[u8],
+) -> Result<RunEnd, Fail> {
+    end_counted::<Brand>(alloc, program, limits, word, Blank::new(1))
+}
+
+fn end_counted<L: Ledger>(
+    alloc: Global,
+    program: &Resolved,
+    limits: Limits,
+    word: &[u8],
+    blank: Blank,
+) -> Result<RunEnd, Fail>
+    requires name { blank.name ≡ L.name }
+    requires parts { blank.parts ≡ L.parts }
+    requires one { L.parts ≡ 1 }
+{
+    let mut ticks: Ticks<L> = Ticks::new(blank);
+    if word.len() > 20 {
+        return Err(Fail::from("the word is too long"));
+    }
+    Ok(
+        run(alloc, program, limits, word, &mut ticks)
+            .ok()
+            .ok_or("memory was refused")?,
+    )
+}
+
+/// The numbers of a word as it is printed: one digit each, joined by periods.
+pub fn numbers_of(word: &str) -> ArrayVec<u8, 20> {
+    let mut numbers = ArrayVec::new();
+    for byte in word.as_bytes() {
+        if byte.is_ascii_digit() {
+            let _ = numbers.try_push(*byte - b'0');
+        }
+    }
+    numbers
+}

@@ -1,0 +1,134 @@
+//! Readings of a state after the choices of a word, where each gate wants a choice.
+
+ghost use Rattle.std.specs.Prelude.{◌≡◌};
+
+use crate::programs::{THREE_CALLERS, limits_of, program_of};
+use arrayvec::ArrayVec;
+use cp_machine::{Gates, State, Ticks};
+use cp_run::{Halt, choose, may, open};
+use cp_slots::Resolved;
+use std::alloc::Global;
+use std::marker::Brand;
+use std::sync::ledger::{Blank, Ledger};
+use std::test::Fail;
+
+/// What is read off a state, of monitor 0.
+#[derive(Drop)]
+struct Readings {
+    pending: Option<u8>,
+    holder: Option<u8>,
+    ready: ArrayVec<u8, 16>,
+    waiting: ArrayVec<u8, 16>,
+    waits: bool,
+}
+
+fn readings_of(state: &State) -> Readings {
+    Readings {
+        pending: state.pending(),
+        holder: if state.guards.is_empty() {
+            None
+        } else {
+            state.holder(0)
+        },
+        ready: state.ready(),
+        waiting: state.waiting(0),
+        waits: state.waits(),
+    }
+}
+
+/// The readings after the choices of a word, under the gates Any.
+fn readings_after<S: Ledger, C: Ledger>(
+    alloc: Global,
+    program: &Resolved,
+    word: &[u8],
+    blank: Blank,
+    other: Blank,
+) -> Result<Readings, Fail>
+    requires name { blank.name ≡ S.name }
+    requires parts { (blank.parts ≡ S.parts) × (S.parts ≡ 1) }
+    requires other_name { other.name ≡ C.name }
+    requires other_parts { (other.parts ≡ C.parts) × (C.parts ≡ 1) }
+{
+    let limits = limits_of(13, Gates::Any)?;
+    let mut steps: Ticks<S> = Ticks::new(blank);
+    let mut calls: Ticks<C> = Ticks::new(other);
+    let mut state = State::start(alloc, program, limits.gates)?;
+    let mut halt = open(program, limits, &mut state, &mut steps, &mut calls);
+    for process in word {
+        if !matches!(halt, Halt::Choice) {
+            return Err(Fail::from("no choice is due"));
+        }
+        if !may(program, limits, &state, *process) {
+            return Err(Fail::from("no such choice"));
+        }
+        halt = choose(
+            program, limits, &mut state, *process, &mut steps, &mut calls,
+        );
+    }
+    Ok(readings_of(&state))
+}
+
+/// A word, and what is read off the state after it.
+struct ReadingRow {
+    word: &'static [u8],
+    pending: Option<u8>,
+    holder: Option<u8>,
+    ready: &'static [u8],
+    waiting: &'static [u8],
+    waits: bool,
+}
+
+static READING_ROWS: [ReadingRow; 4] = [
+    ReadingRow {
+        word: &[],
+        pending: None,
+        holder: None,
+        ready: &[0, 1],
+        waiting: &[],
+        waits: false,
+    },
+    ReadingRow {
+        word: &[0, 0, 0, 1, 2],
+        pending: None,
+        holder: Some(1),
+        ready: &[1, 3],
+        waiting: &[2],
+        waits: true,
+    },
+    ReadingRow {
+        word: &[0, 0, 0, 1, 2, 3],
+        pending: Some(0),
+        holder: None,
+        ready: &[1],
+        waiting: &[2, 3],
+        waits: true,
+    },
+    ReadingRow {
+        word: &[0, 0, 0, 1, 2, 3, 3],
+        pending: None,
+        holder: Some(3),
+        ready: &[1, 3],
+        waiting: &[2],
+        waits: true,
+    },
+];
+
+#[test]
+fn readings_of_a_state(rt: HostRuntime) -> Result<(), Fail> {
+    let program = program_of(rt.alloc(), THREE_CALLERS)?;
+    for (number, row) in READING_ROWS.iter().enumerate() {
+        let told = readings_after::<Brand, Brand>(
+            rt.alloc(),
+            &program,
+            row.word,
+            Blank::new(1),
+            Blank::new(1),
+        )?;
+        assert_eq!(rt; told.pending, row.pending, "{number}");
+        assert_eq!(rt; told.holder, row.holder, "{number}");
+        assert_eq!(rt; told.ready.as_slice(), row.ready, "{number}");
+        assert_eq!(rt; told.waiting.as_slice(), row.waiting, "{number}");
+        assert_eq!(rt; told.waits, row.waits, "{number}");
+    }
+    Ok(())
+}

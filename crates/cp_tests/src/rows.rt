@@ -1,0 +1,212 @@
+//! The worked rows.
+use crate::fakes::Refusal;
+use crate::streams::{NEVER, Refusals, answer_to};
+use std::test::Fail;
+
+/// A source, the words of the call, and what is written, with which status.
+pub struct Row {
+    pub name: &'static str,
+    pub words: &'static [&'static str],
+    pub source: &'static str,
+    pub code: u8,
+    pub text: &'static str,
+}
+
+static ROWS: [Row; 16] = [
+    Row {
+        name: "two-displays",
+        words: &["cpx", "--choices", "5"],
+        source: "type p = process(n: integer); begin display(n) end; var a, b: p; begin init a(1), b(2) end.",
+        code: 0,
+        text: "schedules 45\noutcomes 2\n30 first 0.0.1.1 finished output 1 2\n15 first 0.0.2.1.1 finished output 2 1\n",
+    },
+    Row {
+        name: "two-displays-default",
+        words: &["cpx"],
+        source: "type p = process(n: integer); begin display(n) end; var a, b: p; begin init a(1), b(2) end.",
+        code: 0,
+        text: "schedules 45\noutcomes 2\n30 first 0.0.1.1 finished output 1 2\n15 first 0.0.2.1.1 finished output 2 1\n",
+    },
+    Row {
+        name: "two-displays-no-choice",
+        words: &["cpx", "--choices", "0"],
+        source: "type p = process(n: integer); begin display(n) end; var a, b: p; begin init a(1), b(2) end.",
+        code: 0,
+        text: "schedules 1\noutcomes 1\n1 first - choice-limit output -\n",
+    },
+    Row {
+        name: "two-displays-rows",
+        words: &["cpx", "--choices", "1", "--rows"],
+        source: "type p = process(n: integer); begin display(n) end; var a, b: p; begin init a(1), b(2) end.",
+        code: 0,
+        text: "row 0 choice-limit output -\nrow 1 choice-limit output 1\nschedules 2\noutcomes 2\n1 first 0 choice-limit output -\n1 first 1 choice-limit output 1\n",
+    },
+    Row {
+        name: "two-process-types",
+        words: &["cpx", "--choices", "5"],
+        source: "type p = process; begin display(1) end; q = process; begin display(2) end; var a: p; b: q; begin init a, b end.",
+        code: 0,
+        text: "schedules 45\noutcomes 2\n30 first 0.0.1.1 finished output 1 2\n15 first 0.0.2.1.1 finished output 2 1\n",
+    },
+    Row {
+        name: "two-process-types-default",
+        words: &["cpx"],
+        source: "type p = process; begin display(1) end; q = process; begin display(2) end; var a: p; b: q; begin init a, b end.",
+        code: 0,
+        text: "schedules 45\noutcomes 2\n30 first 0.0.1.1 finished output 1 2\n15 first 0.0.2.1.1 finished output 2 1\n",
+    },
+    Row {
+        name: "two-process-types-one-choice",
+        words: &["cpx", "--choices", "1"],
+        source: "type p = process; begin display(1) end; q = process; begin display(2) end; var a: p; b: q; begin init a, b end.",
+        code: 0,
+        text: "schedules 2\noutcomes 2\n1 first 0 choice-limit output -\n1 first 1 choice-limit output 1\n",
+    },
+    Row {
+        name: "init-twice-process",
+        words: &["cpx", "--choices", "5"],
+        source: "type p = process; begin end; var a: p; begin init a, a end.",
+        code: 0,
+        text: "schedules 2\noutcomes 1\n2 first 0 run-error init-twice process 0 line 1 output -\n",
+    },
+    Row {
+        name: "two-cycles",
+        words: &["cpx", "--choices", "2"],
+        source: "type p = process; begin cycle display(1) end end; var a: p; begin init a; cycle display(2) end end.",
+        code: 0,
+        text: "schedules 4\noutcomes 4\n1 first 0.0 choice-limit output 2 2\n1 first 0.1 choice-limit output 2 1\n1 first 1.0 choice-limit output 1 2\n1 first 1.1 choice-limit output 1 1\n",
+    },
+    Row {
+        name: "two-cycles-too-many-rows",
+        words: &["cpx", "--choices", "16"],
+        source: "type p = process; begin cycle display(1) end end; var a: p; begin init a; cycle display(2) end end.",
+        code: 5,
+        text: "too many rows\n",
+    },
+    Row {
+        name: "empty-program",
+        words: &["cpx", "--steps", "2"],
+        source: "begin end.",
+        code: 0,
+        text: "schedules 1\noutcomes 1\n1 first - finished output -\n",
+    },
+    Row {
+        name: "empty-program-step-limit",
+        words: &["cpx", "--steps", "1"],
+        source: "begin end.",
+        code: 0,
+        text: "schedules 1\noutcomes 1\n1 first - step-limit output -\n",
+    },
+    Row {
+        name: "empty-source",
+        words: &["cpx"],
+        source: "",
+        code: 1,
+        text: "line 1 parse: unexpected\n",
+    },
+    Row {
+        name: "open-comment",
+        words: &["cpx"],
+        source: "begin \"abc",
+        code: 1,
+        text: "line 1 scan: open comment\n",
+    },
+    Row {
+        name: "with-left-out",
+        words: &["cpx"],
+        source: "begin with x do end.",
+        code: 1,
+        text: "line 1 parse: outside profile\n",
+    },
+    Row {
+        name: "gates-any-two-displays",
+        words: &["cpx", "--choices", "5", "--gates", "any"],
+        source: "type p = process(n: integer); begin display(n) end; var a, b: p; begin init a(1), b(2) end.",
+        code: 0,
+        text: "schedules 45\noutcomes 2\n30 first 0.0.1.1 finished output 1 2\n15 first 0.0.2.1.1 finished output 2 1\n",
+    },
+];
+
+#[test]
+fn worked_rows(rt: HostRuntime) -> Result<(), Fail> {
+    for row in &ROWS {
+        let told = answer_to(&rt, rt.alloc(), row.words, row.source.as_bytes(), NEVER)?;
+        let name = row.name;
+        assert_eq!(rt; told.status.code, row.code, "{name}");
+        assert_eq!(rt; told.text.as_slice(), row.text.as_bytes(), "{name}");
+    }
+    Ok(())
+}
+
+pub static TWO_DISPLAYS: &str =
+    "type p = process(n: integer); begin display(n) end; var a, b: p; begin init a(1), b(2) end.";
+
+/// Each read in turn fails, and after the last the answer is that of a good reader.
+#[test]
+fn failing_reader(rt: HostRuntime) -> Result<(), Fail> {
+    let good = answer_to(
+        &rt,
+        rt.alloc(),
+        &["cpx", "--choices", "5"],
+        TWO_DISPLAYS.as_bytes(),
+        NEVER,
+    )?;
+    for read in 1..200 {
+        let refusals = Refusals {
+            read,
+            write: 0,
+            refusal: Refusal::Fails,
+        };
+        let bad = answer_to(
+            &rt,
+            rt.alloc(),
+            &["cpx", "--choices", "5"],
+            TWO_DISPLAYS.as_bytes(),
+            refusals,
+        )?;
+        if read as usize <= TWO_DISPLAYS.len() + 1 {
+            assert_eq!(rt; bad.status.code, 4);
+            assert!(rt; bad.text.is_empty());
+        } else {
+            assert_eq!(rt; bad.status.code, 0);
+            assert_eq!(rt; bad.text.as_slice(), good.text.as_slice());
+        }
+    }
+    Ok(())
+}
+
+/// Each write in turn fails or takes nothing, and after the last the answer is that of a good writer.
+#[test]
+fn failing_writer(rt: HostRuntime) -> Result<(), Fail> {
+    let good = answer_to(
+        &rt,
+        rt.alloc(),
+        &["cpx", "--choices", "5"],
+        TWO_DISPLAYS.as_bytes(),
+        NEVER,
+    )?;
+    for refusal in [Refusal::Fails, Refusal::TakesNothing] {
+        for write in 1..200 {
+            let refusals = Refusals {
+                read: 0,
+                write,
+                refusal,
+            };
+            let bad = answer_to(
+                &rt,
+                rt.alloc(),
+                &["cpx", "--choices", "5"],
+                TWO_DISPLAYS.as_bytes(),
+                refusals,
+            )?;
+            let wanted = if write as usize <= good.text.len() {
+                4
+            } else {
+                0
+            };
+            assert_eq!(rt; bad.status.code, wanted);
+            assert!(rt; good.text.starts_with(&bad.text));
+        }
+    }
+    Ok(())
+}

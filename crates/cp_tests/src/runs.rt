@@ -1,0 +1,184 @@
+//! Runs that end by an error or a limit, and what they display before it.
+
+use crate::programs::{TWO_IN_A_QUEUE, end_of, program_of};
+use cp_machine::{ErrorName, Gates, Shown};
+use cp_run::{Limits, OutcomeKind, RunEnd};
+use std::test::Fail;
+
+/// A source, the steps of a stretch, a word that its run uses wholly, and how it ends, with this many times 1 displayed.
+struct Ending {
+    source: &'static str,
+    steps: u32,
+    word: &'static [u8],
+    kind: OutcomeKind,
+    ones: usize,
+}
+
+static ENDINGS: [Ending; 13] = [
+    Ending {
+        source: "begin end.",
+        steps: 2,
+        word: &[],
+        kind: OutcomeKind::Finished,
+        ones: 0,
+    },
+    Ending {
+        source: "begin end.",
+        steps: 1,
+        word: &[],
+        kind: OutcomeKind::StepLimit,
+        ones: 0,
+    },
+    Ending {
+        source: "begin cycle display(1) end end.",
+        steps: 100,
+        word: &[],
+        kind: OutcomeKind::StepLimit,
+        ones: 50,
+    },
+    Ending {
+        source: "begin cycle display(1) end end.",
+        steps: 2001,
+        word: &[],
+        kind: OutcomeKind::StepLimit,
+        ones: 1000,
+    },
+    Ending {
+        source: "begin cycle display(1) end end.",
+        steps: 2002,
+        word: &[],
+        kind: OutcomeKind::OutputLimit,
+        ones: 1000,
+    },
+    Ending {
+        source: "begin\ndisplay(1 div 0) end.",
+        steps: 1000,
+        word: &[],
+        kind: OutcomeKind::RunError {
+            name: ErrorName::ZeroDivisor,
+            process: 0,
+            line: 2,
+        },
+        ones: 0,
+    },
+    Ending {
+        source: "begin\n\ndisplay(32767 + 1) end.",
+        steps: 1000,
+        word: &[],
+        kind: OutcomeKind::RunError {
+            name: ErrorName::Overflow,
+            process: 0,
+            line: 3,
+        },
+        ones: 0,
+    },
+    Ending {
+        source: "var a: set of 0..9;\nbegin\ndisplay(1);\na := [10]\nend.",
+        steps: 1000,
+        word: &[],
+        kind: OutcomeKind::RunError {
+            name: ErrorName::Range,
+            process: 0,
+            line: 4,
+        },
+        ones: 1,
+    },
+    Ending {
+        source: "type p = process(n: integer); begin\ncase n of\n1: end end;\nvar a: p; begin init a(2) end.",
+        steps: 1000,
+        word: &[1],
+        kind: OutcomeKind::RunError {
+            name: ErrorName::NoCase,
+            process: 1,
+            line: 2,
+        },
+        ones: 0,
+    },
+    Ending {
+        source: TWO_IN_A_QUEUE,
+        steps: 1000,
+        word: &[0, 0, 1, 1],
+        kind: OutcomeKind::RunError {
+            name: ErrorName::QueueInUse,
+            process: 2,
+            line: 2,
+        },
+        ones: 0,
+    },
+    Ending {
+        source: "type m = monitor; procedure entry e; begin end; begin end; var x: m; begin x.e end.",
+        steps: 1000,
+        word: &[],
+        kind: OutcomeKind::RunError {
+            name: ErrorName::NotInit,
+            process: 0,
+            line: 1,
+        },
+        ones: 0,
+    },
+    Ending {
+        source: "type c = class; begin end; var k: c; begin init k, k end.",
+        steps: 1000,
+        word: &[],
+        kind: OutcomeKind::RunError {
+            name: ErrorName::InitTwice,
+            process: 0,
+            line: 1,
+        },
+        ones: 0,
+    },
+    Ending {
+        source: "type p = process; begin end; var a: p; begin init a,\na end.",
+        steps: 1000,
+        word: &[0],
+        kind: OutcomeKind::RunError {
+            name: ErrorName::InitTwice,
+            process: 0,
+            line: 2,
+        },
+        ones: 0,
+    },
+];
+
+fn are_ones(output: &[Shown], count: usize) -> bool {
+    output.len() == count && output.iter().all(|shown| *shown == Shown::Integer(1))
+}
+
+#[test]
+fn errors_and_limits(rt: HostRuntime) -> Result<(), Fail> {
+    for ending in &ENDINGS {
+        let program = program_of(rt.alloc(), ending.source)?;
+        let limits = Limits::new(8, ending.steps, Gates::First).ok_or("no such limits")?;
+        let end = end_of(rt.alloc(), &program, limits, ending.word)?;
+        let name = ending.source;
+        let RunEnd::Ended { outcome, used } = end else {
+            return Err(Fail::from("a run does not end"));
+        };
+        assert_eq!(rt; used, ending.word.len(), "{name}");
+        assert_eq!(rt; outcome.kind, ending.kind, "{name}");
+        assert!(rt; are_ones(outcome.output.as_slice(), ending.ones), "{name}");
+    }
+    Ok(())
+}
+
+/// Thirty procedures, each of which calls the one before twice.
+#[test]
+fn doubling_calls(rt: HostRuntime) -> Result<(), Fail> {
+    let mut source = format!(in rt.alloc(); "procedure f1; begin end; ")?;
+    for number in 2..31u32 {
+        let before = number - 1;
+        let text = format!(in rt.alloc(); "procedure f{number}; begin f{before}; f{before} end; ")?;
+        source.push_str(&text)?;
+    }
+    source.push_str("begin f30 end.")?;
+    let program = program_of(rt.alloc(), &source)?;
+    let limits = Limits::new(8, 100_000, Gates::First).ok_or("no such limits")?;
+    let end = end_of(rt.alloc(), &program, limits, &[])?;
+    let RunEnd::Ended { outcome, used } = end else {
+        return Err(Fail::from("the run does not end"));
+    };
+    assert_eq!(rt; used, 0);
+    assert_eq!(rt; outcome.kind, OutcomeKind::StepLimit);
+    assert!(rt; outcome.output.as_slice().is_empty());
+    Ok(())
+}

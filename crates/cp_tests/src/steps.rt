@@ -1,0 +1,243 @@
+//! Steps of process 0 alone: how many succeed, the last event, and what is displayed.
+
+ghost use Rattle.std.specs.Prelude.{◌≡◌};
+ghost use Rattle.cp_machine.specs.System.{IsStateOf};
+
+use crate::programs::{limits_of, program_of};
+use cp_machine::{ErrorName, Event, Gates, RunError, Shown, State, Ticks, step};
+use cp_run::{Limits, may};
+use cp_slots::Resolved;
+use std::alloc::Global;
+use std::marker::Brand;
+use std::sync::ledger::{Blank, Ledger};
+use std::test::Fail;
+
+/// What process 0 does alone: how many of its steps succeed, the last event, and where the state is then.
+#[derive(Drop)]
+struct Alone {
+    steps: u32,
+    last: Event,
+    state: State,
+}
+
+/// One step of process 0, where it is ready and nothing is pending.
+fn step_of_first<L: Ledger>(
+    program: &Resolved,
+    limits: Limits,
+    state: &mut State,
+    ticks: &mut Ticks<L>,
+) -> Option<Event>
+    requires { IsStateOf program.now state.old }
+    ensures { IsStateOf program.now state.new }
+{
+    if state.pending().is_some() {
+        return None;
+    }
+    if !may(program, limits, state, 0) {
+        return None;
+    }
+    Some(step(program, state, 0, ticks))
+}
+
+fn is_over(event: Event) -> bool {
+    matches!(event, Event::Ended | Event::Fault(_) | Event::OutputFull)
+}
+
+fn stepped<L: Ledger>(alloc: Global, program: &Resolved, blank: Blank) -> Result<Alone, Fail>
+    requires name { blank.name ≡ L.name }
+    requires parts { blank.parts ≡ L.parts }
+    requires one { L.parts ≡ 1 }
+{
+    let mut ticks: Ticks<L> = Ticks::new(blank);
+    let limits = limits_of(8, Gates::First)?;
+    let mut state = State::start(alloc, program, limits.gates)?;
+    let mut last = Event::Local;
+    let mut steps = 0;
+    for turn in 0..1000u32 {
+        let Some(event) = step_of_first(program, limits, &mut state, &mut ticks) else {
+            break;
+        };
+        last = event;
+        if !matches!(last, Event::Fault(_) | Event::OutputFull) {
+            steps = turn + 1;
+        }
+        if is_over(last) {
+            break;
+        }
+    }
+    Ok(Alone { steps, last, state })
+}
+
+fn stepped_alone(alloc: Global, source: &str) -> Result<Alone, Fail> {
+    let program = program_of(alloc, source)?;
+    stepped::<Brand>(alloc, &program, Blank::new(1))
+}
+
+/// A source, how many steps of process 0 succeed, its last event, and what is displayed.
+struct StepRow {
+    source: &'static str,
+    steps: u32,
+    last: Last,
+    output: &'static [Shown],
+}
+
+/// The last event of process 0: this one, or its run error on this line.
+enum Last {
+    Event(Event),
+    Error(ErrorName, u32),
+}
+
+impl Last {
+    fn event(&self) -> Event {
+        match self {
+            Last::Event(event) => *event,
+            Last::Error(name, line) => Event::Fault(RunError {
+                name: *name,
+                process: 0,
+                line: *line,
+            }),
+        }
+    }
+}
+
+static STEPS: [StepRow; 20] = [
+    StepRow {
+        source: "begin end.",
+        steps: 2,
+        last: Last::Event(Event::Ended),
+        output: &[],
+    },
+    StepRow {
+        source: "var x: integer; begin x := 1; display(x) end.",
+        steps: 3,
+        last: Last::Event(Event::Ended),
+        output: &[Shown::Integer(1)],
+    },
+    StepRow {
+        source: "var i, x: integer; begin for i := 1 to 2 do x := i end.",
+        steps: 6,
+        last: Last::Event(Event::Ended),
+        output: &[],
+    },
+    StepRow {
+        source: "procedure f; begin end; begin f end.",
+        steps: 4,
+        last: Last::Event(Event::Ended),
+        output: &[],
+    },
+    StepRow {
+        source: "var a, b: boolean; x: integer; begin a := true; if a then if b then x := 1 else x := 2; display(x) end.",
+        steps: 6,
+        last: Last::Event(Event::Ended),
+        output: &[Shown::Integer(2)],
+    },
+    StepRow {
+        source: "type t = (red, green); var e: t; begin e := succ(red); display(chr(65)); display(e); display(true); display(-7 div 2); display(-7 mod 2); display('(:10:)') end.",
+        steps: 8,
+        last: Last::Event(Event::Ended),
+        output: &[
+            Shown::Char(65),
+            Shown::Constant(1),
+            Shown::Truth(true),
+            Shown::Integer(-3),
+            Shown::Integer(-1),
+            Shown::Char(10),
+        ],
+    },
+    StepRow {
+        source: "var n: integer; function f: integer; begin n := n + 1; f := n end; begin display(n + f) end.",
+        steps: 6,
+        last: Last::Event(Event::Ended),
+        output: &[Shown::Integer(2)],
+    },
+    StepRow {
+        source: "var i: 1..3; begin for i := 1 to 3 do display(i) end.",
+        steps: 8,
+        last: Last::Event(Event::Ended),
+        output: &[Shown::Integer(1), Shown::Integer(2), Shown::Integer(3)],
+    },
+    StepRow {
+        source: "begin display(1 div 0) end.",
+        steps: 0,
+        last: Last::Error(ErrorName::ZeroDivisor, 1),
+        output: &[],
+    },
+    StepRow {
+        source: "begin display(32767 + 1) end.",
+        steps: 0,
+        last: Last::Error(ErrorName::Overflow, 1),
+        output: &[],
+    },
+    StepRow {
+        source: "var i: integer; a: array [1..2] of integer; begin a[i] := 1 div 0 end.",
+        steps: 0,
+        last: Last::Error(ErrorName::ZeroDivisor, 1),
+        output: &[],
+    },
+    StepRow {
+        source: "type c = class; begin end; var k: c; begin init k, k end.",
+        steps: 3,
+        last: Last::Error(ErrorName::InitTwice, 1),
+        output: &[],
+    },
+    StepRow {
+        source: "var a: set of 0..9;\nbegin\n;\na := [10]\nend.",
+        steps: 1,
+        last: Last::Error(ErrorName::Range, 4),
+        output: &[],
+    },
+    StepRow {
+        source: "var a: set of 0..9; begin a := [10, 1 div 0] end.",
+        steps: 0,
+        last: Last::Error(ErrorName::ZeroDivisor, 1),
+        output: &[],
+    },
+    StepRow {
+        source: "var x: integer;\nbegin x := 2;\ncase x of\n1: end end.",
+        steps: 1,
+        last: Last::Error(ErrorName::NoCase, 3),
+        output: &[],
+    },
+    StepRow {
+        source: "type m = monitor; procedure entry e; begin end; begin end;\nvar x: m;\nbegin x.e end.",
+        steps: 0,
+        last: Last::Error(ErrorName::NotInit, 3),
+        output: &[],
+    },
+    StepRow {
+        source: "var x: integer;\nbegin\nrepeat\nx := x + 1\nuntil\n1 div (x - 1) = 0 end.",
+        steps: 2,
+        last: Last::Error(ErrorName::ZeroDivisor, 6),
+        output: &[],
+    },
+    StepRow {
+        source: "var i: 1..3;\nbegin\nfor i := 2 to\n4 do\ndisplay(i) end.",
+        steps: 4,
+        last: Last::Error(ErrorName::Range, 3),
+        output: &[Shown::Integer(2), Shown::Integer(3)],
+    },
+    StepRow {
+        source: "begin cycle end end.",
+        steps: 1000,
+        last: Last::Event(Event::Local),
+        output: &[],
+    },
+    // Each item that a process meets without a monitor; its statements take 1, 1, 1, 1, 2, 2, 2, 3, 3, 5, 3, 3, 3 and 1 steps.
+    StepRow {
+        source: "type c = class; procedure entry e; begin end; begin end; var k: c; x, i: integer; a, b: array [1..2] of integer; s: set of 0..9; procedure f; begin end; begin ; x := 1; b := a; s := [1]; begin x := 2 end; if x = 2 then x := 3 else x := 4; case x of 3: x := 5; 4: end; while x > 4 do x := x - 1; repeat x := x + 1 until x = 5; for i := 1 to 2 do x := i; f; init k; k.e; display(x) end.",
+        steps: 32,
+        last: Last::Event(Event::Ended),
+        output: &[Shown::Integer(2)],
+    },
+];
+
+#[test]
+fn steps_of_one_process(rt: HostRuntime) -> Result<(), Fail> {
+    for row in &STEPS {
+        let alone = stepped_alone(rt.alloc(), row.source)?;
+        assert_eq!(rt; alone.steps, row.steps, "{}", row.source);
+        assert_eq!(rt; alone.last, row.last.event(), "{}", row.source);
+        assert_eq!(rt; alone.state.output(), row.output, "{}", row.source);
+    }
+    Ok(())
+}

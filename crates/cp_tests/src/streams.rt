@@ -1,0 +1,83 @@
+//! The program over memory: what it answers to words and a source.
+ghost use Rattle.std.specs.Prelude.{◌≡◌};
+
+use crate::fakes::{OneByteReader, OneByteWriter, Refusal};
+use cp_tool::{Options, Status, Wrapped, explore_stream, read_options};
+use std::alloc::Global;
+use std::marker::Brand;
+use std::sync::ledger::{Blank, Ledger};
+use std::test::Fail;
+use std::thread::Threads;
+
+/// At which call a reader and a writer of one byte at a time refuse, counted from 1; 0 for never.
+#[derive(Clone, Copy)]
+pub struct Refusals {
+    pub read: u32,
+    pub write: u32,
+    pub refusal: Refusal,
+}
+
+/// No call is refused.
+pub const NEVER: Refusals = Refusals {
+    read: 0,
+    write: 0,
+    refusal: Refusal::Fails,
+};
+
+/// What was written, and with which status.
+#[derive(Drop)]
+pub struct Told {
+    pub status: Status,
+    pub text: Vec<u8>,
+}
+
+/// What the program answers to a source.
+pub fn answer_to<'a, X: Threads + Sync>(
+    rt: &X,
+    alloc: Global,
+    words: &'a [&'a str],
+    source: &[u8],
+    refusals: Refusals,
+) -> Result<Told, Fail> {
+    let Ok(options) = read_options(alloc, words) else {
+        return Err(Fail::from("refused words"));
+    };
+    Ok(answer_by(rt, alloc, &options, source, refusals))
+}
+
+/// What the program answers to a source with these options.
+pub fn answer_by<X: Threads + Sync>(
+    rt: &X,
+    alloc: Global,
+    options: &Options,
+    source: &[u8],
+    refusals: Refusals,
+) -> Told {
+    let (reads, writes) = (Blank::new(3), Blank::new(3));
+    told_by::<X, Brand, Brand>(rt, alloc, options, source, refusals, reads, writes)
+}
+
+fn told_by<X: Threads + Sync, A: Ledger, B: Ledger>(
+    rt: &X,
+    alloc: Global,
+    options: &Options,
+    bytes: &[u8],
+    refusals: Refusals,
+    reads: Blank,
+    writes: Blank,
+) -> Told
+    requires read_name { reads.name ≡ A.name }
+    requires read_parts { (reads.parts ≡ A.parts) × (A.parts ≡ 3) }
+    requires write_name { writes.name ≡ B.name }
+    requires write_parts { (writes.parts ≡ B.parts) × (B.parts ≡ 3) }
+{
+    let reader = OneByteReader::new(bytes, refusals.read);
+    let writer = OneByteWriter::new(alloc, refusals.write, refusals.refusal);
+    let mut source: Wrapped<OneByteReader<'_>, A> = Wrapped::new(reader, reads);
+    let mut sink: Wrapped<OneByteWriter, B> = Wrapped::new(writer, writes);
+    let status = explore_stream(rt, alloc, options, &mut source, &mut sink);
+    Told {
+        status,
+        text: sink.into_inner().taken,
+    }
+}

@@ -1,0 +1,221 @@
+//! Traces: their lines, with the holder of each monitor, and how they end.
+
+ghost use Rattle.std.specs.Prelude.{◌≡◌};
+
+use crate::programs::{
+    BUFFER, CONTINUED, INNER_DELAY, THREE_CALLERS, TWO_DISPLAYS, limits_of, numbers_of, program_of,
+};
+use cp_machine::{Gates, Kernel, Shown, Ticks};
+use cp_run::{Limits, OutcomeKind, RunEnd, TraceEvent, TraceLine, trace};
+use cp_slots::Resolved;
+use std::alloc::Global;
+use std::marker::Brand;
+use std::sync::ledger::{Blank, Ledger};
+use std::test::Fail;
+
+/// The trace of a word.
+fn trace_of(
+    alloc: Global,
+    program: &Resolved,
+    limits: Limits,
+    word: &[u8],
+) -> Result<(Vec<TraceLine>, RunEnd), Fail> {
+    trace_counted::<Brand>(alloc, program, limits, word, Blank::new(1))
+}
+
+fn trace_counted<L: Ledger>(
+    alloc: Global,
+    program: &Resolved,
+    limits: Limits,
+    word: &[u8],
+    blank: Blank,
+) -> Result<(Vec<TraceLine>, RunEnd), Fail>
+    requires name { blank.name ≡ L.name }
+    requires parts { blank.parts ≡ L.parts }
+    requires one { L.parts ≡ 1 }
+{
+    let mut ticks: Ticks<L> = Ticks::new(blank);
+    if word.len() > 20 {
+        return Err(Fail::from("the word is too long"));
+    }
+    Ok(
+        trace(alloc, program, limits, word, &mut ticks)
+            .ok()
+            .ok_or("memory was refused")?,
+    )
+}
+
+/// A process, what it did, and who is inside each monitor then.
+type Told = (u8, TraceEvent, &'static [Option<u8>]);
+
+const START: TraceEvent = TraceEvent::Kernel(Kernel::StartProcess);
+
+const ENTER: TraceEvent = TraceEvent::Kernel(Kernel::Enter);
+
+const LEAVE: TraceEvent = TraceEvent::Kernel(Kernel::Leave);
+
+const DELAY: TraceEvent = TraceEvent::Kernel(Kernel::Delay);
+
+const CONTINUE: TraceEvent = TraceEvent::Kernel(Kernel::Continue);
+
+const DISPLAY: TraceEvent = TraceEvent::Kernel(Kernel::Display);
+
+const END: TraceEvent = TraceEvent::End;
+
+/// A program with a word that its run uses wholly, the lines of its trace, and how it ends.
+struct Traced {
+    source: &'static str,
+    choices: u8,
+    word: &'static str,
+    lines: &'static [Told],
+    kind: OutcomeKind,
+    output: &'static [Shown],
+}
+
+static TRACES: [Traced; 3] = [
+    Traced {
+        source: BUFFER,
+        choices: 8,
+        word: "0.0.2.2.1",
+        lines: &[
+            (0, START, &[None]),
+            (0, START, &[None]),
+            (0, END, &[None]),
+            (2, ENTER, &[Some(2)]),
+            (2, DELAY, &[None]),
+            (1, ENTER, &[Some(1)]),
+            (1, CONTINUE, &[Some(2)]),
+            (1, END, &[Some(2)]),
+            (2, CONTINUE, &[None]),
+            (2, DISPLAY, &[None]),
+            (2, END, &[None]),
+        ],
+        kind: OutcomeKind::Finished,
+        output: &[Shown::Integer(7)],
+    },
+    Traced {
+        source: CONTINUED,
+        choices: 8,
+        word: "0.0.1.2.2.1",
+        lines: &[
+            (0, START, &[None]),
+            (0, START, &[None]),
+            (0, END, &[None]),
+            (1, ENTER, &[Some(1)]),
+            (2, ENTER, &[Some(1)]),
+            (1, DISPLAY, &[Some(1)]),
+            (1, CONTINUE, &[Some(2)]),
+            (2, DISPLAY, &[Some(2)]),
+            (1, END, &[Some(2)]),
+            (2, CONTINUE, &[None]),
+            (2, END, &[None]),
+        ],
+        kind: OutcomeKind::Finished,
+        output: &[Shown::Integer(1), Shown::Integer(2)],
+    },
+    // The first holder is that of the inner monitor.
+    Traced {
+        source: INNER_DELAY,
+        choices: 11,
+        word: "0.0.0.1.1.1.2.1.1.3.1",
+        lines: &[
+            (0, START, &[None, None]),
+            (0, START, &[None, None]),
+            (0, START, &[None, None]),
+            (0, END, &[None, None]),
+            (1, ENTER, &[None, Some(1)]),
+            (1, ENTER, &[Some(1), Some(1)]),
+            (1, DELAY, &[None, Some(1)]),
+            (2, ENTER, &[None, Some(1)]),
+            (3, ENTER, &[Some(3), Some(1)]),
+            (3, CONTINUE, &[Some(1), Some(1)]),
+            (1, LEAVE, &[None, Some(1)]),
+            (1, LEAVE, &[None, Some(2)]),
+            (3, END, &[None, Some(2)]),
+            (1, END, &[None, Some(2)]),
+            (2, ENTER, &[Some(2), Some(2)]),
+            (2, DELAY, &[None, Some(2)]),
+        ],
+        kind: OutcomeKind::AllWaiting,
+        output: &[],
+    },
+];
+
+fn is_told(line: &TraceLine, told: &Told) -> bool {
+    line.process == told.0 && line.event == told.1 && line.holders.as_slice() == told.2
+}
+
+fn are_told(lines: &[TraceLine], told: &[Told]) -> bool {
+    lines.len() == told.len()
+        && lines
+            .iter()
+            .zip(told.iter())
+            .all(|(line, told)| is_told(line, told))
+}
+
+#[test]
+fn worked_traces(rt: HostRuntime) -> Result<(), Fail> {
+    for traced in &TRACES {
+        let program = program_of(rt.alloc(), traced.source)?;
+        let limits = limits_of(traced.choices, Gates::First)?;
+        let word = numbers_of(traced.word);
+        let (lines, end) = trace_of(rt.alloc(), &program, limits, word.as_slice())?;
+        let name = traced.word;
+        assert!(rt; are_told(&lines, traced.lines), "{name}");
+        let RunEnd::Ended { outcome, used } = end else {
+            return Err(Fail::from("a run does not end"));
+        };
+        assert_eq!(rt; used, word.len(), "{name}");
+        assert_eq!(rt; outcome.kind, traced.kind, "{name}");
+        assert_eq!(rt; outcome.output.as_slice(), traced.output, "{name}");
+    }
+    Ok(())
+}
+
+/// Where the gate wants a choice, one line tells of it.
+#[test]
+fn one_line_of_an_admission(rt: HostRuntime) -> Result<(), Fail> {
+    let program = program_of(rt.alloc(), THREE_CALLERS)?;
+    for (text, process) in [
+        ("0.0.0.1.2.3.2.2.2.3.3.1.2", 2u8),
+        ("0.0.0.1.2.3.3.3.3.2.2.1.2", 3),
+    ] {
+        let word = numbers_of(text);
+        let (lines, _end) = trace_of(
+            rt.alloc(),
+            &program,
+            limits_of(13, Gates::Any)?,
+            word.as_slice(),
+        )?;
+        let holders = [Some(process)];
+        for line in &lines {
+            if line.event == TraceEvent::Admit {
+                assert_eq!(rt; line.process, process);
+                assert_eq!(rt; line.holders.as_slice(), holders.as_slice());
+            }
+        }
+        let admissions = lines
+            .iter()
+            .filter(|line| line.event == TraceEvent::Admit)
+            .count();
+        assert_eq!(rt; admissions, 1);
+    }
+    Ok(())
+}
+
+/// A trace stops where its word is used up, and where a number may not be chosen.
+#[test]
+fn wants_and_not_ready(rt: HostRuntime) -> Result<(), Fail> {
+    let program = program_of(rt.alloc(), TWO_DISPLAYS)?;
+    let limits = limits_of(8, Gates::First)?;
+    let (lines, end) = trace_of(rt.alloc(), &program, limits, &[])?;
+    assert!(rt; are_told(&lines, &[(0, START, &[])]));
+    let RunEnd::Wants { ready } = end else {
+        return Err(Fail::from("the run does not want"));
+    };
+    assert_eq!(rt; ready.as_slice(), [0, 1].as_slice());
+    let (lines, end) = trace_of(rt.alloc(), &program, limits, &[2])?;
+    assert!(rt; are_told(&lines, &[(0, START, &[])]));
+    assert!(rt; matches!(end, RunEnd::NotReady { place: 0 }));
+    Ok(())
+}

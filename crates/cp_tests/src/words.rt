@@ -1,0 +1,297 @@
+use cp_machine::Gates;
+use cp_tool::{OptionFault, Options, read_options};
+use std::alloc::Global;
+use std::test::Fail;
+
+static ALL: [&str; 13] = [
+    "cpx",
+    "--choices",
+    "5",
+    "--steps=100000",
+    "--workers",
+    "16",
+    "--cut=0",
+    "--rows",
+    "--schedule",
+    "0.0.2.15",
+    "--gates",
+    "any",
+    "--",
+];
+
+/// Words that spell the numbers 5, 20, 1 and 0, and the empty schedule word.
+static SPELLINGS: [&str; 10] = [
+    "cpx",
+    "--choices=+5",
+    "--steps",
+    "020",
+    "--workers=+01",
+    "--cut=00",
+    "--schedule",
+    "none",
+    "--gates",
+    "first",
+];
+
+/// Words that ask for merging, with numbers that only then are in their ranges.
+static MERGED: [&str; 8] = [
+    "cpx",
+    "--merge",
+    "--states",
+    "10000000",
+    "--choices=100",
+    "--schedule",
+    "0.0.0.0.0.0.0.0.0.0.0.0.0.0.0.0.0.0.0.0.15",
+    "--workers=1",
+];
+
+static LONGEST: [&str; 3] = [
+    "cpx",
+    "--schedule",
+    "15.0.1.2.3.4.5.6.7.8.9.10.11.12.13.14.15.0.1.2",
+];
+
+/// Words that are refused.
+static REFUSED: [&[&str]; 42] = [
+    &["cpx", "--choices", "21"],
+    &["cpx", "--steps", "0"],
+    &["cpx", "--steps", "100001"],
+    &["cpx", "--workers", "0"],
+    &["cpx", "--workers", "17"],
+    &["cpx", "--cut", "21"],
+    &["cpx", "--choices", "4294967301"],
+    &["cpx", "--choices", "five"],
+    &["cpx", "--choices", ""],
+    &["cpx", "--choices"],
+    &["cpx", "--schedule", "00"],
+    &["cpx", "--schedule", "0..1"],
+    &["cpx", "--schedule", "16"],
+    &[
+        "cpx",
+        "--schedule",
+        "0.0.0.0.0.0.0.0.0.0.0.0.0.0.0.0.0.0.0.0.0",
+    ],
+    &["cpx", "--schedule", "+1"],
+    &["cpx", "--schedule", "1.02"],
+    &["cpx", "--schedule", "1."],
+    &["cpx", "--schedule", ""],
+    &["cpx", "--schedule", "None"],
+    &["cpx", "--gates", "last"],
+    &["cpx", "--gates", "First"],
+    &["cpx", "--cut", "1", "--cut", "1"],
+    &["cpx", "--rows", "--rows"],
+    &["cpx", "--rows=true"],
+    &["cpx", "--cut", "-1"],
+    &["cpx", "--choi", "5"],
+    &["cpx", "program.cp"],
+    &["cpx", "--", "program.cp"],
+    &["cpx", "--nothing"],
+    &["cpx", "--nothing", "--help"],
+    &["cpx", "--choices", "99", "--help"],
+    &["cpx", "--rows", "--schedule=00", "-h"],
+    &["cpx", "--gates", "last", "--cut", "2", "--help"],
+    &["cpx", "--merge", "--choices", "101"],
+    &["cpx", "--choices", "21", "--states", "5"],
+    &["cpx", "--merge", "--cut", "21"],
+    &["cpx", "--merge", "--states", "0"],
+    &["cpx", "--states", "10000001"],
+    &["cpx", "--merge", "--rows", "--schedule", "none"],
+    &["cpx", "--rows", "--merge", "--help"],
+    &["cpx", "--merge", "--merge"],
+    &[
+        "cpx",
+        "--merge",
+        "--schedule",
+        "0.0.0.0.0.0.0.0.0.0.0.0.0.0.0.0.0.0.0.0.0.0.0.0.0.0.0.0.0.0.0.0.0.0.0.0.0.0.0.0.0.0.0.0.0.0.0.0.0.0.0.0.0.0.0.0.0.0.0.0.0.0.0.0.0.0.0.0.0.0.0.0.0.0.0.0.0.0.0.0.0.0.0.0.0.0.0.0.0.0.0.0.0.0.0.0.0.0.0.0.0",
+    ],
+];
+
+/// Words that ask for help.
+static HELP: [&[&str]; 8] = [
+    &["cpx", "--help"],
+    &["cpx", "-h"],
+    &["cpx", "--rows", "--help"],
+    &["cpx", "--help", "--nothing"],
+    &["cpx", "--choices", "20", "--help"],
+    &["cpx", "-h", "--choices", "99"],
+    &["cpx", "--merge", "--choices", "99", "--help"],
+    &["cpx", "--merge", "--help", "--rows"],
+];
+
+#[test]
+fn without_words_each_option_has_its_default(rt: HostRuntime) -> Result<(), Fail> {
+    let Ok(options) = read_options(rt.alloc(), ["cpx"].as_slice()) else {
+        panic!(rt; "refused")
+    };
+    assert!(rt; options.choices == 8 && options.steps == 1_000 && options.workers == 2);
+    assert!(rt; options.cut == 2 && !options.rows && options.schedule.is_none());
+    assert!(rt; options.gates == Gates::First && !options.merge && options.states == 200_000);
+    Ok(())
+}
+
+#[test]
+fn merging_has_wider_ranges(rt: HostRuntime) -> Result<(), Fail> {
+    let Ok(options) = read_options(rt.alloc(), MERGED.as_slice()) else {
+        panic!(rt; "refused")
+    };
+    assert!(rt; options.merge && options.states == 10_000_000 && options.choices == 100);
+    let Some(word) = &options.schedule else {
+        panic!(rt; "no schedule")
+    };
+    assert!(rt; word.len() == 21 && word.last() == Some(&15));
+    Ok(())
+}
+
+#[test]
+fn each_option_has_the_value_of_its_words(rt: HostRuntime) -> Result<(), Fail> {
+    let Ok(options) = read_options(rt.alloc(), ALL.as_slice()) else {
+        panic!(rt; "refused")
+    };
+    assert!(rt; has_values_of_all(&options));
+    Ok(())
+}
+
+fn has_values_of_all(options: &Options) -> bool {
+    let is_word = match &options.schedule {
+        Some(word) => word.as_slice() == [0, 0, 2, 15].as_slice(),
+        None => false,
+    };
+    let has_numbers = options.choices == 5
+        && options.steps == 100_000
+        && options.workers == 16
+        && options.cut == 0;
+    has_numbers && options.rows && options.gates == Gates::Any && is_word
+}
+
+/// At most one growth of a run is refused, as by `rt try --test --fail-alloc N`: then one answer is
+/// Memory, and each other one is that of ample memory.
+#[test]
+fn a_refused_growth_gives_memory_and_nothing_else(rt: HostRuntime) -> Result<(), Fail> {
+    let answers = [
+        all_or_memory(rt.alloc()),
+        refusal_or_memory(rt.alloc()),
+        help_or_memory(rt.alloc()),
+        all_or_memory(rt.alloc()),
+        refusal_or_memory(rt.alloc()),
+        help_or_memory(rt.alloc()),
+    ];
+    let mut is_refused = false;
+    for answer in &answers {
+        match *answer {
+            Answer::Ample => {}
+            Answer::Memory => {
+                assert!(rt; !is_refused);
+                is_refused = true;
+            }
+            Answer::Other => panic!(rt; "another answer"),
+        }
+    }
+    Ok(())
+}
+
+/// How an answer compares with that of ample memory.
+#[derive(Clone, Copy)]
+enum Answer {
+    Ample,
+    Memory,
+    Other,
+}
+
+fn all_or_memory(alloc: Global) -> Answer {
+    let options = match read_options(alloc, ALL.as_slice()) {
+        Ok(options) => options,
+        Err(OptionFault::Memory) => return Answer::Memory,
+        Err(_fault) => return Answer::Other,
+    };
+    if has_values_of_all(&options) {
+        Answer::Ample
+    } else {
+        Answer::Other
+    }
+}
+
+fn refusal_or_memory(alloc: Global) -> Answer {
+    match read_options(alloc, ["cpx", "--schedule", "0.1.02"].as_slice()) {
+        Err(OptionFault::Refused) => Answer::Ample,
+        Err(OptionFault::Memory) => Answer::Memory,
+        _ => Answer::Other,
+    }
+}
+
+fn help_or_memory(alloc: Global) -> Answer {
+    match read_options(alloc, ["cpx", "--help"].as_slice()) {
+        Err(OptionFault::Help(text)) if text.as_str().contains("5 too many rows") => Answer::Ample,
+        Err(OptionFault::Memory) => Answer::Memory,
+        _ => Answer::Other,
+    }
+}
+
+#[test]
+fn numbers_may_have_a_plus_and_leading_zeros(rt: HostRuntime) -> Result<(), Fail> {
+    let Ok(options) = read_options(rt.alloc(), SPELLINGS.as_slice()) else {
+        panic!(rt; "refused")
+    };
+    assert!(rt; options.choices == 5 && options.steps == 20 && options.workers == 1);
+    assert!(rt; options.cut == 0 && options.gates == Gates::First);
+    let is_empty = match &options.schedule {
+        Some(word) => word.is_empty(),
+        None => false,
+    };
+    assert!(rt; is_empty);
+    Ok(())
+}
+
+#[test]
+fn a_schedule_may_have_twenty_numbers(rt: HostRuntime) -> Result<(), Fail> {
+    let Ok(options) = read_options(rt.alloc(), LONGEST.as_slice()) else {
+        panic!(rt; "refused")
+    };
+    let count = match &options.schedule {
+        Some(word) => word.len(),
+        None => 0,
+    };
+    assert_eq!(rt; count, 20);
+    Ok(())
+}
+
+#[test]
+fn other_words_are_refused(rt: HostRuntime) -> Result<(), Fail> {
+    for words in &REFUSED {
+        let is_refused = matches!(read_options(rt.alloc(), words), Err(OptionFault::Refused));
+        let last = words.last().copied().unwrap_or("");
+        assert!(rt; is_refused, "at {last}");
+    }
+    Ok(())
+}
+
+#[test]
+fn help_names_each_option_and_shows_a_call(rt: HostRuntime) -> Result<(), Fail> {
+    for words in &HELP {
+        let Err(OptionFault::Help(text)) = read_options(rt.alloc(), words) else {
+            panic!(rt; "no help")
+        };
+        for part in [
+            "Usage: cpx [OPTIONS] < PROGRAM",
+            "--choices <K>",
+            "0 to 20, with --merge to 100 [default: 8]",
+            "--steps <L>",
+            "1 to 100000 [default: 1000]",
+            "--workers <N>",
+            "1 to 16 [default: 2]",
+            "--cut <D>",
+            "0 to 20 [default: 2]",
+            "--rows",
+            "--merge",
+            "Count schedules that come to one state together, without rows",
+            "--states <N>",
+            "States that a layer may have with --merge, 1 to 10000000",
+            "--schedule <WORD>",
+            "--gates <WHO>",
+            "[default: first]",
+            "cpx --choices 5 < program.cp",
+        ] {
+            assert!(rt; text.as_str().contains(part), "no {part}");
+        }
+    }
+    Ok(())
+}

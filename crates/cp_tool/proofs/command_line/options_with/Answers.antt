@@ -1,0 +1,75 @@
+use Rattle.std.proofs.Common.{◌≡◌, ◌∙◌, ℕ, Bool, true, false, Option, None, sym, ap, subst, codes}
+use Rattle.std.specs.Prelude.{◌&&◌, option_map}
+use Rattle.arrayvec.specs.ArrayVec.{ArrayVec}
+use Rattle.clap.specs.Words.{Text, first_of, found_of, rows_of}
+use Rattle.clap.proofs.WalkLemmas.{first_value-rows}
+use Rattle.cp_tool.specs.Finds.{Finds}
+use Rattle.cp_tool.specs.Numbers.{IsChosen}
+use Rattle.cp_tool.specs.Options.{HasOptions, IsGated, IsScheduled, is_asked}
+use Rattle.cp_tool.specs.Words.{most_choices}
+use Rattle.cp_tool.specs.declared.options.Options.{Options}
+use Rattle.cp_tool.proofs.command_line.options_with.Goals as goal
+
+finds_none : (P : Options → Type 0) (r : Option Options) → r ≡ None → ((o : Options) → P o → ⊥) → Finds P r
+finds_none P r none h = subst (Finds P) (sym none) h
+
+both_asked : (merge rows : Bool) → merge ≡ true → rows ≡ true → (merge && rows) ≡ false → ⊥
+both_asked true true m r unlike = let bad : true ≡ false = unlike in absurd (cc)
+both_asked true false m r unlike = let bad : false ≡ true = r in absurd (cc)
+both_asked false rows m r unlike = let bad : false ≡ true = m in absurd (cc)
+
+pub returns-then-rows : goal.returns-then-rows
+returns-then-rows c o has =
+    let f = found_of c.args.matches.now in
+    let merge = has.merge ∙ sym c.requires.merge ∙ c.if-merge.true in
+    let rows = has.rows_asked ∙ sym (ap is_asked (c.get_str.ensures ∙ first_value-rows f (codes "rows"))) ∙ sym c.is_asked-rows.ensures ∙ c.if-rows.true in
+    both_asked o.merge o.rows merge rows o.rows_or_merge
+
+pub returns-in_err-chosen : goal.returns-in_err-chosen
+returns-in_err-chosen c = finds_none (HasOptions (rows_of (found_of c.args.matches.now))) c.from_residual.result c.from_residual.ensures (λ o has.
+    let text = c.get_str-2.ensures ∙ first_value-rows (found_of c.args.matches.now) (codes "choices") in
+    let most : c.from-most.result ≡ most_choices o.merge = c.from-most.ensures ∙ c.most_choices.ensures ∙ ap most_choices (c.requires.merge ∙ sym has.merge) in
+    c.in_err-chosen.ensures o.choices (subst (λ (n : ℕ). IsChosen 8 0 n (option_map (λ s. s.now) c.get_str-2.result) o.choices) (sym most) (subst (λ (t : Option Text). IsChosen 8 0 (most_choices o.merge) t o.choices) (sym text) has.choices)))
+
+pub returns-in_err-chosen-2 : goal.returns-in_err-chosen-2
+returns-in_err-chosen-2 c = finds_none (HasOptions (rows_of (found_of c.args.matches.now))) c.from_residual-in_err-chosen-2.result c.from_residual-in_err-chosen-2.ensures (λ o has.
+    let text = c.get_str-3.ensures ∙ first_value-rows (found_of c.args.matches.now) (codes "steps") in
+    c.in_err-chosen-2.ensures o.steps (subst (λ (t : Option Text). IsChosen 1000 1 100000 t o.steps) (sym text) has.steps))
+
+pub returns-in_err-chosen-3 : goal.returns-in_err-chosen-3
+returns-in_err-chosen-3 c = finds_none (HasOptions (rows_of (found_of c.args.matches.now))) c.from_residual-in_err-chosen-3.result c.from_residual-in_err-chosen-3.ensures (λ o has.
+    let text = c.get_str-4.ensures ∙ first_value-rows (found_of c.args.matches.now) (codes "workers") in
+    c.in_err-chosen-3.ensures o.workers (subst (λ (t : Option Text). IsChosen 2 1 16 t o.workers) (sym text) has.workers))
+
+pub returns-in_err-chosen-4 : goal.returns-in_err-chosen-4
+returns-in_err-chosen-4 c = finds_none (HasOptions (rows_of (found_of c.args.matches.now))) c.from_residual-in_err-chosen-4.result c.from_residual-in_err-chosen-4.ensures (λ o has.
+    let text = c.get_str-5.ensures ∙ first_value-rows (found_of c.args.matches.now) (codes "cut") in
+    c.in_err-chosen-4.ensures o.cut (subst (λ (t : Option Text). IsChosen 2 0 20 t o.cut) (sym text) has.cut))
+
+pub returns-in_err-chosen-5 : goal.returns-in_err-chosen-5
+returns-in_err-chosen-5 c = finds_none (HasOptions (rows_of (found_of c.args.matches.now))) c.from_residual-in_err-chosen-5.result c.from_residual-in_err-chosen-5.ensures (λ o has.
+    let text = c.get_str-6.ensures ∙ first_value-rows (found_of c.args.matches.now) (codes "states") in
+    c.in_err-chosen-5.ensures o.states (subst (λ (t : Option Text). IsChosen 200000 1 10000000 t o.states) (sym text) has.states))
+
+pub returns-in_err-gates_of : goal.returns-in_err-gates_of
+returns-in_err-gates_of c = finds_none (HasOptions (rows_of (found_of c.args.matches.now))) c.from_residual-in_err-gates_of.result c.from_residual-in_err-gates_of.ensures (λ o has.
+    let text = c.get_str-7.ensures ∙ first_value-rows (found_of c.args.matches.now) (codes "gates") in
+    c.in_err-gates_of.ensures o.gates (subst (λ (t : Option Text). IsGated t o.gates) (sym text) has.gates))
+
+pub returns : goal.returns
+returns c =
+    let f = found_of c.args.matches.now in
+    let at = λ (id : Text). first_value-rows f id in
+    let most : c.from-most.result ≡ most_choices c.args.merge = c.from-most.ensures ∙ c.most_choices.ensures in
+    let choices = subst (λ (t : Option Text). IsChosen 8 0 c.from-most.result t c.in_ok-chosen.field-0) (c.get_str-2.ensures ∙ at (codes "choices")) c.in_ok-chosen.ensures in
+    record {
+      merge = c.requires.merge;
+      choices = subst (λ (n : ℕ). IsChosen 8 0 n (first_of (codes "choices") (rows_of f)) c.in_ok-chosen.field-0) most choices;
+      steps = subst (λ (t : Option Text). IsChosen 1000 1 100000 t c.in_ok-chosen-2.field-0) (c.get_str-3.ensures ∙ at (codes "steps")) c.in_ok-chosen-2.ensures;
+      workers = subst (λ (t : Option Text). IsChosen 2 1 16 t c.in_ok-chosen-3.field-0) (c.get_str-4.ensures ∙ at (codes "workers")) c.in_ok-chosen-3.ensures;
+      cut = subst (λ (t : Option Text). IsChosen 2 0 20 t c.in_ok-chosen-4.field-0) (c.get_str-5.ensures ∙ at (codes "cut")) c.in_ok-chosen-4.ensures;
+      rows_asked = c.is_asked-rows.ensures ∙ ap is_asked (c.get_str.ensures ∙ at (codes "rows"));
+      states = subst (λ (t : Option Text). IsChosen 200000 1 10000000 t c.in_ok-chosen-5.field-0) (c.get_str-6.ensures ∙ at (codes "states")) c.in_ok-chosen-5.ensures;
+      schedule = subst (λ (r : Option (Option (ArrayVec ℕ))). Finds (IsScheduled (most_choices c.args.merge) (first_of (codes "schedule") (rows_of f))) r) c.in_ok-schedule.was c.requires.schedule;
+      gates = subst (λ (t : Option Text). IsGated t c.in_ok-gates_of.field-0) (c.get_str-7.ensures ∙ at (codes "gates")) c.in_ok-gates_of.ensures;
+    }

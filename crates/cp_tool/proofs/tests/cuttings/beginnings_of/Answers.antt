@@ -1,4 +1,0 @@
-use Rattle.cp_tool.proofs.tests.cuttings.beginnings_of.Goals as goal
-
-pub beginnings-requires-clause-rows : goal.beginnings-requires-clause-rows
-beginnings-requires-clause-rows c = (c.args.program.now, c.args.limits, c.in_ok-table.ensures.table)

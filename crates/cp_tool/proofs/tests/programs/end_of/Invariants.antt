@@ -1,4 +1,0 @@
-use Rattle.cp_tool.proofs.tests.programs.end_of.Given as goal
-
-abbrev pub ghosts-end_counted : goal.ghosts-end_counted
-ghosts-end_counted a = record { name = a.blank.name; parts = a.blank.parts }

@@ -1,5 +1,0 @@
-use Rattle.std.proofs.Common.{◌≡◌, ◌∙◌, sym}
-use Rattle.cp_tool.proofs.tests.readings.readings_after.Goals as goal
-
-pub choose-halt-requires-clause-may : goal.choose-halt-requires-clause-may
-choose-halt-requires-clause-may g c = sym c.may.ensures ∙ c.if-not-may.false

@@ -1,5 +1,0 @@
-use Rattle.cp_machine.specs.System.{IsStateOf}
-use Rattle.cp_tool.proofs.tests.readings.readings_after.Given as goal
-
-abbrev pub invariant-loop-process : goal.invariant-loop-process
-invariant-loop-process g l = IsStateOf l.program l.state

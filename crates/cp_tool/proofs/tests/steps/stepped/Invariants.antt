@@ -1,5 +1,0 @@
-use Rattle.cp_machine.specs.System.{IsStateOf}
-use Rattle.cp_tool.proofs.tests.steps.stepped.Given as goal
-
-abbrev pub invariant-loop-turn : goal.invariant-loop-turn
-invariant-loop-turn g l = IsStateOf l.program l.state
