@@ -52,7 +52,7 @@ fn with_schedule<'a>(alloc: Global, command: Command<'a>) -> Result<Command<'a>,
         alloc,
         "schedule",
         "WORD",
-        "The schedule: `none`, or up to 100 numbers 0 to 15 joined by periods",
+        "The schedule: `none`, or up to 20 numbers 0 to 15 joined by periods, with --merge up to 100",
     )
     .required(true);
     with_limits(alloc, command.arg(schedule)?)
@@ -63,7 +63,7 @@ fn with_limits<'a>(alloc: Global, command: Command<'a>) -> Result<Command<'a>, A
         alloc,
         "choices",
         "K",
-        "Choices of a schedule, 0 to 20, with --merge 0 to 100 [default: 8]",
+        "Choices of a schedule, 0 to 20, with --merge to 100 [default: 8]",
     );
     let steps = option(
         alloc,
@@ -81,7 +81,14 @@ fn with_limits<'a>(alloc: Global, command: Command<'a>) -> Result<Command<'a>, A
         .long("merge")
         .action(ArgAction::SetTrue)
         .help("Take schedules of up to 100 choices");
-    Ok(command.arg(choices)?.arg(steps)?.arg(gates)?.arg(merge)?)
+    let states = option(
+        alloc,
+        "states",
+        "N",
+        "States that a layer may have with --merge, 1 to 10000000 [default: 200000]",
+    );
+    let command = command.arg(choices)?.arg(steps)?.arg(gates)?;
+    Ok(command.arg(merge)?.arg(states)?)
 }
 
 fn option<'a>(alloc: Global, name: &'a str, value: &'a str, help: &'a str) -> Arg<'a> {

@@ -7,7 +7,7 @@ use cp_tool::{OptionFault, Options, read_options};
 use std::alloc::{AllocError, Global};
 
 /// The options that are those of `cpx`.
-const SHARED: [&str; 4] = ["choices", "steps", "gates", "schedule"];
+const SHARED: [&str; 5] = ["choices", "steps", "gates", "states", "schedule"];
 
 /// What is to be shown.
 #[derive(Clone, Copy, Debug, PartialEq, Eq)]
