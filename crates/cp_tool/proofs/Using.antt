@@ -1,5 +1,5 @@
 -- A run uses no more numbers than its word has.
-use Rattle.std.proofs.Common.{◌≡◌, ℕ, zero, suc, ◌≤◌, Bool, true, false, if◌then◌else◌, List, [], ◌∷◌, length, arith, subst, sym}
+use Rattle.std.proofs.Common.{◌≡◌, ℕ, zero, suc, ◌≤◌, true, false, if◌then◌else◌, List, [], ◌∷◌, length, arith, subst, sym}
 use Rattle.cp_run.specs.System.{System}
 use Rattle.cp_run.specs.Run.{Node, Halted, Choosing, Answer, Ended, Wants, NotReady, run_from, later, may, chosen}
 use Rattle.cp_run.specs.Code.{answer_of}

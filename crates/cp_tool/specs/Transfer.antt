@@ -1,8 +1,6 @@
 -- What a transfer tells of the calls that it made.
 use Rattle.std.specs.Prelude.{ℕ, Ok, Err}
 use Rattle.std.specs.declared.result.Result.{Result}
-use Rattle.std.specs.declared.vec.Vec.{Vec}
-use Rattle.std.specs.declared.alloc.Global.{Global}
 use Rattle.cp_tool.specs.declared.transfer.ReadFault.{ReadFault}
 use Rattle.cp_tool.specs.declared.transfer.ReadFault.TheVariants.{Memory, Failed}
 

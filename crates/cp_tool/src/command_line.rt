@@ -5,7 +5,6 @@ ghost use Rattle.cp_tool.specs.Finds.{Finds};
 ghost use Rattle.cp_tool.specs.Options.{Gives, HasOptions, HasRefusedValue, IsScheduled, IsFaultFor, IsGated, is_asked};
 ghost use Rattle.cp_tool.specs.Words.{most_choices};
 
-
 use crate::command::command;
 use crate::numbers::chosen;
 use crate::options::{OptionFault, Options};

@@ -1,4 +1,4 @@
-use Rattle.std.proofs.Common.{◌≡◌, ◌∙◌, refl, inl, inr, subst}
+use Rattle.std.proofs.Common.{◌∙◌, refl, inl, inr, subst}
 use Rattle.cp_run.specs.Slots.{slots}
 use Rattle.cp_merged.specs.TooMany.{IsDueFault}
 use Rattle.cp_tool.proofs.Merging.{merged_by}

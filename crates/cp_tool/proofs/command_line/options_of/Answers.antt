@@ -1,6 +1,6 @@
-use Rattle.std.proofs.Common.{◌≡◌, ◌∙◌, ℕ, Option, ap, subst, codes}
+use Rattle.std.proofs.Common.{◌∙◌, ℕ, Option, ap, subst, codes}
 use Rattle.std.specs.Prelude.{option_map}
-use Rattle.clap.specs.Words.{Text, first_of, found_of, rows_of}
+use Rattle.clap.specs.Words.{Text, found_of}
 use Rattle.clap.proofs.WalkLemmas.{first_value-rows}
 use Rattle.cp_tool.specs.Finds.{Finds}
 use Rattle.cp_tool.specs.Options.{IsScheduled, is_asked}

@@ -1,9 +1,8 @@
 use Rattle.std.proofs.Common.{◌≡◌, ◌∙◌, ◌⊎◌, inl, inr, ⊎_elim, sym, ap, subst, map, List, [], ◌∷◌, true, Option}
 use Rattle.std.proofs.lemmas.List.{take-map}
-use Rattle.clap.specs.Words.{App, IsAmong, Kinds, Row, Text, found_of, rows_of, app_of, fault_of, is_simple, is_simple_and_free, matches_of}
+use Rattle.clap.specs.Words.{IsAmong, Kinds, Row, found_of, rows_of, app_of, fault_of, is_simple, is_simple_and_free}
 use Rattle.clap.specs.declared.error.kind.ErrorKind.{ErrorKind}
 use Rattle.clap.specs.declared.error.kind.ErrorKind.TheVariants.{DisplayHelp, OutOfMemory}
-use Rattle.cp_tool.specs.Command.{cpx, faults_for, rows_for}
 use Rattle.cp_tool.specs.Finds.{Finds}
 use Rattle.cp_tool.specs.Options.{HasOptions, HasRefusedValue}
 use Rattle.cp_tool.specs.declared.options.Options.{Options}

@@ -1,5 +1,5 @@
 -- What was filled is what was read, and each turn is one read that did not fail.
-use Rattle.std.proofs.Common.{◌≡◌, ◌+◌, ◌≤◌, ◌<◌, length, take}
+use Rattle.std.proofs.Common.{◌≡◌, ◌+◌, ◌≤◌, length, take}
 use Rattle.std.specs.Io.KnownBytes.{Consumes}
 use Rattle.cp_tool.proofs.transfer.fill.Given as goal
 

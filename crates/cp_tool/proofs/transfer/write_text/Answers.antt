@@ -1,6 +1,5 @@
-use Rattle.std.proofs.Common.{◌≡◌, ◌≢◌, ◌<◌, ◌≤◌, ℕ, ◌+◌, ◌-◌, List, [], ◌∷◌, ◌++◌, zero, suc, rules, arith, length, take, drop, sym, ap, ◌∙◌, append_assoc, length-append, length-take-le, take-append-drop, Ok, refl}
+use Rattle.std.proofs.Common.{◌≡◌, ◌≢◌, ◌≤◌, ℕ, ◌+◌, ◌-◌, List, [], ◌∷◌, ◌++◌, zero, suc, arith, length, take, drop, sym, ap, ◌∙◌, append_assoc, length-append, length-take-le, take-append-drop, Ok, refl}
 use Rattle.std.proofs.lemmas.List.{take_rest}
-use Rattle.std.specs.Io.KnownBytes.{Appends}
 use Rattle.std.proofs.KnownBytes.{Appends-trans}
 use Rattle.cp_tool.specs.Calls.{one_if_nothing}
 use Rattle.cp_tool.proofs.transfer.write_text.Goals as goal
