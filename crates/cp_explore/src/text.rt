@@ -98,7 +98,8 @@ fn push_shown(text: &mut String, program: &Resolved, value: Shown) -> Result<(),
     }
 }
 
-fn push_output(text: &mut String, program: &Resolved, values: &[Shown]) -> Result<(), AllocError>
+/// Appends what was displayed: the values joined by spaces, or a hyphen.
+pub fn push_output(text: &mut String, program: &Resolved, values: &[Shown]) -> Result<(), AllocError>
     ensures { IfOk result (λ _. string_bytes text.new ≡ string_bytes text.old ++ output_text program.now values.now) }
 {
     let Some((first, rest)) = values.split_first() else {
@@ -112,7 +113,8 @@ fn push_output(text: &mut String, program: &Resolved, values: &[Shown]) -> Resul
     Ok(())
 }
 
-fn error_name(name: ErrorName) -> &'static str
+/// A run error as a report names it.
+pub fn error_name(name: ErrorName) -> &'static str
     ensures { result.now ≡ error_text name }
 {
     match name {

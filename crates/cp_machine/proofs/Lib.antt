@@ -27,6 +27,7 @@ pub mod LocalSteps
 pub mod NamingLemmas
 pub mod OpeningFits
 pub mod OpeningLines
+pub mod Overwriting
 pub mod ReachingKept
 pub mod ReadLemmas
 pub mod ResultLemmas

@@ -29,8 +29,8 @@ pub fn put_instead(stack: &mut Vec<Entry>, entry: Entry)
     ensures len { vec_len stack.new ≤ vec_len stack.old }
     ensures room { vec_capacity stack.old ≤ vec_capacity stack.new }
 {
-    let _ = stack.pop();
-    stack.push_reserved(entry);
+    let last = stack.len() - 1;
+    stack[last] = entry;
 }
 
 /// Puts the rest of a list in place of the topmost entry.
@@ -41,8 +41,12 @@ pub fn go_on(stack: &mut Vec<Entry>, next: Option<usize>)
     ensures len { vec_len stack.new ≤ vec_len stack.old }
     ensures room { vec_capacity stack.old ≤ vec_capacity stack.new }
 {
-    let _ = stack.pop();
-    put(stack, next);
+    match next {
+        Some(at) => put_instead(stack, Entry::Rest(at)),
+        None => {
+            let _ = stack.pop();
+        }
+    }
 }
 
 /// Puts the rest of a list, the end of a call and the list of its body in place of the topmost entry.

@@ -5,7 +5,7 @@ mod aim;
 mod changes;
 pub mod event;
 mod happening;
-mod objects;
+pub mod objects;
 mod observer;
 pub mod story;
 mod tables;

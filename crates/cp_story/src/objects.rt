@@ -11,35 +11,40 @@ use std::alloc::{AllocError, Global};
 
 /// An object that is built member by member.
 #[derive(Drop)]
-struct Object {
+pub struct Object {
     alloc: Global,
     members: Map<String, Value>,
 }
 
 impl Object {
-    fn new(alloc: Global) -> Object {
+    /// An object without members.
+    pub fn new(alloc: Global) -> Object {
         Object {
             alloc,
             members: Map::new(alloc),
         }
     }
 
-    fn put(&mut self, name: &str, value: Value) -> Result<(), AllocError> {
+    /// Adds a member.
+    pub fn put(&mut self, name: &str, value: Value) -> Result<(), AllocError> {
         self.members
             .insert(String::from_str(self.alloc, name)?, value)?;
         Ok(())
     }
 
-    fn text(&mut self, name: &str, text: &str) -> Result<(), AllocError> {
+    /// Adds a text.
+    pub fn text(&mut self, name: &str, text: &str) -> Result<(), AllocError> {
         let text = String::from_str(self.alloc, text)?;
         self.put(name, Value::String(text))
     }
 
-    fn number(&mut self, name: &str, number: u64) -> Result<(), AllocError> {
+    /// Adds a number.
+    pub fn number(&mut self, name: &str, number: u64) -> Result<(), AllocError> {
         self.put(name, Value::from(number))
     }
 
-    fn done(self) -> Value {
+    /// The object with its members.
+    pub fn done(self) -> Value {
         Value::Object(self.members)
     }
 }
@@ -73,7 +78,8 @@ pub fn json(
     Ok(text)
 }
 
-fn numbers(alloc: Global, numbers: &[u8]) -> Result<Value, AllocError> {
+/// The numbers of a word, or of monitors.
+pub fn numbers(alloc: Global, numbers: &[u8]) -> Result<Value, AllocError> {
     let mut items = Vec::new(alloc);
     for number in numbers {
         items.push(Value::from(u64::from(*number)))?;
@@ -88,7 +94,8 @@ fn named(alloc: Global, name: &str, type_name: &str) -> Result<Value, AllocError
     Ok(object.done())
 }
 
-fn processes(alloc: Global, legend: &Legend) -> Result<Value, AllocError> {
+/// The processes with their names and types.
+pub fn processes(alloc: Global, legend: &Legend) -> Result<Value, AllocError> {
     let mut items = Vec::new(alloc);
     for process in 0..legend.processes() {
         let name = legend.process_name(process);
@@ -97,7 +104,8 @@ fn processes(alloc: Global, legend: &Legend) -> Result<Value, AllocError> {
     Ok(Value::Array(items))
 }
 
-fn monitors(alloc: Global, legend: &Legend) -> Result<Value, AllocError> {
+/// The monitors with their names and types.
+pub fn monitors(alloc: Global, legend: &Legend) -> Result<Value, AllocError> {
     let mut items = Vec::new(alloc);
     for monitor in 0..legend.monitors() {
         let name = legend.monitor_name(monitor);
@@ -287,7 +295,8 @@ fn changes(alloc: Global, legend: &Legend, changes: &[Change]) -> Result<Value, 
     Ok(Value::Array(items))
 }
 
-fn waits(alloc: Global, legend: &Legend, waits: &[Wait]) -> Result<Value, AllocError> {
+/// Who waits, and where.
+pub fn waits(alloc: Global, legend: &Legend, waits: &[Wait]) -> Result<Value, AllocError> {
     let mut items = Vec::new(alloc);
     for wait in waits {
         let mut object = Object::new(alloc);
@@ -321,7 +330,8 @@ fn end(alloc: Global, story: &Story) -> Result<Value, AllocError> {
     Ok(object.done())
 }
 
-fn put_kind(object: &mut Object, kind: OutcomeKind) -> Result<(), AllocError> {
+/// Adds how a run ended: its kind, and of a run error what, who and where it was.
+pub fn put_kind(object: &mut Object, kind: OutcomeKind) -> Result<(), AllocError> {
     object.text("kind", kind_words(kind))?;
     match kind {
         OutcomeKind::RunError {

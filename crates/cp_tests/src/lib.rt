@@ -9,6 +9,8 @@ mod checks;
 #[cfg(test)]
 mod cuttings;
 #[cfg(test)]
+mod expectations;
+#[cfg(test)]
 mod fakes;
 #[cfg(test)]
 mod merged;

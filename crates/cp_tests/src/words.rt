@@ -124,7 +124,8 @@ fn without_words_each_option_has_its_default(rt: HostRuntime) -> Result<(), Fail
         panic!(rt; "refused")
     };
     assert!(rt; options.choices == 8 && options.steps == 1_000 && options.workers == 2);
-    assert!(rt; options.cut == 2 && !options.rows && options.schedule.is_none());
+    assert!(rt; options.cut == 2 && !options.cut_is_given);
+    assert!(rt; !options.rows && options.schedule.is_none());
     assert!(rt; options.gates == Gates::First && !options.merge && options.states == 200_000);
     Ok(())
 }
@@ -159,7 +160,8 @@ fn has_values_of_all(options: &Options) -> bool {
     let has_numbers = options.choices == 5
         && options.steps == 100_000
         && options.workers == 16
-        && options.cut == 0;
+        && options.cut == 0
+        && options.cut_is_given;
     has_numbers && options.rows && options.gates == Gates::Any && is_word
 }
 
@@ -279,7 +281,7 @@ fn help_names_each_option_and_shows_a_call(rt: HostRuntime) -> Result<(), Fail> 
             "--workers <N>",
             "1 to 16 [default: 2]",
             "--cut <D>",
-            "0 to 20 [default: 2]",
+            "0 to 20 [default: by their number]",
             "--rows",
             "--merge",
             "Count schedules that come to one state together, without rows",

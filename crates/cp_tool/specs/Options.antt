@@ -1,5 +1,5 @@
 -- What the options have of the words, and which fault the words have.
-use Rattle.std.specs.Prelude.{◌≡◌, ℕ, Bool, false, List, [], ◌∷◌, Some, None, codes, IsSomeAnd, MatchOption, Option, take}
+use Rattle.std.specs.Prelude.{◌≡◌, ℕ, Bool, false, List, [], ◌∷◌, Some, None, codes, IsSomeAnd, MatchOption, Option, is_some, take}
 use Rattle.arrayvec.specs.ArrayVec.{ArrayVec}
 use Rattle.clap.specs.Words.{IsAmong, Row, Text, first_of}
 use Rattle.std.specs.Str.{bytes_eq}
@@ -37,6 +37,7 @@ pub record HasOptions (rows : List Row) (o : Options) : Type 0 where
   pub steps : IsChosen 1000 1 100000 (first_of (codes "steps") rows) o.steps
   pub workers : IsChosen 2 1 16 (first_of (codes "workers") rows) o.workers
   pub cut : IsChosen 2 0 20 (first_of (codes "cut") rows) o.cut
+  pub cut_given : o.cut_is_given ≡ is_some (first_of (codes "cut") rows)
   pub rows_asked : o.rows ≡ is_asked (first_of (codes "rows") rows)
   pub states : IsChosen 200000 1 10000000 (first_of (codes "states") rows) o.states
   pub schedule : IsScheduled (most_choices o.merge) (first_of (codes "schedule") rows) o.schedule

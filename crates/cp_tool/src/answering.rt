@@ -3,6 +3,7 @@ ghost use Rattle.std.specs.Prelude.{◌≡◌, ◌+◌, ◌<◌, ◌≤◌, fals
 ghost use Rattle.cp_tool.specs.Answered as spec;
 ghost use Rattle.cp_tool.specs.declared.answering.Ending.{Ending};
 
+use crate::dealing::deal;
 use crate::options::Options;
 use crate::refusal::{check_reason, parse_reason, refusal, scan_reason};
 use crate::stream::{Sink, Source};
@@ -284,7 +285,7 @@ fn counted<X: Threads + Sync>(
         unreachable!()
     };
     let mut cutting = Cutting::whole(alloc, Job { program, limits })?;
-    cutting.to_depth(alloc, options.cut)?;
+    deal(alloc, &mut cutting, options)?;
     let workers = needed(options.workers, cutting.members().len());
     match explore(rt, alloc, &cutting, workers, &NoGate) {
         Ok(table) => Ok(Answer {

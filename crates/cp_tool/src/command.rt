@@ -40,7 +40,7 @@ pub fn command<'a>(alloc: Global) -> Result<Command<'a>, AllocError>
         alloc,
         "cut",
         "D",
-        "Choices that are dealt out to the threads, 0 to 20 [default: 2]",
+        "Choices that are dealt out to the threads, 0 to 20 [default: by their number]",
     );
     let rows = switch(
         alloc,

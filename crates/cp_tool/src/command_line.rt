@@ -1,5 +1,5 @@
 //! The options of the words.
-ghost use Rattle.std.specs.Prelude.{◌≡◌, ◌≤◌, IfErr, IfOk, codes, length, map, option_map, true};
+ghost use Rattle.std.specs.Prelude.{◌≡◌, ◌≤◌, IfErr, IfOk, codes, is_some, length, map, option_map, true};
 ghost use Rattle.clap.specs.Words.{first_of, found_of, rows_of};
 ghost use Rattle.cp_tool.specs.Finds.{Finds};
 ghost use Rattle.cp_tool.specs.Options.{Gives, HasOptions, HasRefusedValue, IsScheduled, IsFaultFor, IsGated, is_asked};
@@ -100,6 +100,7 @@ fn options_with(
         states: chosen(matches.get_str("states"), 200_000, 1, 10_000_000)?,
         schedule: schedule?,
         gates: gates_of(matches.get_str("gates"))?,
+        cut_is_given: is_given(matches.get_str("cut")),
     })
 }
 
@@ -108,6 +109,13 @@ fn most_choices(merge: bool) -> u8
     ensures { result ≡ most_choices merge }
 {
     if merge { 100 } else { 20 }
+}
+
+/// Whether there is a text.
+fn is_given(text: Option<&str>) -> bool
+    ensures { result ≡ is_some (option_map (λ s. s.now) text.entry) }
+{
+    text.is_some()
 }
 
 /// Whether the text of a flag says that it was given.

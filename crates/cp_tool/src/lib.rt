@@ -4,6 +4,7 @@
 pub mod answering;
 mod command;
 pub mod command_line;
+mod dealing;
 mod numbers;
 pub mod options;
 pub mod refusal;

@@ -18,6 +18,8 @@ pub struct Options {
     pub workers: u8,
     /// To how many choices the schedules are dealt out to the threads.
     pub cut: u8,
+    /// Whether the words say so.
+    pub cut_is_given: bool,
     /// Whether the report has a line for each row.
     pub rows: bool,
     /// Whether schedules that come to one state are counted together.

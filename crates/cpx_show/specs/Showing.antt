@@ -1,25 +1,46 @@
 -- What the program tells its caller.
-use Rattle.std.specs.Prelude.{ℕ, true, false}
+use Rattle.std.specs.Prelude.{◌≡◌, ◌⊎◌, ℕ, List}
+use Rattle.cp_slots.specs.Tables.{Tables}
+use Rattle.cp_run.specs.Table.{Line}
+use Rattle.cp_verdict.specs.Marked.{IsMarkOf}
+use Rattle.cp_verdict.specs.declared.expectation.Expectation.{Expectation}
+use Rattle.cp_verdict.specs.declared.program.Mark.{Mark}
+use Rattle.cp_verdict.specs.declared.program.Mark.TheVariants as mark
+pub use Rattle.cpx_show.specs.declared.answering.Verdict.{Verdict}
 pub use Rattle.cpx_show.specs.declared.answering.Ending.{Ending}
 use Rattle.cpx_show.specs.declared.answering.Ending.TheVariants.{Told, OutOfMemory, ReadFailed, WriteFailed}
+use Rattle.cpx_show.specs.declared.answering.Verdict.TheVariants.{Reported, Refused, TooMany, Misread, Fails, Open}
 
 abbrev pub code_of : Ending → ℕ
-code_of (Told true) = 0
-code_of (Told false) = 1
+code_of (Told Reported) = 0
+code_of (Told Refused) = 1
+code_of (Told Misread) = 2
 code_of OutOfMemory = 3
 code_of ReadFailed = 4
 code_of WriteFailed = 4
+code_of (Told TooMany) = 5
+code_of (Told Fails) = 6
+code_of (Told Open) = 7
 
 -- how many calls failed or took nothing
 abbrev pub faults_of : Ending → ℕ
-faults_of (Told accepted) = 0
+faults_of (Told verdict) = 0
 faults_of OutOfMemory = 0
 faults_of ReadFailed = 1
 faults_of WriteFailed = 1
 
 -- nothing is written
 abbrev pub IsSilent : Ending → Type 0
-IsSilent (Told accepted) = ⊥
+IsSilent (Told verdict) = ⊥
 IsSilent OutOfMemory = Unit {0}
 IsSilent ReadFailed = Unit {0}
 IsSilent WriteFailed = ⊥
+
+abbrev pub verdict_of : Mark → Verdict
+verdict_of mark.Holds = Reported
+verdict_of mark.Fails = Fails
+verdict_of mark.Open = Open
+
+-- There are too many rows, states or outcomes; or the mark of a program whose table has these rows is told.
+abbrev pub TellsMark : Tables → List Expectation → List Line → Verdict → Type 0
+TellsMark r es lines verdict = (verdict ≡ TooMany) ⊎ ((m : Mark) × (verdict ≡ verdict_of m) × IsMarkOf r es lines m)

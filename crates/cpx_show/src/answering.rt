@@ -2,14 +2,17 @@
 
 ghost use Rattle.std.specs.Prelude.{◌≡◌, ◌+◌, ◌≤◌, IfOk, length};
 ghost use Rattle.cp_explore.specs.Rows.{UsedWithin};
+ghost use Rattle.cp_outcomes.specs.Ways.{IsWithin};
 ghost use Rattle.cpx_show.specs.Showing as spec;
 
+use crate::marks::marked;
 use crate::parts::{Asked, Part};
 use cp_check::check;
 use cp_explore::trace_report;
 use cp_lanes::{Subject, picture};
 use cp_legend::{Legend, legend_of};
 use cp_machine::Ticks;
+use cp_outcomes::{Form, Subject as Survey, Way, outcomes};
 use cp_run::Limits;
 use cp_slots::{Resolved, resolve};
 use cp_story::{Story, json, tell, text};
@@ -22,18 +25,35 @@ use std::alloc::{AllocError, Global};
 use std::marker::Brand;
 use std::sync::ledger::{Blank, Ledger};
 
-/// A text, and whether the source was accepted.
+/// What an answer tells.
+#[derive(Clone, Copy)]
+pub enum Verdict {
+    /// What was asked for; of a mark, that all expectations hold.
+    Reported,
+    /// Why the source is refused.
+    Refused,
+    /// That there are too many rows, states or outcomes.
+    TooMany,
+    /// That there is no expectation, or that it is none.
+    Misread,
+    /// That an expectation fails.
+    Fails,
+    /// That no expectation fails, and one is not settled.
+    Open,
+}
+
+/// A text, and what it tells.
 #[derive(Drop)]
-struct Answer {
-    accepted: bool,
-    text: String,
+pub struct Answer {
+    pub verdict: Verdict,
+    pub text: String,
 }
 
 /// How a source was shown.
 #[derive(Clone, Copy)]
 pub enum Ending {
-    /// The whole text was written; whether the source was accepted.
-    Told(bool),
+    /// The whole text was written.
+    Told(Verdict),
     /// Memory was refused.
     OutOfMemory,
     /// A read failed.
@@ -46,15 +66,21 @@ fn code_of(ending: Ending) -> u8
     ensures { result ≡ spec.code_of ending }
 {
     match ending {
-        Ending::Told(true) => 0,
-        Ending::Told(false) => 1,
+        Ending::Told(Verdict::Reported) => 0,
+        Ending::Told(Verdict::Refused) => 1,
+        Ending::Told(Verdict::Misread) => 2,
         Ending::OutOfMemory => 3,
         Ending::ReadFailed | Ending::WriteFailed => 4,
+        Ending::Told(Verdict::TooMany) => 5,
+        Ending::Told(Verdict::Fails) => 6,
+        Ending::Told(Verdict::Open) => 7,
     }
 }
 
-/// Reads a source, shows what is asked for, and answers the exit code: 0 reported, 1 source refused, 3 memory refused, 4 read or
-/// write fault. The whole text is built before the first write, and nothing is written after a failed read or where memory is refused.
+/// Reads a source, shows what is asked for, and answers the exit code: 0 reported, 1 source refused, 2 no expectation or one
+/// that can't be read, 3 memory refused, 4 read or write fault, 5 too many rows, states or outcomes, 6 an expectation fails, 7 one
+/// is not settled. The whole text is built before the first write, and nothing is written after a failed read or where memory
+/// is refused.
 pub fn show_stream<R: Source, W: Sink>(
     alloc: Global,
     asked: &Asked,
@@ -94,12 +120,33 @@ fn written<W: Sink>(sink: &mut W, answer: &Answer) -> Ending
     ensures faults { W.failed_writes sink.new + W.empty_writes sink.new ≡ W.failed_writes sink.old + W.empty_writes sink.old + spec.faults_of result }
 {
     match write_text(sink, answer.text.as_str().as_bytes()) {
-        Ok(()) => Ending::Told(answer.accepted),
+        Ok(()) => Ending::Told(answer.verdict),
         Err(_) => Ending::WriteFailed,
     }
 }
 
 fn answered(alloc: Global, asked: &Asked, source: &[u8]) -> Result<Answer, AllocError> {
+    match &asked.part {
+        Part::Refusal => explained(alloc, source),
+        _ => scanned(alloc, asked, source),
+    }
+}
+
+// Why the source is refused, in words.
+fn explained(alloc: Global, source: &[u8]) -> Result<Answer, AllocError> {
+    Ok(match cp_refusal::refusal(alloc, source)? {
+        cp_refusal::Answer::Accepted(text) => Answer {
+            verdict: Verdict::Reported,
+            text,
+        },
+        cp_refusal::Answer::Refused(text) => Answer {
+            verdict: Verdict::Refused,
+            text,
+        },
+    })
+}
+
+fn scanned(alloc: Global, asked: &Asked, source: &[u8]) -> Result<Answer, AllocError> {
     match scan(alloc, source) {
         Ok(tokens) => parsed(alloc, asked, source, &tokens),
         Err(fault) => refused(alloc, fault.line, scan_reason(fault.cause)),
@@ -127,13 +174,9 @@ fn checked(
 ) -> Result<Answer, AllocError> {
     match check(alloc, tree) {
         Ok(checked) => {
-            let legend = legend_of(alloc, checked.tree())?;
             let program = resolve(alloc, &checked)?;
-            let text = shown(alloc, asked, &program, &legend, source)?;
-            Ok(Answer {
-                accepted: true,
-                text,
-            })
+            let legend = legend_of(alloc, checked.tree())?;
+            shown(alloc, asked, &program, &legend, source)
         }
         Err((fault, _tree)) => refused_at(alloc, tokens, check_reason(&fault)),
     }
@@ -144,7 +187,7 @@ fn refused(alloc: Global, line: u32, reason: Option<&str>) -> Result<Answer, All
         return Err(AllocError);
     };
     Ok(Answer {
-        accepted: false,
+        verdict: Verdict::Refused,
         text: refusal(alloc, line, reason)?,
     })
 }
@@ -169,22 +212,81 @@ fn shown(
     program: &Resolved,
     legend: &Legend,
     source: &[u8],
+) -> Result<Answer, AllocError> {
+    let options = &asked.options;
+    let lines = lines_of(alloc, source)?;
+    let text = match &asked.part {
+        Part::Trace { json } => traced(alloc, options, program, legend, &lines, *json)?,
+        Part::Lanes => drawn(alloc, options, program, legend, &lines)?,
+        Part::Outcomes { json } => {
+            return surveyed(alloc, options, program, legend, &lines, *json);
+        }
+        Part::Mark(words) => return marked(alloc, options, program, words.as_str(), source),
+        Part::Refusal => return explained(alloc, source),
+    };
+    Ok(Answer {
+        verdict: Verdict::Reported,
+        text,
+    })
+}
+
+// One schedule in names.
+fn traced(
+    alloc: Global,
+    options: &Options,
+    program: &Resolved,
+    legend: &Legend,
+    source: &[String],
+    as_json: bool,
 ) -> Result<String, AllocError> {
-    let word = word_of(&asked.options);
-    let story = told::<Brand>(alloc, &asked.options, program, legend, word, Blank::new(1))?;
-    match asked.part {
-        Part::Trace { json: true } => {
-            json(alloc, legend, &story, word, &lines_of(alloc, source)?)
-        }
-        Part::Trace { json: false } => {
-            let end = trace_report(alloc, program, &[], &story.end, word)?;
-            text(alloc, legend, &story, end.text.as_str())
-        }
-        Part::Lanes => {
-            let end = trace_report(alloc, program, &[], &story.end, word)?;
-            let source = lines_of(alloc, source)?;
-            drawn(alloc, legend, &story, word, end.text.as_str(), &source)
-        }
+    let word = word_of(options);
+    let story = told::<Brand>(alloc, options, program, legend, word, Blank::new(1))?;
+    if as_json {
+        return json(alloc, legend, &story, word, source);
+    }
+    let end = trace_report(alloc, program, &[], &story.end, word)?;
+    text(alloc, legend, &story, end.text.as_str())
+}
+
+// The outcomes of all schedules.
+fn surveyed(
+    alloc: Global,
+    options: &Options,
+    program: &Resolved,
+    legend: &Legend,
+    source: &[String],
+    as_json: bool,
+) -> Result<Answer, AllocError> {
+    let Some(limits) = Limits::new(options.choices, options.steps, options.gates) else {
+        unreachable!()
+    };
+    let subject = Survey {
+        program,
+        legend,
+        limits,
+        way: way_of(options),
+        source,
+    };
+    let form = if as_json { Form::Json } else { Form::Text };
+    let told = outcomes(alloc, subject, form)?;
+    Ok(Answer {
+        verdict: if told.is_whole {
+            Verdict::Reported
+        } else {
+            Verdict::TooMany
+        },
+        text: told.text,
+    })
+}
+
+// How the options have the outcomes found.
+fn way_of(options: &Options) -> Way
+    ensures { IsWithin result options.now.choices }
+{
+    if options.merge {
+        Way::States(options.states)
+    } else {
+        Way::Rows
     }
 }
 
@@ -219,21 +321,23 @@ fn told<L: Ledger>(
     tell(alloc, program, legend, limits, word, &mut ticks)
 }
 
-// The picture of a story.
+// The picture of a schedule.
 fn drawn(
     alloc: Global,
+    options: &Options,
+    program: &Resolved,
     legend: &Legend,
-    story: &Story,
-    word: &[u8],
-    end: &str,
     source: &[String],
 ) -> Result<String, AllocError> {
+    let word = word_of(options);
+    let story = told::<Brand>(alloc, options, program, legend, word, Blank::new(1))?;
+    let end = trace_report(alloc, program, &[], &story.end, word)?;
     let schedule = schedule_of(alloc, word)?;
     let subject = Subject {
         legend,
-        story,
+        story: &story,
         schedule: schedule.as_str(),
-        end,
+        end: end.text.as_str(),
         source,
     };
     picture(alloc, subject)

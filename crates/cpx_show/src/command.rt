@@ -4,16 +4,28 @@ use clap::{Arg, ArgAction, Command};
 use std::alloc::{AllocError, Global};
 
 const ABOUT: &str =
-    "Reads a program in Concurrent Pascal from standard input, and shows what cpx finds\nin names and pictures.";
+    "Reads a program in Concurrent Pascal from standard input, and shows what cpx finds\nin names, pictures and words.";
 
 const USAGE: &str = "cpx_show PART [OPTIONS] < PROGRAM";
 
 const NOTES: &str =
-    "Example: cpx_show trace --schedule 0.1 < program.cp\n\nStatus: 0 reported, 1 source refused, 2 options refused, 3 no memory, 4 read or write fault";
+    "Example: cpx_show trace --schedule 0.1 < program.cp\n\nStatus: 0 reported, 1 source refused, 2 options refused, 3 no memory, 4 read or write fault,\n5 too many rows, states or outcomes, 6 an expectation fails, 7 one is not settled";
 
 const TRACE: &str = "Tells one schedule in names: a line for each kernel call";
 
 const LANES: &str = "Draws one schedule as a picture: SVG with a lane for each process";
+
+const OUTCOMES: &str =
+    "Tells the outcomes of all schedules in words: shares, first schedules, and whether these are all";
+
+const REFUSAL: &str =
+    "Says why a source is refused, in a sentence; or that it is accepted, with hints";
+
+const MARK: &str =
+    "Says whether what is expected of all schedules holds: never OUTCOME, some OUTCOME, only OUTCOME..";
+
+const EXPECTATIONS: &str =
+    "OUTCOME: finished, all-waiting, run-error or run-error NAME; after it, if wanted,\noutput VALUES, where .. stands for any rest. Several expectations are joined by and.\nWithout words those in comments of the program are taken: (* expect never all-waiting *)\n\nStatus: 0 holds, 6 fails, 7 not settled; 1 to 5 as cpx";
 
 /// The command with all its parts; `clap` adds `--help` and `-h` to each.
 pub fn command<'a>(alloc: Global) -> Result<Command<'a>, AllocError> {
@@ -24,19 +36,25 @@ pub fn command<'a>(alloc: Global) -> Result<Command<'a>, AllocError> {
         .subcommand_required(true)
         .disable_help_subcommand(true)
         .subcommand(trace(alloc)?)?
-        .subcommand(lanes(alloc)?)?;
+        .subcommand(lanes(alloc)?)?
+        .subcommand(outcomes(alloc)?)?
+        .subcommand(refusal(alloc)?)?
+        .subcommand(mark(alloc)?)?;
     Ok(command)
 }
 
 fn trace<'a>(alloc: Global) -> Result<Command<'a>, AllocError> {
-    let json = Arg::new(alloc, "json")
-        .long("json")
-        .action(ArgAction::SetTrue)
-        .help("Write one JSON object");
     let command = Command::new(alloc, "trace")
         .about(TRACE)
         .override_usage("cpx_show trace --schedule WORD [OPTIONS] < PROGRAM");
-    Ok(with_schedule(alloc, command)?.arg(json)?)
+    Ok(with_schedule(alloc, command)?.arg(json(alloc))?)
+}
+
+fn json<'a>(alloc: Global) -> Arg<'a> {
+    Arg::new(alloc, "json")
+        .long("json")
+        .action(ArgAction::SetTrue)
+        .help("Write one JSON object")
 }
 
 fn lanes<'a>(alloc: Global) -> Result<Command<'a>, AllocError> {
@@ -44,6 +62,33 @@ fn lanes<'a>(alloc: Global) -> Result<Command<'a>, AllocError> {
         "cpx_show lanes --schedule WORD [OPTIONS] < PROGRAM > PICTURE.svg",
     );
     with_schedule(alloc, command)
+}
+
+fn outcomes<'a>(alloc: Global) -> Result<Command<'a>, AllocError> {
+    let command = Command::new(alloc, "outcomes")
+        .about(OUTCOMES)
+        .override_usage("cpx_show outcomes [OPTIONS] < PROGRAM");
+    Ok(with_limits(alloc, command)?.arg(json(alloc))?)
+}
+
+fn refusal<'a>(alloc: Global) -> Result<Command<'a>, AllocError> {
+    let command = Command::new(alloc, "refusal")
+        .about(REFUSAL)
+        .override_usage("cpx_show refusal [OPTIONS] < PROGRAM")
+        .after_help("The options change nothing here.");
+    with_limits(alloc, command)
+}
+
+fn mark<'a>(alloc: Global) -> Result<Command<'a>, AllocError> {
+    let expectation = Arg::new(alloc, "expectation")
+        .value_name("EXPECTATION")
+        .num_args(0..)
+        .help("What is expected, as never all-waiting");
+    let command = Command::new(alloc, "mark")
+        .about(MARK)
+        .override_usage("cpx_show mark [OPTIONS] [EXPECTATION..] < PROGRAM")
+        .after_help(EXPECTATIONS);
+    with_limits(alloc, command.arg(expectation)?)
 }
 
 // A part of one schedule, with the options of a run.
@@ -80,7 +125,7 @@ fn with_limits<'a>(alloc: Global, command: Command<'a>) -> Result<Command<'a>, A
     let merge = Arg::new(alloc, "merge")
         .long("merge")
         .action(ArgAction::SetTrue)
-        .help("Take schedules of up to 100 choices");
+        .help("Take schedules of up to 100 choices; count those that come to one state together");
     let states = option(
         alloc,
         "states",

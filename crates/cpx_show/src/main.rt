@@ -3,6 +3,7 @@
 
 mod answering;
 mod command;
+mod marks;
 mod parts;
 
 ghost use Rattle.std.specs.Prelude.{◌≡◌};

@@ -10,12 +10,18 @@ use std::alloc::{AllocError, Global};
 const SHARED: [&str; 5] = ["choices", "steps", "gates", "states", "schedule"];
 
 /// What is to be shown.
-#[derive(Clone, Copy, Debug, PartialEq, Eq)]
+#[derive(Debug, Drop)]
 pub enum Part {
     /// The schedule in names, as lines or as JSON.
     Trace { json: bool },
     /// The schedule as a picture.
     Lanes,
+    /// The outcomes of all schedules, as lines or as JSON.
+    Outcomes { json: bool },
+    /// Why the source is refused.
+    Refusal,
+    /// Whether the expectations of these words hold; with no words those of the source.
+    Mark(String),
 }
 
 /// A part, and the options that are those of `cpx`.
@@ -47,12 +53,32 @@ fn read_matches(alloc: Global, matches: &ArgMatches<'_>) -> Result<Asked, Option
             json: inner.get_flag("json"),
         },
         "lanes" => Part::Lanes,
+        "outcomes" => Part::Outcomes {
+            json: inner.get_flag("json"),
+        },
+        "refusal" => Part::Refusal,
+        "mark" => Part::Mark(given(alloc, inner)?),
         _ => return Err(OptionFault::Refused),
     };
     Ok(Asked {
         part,
         options: options(alloc, inner)?,
     })
+}
+
+// The words of the expectations that are given, joined by spaces.
+fn given(alloc: Global, matches: &ArgMatches<'_>) -> Result<String, AllocError> {
+    let mut text = String::new(alloc);
+    let Some(words) = matches.get_strs("expectation") else {
+        return Ok(text);
+    };
+    for word in words {
+        if !text.is_empty() {
+            text.push(' ')?;
+        }
+        text.push_str(word)?;
+    }
+    Ok(text)
 }
 
 // The options of a part, read by `cpx`.

@@ -1,5 +1,5 @@
 use Rattle.std.proofs.Common.{◌≡◌, ◌∙◌, ℕ, Bool, true, false, Option, None, sym, ap, subst, codes}
-use Rattle.std.specs.Prelude.{◌&&◌, option_map}
+use Rattle.std.specs.Prelude.{◌&&◌, is_some, option_map}
 use Rattle.arrayvec.specs.ArrayVec.{ArrayVec}
 use Rattle.clap.specs.Words.{Text, first_of, found_of, rows_of}
 use Rattle.clap.proofs.WalkLemmas.{first_value-rows}
@@ -68,6 +68,7 @@ returns c =
       steps = subst (λ (t : Option Text). IsChosen 1000 1 100000 t c.in_ok-chosen-2.field-0) (c.get_str-3.ensures ∙ at (codes "steps")) c.in_ok-chosen-2.ensures;
       workers = subst (λ (t : Option Text). IsChosen 2 1 16 t c.in_ok-chosen-3.field-0) (c.get_str-4.ensures ∙ at (codes "workers")) c.in_ok-chosen-3.ensures;
       cut = subst (λ (t : Option Text). IsChosen 2 0 20 t c.in_ok-chosen-4.field-0) (c.get_str-5.ensures ∙ at (codes "cut")) c.in_ok-chosen-4.ensures;
+      cut_given = c.is_given.ensures ∙ ap is_some (c.get_str-8.ensures ∙ at (codes "cut"));
       rows_asked = c.is_asked-rows.ensures ∙ ap is_asked (c.get_str.ensures ∙ at (codes "rows"));
       states = subst (λ (t : Option Text). IsChosen 200000 1 10000000 t c.in_ok-chosen-5.field-0) (c.get_str-6.ensures ∙ at (codes "states")) c.in_ok-chosen-5.ensures;
       schedule = subst (λ (r : Option (Option (ArrayVec ℕ))). Finds (IsScheduled (most_choices c.args.merge) (first_of (codes "schedule") (rows_of f))) r) c.in_ok-schedule.was c.requires.schedule;

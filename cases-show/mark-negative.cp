@@ -1,0 +1,3 @@
+"(* expect never run-error
+   and only finished output -7 *)"
+begin display(-7) end.

@@ -1,0 +1,2 @@
+"(* expect never run-error *)"
+var x: integer; begin x := true end.

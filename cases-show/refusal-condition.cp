@@ -1,0 +1,1 @@
+var x: integer; b: boolean; begin if x then b := true end.

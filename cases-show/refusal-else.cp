@@ -1,0 +1,3 @@
+begin
+  if true then begin display(1) else display(2) end
+end.

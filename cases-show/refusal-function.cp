@@ -1,0 +1,1 @@
+var x: integer; function f: integer; begin f := 1 end; procedure g; begin end; begin f; end.

@@ -1,0 +1,3 @@
+begin
+  display(40000)
+end.

@@ -1,0 +1,1 @@
+var x: integer; b: boolean; begin x := x + b * 2 end.

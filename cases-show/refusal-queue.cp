@@ -1,0 +1,1 @@
+type m = monitor; var q: queue; procedure entry p(n: integer); begin q := q end; begin end; var x: m; begin init x; x.p(true) end.

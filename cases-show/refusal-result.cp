@@ -1,0 +1,1 @@
+function f: boolean; begin f := 1 end; begin end.

@@ -1,0 +1,4 @@
+var s: set of char;
+begin
+  display(s)
+end.

@@ -1,0 +1,4 @@
+var a: integer;
+begin
+  a := 3 # 4
+end.

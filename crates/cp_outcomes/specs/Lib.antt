@@ -1,0 +1,4 @@
+pub mod Findings
+pub mod Shares
+pub mod Stops
+pub mod Ways

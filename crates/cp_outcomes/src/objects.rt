@@ -1,0 +1,129 @@
+//! Outcomes as JSON.
+
+ghost use Rattle.std.specs.Prelude.{◌<◌, ◌^◌};
+
+use crate::fitting::Fit;
+use crate::share::share_of;
+use crate::stopped::{LIMITS, is_stopped, schedules_in, stopped_at};
+use crate::subject::{Excess, Subject};
+use crate::texts::{line_of, waits_of};
+use cp_machine::Ticks;
+use cp_merged::{Tallies, Tally};
+use cp_natural::{Natural, push_natural};
+use cp_run::OutcomeKind;
+use cp_story::objects::{Object, monitors, numbers, processes, put_kind, waits};
+use cp_story::{kind_words, output_words};
+use serde_json::Value;
+use std::alloc::{AllocError, Global};
+use std::sync::ledger::Ledger;
+
+/// The outcomes as one JSON object: processes, monitors, the number of schedules, the outcomes, and how many schedules ended at which limit.
+pub fn json<L: Ledger>(
+    alloc: Global,
+    subject: Subject<'_>,
+    tallies: &Tallies,
+    ticks: &mut Ticks<L>,
+) -> Result<String, AllocError> {
+    let all = tallies.as_slice();
+    let whole = schedules_in(all);
+    let mut items = Vec::new(alloc);
+    for stopped in [false, true] {
+        for tally in all {
+            if is_stopped(tally.outcome.kind) == stopped {
+                items.push(tally_object(alloc, subject, tally, &whole, ticks)?)?;
+            }
+        }
+    }
+    let stops = stops(alloc, tallies)?;
+    let mut object = Object::new(alloc);
+    object.put("processes", processes(alloc, subject.legend)?)?;
+    object.put("monitors", monitors(alloc, subject.legend)?)?;
+    object.put("schedules", count_value(alloc, &whole)?)?;
+    object.put("outcomes", Value::Array(items))?;
+    object.put("complete", Value::Bool(stops.is_empty()))?;
+    object.put("limits", Value::Array(stops))?;
+    line(alloc, object)
+}
+
+// An object on a line of its own.
+fn line(alloc: Global, object: Object) -> Result<String, AllocError> {
+    let mut text = object.done().to_string(alloc)?;
+    text.push('\n')?;
+    Ok(text)
+}
+
+// A count as a number, or as its digits where it has more than 64 bits.
+fn count_value(alloc: Global, count: &Natural) -> Result<Value, AllocError> {
+    if let Some(number) = count.to_u64() {
+        return Ok(Value::from(number));
+    }
+    let mut digits = String::new(alloc);
+    push_natural(&mut digits, count)?;
+    Ok(Value::String(digits))
+}
+
+fn tally_object<L: Ledger>(
+    alloc: Global,
+    subject: Subject<'_>,
+    tally: &Tally,
+    whole: &Natural,
+    ticks: &mut Ticks<L>,
+) -> Result<Value, AllocError>
+    requires { whole.now < 10 ^ 126 }
+{
+    let mut object = Object::new(alloc);
+    let mut share = String::new(alloc);
+    share_of(&tally.count, whole).push_to(&mut share)?;
+    object.put("share", Value::String(share))?;
+    object.put("count", count_value(alloc, &tally.count)?)?;
+    put_kind(&mut object, tally.outcome.kind)?;
+    let output = output_words(alloc, subject.legend, tally.outcome.output.as_slice())?;
+    object.put("output", Value::String(output))?;
+    object.put("first", numbers(alloc, tally.first.as_slice())?)?;
+    match tally.outcome.kind {
+        OutcomeKind::AllWaiting => {
+            let waiting = waits_of(alloc, subject, tally.first.as_slice(), ticks)?;
+            object.put("final", waits(alloc, subject.legend, &waiting)?)?;
+        }
+        OutcomeKind::RunError { line, .. } => {
+            object.text("text", line_of(subject.source, line))?;
+        }
+        _ => {}
+    }
+    Ok(object.done())
+}
+
+// The limits at which schedules ended, and how many did.
+fn stops(alloc: Global, tallies: &Tallies) -> Result<Vec<Value>, AllocError> {
+    let mut items = Vec::new(alloc);
+    for limit in LIMITS {
+        let count = stopped_at(limit, tallies.as_slice());
+        if !count.is_zero() {
+            let mut object = Object::new(alloc);
+            object.text("kind", kind_words(limit.kind()))?;
+            object.put("count", count_value(alloc, &count)?)?;
+            items.push(object.done())?;
+        }
+    }
+    Ok(items)
+}
+
+/// What there is too much of.
+pub fn excess_json(alloc: Global, excess: Excess) -> Result<String, AllocError> {
+    let mut object = Object::new(alloc);
+    match excess {
+        Excess::Rows(fit) => {
+            object.text("too_many", "rows")?;
+            if let Some(Fit { choices, schedules }) = fit {
+                object.number("choices", u64::from(choices))?;
+                object.number("schedules", schedules as u64)?;
+            }
+        }
+        Excess::States(most) => {
+            object.text("too_many", "states")?;
+            object.number("states", u64::from(most))?;
+        }
+        Excess::Outcomes => object.text("too_many", "outcomes")?,
+    }
+    line(alloc, object)
+}

@@ -1,0 +1,88 @@
+//! Schedules that ended at a limit.
+
+ghost use Rattle.std.specs.Prelude.{◌≡◌, ◌<◌, ◌^◌, map, true};
+ghost use Rattle.cp_merged.specs.Code.{tally_of};
+ghost use Rattle.cp_merged.specs.Told.{rows_in};
+ghost use Rattle.cp_outcomes.specs.Stops.{count_at, is_at, rows_at};
+
+use cp_merged::Tally;
+use cp_natural::Natural;
+use cp_run::OutcomeKind;
+
+/// What stops a run before its end.
+#[derive(Clone, Copy, Debug, PartialEq, Eq)]
+pub enum Limit {
+    /// The choices of a schedule.
+    Choices,
+    /// The steps between two choices.
+    Steps,
+    /// The values that a run displays.
+    Output,
+}
+
+/// All limits.
+pub const LIMITS: [Limit; 3] = [Limit::Choices, Limit::Steps, Limit::Output];
+
+impl Limit {
+    /// Whether a kind of end is that of this limit.
+    pub fn stops(self, kind: OutcomeKind) -> bool
+        ensures { result ≡ is_at self kind }
+    {
+        match self {
+            Limit::Choices => matches!(kind, OutcomeKind::ChoiceLimit),
+            Limit::Steps => matches!(kind, OutcomeKind::StepLimit),
+            Limit::Output => matches!(kind, OutcomeKind::OutputLimit),
+        }
+    }
+
+    /// The kind of an end at this limit, as the report has it.
+    pub fn kind(self) -> OutcomeKind
+        ensures { is_at self result ≡ true }
+    {
+        match self {
+            Limit::Choices => OutcomeKind::ChoiceLimit,
+            Limit::Steps => OutcomeKind::StepLimit,
+            Limit::Output => OutcomeKind::OutputLimit,
+        }
+    }
+}
+
+/// Whether a kind of end is that of some limit.
+pub fn is_stopped(kind: OutcomeKind) -> bool {
+    LIMITS.iter().any(|limit| limit.stops(kind))
+}
+
+/// How many schedules there are.
+pub fn schedules_in(tallies: &[Tally]) -> Natural
+    requires { rows_in (map tally_of tallies.now) < 10 ^ 126 }
+    ensures { result ≡ rows_in (map tally_of tallies.now) }
+{
+    let mut sum = Natural::zero();
+    for tally in tallies {
+        sum = sum.plus(&tally.count);
+    }
+    sum
+}
+
+/// How many schedules ended at a limit.
+pub fn stopped_at(limit: Limit, tallies: &[Tally]) -> Natural
+    requires { rows_in (map tally_of tallies.now) < 10 ^ 126 }
+    ensures { result ≡ rows_at limit (map tally_of tallies.now) }
+{
+    let mut sum = Natural::zero();
+    for tally in tallies {
+        sum = sum.plus(&counted_at(limit, tally));
+    }
+    sum
+}
+
+// How many schedules of an outcome did.
+fn counted_at(limit: Limit, tally: &Tally) -> Natural
+    ensures { result ≡ count_at limit (tally_of tally.now) }
+{
+    if limit.stops(tally.outcome.kind) {
+        tally.count
+    } else {
+        Natural::zero()
+    }
+}

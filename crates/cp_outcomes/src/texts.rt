@@ -1,0 +1,248 @@
+//! Outcomes as lines of text.
+
+ghost use Rattle.std.specs.Prelude.{◌≤◌, ◌<◌, ◌^◌, length, map};
+ghost use Rattle.cp_merged.specs.Code.{tally_of};
+ghost use Rattle.cp_merged.specs.Told.{rows_in};
+
+use crate::fitting::Fit;
+use crate::share::share_of;
+use crate::stopped::{LIMITS, Limit, is_stopped, schedules_in, stopped_at};
+use crate::subject::{Excess, Subject, Way};
+use cp_explore::text::{push_outcome, push_word};
+use cp_machine::Ticks;
+use cp_merged::{Tallies, Tally};
+use cp_natural::{Natural, push_natural};
+use cp_run::{Limits, MOST_CHOICES, MOST_STEPS, OutcomeKind};
+use cp_story::{Wait, kind_words, tell, wait_words};
+use std::alloc::{AllocError, Global};
+use std::sync::ledger::Ledger;
+
+/// The most choices of a table.
+const MOST_OF_A_TABLE: u8 = 20;
+
+/// How wide a share is at most: `> 99.9 %`.
+const SHARE_WIDTH: usize = 8;
+
+/// Begins a line below a share.
+const INDENT: &str = "          ";
+
+/// The outcomes: first those of runs that ended, each with its share, then those of runs that a limit stopped. The last line says
+/// whether these are all.
+pub fn text<L: Ledger>(
+    alloc: Global,
+    subject: Subject<'_>,
+    tallies: &Tallies,
+    ticks: &mut Ticks<L>,
+) -> Result<String, AllocError> {
+    let all = tallies.as_slice();
+    let whole = schedules_in(all);
+    let mut text = String::new(alloc);
+    push_heading(&mut text, &whole, all.len())?;
+    for stopped in [false, true] {
+        for tally in all {
+            if is_stopped(tally.outcome.kind) == stopped {
+                push_tally(alloc, subject, &mut text, tally, &whole, ticks)?;
+            }
+        }
+    }
+    push_last(subject, &mut text, all)?;
+    Ok(text)
+}
+
+fn push_heading(text: &mut String, schedules: &Natural, outcomes: usize) -> Result<(), AllocError> {
+    push_schedules(text, schedules)?;
+    let ending = if outcomes == 1 { "" } else { "s" };
+    write!(text, ", {outcomes} outcome{ending}")?;
+    text.push_str("\n\n")
+}
+
+fn push_schedules(text: &mut String, count: &Natural) -> Result<(), AllocError> {
+    push_natural(text, count)?;
+    text.push_str(if count.to_u64() == Some(1) {
+        " schedule"
+    } else {
+        " schedules"
+    })
+}
+
+fn push_tally<L: Ledger>(
+    alloc: Global,
+    subject: Subject<'_>,
+    text: &mut String,
+    tally: &Tally,
+    whole: &Natural,
+    ticks: &mut Ticks<L>,
+) -> Result<(), AllocError>
+    requires { whole.now < 10 ^ 126 }
+{
+    push_share(alloc, text, tally, whole)?;
+    push_outcome(text, subject.program, &tally.outcome)?;
+    text.push('\n')?;
+    text.push_str(INDENT)?;
+    push_schedules(text, &tally.count)?;
+    text.push_str(", first ")?;
+    push_word(text, tally.first.as_slice())?;
+    text.push('\n')?;
+    match tally.outcome.kind {
+        OutcomeKind::AllWaiting => {
+            for wait in &waits_of(alloc, subject, tally.first.as_slice(), ticks)? {
+                push_line(text, wait_words(alloc, subject.legend, wait)?.as_str())?;
+            }
+            Ok(())
+        }
+        OutcomeKind::RunError { process, line, .. } => push_source(subject, text, process, line),
+        _ => Ok(()),
+    }
+}
+
+// The share, as wide as any.
+fn push_share(
+    alloc: Global,
+    text: &mut String,
+    tally: &Tally,
+    whole: &Natural,
+) -> Result<(), AllocError>
+    requires { whole.now < 10 ^ 126 }
+{
+    let mut share = String::new(alloc);
+    share_of(&tally.count, whole).push_to(&mut share)?;
+    for _ in share.len()..SHARE_WIDTH {
+        text.push(' ')?;
+    }
+    text.push_str(share.as_str())?;
+    text.push_str("  ")
+}
+
+fn push_line(text: &mut String, line: &str) -> Result<(), AllocError> {
+    text.push_str(INDENT)?;
+    text.push_str(line)?;
+    text.push('\n')
+}
+
+/// Who waits at the end of a schedule, and where.
+pub fn waits_of<L: Ledger>(
+    alloc: Global,
+    subject: Subject<'_>,
+    word: &[u8],
+    ticks: &mut Ticks<L>,
+) -> Result<Vec<Wait>, AllocError>
+    requires { length word.now ≤ 100 }
+{
+    let Subject {
+        program,
+        legend,
+        limits,
+        ..
+    } = subject;
+    Ok(tell(alloc, program, legend, limits, word, ticks)?.waits)
+}
+
+// The process that was in error, and the text of the line at which it was.
+fn push_source(
+    subject: Subject<'_>,
+    text: &mut String,
+    process: u8,
+    line: u32,
+) -> Result<(), AllocError> {
+    let name = subject.legend.process_name(process);
+    write!(text, "{INDENT}{process} {name} at line {line}: ")?;
+    text.push_str(line_of(subject.source, line))?;
+    text.push('\n')
+}
+
+/// The text of a line, counted from 1, without the spaces around it.
+pub fn line_of(source: &[String], line: u32) -> &str {
+    let place = (line as usize).saturating_sub(1);
+    match source.get(place) {
+        Some(text) => text.as_str().trim_ascii(),
+        None => "",
+    }
+}
+
+// Whether these are all outcomes; if not, what to try.
+fn push_last(subject: Subject<'_>, text: &mut String, tallies: &[Tally]) -> Result<(), AllocError>
+    requires { rows_in (map tally_of tallies.now) < 10 ^ 126 }
+{
+    let mut before = "\nnot complete: ";
+    let mut is_complete = true;
+    for limit in LIMITS {
+        let count = stopped_at(limit, tallies);
+        if !count.is_zero() {
+            text.push_str(before)?;
+            push_schedules(text, &count)?;
+            text.push_str(" ended as ")?;
+            text.push_str(kind_words(limit.kind()))?;
+            text.push_str(advice(limit, subject.limits, subject.way))?;
+            before = ", ";
+            is_complete = false;
+        }
+    }
+    if is_complete {
+        text.push_str("\ncomplete: the same for every greater number of choices")?;
+    }
+    text.push('\n')
+}
+
+/// What to try where runs ended at a limit.
+pub fn advice(limit: Limit, limits: Limits, way: Way) -> &'static str {
+    match limit {
+        Limit::Choices => match way {
+            Way::Rows => {
+                if limits.choices < MOST_OF_A_TABLE {
+                    " (try greater --choices, or --merge)"
+                } else {
+                    " (try --merge with greater --choices)"
+                }
+            }
+            Way::States(_) => {
+                if limits.choices < MOST_CHOICES {
+                    " (try greater --choices)"
+                } else {
+                    " (no greater --choices can be tried)"
+                }
+            }
+        },
+        Limit::Steps => {
+            if limits.steps < MOST_STEPS {
+                " (try greater --steps)"
+            } else {
+                " (no greater --steps can be tried)"
+            }
+        }
+        Limit::Output => " (a run displays at most 1000 values)",
+    }
+}
+
+/// What there is too much of, and what to try.
+pub fn excess_text(alloc: Global, excess: Excess) -> Result<String, AllocError> {
+    let mut text = String::new(alloc);
+    match excess {
+        Excess::Rows(fit) => {
+            text.push_str("too many rows: a table has at most 50000\n")?;
+            push_fit(&mut text, fit)?;
+        }
+        Excess::States(most) => {
+            write!(text, "too many states: a layer may have {most}\n")?;
+            text.push_str("try greater --states, or smaller --choices\n")?;
+        }
+        Excess::Outcomes => {
+            text.push_str("too many outcomes: there may be 50000\n")?;
+            text.push_str("try smaller --choices\n")?;
+        }
+    }
+    Ok(text)
+}
+
+// The greatest table that fits, and what else there is.
+fn push_fit(text: &mut String, fit: Option<Fit>) -> Result<(), AllocError> {
+    if let Some(Fit { choices, schedules }) = fit {
+        text.push_str("the greatest number of choices whose table fits is ")?;
+        write!(
+            text,
+            "{choices}, with {schedules} schedules\ntry --choices {choices}, or "
+        )?;
+    } else {
+        text.push_str("try ")?;
+    }
+    text.push_str("--merge, which counts any number of schedules\n")
+}

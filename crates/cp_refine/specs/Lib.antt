@@ -1,0 +1,7 @@
+pub mod Agrees
+pub mod InStep
+pub mod Law
+pub mod Named
+pub mod PlainValues
+pub mod Remaining
+pub mod Represents

@@ -1,0 +1,101 @@
+//! How many arguments a call has, and how many its routine takes.
+
+use crate::extent::{Extent, after_bracket, after_designator, expression_at};
+use crate::page::push_tokens;
+use crate::rules::{mark_at, name_at};
+use crate::sorts::Asker;
+use cp_text::{Mark, Tokens};
+use std::alloc::AllocError;
+
+/// Whether the name at a token is that of a heading.
+fn is_heading(tokens: &Tokens, at: usize) -> bool {
+    let before = match at.checked_sub(1) {
+        Some(place) => mark_at(tokens, place),
+        None => None,
+    };
+    matches!(before, Some(Mark::Procedure | Mark::Function | Mark::Entry))
+}
+
+/// The only heading with a name.
+fn heading_of(tokens: &Tokens, name: &str) -> Option<usize> {
+    let mut found = None;
+    for at in 0..tokens.count() {
+        if is_heading(tokens, at) && name_at(tokens, at) == name {
+            if found.is_some() {
+                return None;
+            }
+            found = Some(at);
+        }
+    }
+    found
+}
+
+/// The tokens between the parentheses that open at a number; none where none do.
+fn inside(tokens: &Tokens, open: usize) -> Extent {
+    let from = open.saturating_add(1);
+    if mark_at(tokens, open) == Some(Mark::OpenParenthesis) {
+        Extent {
+            from,
+            to: after_bracket(tokens, open).saturating_sub(1),
+        }
+    } else {
+        Extent { from, to: from }
+    }
+}
+
+/// How many parameters a heading has.
+fn parameters(tokens: &Tokens, heading: usize) -> usize {
+    let list = inside(tokens, heading.saturating_add(1));
+    let mut number: usize = 0;
+    for at in list.from..list.to {
+        let next = mark_at(tokens, at.saturating_add(1));
+        if !name_at(tokens, at).is_empty() && matches!(next, Some(Mark::Comma | Mark::Colon)) {
+            number = number.saturating_add(1);
+        }
+    }
+    number
+}
+
+/// How many arguments a call has.
+fn arguments(tokens: &Tokens, call: usize) -> usize {
+    let list = inside(tokens, after_designator(tokens, call));
+    let mut from = list.from;
+    let mut number: usize = 0;
+    for _ in 0..tokens.count() {
+        if from >= list.to {
+            return number;
+        }
+        number = number.saturating_add(1);
+        from = expression_at(tokens, from).to.saturating_add(1);
+    }
+    number
+}
+
+/// Says how many arguments a call has and should have. The answer tells whether something was said.
+pub fn push_counts(asker: &Asker, text: &mut String, at: usize) -> Result<bool, AllocError> {
+    let tokens = asker.tokens;
+    let after = after_designator(tokens, at);
+    let name = name_at(tokens, after.saturating_sub(1));
+    let wanted = match name {
+        "delay" | "continue" | "empty" | "succ" | "pred" | "chr" | "ord" | "abs" | "display" => 1,
+        _ => match heading_of(tokens, name) {
+            Some(heading) => parameters(tokens, heading),
+            None => return Ok(false),
+        },
+    };
+    let given = arguments(tokens, at);
+    push_tokens(
+        text,
+        asker.source,
+        Extent {
+            from: at,
+            to: after,
+        },
+    )?;
+    let alloc = asker.alloc;
+    let plural = if wanted == 1 { "" } else { "s" };
+    text.push_str(format!(in alloc;
+        " takes {wanted} argument{plural}, but is called with {given}"
+    )?.as_str())?;
+    Ok(true)
+}

@@ -1,0 +1,232 @@
+//! Places in a source.
+
+use cp_text::ScanCause;
+
+/// What a piece of a source is.
+#[derive(Clone, Copy, Debug, PartialEq, Eq)]
+pub enum Shape {
+    Blank,
+    Comment,
+    Number,
+    Name,
+    Character,
+    Sign,
+    /// A quote of a comment or a character that is not closed.
+    Open,
+    Unknown,
+}
+
+/// A piece at the front of a text, and its length in bytes.
+#[derive(Clone, Copy, Debug)]
+pub struct Piece {
+    pub shape: Shape,
+    pub len: usize,
+}
+
+/// The bytes of a source from one place to another.
+#[derive(Clone, Copy, Debug)]
+pub struct Span {
+    pub from: usize,
+    pub len: usize,
+}
+
+/// What is looked for in a source.
+#[derive(Clone, Copy, Debug)]
+pub enum Sought {
+    /// The token that so many tokens stand before.
+    Token(usize),
+    /// The first piece with a fault of this cause.
+    Fault(ScanCause),
+}
+
+fn is_word_byte(byte: u8) -> bool {
+    byte.is_ascii_alphanumeric() || byte == b'_'
+}
+
+/// How many bytes at the front pass a test.
+fn digits_len(text: &[u8]) -> usize {
+    for (at, byte) in text.iter().enumerate() {
+        if !byte.is_ascii_digit() {
+            return at;
+        }
+    }
+    text.len()
+}
+
+fn word_len(text: &[u8]) -> usize {
+    for (at, byte) in text.iter().enumerate() {
+        if !is_word_byte(*byte) {
+            return at;
+        }
+    }
+    text.len()
+}
+
+/// A comment or a character, to its closing quote, or to `end` where it has none before.
+fn quoted(text: &[u8], quote: u8, end: Option<u8>, shape: Shape) -> Piece {
+    for (at, byte) in text.iter().enumerate() {
+        if at > 0 && *byte == quote {
+            return Piece {
+                shape,
+                len: at.saturating_add(1),
+            };
+        }
+        if Some(*byte) == end {
+            return Piece {
+                shape: Shape::Open,
+                len: at,
+            };
+        }
+    }
+    Piece {
+        shape: Shape::Open,
+        len: text.len(),
+    }
+}
+
+fn is_double_sign(first: u8, second: u8) -> bool {
+    matches!(
+        (first, second),
+        (b'<', b'>')
+            | (b'<', b'=')
+            | (b'>', b'=')
+            | (b':', b'=')
+            | (b'.', b'.')
+            | (b'(', b'.')
+            | (b'.', b')')
+    )
+}
+
+fn is_single_sign(byte: u8) -> bool {
+    matches!(
+        byte,
+        b'+' | b'-'
+            | b'*'
+            | b'='
+            | b'<'
+            | b'>'
+            | b'('
+            | b')'
+            | b'['
+            | b']'
+            | b','
+            | b';'
+            | b':'
+            | b'.'
+            | b'&'
+    )
+}
+
+fn sign(first: u8, second: Option<u8>) -> Piece {
+    if let Some(second) = second {
+        if is_double_sign(first, second) {
+            return Piece {
+                shape: Shape::Sign,
+                len: 2,
+            };
+        }
+    }
+    Piece {
+        shape: if is_single_sign(first) {
+            Shape::Sign
+        } else {
+            Shape::Unknown
+        },
+        len: 1,
+    }
+}
+
+/// The piece at the front of a text; an empty one has none.
+pub fn first_piece(text: &[u8]) -> Piece {
+    let Some(first) = text.first().copied() else {
+        return Piece {
+            shape: Shape::Blank,
+            len: 0,
+        };
+    };
+    match first {
+        b' ' | b'\t' | b'\r' | b'\n' => Piece {
+            shape: Shape::Blank,
+            len: 1,
+        },
+        b'"' => quoted(text, b'"', None, Shape::Comment),
+        b'\'' => quoted(text, b'\'', Some(b'\n'), Shape::Character),
+        _ if first.is_ascii_digit() => Piece {
+            shape: Shape::Number,
+            len: digits_len(text),
+        },
+        _ if first.is_ascii_alphabetic() => Piece {
+            shape: Shape::Name,
+            len: word_len(text),
+        },
+        _ => sign(first, text.get(1).copied()),
+    }
+}
+
+fn is_token(shape: Shape) -> bool {
+    !matches!(shape, Shape::Blank | Shape::Comment)
+}
+
+/// Whether the text between two quotes is that of a character.
+fn is_character(text: &[u8]) -> bool {
+    match text {
+        [_, byte, _] => *byte >= 32 && *byte <= 126,
+        [_, b'(', b':', digits @ .., b':', b')', _] => {
+            !digits.is_empty() && digits_len(digits) == digits.len()
+        }
+        _ => false,
+    }
+}
+
+/// The value of digits, at most 100,000.
+fn value(digits: &[u8]) -> u32 {
+    let mut value: u32 = 0;
+    for digit in digits {
+        value = value
+            .saturating_mul(10)
+            .saturating_add(u32::from(digit.saturating_sub(b'0')))
+            .min(100_000);
+    }
+    value
+}
+
+fn has_fault(cause: ScanCause, shape: Shape, text: &[u8], before: usize) -> bool {
+    match cause {
+        ScanCause::BadByte => shape == Shape::Unknown,
+        ScanCause::OpenComment => shape == Shape::Open,
+        ScanCause::OpenChar => shape == Shape::Open,
+        ScanCause::BadChar => shape == Shape::Character && !is_character(text),
+        ScanCause::NumberTooLarge => shape == Shape::Number && value(text) > 32767,
+        ScanCause::NameTooLong => shape == Shape::Name && text.len() > 40,
+        ScanCause::TooManyTokens => is_token(shape) && before >= 20_000,
+        ScanCause::TooLong => false,
+        ScanCause::Memory => false,
+    }
+}
+
+/// Where what is looked for stands in a source; `None` where it is not there.
+pub fn find(source: &[u8], sought: Sought) -> Option<Span> {
+    let mut left: usize = 0;
+    let mut before: usize = 0;
+    for from in 0..source.len() {
+        if left > 0 {
+            left -= 1;
+            continue;
+        }
+        let text = &source[from..];
+        let piece = first_piece(text);
+        let len = piece.len.min(text.len());
+        let found = match sought {
+            Sought::Token(at) => is_token(piece.shape) && before == at,
+            Sought::Fault(cause) => has_fault(cause, piece.shape, &text[..len], before),
+        };
+        if found {
+            return Some(Span { from, len });
+        }
+        if is_token(piece.shape) {
+            before = before.saturating_add(1);
+        }
+        left = len.saturating_sub(1);
+    }
+    None
+}

@@ -1,0 +1,305 @@
+//! What is wrong where a rule is broken.
+
+use crate::changes::push_unchangeable;
+use crate::counts::push_counts;
+use crate::declared::{Declared, Looked, declared_at};
+use crate::disagree::push_disagreement;
+use crate::extent::{Extent, after_designator, expression_at, statement_start};
+use crate::page::push_tokens;
+use crate::sorts::{Asker, Sort};
+use cp_scope::Rule;
+use cp_text::{Kind, Mark, Tokens};
+use cp_tree::Program;
+use std::alloc::{AllocError, Global};
+
+/// The reserved word or sign at this number, where there is one.
+pub fn mark_at(tokens: &Tokens, at: usize) -> Option<Mark> {
+    match tokens.get(at) {
+        Some(Kind::Mark(mark)) => Some(*mark),
+        _ => None,
+    }
+}
+
+/// The name at this number; an empty text where there is none.
+pub fn name_at<'a>(tokens: &'a Tokens, at: usize) -> &'a str {
+    match tokens.get(at) {
+        Some(Kind::Name(name)) => name.as_str(),
+        _ => "",
+    }
+}
+
+fn mark_before(tokens: &Tokens, at: usize) -> Option<Mark> {
+    match at.checked_sub(1) {
+        Some(before) => mark_at(tokens, before),
+        None => None,
+    }
+}
+
+/// Whether a name is declared anywhere as a variable, a parameter or a routine.
+fn is_declared(tokens: &Tokens, at: usize) -> bool {
+    let name = name_at(tokens, at);
+    for place in 0..tokens.count() {
+        let is_declaration = mark_at(tokens, place.saturating_add(1)) == Some(Mark::Colon)
+            || matches!(
+                mark_before(tokens, place),
+                Some(Mark::Procedure | Mark::Function | Mark::Entry)
+            );
+        if is_declaration && name_at(tokens, place) == name {
+            return true;
+        }
+    }
+    false
+}
+
+/// What stands in the language for a name of another one.
+fn instead_of(name: &str) -> &'static str {
+    match name {
+        "wait" => ": a process waits by delay(q), where q is a queue of the monitor",
+        "signal" => ": a process that waits is let go on by continue(q)",
+        "notify" => ": a process that waits is let go on by continue(q)",
+        "real" => ": there are no real numbers",
+        "string" => ": there are no strings, but single characters",
+        "write" => ": a value is shown by display",
+        "writeln" => ": a value is shown by display",
+        "print" => ": a value is shown by display",
+        "semaphore" => ": write a monitor with a queue",
+        _ => "",
+    }
+}
+
+fn undeclared(tokens: &Tokens, at: usize) -> &'static str {
+    if mark_before(tokens, at) == Some(Mark::Period) {
+        return " is no field of this record";
+    }
+    if is_declared(tokens, at) {
+        return " is not declared here: it is declared elsewhere, and a block sees only what is declared before it and around it; a system type sees no variable and no routine of the program";
+    }
+    " is not declared here"
+}
+
+/// What does not agree in a construct that begins with a name, a number or a character.
+fn disagreement_after(tokens: &Tokens, at: usize) -> &'static str {
+    match mark_at(tokens, after_designator(tokens, at)) {
+        Some(Mark::Becomes) => ": the two sides of this assignment are of different types",
+        Some(Mark::OpenParenthesis) => match name_at(tokens, at) {
+            "delay" => " takes one queue variable",
+            "continue" => " takes one queue variable",
+            "empty" => " takes one queue variable",
+            _ => ": it can't be called so, or an argument is of another type than its parameter",
+        },
+        Some(
+            Mark::Equal
+            | Mark::NotEqual
+            | Mark::Less
+            | Mark::Greater
+            | Mark::AtMost
+            | Mark::AtLeast
+            | Mark::In,
+        ) => ": the two sides of this comparison are of different types",
+        Some(
+            Mark::Plus | Mark::Minus | Mark::Times | Mark::Div | Mark::Mod | Mark::And | Mark::Or,
+        ) => ": an operand of this operation is of the wrong type",
+        Some(Mark::DoublePeriod) => ": the bounds of a subrange have to be ordinal and of one type",
+        Some(Mark::Semicolon | Mark::End | Mark::Else | Mark::Until) => {
+            ": only a procedure can be called so"
+        }
+        _ => " is used as what it is not: its type does not agree",
+    }
+}
+
+fn disagreement(tokens: &Tokens, at: usize) -> &'static str {
+    match mark_at(tokens, at) {
+        Some(Mark::If) => ": its condition is not boolean",
+        Some(Mark::While) => ": its condition is not boolean",
+        Some(Mark::Repeat) => ": the condition after its until is not boolean",
+        Some(Mark::For) => ": its variable is not ordinal, or a bound is of another type",
+        Some(Mark::Case) => ": its selector is not ordinal, or a label is of another type",
+        Some(Mark::Function) => ": its result may not be an array, a record or a set",
+        Some(Mark::Array) => ": its index type is not ordinal",
+        Some(Mark::Not) => " takes a boolean",
+        Some(Mark::OpenBracket) => ": the elements of a set have to be ordinal and of one type",
+        Some(Mark::Plus) => ": a sign takes an integer",
+        Some(Mark::Minus) => ": a sign takes an integer",
+        _ => disagreement_after(tokens, at),
+    }
+}
+
+fn wrong_entry(tokens: &Tokens, at: usize) -> &'static str {
+    if mark_at(tokens, at) == Some(Mark::Entry) {
+        return " stands only in a class or a monitor: nobody calls a process or the program";
+    }
+    if mark_before(tokens, at) == Some(Mark::Period) {
+        return " can't be called from outside: its heading has no entry";
+    }
+    " is an entry, and can't be called within its own type: put what both need into a routine without entry"
+}
+
+fn wrong_wait(tokens: &Tokens, at: usize) -> &'static str {
+    match name_at(tokens, at) {
+        "delay" => " stands only in the routines of a monitor",
+        "continue" => " stands only in the body of an entry procedure of a monitor",
+        _ =>
+            " leads to a delay, and an initial statement may not wait: nobody could come in to wake it",
+    }
+}
+
+fn too_large(tokens: &Tokens, at: usize) -> &'static str {
+    match mark_at(tokens, at) {
+        Some(Mark::Set) => " can't be made of this base: the values of a set go from 0 to 127",
+        Some(Mark::Period) =>
+            " ends a program that is too large: there may be at most 16 processes, 64 components, 8192 permanent cells and 4096 frame cells of a process",
+        _ => " begins a type of more than 8192 cells",
+    }
+}
+
+/// What is wrong with the token of this number, after its spelling.
+fn complaint(tokens: &Tokens, at: usize, rule: Rule) -> &'static str {
+    match rule {
+        Rule::C1 => undeclared(tokens, at),
+        Rule::C2 => " is declared twice in one block",
+        Rule::C3 => " is no constant, and its value has to be known before the program runs",
+        Rule::C4 => " is not the name of a type",
+        Rule::C5 => disagreement(tokens, at),
+        Rule::C6 => " can't be assigned: it is no variable that may change here",
+        Rule::C7 => " is called with a wrong number of arguments",
+        Rule::C8 =>
+            " is no routine of this component, whose variables can't be reached from outside",
+        Rule::C9 => wrong_entry(tokens, at),
+        Rule::C10 => " calls itself: no routine may",
+        Rule::C11 =>
+            " can't stand here: a queue is declared only among the permanent variables of a monitor",
+        Rule::C12 => wrong_wait(tokens, at),
+        Rule::C13 =>
+            " can't stand here: a component is declared only among permanent variables, a monitor in the program, a process or a monitor, a process in the program, a class in any of these",
+        Rule::C14 =>
+            " is a class, and a monitor or a process can't be given a class: what is shared has to be a monitor",
+        Rule::C15 => " is a process or a queue, and can't be a parameter",
+        Rule::C16 => " stands only in the initial statement of the program or of a system type",
+        Rule::C17 => " is no component variable of this block, so that init can't start it",
+        Rule::C18 => " begins a subrange whose upper bound is below its lower bound",
+        Rule::C19 => " comes twice among the labels of this case",
+        Rule::C20 => too_large(tokens, at),
+        Rule::C21 => " is an array, a record or a set",
+    }
+}
+
+/// The number of a rule.
+fn code(rule: Rule) -> &'static str {
+    match rule {
+        Rule::C1 => "C1",
+        Rule::C2 => "C2",
+        Rule::C3 => "C3",
+        Rule::C4 => "C4",
+        Rule::C5 => "C5",
+        Rule::C6 => "C6",
+        Rule::C7 => "C7",
+        Rule::C8 => "C8",
+        Rule::C9 => "C9",
+        Rule::C10 => "C10",
+        Rule::C11 => "C11",
+        Rule::C12 => "C12",
+        Rule::C13 => "C13",
+        Rule::C14 => "C14",
+        Rule::C15 => "C15",
+        Rule::C16 => "C16",
+        Rule::C17 => "C17",
+        Rule::C18 => "C18",
+        Rule::C19 => "C19",
+        Rule::C20 => "C20",
+        Rule::C21 => "C21",
+    }
+}
+
+/// A fault of a program that the checker refuses.
+#[derive(Clone, Copy)]
+pub struct Broken<'a> {
+    pub program: &'a Program,
+    pub at: usize,
+    pub rule: Rule,
+}
+
+/// One sentence on the rule that is broken at a token.
+pub fn sentence(
+    alloc: Global,
+    source: &[u8],
+    tokens: &Tokens,
+    broken: Broken,
+) -> Result<String, AllocError> {
+    let asker = Asker {
+        alloc,
+        source,
+        tokens,
+        place: statement_start(tokens, broken.at),
+    };
+    let mut text = String::new(alloc);
+    if !push_particular(&asker, &mut text, broken)? {
+        push_general(&asker, &mut text, broken)?;
+    }
+    text.push_str(" (rule ")?;
+    text.push_str(code(broken.rule))?;
+    text.push_str(")")?;
+    Ok(text)
+}
+
+/// Says what is there and what is wanted, where that can be told.
+fn push_particular(asker: &Asker, text: &mut String, broken: Broken) -> Result<bool, AllocError> {
+    match broken.rule {
+        Rule::C5 => {
+            Ok(push_misused(asker, text, broken)? || push_disagreement(asker, text, broken.at)?)
+        }
+        Rule::C6 => push_unchangeable(asker, text, broken.program, broken.at),
+        Rule::C7 => push_counts(asker, text, broken.at),
+        Rule::C21 => push_undisplayed(asker, text, broken.at),
+        _ => Ok(false),
+    }
+}
+
+/// Says that a procedure, a function or a type is used as what it is not.
+fn push_misused(asker: &Asker, text: &mut String, broken: Broken) -> Result<bool, AllocError> {
+    let at = broken.at;
+    let name = name_at(asker.tokens, at);
+    let after = mark_at(asker.tokens, after_designator(asker.tokens, at));
+    if name.is_empty() || after == Some(Mark::OpenParenthesis) {
+        return Ok(false);
+    }
+    let is_called = at == asker.place && after != Some(Mark::Becomes);
+    let said = match declared_at(broken.program, Looked { name, at }) {
+        Some(Declared::Procedure) if !is_called => " is a procedure, and has no value",
+        Some(Declared::Function) if is_called => {
+            " is a function: a statement calls a procedure, and a function's value has to be used"
+        }
+        Some(Declared::Type) => " is a type, and has no value",
+        _ => return Ok(false),
+    };
+    text.push_str(name)?;
+    text.push_str(said)?;
+    Ok(true)
+}
+
+fn push_undisplayed(asker: &Asker, text: &mut String, at: usize) -> Result<bool, AllocError> {
+    let value = expression_at(asker.tokens, at);
+    text.push_str("display takes a value, but ")?;
+    push_tokens(text, asker.source, value)?;
+    text.push_str(match asker.sort_of(value)? {
+        Some(Sort::Queue) => " is a queue",
+        Some(Sort::Set) => " is a set",
+        Some(Sort::Record) => " is a record",
+        Some(Sort::Array) => " is an array",
+        Some(Sort::Component) => " is a component",
+        _ => " is an array, a record or a set",
+    })?;
+    Ok(true)
+}
+
+fn push_general(asker: &Asker, text: &mut String, broken: Broken) -> Result<(), AllocError> {
+    let token = Extent {
+        from: broken.at,
+        to: broken.at.saturating_add(1),
+    };
+    push_tokens(text, asker.source, token)?;
+    text.push_str(complaint(asker.tokens, broken.at, broken.rule))?;
+    if broken.rule == Rule::C1 {
+        text.push_str(instead_of(name_at(asker.tokens, broken.at)))?;
+    }
+    Ok(())
+}

@@ -1,0 +1,199 @@
+//! Of what sort a value is, as the checker sees it.
+
+use crate::extent::Extent;
+use crate::probe::{Piece, Reply, asked};
+use cp_check::Rule;
+use cp_text::{Mark, Tokens};
+use std::alloc::{AllocError, Global};
+
+/// What sort of value an expression has.
+#[derive(Clone, Copy, Debug, PartialEq, Eq)]
+pub enum Sort {
+    Integer,
+    Boolean,
+    Character,
+    Enumeration,
+    Set,
+    Queue,
+    Record,
+    Array,
+    Component,
+}
+
+impl Sort {
+    /// The sort with its article.
+    pub fn phrase(self) -> &'static str {
+        match self {
+            Sort::Integer => "an integer",
+            Sort::Boolean => "a boolean",
+            Sort::Character => "a character",
+            Sort::Enumeration => "a value of an enumeration",
+            Sort::Set => "a set",
+            Sort::Queue => "a queue",
+            Sort::Record => "a record",
+            Sort::Array => "an array",
+            Sort::Component => "a component",
+        }
+    }
+
+    /// Whether values of the sort are ordered.
+    pub fn is_ordinal(self) -> bool {
+        matches!(
+            self,
+            Sort::Integer | Sort::Boolean | Sort::Character | Sort::Enumeration
+        )
+    }
+}
+
+/// A program, and the place of a statement in it.
+#[derive(Clone, Copy)]
+pub struct Asker<'a> {
+    pub alloc: Global,
+    pub source: &'a [u8],
+    pub tokens: &'a Tokens,
+    pub place: usize,
+}
+
+/// An index of a sort, to be tried.
+const INDICES: [Piece; 2] = [Piece::Number(1), Piece::Character(65)];
+
+impl<'a> Asker<'a> {
+    fn asks(&self, pieces: &[Piece]) -> Result<Reply, AllocError> {
+        asked(self.alloc, self.tokens, self.place, pieces)
+    }
+
+    fn accepts(&self, pieces: &[Piece]) -> Result<bool, AllocError> {
+        Ok(self.asks(pieces)? == Reply::Fine)
+    }
+
+    /// Whether an expression may be compared with this piece.
+    fn equals(&self, value: Extent, other: Piece) -> Result<bool, AllocError> {
+        self.accepts(&[
+            Piece::Mark(Mark::If),
+            Piece::Mark(Mark::OpenParenthesis),
+            Piece::Copied(value),
+            Piece::Mark(Mark::CloseParenthesis),
+            Piece::Mark(Mark::Equal),
+            other,
+            Piece::Mark(Mark::Then),
+        ])
+    }
+
+    fn is_boolean(&self, value: Extent) -> Result<bool, AllocError> {
+        self.accepts(&[
+            Piece::Mark(Mark::If),
+            Piece::Mark(Mark::Not),
+            Piece::Mark(Mark::OpenParenthesis),
+            Piece::Copied(value),
+            Piece::Mark(Mark::CloseParenthesis),
+            Piece::Mark(Mark::Then),
+        ])
+    }
+
+    /// Whether an expression may be compared with a set of what these brackets hold.
+    fn is_set(&self, value: Extent) -> Result<bool, AllocError> {
+        self.accepts(&[
+            Piece::Mark(Mark::If),
+            Piece::Mark(Mark::OpenParenthesis),
+            Piece::Copied(value),
+            Piece::Mark(Mark::CloseParenthesis),
+            Piece::Mark(Mark::Equal),
+            Piece::Mark(Mark::OpenBracket),
+            Piece::Mark(Mark::CloseBracket),
+            Piece::Mark(Mark::Then),
+        ])
+    }
+
+    /// Whether a set may have an expression as an element.
+    fn is_element(&self, value: Extent) -> Result<bool, AllocError> {
+        self.accepts(&[
+            Piece::Mark(Mark::If),
+            Piece::Mark(Mark::OpenBracket),
+            Piece::Copied(value),
+            Piece::Mark(Mark::CloseBracket),
+            Piece::Mark(Mark::Equal),
+            Piece::Mark(Mark::OpenBracket),
+            Piece::Mark(Mark::CloseBracket),
+            Piece::Mark(Mark::Then),
+        ])
+    }
+
+    fn is_queue(&self, value: Extent) -> Result<bool, AllocError> {
+        self.accepts(&[
+            Piece::Mark(Mark::If),
+            Piece::Empty,
+            Piece::Mark(Mark::OpenParenthesis),
+            Piece::Copied(value),
+            Piece::Mark(Mark::CloseParenthesis),
+            Piece::Mark(Mark::Then),
+        ])
+    }
+
+    /// What is said of a field of a value that nothing has.
+    fn field_reply(&self, value: Extent) -> Result<Reply, AllocError> {
+        self.asks(&[
+            Piece::Mark(Mark::If),
+            Piece::Copied(value),
+            Piece::Mark(Mark::Period),
+            Piece::NewName,
+            Piece::Mark(Mark::Then),
+        ])
+    }
+
+    /// Whether the fault with an index is another than that there is none.
+    fn takes_index(&self, value: Extent, index: Piece) -> Result<bool, AllocError> {
+        let reply = self.asks(&[
+            Piece::Mark(Mark::If),
+            Piece::Copied(value),
+            Piece::Mark(Mark::OpenBracket),
+            index,
+            Piece::Mark(Mark::CloseBracket),
+            Piece::Mark(Mark::Then),
+        ])?;
+        Ok(match reply {
+            Reply::Fine => true,
+            Reply::Broken { rule: Rule::C5, at } => at == 0,
+            _ => false,
+        })
+    }
+
+    fn plain_sort(&self, value: Extent) -> Result<Option<Sort>, AllocError> {
+        if self.equals(value, Piece::Number(1))? {
+            return Ok(Some(Sort::Integer));
+        }
+        if self.is_boolean(value)? {
+            return Ok(Some(Sort::Boolean));
+        }
+        if self.equals(value, Piece::Character(65))? {
+            return Ok(Some(Sort::Character));
+        }
+        if self.is_set(value)? {
+            return Ok(Some(Sort::Set));
+        }
+        if self.is_element(value)? {
+            return Ok(Some(Sort::Enumeration));
+        }
+        if self.is_queue(value)? {
+            return Ok(Some(Sort::Queue));
+        }
+        Ok(None)
+    }
+
+    /// The sort of an expression's value; none where it can't be told, or where the expression has none.
+    pub fn sort_of(&self, value: Extent) -> Result<Option<Sort>, AllocError> {
+        if let Some(sort) = self.plain_sort(value)? {
+            return Ok(Some(sort));
+        }
+        match self.field_reply(value)? {
+            Reply::Broken { rule: Rule::C1, at } if at > 1 => return Ok(Some(Sort::Record)),
+            Reply::Broken { rule: Rule::C8, .. } => return Ok(Some(Sort::Component)),
+            _ => {}
+        }
+        for index in &INDICES {
+            if self.takes_index(value, *index)? {
+                return Ok(Some(Sort::Array));
+            }
+        }
+        Ok(None)
+    }
+}

@@ -1,0 +1,155 @@
+//! Where a process may wait while it is inside another monitor.
+
+use crate::components::{Named, component_type, system_types};
+use crate::extent::{Extent, after_bracket};
+use crate::rules::{mark_at, name_at};
+use cp_text::{Mark, Tokens};
+use cp_tree::{Program, Routine, System, SystemKind};
+use std::alloc::{AllocError, Global};
+
+/// A routine of a system type, and whether a call of it may wait in a queue.
+#[derive(Clone, Copy, Drop)]
+struct Known<'a> {
+    owner: &'a str,
+    name: &'a str,
+    waits: bool,
+}
+
+/// A call, within a monitor, of another one in which it may wait.
+#[derive(Clone, Copy, Debug, Drop)]
+pub struct Inner<'a> {
+    /// The name of the monitor type that is around.
+    pub outer: &'a str,
+    /// The tokens of the component and the routine that are called.
+    pub call: Extent,
+}
+
+fn waits(known: &[Known], owner: &str, name: &str) -> bool {
+    known
+        .iter()
+        .any(|one| one.waits && one.owner == owner && one.name == name)
+}
+
+/// The number of the token after the name at this number and an index.
+fn after_index(tokens: &Tokens, at: usize) -> usize {
+    let next = at.saturating_add(1);
+    match mark_at(tokens, next) {
+        Some(Mark::OpenBracket) => after_bracket(tokens, next),
+        _ => next,
+    }
+}
+
+/// The call of a component's routine that begins at a token, where one that may wait does.
+fn waiting_call(
+    tokens: &Tokens,
+    program: &Program,
+    system: &System,
+    known: &[Known],
+    at: usize,
+) -> Option<Extent> {
+    let period = after_index(tokens, at);
+    if mark_at(tokens, period) != Some(Mark::Period) {
+        return None;
+    }
+    let owner = component_type(program, system, name_at(tokens, at))?;
+    let routine = period.saturating_add(1);
+    if waits(known, owner, name_at(tokens, routine)) {
+        Some(Extent {
+            from: at,
+            to: routine.saturating_add(1),
+        })
+    } else {
+        None
+    }
+}
+
+/// Whether a routine may wait: by `delay`, or in a routine that it calls.
+fn may_wait(
+    tokens: &Tokens,
+    program: &Program,
+    named: Named,
+    known: &[Known],
+    body: Extent,
+) -> bool {
+    for at in body.from..body.to {
+        let name = name_at(tokens, at);
+        if !name.is_empty()
+            && (name == "delay"
+                || waits(known, named.name, name)
+                || waiting_call(tokens, program, named.system, known, at).is_some())
+        {
+            return true;
+        }
+    }
+    false
+}
+
+/// The tokens of a routine's body, of which `number` routines stand before it.
+fn body_of(system: &System, number: usize, routine: &Routine) -> Extent {
+    let to = match system.routines.get(number.saturating_add(1)) {
+        Some(next) => next.at,
+        None => system.body.at,
+    };
+    Extent {
+        from: routine.body.at,
+        to,
+    }
+}
+
+/// Adds the routines of a system type, in their order: each calls only those before it.
+fn add_routines<'a>(
+    tokens: &Tokens,
+    program: &'a Program,
+    named: Named<'a>,
+    known: &mut Vec<Known<'a>>,
+) -> Result<(), AllocError> {
+    for (number, routine) in named.system.routines.iter().enumerate() {
+        let body = body_of(named.system, number, routine);
+        let waits = may_wait(tokens, program, named, known, body);
+        known.push(Known {
+            owner: named.name,
+            name: routine.name.name.as_str(),
+            waits,
+        })?;
+    }
+    Ok(())
+}
+
+/// Adds the calls in a monitor type that may wait in another monitor.
+fn add_inner<'a>(
+    tokens: &Tokens,
+    program: &'a Program,
+    named: Named<'a>,
+    known: &[Known],
+    found: &mut Vec<Inner<'a>>,
+) -> Result<(), AllocError> {
+    for (number, routine) in named.system.routines.iter().enumerate() {
+        let body = body_of(named.system, number, routine);
+        for at in body.from..body.to {
+            if let Some(call) = waiting_call(tokens, program, named.system, known, at) {
+                found.push(Inner {
+                    outer: named.name,
+                    call,
+                })?;
+            }
+        }
+    }
+    Ok(())
+}
+
+/// The calls, within monitors, of other monitors in which they may wait.
+pub fn inner_waits<'a>(
+    alloc: Global,
+    tokens: &Tokens,
+    program: &'a Program,
+) -> Result<Vec<Inner<'a>>, AllocError> {
+    let mut known = Vec::new(alloc);
+    let mut found = Vec::new(alloc);
+    for named in &system_types(alloc, program)? {
+        if named.system.kind == SystemKind::Monitor {
+            add_inner(tokens, program, *named, &known, &mut found)?;
+        }
+        add_routines(tokens, program, *named, &mut known)?;
+    }
+    Ok(found)
+}

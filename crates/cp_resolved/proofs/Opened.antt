@@ -1,0 +1,25 @@
+-- The openings of a program have the numbers that the numbering gives them.
+use Rattle.std.proofs.Common.{◌≡◌, ◌<◌, suc, List, [], ◌∷◌, ◌++◌, length, Some, refl, sym, ap, subst, ◌∙◌, arith, append_assoc, length-append}
+use Rattle.std.specs.Prelude.{slice_get}
+use Rattle.std.proofs.lemmas.Option.{slice_get-get_or}
+use Rattle.std.proofs.Math.Seq.{get_or-append_seam}
+use Rattle.cp_tree.specs.Syntax.{Program}
+use Rattle.cp_meaning.specs.Declarations.{RoutineMeaning}
+use Rattle.cp_meaning.specs.Systems.{declared, own_meaning}
+use Rattle.cp_resolved.specs.Resolved.{initial_meaning}
+use Rattle.cp_resolved.specs.Openings.{Opening, AreOpened, meaning_in, meaning_at, openings_of}
+
+slice_seam : {X : Type 0} (xs : List X) (x : X) (ys : List X) → slice_get (xs ++ x ∷ ys) (length xs) ≡ Some x
+slice_seam xs x ys =
+    let v : length xs < length (xs ++ x ∷ ys) = omega (arith, length-append xs (x ∷ ys)) in
+    slice_get-get_or (xs ++ x ∷ ys) (length xs) x v ∙ ap (λ y. Some y) (get_or-append_seam xs x ys x)
+
+opened_from : (m : RoutineMeaning) (all before os : List Opening) → all ≡ before ++ os → AreOpened (λ n. meaning_in m (slice_get all n)) (length before) os
+opened_from m all before [] h = tt
+opened_from m all before (o ∷ os) h =
+    let e : length (before ++ o ∷ []) ≡ suc (length before) = omega (arith, length-append before (o ∷ [])) in
+    let rest : AreOpened (λ n. meaning_in m (slice_get all n)) (length (before ++ o ∷ [])) os = opened_from m all (before ++ o ∷ []) os (h ∙ sym (append_assoc before (o ∷ []) os)) in
+    (ap (λ a. meaning_in m (slice_get a (length before))) h ∙ ap (meaning_in m) (slice_seam before o os), subst (λ n. AreOpened (λ n. meaning_in m (slice_get all n)) n os) e rest)
+
+pub opened_all : (p : Program) → AreOpened (meaning_at p) 0 (openings_of p)
+opened_all p = opened_from (initial_meaning (own_meaning (declared p) p)) (openings_of p) [] (openings_of p) refl

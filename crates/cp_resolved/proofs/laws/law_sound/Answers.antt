@@ -1,0 +1,5 @@
+use Rattle.cp_resolved.proofs.SoundTables.{laid_sound}
+use Rattle.cp_resolved.proofs.laws.law_sound.Goals as goal
+
+pub returns : goal.returns
+returns c = laid_sound

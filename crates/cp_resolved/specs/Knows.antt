@@ -1,0 +1,30 @@
+-- When what is laid out so far and the layouts say the same of the names where a statement stands.
+use Rattle.std.specs.Prelude.{◌≡◌, ◌≤◌, ℕ, true, false, Some}
+use Rattle.cp_slots.specs.declared.place.Origin.{Origin}
+use Rattle.cp_slots.specs.declared.place.Origin.TheVariants.{Permanent}
+use Rattle.cp_slots.specs.declared.lay_out.kinds.ValueType.{ValueType}
+use Rattle.cp_slots.specs.declared.lay_out.names.Meaning.TheVariants.{Variable, Contained, Bound}
+use Rattle.cp_slots.specs.Kinds.{most}
+use Rattle.cp_slots.specs.Layers as layers
+use Rattle.cp_slots.specs.Layers.{Layer}
+use Rattle.cp_slots.specs.LaidExpressions.{component_count}
+use Rattle.cp_meaning.specs.Names.{Name}
+use Rattle.cp_meaning.specs.Types.{Ty}
+use Rattle.cp_meaning.specs.Scopes.{local_variable, permanent_variable, find}
+use Rattle.cp_meaning.specs.Systems.{system_of}
+use Rattle.cp_resolved.specs.InStep.{Numbering, IsInFrame, InStep}
+use Rattle.cp_resolved.specs.Layouts.{cells_of, Here, system_here, frame_here, is_parameter}
+use Rattle.cp_resolved.specs.Valued.{IsFull}
+
+pub record Knows (k : Numbering) (h : Here) (l : Layer) : Type 0 where
+  pub names : InStep k l.types l.names h.scope
+  -- where each name lies
+  pub frame : (x : Name) (o : Origin) (v : ValueType) → layers.find x l.names ≡ Some (Variable o v) → IsInFrame o → (frame_here h).origins x ≡ o
+  pub slot : (x : Name) (n : ℕ) (v : ValueType) → layers.find x l.names ≡ Some (Variable (Permanent n) v) → (system_here h).slots x ≡ n
+  pub first : (x : Name) (n : ℕ) (v : ValueType) → layers.find x l.names ≡ Some (Contained n v) → ((system_here h).firsts x ≡ n) × (is_parameter x (system_of h.program h.system).parameters ≡ false)
+  pub bound : (x : Name) (n c : ℕ) → layers.find x l.names ≡ Some (Bound n c) → ((system_here h).slots x ≡ n) × (is_parameter x (system_of h.program h.system).parameters ≡ true)
+  -- how many components one of a system type is
+  pub count : (n : ℕ) → component_count l n ≡ (h.layouts.systems n).count
+  -- variables have few cells, and no array without elements
+  pub local : (x : Name) (t : Ty) → find x h.scope ≡ Some (local_variable t) → (cells_of t ≤ most) × IsFull t
+  pub permanent : (x : Name) (t : Ty) → find x h.scope ≡ Some (permanent_variable t) → (cells_of t ≤ most) × IsFull t

@@ -1,0 +1,14 @@
+//! Laws over the definitions alone.
+
+ghost use Rattle.cp_resolved.specs.Names.{NamesLaw};
+ghost use Rattle.cp_resolved.specs.Soundness.{SoundLaw};
+
+/// The names of the tables stand for what the names of the program stand for.
+pub fn law_names()
+    ensures { NamesLaw }
+{}
+
+/// Tables that are laid out are sound where no count has stopped and what their items name is there.
+pub fn law_sound()
+    ensures { SoundLaw }
+{}

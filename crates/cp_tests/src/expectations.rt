@@ -1,0 +1,87 @@
+use cp_verdict::{Misread, expectations, expected, misread_text, push_expectation};
+use std::alloc::Global;
+use std::test::Fail;
+
+/// What is read from a text, written again; or why it is refused.
+fn read_again(alloc: Global, text: &str) -> Result<String, Fail> {
+    let mut again = String::new(alloc);
+    match expectations(alloc, text) {
+        Ok(all) => {
+            for expectation in &all {
+                push_expectation(&mut again, expectation)?;
+                again.push_str(";")?;
+            }
+        }
+        Err(Misread::Unexpected { wanted, place }) => {
+            return Ok(misread_text(alloc, text, wanted, place)?);
+        }
+        Err(Misread::Memory) => again.push_str("memory")?,
+    }
+    Ok(again)
+}
+
+#[test]
+fn reads_expectations(rt: HostRuntime) -> Result<(), Fail> {
+    for (text, again) in [
+        ("never all-waiting", "never all-waiting;"),
+        ("some  run-error range", "some run-error range;"),
+        (
+            "only finished output 1 2 finished output 2 1 .. and never run-error",
+            "only finished output 1 2 or finished output 2 1 ..;never run-error;",
+        ),
+        (
+            "never finished output - or all-waiting output ..",
+            "never finished output - or all-waiting output ..;",
+        ),
+        (
+            "only finished output finished",
+            "only finished output finished;",
+        ),
+        (
+            "always finished",
+            "expected never, some or only, found \"always\"\n",
+        ),
+        (
+            "never",
+            "expected finished, all-waiting or run-error, found the end\n",
+        ),
+        (
+            "never deadlock",
+            "expected finished, all-waiting or run-error, found \"deadlock\"\n",
+        ),
+        (
+            "never finished output",
+            "expected a value, - or .., found the end\n",
+        ),
+        (
+            "never finished with",
+            "expected output, and, or, finished, all-waiting or run-error, found \"with\"\n",
+        ),
+        (
+            "never finished output 1 .. 2",
+            "expected and, or, finished, all-waiting or run-error, found \"2\"\n",
+        ),
+    ] {
+        assert_eq!(rt; read_again(rt.alloc(), text)?.as_str(), again);
+    }
+    Ok(())
+}
+
+#[test]
+fn finds_expectations_in_comments(rt: HostRuntime) -> Result<(), Fail> {
+    for (source, text) in [
+        ("begin end.", ""),
+        (
+            "\"(* expect never all-waiting *)\" begin end.",
+            "never all-waiting ",
+        ),
+        (
+            "begin \" (* expect never\n all-waiting\" display('\"') end. \"(* expect some finished*)\"",
+            "never  all-waiting and some finished",
+        ),
+        ("\"expect never all-waiting\" begin end.", ""),
+    ] {
+        assert_eq!(rt; expected(rt.alloc(), source.as_bytes())?.as_str(), text);
+    }
+    Ok(())
+}

@@ -1,0 +1,164 @@
+//! The mark of a program, by the outcomes of all its schedules.
+
+ghost use Rattle.std.specs.Prelude.{◌≡◌, List, map, IfOk};
+ghost use Rattle.cp_run.specs.Slots.{slots};
+ghost use Rattle.cp_run.specs.Table.{Line, table};
+ghost use Rattle.cp_explore.specs.Report.{same_outcome};
+ghost use Rattle.cp_merged.specs.Code.{tally_of};
+ghost use Rattle.cp_merged.specs.Tallies.{tally};
+ghost use Rattle.cp_verdict.specs.Judged.{line_of};
+ghost use Rattle.cp_verdict.specs.Marked as spec;
+
+use crate::expectation::Expectation;
+use crate::marking::{Verdict, mark};
+use crate::seen::Seen;
+use crate::words::verdict_text;
+use cp_explore::Job;
+use cp_merged::{MergeFault, Tallies, Tally, explore_merged};
+use cp_natural::push_natural;
+use cp_slots::Resolved;
+use std::alloc::{AllocError, AllocFailed, Global};
+
+/// The most rows of a table that is listed.
+const MOST_ROWS: u32 = 50_000;
+
+/// How large a table may be.
+#[derive(Clone, Copy, Debug, PartialEq, Eq)]
+pub enum Most {
+    /// It has no more rows than a table that is listed.
+    Rows,
+    /// No layer has more states.
+    States(u32),
+}
+
+/// Why a program has no mark.
+#[derive(Clone, Copy, Debug, PartialEq, Eq)]
+pub enum MarkFault {
+    TooManyRows,
+    TooManyStates,
+    TooManyOutcomes,
+    Memory,
+}
+
+impl From<AllocError> for MarkFault {
+    fn from(_e: AllocError) -> MarkFault {
+        MarkFault::Memory
+    }
+}
+
+impl<T: Drop> From<AllocFailed<T>> for MarkFault {
+    fn from(_e: AllocFailed<T>) -> MarkFault {
+        MarkFault::Memory
+    }
+}
+
+/// What is said of some expectations together.
+#[derive(Clone, Copy, Debug, PartialEq, Eq)]
+pub enum Mark {
+    /// Each of them is true of the whole table, and no run that a limit stopped could change that.
+    Holds,
+    /// One of them is not.
+    Fails,
+    /// None of them fails, and one is not settled.
+    Open,
+}
+
+/// A mark, and what is said with it.
+#[derive(Debug, Drop)]
+pub struct Marked {
+    pub mark: Mark,
+    pub text: String,
+}
+
+fn mark_of(verdict: Verdict) -> Mark
+    ensures { result ≡ spec.mark_of verdict.entry }
+{
+    match verdict {
+        Verdict::Holds => Mark::Holds,
+        Verdict::Fails { .. } => Mark::Fails,
+        Verdict::Open { .. } => Mark::Open,
+    }
+}
+
+/// The outcomes of a table, each with its first schedule.
+fn seen_of<'a>(alloc: Global, tallies: &'a [Tally]) -> Result<Vec<Seen<'a>>, AllocError>
+    ensures { IfOk result (λ v. map line_of v.items ≡ map (λ t. t.first) (map tally_of tallies.entry.now)) }
+{
+    let mut seen = Vec::new(alloc);
+    for tally in tallies {
+        seen.push(Seen {
+            outcome: &tally.outcome,
+            first: tally.first.as_slice(),
+        })?;
+    }
+    Ok(seen)
+}
+
+/// Whether there are more schedules than a table that is listed may have.
+fn is_too_long(alloc: Global, tallies: &[Tally]) -> Result<bool, AllocError> {
+    let mut sum: u64 = 0;
+    for tally in tallies {
+        let mut digits = String::new(alloc);
+        push_natural(&mut digits, &tally.count)?;
+        let Ok(count) = digits.as_str().parse::<u64>() else {
+            return Ok(true);
+        };
+        sum = sum.saturating_add(count);
+    }
+    Ok(sum > u64::from(MOST_ROWS))
+}
+
+/// The outcomes of a job, or what there is too much of. A table of few rows has no more states in a layer, nor outcomes.
+fn explored(alloc: Global, job: Job, most: Most) -> Result<Tallies, MarkFault>
+    ensures { IfOk result (λ ts. map tally_of ts ≡ tally same_outcome (table (slots job.entry.program.now job.entry.limits.gates) job.entry.limits.choices job.entry.limits.steps)) }
+{
+    let states = match most {
+        Most::Rows => MOST_ROWS,
+        Most::States(states) => states,
+    };
+    match (explore_merged(alloc, job, states as usize), most) {
+        (Ok(tallies), Most::Rows) if is_too_long(alloc, tallies.as_slice())? => {
+            Err(MarkFault::TooManyRows)
+        }
+        (Ok(tallies), _) => Ok(tallies),
+        (Err(MergeFault::Memory), _) => Err(MarkFault::Memory),
+        (Err(_), Most::Rows) => Err(MarkFault::TooManyRows),
+        (Err(MergeFault::TooManyStates), _) => Err(MarkFault::TooManyStates),
+        (Err(MergeFault::TooManyOutcomes), _) => Err(MarkFault::TooManyOutcomes),
+    }
+}
+
+/// What the table with these outcomes says of some expectations.
+fn marked_by<'a>(
+    alloc: Global,
+    program: &Resolved,
+    expectations: &'a [Expectation],
+    tallies: &'a [Tally],
+) -> Result<Marked, AllocError>
+    ensures { IfOk result (λ m. (lines : List Line) → map tally_of tallies.entry.now ≡ tally same_outcome lines → spec.IsMarkOf program.now expectations.entry.now lines m.mark) }
+{
+    let seen = seen_of(alloc, tallies)?;
+    let verdict = mark(alloc, program, expectations, &seen)?;
+    let text = verdict_text(alloc, program, &seen, verdict)?;
+    Ok(Marked {
+        mark: mark_of(verdict),
+        text,
+    })
+}
+
+/// What the outcomes of all schedules of a job say of some expectations.
+///
+/// # Errors
+/// What there is too much of; or memory was refused.
+pub fn mark_program(
+    alloc: Global,
+    job: Job,
+    most: Most,
+    expectations: &[Expectation],
+) -> Result<Marked, MarkFault>
+    ensures { IfOk result (λ m. spec.IsMarkOf job.entry.program.now expectations.entry.now (table (slots job.entry.program.now job.entry.limits.gates) job.entry.limits.choices job.entry.limits.steps) m.mark) }
+{
+    let tallies = explored(alloc, job, most)?;
+    let marked = marked_by(alloc, job.program, expectations, tallies.as_slice())?;
+    Ok(marked)
+}

@@ -1,0 +1,10 @@
+//! The different outcomes of a table.
+
+use cp_run::Outcome;
+
+/// An outcome, and the first schedule that ends in it.
+#[derive(Clone, Copy, Drop)]
+pub struct Seen<'a> {
+    pub outcome: &'a Outcome,
+    pub first: &'a [u8],
+}

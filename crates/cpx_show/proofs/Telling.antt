@@ -1,0 +1,19 @@
+-- What is told of a program within the limits that the options give.
+use Rattle.std.proofs.Common.{◌≡◌, ℕ, List, subst}
+use Rattle.cp_slots.specs.Tables.{Tables}
+use Rattle.cp_machine.specs.declared.gates.Gates.{Gates}
+use Rattle.cp_run.specs.Slots.{slots}
+use Rattle.cp_run.specs.Table.{table}
+use Rattle.cp_run.specs.declared.limits.Limits.{Limits}
+use Rattle.cp_tool.specs.declared.options.Options.{Options}
+use Rattle.cp_verdict.specs.declared.expectation.Expectation.{Expectation}
+use Rattle.cpx_show.specs.Showing.{Verdict, TellsMark}
+
+abbrev pub TellsWithin : ℕ → ℕ → Gates → Tables → List Expectation → Verdict → Type 0
+TellsWithin choices steps gates r es verdict = TellsMark r es (table (slots r gates) choices steps) verdict
+
+pub told_within : (o : Options) (l : Limits) (r : Tables) (es : List Expectation) (verdict : Verdict) → (l.choices ≡ o.choices) × (l.steps ≡ o.steps) × (l.gates ≡ o.gates) → TellsWithin l.choices l.steps l.gates r es verdict → TellsWithin o.choices o.steps o.gates r es verdict
+told_within o l r es verdict same h =
+    let a = subst (λ (n : ℕ). TellsWithin n l.steps l.gates r es verdict) same.0 h in
+    let b = subst (λ (n : ℕ). TellsWithin o.choices n l.gates r es verdict) same.1 a in
+    subst (λ (g : Gates). TellsWithin o.choices o.steps g r es verdict) same.2 b

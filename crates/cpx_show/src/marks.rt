@@ -1,0 +1,106 @@
+//! The mark of a program, as an answer.
+
+ghost use Rattle.std.specs.Prelude.{◌≡◌, IfOk};
+ghost use Rattle.cp_run.specs.Slots.{slots};
+ghost use Rattle.cp_run.specs.Table.{table};
+ghost use Rattle.cpx_show.specs.Showing as spec;
+ghost use Rattle.cpx_show.specs.declared.answering.Verdict.TheVariants.{TooMany};
+
+use crate::answering::{Answer, Verdict};
+use cp_explore::Job;
+use cp_run::Limits;
+use cp_slots::Resolved;
+use cp_tool::Options;
+use cp_verdict::{
+    Expectation, Mark, MarkFault, Misread, Most, expectations, expected, mark_program, misread_text,
+};
+use std::alloc::{AllocError, Global};
+
+/// What is said of a program by the expectations of the words, or of the source where there are no words.
+pub fn marked(
+    alloc: Global,
+    options: &Options,
+    program: &Resolved,
+    words: &str,
+    source: &[u8],
+) -> Result<Answer, AllocError> {
+    if !words.is_empty() {
+        return marked_by(alloc, options, program, words);
+    }
+    let found = expected(alloc, source)?;
+    if found.is_empty() {
+        return Ok(Answer {
+            verdict: Verdict::Misread,
+            text: String::from_str(
+                alloc,
+                "no expectation: none was given, and the source has no comment that begins (* expect\n",
+            )?,
+        });
+    }
+    marked_by(alloc, options, program, found.as_str())
+}
+
+// What is said by the expectations of a text.
+fn marked_by(
+    alloc: Global,
+    options: &Options,
+    program: &Resolved,
+    text: &str,
+) -> Result<Answer, AllocError> {
+    match expectations(alloc, text) {
+        Ok(expectations) => judged(alloc, options, program, &expectations),
+        Err(Misread::Unexpected { wanted, place }) => Ok(Answer {
+            verdict: Verdict::Misread,
+            text: misread_text(alloc, text, wanted, place)?,
+        }),
+        Err(Misread::Memory) => Err(AllocError),
+    }
+}
+
+// What the table within the limits of the options says of the expectations.
+fn judged(
+    alloc: Global,
+    options: &Options,
+    program: &Resolved,
+    expectations: &[Expectation],
+) -> Result<Answer, AllocError>
+    ensures { IfOk result (λ a. spec.TellsMark program.now expectations.now (table (slots program.now options.now.gates) options.now.choices options.now.steps) a.verdict) }
+{
+    let Some(limits) = Limits::new(options.choices, options.steps, options.gates) else {
+        unreachable!()
+    };
+    let most = if options.merge {
+        Most::States(options.states)
+    } else {
+        Most::Rows
+    };
+    match mark_program(alloc, Job { program, limits }, most, expectations) {
+        Ok(marked) => Ok(Answer {
+            verdict: verdict_of(marked.mark),
+            text: marked.text,
+        }),
+        Err(MarkFault::TooManyRows) => too_many(alloc, "too many rows\n"),
+        Err(MarkFault::TooManyStates) => too_many(alloc, "too many states\n"),
+        Err(MarkFault::TooManyOutcomes) => too_many(alloc, "too many outcomes\n"),
+        Err(MarkFault::Memory) => Err(AllocError),
+    }
+}
+
+fn verdict_of(mark: Mark) -> Verdict
+    ensures { result ≡ spec.verdict_of mark }
+{
+    match mark {
+        Mark::Holds => Verdict::Reported,
+        Mark::Fails => Verdict::Fails,
+        Mark::Open => Verdict::Open,
+    }
+}
+
+fn too_many(alloc: Global, text: &str) -> Result<Answer, AllocError>
+    ensures { IfOk result (λ a. a.verdict ≡ TooMany) }
+{
+    Ok(Answer {
+        verdict: Verdict::TooMany,
+        text: String::from_str(alloc, text)?,
+    })
+}
