@@ -1,3 +1,13 @@
+pub mod Agreeing
+pub mod AgreeingNames
+pub mod AgreeingBodies
+pub mod AgreeingConstants
+pub mod AgreeingParts
+pub mod AgreeingRoutines
+pub mod AgreeingProgram
+pub mod AgreeingSystems
+pub mod AgreeingTypes
+pub mod AgreeingWritten
 pub mod Alike
 pub mod Applied
 pub mod Calling
@@ -6,6 +16,7 @@ pub mod Cells
 pub mod Declared
 pub mod Declares
 pub mod Designating
+pub mod DifferentTokens
 pub mod EachInStep
 pub mod Entries
 pub mod Expressions
@@ -25,7 +36,9 @@ pub mod Operations
 pub mod Outer
 pub mod Owning
 pub mod PlainInside
+pub mod Reserving
 pub mod Rooms
+pub mod ScopesOfTrees
 pub mod Selecting
 pub mod Settled
 pub mod Sized

@@ -5,6 +5,7 @@ pub mod Encoded
 pub mod Enumerations
 pub mod Fit
 pub mod InStep
+pub mod Judging
 pub mod Knows
 pub mod Layouts
 pub mod Names
@@ -12,7 +13,9 @@ pub mod Openings
 pub mod Resolved
 pub mod Small
 pub mod Soundness
+pub mod Standing
 pub mod Stands
-pub mod Used
+pub mod Tokens
 pub mod Typed
+pub mod Used
 pub mod Valued

@@ -1,5 +1,6 @@
 //! Laws over the definitions alone.
 
+ghost use Rattle.cp_resolved.specs.Judging.{ScopesLaw};
 ghost use Rattle.cp_resolved.specs.Names.{NamesLaw};
 ghost use Rattle.cp_resolved.specs.Soundness.{SoundLaw};
 
@@ -11,4 +12,9 @@ pub fn law_names()
 /// Tables that are laid out are sound where no count has stopped and what their items name is there.
 pub fn law_sound()
     ensures { SoundLaw }
+{}
+
+/// Where statements of a program that breaks no rule stand, the checker's names stand for what the names of the program stand for.
+pub fn law_scopes()
+    ensures { ScopesLaw }
 {}
