@@ -213,7 +213,7 @@ fn show(state: &mut State, pid: u8, next: Option<usize>, value: Shown) -> Event
 }
 
 /// `display`: its value first, and then whether there is room for it.
-#[inline(never)]
+#[inline(always)]
 pub fn display(
     state: &mut State,
     pid: u8,
