@@ -73,7 +73,7 @@ fn perform_assignment(state: &mut State, pid: u8, item: &Item) -> Result<Event, 
             value,
             low,
             high,
-        } => assign(state, pid, item, target, value, *low, *high),
+        } => assign(state, pid, item, target, value, low, high),
         Action::AssignSet {
             target,
             value,
