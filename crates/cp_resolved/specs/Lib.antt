@@ -9,10 +9,11 @@ pub mod Knows
 pub mod Layouts
 pub mod Names
 pub mod Openings
+pub mod Read
 pub mod Resolved
 pub mod Small
 pub mod Soundness
 pub mod Stands
-pub mod Used
 pub mod Typed
+pub mod Used
 pub mod Valued
