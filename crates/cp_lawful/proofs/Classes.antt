@@ -112,7 +112,7 @@ variables_tell ss s (g ∷ gs) b tell = variables_tell ss s gs _ (names_tell ss 
 
 -- ---- a name that means a component type
 
-meant_is : (m : meant.Meaning) (k : ℕ) → type_meant (Some m) ≡ component_of k → m ≡ type_meaning (component_of k)
+pub meant_is : (m : meant.Meaning) (k : ℕ) → type_meant (Some m) ≡ component_of k → m ≡ type_meaning (component_of k)
 meant_is (constant_meaning b z) k e = absurd (let bad : ordinal all_integers ≡ component_of k = e in cc)
 meant_is (type_meaning t) k e = ap type_meaning e
 meant_is (meant.local_variable t) k e = absurd (let bad : ordinal all_integers ≡ component_of k = e in cc)
@@ -133,17 +133,17 @@ found_tell ss s x (d ∷ ds) k tell e = go (same_name x d.0) refl e (λ f. found
         (r.0, (r.1.0, (r.1.1.0, subst (λ n. find n s.inner.names ≡ Some (Some (Kind (Component r.0.kind r.1.0)))) (sym ((bytes_eq-Decides x d.0).0 same)) r.1.1.1)))
     go false same f rest = rest f
 
-kind_through : (o : Option (Option Meaning)) (t : ValueType) → o ≡ Some (Some (Kind t)) → through_seal o ≡ Some (Some (Kind t))
+pub kind_through : (o : Option (Option Meaning)) (t : ValueType) → o ≡ Some (Some (Kind t)) → through_seal o ≡ Some (Some (Kind t))
 kind_through o t e = ap through_seal e
 
-look_in_kind : (n : List ℕ) (c : Scope) (t : ValueType) → find n c.names ≡ Some (Some (Kind t)) → look_in n c ≡ Some (Some (Kind t))
+pub look_in_kind : (n : List ℕ) (c : Scope) (t : ValueType) → find n c.names ≡ Some (Some (Kind t)) → look_in n c ≡ Some (Some (Kind t))
 look_in_kind n c t e = go c.is_sealed
   where
     go : (b : Bool) → (if b then through_seal (find n c.names) else find n c.names) ≡ Some (Some (Kind t))
     go true = kind_through (find n c.names) t e
     go false = e
 
-look_kind : (n : List ℕ) (s : Scopes) (t : ValueType) → find n s.inner.names ≡ Some (Some (Kind t)) → look n s ≡ Some (Some (Kind t))
+pub look_kind : (n : List ℕ) (s : Scopes) (t : ValueType) → find n s.inner.names ≡ Some (Some (Kind t)) → look n s ≡ Some (Some (Kind t))
 look_kind n s t e = ap (λ o. or_else o (look_outer n s.outer)) (look_in_kind n s.inner t e)
 
 -- ---- no type definition stands for a component type
@@ -166,7 +166,7 @@ no_component ss s m (record_of at gs b) k tell h e = cc
 
 -- ---- the name of a system type
 
-reserved_names : (s : Scopes) (n : Identifier) → (reserve_name s n).scopes.inner.names ≡ s.inner.names
+pub reserved_names : (s : Scopes) (n : Identifier) → (reserve_name s n).scopes.inner.names ≡ s.inner.names
 unfolding reserve_name reserve
 reserved_names s n = go (is_declared s n.name)
   where
@@ -174,7 +174,7 @@ reserved_names s n = go (is_declared s n.name)
     go true = refl
     go false = pending_names s.inner n.name
 
-reserved_new : (s : Scopes) (n : Identifier) → (reserve_name s n).faults ≡ [] → is_some (find n.name s.inner.names) ≡ false
+pub reserved_new : (s : Scopes) (n : Identifier) → (reserve_name s n).faults ≡ [] → is_some (find n.name s.inner.names) ≡ false
 unfolding reserve_name
 reserved_new s n h = go (is_declared s n.name) refl h
   where
@@ -182,7 +182,7 @@ reserved_new s n h = go (is_declared s n.name) refl h
     go true e k = absurd (let bad : check_fault.Rule n.at C2 ∷ [] ≡ [] = k in cc)
     go false e k = or_left (is_some (find n.name s.inner.names)) (is_among n.name s.inner.pending) e
 
-itself : (x : List ℕ) → bytes_eq x x ≡ true
+pub itself : (x : List ℕ) → bytes_eq x x ≡ true
 itself x = (bytes_eq-Decides x x).1 refl
 
 last_found : (x : List ℕ) (ds : Names) (m : Option Meaning) → is_some (find x ds) ≡ false → find x (ds ++ (x, m) ∷ []) ≡ Some m
@@ -200,7 +200,7 @@ new_found c x m h = go (is_some (find x c.names)) h
     go true e = absurd (let bad : true ≡ false = e in cc)
     go false e = last_found x c.names m h
 
-one_found : (s : Scopes) (n : Identifier) (m : Option Meaning) → is_some (find n.name s.inner.names) ≡ false → find n.name (add_one s n m).inner.names ≡ Some m
+pub one_found : (s : Scopes) (n : Identifier) (m : Option Meaning) → is_some (find n.name s.inner.names) ≡ false → find n.name (add_one s n m).inner.names ≡ Some m
 unfolding add_one add settle
 one_found s n m h = new_found s.inner n.name m h
 
@@ -209,12 +209,12 @@ kind_of_uses (Ok u) k at loud h = refl
 kind_of_uses (Err []) k at loud h = absurd loud
 kind_of_uses (Err (f ∷ fs)) k at loud h = absurd (let bad : f ∷ fs ≡ [] = h in cc)
 
-declared_kind : (s : Scopes) (y : System) → Told s → faults (systems.system_typed s y).type ≡ [] → as_declared ((systems.system_typed s y).type >>= to_kind) ≡ Some (Kind (Component y.kind y.at))
+pub declared_kind : (s : Scopes) (y : System) → Told s → faults (systems.system_typed s y).type ≡ [] → as_declared ((systems.system_typed s y).type >>= to_kind) ≡ Some (Kind (Component y.kind y.at))
 unfolding systems.system_typed
 declared_kind s y told h = kind_of_uses (systems.opened (enter true s) y).uses y.kind y.at (system_loud s y told) h
 
 -- after its definition a system type stands under its name
-system_found : (s : Scopes) (n : Identifier) (y : System) → Told s → (reserve_name s n).faults ≡ [] → faults (systems.system_typed (reserve_name s n).scopes y).type ≡ [] → find n.name (add_one (systems.system_typed (reserve_name s n).scopes y).scopes n (as_declared ((systems.system_typed (reserve_name s n).scopes y).type >>= to_kind))).inner.names ≡ Some (Some (Kind (Component y.kind y.at)))
+pub system_found : (s : Scopes) (n : Identifier) (y : System) → Told s → (reserve_name s n).faults ≡ [] → faults (systems.system_typed (reserve_name s n).scopes y).type ≡ [] → find n.name (add_one (systems.system_typed (reserve_name s n).scopes y).scopes n (as_declared ((systems.system_typed (reserve_name s n).scopes y).type >>= to_kind))).inner.names ≡ Some (Some (Kind (Component y.kind y.at)))
 system_found s n y told reserved h =
     one_found (systems.system_typed (reserve_name s n).scopes y).scopes n _ (ap (λ ds. is_some (find n.name ds)) (system_names (reserve_name s n).scopes y ∙ reserved_names s n) ∙ reserved_new s n reserved)
     ∙ ap Some (declared_kind (reserve_name s n).scopes y (name_reserved_told s n told) h)
@@ -224,11 +224,11 @@ system_found s n y told reserved h =
 abbrev Knows : List SystemMeaning → meant.Scope → Scopes → Type 0
 Knows ss m s = (x : Name) (k : ℕ) → type_meant (meant.find x m) ≡ component_of k → Known ss k (λ at y. look x s ≡ Some (Some (Kind (Component y.kind at))))
 
-outer_last : (n : List ℕ) (cs : List Scope) (c : Scope) (m : Option Meaning) → look_in n c ≡ Some m → look_outer n (cs ++ c ∷ []) ≡ Some m
+pub outer_last : (n : List ℕ) (cs : List Scope) (c : Scope) (m : Option Meaning) → look_in n c ≡ Some m → look_outer n (cs ++ c ∷ []) ≡ Some m
 outer_last n [] c m h = h
 outer_last n (d ∷ cs) c m h = ap (λ o. or_else o (look_in n d)) (outer_last n cs c m h)
 
-look_entered : (n : List ℕ) (s : Scopes) (t : ValueType) → find n s.inner.names ≡ Some (Some (Kind t)) → look n (enter true s) ≡ Some (Some (Kind t))
+pub look_entered : (n : List ℕ) (s : Scopes) (t : ValueType) → find n s.inner.names ≡ Some (Some (Kind t)) → look n (enter true s) ≡ Some (Some (Kind t))
 unfolding enter
 look_entered n s t e = outer_last n s.outer (sealed true s.inner) (Some (Kind t)) (kind_through (find n s.inner.names) t e)
 
@@ -246,7 +246,7 @@ look_reserve : (x n : List ℕ) (s : Scopes) → look x (reserve s n) ≡ look x
 unfolding reserve
 look_reserve x n s = ap (λ o. or_else o (look_outer x s.outer)) (look_pending x n s.inner)
 
-look_reserved : (x : List ℕ) (s : Scopes) (n : Identifier) → look x (reserve_name s n).scopes ≡ look x s
+pub look_reserved : (x : List ℕ) (s : Scopes) (n : Identifier) → look x (reserve_name s n).scopes ≡ look x s
 unfolding reserve_name
 look_reserved x s n = go (is_declared s n.name)
   where
@@ -254,7 +254,7 @@ look_reserved x s n = go (is_declared s n.name)
     go true = refl
     go false = look_reserve x n.name s
 
-look_all_reserved : (x : List ℕ) (s : Scopes) (ns : List Identifier) → look x (reserve_names s ns).scopes ≡ look x s
+pub look_all_reserved : (x : List ℕ) (s : Scopes) (ns : List Identifier) → look x (reserve_names s ns).scopes ≡ look x s
 unfolding reserve_names
 look_all_reserved x s [] = refl
 look_all_reserved x s (n ∷ ns) = look_all_reserved x (reserve_name s n).scopes ns ∙ look_reserved x s n
@@ -270,7 +270,7 @@ look_named x n c m h = go (is_some (find n c.names))
     go true = refl
     go false = ap (λ o. if c.is_sealed then through_seal o else o) (find_skip x n c.names m h)
 
-look_added : (x n : List ℕ) (s : Scopes) (m : Option Meaning) → bytes_eq x n ≡ false → look x (add s n m) ≡ look x s
+pub look_added : (x n : List ℕ) (s : Scopes) (m : Option Meaning) → bytes_eq x n ≡ false → look x (add s n m) ≡ look x s
 unfolding add
 look_added x n s m h = ap (λ o. or_else o (look_outer x s.outer)) (look_named x n s.inner m h)
 

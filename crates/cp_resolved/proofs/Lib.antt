@@ -31,19 +31,25 @@ pub mod Listing
 pub mod Loops
 pub mod Named
 pub mod NamesOfTrees
+pub mod Numbered
 pub mod Opened
 pub mod Operations
 pub mod Outer
 pub mod Owning
+pub mod ParametersFit
+pub mod Plain
 pub mod PlainInside
 pub mod Reserving
 pub mod Rooms
 pub mod ScopesOfTrees
 pub mod Selecting
 pub mod Settled
+pub mod ShapesWritten
 pub mod Sized
 pub mod Sizes
+pub mod SmallPrograms
 pub mod SmallStatements
+pub mod SmallTexts
 pub mod SmallTokens
 pub mod SmallestProgram
 mod SmallestSound

@@ -10,6 +10,7 @@ pub mod Knows
 pub mod Layouts
 pub mod Names
 pub mod Openings
+pub mod Read
 pub mod Resolved
 pub mod Small
 pub mod Soundness
