@@ -16,9 +16,11 @@ pub mod Cells
 pub mod Declared
 pub mod Declares
 pub mod Designating
+pub mod DifferentIndexed
 pub mod DifferentTokens
 pub mod EachInStep
 pub mod Entries
+pub mod EnumerationsRead
 pub mod Expressions
 pub mod Extends
 pub mod Fitted

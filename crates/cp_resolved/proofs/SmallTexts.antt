@@ -47,7 +47,7 @@ tokens_small line [] (t ∷ ts) x = elim x [ ]
 tokens_small line (p ∷ ps) ts (blank none h) = tokens_small (line + line_feeds p.text) ps ts h
 tokens_small line (p ∷ ps) (t ∷ ts) (lexeme is on_line h) = (lexeme_small p.shape p.text t.kind is, tokens_small (line + line_feeds p.text) ps ts h)
 
-kinds_length : (ts : List Token) → length (kinds ts) ≡ length ts
+pub kinds_length : (ts : List Token) → length (kinds ts) ≡ length ts
 kinds_length [] = refl
 kinds_length (t ∷ ts) = ap suc (kinds_length ts)
 

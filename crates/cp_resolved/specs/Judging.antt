@@ -18,10 +18,10 @@ use Rattle.cp_meaning.specs.Names.{Name, same_name}
 use Rattle.cp_meaning.specs.Scopes.{find}
 use Rattle.cp_resolved.specs.Layouts.{Layouts}
 use Rattle.cp_resolved.specs.Openings.{Opening, openings_of}
-use Rattle.cp_resolved.specs.Small.{IsSmallProgram, Each}
+use Rattle.cp_resolved.specs.Read.{IsRead}
+use Rattle.cp_resolved.specs.Small.{Each}
 use Rattle.cp_resolved.specs.Standing.{IsFit}
-use Rattle.cp_resolved.specs.Enumerations.{enumerations_of}
-use Rattle.cp_resolved.specs.Tokens.{AreDifferent, program_tokens, token_of_type, tokens_of_enumerations, HasFew}
+use Rattle.cp_resolved.specs.Tokens.{token_of_type}
 use Rattle.cp_resolved.specs.Typed.{ScopesAgree}
 
 pub record Place : Type 0 where
@@ -120,13 +120,5 @@ AreAgreed tokens p (x ∷ xs) (o ∷ os) = IsAgreed tokens p x o × AreAgreed to
 AreAgreed tokens p [] (o ∷ os) = ⊥
 AreAgreed tokens p (x ∷ xs) [] = ⊥
 
--- numbers are small, enumerations have some constants and few, and what is written stands at different tokens
-pub record IsTidy (p : Program) : Type 0 where
-  pub small : IsSmallProgram p
-  pub few : Each HasFew (enumerations_of p)
-  pub enumerations : AreDifferent (tokens_of_enumerations (enumerations_of p))
-  pub tokens : AreDifferent (program_tokens p)
-  pub apart : AreHeadingsApart p
-
 abbrev pub ScopesLaw : Type 0
-ScopesLaw = (t : Tree) → IsAccepted t → IsTidy t.program → AreAgreed (token_of_type t.program) t.program (places_of t.program) (openings_of t.program)
+ScopesLaw = (t : Tree) → IsRead t.program → IsAccepted t → AreHeadingsApart t.program → AreAgreed (token_of_type t.program) t.program (places_of t.program) (openings_of t.program)
