@@ -68,6 +68,7 @@ module _ (systems : ℕ → ℕ) (constants_at : ℕ → List Name) (p : Program
         scopes = λ l k n. subst (λ (i : scopes.Scope). ScopesAgree systems s (record { program = p; layouts = l; system = k; routine = n; scope = i })) (sym is)
             (record { names = λ x c e. (subst (IsKnown systems constants_at s m x) e (sees systems constants_at p false None s m below ks h x tt)).means; entries = λ j i y e. (h.entries j i y e).0 });
         sound = sound;
+        known = λ x e. subst (IsKnown systems constants_at s m x) e (sees systems constants_at p false None s m below ks h x tt);
         fit = λ x. subst (λ (i : scopes.Scope). IsFit (find x i)) (sym is) (fits systems constants_at p false None s m below ks h x);
       }
 
@@ -86,7 +87,7 @@ module _ (systems : ℕ → ℕ) (constants_at : ℕ → List Name) (p : Program
       let w : Scopes = record { outer = s.outer; inner = s.inner; shapes = ss } in
       let returned : Agree systems constants_at p false None w m below ks = agree_returned systems constants_at p false None s w m below js ks before refl refl before.unsealed (more_trans s.shapes a.shapes ss more all) kept.free kept.different kept.entries in
       let added : Agree systems constants_at p false None (add w r.name.name c) (with_routine m r) below ks =
-          agree_known systems constants_at p false None w m below ks r.name.name (meaning.Routine r.name.at) (routine_meaning r) fresh (λ e. absurd (cc)) (known_moved systems constants_at a (add w r.name.name c) (with_routine m r) (with_routine m r) r.name.name (meaning.Routine r.name.at) all refl refl known) (λ e. absurd (cc)) returned in
+      agree_known systems constants_at p false None w m below ks r.name.name (meaning.Routine r.name.at) (routine_meaning r) fresh (λ e. absurd (cc)) (known_moved systems constants_at a (add w r.name.name c) (with_routine m r) (with_routine m r) r.name.name (meaning.Routine r.name.at) all refl refl known) (λ e. absurd (cc)) returned in
       let last : last_of t.outer ≡ (let b : Around = record { outer = s.outer; inner = with_name (sealed false s.inner) r.name.name c } in b) = ap last_of (same ∙ outer) ∙ last_is s.outer (with_name (sealed false s.inner) r.name.name c) in
       record {
         agree = agree_same systems constants_at p false None (add w r.name.name c) (routines.closed r v u t) (with_routine m r) below ks
@@ -136,8 +137,7 @@ module _ (systems : ℕ → ℕ) (constants_at : ℕ → List Name) (p : Program
       IsAgreed systems p (record { scopes = (part_steps spot.Other (announced_of r h.result h.scopes) r.parts).scopes; context = routine_context owner r }) (record { meaning = routine_in (with_routine m r) r; owner = n; name = Some r.name.name })
       × StepResult systems constants_at p false None s (routines.headed_step owner r h).scopes (with_routine m r) below ks
   routine_result owner s a m below js ks n r h v is b outer more =
-      let body : BodyResult owner a m below ks r h.result h.scopes = subst (λ (j : Judged (Option ValueType)). BodyResult owner a m below ks r j h.scopes) (sym is) b in
-      (
+      let body : BodyResult owner a m below ks r h.result h.scopes = subst (λ (j : Judged (Option ValueType)). BodyResult owner a m below ks r j h.scopes) (sym is) b in (
         place_agreed (part_steps spot.Other (announced_of r h.result h.scopes) r.parts).scopes (routine_context owner r) (routine_in (with_routine m r) r).scope (with_routine m r) (r.body.at ∷ ks) (record { meaning = routine_in (with_routine m r) r; owner = n; name = Some r.name.name }) refl body.sound body.agree,
         record { agree = body.step.agree; outer = body.step.outer ∙ outer; settled = body.step.settled; more = more_trans s.shapes a.shapes (routines.headed_step owner r h).scopes.shapes more body.step.more },
       )
@@ -154,7 +154,7 @@ module _ (systems : ℕ → ℕ) (constants_at : ℕ → List Name) (p : Program
       let head = heading_agrees systems constants_at p owner s m below (routine_tokens r ks) r none apart named.agree in
       let ann = announced_agrees systems constants_at p a hd.scopes m below (with_routine m r) (meant.heading_of (with_routine m r) r.kind).scope (routine_tokens r ks) (all_tokens part_tokens r.parts (r.body.at ∷ ks)) r head.value refl fresh named.agree head.step.agree head.step.outer head.step.settled head.step.more head.result in
       let body = body_agrees owner a hd.scopes m below (routine_tokens r ks) ks r head.value fresh named.agree ann small few
-          (subst (λ (j : Judged (Option ValueType)). faults (routines.opened owner r (announced_of r j hd.scopes)).uses ≡ []) head.is (none_right (faults hd.result) (faults (routines.opened owner r (announced_of r hd.result hd.scopes)).uses) e)) in
+      (subst (λ (j : Judged (Option ValueType)). faults (routines.opened owner r (announced_of r j hd.scopes)).uses ≡ []) head.is (none_right (faults hd.result) (faults (routines.opened owner r (announced_of r hd.result hd.scopes)).uses) e)) in
       let all = routine_result owner s a m below (routine_tokens r ks) ks n r hd head.value head.is body named.outer (λ k d i. ap (shape_in k) named.shapes ∙ i) in
       record { place = all.0; step = all.1 }
 

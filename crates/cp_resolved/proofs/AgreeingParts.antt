@@ -138,7 +138,7 @@ module _ (systems : ℕ → ℕ) (constants_at : ℕ → List Name) (p : Program
       let u : Scopes = add t n.name (Some c) in
       let later : AreFresh ns u.inner.names = subst (AreFresh ns) (sym (names_of_add t n.name (Some c) fresh.0)) (fresh_after ns n.name t.inner.names (Some c) others.0 fresh.1) in
       let r : Added b but u (add_names u ns (Some c)) (meant.with_names (meant.names_of ns) d ((n.name, d) ∷ m)) below ks =
-          names_added b but u ns ((n.name, d) ∷ m) below ks c d later others.1 same new (agree_added systems constants_at p b but t m below ks n.name c d fresh.0 same (new u refl n.name) h) in
+      names_added b but u ns ((n.name, d) ∷ m) below ks c d later others.1 same new (agree_added systems constants_at p b but t m below ks n.name c d fresh.0 same (new u refl n.name) h) in
       record { agree = r.agree; outer = r.outer; shapes = r.shapes }
 
   pub all_declared : (b : Bool) (but : Option Name) (s t : Scopes) (ns : List Identifier) (m below : scopes.Scope) (ks : List ℕ) (c : Meaning) (d : scopes.Meaning) → AreFresh ns t.inner.names → AreOthers ns → (b ≡ true → is_open c ≡ is_seen d) → ((u : Scopes) → u.shapes ≡ t.shapes → (n : Name) → New systems constants_at u n c d) →
@@ -168,7 +168,7 @@ module _ (systems : ℕ → ℕ) (constants_at : ℕ → List Name) (p : Program
       let t : Scopes = (reserve_name s d.name).scopes in
       let r : NamesResult b None s t (d.name ∷ []) m below ks = name_result b None s d.name m below ks (none_left (reserve_name s d.name).faults (faults (constant t d.value >>= to_constant)) e) empty h in
       let n : Sound (NumberIs constants_at (meant.constant_of m d.value)) (constant t d.value) =
-          good_sound (NumberIs constants_at (meant.constant_of m d.value)) (constant t d.value) (constant_number_of systems constants_at t m d.value small (λ x. sees systems constants_at p b None t m below ks r.agree x tt)) (none_first (constant t d.value) to_constant (none_right (reserve_name s d.name).faults (faults (constant t d.value >>= to_constant)) e)) in
+      good_sound (NumberIs constants_at (meant.constant_of m d.value)) (constant t d.value) (constant_number_of systems constants_at t m d.value small (λ x. sees systems constants_at p b None t m below ks r.agree x tt)) (none_first (constant t d.value) to_constant (none_right (reserve_name s d.name).faults (faults (constant t d.value >>= to_constant)) e)) in
       subst (λ (j : Judged Number). StepResult b None s (add_one t d.name (as_declared (j >>= to_constant))) ((d.name.name, scopes.constant_meaning (meant.constant_of m d.value).0 (meant.constant_of m d.value).1) ∷ m) below ks) (sym n.is)
       (one_declared b None s t d.name m below ks (meaning.Constant n.value.base n.value.value) (scopes.constant_meaning (meant.constant_of m d.value).0 (meant.constant_of m d.value).1)
       (one_fresh t d.name t.inner.pending refl r.reserved.pends r.reserved.all) (λ g. refl) (constant_new (add t d.name.name (Some (meaning.Constant n.value.base n.value.value))) d.name.name (meant.constant_of m d.value) n.value n.holds)
@@ -229,7 +229,7 @@ module _ (systems : ℕ → ℕ) (constants_at : ℕ → List Name) (p : Program
       let a : Scopes = (reserve_name s d.name).scopes in
       let t : Typed = typed a spot.Definition d.value in
       let r = type_reached b s a (d.name ∷ []) m below ks spot.Definition d.value (name_result b None s d.name m below (type_tokens d.value ks) (none_left (reserve_name s d.name).faults (faults (t.type >>= to_kind)) e) empty h)
-          (none_first t.type to_kind (none_right (reserve_name s d.name).faults (faults (t.type >>= to_kind)) e)) small few in
+      (none_first t.type to_kind (none_right (reserve_name s d.name).faults (faults (t.type >>= to_kind)) e)) small few in
       kind_declared b s d.name t (meant.type_in m d.value).1 below ks (meant.type_in m d.value).0 r.value r.is r.typed.belongs (standing_at spot.Definition (meant.type_in m d.value).0 r.typed.stands) r.fresh.0 r.outer r.more r.agree
 
   pub types_agree : (b : Bool) (s : Scopes) (m below : scopes.Scope) (ks : List ℕ) (ds : List TypeDefinition) → (type_steps s ds).faults ≡ [] → Each (λ d. IsSmallType d.value) ds → Each (IsFew constants_at) (each_in (λ d. in_type d.value) ds) → s.inner.pending ≡ [] → Agree systems constants_at p b None s m below (all_tokens (λ d. type_tokens d.value) ds ks) →
@@ -268,7 +268,7 @@ module _ (systems : ℕ → ℕ) (constants_at : ℕ → List Name) (p : Program
       let t : Typed = typed a q g.variable_type in
       let u : Ty × scopes.Scope = meant.type_in m g.variable_type in
       let r = type_reached b s a g.names m below ks q g.variable_type (names_result b None s g.names m below (type_tokens g.variable_type ks) (none_left (reserve_names s g.names).faults (faults (t.type >>= to_variable)) e) empty h)
-          (none_first t.type to_variable (none_right (reserve_names s g.names).faults (faults (t.type >>= to_variable)) e)) small few in
+      (none_first t.type to_variable (none_right (reserve_names s g.names).faults (faults (t.type >>= to_variable)) e)) small few in
       subst (λ (j : Judged ValueType). StepResult b None s (add_all t.scopes g.names (as_declared (j >>= to_variable))) (meant.with_names (meant.names_of g.names) (kind u.0) u.1) below ks) (sym r.is)
       (all_declared b None s t.scopes g.names u.1 below ks (meaning.Variable r.value) (kind u.0) r.fresh r.others (λ i. how.hidden i u.0) (λ w i n. how.new w u.0 r.value (typed_moved t.scopes.shapes w.shapes q u.0 r.value i r.typed) n) r.outer r.more r.agree)
 

@@ -191,21 +191,61 @@ module _ (systems : ℕ → ℕ) (constants_at : ℕ → List Name) (p : Program
   predeclared_always : AllAlways (look_scope start).names predeclared
   unfolding enter add
   predeclared_always = (
-    refl, ordinal_always named.all_integers (whole base.Integer) (record { base = refl; low = refl; high = refl }) refl,
-    (refl, ordinal_always named.all_booleans (whole base.Boolean) (record { base = refl; low = refl; high = refl }) refl,
-    (refl, ordinal_always named.all_characters (whole base.Char) (record { base = refl; low = refl; high = refl }) refl,
-    (refl, kind_always named.queue_type types.Queue (λ s. refl) refl,
-    (refl, truth_always 0 (omega arith),
-    (refl, truth_always 1 (omega arith),
-    (refl, standard_always scopes.succ_function,
-    (refl, standard_always scopes.pred_function,
-    (refl, standard_always scopes.chr_function,
-    (refl, standard_always scopes.ord_function,
-    (refl, standard_always scopes.abs_function,
-    (refl, standard_always scopes.empty_function,
-    (refl, standard_always scopes.delay_procedure,
-    (refl, standard_always scopes.continue_procedure,
-    (refl, standard_always scopes.display_procedure, tt))))))))))))))
+    refl,
+    ordinal_always named.all_integers (whole base.Integer) (record { base = refl; low = refl; high = refl }) refl,
+    (
+      refl,
+      ordinal_always named.all_booleans (whole base.Boolean) (record { base = refl; low = refl; high = refl }) refl,
+      (
+        refl,
+        ordinal_always named.all_characters (whole base.Char) (record { base = refl; low = refl; high = refl }) refl,
+        (
+          refl,
+          kind_always named.queue_type types.Queue (λ s. refl) refl,
+          (
+            refl,
+            truth_always 0 (omega arith),
+            (
+              refl,
+              truth_always 1 (omega arith),
+              (
+                refl,
+                standard_always scopes.succ_function,
+                (
+                  refl,
+                  standard_always scopes.pred_function,
+                  (
+                    refl,
+                    standard_always scopes.chr_function,
+                    (
+                      refl,
+                      standard_always scopes.ord_function,
+                      (
+                        refl,
+                        standard_always scopes.abs_function,
+                        (
+                          refl,
+                          standard_always scopes.empty_function,
+                          (
+                            refl,
+                            standard_always scopes.delay_procedure,
+                            (
+                              refl,
+                              standard_always scopes.continue_procedure,
+                              (refl, standard_always scopes.display_procedure, tt),
+                            ),
+                          ),
+                        ),
+                      ),
+                    ),
+                  ),
+                ),
+              ),
+            ),
+          ),
+        ),
+      ),
+    ),
   )
 
   always_known : (s : Scopes) (x : Name) (o : Option (Option Meaning)) → AlwaysFound o (find x predeclared) → IsKnown systems constants_at s predeclared x o

@@ -151,7 +151,7 @@ module _ (systems : ℕ → ℕ) (constants_at : ℕ → List Name) (p : Program
       let parts = parts_agree systems constants_at p false (spot.Permanent (Some y.kind)) scopes.permanent_variable (permanent_kind systems constants_at p false (Some y.kind)) a.scopes o m rs y.parts (none_left b.faults c.faults (none_right a.faults (b.faults ++ c.faults) none)) small.0 (each_left (IsFew constants_at) (each_in in_part y.parts) (each_in in_routine y.routines) few) first.settled first.agree in
       let ps : scopes.Scope = parts_scope m y in
       let all : RoutinesResult systems constants_at p (Some y.kind) b.scopes ps m (y.at ∷ ks) n y.routines =
-          routines_agree systems constants_at p (Some y.kind) b.scopes ps m (y.at ∷ ks) n y.routines (none_right b.faults c.faults (none_right a.faults (b.faults ++ c.faults) none)) apart small.1 (each_right (IsFew constants_at) (each_in in_part y.parts) (each_in in_routine y.routines) few) parts.settled parts.agree in
+      routines_agree systems constants_at p (Some y.kind) b.scopes ps m (y.at ∷ ks) n y.routines (none_right b.faults c.faults (none_right a.faults (b.faults ++ c.faults) none)) apart small.1 (each_right (IsFew constants_at) (each_in in_part y.parts) (each_in in_routine y.routines) few) parts.settled parts.agree in
       let step = step_then systems constants_at p false None s b.scopes c.scopes ps (with_routines ps y.routines) m rs (y.at ∷ ks) (step_then systems constants_at p false None s a.scopes b.scopes hs ps m (system_tokens y ks) rs first parts) all.step in
       let same : after_faults d.faults j ≡ j = none_after d.faults j e in
       let sound : faults j ≡ [] = ap faults (sym same) ∙ e in

@@ -91,9 +91,6 @@ limited_good at n = go (nat_lt 8192 n)
     go false = tt
 
 module _ (systems : ℕ → ℕ) (constants_at : ℕ → List Name) (p : Program) where
-  abbrev V : typing.Typed → Written
-  V t = W systems constants_at t.scopes.shapes
-
   -- from scopes to what a written type leaves
   pub record TypeResult (b : Bool) (s : Scopes) (below : scopes.Scope) (ks : List ℕ) (at_spot : Spot) (t : Typed) (u : Ty × scopes.Scope) : Type 0 where
     pub value : ValueType
@@ -155,8 +152,8 @@ module _ (systems : ℕ → ℕ) (constants_at : ℕ → List Name) (p : Program
       let one : (is_declared s i.name ≡ false) × ((typing.member s c n i).scopes ≡ add s i.name (Some (meaning.Constant c (pos n)))) = is_member s c n i (none_left (typing.member s c n i).faults (typing.members (typing.member s c n i).scopes c (n + 1) is).faults e) in
       let less : k < length xs = omega (arith, count) in
       let first : MembersResult b s (typing.member s c n i).scopes below ks ((i.name, scopes.constant_meaning (named.enumerated at xs) (pos k)) ∷ m) =
-          subst (λ (t : Scopes). MembersResult b s t below ks ((i.name, scopes.constant_meaning (named.enumerated at xs) (pos k)) ∷ m)) (sym one.1 )
-          (subst (λ j. MembersResult b s (add s i.name (Some (meaning.Constant c (pos j)))) below ks ((i.name, scopes.constant_meaning (named.enumerated at xs) (pos k)) ∷ m)) (sym same) (one_member b s m below ks at xs c k i l less one.0 pends agree)) in
+      subst (λ (t : Scopes). MembersResult b s t below ks ((i.name, scopes.constant_meaning (named.enumerated at xs) (pos k)) ∷ m)) (sym one.1)
+      (subst (λ j. MembersResult b s (add s i.name (Some (meaning.Constant c (pos j)))) below ks ((i.name, scopes.constant_meaning (named.enumerated at xs) (pos k)) ∷ m)) (sym same) (one_member b s m below ks at xs c k i l less one.0 pends agree)) in
       members_then b s (typing.member s c n i).scopes (typing.members (typing.member s c n i).scopes c (n + 1) is).scopes below ks ((i.name, scopes.constant_meaning (named.enumerated at xs) (pos k)) ∷ m) (meant.with_constants (named.enumerated at xs) (suc k) (meant.names_of is) ((i.name, scopes.constant_meaning (named.enumerated at xs) (pos k)) ∷ m)) first
       (members_agree b (typing.member s c n i).scopes ((i.name, scopes.constant_meaning (named.enumerated at xs) (pos k)) ∷ m) below ks at xs c (n + 1) (suc k) is l (omega (arith, same)) (omega (arith, count)) (none_right (typing.member s c n i).faults (typing.members (typing.member s c n i).scopes c (n + 1) is).faults e) first.pends first.agree)
 
@@ -180,7 +177,7 @@ module _ (systems : ℕ → ℕ) (constants_at : ℕ → List Name) (p : Program
       let same : length (meant.names_of is) ≡ length is = length-map is (λ i. i.name) in
       let l : Lists at (meant.names_of is) (typing.base_of at is) = enumeration_lists at is h in
       let bounded : is_bounded (record { base = named.enumerated at (meant.names_of is); low = pos 0; high = pos (length is - 1) }) ≡ true =
-          ap (λ b. b && is_within (range_of_base (named.enumerated at (meant.names_of is))) (pos (length is - 1))) (index_within 0 (length (meant.names_of is)) (omega (arith, some, same))) ∙ index_within (length is - 1) (length (meant.names_of is)) (omega (arith, some, same)) in
+      ap (λ b. b && is_within (range_of_base (named.enumerated at (meant.names_of is))) (pos (length is - 1))) (index_within 0 (length (meant.names_of is)) (omega (arith, some, same))) ∙ index_within (length is - 1) (length (meant.names_of is)) (omega (arith, some, same)) in
       record {
         belongs = record { range = whole (typing.base_of at is); is = refl; belongs = record { base = l.base; low = refl; high = last_is (length is) some } };
         stands = stands_free q (named.ordinal (record { base = named.enumerated at (meant.names_of is); low = pos 0; high = pos (length is - 1) })) bounded;
@@ -191,11 +188,11 @@ module _ (systems : ℕ → ℕ) (constants_at : ℕ → List Name) (p : Program
   unfolding typing.simple_typed
   simple_agrees b s m below ks q (syntax.type_name at x) e small few pends agree =
       let v : Sound (TypedAs systems constants_at s.shapes q (meant.type_named m x)) (typing.type_spotted s q at x) =
-          good_sound (TypedAs systems constants_at s.shapes q (meant.type_named m x)) (typing.type_spotted s q at x) (type_spotted systems constants_at s m q at x (sees systems constants_at p b None s m below ks agree x tt)) e in
+      good_sound (TypedAs systems constants_at s.shapes q (meant.type_named m x)) (typing.type_spotted s q at x) (type_spotted systems constants_at s m q at x (sees systems constants_at p b None s m below ks agree x tt)) e in
       record { value = v.value; is = v.is; typed = v.holds; agree = agree; outer = refl; pending = refl; pends = pends; more = more_same s.shapes }
   simple_agrees b s m below ks q (syntax.subrange at c d) e small few pends agree =
       let v = good_sound (TypedAs systems constants_at s.shapes q (meant.simple_in m (syntax.subrange at c d)).0) (both (constant s c) (constant s d) >>= typing.ranged at)
-          (subrange_typed systems constants_at s m q at c d small (λ x. sees systems constants_at p b None s m below ks agree x tt)) e in
+      (subrange_typed systems constants_at s m q at c d small (λ x. sees systems constants_at p b None s m below ks agree x tt)) e in
       record { value = v.value; is = v.is; typed = v.holds; agree = agree; outer = refl; pending = refl; pends = pends; more = more_same s.shapes }
   simple_agrees b s m below ks q (syntax.enumeration at is) e small few pends agree =
       let none : (typing.members s (typing.base_of at is) 0 is).faults ≡ [] = no_faults (typing.members s (typing.base_of at is) 0 is).faults (types.Ordinal (whole (typing.base_of at is))) e in
@@ -262,8 +259,8 @@ module _ (systems : ℕ → ℕ) (constants_at : ℕ → List Name) (p : Program
   array_typed b s u below ks q at i ij iv t e is h more outer pending before r none =
       let index : TypedAs systems constants_at t.scopes.shapes spot.Other i iv = record { belongs = type_more systems constants_at u.shapes t.scopes.shapes more i iv h.belongs; stands = h.stands } in
       let good : Good (ArrayAs t.scopes.shapes q i e.0) (both ij t.type >>= typing.arrayed t.scopes q at) =
-          subst (λ (j : Judged ValueType). Good (ArrayAs t.scopes.shapes q i e.0) (both j t.type >>= typing.arrayed t.scopes q at)) (sym is)
-          (subst (λ (j : Judged ValueType). Good (ArrayAs t.scopes.shapes q i e.0) (both (Ok iv) j >>= typing.arrayed t.scopes q at)) (sym r.is) (array_good t.scopes q at i e.0 iv r.value index r.typed)) in
+      subst (λ (j : Judged ValueType). Good (ArrayAs t.scopes.shapes q i e.0) (both j t.type >>= typing.arrayed t.scopes q at)) (sym is)
+      (subst (λ (j : Judged ValueType). Good (ArrayAs t.scopes.shapes q i e.0) (both (Ok iv) j >>= typing.arrayed t.scopes q at)) (sym r.is) (array_good t.scopes q at i e.0 iv r.value index r.typed)) in
       array_kept b s t.scopes e.1 below ks q at i e.0 (both ij t.type >>= typing.arrayed t.scopes q at)
       (good_sound (ArrayAs t.scopes.shapes q i e.0) (both ij t.type >>= typing.arrayed t.scopes q at) good (none_first (both ij t.type >>= typing.arrayed t.scopes q at) (typing.to_array at) none))
       r.agree (r.outer ∙ outer) (r.pending ∙ pending) r.pends (more_trans s.shapes u.shapes t.scopes.shapes before r.more)
@@ -288,7 +285,7 @@ module _ (systems : ℕ → ℕ) (constants_at : ℕ → List Name) (p : Program
   set_typed : (b : Bool) (s : Scopes) (below : scopes.Scope) (ks : List ℕ) (q : Spot) (at base_at : ℕ) (t : Typed) (u : Ty × scopes.Scope) → TypeResult b s below ks spot.Base t u → faults (typing.set_typed at base_at t).type ≡ [] → TypeResult b s below ks q (typing.set_typed at base_at t) (named.set_over (range_of u.0), u.1)
   set_typed b s below ks q at base_at t u r none =
       let v = good_sound (TypedAs systems constants_at t.scopes.shapes q (named.set_over (range_of u.0))) (t.type >>= typing.set_of at base_at)
-          (subst (λ (j : Judged ValueType). Good (TypedAs systems constants_at t.scopes.shapes q (named.set_over (range_of u.0))) (j >>= typing.set_of at base_at)) (sym r.is) (set_good t.scopes.shapes q at base_at u.0 r.value r.typed)) none in
+      (subst (λ (j : Judged ValueType). Good (TypedAs systems constants_at t.scopes.shapes q (named.set_over (range_of u.0))) (j >>= typing.set_of at base_at)) (sym r.is) (set_good t.scopes.shapes q at base_at u.0 r.value r.typed)) none in
       record { value = v.value; is = v.is; typed = v.holds; agree = r.agree; outer = r.outer; pending = r.pending; pends = r.pends; more = r.more }
 
   -- ---- records
@@ -445,6 +442,6 @@ module _ (systems : ℕ → ℕ) (constants_at : ℕ → List Name) (p : Program
         let first : Fields = typing.group_typed f s (syntax.fields is t) in
         let none : (reserve_fields f is).faults ++ faults (typed s spot.Other t).type ≡ [] = none_left first.faults (typing.groups_typed first.fields first.scopes gs).faults e in
         let group = group_filled b s below (groups_tokens gs ks) f is (typed s spot.Other t) (meant.type_in m t) empty (none_left (reserve_fields f is).faults (faults (typed s spot.Other t).type) none)
-            (type_agrees b s m below (groups_tokens gs ks) spot.Other t (none_right (reserve_fields f is).faults (faults (typed s spot.Other t).type) none) small.0 (each_left (IsFew constants_at) (in_type t) (in_groups gs) few) pends agree) in
+        (type_agrees b s m below (groups_tokens gs ks) spot.Other t (none_right (reserve_fields f is).faults (faults (typed s spot.Other t).type) none) small.0 (each_left (IsFew constants_at) (in_type t) (in_groups gs) few) pends agree) in
         fields_then b s below ks (groups_tokens gs ks) f is first (typing.groups_typed first.fields first.scopes gs) (meant.type_in m t).0 (meant.type_in m t).1 (meant.fields_in (meant.type_in m t).1 gs) group
         (groups_agree b first.scopes (meant.type_in m t).1 below ks first.fields gs (none_right first.faults (typing.groups_typed first.fields first.scopes gs).faults e) group.settled small.1 (each_right (IsFew constants_at) (in_type t) (in_groups gs) few) group.pends group.agree)

@@ -204,10 +204,10 @@ module _ (total : ℕ) where
       let high : ℕ = length (put_routine r rest) in
       after_it (length rest) (length within) high r.body.at (length body) ks (routine_tokens r ks) h.4.0 (omega (arith, a)) e (omega (arith, b, c)) d o
       (λ f u. (
-        let parts = all_walk put_part (IsIndexedPart total) part_tokens grows_part part_walk r.parts body (r.body.at ∷ ks) h.3 f (narrow (length body) high (length body) (length within) (r.body.at ∷ ks) (omega arith) (omega (arith, b, c)) u) in
-        let js : List ℕ = all_tokens part_tokens r.parts (r.body.at ∷ ks) in
-        let name = one_between (length within) (length named) r.name.at js h.1 (omega (arith, b)) parts.different (parts.out (length within) (length named) (inr (omega arith)) (narrow (length body) high (length within) (length named) (r.body.at ∷ ks) e (omega (arith, c)) u)) in
-        both_between (length body) high (length body) (length within) (length within) (length named) (r.body.at ∷ ks) js (r.name.at ∷ js) (omega arith) (omega (arith, b, c)) e (omega (arith, c)) parts name
+      let parts = all_walk put_part (IsIndexedPart total) part_tokens grows_part part_walk r.parts body (r.body.at ∷ ks) h.3 f (narrow (length body) high (length body) (length within) (r.body.at ∷ ks) (omega arith) (omega (arith, b, c)) u) in
+      let js : List ℕ = all_tokens part_tokens r.parts (r.body.at ∷ ks) in
+      let name = one_between (length within) (length named) r.name.at js h.1 (omega (arith, b)) parts.different (parts.out (length within) (length named) (inr (omega arith)) (narrow (length body) high (length within) (length named) (r.body.at ∷ ks) e (omega (arith, c)) u)) in
+      both_between (length body) high (length body) (length within) (length within) (length named) (r.body.at ∷ ks) js (r.name.at ∷ js) (omega arith) (omega (arith, b, c)) e (omega (arith, c)) parts name
       ))
 
   system_walk : Walks put_system (IsIndexedSystem total) system_tokens
@@ -222,10 +222,10 @@ module _ (total : ℕ) where
       let f : length routines ≤ length within = grows_all put_part grows_part s.parts routines in
       before (length rest) (length (put_system s rest)) (length within) s.at ks (system_tokens s ks) h.0 (omega (arith, a, e, f)) (omega (arith, b, c)) d o
       (λ g u. (
-        let rs : List ℕ = all_tokens routine_tokens s.routines (s.at ∷ ks) in
-        let first = all_walk put_routine (IsIndexedRoutine total) routine_tokens grows_routine routine_walk s.routines body (s.at ∷ ks) h.3 g (narrow (length rest) (length within) (length body) (length routines) (s.at ∷ ks) a f u) in
-        let second = all_walk put_part (IsIndexedPart total) part_tokens grows_part part_walk s.parts routines rs h.2 first.different (first.out (length routines) (length within) (inr (omega arith)) (narrow (length rest) (length within) (length routines) (length within) (s.at ∷ ks) (omega (arith, a, e)) (omega arith) u)) in
-        both_between (length rest) (length within) (length body) (length routines) (length routines) (length within) (s.at ∷ ks) rs (system_tokens s ks) a f (omega (arith, a, e)) (omega arith) first second
+      let rs : List ℕ = all_tokens routine_tokens s.routines (s.at ∷ ks) in
+      let first = all_walk put_routine (IsIndexedRoutine total) routine_tokens grows_routine routine_walk s.routines body (s.at ∷ ks) h.3 g (narrow (length rest) (length within) (length body) (length routines) (s.at ∷ ks) a f u) in
+      let second = all_walk put_part (IsIndexedPart total) part_tokens grows_part part_walk s.parts routines rs h.2 first.different (first.out (length routines) (length within) (inr (omega arith)) (narrow (length rest) (length within) (length routines) (length within) (s.at ∷ ks) (omega (arith, a, e)) (omega arith) u)) in
+      both_between (length rest) (length within) (length body) (length routines) (length routines) (length within) (s.at ∷ ks) rs (system_tokens s ks) a f (omega (arith, a, e)) (omega arith) first second
       ))
 
   definition_walk : Walks put_definition (IsIndexedDefinition total) definition_tokens

@@ -147,14 +147,14 @@ parts_extend d [] = extends_same d.systems
 parts_extend d (q ∷ qs) = extends_trans d.systems (program_part_in d q).systems (program_parts_in (program_part_in d q) qs).systems (part_extends d q) (parts_extend (program_part_in d q) qs)
 
 module _ (constants_at : ℕ → List Name) (p : Program) where
-  abbrev T : List ℕ
-  T = all_tokens program_part_types p.parts (p.period ∷ [])
+  abbrev type_list : List ℕ
+  type_list = all_tokens program_part_types p.parts (p.period ∷ [])
 
   abbrev Numbered : Declared → System → Type 0
   Numbered d y = IsNumbered (token_of_type p) constants_at p (length d.systems) (seen_inside d.scope) y
 
   -- with the tokens before it and after it
-  system_numbered : (d : Declared) (n : SystemDefinition) (y : System) (before rest : List ℕ) → Extends (definition_in d n (system_definition y)).systems (declared p).systems → length before ≡ length d.systems → T ≡ before ++ y.at ∷ rest → Among (p.period ∷ []) rest → AreDifferent T → Numbered d y
+  system_numbered : (d : Declared) (n : SystemDefinition) (y : System) (before rest : List ℕ) → Extends (definition_in d n (system_definition y)).systems (declared p).systems → length before ≡ length d.systems → type_list ≡ before ++ y.at ∷ rest → Among (p.period ∷ []) rest → AreDifferent type_list → Numbered d y
   system_numbered d n y before rest ext count is last different =
       let sys : SystemMeaning = system_in (seen_inside d.scope) y in
       let found : slice_get (declared p).systems (length d.systems) ≡ Some sys = ap (λ (ss : List SystemMeaning). slice_get ss (length d.systems)) ext.is ∙ slice_more (d.systems ++ sys ∷ []) ext.rest (length d.systems) sys (slice_end d.systems sys) in
@@ -162,17 +162,17 @@ module _ (constants_at : ℕ → List Name) (p : Program) where
       let other : p.period ≡ y.at → ⊥ = (last.other y.at (different_after before (y.at ∷ rest) apart).0).0 in
       record {
         meaning = ap (or_own (own_meaning (declared p) p)) found;
-        token = ap (token_in p.period T) (sym count) ∙ ap (λ (ks : List ℕ). token_in p.period ks (length before)) is ∙ token_there p.period y.at before rest;
+        token = ap (token_in p.period type_list) (sym count) ∙ ap (λ (ks : List ℕ). token_in p.period ks (length before)) is ∙ token_there p.period y.at before rest;
         only = λ k e. token_only p.period y.at before rest k other apart (ap (λ (ks : List ℕ). token_in p.period ks k) (sym is) ∙ e) ∙ count;
       }
 
-  abbrev DT : List SystemDefinition → List ℕ → List ℕ
-  DT ns rest = all_tokens (λ (c : SystemDefinition). definition_types c.value) ns rest
+  abbrev types_then : List SystemDefinition → List ℕ → List ℕ
+  types_then ns rest = all_tokens (λ (c : SystemDefinition). definition_types c.value) ns rest
 
   record Stage (d : Declared) (rest : List ℕ) : Type 0 where
     pub before : List ℕ
     pub count : length before ≡ length d.systems
-    pub is : T ≡ before ++ rest
+    pub is : type_list ≡ before ++ rest
 
   one_longer : {A : Type 0} (xs : List A) (x : A) → length (xs ++ x ∷ []) ≡ suc (length xs)
   one_longer xs x = omega (arith, length-append xs (x ∷ []))
@@ -182,21 +182,20 @@ module _ (constants_at : ℕ → List Name) (p : Program) where
   definition_stage d n (system_definition y) rest s =
       record { before = s.before ++ y.at ∷ []; count = one_longer s.before y.at ∙ ap suc s.count ∙ sym (one_longer d.systems (system_in (seen_inside d.scope) y)); is = s.is ∙ sym (append_assoc s.before (y.at ∷ []) rest) }
 
-  definition_numbered : (d : Declared) (n : SystemDefinition) (v : Definition) (rest : List ℕ) → Stage d (definition_types v rest) → Extends (definition_in d n v).systems (declared p).systems → Among (p.period ∷ []) rest → AreDifferent T → IsNumberedDefinition (token_of_type p) constants_at p d v
+  definition_numbered : (d : Declared) (n : SystemDefinition) (v : Definition) (rest : List ℕ) → Stage d (definition_types v rest) → Extends (definition_in d n v).systems (declared p).systems → Among (p.period ∷ []) rest → AreDifferent type_list → IsNumberedDefinition (token_of_type p) constants_at p d v
   definition_numbered d n (type_definition t) rest s ext last different = tt
   definition_numbered d n (system_definition y) rest s ext last different = system_numbered d n y s.before rest ext s.count s.is last different
 
-  definitions_stage : (d : Declared) (ns : List SystemDefinition) (rest : List ℕ) → Stage d (DT ns rest) → Stage (definitions_in d ns) rest
+  definitions_stage : (d : Declared) (ns : List SystemDefinition) (rest : List ℕ) → Stage d (types_then ns rest) → Stage (definitions_in d ns) rest
   definitions_stage d [] rest s = s
-  definitions_stage d (n ∷ ns) rest s = definitions_stage (definition_in d n n.value) ns rest (definition_stage d n n.value (DT ns rest) s)
+  definitions_stage d (n ∷ ns) rest s = definitions_stage (definition_in d n n.value) ns rest (definition_stage d n n.value (types_then ns rest) s)
 
-  definitions_numbered : (d : Declared) (ns : List SystemDefinition) (rest : List ℕ) → Stage d (DT ns rest) → Extends (definitions_in d ns).systems (declared p).systems → Among (p.period ∷ []) rest → AreDifferent T → AreNumberedDefinitions (token_of_type p) constants_at p d ns
+  definitions_numbered : (d : Declared) (ns : List SystemDefinition) (rest : List ℕ) → Stage d (types_then ns rest) → Extends (definitions_in d ns).systems (declared p).systems → Among (p.period ∷ []) rest → AreDifferent type_list → AreNumberedDefinitions (token_of_type p) constants_at p d ns
   definitions_numbered d [] rest s ext last different = tt
   definitions_numbered d (n ∷ ns) rest s ext last different =
-      let k : Declared = definition_in d n n.value in
-      (
-        definition_numbered d n n.value (DT ns rest) s (extends_trans k.systems (definitions_in k ns).systems (declared p).systems (definitions_extend k ns) ext) (all_left (λ (c : SystemDefinition). definition_types c.value) (λ c. types_left c.value) ns (p.period ∷ []) rest last) different,
-        definitions_numbered k ns rest (definition_stage d n n.value (DT ns rest) s) ext last different,
+      let k : Declared = definition_in d n n.value in (
+        definition_numbered d n n.value (types_then ns rest) s (extends_trans k.systems (definitions_in k ns).systems (declared p).systems (definitions_extend k ns) ext) (all_left (λ (c : SystemDefinition). definition_types c.value) (λ c. types_left c.value) ns (p.period ∷ []) rest last) different,
+        definitions_numbered k ns rest (definition_stage d n n.value (types_then ns rest) s) ext last different,
       )
 
   part_stage : (d : Declared) (q : ProgramPart) (rest : List ℕ) → Stage d (program_part_types q rest) → Stage (program_part_in d q) rest
@@ -204,17 +203,16 @@ module _ (constants_at : ℕ → List Name) (p : Program) where
   part_stage d (program_types at ns) rest s = definitions_stage d ns rest s
   part_stage d (program_variables at gs) rest s = record { before = s.before; count = s.count; is = s.is }
 
-  part_numbered : (d : Declared) (q : ProgramPart) (rest : List ℕ) → Stage d (program_part_types q rest) → Extends (program_part_in d q).systems (declared p).systems → Among (p.period ∷ []) rest → AreDifferent T → IsNumberedPart (token_of_type p) constants_at p d q
+  part_numbered : (d : Declared) (q : ProgramPart) (rest : List ℕ) → Stage d (program_part_types q rest) → Extends (program_part_in d q).systems (declared p).systems → Among (p.period ∷ []) rest → AreDifferent type_list → IsNumberedPart (token_of_type p) constants_at p d q
   part_numbered d (program_constants at ds) rest s ext last different = tt
   part_numbered d (program_types at ns) rest s ext last different = definitions_numbered d ns rest s ext last different
   part_numbered d (program_variables at gs) rest s ext last different = tt
 
-  parts_numbered : (d : Declared) (qs : List ProgramPart) → Stage d (all_tokens program_part_types qs (p.period ∷ [])) → Extends (program_parts_in d qs).systems (declared p).systems → AreDifferent T → AreNumberedParts (token_of_type p) constants_at p d qs
+  parts_numbered : (d : Declared) (qs : List ProgramPart) → Stage d (all_tokens program_part_types qs (p.period ∷ [])) → Extends (program_parts_in d qs).systems (declared p).systems → AreDifferent type_list → AreNumberedParts (token_of_type p) constants_at p d qs
   parts_numbered d [] s ext different = tt
   parts_numbered d (q ∷ qs) s ext different =
       let k : Declared = program_part_in d q in
-      let rest : List ℕ = all_tokens program_part_types qs (p.period ∷ []) in
-      (
+      let rest : List ℕ = all_tokens program_part_types qs (p.period ∷ []) in (
         part_numbered d q rest s (extends_trans k.systems (program_parts_in k qs).systems (declared p).systems (parts_extend k qs) ext) (all_left program_part_types part_types_left qs (p.period ∷ []) (p.period ∷ []) (all_same (p.period ∷ []))) different,
         parts_numbered k qs (part_stage d q rest s) ext different,
       )

@@ -26,6 +26,8 @@ pub mod Extends
 pub mod Fitted
 pub mod FittedStatements
 pub mod Fitting
+pub mod FormedStatements
+pub mod FormsOfTrees
 pub mod Grown
 pub mod Handed
 pub mod Kept
@@ -49,6 +51,7 @@ pub mod Settled
 pub mod ShapesWritten
 pub mod Sized
 pub mod Sizes
+pub mod SmallBodies
 pub mod SmallPrograms
 pub mod SmallStatements
 pub mod SmallTexts

@@ -207,7 +207,7 @@ names_reserved s [] h = record { faults = refl; is = refl }
 names_reserved s (n ∷ ns) h =
     let one : NameReserved s n = name_reserved s n (none_left (reserve_name s n).faults (reserve_names (reserve_name s n).scopes ns).faults h) in
     let rest : NamesReserved (with_inner s (reserve_field s.inner n).fields) ns =
-        names_reserved (with_inner s (reserve_field s.inner n).fields) ns (subst (λ (t : Scopes). (reserve_names t ns).faults ≡ []) one.is (none_right (reserve_name s n).faults (reserve_names (reserve_name s n).scopes ns).faults h)) in
+    names_reserved (with_inner s (reserve_field s.inner n).fields) ns (subst (λ (t : Scopes). (reserve_names t ns).faults ≡ []) one.is (none_right (reserve_name s n).faults (reserve_names (reserve_name s n).scopes ns).faults h)) in
     record {
       faults = ap (λ (fs : List CheckFault). fs ++ (reserve_fields (reserve_field s.inner n).fields ns).faults) one.faults ∙ rest.faults;
       is = ap (λ (t : Scopes). (reserve_names t ns).scopes) one.is ∙ rest.is;

@@ -4,7 +4,7 @@ use Rattle.cp_tree.specs.declared.declaration.SystemKind.{SystemKind}
 use Rattle.cp_tree.specs.Syntax.{Group, ParameterGroup, RoutineKind, procedure, function, Routine, System, Definition, type_definition, system_definition, SystemDefinition, ProgramPart, program_constants, program_types, program_variables, Program, Tree}
 use Rattle.cp_scope.specs.Counts.{no_use}
 use Rattle.cp_scope.specs.Judged.{faults}
-use Rattle.cp_scope.specs.Scopes.{Scopes, enter, start}
+use Rattle.cp_scope.specs.Scopes.{Scopes, look, enter, start}
 use Rattle.cp_check.specs.declared.operand.Context.{Context}
 use Rattle.cp_check.specs.declared.types.Spot.TheVariants.{Other, Permanent}
 use Rattle.cp_check.specs.Declarations.{reserve_name, part_steps}
@@ -111,6 +111,8 @@ AreHeadingsApart p = Each IsPartApart p.parts × Each IsRoutineApart p.routines
 pub record IsAgreed (tokens : ℕ → ℕ) (p : Program) (x : Place) (o : Opening) : Type 0 where
   pub scopes : (l : Layouts) (k n : ℕ) → ScopesAgree tokens x.scopes (record { program = p; layouts = l; system = k; routine = n; scope = o.meaning.scope })
   pub sound : faults (statements x.scopes x.context (Ok no_use) o.meaning.body) ≡ []
+  -- each visible name stands for something
+  pub known : (y : Name) → look y x.scopes ≡ Some None → ⊥
   -- ranges are inside their bases, and queues and components stand alone or in arrays
   pub fit : (x : Name) → IsFit (find x o.meaning.scope)
 

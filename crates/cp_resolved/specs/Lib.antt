@@ -4,6 +4,7 @@ pub mod Compiled
 pub mod Encoded
 pub mod Enumerations
 pub mod Fit
+pub mod Formed
 pub mod InStep
 pub mod Judging
 pub mod Knows
@@ -13,6 +14,7 @@ pub mod Openings
 pub mod Read
 pub mod Resolved
 pub mod Small
+pub mod SmallStatements
 pub mod Soundness
 pub mod Standing
 pub mod Stands
