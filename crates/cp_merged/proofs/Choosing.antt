@@ -33,14 +33,14 @@ module _ {S : Type 0} (sys : System S) (same : Sameness) (eq : S → S → Bool)
   pub list_those : (n : ℕ) (f : Front S) → after_list (those_below n (may sys x.state)) f ≡ after_choices sys same eq steps x n f
   list_those zero f = refl
   list_those (suc n) f =
-      list_append (those_below n (may sys x.state)) (if may sys x.state n then n ∷ [] else []) f ∙ ap (after_list (if may sys x.state n then n ∷ [] else [])) (list_those n f) ∙ one (may sys x.state n)
+      list_append (those_below n (may sys x.state)) (if may sys x.state n then n ∷ [] else []) f ∙ ap (after_list (if may sys x.state n then n ∷ [] else [])) (list_those n f) ∙ one (may sys x.state n) refl
     where
       g : Front S
       g = after_choices sys same eq steps x n f
 
-      one : (b : Bool) → after_list (if b then n ∷ [] else []) g ≡ (if b then arrived sys same eq (x.first ++ n ∷ []) x.count (chosen sys steps x.state n) g else g)
-      one true = refl
-      one false = refl
+      one : (b : Bool) → may sys x.state n ≡ b → after_list (if b then n ∷ [] else []) g ≡ after_choice sys same eq steps x n g
+      one true e = refl
+      one false e = sym (ap (λ c. if c then arrived sys same eq (x.first ++ n ∷ []) x.count (chosen sys steps x.state n) g else g) e)
 
   total_one : (p : ℕ) (f : Front S) → total (after_choice sys same eq steps x p f) ≤ total f + x.count
   total_one p f = by (may sys x.state p)
