@@ -57,10 +57,10 @@ loop-process-preserved g c =
     record {
       next = c.take_choice.ensures.own;
       front = λ f h.
-        (let g : layers.Front Machine = after_list sys same_outcome same_key steps x (take i others) f in
-        let on = c.in_ok-take_choice.ensures.front g (c.loop-process.invariant.front f h) in
-        let here = subst (λ m. Holds r new.ended.entries new.layer.entries (layers.after_choice sys same_outcome same_key steps (record { state = m; first = word; count = count }) p g)) c.take_from.ensures.same on in
-        subst (Holds r new.ended.entries new.layer.entries) (sym (list_more sys same_outcome same_key steps x (take i others) p f) ∙ ap (λ ps. after_list sys same_outcome same_key steps x ps f) (sym (take_more others i 0 lt))) here);
+          (let g : layers.Front Machine = after_list sys same_outcome same_key steps x (take i others) f in
+          let on = c.in_ok-take_choice.ensures.front g (c.loop-process.invariant.front f h) in
+          let here = subst (λ m. Holds r new.ended.entries new.layer.entries (layers.after_choice sys same_outcome same_key steps (record { state = m; first = word; count = count }) p g)) c.take_from.ensures.same on in
+          subst (Holds r new.ended.entries new.layer.entries) (sym (list_more sys same_outcome same_key steps x (take i others) p f) ∙ ap (λ ps. after_list sys same_outcome same_key steps x ps f) (sym (take_more others i 0 lt))) here);
     }
 
 pub take_choice-requires-2-clause-may : goal.take_choice-requires-2-clause-may
@@ -106,8 +106,8 @@ returns-clause-front g c =
     let listed : others ++ last ∷ [] ≡ those_below sys.processes (may sys s) = sym c.in-Some.ensures.cases.0 ∙ c.as_slice.ensures.value ∙ c.wanted-numbers.ensures in
     let whole : take i others ≡ others = take_all i others (omega arith) in
     ok_to c.take_choice-2.result _ (λ _. (f : layers.Front Machine) → Holds r old.ended.entries old.layer.entries f → Holds r new.ended.entries new.layer.entries (layers.after_choices sys same_outcome same_key steps x sys.processes f)) c.take_choice-2.ensures.front (λ a on f h.
-      (let all : layers.after_choice sys same_outcome same_key steps x last (after_list sys same_outcome same_key steps x (take i others) f) ≡ layers.after_choices sys same_outcome same_key steps x sys.processes f = ap (λ ps. layers.after_choice sys same_outcome same_key steps x last (after_list sys same_outcome same_key steps x ps f)) whole ∙ sym (list_more sys same_outcome same_key steps x others last f) ∙ ap (λ ps. after_list sys same_outcome same_key steps x ps f) listed ∙ list_those sys same_outcome same_key steps x sys.processes f in
-      subst (Holds r new.ended.entries new.layer.entries) all (on (after_list sys same_outcome same_key steps x (take i others) f) (c.loop-process.invariant.front f h))))
+    (let all : layers.after_choice sys same_outcome same_key steps x last (after_list sys same_outcome same_key steps x (take i others) f) ≡ layers.after_choices sys same_outcome same_key steps x sys.processes f = ap (λ ps. layers.after_choice sys same_outcome same_key steps x last (after_list sys same_outcome same_key steps x ps f)) whole ∙ sym (list_more sys same_outcome same_key steps x others last f) ∙ ap (λ ps. after_list sys same_outcome same_key steps x ps f) listed ∙ list_those sys same_outcome same_key steps x sys.processes f in
+    subst (Holds r new.ended.entries new.layer.entries) all (on (after_list sys same_outcome same_key steps x (take i others) f) (c.loop-process.invariant.front f h))))
 
 pub returns-in_default-clause-front : goal.returns-in_default-clause-front
 returns-in_default-clause-front g c = λ f h.
