@@ -62,6 +62,7 @@ pub mod SoundComponents
 pub mod SoundItems
 pub mod SoundParameters
 pub mod SoundTables
+pub mod StandingParts
 pub mod Steps
 pub mod StepsOfParts
 pub mod StepsOfProgram

@@ -1,0 +1,135 @@
+-- Parts of variables whose types stand: ordinals are within their bases, and no variable has both ordinals and queues.
+use Rattle.std.proofs.Common.{◌≡◌, ℕ, ◌+◌, ◌*◌, ℤ, pos, negsuc, Bool, true, false, ◌&&◌, if◌then◌else◌, List, [], ◌∷◌, Option, Some, None, inl, inr, refl, sym, ap, subst, arith, ◌∙◌}
+use Rattle.std.specs.Prelude.{◌⊎◌, int_le, nat_lt}
+use Rattle.cp_meaning.specs.Names.{Name, same_name}
+use Rattle.cp_meaning.specs.Types.{Range, Ty, ordinal, queue_type, set_over, array_over, record_with, component_of, FieldTypes, no_field_types, more_field_types, length_of_range, is_within}
+use Rattle.cp_meaning.specs.Operations.{range_of_base}
+use Rattle.cp_meaning.specs.Values.{Choice, the_field, the_element, number_value}
+use Rattle.cp_resolved.specs.Encoded.{Chosen, further_chosen, field_chosen, one_chosen, then_chosen, chosen_at, HasType}
+use Rattle.cp_resolved.specs.Layouts.{cells_of}
+use Rattle.cp_resolved.specs.Standing.{is_bounded, is_free, are_free, is_element, is_standing}
+use Rattle.cp_resolved.proofs.Typing.{first_true, second_true}
+
+-- ---- ranges
+
+at_most : (a b c : ℤ) → int_le a b ≡ true → int_le b c ≡ true → int_le a c ≡ true
+at_most a b c h g = search (arith, h, g)
+
+both_of : (a b : Bool) → a ≡ true → b ≡ true → (a && b) ≡ true
+both_of a b h g = ap (λ c. c && b) h ∙ g
+
+-- a value in a range is one of its base
+pub within_base : (r : Range) → is_bounded r ≡ true → (z : ℤ) → is_within r z ≡ true → HasType (ordinal r) (number_value z)
+within_base r b z h =
+    let low : is_within (range_of_base r.base) r.low ≡ true = first_true (is_within (range_of_base r.base) r.low) (is_within (range_of_base r.base) r.high) b in
+    let high : is_within (range_of_base r.base) r.high ≡ true = second_true (is_within (range_of_base r.base) r.low) (is_within (range_of_base r.base) r.high) b in
+    both_of (int_le (range_of_base r.base).low z) (int_le z (range_of_base r.base).high)
+    (at_most (range_of_base r.base).low r.low z (first_true (int_le (range_of_base r.base).low r.low) (int_le r.low (range_of_base r.base).high) low) (first_true (int_le r.low z) (int_le z r.high) h))
+    (at_most z r.high (range_of_base r.base).high (second_true (int_le r.low z) (int_le z r.high) h) (second_true (int_le (range_of_base r.base).low r.high) (int_le r.high (range_of_base r.base).high) high))
+
+-- ---- parts
+
+some_same : {A : Type 0} (x y : A) → Some x ≡ Some y → x ≡ y
+some_same x y h = cc
+
+-- a part further on is the same part
+record Further (o : Option Chosen) (t : Ty) : Type 0 where
+  pub part : Chosen
+  pub is : o ≡ Some part
+  pub same : part.1 ≡ t
+
+further_some : (n : ℕ) (o : Option Chosen) (c : Chosen) → further_chosen n o ≡ Some c → Further o c.1
+further_some n None c h = absurd (let bad : None ≡ Some c = h in cc)
+further_some n (Some d) c h = record { part = d; is = refl; same = ap (λ (e : Chosen). e.1) (some_same (n + d.0, d.1) c h) }
+
+field_free : (ts : FieldTypes) (x : Name) (c : Chosen) → are_free ts ≡ true → field_chosen ts x ≡ Some c → is_free c.1 ≡ true
+field_free no_field_types x c f h = absurd (let bad : None ≡ Some c = h in cc)
+field_free (more_field_types y t ts) x c f h = go (same_name x y) h (λ d g. field_free ts x d (second_true (is_free t) (are_free ts) f) g)
+  where
+    go : (b : Bool) → (if b then Some (0, t) else further_chosen (cells_of t) (field_chosen ts x)) ≡ Some c → ((d : Chosen) → field_chosen ts x ≡ Some d → is_free d.1 ≡ true) → is_free c.1 ≡ true
+    go true e rest = subst (λ (u : Ty). is_free u ≡ true) (ap (λ (d : Chosen). d.1) (some_same (0, t) c e)) (first_true (is_free t) (are_free ts) f)
+    go false e rest = let d = further_some (cells_of t) (field_chosen ts x) c e in subst (λ (u : Ty). is_free u ≡ true) d.same (rest d.part d.is)
+
+element_is : (n : ℕ) (r : Range) (t : Ty) (c : Chosen) → one_chosen (array_over r t) (the_element n) ≡ Some c → t ≡ c.1
+element_is n r t c h = go (nat_lt n (length_of_range r)) h
+  where
+    go : (b : Bool) → (if b then Some (n * cells_of t, t) else None) ≡ Some c → t ≡ c.1
+    go true e = ap (λ (d : Chosen). d.1) (some_same (n * cells_of t, t) c e)
+    go false e = absurd (let bad : None ≡ Some c = e in cc)
+
+no_part : (c : Chosen) → None ≡ Some c → ⊥
+no_part c h = let bad : None ≡ Some c = h in absurd cc
+
+one_free : (t : Ty) (i : Choice) (c : Chosen) → is_free t ≡ true → one_chosen t i ≡ Some c → is_free c.1 ≡ true
+one_free (record_with ts) (the_field x) c f h = field_free ts x c f h
+one_free (record_with ts) (the_element n) c f h = absurd (no_part c h)
+one_free (array_over r t) (the_element n) c f h = subst (λ (u : Ty). is_free u ≡ true) (element_is n r t c h) (second_true (is_bounded r) (is_free t) f)
+one_free (array_over r t) (the_field x) c f h = absurd (no_part c h)
+one_free (ordinal r) i c f h = absurd (no_part c h)
+one_free queue_type i c f h = absurd (no_part c h)
+one_free (set_over r) i c f h = absurd (no_part c h)
+one_free (component_of n) i c f h = absurd (no_part c h)
+
+-- a part of what has neither queues nor components has none
+pub free_part : (t : Ty) (cs : List Choice) (c : Chosen) → is_free t ≡ true → chosen_at t cs ≡ Some c → is_free c.1 ≡ true
+free_part t [] c f h = subst (λ (u : Ty). is_free u ≡ true) (ap (λ (d : Chosen). d.1) (some_same (0, t) c h)) f
+free_part t (i ∷ cs) c f h = go (one_chosen t i) refl h (λ u d g k. free_part u cs d g k)
+  where
+    go : (o : Option Chosen) → one_chosen t i ≡ o → then_chosen o (λ u. chosen_at u cs) ≡ Some c → ((u : Ty) (d : Chosen) → is_free u ≡ true → chosen_at u cs ≡ Some d → is_free d.1 ≡ true) → is_free c.1 ≡ true
+    go None e g rest = absurd (no_part c g)
+    go (Some d) e g rest = let k = further_some d.0 (chosen_at d.1 cs) c g in subst (λ (u : Ty). is_free u ≡ true) k.same (rest d.1 k.part (one_free t i d f e) k.is)
+
+-- ---- what has no ordinals
+
+abbrev NoOrdinal : Ty → Type 0
+NoOrdinal t = (cs : List Choice) (o : ℕ) (q : Range) → chosen_at t cs ≡ Some (o, ordinal q) → ⊥
+
+queue_alone : NoOrdinal queue_type
+queue_alone [] o q h = let bad : queue_type ≡ ordinal q = ap (λ (d : Chosen). d.1) (some_same (0, queue_type) (o, ordinal q) h) in absurd cc
+queue_alone (i ∷ cs) o q h = no_part (o, ordinal q) h
+
+component_alone : (n : ℕ) → NoOrdinal (component_of n)
+component_alone n [] o q h = let bad : component_of n ≡ ordinal q = ap (λ (d : Chosen). d.1) (some_same (0, component_of n) (o, ordinal q) h) in absurd cc
+component_alone n (i ∷ cs) o q h = no_part (o, ordinal q) h
+
+array_alone : (r : Range) (t : Ty) → NoOrdinal t → NoOrdinal (array_over r t)
+array_alone r t none [] o q h = let bad : array_over r t ≡ ordinal q = ap (λ (d : Chosen). d.1) (some_same (0, array_over r t) (o, ordinal q) h) in absurd cc
+array_alone r t none (the_field x ∷ cs) o q h = no_part (o, ordinal q) h
+array_alone r t none (the_element n ∷ cs) o q h = go (one_chosen (array_over r t) (the_element n)) refl h
+  where
+    go : (p : Option Chosen) → one_chosen (array_over r t) (the_element n) ≡ p → then_chosen p (λ u. chosen_at u cs) ≡ Some (o, ordinal q) → ⊥
+    go None e g = no_part (o, ordinal q) g
+    go (Some d) e g =
+        let k = further_some d.0 (chosen_at d.1 cs) (o, ordinal q) g in
+        none cs k.part.0 q (subst (λ (u : Ty). chosen_at u cs ≡ Some (k.part.0, ordinal q)) (sym (element_is n r t d e)) (k.is ∙ ap (λ (u : Ty). Some (k.part.0, u)) k.same))
+
+free_or : (t : Ty) → is_standing t ≡ true → (is_free t ≡ true) ⊎ NoOrdinal t
+free_or (ordinal r) h = inl h
+free_or queue_type h = inr queue_alone
+free_or (set_over r) h = inl h
+free_or (record_with ts) h = inl h
+free_or (component_of n) h = inr (component_alone n)
+free_or (array_over r queue_type) h = inr (array_alone r queue_type queue_alone)
+free_or (array_over r (component_of n)) h = inr (array_alone r (component_of n) (component_alone n))
+free_or (array_over r (ordinal q)) h = inl h
+free_or (array_over r (set_over q)) h = inl h
+free_or (array_over r (array_over q t)) h = inl h
+free_or (array_over r (record_with ts)) h = inl h
+
+-- ---- variables
+
+-- no variable has both ordinals and queues
+pub unqueued : (t : Ty) (cs ds : List Choice) (o j : ℕ) (q : Range) → is_standing t ≡ true → chosen_at t cs ≡ Some (o, ordinal q) → chosen_at t ds ≡ Some (j, queue_type) → ⊥
+unqueued t cs ds o j q h e g = go (free_or t h)
+  where
+    go : (is_free t ≡ true) ⊎ NoOrdinal t → ⊥
+    go (inl f) = let bad : false ≡ true = free_part t ds (j, queue_type) f g in absurd cc
+    go (inr none) = none cs o q e
+
+-- an ordinal part of a variable has the values of its base
+pub part_within : (t : Ty) (cs : List Choice) (o : ℕ) (q : Range) → is_standing t ≡ true → chosen_at t cs ≡ Some (o, ordinal q) → (z : ℤ) → is_within q z ≡ true → HasType (ordinal q) (number_value z)
+part_within t cs o q h e = go (free_or t h)
+  where
+    go : (is_free t ≡ true) ⊎ NoOrdinal t → (z : ℤ) → is_within q z ≡ true → HasType (ordinal q) (number_value z)
+    go (inl f) = within_base q (free_part t cs (o, ordinal q) f e)
+    go (inr none) = absurd (none cs o q e)
