@@ -31,14 +31,14 @@ use Rattle.cp_resolved.specs.Enumerations.{each_in, in_routine}
 use Rattle.cp_resolved.specs.Judging.{routine_place, routine_places, IsRoutineApart, IsAgreed, AreAgreed}
 use Rattle.cp_resolved.specs.Openings.{Opening, with_routine, routine_openings}
 use Rattle.cp_resolved.specs.Small.{Each, IsSmallRoutine}
-use Rattle.cp_resolved.specs.Standing.{IsFit}
+use Rattle.cp_resolved.specs.Standing.{IsFit, IsFreeVariable}
 use Rattle.cp_resolved.specs.Tokens.{all_tokens, part_tokens, routine_tokens}
 use Rattle.cp_resolved.specs.Typed.{ScopesAgree}
 use Rattle.cp_resolved.proofs.Agreeing.{none_left, none_right, new_names, More, more_trans, with_more}
 use Rattle.cp_resolved.proofs.AgreeingNames.{Known, IsKnown, known_moved, Agree, sees, fits, agree_same, agree_kept, agree_known, agree_returned}
 use Rattle.cp_resolved.proofs.AgreeingTypes.{IsFew}
 use Rattle.cp_resolved.proofs.AgreeingWritten.{each_left, each_right}
-use Rattle.cp_resolved.proofs.AgreeingParts.{StepResult, step_then, step_same, name_result, local_kind, parts_agree}
+use Rattle.cp_resolved.proofs.AgreeingParts.{StepResult, step_then, step_same, name_result, local_kind, parts_agree, parts_stand}
 use Rattle.cp_resolved.proofs.AgreeingRoutines.{none_before, none_after, heading_none, heading_agrees, Announced, announced_agrees, announcing}
 
 pub record Uses (j : Judged Use) : Type 0 where
@@ -62,14 +62,15 @@ module _ (systems : ℕ → ℕ) (constants_at : ℕ → List Name) (p : Program
       go (Some None) k = k
       go (Some (Some c)) k = tt
 
-  pub place_agreed : (s : Scopes) (w : Context) (m below : scopes.Scope) (ks : List ℕ) (o : Opening) → o.meaning.scope ≡ m → faults (statements s w (Ok no_use) o.meaning.body) ≡ [] → Agree systems constants_at p false None s m below ks → IsAgreed systems p (record { scopes = s; context = w }) o
-  place_agreed s w m below ks o is sound h =
+  pub place_agreed : (s : Scopes) (w : Context) (m below : scopes.Scope) (ks : List ℕ) (o : Opening) → o.meaning.scope ≡ m → faults (statements s w (Ok no_use) o.meaning.body) ≡ [] → Each IsFreeVariable o.meaning.variables → Agree systems constants_at p false None s m below ks → IsAgreed systems p (record { scopes = s; context = w }) o
+  place_agreed s w m below ks o is sound variables h =
       record {
         scopes = λ l k n. subst (λ (i : scopes.Scope). ScopesAgree systems s (record { program = p; layouts = l; system = k; routine = n; scope = i })) (sym is)
             (record { names = λ x c e. (subst (IsKnown systems constants_at s m x) e (sees systems constants_at p false None s m below ks h x tt)).means; entries = λ j i y e. (h.entries j i y e).0 });
         sound = sound;
         known = λ x e. subst (IsKnown systems constants_at s m x) e (sees systems constants_at p false None s m below ks h x tt);
         fit = λ x. subst (λ (i : scopes.Scope). IsFit (find x i)) (sym is) (fits systems constants_at p false None s m below ks h x);
+        variables = variables;
       }
 
   -- ---- out of a routine
@@ -104,6 +105,7 @@ module _ (systems : ℕ → ℕ) (constants_at : ℕ → List Name) (p : Program
 
   record BodyResult (owner : Option SystemKind) (s : Scopes) (m below : scopes.Scope) (ks : List ℕ) (r : Routine) (j : Judged (Option ValueType)) (hs : Scopes) : Type 0 where
     pub agree : Agree systems constants_at p false None (part_steps spot.Other (announced_of r j hs) r.parts).scopes (routine_in (with_routine m r) r).scope (with_routine m r) (r.body.at ∷ ks)
+    pub variables : Each IsFreeVariable (routine_in (with_routine m r) r).variables
     pub sound : faults (statements (part_steps spot.Other (announced_of r j hs) r.parts).scopes (routine_context owner r) (Ok no_use) r.body.statements) ≡ []
     pub step : StepResult systems constants_at p false None s (body_step r j (routines.opened owner r (announced_of r j hs))).scopes (with_routine m r) below ks
 
@@ -123,6 +125,7 @@ module _ (systems : ℕ → ℕ) (constants_at : ℕ → List Name) (p : Program
       let uses : Uses j = loud_uses j (statements_loud d.scopes (routine_context owner r) (all_heard false d.scopes (routine_in k r).scope k (r.body.at ∷ ks) parts.agree) r.body.statements (Ok no_use) tt) sound in
       record {
         agree = parts.agree;
+        variables = parts_stand systems constants_at p false spot.Other scopes.local_variable (local_kind systems constants_at p) a (record { variables = []; scope = (meant.heading_of k r.kind).scope }) k (r.body.at ∷ ks) r.parts none small few ann.settled ann.agree tt;
         sound = sound;
         step = subst (λ (i : Judged Use). StepResult systems constants_at p false None s (closed_of r (Ok v) i d.scopes) k below ks) (sym (same ∙ uses.is))
             (closed_agrees s a d.scopes m below (routine_in k r).scope js ks r v uses.value fresh before ann.known ann.outer ann.more parts.more parts.outer parts.agree);
@@ -138,7 +141,7 @@ module _ (systems : ℕ → ℕ) (constants_at : ℕ → List Name) (p : Program
       × StepResult systems constants_at p false None s (routines.headed_step owner r h).scopes (with_routine m r) below ks
   routine_result owner s a m below js ks n r h v is b outer more =
       let body : BodyResult owner a m below ks r h.result h.scopes = subst (λ (j : Judged (Option ValueType)). BodyResult owner a m below ks r j h.scopes) (sym is) b in (
-        place_agreed (part_steps spot.Other (announced_of r h.result h.scopes) r.parts).scopes (routine_context owner r) (routine_in (with_routine m r) r).scope (with_routine m r) (r.body.at ∷ ks) (record { meaning = routine_in (with_routine m r) r; owner = n; name = Some r.name.name }) refl body.sound body.agree,
+        place_agreed (part_steps spot.Other (announced_of r h.result h.scopes) r.parts).scopes (routine_context owner r) (routine_in (with_routine m r) r).scope (with_routine m r) (r.body.at ∷ ks) (record { meaning = routine_in (with_routine m r) r; owner = n; name = Some r.name.name }) refl body.sound body.variables body.agree,
         record { agree = body.step.agree; outer = body.step.outer ∙ outer; settled = body.step.settled; more = more_trans s.shapes a.shapes (routines.headed_step owner r h).scopes.shapes more body.step.more },
       )
 

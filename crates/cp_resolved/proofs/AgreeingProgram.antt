@@ -27,20 +27,20 @@ use Rattle.cp_meaning.specs.Types as named
 use Rattle.cp_meaning.specs.Scopes as scopes
 use Rattle.cp_meaning.specs.Scopes.{find, predeclared, seen_inside}
 use Rattle.cp_meaning.specs.Declarations as meant
-use Rattle.cp_meaning.specs.Systems.{Declared, definition_in, definitions_in, program_part_in, program_parts_in, declared, program_system, own_meaning, with_routines}
+use Rattle.cp_meaning.specs.Systems.{SystemMeaning, system_in, Declared, definition_in, definitions_in, program_part_in, program_parts_in, declared, program_system, own_meaning, with_routines}
 use Rattle.cp_resolved.specs.Enumerations.{in_routine, in_definition, in_program_part, each_in, enumerations_of}
 use Rattle.cp_resolved.specs.Fit.{nothing_declared}
 use Rattle.cp_resolved.specs.Judging.{Place, definition_places, definitions_places, part_places, parts_places, routine_places, places_of, IsDefinitionApart, IsPartApart, AreHeadingsApart, AreAgreed}
 use Rattle.cp_resolved.specs.Openings.{Opening, definition_openings, definitions_openings, part_openings, parts_openings, routine_openings, initial_opening, openings_of}
 use Rattle.cp_resolved.specs.Small.{Each, IsSmallDefinition, IsSmallProgramPart, IsSmallProgram}
-use Rattle.cp_resolved.specs.Standing.{IsFit}
+use Rattle.cp_resolved.specs.Standing.{IsFit, IsStandingVariable}
 use Rattle.cp_resolved.specs.Tokens.{AreDifferent, all_tokens, routine_tokens, definition_tokens, program_part_tokens, program_tokens}
 use Rattle.cp_resolved.specs.Typed.{RangeIs, TypeIs, predeclared_of, MeaningIs}
 use Rattle.cp_resolved.proofs.Agreeing.{none_left, none_right, none_first, AreFree}
 use Rattle.cp_resolved.proofs.AgreeingNames.{W, IsThere, IsGiven, IsKnown, Agree}
 use Rattle.cp_resolved.proofs.AgreeingTypes.{IsFew, standing_at}
 use Rattle.cp_resolved.proofs.AgreeingWritten.{each_left, each_right}
-use Rattle.cp_resolved.proofs.AgreeingParts.{StepResult, step_then, step_same, NamesResult, name_result, type_reached, kind_declared, constants_agree, permanent_kind, variables_agree}
+use Rattle.cp_resolved.proofs.AgreeingParts.{StepResult, step_then, step_same, NamesResult, name_result, type_reached, kind_declared, constants_agree, permanent_kind, variables_agree, variables_stand}
 use Rattle.cp_resolved.proofs.AgreeingRoutines.{none_before, none_after}
 use Rattle.cp_resolved.proofs.AgreeingBodies.{place_agreed, routines_agree}
 use Rattle.cp_resolved.proofs.AgreeingSystems.{agreed_append, IsNumbered, system_agrees}
@@ -67,18 +67,29 @@ module _ (systems : ℕ → ℕ) (constants_at : ℕ → List Name) (p : Program
 
   -- ---- definitions
 
-  record DefinedResult (s t : Scopes) (m below : scopes.Scope) (ks : List ℕ) (xs : List Place) (os : List Opening) : Type 0 where
+  abbrev pub IsStandingSystem : SystemMeaning → Type 0
+  IsStandingSystem m = Each IsStandingVariable m.variables
+
+  record DefinedResult (s t : Scopes) (d k : Declared) (below : scopes.Scope) (ks : List ℕ) (xs : List Place) (os : List Opening) : Type 0 where
     pub places : AreAgreed systems p xs os
-    pub step : StepResult systems constants_at p true None s t m below ks
+    pub step : StepResult systems constants_at p true None s t k.scope below ks
+    pub types : Each IsStandingSystem d.systems → Each IsStandingSystem k.systems
+    pub variables : Each IsStandingVariable d.variables → Each IsStandingVariable k.variables
+
+  each_last : (ms : List SystemMeaning) (m : SystemMeaning) → Each IsStandingSystem ms → IsStandingSystem m → Each IsStandingSystem (ms ++ m ∷ [])
+  each_last [] m h g = (g, tt)
+  each_last (x ∷ ms) m h g = (h.0, each_last ms m h.1 g)
 
   defined_agrees : (s a : Scopes) (d : Declared) (below : scopes.Scope) (ks : List ℕ) (n : SystemDefinition) (v : Definition) → NamesResult systems constants_at p true None s a (n.name ∷ []) d.scope below (definition_tokens v ks) → faults (systems_of.defined a v).type ≡ [] → IsNumberedDefinition d v → IsDefinitionApart v → IsSmallDefinition v → Each (IsFew constants_at) (in_definition v) →
-      DefinedResult s (add_one (systems_of.defined a v).scopes n.name (as_declared ((systems_of.defined a v).type >>= to_kind))) (definition_in d n v).scope below ks (definition_places a v) (definition_openings d v)
+      DefinedResult s (add_one (systems_of.defined a v).scopes n.name (as_declared ((systems_of.defined a v).type >>= to_kind))) d (definition_in d n v) below ks (definition_places a v) (definition_openings d v)
   unfolding systems_of.defined
   defined_agrees s a d below ks n (type_definition t) r e number apart small few =
       let w = type_reached systems constants_at p true s a (n.name ∷ []) d.scope below ks spot.Definition t r e small few in
       record {
         places = tt;
         step = kind_declared systems constants_at p true s n.name (typed a spot.Definition t) (meant.type_in d.scope t).1 below ks (meant.type_in d.scope t).0 w.value w.is w.typed.belongs (standing_at spot.Definition (meant.type_in d.scope t).0 w.typed.stands) w.fresh.0 w.outer w.more w.agree;
+        types = λ h. h;
+        variables = λ h. h;
       }
   defined_agrees s a d below ks n (system_definition y) r e number apart small few =
       let c : ℕ = length d.systems in
@@ -88,12 +99,14 @@ module _ (systems : ℕ → ℕ) (constants_at : ℕ → List Name) (p : Program
         places = w.places;
         step = kind_declared systems constants_at p true s n.name t d.scope below ks (named.component_of c) (types.Component y.kind y.at) w.is (record { kind = y.kind; is = ap (types.Component y.kind) (sym number.token) }) refl
             (ap (λ (ds : Names). is_some (checker.find n.name.name ds)) w.closed.names ∙ r.reserved.pends n.name.name r.reserved.all.0) (w.closed.outer ∙ r.outer) (λ k f i. w.closed.more k f (ap (shape_in k) r.shapes ∙ i)) w.closed.agree;
+        types = λ h. each_last d.systems (system_in (seen_inside d.scope) y) h w.variables;
+        variables = λ h. h;
       }
 
   definitions_agree : (s : Scopes) (d : Declared) (below : scopes.Scope) (ks : List ℕ) (ns : List SystemDefinition) → (definition_steps s ns).faults ≡ [] → AreNumberedDefinitions d ns → Each (λ n. IsDefinitionApart n.value) ns → Each (λ n. IsSmallDefinition n.value) ns → Each (IsFew constants_at) (each_in (λ n. in_definition n.value) ns) → s.inner.pending ≡ [] → Agree systems constants_at p true None s d.scope below (all_tokens (λ n. definition_tokens n.value) ns ks) →
-      DefinedResult s (definition_steps s ns).scopes (definitions_in d ns).scope below ks (definitions_places s ns) (definitions_openings d ns)
+      DefinedResult s (definition_steps s ns).scopes d (definitions_in d ns) below ks (definitions_places s ns) (definitions_openings d ns)
   unfolding definition_steps definition_step
-  definitions_agree s d below ks [] e number apart small few empty h = record { places = tt; step = step_same systems constants_at p true None s d.scope below ks empty h }
+  definitions_agree s d below ks [] e number apart small few empty h = record { places = tt; step = step_same systems constants_at p true None s d.scope below ks empty h; types = λ i. i; variables = λ i. i }
   definitions_agree s d below ks (n ∷ ns) e number apart small few empty h =
       let a : Scopes = (reserve_name s n.name).scopes in
       let x : Typed = systems_of.defined a n.value in
@@ -107,22 +120,29 @@ module _ (systems : ℕ → ℕ) (constants_at : ℕ → List Name) (p : Program
       record {
         places = agreed_append systems p (definition_places a n.value) (definitions_places t ns) (definition_openings d n.value) (definitions_openings k ns) one.places rest.places;
         step = step_then systems constants_at p true None s t (definition_steps t ns).scopes k.scope (definitions_in k ns).scope below js ks one.step rest.step;
+        types = λ i. rest.types (one.types i);
+        variables = λ i. rest.variables (one.variables i);
       }
 
   -- ---- parts of the program
 
   part_agrees : (s : Scopes) (d : Declared) (below : scopes.Scope) (ks : List ℕ) (q : ProgramPart) → (program_part_step s q).faults ≡ [] → IsNumberedPart d q → IsPartApart q → IsSmallProgramPart q → Each (IsFew constants_at) (in_program_part q) → s.inner.pending ≡ [] → Agree systems constants_at p true None s d.scope below (program_part_tokens q ks) →
-      DefinedResult s (program_part_step s q).scopes (program_part_in d q).scope below ks (part_places s q) (part_openings d q)
+      DefinedResult s (program_part_step s q).scopes d (program_part_in d q) below ks (part_places s q) (part_openings d q)
   unfolding program_part_step
-  part_agrees s d below ks (program_constants at ds) e number apart small few empty h = record { places = tt; step = constants_agree systems constants_at p true s d.scope below ks ds e small empty h }
+  part_agrees s d below ks (program_constants at ds) e number apart small few empty h = record { places = tt; step = constants_agree systems constants_at p true s d.scope below ks ds e small empty h; types = λ i. i; variables = λ i. i }
   part_agrees s d below ks (program_types at ns) e number apart small few empty h = definitions_agree s d below ks ns e number apart small few empty h
   part_agrees s d below ks (program_variables at gs) e number apart small few empty h =
-      record { places = tt; step = variables_agree systems constants_at p true (spot.Permanent None) scopes.permanent_variable (permanent_kind systems constants_at p true None) s (record { variables = d.variables; scope = d.scope }) below ks gs e small few empty h }
+      record {
+        places = tt;
+        step = variables_agree systems constants_at p true (spot.Permanent None) scopes.permanent_variable (permanent_kind systems constants_at p true None) s (record { variables = d.variables; scope = d.scope }) below ks gs e small few empty h;
+        types = λ i. i;
+        variables = variables_stand systems constants_at p true (spot.Permanent None) scopes.permanent_variable (permanent_kind systems constants_at p true None) s (record { variables = d.variables; scope = d.scope }) below ks gs e small few empty h;
+      }
 
   parts_agree : (s : Scopes) (d : Declared) (below : scopes.Scope) (ks : List ℕ) (qs : List ProgramPart) → (program_part_steps s qs).faults ≡ [] → AreNumberedParts d qs → Each IsPartApart qs → Each IsSmallProgramPart qs → Each (IsFew constants_at) (each_in in_program_part qs) → s.inner.pending ≡ [] → Agree systems constants_at p true None s d.scope below (all_tokens program_part_tokens qs ks) →
-      DefinedResult s (program_part_steps s qs).scopes (program_parts_in d qs).scope below ks (parts_places s qs) (parts_openings d qs)
+      DefinedResult s (program_part_steps s qs).scopes d (program_parts_in d qs) below ks (parts_places s qs) (parts_openings d qs)
   unfolding program_part_steps
-  parts_agree s d below ks [] e number apart small few empty h = record { places = tt; step = step_same systems constants_at p true None s d.scope below ks empty h }
+  parts_agree s d below ks [] e number apart small few empty h = record { places = tt; step = step_same systems constants_at p true None s d.scope below ks empty h; types = λ i. i; variables = λ i. i }
   parts_agree s d below ks (q ∷ qs) e number apart small few empty h =
       let t : Scopes = (program_part_step s q).scopes in
       let js : List ℕ = all_tokens program_part_tokens qs ks in
@@ -132,6 +152,8 @@ module _ (systems : ℕ → ℕ) (constants_at : ℕ → List Name) (p : Program
       record {
         places = agreed_append systems p (part_places s q) (parts_places t qs) (part_openings d q) (parts_openings k qs) one.places rest.places;
         step = step_then systems constants_at p true None s t (program_part_steps t qs).scopes k.scope (program_parts_in k qs).scope below js ks one.step rest.step;
+        types = λ i. rest.types (one.types i);
+        variables = λ i. rest.variables (one.variables i);
       }
 
   -- ---- the predeclared names
@@ -289,7 +311,12 @@ module _ (systems : ℕ → ℕ) (constants_at : ℕ → List Name) (p : Program
   unfolding enter add
   start_settled = refl
 
-  pub program_agrees : (t : Tree) → p ≡ t.program → faults_of t ≡ [] → AreNumberedParts nothing_declared p.parts → AreHeadingsApart p → IsSmallProgram p → Each (IsFew constants_at) (enumerations_of p) → AreDifferent (program_tokens p) → AreAgreed systems p (places_of p) (openings_of p)
+  pub record ProgramResult : Type 0 where
+    pub places : AreAgreed systems p (places_of p) (openings_of p)
+    pub types : Each IsStandingSystem (declared p).systems
+    pub variables : Each IsStandingVariable (declared p).variables
+
+  pub program_agrees : (t : Tree) → p ≡ t.program → faults_of t ≡ [] → AreNumberedParts nothing_declared p.parts → AreHeadingsApart p → IsSmallProgram p → Each (IsFew constants_at) (enumerations_of p) → AreDifferent (program_tokens p) → ProgramResult
   unfolding faults_of opened declarations
   program_agrees t is e number apart small few different =
       let none : faults (opened start p).uses ≡ [] = subst (λ (q : Program). faults (opened start q).uses ≡ []) (sym is) (uses_sound t.program.period (opened start t.program).scopes (opened start t.program).uses e) in
@@ -304,6 +331,10 @@ module _ (systems : ℕ → ℕ) (constants_at : ℕ → List Name) (p : Program
       let routines = routines_agree systems constants_at p None a.scopes k predeclared (p.period ∷ []) (program_system p) p.routines (none_right a.faults b.faults sound) apart.1 small.1 (each_right (IsFew constants_at) (each_in in_program_part p.parts) (each_in in_routine p.routines) few) parts.step.settled (agree_plain a.scopes k predeclared js parts.step.agree) in
       let last : Opening = initial_opening (program_system p) (own_meaning (declared p) p) in
       let place : Place = record { scopes = d.scopes; context = program_context } in
-      agreed_append systems p (parts_places start p.parts) (routine_places None a.scopes p.routines ++ place ∷ []) (parts_openings nothing_declared p.parts) (routine_openings (program_system p) k p.routines ++ last ∷ []) parts.places
-      (agreed_append systems p (routine_places None a.scopes p.routines) (place ∷ []) (routine_openings (program_system p) k p.routines) (last ∷ []) routines.places
-      (place_agreed systems constants_at p d.scopes program_context (with_routines k p.routines) predeclared (p.period ∷ []) last refl (ap faults (sym (none_after d.faults j none)) ∙ none) routines.step.agree, tt))
+      record {
+        places = agreed_append systems p (parts_places start p.parts) (routine_places None a.scopes p.routines ++ place ∷ []) (parts_openings nothing_declared p.parts) (routine_openings (program_system p) k p.routines ++ last ∷ []) parts.places
+            (agreed_append systems p (routine_places None a.scopes p.routines) (place ∷ []) (routine_openings (program_system p) k p.routines) (last ∷ []) routines.places
+            (place_agreed systems constants_at p d.scopes program_context (with_routines k p.routines) predeclared (p.period ∷ []) last refl (ap faults (sym (none_after d.faults j none)) ∙ none) tt routines.step.agree, tt));
+        types = parts.types tt;
+        variables = parts.variables tt;
+      }

@@ -39,13 +39,14 @@ use Rattle.cp_resolved.specs.Enumerations.{each_in, in_part, in_routine, in_syst
 use Rattle.cp_resolved.specs.Judging.{Place, initial_place, routine_places, system_places, IsRoutineApart, AreAgreed}
 use Rattle.cp_resolved.specs.Openings.{Opening, parts_scope, routine_openings, initial_opening, system_openings}
 use Rattle.cp_resolved.specs.Small.{Each, IsSmallSystem}
+use Rattle.cp_resolved.specs.Standing.{IsStandingVariable}
 use Rattle.cp_resolved.specs.Tokens.{all_tokens, routine_tokens, system_tokens}
 use Rattle.cp_resolved.specs.Typed.{TypeIs, ResultIs, RoutineIs}
 use Rattle.cp_resolved.proofs.Agreeing.{Good, good_then, good_sound, none_left, none_right, none_first, look_entered, inner_look, More, more_same, more_trans, with_more, with_there, with_other, free_others}
 use Rattle.cp_resolved.proofs.AgreeingNames.{W, HeadingThere, heading_kept, heading_more, New, Known, IsKnown, is_known_moved, IsStacked, AreEntries, Agree, sees, sees_of, fit_of, agree_returned}
 use Rattle.cp_resolved.proofs.AgreeingTypes.{IsFew, KindOf, type_named}
 use Rattle.cp_resolved.proofs.AgreeingWritten.{each_left, each_right}
-use Rattle.cp_resolved.proofs.AgreeingParts.{standing_may, StepResult, step_then, step_same, names_result, all_declared, permanent_kind, parts_agree}
+use Rattle.cp_resolved.proofs.AgreeingParts.{standing_may, StepResult, step_then, step_same, names_result, all_declared, permanent_kind, parts_agree, parts_stand}
 use Rattle.cp_resolved.proofs.AgreeingRoutines.{none_before, none_after}
 use Rattle.cp_resolved.proofs.AgreeingBodies.{Uses, loud_uses, all_heard, place_agreed, RoutinesResult, routines_agree}
 use Rattle.cp_resolved.proofs.Reserving.{pending_fresh}
@@ -133,6 +134,7 @@ module _ (systems : ℕ → ℕ) (constants_at : ℕ → List Name) (p : Program
   pub record InsideResult (s : Scopes) (m : scopes.Scope) (ks : List ℕ) (n : ℕ) (y : System) : Type 0 where
     pub places : AreAgreed systems p (system_places s y) (system_openings n m y)
     pub step : StepResult systems constants_at p false None s (inside s y).scopes (system_in m y).scope m (y.at ∷ ks)
+    pub variables : Each IsStandingVariable (system_in m y).variables
     pub uses : Uses (systems_of.opened s y).uses
 
   inside_agrees : (s : Scopes) (m : scopes.Scope) (ks : List ℕ) (n : ℕ) (y : System) → faults (systems_of.opened s y).uses ≡ [] → Each IsRoutineApart y.routines → IsSmallSystem y → Each (IsFew constants_at) (in_system y) → s.inner.pending ≡ [] → Agree systems constants_at p false None s m m (system_tokens y ks) → InsideResult s m ks n y
@@ -158,8 +160,9 @@ module _ (systems : ℕ → ℕ) (constants_at : ℕ → List Name) (p : Program
       let uses : Uses j = loud_uses j (statements_loud d.scopes (initial_context y.kind) (all_heard systems constants_at p false d.scopes (system_in m y).scope m (y.at ∷ ks) step.agree) y.body.statements (Ok no_use) tt) sound in
       record {
         places = agreed_append systems p (routine_places (Some y.kind) b.scopes y.routines) (initial_place s y ∷ []) (routine_openings n ps y.routines) (initial_opening n (system_in m y) ∷ []) all.places
-            (place_agreed systems constants_at p d.scopes (initial_context y.kind) (system_in m y).scope m (y.at ∷ ks) (initial_opening n (system_in m y)) refl sound step.agree, tt);
+            (place_agreed systems constants_at p d.scopes (initial_context y.kind) (system_in m y).scope m (y.at ∷ ks) (initial_opening n (system_in m y)) refl sound tt step.agree, tt);
         step = step;
+        variables = parts_stand systems constants_at p false (spot.Permanent (Some y.kind)) scopes.permanent_variable (permanent_kind systems constants_at p false (Some y.kind)) a.scopes o m rs y.parts (none_left b.faults c.faults (none_right a.faults (b.faults ++ c.faults) none)) small.0 (each_left (IsFew constants_at) (each_in in_part y.parts) (each_in in_routine y.routines) few) first.settled first.agree tt;
         uses = record { value = uses.value; is = subst (λ (i : Judged Use). i ≡ Ok uses.value) (sym same) uses.is };
       }
 
@@ -237,6 +240,7 @@ module _ (systems : ℕ → ℕ) (constants_at : ℕ → List Name) (p : Program
 
   pub record SystemResult (s : Scopes) (m below : scopes.Scope) (ks : List ℕ) (n : ℕ) (y : System) (t : Typed) : Type 0 where
     pub places : AreAgreed systems p (system_places (enter true s) y) (system_openings n (seen_inside m) y)
+    pub variables : Each IsStandingVariable (system_in (seen_inside m) y).variables
     pub is : t.type ≡ Ok (types.Component y.kind y.at)
     pub closed : ClosedResult s t.scopes m below ks
 
@@ -249,6 +253,7 @@ module _ (systems : ℕ → ℕ) (constants_at : ℕ → List Name) (p : Program
       let r : InsideResult a (seen_inside m) ks n y = inside_agrees a (seen_inside m) ks n y (none_first o.uses (systems_of.to_component y.kind y.at) e) apart small few refl (entered_agrees s m below (system_tokens y ks) h) in
       record {
         places = r.places;
+        variables = r.variables;
         is = ap (λ (j : Judged Use). j >>= systems_of.to_component y.kind y.at) r.uses.is;
         closed = closed_agrees s o.scopes m below (system_tokens y ks) ks n y (systems_of.use_of o.uses) i h r.step.agree r.step.outer r.step.more;
       }

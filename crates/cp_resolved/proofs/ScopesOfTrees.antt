@@ -1,14 +1,15 @@
 -- The checker's scopes agree at all statements of a tree that was read and breaks no rule.
-use Rattle.std.proofs.Common.{◌≡◌, ℕ, List, refl, []}
+use Rattle.std.proofs.Common.{◌≡◌, ℕ, zero, suc, List, [], ◌∷◌, slice_get, refl}
 use Rattle.cp_tree.specs.Syntax.{Program, Tree}
 use Rattle.cp_check.specs.Faults.{faults_of}
 use Rattle.cp_meaning.specs.Names.{Name}
+use Rattle.cp_meaning.specs.Systems.{SystemMeaning, declared, own_meaning, or_own}
 use Rattle.cp_resolved.specs.Enumerations.{enumerations_of}
-use Rattle.cp_resolved.specs.Judging.{AreHeadingsApart, AreAgreed, places_of, ScopesLaw}
-use Rattle.cp_resolved.specs.Openings.{openings_of}
+use Rattle.cp_resolved.specs.Judging.{AreHeadingsApart, ScopesAre, ScopesLaw}
 use Rattle.cp_resolved.specs.Small.{Each, IsSmallProgram}
+use Rattle.cp_resolved.specs.Standing.{IsStandingVariable}
 use Rattle.cp_resolved.specs.Tokens.{AreDifferent, program_tokens, token_of_type, tokens_of_enumerations, HasFew, constants_among}
-use Rattle.cp_resolved.proofs.AgreeingProgram.{program_agrees}
+use Rattle.cp_resolved.proofs.AgreeingProgram.{ProgramResult, program_agrees}
 use Rattle.cp_resolved.proofs.DifferentIndexed.{tokens_different}
 use Rattle.cp_resolved.proofs.DifferentTokens.{all_numbered, all_few}
 use Rattle.cp_resolved.proofs.EnumerationsRead.{read_few, read_different}
@@ -21,10 +22,18 @@ pub record IsTidy (p : Program) : Type 0 where
   pub enumerations : AreDifferent (tokens_of_enumerations (enumerations_of p))
   pub tokens : AreDifferent (program_tokens p)
 
-pub tidy_agreed : (t : Tree) → faults_of t ≡ [] → AreHeadingsApart t.program → IsTidy t.program → AreAgreed (token_of_type t.program) t.program (places_of t.program) (openings_of t.program)
+-- the variables of a system type by its number, the program's own after all others
+variables_at : (ms : List SystemMeaning) (k : ℕ) (own : SystemMeaning) → Each (λ m. Each IsStandingVariable m.variables) ms → Each IsStandingVariable own.variables → Each IsStandingVariable (or_own own (slice_get ms k)).variables
+variables_at [] k own h g = g
+variables_at (m ∷ ms) zero own h g = h.0
+variables_at (m ∷ ms) (suc k) own h g = variables_at ms k own h.1 g
+
+pub tidy_agreed : (t : Tree) → faults_of t ≡ [] → AreHeadingsApart t.program → IsTidy t.program → ScopesAre t.program
 tidy_agreed t h apart w =
     let constants_at : ℕ → List Name = (λ at. constants_among at (enumerations_of t.program)) in
-    program_agrees (token_of_type t.program) constants_at t.program t refl h (all_numbered constants_at t.program w.tokens) apart w.small (all_few (enumerations_of t.program) w.few w.enumerations) w.tokens
+    let r : ProgramResult (token_of_type t.program) constants_at t.program =
+    program_agrees (token_of_type t.program) constants_at t.program t refl h (all_numbered constants_at t.program w.tokens) apart w.small (all_few (enumerations_of t.program) w.few w.enumerations) w.tokens in
+    record { places = r.places; variables = λ k. variables_at (declared t.program).systems k (own_meaning (declared t.program) t.program) r.types r.variables }
 
 pub scopes_law : ScopesLaw
 scopes_law t read accepted apart =

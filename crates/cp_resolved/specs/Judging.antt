@@ -16,11 +16,12 @@ use Rattle.cp_check.specs.Faults.{declarations, program_context}
 use Rattle.cp_lawful.specs.Accepted.{IsAccepted}
 use Rattle.cp_meaning.specs.Names.{Name, same_name}
 use Rattle.cp_meaning.specs.Scopes.{find}
+use Rattle.cp_meaning.specs.Systems.{system_of}
 use Rattle.cp_resolved.specs.Layouts.{Layouts}
 use Rattle.cp_resolved.specs.Openings.{Opening, openings_of}
 use Rattle.cp_resolved.specs.Read.{IsRead}
 use Rattle.cp_resolved.specs.Small.{Each}
-use Rattle.cp_resolved.specs.Standing.{IsFit}
+use Rattle.cp_resolved.specs.Standing.{IsFit, IsFreeVariable, IsStandingVariable}
 use Rattle.cp_resolved.specs.Tokens.{token_of_type}
 use Rattle.cp_resolved.specs.Typed.{ScopesAgree}
 
@@ -115,6 +116,7 @@ pub record IsAgreed (tokens : ℕ → ℕ) (p : Program) (x : Place) (o : Openin
   pub known : (y : Name) → look y x.scopes ≡ Some None → ⊥
   -- ranges are inside their bases, and queues and components stand alone or in arrays
   pub fit : (x : Name) → IsFit (find x o.meaning.scope)
+  pub variables : Each IsFreeVariable o.meaning.variables
 
 abbrev pub AreAgreed : (ℕ → ℕ) → Program → List Place → List Opening → Type 0
 AreAgreed tokens p [] [] = Unit {0}
@@ -122,5 +124,10 @@ AreAgreed tokens p (x ∷ xs) (o ∷ os) = IsAgreed tokens p x o × AreAgreed to
 AreAgreed tokens p [] (o ∷ os) = ⊥
 AreAgreed tokens p (x ∷ xs) [] = ⊥
 
+-- at all places, and the types of permanent variables
+pub record ScopesAre (p : Program) : Type 0 where
+  pub places : AreAgreed (token_of_type p) p (places_of p) (openings_of p)
+  pub variables : (k : ℕ) → Each IsStandingVariable (system_of p k).variables
+
 abbrev pub ScopesLaw : Type 0
-ScopesLaw = (t : Tree) → IsRead t.program → IsAccepted t → AreHeadingsApart t.program → AreAgreed (token_of_type t.program) t.program (places_of t.program) (openings_of t.program)
+ScopesLaw = (t : Tree) → IsRead t.program → IsAccepted t → AreHeadingsApart t.program → ScopesAre t.program

@@ -3,6 +3,7 @@ use Rattle.std.specs.Prelude.{◌≡◌, Bool, true, false, ◌&&◌, Option, So
 use Rattle.cp_meaning.specs.Types.{Range, Ty, ordinal, queue_type, set_over, array_over, record_with, component_of, FieldTypes, no_field_types, more_field_types, is_within}
 use Rattle.cp_meaning.specs.Operations.{range_of_base}
 use Rattle.cp_meaning.specs.Scopes.{Meaning, constant_meaning, type_meaning, local_variable, permanent_variable}
+use Rattle.cp_meaning.specs.Declarations.{Variable}
 use Rattle.cp_resolved.specs.InStep.{IsSmall}
 
 -- the bounds are values of the base
@@ -41,3 +42,10 @@ IsFit (Some (type_meaning t)) = is_standing t ≡ true
 IsFit (Some (local_variable t)) = is_free t ≡ true
 IsFit (Some (permanent_variable t)) = is_standing t ≡ true
 IsFit o = Unit {0}
+
+-- variables of a routine, and permanent ones
+abbrev pub IsFreeVariable : Variable → Type 0
+IsFreeVariable v = is_free v.ty ≡ true
+
+abbrev pub IsStandingVariable : Variable → Type 0
+IsStandingVariable v = is_standing v.ty ≡ true
