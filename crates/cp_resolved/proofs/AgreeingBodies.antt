@@ -31,7 +31,7 @@ use Rattle.cp_resolved.specs.Enumerations.{each_in, in_routine}
 use Rattle.cp_resolved.specs.Judging.{routine_place, routine_places, IsRoutineApart, IsAgreed, AreAgreed}
 use Rattle.cp_resolved.specs.Openings.{Opening, with_routine, routine_openings}
 use Rattle.cp_resolved.specs.Small.{Each, IsSmallRoutine}
-use Rattle.cp_resolved.specs.Standing.{IsFit, IsFreeVariable}
+use Rattle.cp_resolved.specs.Standing.{IsFit, IsFreeVariable, IsFreeParameter, IsFreeResult}
 use Rattle.cp_resolved.specs.Tokens.{all_tokens, part_tokens, routine_tokens}
 use Rattle.cp_resolved.specs.Typed.{ScopesAgree}
 use Rattle.cp_resolved.proofs.Agreeing.{none_left, none_right, new_names, More, more_trans, with_more}
@@ -62,8 +62,8 @@ module _ (systems : ℕ → ℕ) (constants_at : ℕ → List Name) (p : Program
       go (Some None) k = k
       go (Some (Some c)) k = tt
 
-  pub place_agreed : (s : Scopes) (w : Context) (m below : scopes.Scope) (ks : List ℕ) (o : Opening) → o.meaning.scope ≡ m → faults (statements s w (Ok no_use) o.meaning.body) ≡ [] → Each IsFreeVariable o.meaning.variables → Agree systems constants_at p false None s m below ks → IsAgreed systems p (record { scopes = s; context = w }) o
-  place_agreed s w m below ks o is sound variables h =
+  pub place_agreed : (s : Scopes) (w : Context) (m below : scopes.Scope) (ks : List ℕ) (o : Opening) → o.meaning.scope ≡ m → faults (statements s w (Ok no_use) o.meaning.body) ≡ [] → Each IsFreeVariable o.meaning.variables → Each IsFreeParameter o.meaning.parameters → IsFreeResult o.meaning.result → Agree systems constants_at p false None s m below ks → IsAgreed systems p (record { scopes = s; context = w }) o
+  place_agreed s w m below ks o is sound variables parameters result h =
       record {
         scopes = λ l k n. subst (λ (i : scopes.Scope). ScopesAgree systems s (record { program = p; layouts = l; system = k; routine = n; scope = i })) (sym is)
             (record { names = λ x c e. (subst (IsKnown systems constants_at s m x) e (sees systems constants_at p false None s m below ks h x tt)).means; entries = λ j i y e. (h.entries j i y e).0 });
@@ -71,6 +71,8 @@ module _ (systems : ℕ → ℕ) (constants_at : ℕ → List Name) (p : Program
         known = λ x e. subst (IsKnown systems constants_at s m x) e (sees systems constants_at p false None s m below ks h x tt);
         fit = λ x. subst (λ (i : scopes.Scope). IsFit (find x i)) (sym is) (fits systems constants_at p false None s m below ks h x);
         variables = variables;
+        parameters = parameters;
+        result = result;
       }
 
   -- ---- out of a routine
@@ -136,12 +138,12 @@ module _ (systems : ℕ → ℕ) (constants_at : ℕ → List Name) (p : Program
     pub step : StepResult systems constants_at p false None s (routine_step owner s r).scopes (with_routine m r) below ks
 
   -- what a routine leaves, by what its heading leaves
-  routine_result : (owner : Option SystemKind) (s a : Scopes) (m below : scopes.Scope) (js ks : List ℕ) (n : ℕ) (r : Routine) (h : Headed) (v : Option ValueType) → h.result ≡ Ok v → BodyResult owner a m below ks r (Ok v) h.scopes → a.outer ≡ s.outer → More s.shapes a.shapes →
+  routine_result : (owner : Option SystemKind) (s a : Scopes) (m below : scopes.Scope) (js ks : List ℕ) (n : ℕ) (r : Routine) (h : Headed) (v : Option ValueType) → h.result ≡ Ok v → Each IsFreeParameter (routine_in (with_routine m r) r).parameters → IsFreeResult (routine_in (with_routine m r) r).result → BodyResult owner a m below ks r (Ok v) h.scopes → a.outer ≡ s.outer → More s.shapes a.shapes →
       IsAgreed systems p (record { scopes = (part_steps spot.Other (announced_of r h.result h.scopes) r.parts).scopes; context = routine_context owner r }) (record { meaning = routine_in (with_routine m r) r; owner = n; name = Some r.name.name })
       × StepResult systems constants_at p false None s (routines.headed_step owner r h).scopes (with_routine m r) below ks
-  routine_result owner s a m below js ks n r h v is b outer more =
+  routine_result owner s a m below js ks n r h v is parameters result b outer more =
       let body : BodyResult owner a m below ks r h.result h.scopes = subst (λ (j : Judged (Option ValueType)). BodyResult owner a m below ks r j h.scopes) (sym is) b in (
-        place_agreed (part_steps spot.Other (announced_of r h.result h.scopes) r.parts).scopes (routine_context owner r) (routine_in (with_routine m r) r).scope (with_routine m r) (r.body.at ∷ ks) (record { meaning = routine_in (with_routine m r) r; owner = n; name = Some r.name.name }) refl body.sound body.variables body.agree,
+        place_agreed (part_steps spot.Other (announced_of r h.result h.scopes) r.parts).scopes (routine_context owner r) (routine_in (with_routine m r) r).scope (with_routine m r) (r.body.at ∷ ks) (record { meaning = routine_in (with_routine m r) r; owner = n; name = Some r.name.name }) refl body.sound body.variables parameters result body.agree,
         record { agree = body.step.agree; outer = body.step.outer ∙ outer; settled = body.step.settled; more = more_trans s.shapes a.shapes (routines.headed_step owner r h).scopes.shapes more body.step.more },
       )
 
@@ -158,7 +160,7 @@ module _ (systems : ℕ → ℕ) (constants_at : ℕ → List Name) (p : Program
       let ann = announced_agrees systems constants_at p a hd.scopes m below (with_routine m r) (meant.heading_of (with_routine m r) r.kind).scope (routine_tokens r ks) (all_tokens part_tokens r.parts (r.body.at ∷ ks)) r head.value refl fresh named.agree head.step.agree head.step.outer head.step.settled head.step.more head.result in
       let body = body_agrees owner a hd.scopes m below (routine_tokens r ks) ks r head.value fresh named.agree ann small few
       (subst (λ (j : Judged (Option ValueType)). faults (routines.opened owner r (announced_of r j hd.scopes)).uses ≡ []) head.is (none_right (faults hd.result) (faults (routines.opened owner r (announced_of r hd.result hd.scopes)).uses) e)) in
-      let all = routine_result owner s a m below (routine_tokens r ks) ks n r hd head.value head.is body named.outer (λ k d i. ap (shape_in k) named.shapes ∙ i) in
+      let all = routine_result owner s a m below (routine_tokens r ks) ks n r hd head.value head.is head.parameters head.free body named.outer (λ k d i. ap (shape_in k) named.shapes ∙ i) in
       record { place = all.0; step = all.1 }
 
   -- ---- the routines of a system type

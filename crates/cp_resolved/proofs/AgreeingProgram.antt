@@ -33,7 +33,7 @@ use Rattle.cp_resolved.specs.Fit.{nothing_declared}
 use Rattle.cp_resolved.specs.Judging.{Place, definition_places, definitions_places, part_places, parts_places, routine_places, places_of, IsDefinitionApart, IsPartApart, AreHeadingsApart, AreAgreed}
 use Rattle.cp_resolved.specs.Openings.{Opening, definition_openings, definitions_openings, part_openings, parts_openings, routine_openings, initial_opening, openings_of}
 use Rattle.cp_resolved.specs.Small.{Each, IsSmallDefinition, IsSmallProgramPart, IsSmallProgram}
-use Rattle.cp_resolved.specs.Standing.{IsFit, IsStandingVariable}
+use Rattle.cp_resolved.specs.Standing.{IsFit, IsStandingVariable, IsStandingParameter}
 use Rattle.cp_resolved.specs.Tokens.{AreDifferent, all_tokens, routine_tokens, definition_tokens, program_part_tokens, program_tokens}
 use Rattle.cp_resolved.specs.Typed.{RangeIs, TypeIs, predeclared_of, MeaningIs}
 use Rattle.cp_resolved.proofs.Agreeing.{none_left, none_right, none_first, AreFree}
@@ -68,7 +68,7 @@ module _ (systems : ℕ → ℕ) (constants_at : ℕ → List Name) (p : Program
   -- ---- definitions
 
   abbrev pub IsStandingSystem : SystemMeaning → Type 0
-  IsStandingSystem m = Each IsStandingVariable m.variables
+  IsStandingSystem m = Each IsStandingVariable m.variables × Each IsStandingParameter m.parameters
 
   record DefinedResult (s t : Scopes) (d k : Declared) (below : scopes.Scope) (ks : List ℕ) (xs : List Place) (os : List Opening) : Type 0 where
     pub places : AreAgreed systems p xs os
@@ -99,7 +99,7 @@ module _ (systems : ℕ → ℕ) (constants_at : ℕ → List Name) (p : Program
         places = w.places;
         step = kind_declared systems constants_at p true s n.name t d.scope below ks (named.component_of c) (types.Component y.kind y.at) w.is (record { kind = y.kind; is = ap (types.Component y.kind) (sym number.token) }) refl
             (ap (λ (ds : Names). is_some (checker.find n.name.name ds)) w.closed.names ∙ r.reserved.pends n.name.name r.reserved.all.0) (w.closed.outer ∙ r.outer) (λ k f i. w.closed.more k f (ap (shape_in k) r.shapes ∙ i)) w.closed.agree;
-        types = λ h. each_last d.systems (system_in (seen_inside d.scope) y) h w.variables;
+        types = λ h. each_last d.systems (system_in (seen_inside d.scope) y) h (w.variables, w.parameters);
         variables = λ h. h;
       }
 
@@ -334,7 +334,7 @@ module _ (systems : ℕ → ℕ) (constants_at : ℕ → List Name) (p : Program
       record {
         places = agreed_append systems p (parts_places start p.parts) (routine_places None a.scopes p.routines ++ place ∷ []) (parts_openings nothing_declared p.parts) (routine_openings (program_system p) k p.routines ++ last ∷ []) parts.places
             (agreed_append systems p (routine_places None a.scopes p.routines) (place ∷ []) (routine_openings (program_system p) k p.routines) (last ∷ []) routines.places
-            (place_agreed systems constants_at p d.scopes program_context (with_routines k p.routines) predeclared (p.period ∷ []) last refl (ap faults (sym (none_after d.faults j none)) ∙ none) tt routines.step.agree, tt));
+            (place_agreed systems constants_at p d.scopes program_context (with_routines k p.routines) predeclared (p.period ∷ []) last refl (ap faults (sym (none_after d.faults j none)) ∙ none) tt tt tt routines.step.agree, tt));
         types = parts.types tt;
         variables = parts.variables tt;
       }

@@ -33,7 +33,8 @@ use Rattle.cp_meaning.specs.Declarations as meant
 use Rattle.cp_meaning.specs.Declarations.{routine_in}
 use Rattle.cp_resolved.specs.Judging.{AreApart, AreParametersApart, IsHeadingApart, IsRoutineApart}
 use Rattle.cp_resolved.specs.Openings.{with_routine}
-use Rattle.cp_resolved.specs.Standing.{is_free, IsFit}
+use Rattle.cp_resolved.specs.Small.{Each}
+use Rattle.cp_resolved.specs.Standing.{is_free, IsFit, IsFreeParameter, IsFreeResult}
 use Rattle.cp_resolved.specs.Typed.{TypeIs, IsOrdinalResult, ResultIs, RoutineIs}
 use Rattle.cp_resolved.proofs.Agreeing.{Good, good_then, good_sound, none_left, none_right, none_first, itself, is_itself, new_names, look_last, look_is, look_entered, find_last, inner_look, More, more_same, more_trans, with_more, with_there}
 use Rattle.cp_resolved.proofs.AgreeingNames.{W, IsGiven, New, Known, IsKnown, is_known_moved, stacked_more, IsBut, find_first, find_other, since_other, last_or, Agree, sees, fits, agree_kept}
@@ -111,6 +112,50 @@ module _ (systems : ℕ → ℕ) (constants_at : ℕ → List Name) (p : Program
       step_then systems constants_at p false (Some own) s t (headings.parameter_steps t gs).scopes k.scope (meant.with_parameter_groups k gs).scope below ks ks r
       (parameters_agree own t k below ks gs (none_right (headings.parameter_step s g).faults (headings.parameter_steps t gs).faults e) apart.1 r.settled r.agree)
 
+  -- ---- types of parameters
+
+  named_free : (xs : List Name) (t : Ty) (b : Bool) → is_free t ≡ true → Each IsFreeParameter (meant.parameters_named xs t b)
+  named_free [] t b h = tt
+  named_free (x ∷ xs) t b h = (h, named_free xs t b h)
+
+  free_both : (qs rs : List meant.Parameter) → Each IsFreeParameter qs → Each IsFreeParameter rs → Each IsFreeParameter (qs ++ rs)
+  free_both [] rs h g = g
+  free_both (q ∷ qs) rs h g = (h.0, free_both qs rs h.1 g)
+
+  group_free : (is_var : Bool) (but : Option Name) (s : Scopes) (m below : scopes.Scope) (ks : List ℕ) (g : Group) → (headings.group_step is_var s g).faults ≡ [] → IsBut systems constants_at but g.type_name.name → s.inner.pending ≡ [] → Agree systems constants_at p false but s m below ks → is_free (meant.type_named m g.type_name.name) ≡ true
+  unfolding headings.group_step
+  group_free is_var but s m below ks g e other empty h =
+      let a : Scopes = (reserve_names s g.names).scopes in
+      let j : Judged ValueType = headings.parameter_type a g in
+      let t : Ty = meant.type_named m g.type_name.name in
+      let r = names_result systems constants_at p false but s g.names m below ks (none_left (reserve_names s g.names).faults (faults (j >>= headings.to_parameter is_var)) e) empty h in
+      let v = good_sound (PlainType a.shapes t) j (parameter_good a m g (sees systems constants_at p false but a m below ks r.agree g.type_name.name other)) (none_first j (headings.to_parameter is_var) (none_right (reserve_names s g.names).faults (faults (j >>= headings.to_parameter is_var)) e)) in
+      v.holds.free
+
+  groups_free : (own : Name) (s : Scopes) (h : meant.Heading) (below : scopes.Scope) (ks : List ℕ) (gs : List Group) → (headings.group_steps s gs).faults ≡ [] → AreApart own gs → s.inner.pending ≡ [] → Agree systems constants_at p false (Some own) s h.scope below ks → Each IsFreeParameter h.parameters → Each IsFreeParameter (meant.with_groups scopes.local_variable h gs).parameters
+  unfolding headings.group_steps
+  groups_free own s h below ks [] e apart empty agree qs = qs
+  groups_free own s h below ks (g ∷ gs) e apart empty agree qs =
+      let t : Scopes = (headings.group_step false s g).scopes in
+      let k : meant.Heading = meant.with_group scopes.local_variable false h g in
+      let none : (headings.group_step false s g).faults ≡ [] = none_left (headings.group_step false s g).faults (headings.group_steps t gs).faults e in
+      let r = group_agrees false (Some own) s h.scope below ks g none apart.0 empty agree in
+      let u : Ty = meant.type_named h.scope g.type_name.name in
+      groups_free own t k below ks gs (none_right (headings.group_step false s g).faults (headings.group_steps t gs).faults e) apart.1 r.settled r.agree
+      (free_both h.parameters (meant.parameters_named (meant.names_of g.names) u false) qs (named_free (meant.names_of g.names) u false (group_free false (Some own) s h.scope below ks g none apart.0 empty agree)))
+
+  parameters_free : (own : Name) (s : Scopes) (h : meant.Heading) (below : scopes.Scope) (ks : List ℕ) (gs : List ParameterGroup) → (headings.parameter_steps s gs).faults ≡ [] → AreParametersApart own gs → s.inner.pending ≡ [] → Agree systems constants_at p false (Some own) s h.scope below ks → Each IsFreeParameter h.parameters → Each IsFreeParameter (meant.with_parameter_groups h gs).parameters
+  unfolding headings.parameter_steps
+  parameters_free own s h below ks [] e apart empty agree qs = qs
+  parameters_free own s h below ks (g ∷ gs) e apart empty agree qs =
+      let t : Scopes = (headings.parameter_step s g).scopes in
+      let k : meant.Heading = meant.with_group scopes.local_variable g.is_var h g.group in
+      let none : (headings.parameter_step s g).faults ≡ [] = none_left (headings.parameter_step s g).faults (headings.parameter_steps t gs).faults e in
+      let r = group_agrees g.is_var (Some own) s h.scope below ks g.group none apart.0 empty agree in
+      let u : Ty = meant.type_named h.scope g.group.type_name.name in
+      parameters_free own t k below ks gs (none_right (headings.parameter_step s g).faults (headings.parameter_steps t gs).faults e) apart.1 r.settled r.agree
+      (free_both h.parameters (meant.parameters_named (meant.names_of g.group.names) u g.is_var) qs (named_free (meant.names_of g.group.names) u g.is_var (group_free g.is_var (Some own) s h.scope below ks g.group none apart.0 empty agree)))
+
   -- ---- results
 
   abbrev IsResult : Shapes → Option ValueType → Option Ty → Type 0
@@ -125,14 +170,14 @@ module _ (systems : ℕ → ℕ) (constants_at : ℕ → List Name) (p : Program
   returned_good ss at (holds.Component j) t v b k = tt
   returned_good ss at (holds.Components j) t v b k = tt
 
-  result_good : (s : Scopes) (m : scopes.Scope) (i : Identifier) → IsKnown systems constants_at s m i.name (look i.name s) → Good (λ o. IsResult s.shapes o (Some (meant.type_named m i.name))) (headings.result_type s i)
+  result_good : (s : Scopes) (m : scopes.Scope) (i : Identifier) → IsKnown systems constants_at s m i.name (look i.name s) → Good (λ o. IsResult s.shapes o (Some (meant.type_named m i.name)) × (is_free (meant.type_named m i.name) ≡ true)) (headings.result_type s i)
   unfolding headings.result_type
   result_good s m i h =
       let t : Ty = meant.type_named m i.name in
-      good_then (PlainType s.shapes t) (λ o. IsResult s.shapes o (Some t)) (typing.type_named s i.at i.name >>= headings.returned_in s i.at) headings.some_type
+      good_then (PlainType s.shapes t) (λ o. IsResult s.shapes o (Some t) × (is_free t ≡ true)) (typing.type_named s i.at i.name >>= headings.returned_in s i.at) headings.some_type
       (good_then (KindOf systems constants_at s.shapes t) (PlainType s.shapes t) (typing.type_named s i.at i.name) (headings.returned_in s i.at) (type_named systems constants_at s m i.at i.name h)
       (λ v k. returned_good s.shapes i.at (typing.holding s v) t v k.belongs (held_named (W systems constants_at s.shapes) s t v refl k.belongs k.standing)))
-      (λ v k. k)
+      (λ v k. (k, k.free))
 
   ordinal_result : (ss : Shapes) (t : Ty) (v : ValueType) → PlainType ss t v → is_ordinal v ≡ true → IsOrdinalResult v (Some t)
   ordinal_result ss t (types.Ordinal r) h e =
@@ -160,6 +205,8 @@ module _ (systems : ℕ → ℕ) (constants_at : ℕ → List Name) (p : Program
     pub value : Option ValueType
     pub is : h.result ≡ Ok value
     pub result : IsResult h.scopes.shapes value (meant.result_of (meant.heading_of m k).scope k)
+    pub parameters : Each IsFreeParameter (meant.heading_of m k).parameters
+    pub free : IsFreeResult (meant.result_of (meant.heading_of m k).scope k)
 
   written_agrees : (own : Name) (s : Scopes) (m below : scopes.Scope) (ks : List ℕ) (k : RoutineKind) → faults (written s k).result ≡ [] → IsHeadingApart own k → s.inner.pending ≡ [] → Agree systems constants_at p false (Some own) s m below ks → WrittenResult own s m below ks (written s k) k
   unfolding headings.written
@@ -170,6 +217,8 @@ module _ (systems : ℕ → ℕ) (constants_at : ℕ → List Name) (p : Program
         value = None;
         is = none_after (headings.parameter_steps s gs).faults (Ok None) e;
         result = tt;
+        parameters = parameters_free own s (record { parameters = []; scope = m }) below ks gs none apart empty agree tt;
+        free = tt;
       }
   written_agrees own s m below ks (function gs i) e apart empty agree =
       let d : Step = headings.group_steps s gs in
@@ -177,14 +226,23 @@ module _ (systems : ℕ → ℕ) (constants_at : ℕ → List Name) (p : Program
       let step = groups_agree own s (record { parameters = []; scope = m }) below ks gs none apart.0 empty agree in
       let k : scopes.Scope = (meant.with_groups scopes.local_variable (record { parameters = []; scope = m }) gs).scope in
       let same : after_faults d.faults (headings.result_type d.scopes i) ≡ headings.result_type d.scopes i = none_after d.faults (headings.result_type d.scopes i) e in
-      let v = good_sound (λ o. IsResult d.scopes.shapes o (Some (meant.type_named k i.name))) (headings.result_type d.scopes i) (result_good d.scopes k i (sees systems constants_at p false (Some own) d.scopes k below ks step.agree i.name apart.1)) (ap faults (sym same) ∙ e) in
-      record { step = step; value = v.value; is = same ∙ v.is; result = v.holds }
+      let v = good_sound (λ o. IsResult d.scopes.shapes o (Some (meant.type_named k i.name)) × (is_free (meant.type_named k i.name) ≡ true)) (headings.result_type d.scopes i) (result_good d.scopes k i (sees systems constants_at p false (Some own) d.scopes k below ks step.agree i.name apart.1)) (ap faults (sym same) ∙ e) in
+      record {
+        step = step;
+        value = v.value;
+        is = same ∙ v.is;
+        result = v.holds.0;
+        parameters = groups_free own s (record { parameters = []; scope = m }) below ks gs none apart.0 empty agree tt;
+        free = v.holds.1;
+      }
 
   pub record HeadingResult (s : Scopes) (m k below : scopes.Scope) (ks : List ℕ) (r : Routine) (h : Headed) : Type 0 where
     pub step : StepResult systems constants_at p false (Some r.name.name) s h.scopes (meant.heading_of k r.kind).scope below ks
     pub value : Option ValueType
     pub is : h.result ≡ Ok value
     pub result : ResultIs value (Some (routine_in k r))
+    pub parameters : Each IsFreeParameter (routine_in k r).parameters
+    pub free : IsFreeResult (routine_in k r).result
 
   ruled_none : (fs : List CheckFault) (v : Option ValueType) → faults (unless fs v) ≡ [] → fs ≡ []
   ruled_none [] v h = refl
@@ -201,6 +259,8 @@ module _ (systems : ℕ → ℕ) (constants_at : ℕ → List Name) (p : Program
         value = w.value;
         is = ap (λ (j : Judged (Option ValueType)). j >>= headings.ruled owner r) same ∙ ap (λ gs. unless gs w.value) all;
         result = result_is h.scopes.shapes r.at w.value (meant.result_of (meant.heading_of k r.kind).scope r.kind) w.result (none_left (headings.result_faults r.at w.value) (headings.entry_faults (r.name.at - 1) owner r.is_entry) all) (routine_in k r) refl;
+        parameters = w.parameters;
+        free = w.free;
       }
 
   -- a routine's own scope, before its parameters

@@ -39,7 +39,7 @@ use Rattle.cp_resolved.specs.Enumerations.{each_in, in_part, in_routine, in_syst
 use Rattle.cp_resolved.specs.Judging.{Place, initial_place, routine_places, system_places, IsRoutineApart, AreAgreed}
 use Rattle.cp_resolved.specs.Openings.{Opening, parts_scope, routine_openings, initial_opening, system_openings}
 use Rattle.cp_resolved.specs.Small.{Each, IsSmallSystem}
-use Rattle.cp_resolved.specs.Standing.{IsStandingVariable}
+use Rattle.cp_resolved.specs.Standing.{is_standing, IsStandingVariable, IsStandingParameter}
 use Rattle.cp_resolved.specs.Tokens.{all_tokens, routine_tokens, system_tokens}
 use Rattle.cp_resolved.specs.Typed.{TypeIs, ResultIs, RoutineIs}
 use Rattle.cp_resolved.proofs.Agreeing.{Good, good_then, good_sound, none_left, none_right, none_first, look_entered, inner_look, More, more_same, more_trans, with_more, with_there, with_other, free_others}
@@ -111,6 +111,38 @@ module _ (systems : ℕ → ℕ) (constants_at : ℕ → List Name) (p : Program
       step_then systems constants_at p false None s t (systems_of.group_steps o t gs).scopes k.scope (meant.with_groups scopes.permanent_variable k gs).scope below ks ks r
       (groups_agree o t k below ks gs (none_right (systems_of.group_step o s g).faults (systems_of.group_steps o t gs).faults e) r.settled r.agree)
 
+  -- ---- types of parameters
+
+  named_stand : (xs : List Name) (t : Ty) (b : Bool) → is_standing t ≡ true → Each IsStandingParameter (meant.parameters_named xs t b)
+  named_stand [] t b h = tt
+  named_stand (x ∷ xs) t b h = (h, named_stand xs t b h)
+
+  stand_both : (qs rs : List meant.Parameter) → Each IsStandingParameter qs → Each IsStandingParameter rs → Each IsStandingParameter (qs ++ rs)
+  stand_both [] rs h g = g
+  stand_both (q ∷ qs) rs h g = (h.0, stand_both qs rs h.1 g)
+
+  group_stands : (o : SystemKind) (s : Scopes) (m below : scopes.Scope) (ks : List ℕ) (g : Group) → (systems_of.group_step o s g).faults ≡ [] → s.inner.pending ≡ [] → Agree systems constants_at p false None s m below ks → is_standing (meant.type_named m g.type_name.name) ≡ true
+  unfolding systems_of.group_step
+  group_stands o s m below ks g e empty h =
+      let a : Scopes = (reserve_names s g.names).scopes in
+      let j : Judged ValueType = systems_of.parameter_type o a g in
+      let t : Ty = meant.type_named m g.type_name.name in
+      let r = names_result systems constants_at p false None s g.names m below ks (none_left (reserve_names s g.names).faults (faults (j >>= systems_of.to_parameter)) e) empty h in
+      let v = good_sound (KindOf systems constants_at a.shapes t) j (parameter_good o a m g (sees systems constants_at p false None a m below ks r.agree g.type_name.name tt)) (none_first j systems_of.to_parameter (none_right (reserve_names s g.names).faults (faults (j >>= systems_of.to_parameter)) e)) in
+      v.holds.standing
+
+  groups_stand : (o : SystemKind) (s : Scopes) (h : meant.Heading) (below : scopes.Scope) (ks : List ℕ) (gs : List Group) → (systems_of.group_steps o s gs).faults ≡ [] → s.inner.pending ≡ [] → Agree systems constants_at p false None s h.scope below ks → Each IsStandingParameter h.parameters → Each IsStandingParameter (meant.with_groups scopes.permanent_variable h gs).parameters
+  unfolding systems_of.group_steps
+  groups_stand o s h below ks [] e empty agree qs = qs
+  groups_stand o s h below ks (g ∷ gs) e empty agree qs =
+      let t : Scopes = (systems_of.group_step o s g).scopes in
+      let k : meant.Heading = meant.with_group scopes.permanent_variable false h g in
+      let none : (systems_of.group_step o s g).faults ≡ [] = none_left (systems_of.group_step o s g).faults (systems_of.group_steps o t gs).faults e in
+      let r = group_agrees o s h.scope below ks g none empty agree in
+      let u : Ty = meant.type_named h.scope g.type_name.name in
+      groups_stand o t k below ks gs (none_right (systems_of.group_step o s g).faults (systems_of.group_steps o t gs).faults e) r.settled r.agree
+      (stand_both h.parameters (meant.parameters_named (meant.names_of g.names) u false) qs (named_stand (meant.names_of g.names) u false (group_stands o s h.scope below ks g none empty agree)))
+
   -- ---- into a system type
 
   pub entered_agrees : (s : Scopes) (m below : scopes.Scope) (ks : List ℕ) → Agree systems constants_at p true None s m below ks → Agree systems constants_at p false None (enter true s) (seen_inside m) (seen_inside m) ks
@@ -135,6 +167,7 @@ module _ (systems : ℕ → ℕ) (constants_at : ℕ → List Name) (p : Program
     pub places : AreAgreed systems p (system_places s y) (system_openings n m y)
     pub step : StepResult systems constants_at p false None s (inside s y).scopes (system_in m y).scope m (y.at ∷ ks)
     pub variables : Each IsStandingVariable (system_in m y).variables
+    pub parameters : Each IsStandingParameter (system_in m y).parameters
     pub uses : Uses (systems_of.opened s y).uses
 
   inside_agrees : (s : Scopes) (m : scopes.Scope) (ks : List ℕ) (n : ℕ) (y : System) → faults (systems_of.opened s y).uses ≡ [] → Each IsRoutineApart y.routines → IsSmallSystem y → Each (IsFew constants_at) (in_system y) → s.inner.pending ≡ [] → Agree systems constants_at p false None s m m (system_tokens y ks) → InsideResult s m ks n y
@@ -160,8 +193,9 @@ module _ (systems : ℕ → ℕ) (constants_at : ℕ → List Name) (p : Program
       let uses : Uses j = loud_uses j (statements_loud d.scopes (initial_context y.kind) (all_heard systems constants_at p false d.scopes (system_in m y).scope m (y.at ∷ ks) step.agree) y.body.statements (Ok no_use) tt) sound in
       record {
         places = agreed_append systems p (routine_places (Some y.kind) b.scopes y.routines) (initial_place s y ∷ []) (routine_openings n ps y.routines) (initial_opening n (system_in m y) ∷ []) all.places
-            (place_agreed systems constants_at p d.scopes (initial_context y.kind) (system_in m y).scope m (y.at ∷ ks) (initial_opening n (system_in m y)) refl sound tt step.agree, tt);
+            (place_agreed systems constants_at p d.scopes (initial_context y.kind) (system_in m y).scope m (y.at ∷ ks) (initial_opening n (system_in m y)) refl sound tt tt tt step.agree, tt);
         step = step;
+        parameters = groups_stand y.kind s (record { parameters = []; scope = m }) m (system_tokens y ks) y.parameters (none_left a.faults (b.faults ++ c.faults) none) empty h tt;
         variables = parts_stand systems constants_at p false (spot.Permanent (Some y.kind)) scopes.permanent_variable (permanent_kind systems constants_at p false (Some y.kind)) a.scopes o m rs y.parts (none_left b.faults c.faults (none_right a.faults (b.faults ++ c.faults) none)) small.0 (each_left (IsFew constants_at) (each_in in_part y.parts) (each_in in_routine y.routines) few) first.settled first.agree tt;
         uses = record { value = uses.value; is = subst (λ (i : Judged Use). i ≡ Ok uses.value) (sym same) uses.is };
       }
@@ -241,6 +275,7 @@ module _ (systems : ℕ → ℕ) (constants_at : ℕ → List Name) (p : Program
   pub record SystemResult (s : Scopes) (m below : scopes.Scope) (ks : List ℕ) (n : ℕ) (y : System) (t : Typed) : Type 0 where
     pub places : AreAgreed systems p (system_places (enter true s) y) (system_openings n (seen_inside m) y)
     pub variables : Each IsStandingVariable (system_in (seen_inside m) y).variables
+    pub parameters : Each IsStandingParameter (system_in (seen_inside m) y).parameters
     pub is : t.type ≡ Ok (types.Component y.kind y.at)
     pub closed : ClosedResult s t.scopes m below ks
 
@@ -254,6 +289,7 @@ module _ (systems : ℕ → ℕ) (constants_at : ℕ → List Name) (p : Program
       record {
         places = r.places;
         variables = r.variables;
+        parameters = r.parameters;
         is = ap (λ (j : Judged Use). j >>= systems_of.to_component y.kind y.at) r.uses.is;
         closed = closed_agrees s o.scopes m below (system_tokens y ks) ks n y (systems_of.use_of o.uses) i h r.step.agree r.step.outer r.step.more;
       }

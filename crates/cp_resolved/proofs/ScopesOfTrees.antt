@@ -7,7 +7,7 @@ use Rattle.cp_meaning.specs.Systems.{SystemMeaning, declared, own_meaning, or_ow
 use Rattle.cp_resolved.specs.Enumerations.{enumerations_of}
 use Rattle.cp_resolved.specs.Judging.{AreHeadingsApart, ScopesAre, ScopesLaw}
 use Rattle.cp_resolved.specs.Small.{Each, IsSmallProgram}
-use Rattle.cp_resolved.specs.Standing.{IsStandingVariable}
+use Rattle.cp_resolved.specs.Standing.{IsStandingVariable, IsStandingParameter}
 use Rattle.cp_resolved.specs.Tokens.{AreDifferent, program_tokens, token_of_type, tokens_of_enumerations, HasFew, constants_among}
 use Rattle.cp_resolved.proofs.AgreeingProgram.{ProgramResult, program_agrees}
 use Rattle.cp_resolved.proofs.DifferentIndexed.{tokens_different}
@@ -22,18 +22,26 @@ pub record IsTidy (p : Program) : Type 0 where
   pub enumerations : AreDifferent (tokens_of_enumerations (enumerations_of p))
   pub tokens : AreDifferent (program_tokens p)
 
--- the variables of a system type by its number, the program's own after all others
-variables_at : (ms : List SystemMeaning) (k : ℕ) (own : SystemMeaning) → Each (λ m. Each IsStandingVariable m.variables) ms → Each IsStandingVariable own.variables → Each IsStandingVariable (or_own own (slice_get ms k)).variables
-variables_at [] k own h g = g
-variables_at (m ∷ ms) zero own h g = h.0
-variables_at (m ∷ ms) (suc k) own h g = variables_at ms k own h.1 g
+abbrev IsStandingSystem : SystemMeaning → Type 0
+IsStandingSystem m = Each IsStandingVariable m.variables × Each IsStandingParameter m.parameters
+
+-- a system type by its number, the program's own after all others
+system_at : (ms : List SystemMeaning) (k : ℕ) (own : SystemMeaning) → Each IsStandingSystem ms → IsStandingSystem own → IsStandingSystem (or_own own (slice_get ms k))
+system_at [] k own h g = g
+system_at (m ∷ ms) zero own h g = h.0
+system_at (m ∷ ms) (suc k) own h g = system_at ms k own h.1 g
 
 pub tidy_agreed : (t : Tree) → faults_of t ≡ [] → AreHeadingsApart t.program → IsTidy t.program → ScopesAre t.program
 tidy_agreed t h apart w =
     let constants_at : ℕ → List Name = (λ at. constants_among at (enumerations_of t.program)) in
     let r : ProgramResult (token_of_type t.program) constants_at t.program =
     program_agrees (token_of_type t.program) constants_at t.program t refl h (all_numbered constants_at t.program w.tokens) apart w.small (all_few (enumerations_of t.program) w.few w.enumerations) w.tokens in
-    record { places = r.places; variables = λ k. variables_at (declared t.program).systems k (own_meaning (declared t.program) t.program) r.types r.variables }
+    let own : SystemMeaning = own_meaning (declared t.program) t.program in
+    record {
+      places = r.places;
+      variables = λ k. (system_at (declared t.program).systems k own r.types (r.variables, tt)).0;
+      parameters = λ k. (system_at (declared t.program).systems k own r.types (r.variables, tt)).1;
+    }
 
 pub scopes_law : ScopesLaw
 scopes_law t read accepted apart =

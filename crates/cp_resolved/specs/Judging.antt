@@ -21,7 +21,7 @@ use Rattle.cp_resolved.specs.Layouts.{Layouts}
 use Rattle.cp_resolved.specs.Openings.{Opening, openings_of}
 use Rattle.cp_resolved.specs.Read.{IsRead}
 use Rattle.cp_resolved.specs.Small.{Each}
-use Rattle.cp_resolved.specs.Standing.{IsFit, IsFreeVariable, IsStandingVariable}
+use Rattle.cp_resolved.specs.Standing.{IsFit, IsFreeVariable, IsStandingVariable, IsFreeParameter, IsStandingParameter, IsFreeResult}
 use Rattle.cp_resolved.specs.Tokens.{token_of_type}
 use Rattle.cp_resolved.specs.Typed.{ScopesAgree}
 
@@ -117,6 +117,8 @@ pub record IsAgreed (tokens : ℕ → ℕ) (p : Program) (x : Place) (o : Openin
   -- ranges are inside their bases, and queues and components stand alone or in arrays
   pub fit : (x : Name) → IsFit (find x o.meaning.scope)
   pub variables : Each IsFreeVariable o.meaning.variables
+  pub parameters : Each IsFreeParameter o.meaning.parameters
+  pub result : IsFreeResult o.meaning.result
 
 abbrev pub AreAgreed : (ℕ → ℕ) → Program → List Place → List Opening → Type 0
 AreAgreed tokens p [] [] = Unit {0}
@@ -128,6 +130,7 @@ AreAgreed tokens p (x ∷ xs) [] = ⊥
 pub record ScopesAre (p : Program) : Type 0 where
   pub places : AreAgreed (token_of_type p) p (places_of p) (openings_of p)
   pub variables : (k : ℕ) → Each IsStandingVariable (system_of p k).variables
+  pub parameters : (k : ℕ) → Each IsStandingParameter (system_of p k).parameters
 
 abbrev pub ScopesLaw : Type 0
 ScopesLaw = (t : Tree) → IsRead t.program → IsAccepted t → AreHeadingsApart t.program → ScopesAre t.program

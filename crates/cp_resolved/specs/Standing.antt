@@ -1,9 +1,9 @@
 -- What types the variables of an accepted program have: bounds of ranges are values of their bases, and queues and components stand alone or in an array.
-use Rattle.std.specs.Prelude.{◌≡◌, Bool, true, false, ◌&&◌, Option, Some}
+use Rattle.std.specs.Prelude.{◌≡◌, Bool, true, false, ◌&&◌, Option, Some, None}
 use Rattle.cp_meaning.specs.Types.{Range, Ty, ordinal, queue_type, set_over, array_over, record_with, component_of, FieldTypes, no_field_types, more_field_types, is_within}
 use Rattle.cp_meaning.specs.Operations.{range_of_base}
 use Rattle.cp_meaning.specs.Scopes.{Meaning, constant_meaning, type_meaning, local_variable, permanent_variable}
-use Rattle.cp_meaning.specs.Declarations.{Variable}
+use Rattle.cp_meaning.specs.Declarations.{Variable, Parameter}
 use Rattle.cp_resolved.specs.InStep.{IsSmall}
 
 -- the bounds are values of the base
@@ -49,3 +49,13 @@ IsFreeVariable v = is_free v.ty ≡ true
 
 abbrev pub IsStandingVariable : Variable → Type 0
 IsStandingVariable v = is_standing v.ty ≡ true
+
+abbrev pub IsFreeParameter : Parameter → Type 0
+IsFreeParameter q = is_free q.ty ≡ true
+
+abbrev pub IsStandingParameter : Parameter → Type 0
+IsStandingParameter q = is_standing q.ty ≡ true
+
+abbrev pub IsFreeResult : Option Ty → Type 0
+IsFreeResult None = Unit {0}
+IsFreeResult (Some t) = is_free t ≡ true
