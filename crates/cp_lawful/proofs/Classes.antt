@@ -136,17 +136,17 @@ found_tell ss s x ((n, permanent_variable t) ∷ ds) k tell e = found_tell ss s 
 found_tell ss s x ((n, meant.routine_meaning r) ∷ ds) k tell e = found_tell ss s x ds k tell.1 e
 found_tell ss s x ((n, meant.standard_meaning q) ∷ ds) k tell e = found_tell ss s x ds k tell.1 e
 
-kind_through : (o : Option (Option Meaning)) (t : ValueType) → o ≡ Some (Some (Kind t)) → through_seal o ≡ Some (Some (Kind t))
+pub kind_through : (o : Option (Option Meaning)) (t : ValueType) → o ≡ Some (Some (Kind t)) → through_seal o ≡ Some (Some (Kind t))
 kind_through o t e = ap through_seal e
 
-look_in_kind : (n : List ℕ) (c : Scope) (t : ValueType) → find n c.names ≡ Some (Some (Kind t)) → look_in n c ≡ Some (Some (Kind t))
+pub look_in_kind : (n : List ℕ) (c : Scope) (t : ValueType) → find n c.names ≡ Some (Some (Kind t)) → look_in n c ≡ Some (Some (Kind t))
 look_in_kind n c t e = go c.is_sealed
   where
     go : (b : Bool) → (if b then through_seal (find n c.names) else find n c.names) ≡ Some (Some (Kind t))
     go true = kind_through (find n c.names) t e
     go false = e
 
-look_kind : (n : List ℕ) (s : Scopes) (t : ValueType) → find n s.inner.names ≡ Some (Some (Kind t)) → look n s ≡ Some (Some (Kind t))
+pub look_kind : (n : List ℕ) (s : Scopes) (t : ValueType) → find n s.inner.names ≡ Some (Some (Kind t)) → look n s ≡ Some (Some (Kind t))
 look_kind n s t e = ap (λ o. or_else o (look_outer n s.outer)) (look_in_kind n s.inner t e)
 
 -- ---- no type definition stands for a component type
@@ -169,7 +169,7 @@ no_component ss s m (record_of at gs b) k tell h e = cc
 
 -- ---- the name of a system type
 
-reserved_names : (s : Scopes) (n : Identifier) → (reserve_name s n).scopes.inner.names ≡ s.inner.names
+pub reserved_names : (s : Scopes) (n : Identifier) → (reserve_name s n).scopes.inner.names ≡ s.inner.names
 unfolding reserve_name reserve
 reserved_names s n = go (is_declared s n.name)
   where
@@ -177,7 +177,7 @@ reserved_names s n = go (is_declared s n.name)
     go true = refl
     go false = pending_names s.inner n.name
 
-reserved_new : (s : Scopes) (n : Identifier) → (reserve_name s n).faults ≡ [] → is_some (find n.name s.inner.names) ≡ false
+pub reserved_new : (s : Scopes) (n : Identifier) → (reserve_name s n).faults ≡ [] → is_some (find n.name s.inner.names) ≡ false
 unfolding reserve_name
 reserved_new s n h = go (is_declared s n.name) refl h
   where
@@ -185,7 +185,7 @@ reserved_new s n h = go (is_declared s n.name) refl h
     go true e k = absurd (let bad : check_fault.Rule n.at C2 ∷ [] ≡ [] = k in cc)
     go false e k = or_left (is_some (find n.name s.inner.names)) (is_among n.name s.inner.pending) e
 
-itself : (x : List ℕ) → bytes_eq x x ≡ true
+pub itself : (x : List ℕ) → bytes_eq x x ≡ true
 itself x = (bytes_eq-Decides x x).1 refl
 
 last_found : (x : List ℕ) (ds : Names) (m : Option Meaning) → is_some (find x ds) ≡ false → find x (ds ++ (x, m) ∷ []) ≡ Some m
@@ -203,7 +203,7 @@ new_found c x m h = go (is_some (find x c.names)) h
     go true e = absurd (let bad : true ≡ false = e in cc)
     go false e = last_found x c.names m h
 
-one_found : (s : Scopes) (n : Identifier) (m : Option Meaning) → is_some (find n.name s.inner.names) ≡ false → find n.name (add_one s n m).inner.names ≡ Some m
+pub one_found : (s : Scopes) (n : Identifier) (m : Option Meaning) → is_some (find n.name s.inner.names) ≡ false → find n.name (add_one s n m).inner.names ≡ Some m
 unfolding add_one add settle
 one_found s n m h = new_found s.inner n.name m h
 
@@ -212,12 +212,12 @@ kind_of_uses (Ok u) k at loud h = refl
 kind_of_uses (Err []) k at loud h = absurd loud
 kind_of_uses (Err (f ∷ fs)) k at loud h = absurd (let bad : f ∷ fs ≡ [] = h in cc)
 
-declared_kind : (s : Scopes) (y : System) → Told s → faults (systems.system_typed s y).type ≡ [] → as_declared ((systems.system_typed s y).type >>= to_kind) ≡ Some (Kind (Component y.kind y.at))
+pub declared_kind : (s : Scopes) (y : System) → Told s → faults (systems.system_typed s y).type ≡ [] → as_declared ((systems.system_typed s y).type >>= to_kind) ≡ Some (Kind (Component y.kind y.at))
 unfolding systems.system_typed
 declared_kind s y told h = kind_of_uses (systems.opened (enter true s) y).uses y.kind y.at (system_loud s y told) h
 
 -- after its definition a system type stands under its name
-system_found : (s : Scopes) (n : Identifier) (y : System) → Told s → (reserve_name s n).faults ≡ [] → faults (systems.system_typed (reserve_name s n).scopes y).type ≡ [] → find n.name (add_one (systems.system_typed (reserve_name s n).scopes y).scopes n (as_declared ((systems.system_typed (reserve_name s n).scopes y).type >>= to_kind))).inner.names ≡ Some (Some (Kind (Component y.kind y.at)))
+pub system_found : (s : Scopes) (n : Identifier) (y : System) → Told s → (reserve_name s n).faults ≡ [] → faults (systems.system_typed (reserve_name s n).scopes y).type ≡ [] → find n.name (add_one (systems.system_typed (reserve_name s n).scopes y).scopes n (as_declared ((systems.system_typed (reserve_name s n).scopes y).type >>= to_kind))).inner.names ≡ Some (Some (Kind (Component y.kind y.at)))
 system_found s n y told reserved h =
     one_found (systems.system_typed (reserve_name s n).scopes y).scopes n _ (ap (λ ds. is_some (find n.name ds)) (system_names (reserve_name s n).scopes y ∙ reserved_names s n) ∙ reserved_new s n reserved)
     ∙ ap Some (declared_kind (reserve_name s n).scopes y (name_reserved_told s n told) h)
@@ -230,11 +230,11 @@ record Knows (ss : List SystemMeaning) (m : meant.Scope) (s : Scopes) : Type 0 w
   is_open : s.inner.is_sealed ≡ false
   known : (x : Name) (k : ℕ) → type_named m x ≡ component_of k → (t : ValueType) → look x s ≡ Some (Some (Kind t)) → Known ss k (λ at y. t ≡ Component y.kind at)
 
-outer_last : (n : List ℕ) (cs : List Scope) (c : Scope) (m : Option Meaning) → look_in n c ≡ Some m → look_outer n (cs ++ c ∷ []) ≡ Some m
+pub outer_last : (n : List ℕ) (cs : List Scope) (c : Scope) (m : Option Meaning) → look_in n c ≡ Some m → look_outer n (cs ++ c ∷ []) ≡ Some m
 outer_last n [] c m h = h
 outer_last n (d ∷ cs) c m h = ap (λ o. or_else o (look_in n d)) (outer_last n cs c m h)
 
-look_entered : (n : List ℕ) (s : Scopes) (t : ValueType) → find n s.inner.names ≡ Some (Some (Kind t)) → look n (enter true s) ≡ Some (Some (Kind t))
+pub look_entered : (n : List ℕ) (s : Scopes) (t : ValueType) → find n s.inner.names ≡ Some (Some (Kind t)) → look n (enter true s) ≡ Some (Some (Kind t))
 unfolding enter
 look_entered n s t e = outer_last n s.outer (sealed true s.inner) (Some (Kind t)) (kind_through (find n s.inner.names) t e)
 
@@ -261,7 +261,7 @@ look_reserve : (x n : List ℕ) (s : Scopes) → look x (reserve s n) ≡ look x
 unfolding reserve
 look_reserve x n s = ap (λ o. or_else o (look_outer x s.outer)) (look_pending x n s.inner)
 
-look_reserved : (x : List ℕ) (s : Scopes) (n : Identifier) → look x (reserve_name s n).scopes ≡ look x s
+pub look_reserved : (x : List ℕ) (s : Scopes) (n : Identifier) → look x (reserve_name s n).scopes ≡ look x s
 unfolding reserve_name
 look_reserved x s n = go (is_declared s n.name)
   where
@@ -269,7 +269,7 @@ look_reserved x s n = go (is_declared s n.name)
     go true = refl
     go false = look_reserve x n.name s
 
-look_all_reserved : (x : List ℕ) (s : Scopes) (ns : List Identifier) → look x (reserve_names s ns).scopes ≡ look x s
+pub look_all_reserved : (x : List ℕ) (s : Scopes) (ns : List Identifier) → look x (reserve_names s ns).scopes ≡ look x s
 unfolding reserve_names
 look_all_reserved x s [] = refl
 look_all_reserved x s (n ∷ ns) = look_all_reserved x (reserve_name s n).scopes ns ∙ look_reserved x s n
@@ -285,7 +285,7 @@ look_named x n c m h = go (is_some (find n c.names))
     go true = refl
     go false = ap (λ o. if c.is_sealed then through_seal o else o) (find_skip x n c.names m h)
 
-look_added : (x n : List ℕ) (s : Scopes) (m : Option Meaning) → bytes_eq x n ≡ false → look x (add s n m) ≡ look x s
+pub look_added : (x n : List ℕ) (s : Scopes) (m : Option Meaning) → bytes_eq x n ≡ false → look x (add s n m) ≡ look x s
 unfolding add
 look_added x n s m h = ap (λ o. or_else o (look_outer x s.outer)) (look_named x n s.inner m h)
 

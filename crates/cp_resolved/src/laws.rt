@@ -1,6 +1,9 @@
 //! Laws over the definitions alone.
 
+ghost use Rattle.cp_resolved.specs.Formed.{FormsLaw};
+ghost use Rattle.cp_resolved.specs.Judging.{ScopesLaw};
 ghost use Rattle.cp_resolved.specs.Names.{NamesLaw};
+ghost use Rattle.cp_resolved.specs.Read.{PlainLaw, ReadNamesLaw};
 ghost use Rattle.cp_resolved.specs.Soundness.{SoundLaw};
 
 /// The names of the tables stand for what the names of the program stand for.
@@ -8,7 +11,27 @@ pub fn law_names()
     ensures { NamesLaw }
 {}
 
+/// What was read and breaks no rule is plain, as `law_names` wants it.
+pub fn law_plain()
+    ensures { PlainLaw }
+{}
+
+/// So the names of the tables stand for those of each program that was read and breaks no rule.
+pub fn law_read_names()
+    ensures { ReadNamesLaw }
+{}
+
 /// Tables that are laid out are sound where no count has stopped and what their items name is there.
 pub fn law_sound()
     ensures { SoundLaw }
+{}
+
+/// Where statements of a program that breaks no rule stand, the checker's names stand for what the names of the program stand for.
+pub fn law_scopes()
+    ensures { ScopesLaw }
+{}
+
+/// So the tests, bounds and values of its statements have forms of the right kind on slots, by any layouts.
+pub fn law_forms()
+    ensures { FormsLaw }
 {}
