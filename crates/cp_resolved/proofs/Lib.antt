@@ -1,5 +1,6 @@
 pub mod Alike
 pub mod Applied
+pub mod Avoiding
 pub mod Calling
 mod CallingProgram
 pub mod Cells
@@ -13,6 +14,7 @@ pub mod Extends
 pub mod Fitted
 pub mod FittedStatements
 pub mod Fitting
+pub mod Foreign
 pub mod Grown
 pub mod Handed
 pub mod Kept
@@ -24,6 +26,9 @@ pub mod Numbered
 pub mod Opened
 pub mod Operations
 pub mod Outer
+pub mod OwnCalls
+pub mod OwnCallsOfTables
+pub mod OwnNames
 pub mod Owning
 pub mod ParametersFit
 pub mod Plain

@@ -9,6 +9,7 @@ pub mod Knows
 pub mod Layouts
 pub mod Names
 pub mod Openings
+pub mod OwnCalls
 pub mod Read
 pub mod Resolved
 pub mod Small

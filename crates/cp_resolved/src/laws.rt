@@ -1,6 +1,7 @@
 //! Laws over the definitions alone.
 
 ghost use Rattle.cp_resolved.specs.Names.{NamesLaw};
+ghost use Rattle.cp_resolved.specs.OwnCalls.{OwnCallsLaw};
 ghost use Rattle.cp_resolved.specs.Read.{PlainLaw, ReadNamesLaw};
 ghost use Rattle.cp_resolved.specs.Soundness.{SoundLaw};
 
@@ -22,4 +23,9 @@ pub fn law_read_names()
 /// Tables that are laid out are sound where no count has stopped and what their items name is there.
 pub fn law_sound()
     ensures { SoundLaw }
+{}
+
+/// No routine of an accepted program calls itself, as `law_sound` wants it.
+pub fn law_own_calls()
+    ensures { OwnCallsLaw }
 {}
