@@ -11,6 +11,8 @@ pub mod EachInStep
 pub mod Entries
 pub mod Expressions
 pub mod Extends
+pub mod FewItems
+pub mod FewItemsOfTables
 pub mod Fitted
 pub mod FittedStatements
 pub mod Fitting

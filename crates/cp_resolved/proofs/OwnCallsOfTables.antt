@@ -37,7 +37,7 @@ no_own_call r (action.Delay p) h e = e
 no_own_call r (action.Continue p) h e = e
 no_own_call r (action.Display e' k) h e = e
 
-laid_items : (t : Tree) → (laid t).items ≡ (program (nothing_laid t.lines) t.program).items
+pub laid_items : (t : Tree) → (laid t).items ≡ (program (nothing_laid t.lines) t.program).items
 unfolding laid tables_laid
 laid_items t = refl
 

@@ -1,5 +1,6 @@
 //! Laws over the definitions alone.
 
+ghost use Rattle.cp_resolved.specs.Held.{FewItemsLaw};
 ghost use Rattle.cp_resolved.specs.Names.{NamesLaw};
 ghost use Rattle.cp_resolved.specs.OwnCalls.{OwnCallsLaw};
 ghost use Rattle.cp_resolved.specs.Read.{PlainLaw, ReadNamesLaw};
@@ -28,4 +29,9 @@ pub fn law_sound()
 /// No routine of an accepted program calls itself, as `law_sound` wants it.
 pub fn law_own_calls()
     ensures { OwnCallsLaw }
+{}
+
+/// The tables of a program that was read have no more items than the program has tokens.
+pub fn law_few_items()
+    ensures { FewItemsLaw }
 {}

@@ -3,4 +3,4 @@
 
 pub mod laws;
 
-pub use laws::{law_names, law_own_calls, law_plain, law_read_names, law_sound};
+pub use laws::{law_few_items, law_names, law_own_calls, law_plain, law_read_names, law_sound};
