@@ -13,6 +13,8 @@ pub mod Expressions
 pub mod Extends
 pub mod FewItems
 pub mod FewItemsOfTables
+pub mod FewReferences
+pub mod FewReferencesOfTables
 pub mod Fitted
 pub mod FittedStatements
 pub mod Fitting
@@ -63,4 +65,5 @@ pub mod TypingExpressions
 pub mod TypingNames
 pub mod TypingOperations
 pub mod TypingValues
+pub mod Walked
 pub mod Whole

@@ -1,6 +1,6 @@
 //! Laws over the definitions alone.
 
-ghost use Rattle.cp_resolved.specs.Held.{FewItemsLaw};
+ghost use Rattle.cp_resolved.specs.Held.{FewItemsLaw, FewReferencesLaw};
 ghost use Rattle.cp_resolved.specs.Names.{NamesLaw};
 ghost use Rattle.cp_resolved.specs.OwnCalls.{OwnCallsLaw};
 ghost use Rattle.cp_resolved.specs.Read.{PlainLaw, ReadNamesLaw};
@@ -34,4 +34,9 @@ pub fn law_own_calls()
 /// The tables of a program that was read have no more items than the program has tokens.
 pub fn law_few_items()
     ensures { FewItemsLaw }
+{}
+
+/// Its open calls have no more references than the program has tokens.
+pub fn law_few_references()
+    ensures { FewReferencesLaw }
 {}
