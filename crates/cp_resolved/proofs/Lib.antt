@@ -43,7 +43,6 @@ pub mod Settled
 pub mod ShapesWritten
 pub mod Sized
 pub mod Sizes
-pub mod SmallBodies
 pub mod SmallPrograms
 pub mod SmallStatements
 pub mod SmallTexts

@@ -51,11 +51,8 @@ kinds_length : (ts : List Token) → length (kinds ts) ≡ length ts
 kinds_length [] = refl
 kinds_length (t ∷ ts) = ap suc (kinds_length ts)
 
-pub read_tokens : (p : Program) → IsRead p → AreSmall (spell p)
-read_tokens p h = subst AreSmall h.spelled (tokens_small 1 h.scanned.parts h.tokens h.scanned.reads.tokens)
-
 pub read_small : (p : Program) → IsRead p → IsSmallProgram p
-read_small p h = program_small p (read_tokens p h)
+read_small p h = program_small p (subst AreSmall h.spelled (tokens_small 1 h.scanned.parts h.tokens h.scanned.reads.tokens))
 
 pub read_few : (p : Program) → IsRead p → length (spell p) ≤ 20000
 read_few p h =

@@ -14,7 +14,6 @@ pub mod OwnCalls
 pub mod Read
 pub mod Resolved
 pub mod Small
-pub mod SmallBodies
 pub mod Soundness
 pub mod Stands
 pub mod Typed
