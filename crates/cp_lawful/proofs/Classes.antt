@@ -188,7 +188,7 @@ reserved_new s n h = go (is_declared s n.name) refl h
 pub itself : (x : List ℕ) → bytes_eq x x ≡ true
 itself x = (bytes_eq-Decides x x).1 refl
 
-last_found : (x : List ℕ) (ds : Names) (m : Option Meaning) → is_some (find x ds) ≡ false → find x (ds ++ (x, m) ∷ []) ≡ Some m
+pub last_found : (x : List ℕ) (ds : Names) (m : Option Meaning) → is_some (find x ds) ≡ false → find x (ds ++ (x, m) ∷ []) ≡ Some m
 last_found x [] m h = rw (itself x) refl
 last_found x (d ∷ ds) m h = go (bytes_eq x d.0) h (last_found x ds m)
   where
@@ -196,7 +196,7 @@ last_found x (d ∷ ds) m h = go (bytes_eq x d.0) h (last_found x ds m)
     go true e rest = absurd (let bad : true ≡ false = e in cc)
     go false e rest = rest e
 
-new_found : (c : Scope) (x : List ℕ) (m : Option Meaning) → is_some (find x c.names) ≡ false → find x (with_name c x m).names ≡ Some m
+pub new_found : (c : Scope) (x : List ℕ) (m : Option Meaning) → is_some (find x c.names) ≡ false → find x (with_name c x m).names ≡ Some m
 new_found c x m h = go (is_some (find x c.names)) h
   where
     go : (b : Bool) → b ≡ false → find x (let e : Scope = (if b then c else record { names = c.names ++ (x, m) ∷ []; pending = c.pending; is_sealed = c.is_sealed }) in e.names) ≡ Some m
@@ -250,7 +250,7 @@ knows_entered ss s m told tell =
       known = λ x k e t f. (let r = found_tell ss s x (seen_inside m) k (tell_seen ss s m tell) e in (r.0, (r.1.0, (r.1.1.0, same_kind (look x (enter true s)) t (Component r.0.kind r.1.0) f (look_entered x s (Component r.0.kind r.1.0) r.1.1.1)))));
     }
 
-look_pending : (x n : List ℕ) (c : Scope) → look_in x (with_pending c n) ≡ look_in x c
+pub look_pending : (x n : List ℕ) (c : Scope) → look_in x (with_pending c n) ≡ look_in x c
 look_pending x n c = go (is_among n c.pending)
   where
     go : (b : Bool) → look_in x (if b then c else record { names = c.names; pending = c.pending ++ n ∷ []; is_sealed = c.is_sealed }) ≡ look_in x c
@@ -274,11 +274,11 @@ unfolding reserve_names
 look_all_reserved x s [] = refl
 look_all_reserved x s (n ∷ ns) = look_all_reserved x (reserve_name s n).scopes ns ∙ look_reserved x s n
 
-find_skip : (x n : List ℕ) (ds : Names) (m : Option Meaning) → bytes_eq x n ≡ false → find x (ds ++ (n, m) ∷ []) ≡ find x ds
+pub find_skip : (x n : List ℕ) (ds : Names) (m : Option Meaning) → bytes_eq x n ≡ false → find x (ds ++ (n, m) ∷ []) ≡ find x ds
 find_skip x n [] m h = rw h refl
 find_skip x n (d ∷ ds) m h = ap (λ o. if bytes_eq x d.0 then Some d.1 else o) (find_skip x n ds m h)
 
-look_named : (x n : List ℕ) (c : Scope) (m : Option Meaning) → bytes_eq x n ≡ false → look_in x (with_name c n m) ≡ look_in x c
+pub look_named : (x n : List ℕ) (c : Scope) (m : Option Meaning) → bytes_eq x n ≡ false → look_in x (with_name c n m) ≡ look_in x c
 look_named x n c m h = go (is_some (find n c.names))
   where
     go : (b : Bool) → look_in x (if b then c else record { names = c.names ++ (n, m) ∷ []; pending = c.pending; is_sealed = c.is_sealed }) ≡ look_in x c

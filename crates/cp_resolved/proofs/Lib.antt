@@ -10,6 +10,7 @@ pub mod AgreeingTypes
 pub mod AgreeingWritten
 pub mod Alike
 pub mod Applied
+pub mod Avoiding
 pub mod Calling
 mod CallingProgram
 pub mod Cells
@@ -23,11 +24,16 @@ pub mod Entries
 pub mod EnumerationsRead
 pub mod Expressions
 pub mod Extends
+pub mod FewItems
+pub mod FewItemsOfTables
+pub mod FewReferences
+pub mod FewReferencesOfTables
 pub mod Fitted
 pub mod FittedStatements
 pub mod Fitting
 pub mod FormedStatements
 pub mod FormsOfTrees
+pub mod Foreign
 pub mod Grown
 pub mod Handed
 pub mod Kept
@@ -39,6 +45,9 @@ pub mod Numbered
 pub mod Opened
 pub mod Operations
 pub mod Outer
+pub mod OwnCalls
+pub mod OwnCallsOfTables
+pub mod OwnNames
 pub mod Owning
 pub mod ParametersFit
 pub mod Plain
@@ -74,4 +83,5 @@ pub mod TypingExpressions
 pub mod TypingNames
 pub mod TypingOperations
 pub mod TypingValues
+pub mod Walked
 pub mod Whole

@@ -5,12 +5,14 @@ pub mod Encoded
 pub mod Enumerations
 pub mod Fit
 pub mod Formed
+pub mod Held
 pub mod InStep
 pub mod Judging
 pub mod Knows
 pub mod Layouts
 pub mod Names
 pub mod Openings
+pub mod OwnCalls
 pub mod Read
 pub mod Resolved
 pub mod Small
