@@ -8,6 +8,7 @@ pub mod Declares
 pub mod Designating
 pub mod EachInStep
 pub mod Entries
+pub mod EntriesKnown
 pub mod Expressions
 pub mod Extends
 pub mod Fitted
@@ -16,6 +17,7 @@ pub mod Fitting
 pub mod Grown
 pub mod Handed
 pub mod Kept
+pub mod KeptNames
 pub mod Listing
 pub mod Loops
 pub mod Named
@@ -24,6 +26,7 @@ pub mod Opened
 pub mod Operations
 pub mod Outer
 pub mod Owning
+pub mod PermanentNames
 pub mod PlainInside
 pub mod Rooms
 pub mod Selecting

@@ -8,11 +8,13 @@ pub mod InStep
 pub mod Knows
 pub mod Layouts
 pub mod Names
+pub mod Once
 pub mod Openings
 pub mod Resolved
 pub mod Small
 pub mod Soundness
 pub mod Stands
+pub mod TreeLayouts
 pub mod Used
 pub mod Typed
 pub mod Valued
