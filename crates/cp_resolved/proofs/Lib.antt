@@ -1,5 +1,6 @@
 pub mod Alike
 pub mod Applied
+pub mod BegunKnown
 pub mod Calling
 mod CallingProgram
 pub mod Cells
@@ -18,6 +19,8 @@ pub mod Grown
 pub mod Handed
 pub mod Kept
 pub mod KeptNames
+pub mod Knowing
+pub mod KnowingSystems
 pub mod Listing
 pub mod Loops
 pub mod Named

@@ -15,9 +15,9 @@ use Rattle.cp_slots.specs.declared.lay_out.kinds.ValueType.TheVariants as types
 use Rattle.cp_slots.specs.declared.lay_out.layer.Contained.{Contained}
 use Rattle.cp_slots.specs.declared.lay_out.names.Meaning.{Meaning}
 use Rattle.cp_slots.specs.declared.lay_out.names.Meaning.TheVariants as meaning
-use Rattle.cp_slots.specs.Layers.{Names, Layer, find, is_open, with_open, seen_inside}
+use Rattle.cp_slots.specs.Layers.{Names, Layer, find, is_open, with_open, seen_inside, outermost, nothing_laid}
 use Rattle.cp_slots.specs.LaidTypes.{named_type, written_type}
-use Rattle.cp_slots.specs.LaidDeclarations.{components_of, variable, variable_with, variables_of, variable_group, variables, permanent_part, permanent_parts, Parameters, heading, with_heading, opened, entered, local_parts, system_parameter, system_parameters_of, system_group, system_groups}
+use Rattle.cp_slots.specs.LaidDeclarations.{components_of, variable, variable_with, variables_of, variable_group, variables, permanent_part, permanent_parts, Parameters, heading, with_heading, opened, routine, routines, entered, local_parts, system_parameter, system_parameters_of, system_group, system_groups, program_parts}
 use Rattle.cp_meaning.specs.Types.{Ty}
 use Rattle.cp_meaning.specs.Scopes.{Scope, permanent_variable}
 use Rattle.cp_meaning.specs.Declarations as meant
@@ -28,6 +28,7 @@ use Rattle.cp_resolved.specs.InStep.{IsInFrame}
 use Rattle.cp_resolved.specs.Layouts.{is_parameter}
 use Rattle.cp_resolved.specs.Once.{AreOthers}
 use Rattle.cp_resolved.specs.Small.{Each}
+use Rattle.cp_resolved.proofs.Extends.{routine_names}
 use Rattle.cp_resolved.proofs.KeptNames as kept
 
 pub found_cases : (d : List ℕ × Meaning) (ds : Names) (x : List ℕ) (m : Meaning) → find x (d ∷ ds) ≡ Some m → ((bytes_eq d.0 x ≡ true) × (d.1 ≡ m)) ⊎ (find x ds ≡ Some m)
@@ -78,8 +79,17 @@ under_routine outer l r u =
     let b : Under outer h.1.names = kept.heading_keep (Under outer) IsOther (under_added outer) (λ b z i. i) (λ v i. i) in_frame_other x r.name.name r.kind a in
     kept.local_parts_keep (Under outer) IsOther (under_added outer) (λ b z i. i) (λ v i. i) in_frame_other (with_heading h.1 h.0) r.parts b
 
-pub under_named : (outer : Names) (x : List ℕ) (n : ℕ) (ns : Names) → Under outer ns → Under outer ((x, meaning.Routine n) ∷ ns)
+under_named : (outer : Names) (x : List ℕ) (n : ℕ) (ns : Names) → Under outer ns → Under outer ((x, meaning.Routine n) ∷ ns)
 under_named outer x n ns u = under_added outer x (meaning.Routine n) ns (λ i. i) u
+
+-- after a routine, and after all of a system type
+pub under_after : (outer : Names) (l : Layer) (r : syntax.Routine) → Under outer l.names → Under outer (routine l r).names
+under_after outer l r u = subst (Under outer) (sym (routine_names l r)) (under_named outer r.name.name (length l.routines) l.names u)
+
+pub under_routines : (outer : Names) (l : Layer) (rs : List syntax.Routine) → Under outer l.names → Under outer (routines l rs).names
+unfolding routines
+under_routines outer l [] u = u
+under_routines outer l (r ∷ rs) u = under_routines outer (routine l r) rs (under_after outer l r u)
 
 -- ---- what a system type sees of the names around it
 
@@ -110,6 +120,16 @@ bound_added qs x m ns o u y n k e = go (found_cases (x, m) ns y (meaning.Bound n
     go : ((bytes_eq x y ≡ true) × (m ≡ meaning.Bound n k)) ⊎ (find y ns ≡ Some (meaning.Bound n k)) → is_parameter y qs ≡ true
     go (inl w) = absurd (subst IsUnbound w.1 o)
     go (inr f) = u y n k f
+
+-- the program has none
+all_unbound : (ns : Names) → Each (λ d. IsUnbound d.1) ns → BoundIn [] ns
+all_unbound [] h x n k e = absurd (no_name x (meaning.Bound n k) e)
+all_unbound (d ∷ ds) h = bound_added [] d.0 d.1 ds h.0 (all_unbound ds h.1)
+
+pub program_bound : (lines : List ℕ) (ps : List syntax.ProgramPart) → BoundIn [] (program_parts (nothing_laid lines) ps).names
+program_bound lines ps =
+    kept.program_parts_keep (BoundIn []) IsUnbound (bound_added []) (λ b z. tt) (λ v. tt) (λ n v. tt) (λ n v. tt) (nothing_laid lines) ps
+    (all_unbound outermost (tt, (tt, (tt, (tt, (tt, (tt, (tt, (tt, (tt, (tt, (tt, (tt, (tt, (tt, (tt, tt))))))))))))))))
 
 either_true : (a b : Bool) → b ≡ true → (a || b) ≡ true
 either_true true b h = refl
