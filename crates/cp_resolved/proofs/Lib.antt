@@ -50,6 +50,7 @@ pub mod StepsOfProgram
 pub mod StepsOfRoutines
 pub mod StepsOfTypes
 pub mod Temporaries
+pub mod TreeKnown
 pub mod Typing
 pub mod TypingArguments
 pub mod TypingExpressions

@@ -124,7 +124,7 @@ bound_added qs x m ns o u y n k e = go (found_cases (x, m) ns y (meaning.Bound n
 -- the program has none
 all_unbound : (ns : Names) → Each (λ d. IsUnbound d.1) ns → BoundIn [] ns
 all_unbound [] h x n k e = absurd (no_name x (meaning.Bound n k) e)
-all_unbound (d ∷ ds) h = bound_added [] d.0 d.1 ds h.0 (all_unbound ds h.1)
+all_unbound (d ∷ ds) h x n k e = bound_added [] d.0 d.1 ds h.0 (all_unbound ds h.1) x n k e
 
 pub program_bound : (lines : List ℕ) (ps : List syntax.ProgramPart) → BoundIn [] (program_parts (nothing_laid lines) ps).names
 program_bound lines ps =

@@ -7,6 +7,7 @@ pub mod Fit
 pub mod InStep
 pub mod Knows
 pub mod Layouts
+pub mod LayoutsKnow
 pub mod Names
 pub mod Once
 pub mod Openings

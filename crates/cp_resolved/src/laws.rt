@@ -1,5 +1,6 @@
 //! Laws over the definitions alone.
 
+ghost use Rattle.cp_resolved.specs.LayoutsKnow.{LayoutsLaw};
 ghost use Rattle.cp_resolved.specs.Names.{NamesLaw};
 ghost use Rattle.cp_resolved.specs.Soundness.{SoundLaw};
 
@@ -11,4 +12,9 @@ pub fn law_names()
 /// Tables that are laid out are sound where no count has stopped and what their items name is there.
 pub fn law_sound()
     ensures { SoundLaw }
+{}
+
+/// The layouts of a tree know the names, the routines and the cells of calls where its statements begin.
+pub fn law_layouts()
+    ensures { LayoutsLaw }
 {}
