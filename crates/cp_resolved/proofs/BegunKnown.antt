@@ -1,16 +1,15 @@
 -- What is known where the statements of each routine and of each initial statement begin.
-use Rattle.std.proofs.Common.{◌≡◌, ◌+◌, ℕ, suc, Bool, true, false, List, [], ◌∷◌, ◌++◌, length, Option, Some, None, slice_get, refl, sym, ap, subst, ◌∙◌, arith, append_assoc, append-nil, length-append}
+use Rattle.std.proofs.Common.{◌≡◌, ◌+◌, ℕ, suc, List, [], ◌∷◌, ◌++◌, length, Some, None, slice_get, refl, sym, ap, subst, ◌∙◌, arith, append_assoc, append-nil, length-append}
 use Rattle.cp_tree.specs.Syntax as syntax
-use Rattle.cp_slots.specs.declared.lay_out.kinds.ValueType.{ValueType}
 use Rattle.cp_slots.specs.Layers.{Layer, System, nothing_laid}
 use Rattle.cp_slots.specs.LaidDeclarations.{heading_with, with_new_frame, with_heading, routine, routines, system_definition, system_definitions, program_part, program_parts, program}
 use Rattle.cp_meaning.specs.Scopes.{Scope, permanent_variable, seen_inside}
-use Rattle.cp_meaning.specs.Declarations.{Block, Parameter, with_groups}
+use Rattle.cp_meaning.specs.Declarations.{Block, with_groups}
 use Rattle.cp_meaning.specs.Systems.{SystemMeaning, system_in, Declared, definition_in, definitions_in, program_part_in, program_parts_in, declared, program_system, own_meaning, or_own, system_of}
 use Rattle.cp_resolved.specs.Begun.{routines_begun, initial_begun, parameters_of, parts_begun, system_begun, definition_begun, definitions_begun, part_begun, program_parts_begun, all_begun}
 use Rattle.cp_resolved.specs.Enumerations.{Enumerated, each_in, in_part, in_routine, in_definition, in_program_part, enumerations_of}
 use Rattle.cp_resolved.specs.Fit.{IsFitDefinition, AreFitDefinitions, IsFitPart, AreFitParts, nothing_declared}
-use Rattle.cp_resolved.specs.InStep.{Numbering, InStep, AreOuter}
+use Rattle.cp_resolved.specs.InStep.{Numbering, InStep}
 use Rattle.cp_resolved.specs.Layouts.{is_parameter}
 use Rattle.cp_resolved.specs.Once.{AreOthers, IsOnceDefinition, IsOncePart, IsOnce}
 use Rattle.cp_resolved.specs.Openings.{Opening, with_routine, routine_openings, parts_scope, initial_opening, definition_openings, definitions_openings, part_openings, parts_openings, openings_of, AreOpened}
@@ -18,7 +17,7 @@ use Rattle.cp_resolved.specs.Resolved.{initial_meaning}
 use Rattle.cp_resolved.specs.Small.{Each, IsSmallRoutine, IsSmallSystem, IsSmallDefinition, IsSmallProgramPart, IsSmallProgram, AreNumbered}
 use Rattle.cp_resolved.specs.TreeLayouts.{definition_parts, definitions_parts, part_parts, program_parts_parts, all_parts, whole_laid}
 use Rattle.cp_resolved.proofs.Entries.{past_there}
-use Rattle.cp_resolved.proofs.Extends.{Longer, Extends, routine_names, system_definition_extends, system_definitions_extend, program_part_extends, program_parts_extend}
+use Rattle.cp_resolved.proofs.Extends.{Longer, Extends, system_definition_extends, system_definitions_extend, program_parts_extend}
 use Rattle.cp_resolved.proofs.Knowing.{begun_same, Knowing, begun_knows, begun_count, routine_knows, routine_even, routines_even, initial_knows, initial_count, parts_know, parts_even}
 use Rattle.cp_resolved.proofs.KnowingSystems.{longer_both, routines_know, begun_many, definitions_longer, parts_longer, IsFirst, first_before, first_is, Known, definition_known, part_known, parts_known, nothing_known}
 use Rattle.cp_resolved.proofs.PermanentNames.{Under, under_same, under_routine, under_after, under_routines, BoundIn, program_bound, parts_bound, FirstsApart, parts_first}
@@ -100,8 +99,7 @@ module _ (k : Numbering) (p : syntax.Program) (once : IsOnce p) (all : List Laye
       let m : Layer = routine l r in
       let e : AreNumbered k.firsts (length l.constants) (in_routine r) = numbered_left k (length l.constants) (in_routine r) (each_in in_routine rs) n in
       let b : Reached k l m (with_routine s r) (in_routine r) = routine_reached k l s r h.0 e o.0 i in
-      let next : AreOpened k.routines (length m.routines) (routine_openings owner (with_routine s r) rs) = subst (λ j. AreOpened k.routines j (routine_openings owner (with_routine s r) rs)) (sym (routine_count l r)) o.1 in
-      (
+      let next : AreOpened k.routines (length m.routines) (routine_openings owner (with_routine s r) rs) = subst (λ j. AreOpened k.routines j (routine_openings owner (with_routine s r) rs)) (sym (routine_count l r)) o.1 in (
         record {
           names = (begun_reached k l s r h.0 e o.0 i).names;
           knowing = begun_knows k p l s r i o.0 a.even a.knowing;

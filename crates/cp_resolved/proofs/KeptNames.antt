@@ -1,12 +1,11 @@
 -- What is kept as one more name is declared is kept by declarations: by those inside a routine, by those of a system type, and by those of the program.
-use Rattle.std.proofs.Common.{◌≡◌, ◌+◌, ℕ, ℤ, Bool, true, false, if◌then◌else◌, List, [], ◌∷◌, length, Option, Some, None, sym, subst}
+use Rattle.std.proofs.Common.{◌+◌, ℕ, ℤ, Bool, true, false, if◌then◌else◌, List, [], ◌∷◌, length, Option, Some, None, sym, subst}
 use Rattle.cp_tree.specs.declared.constant.Identifier.{Identifier}
 use Rattle.cp_tree.specs.Syntax as syntax
 use Rattle.cp_slots.specs.declared.place.Origin.{Origin}
 use Rattle.cp_slots.specs.declared.place.Origin.TheVariants as origin
 use Rattle.cp_slots.specs.declared.lay_out.kinds.Base.{Base}
 use Rattle.cp_slots.specs.declared.lay_out.kinds.ValueType.{ValueType}
-use Rattle.cp_slots.specs.declared.lay_out.kinds.ValueType.TheVariants as types
 use Rattle.cp_slots.specs.declared.lay_out.layer.Contained.{Contained}
 use Rattle.cp_slots.specs.declared.lay_out.names.Meaning.{Meaning}
 use Rattle.cp_slots.specs.declared.lay_out.names.Meaning.TheVariants as meaning

@@ -1,17 +1,11 @@
 -- What is laid out so far knows the routines that are declared: the result of each, and each routine of a system type among its entries.
-use Rattle.std.proofs.Common.{◌≡◌, ◌+◌, ◌<◌, ◌≤◌, ℕ, suc, Bool, true, false, if◌then◌else◌, List, [], ◌∷◌, ◌++◌, length, Option, Some, None, slice_get, refl, sym, ap, subst, ◌∙◌, inl, inr, arith, append_assoc, append-nil, length-append}
-use Rattle.std.specs.Prelude.{◌⊎◌}
-use Rattle.std.proofs.lemmas.Option.{none-some, same_Some}
+use Rattle.std.proofs.Common.{◌≡◌, ◌+◌, ◌<◌, ◌≤◌, ℕ, suc, Bool, true, false, if◌then◌else◌, List, [], ◌∷◌, ◌++◌, length, Some, None, slice_get, refl, sym, ap, subst, ◌∙◌, arith, append-nil, length-append}
+use Rattle.std.proofs.lemmas.Option.{none-some}
 use Rattle.cp_tree.specs.Syntax as syntax
-use Rattle.cp_slots.specs.declared.lay_out.kinds.ValueType.{ValueType}
-use Rattle.cp_slots.specs.declared.lay_out.names.Meaning.{Meaning}
 use Rattle.cp_slots.specs.declared.lay_out.names.Meaning.TheVariants as meaning
-use Rattle.cp_slots.specs.Kinds.{Compounds}
 use Rattle.cp_slots.specs.Layers.{Layer, Heading, System}
 use Rattle.cp_slots.specs.LaidExpressions.{entry_among, entry_in, entry_of}
-use Rattle.cp_slots.specs.LaidStatements.{statements}
-use Rattle.cp_slots.specs.LaidTypes.{written_type}
-use Rattle.cp_slots.specs.LaidDeclarations.{Parameters, heading, heading_with, body, with_heading, with_new_frame, opened, routine, routines, entered, system_groups, permanent_parts, initial_statement, system_of, system, definition, type_named}
+use Rattle.cp_slots.specs.LaidDeclarations.{Parameters, heading, heading_with, body, with_heading, opened, routine, routines, entered, system_groups}
 use Rattle.cp_meaning.specs.Names.{Name, same_name}
 use Rattle.cp_meaning.specs.Types.{component_of}
 use Rattle.cp_meaning.specs.Scopes as scopes
@@ -21,22 +15,20 @@ use Rattle.cp_meaning.specs.Declarations.{RoutineMeaning, routine_in, Block, nam
 use Rattle.cp_meaning.specs.Systems as systems
 use Rattle.cp_meaning.specs.Systems.{system_in, with_routines}
 use Rattle.cp_meaning.specs.Expressions.{routine_of_system, routine_of_type}
-use Rattle.cp_resolved.specs.Begun.{routine_begun, initial_begun, parameters_of, parts_begun, system_begun}
+use Rattle.cp_resolved.specs.Begun.{routine_begun, initial_begun, parts_begun}
 use Rattle.cp_resolved.specs.InStep.{Numbering, InStep, IsOuter, AreOuter}
-use Rattle.cp_resolved.specs.Once.{AreOnce}
-use Rattle.cp_resolved.specs.Openings.{with_routine, routine_openings, parts_scope, AreOpened}
+use Rattle.cp_resolved.specs.Openings.{with_routine, parts_scope}
 use Rattle.cp_resolved.specs.Resolved.{initial_meaning}
 use Rattle.cp_resolved.specs.Used.{ResultsAre}
-use Rattle.cp_resolved.proofs.Declared.{heading_declared, local_parts_declared, permanent_declared, system_groups_declared, name_declared}
+use Rattle.cp_resolved.proofs.Declared.{heading_declared, local_parts_declared, permanent_declared, system_groups_declared}
 use Rattle.cp_resolved.proofs.Declares.{Declares, heading_declares, local_parts_declare, permanent_parts_declare, system_groups_declare}
-use Rattle.cp_resolved.proofs.Entries.{there, still_there, last_entry, last_or_before}
-use Rattle.cp_resolved.proofs.EntriesKnown.{heading_of, begun_headings, routine_headings, headings_of, routines_headings, headings_named, headings_count, heading_result, HeadingsAre, headings_grown, heading_added, entry_longer, entry_skips, IsEntry, EntryOr, entries_found}
-use Rattle.cp_resolved.proofs.Extends.{Longer, Extends, routine_extends, routine_names}
+use Rattle.cp_resolved.proofs.Entries.{there, still_there}
+use Rattle.cp_resolved.proofs.EntriesKnown.{heading_of, begun_headings, routine_headings, heading_result, HeadingsAre, headings_grown, heading_added, entry_longer}
+use Rattle.cp_resolved.proofs.Extends.{Longer, routine_names}
 use Rattle.cp_resolved.proofs.Grown.{statements_grew}
-use Rattle.cp_resolved.proofs.Named.{Named, IsMeaning, IsType, AreNames, AreTypes, AreSystems, names_more, types_more, systems_more, names_inside}
+use Rattle.cp_resolved.proofs.Named.{Named, AreNames, AreTypes, AreSystems, names_more, systems_more, names_inside}
 use Rattle.cp_resolved.proofs.Outer.{outer_type, outer_constants, outer_variables}
-use Rattle.cp_resolved.proofs.StepsOfParts.{Reached}
-use Rattle.cp_resolved.proofs.StepsOfRoutines.{body_count, body_systems, routine_count, routine_systems, routines_systems, routines_count, routine_reached, groups_routines, groups_systems}
+use Rattle.cp_resolved.proofs.StepsOfRoutines.{body_count, body_systems, routine_count, routine_systems, groups_routines, groups_systems}
 
 -- ---- no routine stands around those of a system type
 

@@ -1,5 +1,5 @@
 -- What is laid out knows the routines of each system type once that is whole, and so through all declarations of the program.
-use Rattle.std.proofs.Common.{◌≡◌, ◌+◌, ◌<◌, ◌≤◌, ℕ, suc, List, [], ◌∷◌, ◌++◌, length, Option, Some, None, slice_get, refl, sym, ap, subst, ◌∙◌, inl, inr, arith, append_assoc, append-nil, length-append}
+use Rattle.std.proofs.Common.{◌≡◌, ◌+◌, ◌<◌, ℕ, suc, List, [], ◌∷◌, ◌++◌, length, Some, None, slice_get, refl, sym, ap, subst, ◌∙◌, inl, inr, arith, append_assoc, append-nil, length-append}
 use Rattle.std.specs.Prelude.{◌⊎◌}
 use Rattle.std.proofs.lemmas.Option.{none-some, same_Some, slice_get_within}
 use Rattle.cp_tree.specs.Syntax as syntax
@@ -7,9 +7,8 @@ use Rattle.cp_slots.specs.declared.lay_out.names.Meaning.TheVariants as meaning
 use Rattle.cp_slots.specs.declared.lay_out.names.Meaning.{Meaning}
 use Rattle.cp_slots.specs.Layers.{Layer, Heading, System, nothing_laid, with_name}
 use Rattle.cp_slots.specs.LaidExpressions.{entry_among, entry_in}
-use Rattle.cp_slots.specs.LaidStatements.{statements}
 use Rattle.cp_slots.specs.LaidTypes.{written_type}
-use Rattle.cp_slots.specs.LaidDeclarations.{Parameters, heading_with, routine, routines, initial_statement, system_of, system, type_named, system_definition, system_definitions, program_part, program_parts, constants, variables, definition}
+use Rattle.cp_slots.specs.LaidDeclarations.{heading_with, routine, routines, initial_statement, system_of, system, type_named, system_definition, system_definitions, program_part, program_parts, constants, variables, definition}
 use Rattle.cp_meaning.specs.Names.{Name}
 use Rattle.cp_meaning.specs.Types.{component_of}
 use Rattle.cp_meaning.specs.Scopes.{Scope, find, seen_inside}
@@ -28,11 +27,11 @@ use Rattle.cp_resolved.specs.Small.{Each, IsSmallRoutine, IsSmallSystem, IsSmall
 use Rattle.cp_resolved.proofs.Declared as declared_parts
 use Rattle.cp_resolved.proofs.Declares.{Declares, type_declares, constants_declare, variables_declare}
 use Rattle.cp_resolved.proofs.Entries.{there, still_there, last_entry, last_or_before}
-use Rattle.cp_resolved.proofs.EntriesKnown.{headings_of, routines_headings, headings_named, headings_count, HeadingsAre, entry_skips, IsEntry, EntryOr, entries_found, AreNamed}
-use Rattle.cp_resolved.proofs.Extends.{Longer, Extends, system_begun_extends}
+use Rattle.cp_resolved.proofs.EntriesKnown.{headings_of, routines_headings, headings_named, headings_count, HeadingsAre, entry_skips, EntryOr, entries_found, AreNamed}
+use Rattle.cp_resolved.proofs.Extends.{Longer}
 use Rattle.cp_resolved.proofs.Grown.{statements_grew}
-use Rattle.cp_resolved.proofs.Knowing.{no_routine, outer_inside, body_named, IsThere, EntriesAre, Knowing, still_known, entries_more, declares_know, routine_knows, routine_even, routines_even, initial_knows, parts_headings, parts_know, parts_even}
-use Rattle.cp_resolved.proofs.Named.{Named, IsType, IsMeaning, AreNames, AreTypes, AreSystems, names_more, types_more, systems_more}
+use Rattle.cp_resolved.proofs.Knowing.{no_routine, outer_inside, body_named, IsThere, Knowing, still_known, entries_more, declares_know, routine_knows, routine_even, routines_even, initial_knows, parts_headings, parts_know, parts_even}
+use Rattle.cp_resolved.proofs.Named.{Named, IsType, IsMeaning, AreNames, AreSystems, names_more, types_more}
 use Rattle.cp_resolved.proofs.StepsOfParts.{Reached}
 use Rattle.cp_resolved.proofs.StepsOfProgram.{Standing, Stood, definition_stood, part_stood, opened_after}
 use Rattle.cp_resolved.proofs.StepsOfRoutines.{body_count, body_systems, routine_count, routines_systems, routines_count, openings_count, opened_left, opened_right, routine_reached, groups_routines, groups_systems, parts_begun_reached, parts_opened}
@@ -172,8 +171,8 @@ module _ (k : Numbering) (p : syntax.Program) where
     unfolding system
     system_even c =
         let a : length ended.headings ≡ length l.headings + (length d.routines + 1) = ap (λ hs. length hs) ended_headings
-            ∙ length-append l.headings (headings_of (parts_begun l d) d.routines ++ own ∷ [])
-            ∙ ap (λ n. length l.headings + n) (length-append (headings_of (parts_begun l d) d.routines) (own ∷ []) ∙ ap (λ n. n + 1) (headings_count (parts_begun l d) d.routines)) in
+        ∙ length-append l.headings (headings_of (parts_begun l d) d.routines ++ own ∷ [])
+        ∙ ap (λ n. length l.headings + n) (length-append (headings_of (parts_begun l d) d.routines) (own ∷ []) ∙ ap (λ n. n + 1) (headings_count (parts_begun l d) d.routines)) in
         omega (arith, a, c, ended_many, begun_many)
 
     pub system_type_there : IsType (length (system l d).1.systems) (system l d).0

@@ -1,6 +1,6 @@
 -- Inside a routine the variables and components of the system type that are visible are those that stand before its routines. What is handed over to
 -- a system type has the name of a parameter, and no component that it contains has one.
-use Rattle.std.proofs.Common.{◌≡◌, ◌+◌, ℕ, Bool, true, false, ◌||◌, if◌then◌else◌, List, [], ◌∷◌, ◌++◌, length, map, Option, Some, None, refl, sym, ap, subst, ◌∙◌, inl, inr, append_assoc}
+use Rattle.std.proofs.Common.{◌≡◌, ℕ, Bool, true, false, ◌||◌, if◌then◌else◌, List, [], ◌∷◌, ◌++◌, length, Option, Some, None, refl, sym, ap, subst, ◌∙◌, inl, inr, append_assoc}
 use Rattle.std.specs.Prelude.{◌⊎◌}
 use Rattle.std.specs.Str.{bytes_eq}
 use Rattle.std.proofs.lemmas.List.{append-nil}
@@ -15,9 +15,9 @@ use Rattle.cp_slots.specs.declared.lay_out.kinds.ValueType.TheVariants as types
 use Rattle.cp_slots.specs.declared.lay_out.layer.Contained.{Contained}
 use Rattle.cp_slots.specs.declared.lay_out.names.Meaning.{Meaning}
 use Rattle.cp_slots.specs.declared.lay_out.names.Meaning.TheVariants as meaning
-use Rattle.cp_slots.specs.Layers.{Names, Layer, find, is_open, with_open, seen_inside, outermost, nothing_laid}
+use Rattle.cp_slots.specs.Layers.{Names, Layer, find, is_open, seen_inside, outermost, nothing_laid}
 use Rattle.cp_slots.specs.LaidTypes.{named_type, written_type}
-use Rattle.cp_slots.specs.LaidDeclarations.{components_of, variable, variable_with, variables_of, variable_group, variables, permanent_part, permanent_parts, Parameters, heading, with_heading, opened, routine, routines, entered, local_parts, system_parameter, system_parameters_of, system_group, system_groups, program_parts}
+use Rattle.cp_slots.specs.LaidDeclarations.{components_of, variable, variable_with, variables_of, variable_group, variables, permanent_part, permanent_parts, Parameters, heading, with_heading, opened, routine, routines, entered, system_parameter, system_parameters_of, system_group, system_groups, program_parts}
 use Rattle.cp_meaning.specs.Types.{Ty}
 use Rattle.cp_meaning.specs.Scopes.{Scope, permanent_variable}
 use Rattle.cp_meaning.specs.Declarations as meant

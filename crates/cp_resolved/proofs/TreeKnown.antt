@@ -1,7 +1,6 @@
 -- The layouts of a tree know what stands where its statements begin.
-use Rattle.std.proofs.Common.{◌≡◌, ◌+◌, ◌<◌, ◌≤◌, ℕ, zero, suc, Bool, true, false, if◌then◌else◌, List, [], ◌∷◌, ◌++◌, length, Option, Some, None, slice_get, refl, sym, ap, subst, ◌∙◌, inl, inr, arith}
+use Rattle.std.proofs.Common.{◌≡◌, ◌+◌, ◌<◌, ◌≤◌, ℕ, zero, suc, Bool, true, false, if◌then◌else◌, List, [], ◌∷◌, length, Option, Some, None, slice_get, refl, sym, ap, subst, ◌∙◌, inl, inr, arith}
 use Rattle.std.specs.Prelude.{◌⊎◌}
-use Rattle.std.specs.Str.{bytes_eq}
 use Rattle.std.proofs.lemmas.Option.{none-some, same_Some}
 use Rattle.std.proofs.lemmas.Slice.Eq.{bytes_eq-Decides}
 use Rattle.cp_tree.specs.Syntax as syntax
@@ -26,21 +25,20 @@ use Rattle.cp_meaning.specs.State.{Item}
 use Rattle.cp_meaning.specs.Systems.{system_of}
 use Rattle.cp_meaning.specs.Expressions.{routine_of_type}
 use Rattle.cp_resolved.specs.Begun.{all_begun}
-use Rattle.cp_resolved.specs.Calls.{all_calls_laid, calls_before, AreApart}
+use Rattle.cp_resolved.specs.Calls.{all_calls_laid, calls_before}
 use Rattle.cp_resolved.specs.InStep.{Numbering, CellsAre, PartsAre, BoundIs, InStep, FoundIs}
 use Rattle.cp_resolved.specs.Knows.{Knows}
-use Rattle.cp_resolved.specs.Layouts.{Here, frame_here, system_here, is_parameter}
+use Rattle.cp_resolved.specs.Layouts.{Here, frame_here, is_parameter}
 use Rattle.cp_resolved.specs.LayoutsKnow.{IsPlaced, place_of, KnowsAt, LayoutsLaw}
 use Rattle.cp_resolved.specs.Once.{IsOnce, IsWord, AreWords, IsSized, IsSizedMeaning, AreSized}
 use Rattle.cp_resolved.specs.Openings.{Opening, openings_of, meaning_in, meaning_at, numbering_of}
-use Rattle.cp_resolved.specs.TreeLayouts.{all_parts, layer_or, parts_at, begun_at, whole_laid, origin_in, hidden_origin, slot_in, first_in, owner_in, layouts_of}
-use Rattle.cp_resolved.specs.Used.{ResultsAre, system_type, EntryIs, KnowsCalls, AreNext}
-use Rattle.cp_resolved.proofs.BegunKnown.{Around, Begins, AreBegun, all_begin}
+use Rattle.cp_resolved.specs.TreeLayouts.{all_parts, layer_or, parts_at, begun_at, whole_laid, origin_in, hidden_origin, slot_in, first_in, owner_in}
+use Rattle.cp_resolved.specs.Used.{ResultsAre, system_type, EntryIs, KnowsCalls}
+use Rattle.cp_resolved.proofs.BegunKnown.{Begins, AreBegun, all_begin}
 use Rattle.cp_resolved.proofs.Entries.{there, still_there}
-use Rattle.cp_resolved.proofs.Knowing.{IsThere, Knowing}
-use Rattle.cp_resolved.proofs.Named.{Named, IsMeaning, IsType, IsFound, found}
+use Rattle.cp_resolved.proofs.Knowing.{IsThere}
+use Rattle.cp_resolved.proofs.Named.{IsMeaning, IsType, IsFound, found}
 use Rattle.cp_resolved.proofs.Opened.{opened_all}
-use Rattle.cp_resolved.proofs.PermanentNames.{Under}
 use Rattle.cp_resolved.proofs.Steps.{found_in}
 use Rattle.cp_resolved.proofs.Temporaries.{temporaries_next}
 

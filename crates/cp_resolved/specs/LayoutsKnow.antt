@@ -2,7 +2,6 @@
 use Rattle.std.specs.Prelude.{◌≡◌, ℕ, length, Some, slice_get}
 use Rattle.cp_tree.specs.Syntax.{Tree}
 use Rattle.cp_slots.specs.Layers.{Layer}
-use Rattle.cp_meaning.specs.Declarations.{RoutineMeaning}
 use Rattle.cp_resolved.specs.Begun.{all_begun}
 use Rattle.cp_resolved.specs.Calls.{all_calls_laid, AreApart}
 use Rattle.cp_resolved.specs.Knows.{Knows}
