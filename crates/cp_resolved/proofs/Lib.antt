@@ -15,6 +15,7 @@ pub mod Extends
 pub mod Fitted
 pub mod FittedStatements
 pub mod Fitting
+pub mod Going
 pub mod Grown
 pub mod Handed
 pub mod Kept
@@ -23,6 +24,7 @@ pub mod Knowing
 pub mod KnowingSystems
 pub mod Listing
 pub mod Loops
+pub mod Moved
 pub mod Named
 pub mod NamesOfTrees
 pub mod Opened

@@ -4,6 +4,7 @@ pub mod Compiled
 pub mod Encoded
 pub mod Enumerations
 pub mod Fit
+pub mod Formed
 pub mod InStep
 pub mod Knows
 pub mod Layouts
