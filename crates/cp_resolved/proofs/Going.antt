@@ -155,11 +155,11 @@ module _ (k : Numbering) (h : Here) (b : Layer) (g : Knows k h b) (calls : Knows
   abbrev Argues : syntax.Expressions → Type 0
   Argues es = (l : Layer) (r n : ℕ) (slots : Name → ℕ) (qs : List Parameter) (ps : List code_parameter.Parameter) → Kept b l → AreReady h (cells l) (expressions_calls h.scope es) → ParametersAre k b.types slots qs ps → ((i : ℕ) → parameter_of b r (n + i) ≡ slice_get ps i) → CanGiveAll h qs es → ArgumentsGo l r n es slots qs
 
-  grown_room : (f : layers.Frame) (o : Option RoutineView) → length (layers.frame_with f o).image ≡ length f.image
+  pub grown_room : (f : layers.Frame) (o : Option RoutineView) → length (layers.frame_with f o).image ≡ length f.image
   grown_room f None = refl
   grown_room f (Some r) = refl
 
-  heading_parameters : (r n i : ℕ) → n ≡ 0 → parameter_of b r (n + i) ≡ slice_get (parameters_in (slice_get b.headings r)) i
+  pub heading_parameters : (r n i : ℕ) → n ≡ 0 → parameter_of b r (n + i) ≡ slice_get (parameters_in (slice_get b.headings r)) i
   heading_parameters r n i z = ap (λ j. parameter_of b r (j + i)) z ∙ (let e : 0 + i ≡ i = omega arith in ap (parameter_of b r) e) ∙ go (slice_get b.headings r)
     where
       go : (o : Option layers.Heading) → parameter_at o i ≡ slice_get (parameters_in o) i
@@ -236,7 +236,7 @@ module _ (k : Numbering) (h : Here) (b : Layer) (g : Knows k h b) (calls : Knows
       goes_same l m (named_as m at (selectors l (begun l x.name) ss).0 first as').1 (selectors_calls h.scope ss) (plain_kept m at q.0 (selectors l (begun l x.name) ss).0 first as' z j.leads q.2) (go d q.0 (begun l x.name) ready target)
 
   -- the routine of a component
-  entry_heading : (x : Name) (t : Ty) (o : Option Name) (routine : RoutineMeaning) (n : ℕ) → is_call_meant (Some (scopes.permanent_variable t)) o ≡ true → scopes.find x h.scope ≡ Some (scopes.permanent_variable t) → routine_meant h.program h.scope x (Some (scopes.permanent_variable t)) o ≡ Some routine →
+  pub entry_heading : (x : Name) (t : Ty) (o : Option Name) (routine : RoutineMeaning) (n : ℕ) → is_call_meant (Some (scopes.permanent_variable t)) o ≡ true → scopes.find x h.scope ≡ Some (scopes.permanent_variable t) → routine_meant h.program h.scope x (Some (scopes.permanent_variable t)) o ≡ Some routine →
       known.entry_named k h b g calls (system_type t) o ≡ Some n → (h.layouts.owners n ≡ system_type t) × HeadingIs k h b n routine
   entry_heading x t None routine n c e m i = absurd (let w : false ≡ true = c in cc)
   entry_heading x t (Some y) routine n c e m i = headings.entry x y t routine n e m i

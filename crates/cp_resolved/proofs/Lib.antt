@@ -36,6 +36,7 @@ pub mod PlainInside
 pub mod Rooms
 pub mod Selecting
 pub mod Settled
+pub mod SettledItems
 pub mod Sized
 pub mod Sizes
 pub mod SmallStatements
@@ -46,6 +47,7 @@ pub mod SoundComponents
 pub mod SoundItems
 pub mod SoundParameters
 pub mod SoundTables
+pub mod StatementsStand
 pub mod Steps
 pub mod StepsOfParts
 pub mod StepsOfProgram

@@ -5,6 +5,7 @@ pub mod Encoded
 pub mod Enumerations
 pub mod Fit
 pub mod Formed
+pub mod FormedStatements
 pub mod InStep
 pub mod Knows
 pub mod Layouts
