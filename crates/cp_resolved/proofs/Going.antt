@@ -1,6 +1,6 @@
 -- Through an expression: its function calls take the next cells of the frame, and what is laid out of each is an item that stands for the call.
 use Rattle.std.proofs.Common.{◌≡◌, ◌+◌, ℕ, suc, Bool, true, false, List, [], ◌∷◌, ◌++◌, length, Option, Some, None, slice_get, slice_index, refl, sym, ap, subst, ◌∙◌, arith, append_assoc, append-nil, length-append}
-use Rattle.std.specs.Prelude.{ℤ, pos}
+use Rattle.std.specs.Prelude.{pos}
 use Rattle.std.proofs.lemmas.Option.{same_Some}
 use Rattle.cp_tree.specs.declared.constant.Identifier.{Identifier}
 use Rattle.cp_tree.specs.Syntax as syntax
@@ -17,7 +17,6 @@ use Rattle.cp_slots.specs.Layers.{Layer, Pending, parameter_at, parameter_of, re
 use Rattle.cp_slots.specs.LaidExpressions as laid
 use Rattle.cp_slots.specs.LaidExpressions.{begun, element_selected, field_selected, entry_of, entry_found, passed, named_as, function_as, called, counted, expression, sum, more_terms, term, more_factors, factor, elements, first_value, arguments_from, designator, selectors, selector}
 use Rattle.cp_meaning.specs.Names.{Name, temporary}
-use Rattle.cp_meaning.specs.Types as named
 use Rattle.cp_meaning.specs.Types.{Ty}
 use Rattle.cp_meaning.specs.Scopes as scopes
 use Rattle.cp_meaning.specs.State.{Item, function_call, statement_item, start_item, until, successor, return, init_end, end}
@@ -33,11 +32,10 @@ use Rattle.cp_resolved.specs.Knows.{Knows}
 use Rattle.cp_resolved.specs.Stands.{AreGiven, IsGiven, CalleeIs, IsCalled, ResultGoes, result_cell}
 use Rattle.cp_resolved.specs.Used.{AreNext, AreEntry, IsOne, HasResult, IsFunction, UsedAs, IsUsed, SumUsed, TermsUsed, TermUsed, FactorsUsed, FactorUsed, AreUsed, SelectorsUsed, ResultsAre, system_type, KnowsCalls}
 use Rattle.cp_resolved.specs.Valued.{ValueIs, DesignatedIs}
-use Rattle.cp_resolved.proofs.Alike.{same_inside}
 use Rattle.cp_resolved.proofs.Designating.{IsNoRoutine, begun_same}
 use Rattle.cp_resolved.proofs.Expressions as known
 use Rattle.cp_resolved.proofs.Expressions.{inside, cells, TakesFrom, takes_none, takes_both, NoEntry}
-use Rattle.cp_resolved.proofs.Kept.{Kept, kept_trans, expression_kept, sum_kept, term_kept, factor_kept, designator_kept, first_kept, arguments_kept}
+use Rattle.cp_resolved.proofs.Kept.{Kept, kept_trans, expression_kept, sum_kept, term_kept, factor_kept, designator_kept, arguments_kept}
 use Rattle.cp_resolved.proofs.Moved.{given_same}
 use Rattle.cp_resolved.proofs.Steps.{found_in}
 

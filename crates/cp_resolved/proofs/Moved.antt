@@ -1,9 +1,7 @@
 -- What is laid out as an argument, or as an assignment, is what its form wants.
 use Rattle.std.proofs.Common.{◌≡◌, ◌≤◌, ℕ, ℤ, pos, negsuc, Bool, true, false, ◌&&◌, if◌then◌else◌, nat_le, Option, Some, None, refl, sym, ap, ◌∙◌, arith}
-use Rattle.std.specs.Prelude.{int_le, unsigned_abs}
 use Rattle.std.proofs.lemmas.Bool.{le-leb}
 use Rattle.cp_slots.specs.declared.lay_out.kinds.ValueType.{ValueType}
-use Rattle.cp_slots.specs.declared.lay_out.kinds.ValueType.TheVariants as types
 use Rattle.cp_slots.specs.declared.lay_out.layer.Passing.{Passing}
 use Rattle.cp_slots.specs.declared.lay_out.layer.Passing.TheVariants as passing
 use Rattle.cp_slots.specs.Code as code
@@ -16,7 +14,7 @@ use Rattle.cp_meaning.specs.Types as named
 use Rattle.cp_meaning.specs.Types.{Ty, natural_of}
 use Rattle.cp_resolved.specs.Compiled.{Form, as_ordinal, as_set, as_place, as_component, Formed, place_form}
 use Rattle.cp_resolved.specs.Formed.{IsByte, IsMoved, PassedBy}
-use Rattle.cp_resolved.specs.InStep.{Numbering, range_on, TypeIs}
+use Rattle.cp_resolved.specs.InStep.{Numbering, TypeIs}
 use Rattle.cp_resolved.specs.Layouts.{cells_of}
 use Rattle.cp_resolved.specs.Stands.{ValueGiven, PlaceGiven, GivenBy, AssignedBy}
 use Rattle.cp_resolved.specs.Valued.{FormIs, ValueIs}

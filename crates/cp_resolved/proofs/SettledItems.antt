@@ -1,10 +1,10 @@
 -- Once the items of a statement are in the tables, each call stands in one, followed by the next, and the statement's own item comes last.
-use Rattle.std.proofs.Common.{◌≡◌, ◌+◌, ◌<◌, ◌≤◌, max, ℕ, suc, List, [], ◌∷◌, ◌++◌, length, Option, Some, None, slice_get, slice_index, refl, sym, ap, subst, ◌∙◌, arith, length-append}
+use Rattle.std.proofs.Common.{◌≡◌, ◌+◌, ◌<◌, max, ℕ, suc, List, [], ◌∷◌, ◌++◌, length, Option, Some, slice_get, slice_index, refl, sym, ap, subst, ◌∙◌, arith, length-append}
 use Rattle.cp_slots.specs.Code as code
-use Rattle.cp_slots.specs.Tables.{item_at}
-use Rattle.cp_slots.specs.Layers.{Layer, Pending, Frame, need_of, added, with_item, without_pending, settled_all, settled}
+use Rattle.cp_slots.specs.Layers.{Layer, Pending, need_of, added, without_pending, settled_all, settled}
 use Rattle.cp_meaning.specs.Names.{temporary}
 use Rattle.cp_meaning.specs.State.{Item, function_call, statement_item, start_item, until, successor, return, init_end, end}
+use Rattle.cp_resolved.specs.ItemsStand.{ItemIs, AreItems}
 use Rattle.cp_resolved.specs.Layouts.{Here}
 use Rattle.cp_resolved.specs.Stands.{Ground, ItemAt, CallItem, CallsAre}
 use Rattle.cp_resolved.proofs.Entries.{there, still_there, last_entry}
@@ -40,15 +40,8 @@ first_number l (p ∷ ps) own next =
 module _ (g : Ground) (h : Here) where
   -- ---- items of the tables
 
-  pub record ItemIs (n : ℕ) (i : code.Item) : Type 0 where
-    pub place : n < length g.tables.items
-    pub action : code.action_seen (item_at g.tables n).action ≡ i.action
-    pub follows : (item_at g.tables n).next ≡ i.next
-    pub line : (item_at g.tables n).line ≡ i.line
-
-  -- these are the first items of the tables
   abbrev pub Holds : List code.Item → Type 0
-  Holds is = (n : ℕ) (i : code.Item) → slice_get is n ≡ Some i → ItemIs n i
+  Holds is = AreItems g is
 
   pub holds_first : (is more : List code.Item) → Holds (is ++ more) → Holds is
   holds_first is more b n i e = b n i (still_there is more n i e)
@@ -66,7 +59,7 @@ module _ (g : Ground) (h : Here) where
   calls_settled l (p ∷ ps) tail (function_call at d es ∷ is) next a b =
       let rest : Option ℕ × Layer = settled_all l (ps ++ tail) next in
       let i : code.Item = made rest.1 p rest.0 in
-      let w : ItemIs (length rest.1.items) i = b (length rest.1.items) i (last_entry rest.1.items i) in
+      let w : ItemIs g (length rest.1.items) i = b (length rest.1.items) i (last_entry rest.1.items i) in
       let c : CallPending g.lines h at d es p = a.0 in
       let item : CallItem g h (length rest.1.items) at d es (Some (temporary at)) rest.0 = record {
         number = c.number;
@@ -74,7 +67,7 @@ module _ (g : Ground) (h : Here) where
         is_entry = c.is_entry;
         arguments = c.arguments;
         called = c.called;
-        item = record { place = w.place; action = w.action ∙ c.action; follows = w.follows; line = w.line ∙ c.line };
+        item = record { place = w.inside; action = w.action ∙ c.action; follows = w.follows; line = w.line ∙ c.line };
         taken = c.taken;
       } in
       (length rest.1.items, rest.0, refl, item, calls_settled l ps tail is next a.1 (holds_first rest.1.items (i ∷ []) b))
@@ -97,8 +90,8 @@ module _ (g : Ground) (h : Here) where
   settle : (l : Layer) (new : List Pending) (own : Pending) (is : List Item) (at : ℕ) (next : Option ℕ) → PendingAre g.lines h new is → own.line ≡ slice_index g.lines at → Holds (settled_all l (new ++ own ∷ []) next).1.items → Led (settled_all l (new ++ own ∷ []) next).0 is at own.action next
   settle l new own is at next a e b =
       let i : code.Item = made l own next in
-      let w : ItemIs (length l.items) i = holds_tail l new (own ∷ []) next b (length l.items) i (last_entry l.items i) in
-      record { number = length l.items; calls = calls_settled l new (own ∷ []) is next a b; item = record { place = w.place; action = w.action; follows = w.follows; line = w.line ∙ e } }
+      let w : ItemIs g (length l.items) i = holds_tail l new (own ∷ []) next b (length l.items) i (last_entry l.items i) in
+      record { number = length l.items; calls = calls_settled l new (own ∷ []) is next a b; item = record { place = w.inside; action = w.action; follows = w.follows; line = w.line ∙ e } }
 
   -- a statement whose last item is its own
   abbrev pub ended : Layer → ℕ → code.Action → ℕ → Option ℕ → Option ℕ × Layer
@@ -119,4 +112,4 @@ module _ (g : Ground) (h : Here) where
       let many : length (ended m at a need next).1.items ≡ length m.items + length (m.pending ++ own ∷ []) = all_many z (m.pending ++ own ∷ []) next in
       let low : length m.items + length m.pending < length (ended m at a need next).1.items = omega (arith, many, length-append m.pending (own ∷ [])) in
       let at' : (x : code.Item) × (slice_get (ended m at a need next).1.items (length m.items + length m.pending) ≡ Some x) = there (ended m at a need next).1.items (length m.items + length m.pending) low in
-      (first_number z m.pending own next, (b (length m.items + length m.pending) at'.0 at'.1).place)
+      (first_number z m.pending own next, (b (length m.items + length m.pending) at'.0 at'.1).inside)

@@ -1,23 +1,20 @@
 -- The items that are laid out of statements stand for these statements.
-use Rattle.std.proofs.Common.{◌≡◌, ◌+◌, ◌<◌, ◌≤◌, min, max, ℕ, suc, ℤ, Bool, true, false, List, [], ◌∷◌, ◌++◌, length, map, Option, Some, None, slice_get, refl, sym, ap, subst, ◌∙◌, arith, append-nil}
+use Rattle.std.proofs.Common.{◌≡◌, ◌+◌, ◌<◌, ◌≤◌, min, max, ℕ, Bool, true, false, List, [], ◌∷◌, ◌++◌, length, Option, Some, None, slice_get, refl, sym, ap, subst, ◌∙◌, arith, append-nil}
 use Rattle.std.proofs.lemmas.Option.{none-some, same_Some}
 use Rattle.cp_tree.specs.declared.constant.Constant.{Constant}
 use Rattle.cp_tree.specs.declared.constant.Identifier.{Identifier}
 use Rattle.cp_tree.specs.declared.statement.Direction.{Direction}
 use Rattle.cp_tree.specs.declared.statement.Direction.TheVariants as direction
 use Rattle.cp_tree.specs.Syntax as syntax
-use Rattle.cp_slots.specs.declared.item.ShownKind.{ShownKind}
-use Rattle.cp_slots.specs.declared.place.Origin.{Origin}
 use Rattle.cp_slots.specs.declared.place.Origin.TheVariants as origin
 use Rattle.cp_slots.specs.declared.item.ShownKind.TheVariants as shown
-use Rattle.cp_slots.specs.declared.lay_out.kinds.ValueType.{ValueType}
 use Rattle.cp_slots.specs.declared.lay_out.kinds.ValueType.TheVariants as types
 use Rattle.cp_slots.specs.declared.lay_out.names.Meaning.{Meaning}
 use Rattle.cp_slots.specs.declared.lay_out.names.Meaning.TheVariants as meaning
 use Rattle.cp_slots.specs.declared.lay_out.names.Predeclared.{Predeclared}
 use Rattle.cp_slots.specs.declared.lay_out.names.Predeclared.TheVariants as predeclared
 use Rattle.cp_slots.specs.Code as code
-use Rattle.cp_slots.specs.Kinds.{most, plus}
+use Rattle.cp_slots.specs.Kinds.{most}
 use Rattle.cp_slots.specs.Values as values
 use Rattle.cp_slots.specs.Values.{Value, place_at, place_of, ordinal_of}
 use Rattle.cp_slots.specs.Layers as layers
@@ -34,18 +31,18 @@ use Rattle.cp_meaning.specs.Declarations as meant
 use Rattle.cp_meaning.specs.State.{Item}
 use Rattle.cp_meaning.specs.Places.{result_type}
 use Rattle.cp_meaning.specs.Expressions.{name_of, routine_of_type, routine_meant, routine_called}
-use Rattle.cp_meaning.specs.Lifting.{last_field, expression_calls, expressions_calls, designator_calls, selectors_calls}
+use Rattle.cp_meaning.specs.Lifting.{last_field, expression_calls, expressions_calls, selectors_calls}
 use Rattle.cp_meaning.specs.Steps.{at_expression}
 use Rattle.cp_resolved.specs.Calls.{calls_laid, all_calls_laid, arms_calls_laid, arm_calls_laid}
 use Rattle.cp_resolved.specs.Compiled.{as_ordinal, Formed, then_form, Designated, a_variable, some_components, a_component, result_begun, permanent_begun, begun_form, ordinal_form, with_index_form, with_element_form, expression_form, designator_form, selected_form}
-use Rattle.cp_resolved.specs.Formed.{CanGiveAll, CallFormed, AreReady, parameters_in, HeadingIs, KnowsHeadings}
-use Rattle.cp_resolved.specs.FormedStatements.{IsTarget, PerformFormed, EntryFormed, InvokeFormed, TestFormed, OrdinalFormed, AssignFormed, OwnResult, KnowsResult, ForFormed, IsNotRoutine, StatementFormed, AllFormed, ArmsFormed, ArmFormed}
+use Rattle.cp_resolved.specs.Formed.{CanGiveAll, CallFormed, AreReady, parameters_in, HeadingIs}
+use Rattle.cp_resolved.specs.FormedStatements.{IsTarget, PerformFormed, EntryFormed, InvokeFormed, TestFormed, OrdinalFormed, AssignFormed, OwnResult, ForFormed, IsNotRoutine, StatementFormed, AllFormed, ArmsFormed, ArmFormed}
 use Rattle.cp_resolved.specs.InStep.{Numbering, base_of, range_on, predeclared_as, FoundIs, TypeIs}
-use Rattle.cp_resolved.specs.Knows.{Knows}
+use Rattle.cp_resolved.specs.ItemsStand.{Surroundings, StatementsLaw}
 use Rattle.cp_resolved.specs.Layouts.{Here, frame_here, is_own, cell_named}
 use Rattle.cp_resolved.specs.Small.{Each, IsSmallConstant}
-use Rattle.cp_resolved.specs.Stands.{Ground, ItemAt, CalleeIs, CallItem, CallsAre, kind_of, first_of, Performed, InvokedBy, IsOrdinal, labels_of, is_down, Leads, Own, OwnAll, OwnArms, OwnArm, StatementIs}
-use Rattle.cp_resolved.specs.Used.{IsUsed, AreUsed, SelectorsUsed, system_type, KnowsCalls}
+use Rattle.cp_resolved.specs.Stands.{Ground, ItemAt, CalleeIs, CallItem, CallsAre, kind_of, first_of, Performed, InvokedBy, IsOrdinal, labels_of, is_down, OwnAll, OwnArms, OwnArm, StatementIs}
+use Rattle.cp_resolved.specs.Used.{IsUsed, AreUsed, SelectorsUsed, system_type}
 use Rattle.cp_resolved.specs.Valued.{ValueIs, PlaceIs, DesignatedIs}
 use Rattle.cp_resolved.proofs.Alike.{same_inside}
 use Rattle.cp_resolved.proofs.Designating.{IsNoRoutine, begun_same}
@@ -104,13 +101,8 @@ module _ (p : syntax.Program) where
   parts_of (named.record_with us) y r e = absurd (none-some r e)
 
 module _ (k : Numbering) (h : Here) (g : Ground) (few : length g.tables.items ≤ most) (numbered : (at : ℕ) → g.firsts at ≡ k.firsts at) where
-  -- what is known where a statement begins
-  pub record World (l : Layer) : Type 0 where
-    pub names : Knows k h l
-    pub calls : KnowsCalls k h l
-    pub headings : KnowsHeadings k h l
-    pub result : KnowsResult k h l
-    pub lines : l.lines ≡ g.lines
+  abbrev World : Layer → Type 0
+  World l = Surroundings k h g l
 
   more_world : (l m : Layer) (more : List code.Item) → World l → World (with_more l more m)
   more_world l m more w =
@@ -240,42 +232,42 @@ module _ (k : Numbering) (h : Here) (g : Ground) (few : length g.tables.items �
   no_entry (a_component c n) ss p t e = absurd (no_variable ss c n p t e)
 
   -- a variable, or a part of one
-  variable_target : (l : Layer) (x : Identifier) (ss : syntax.Selectors) (place : code.Place) (t : Ty) → World l → IsNoRoutine (scopes.find x.name h.scope) → SelectorsUsed h ss → AreReady h (cells l) (selectors_calls h.scope ss) → designator_form h (syntax.designator x ss) ≡ Some (a_variable place t) →
-      TargetIs l place t (target_of (designator l (syntax.designator x ss)).1 (designator l (syntax.designator x ss)).0)
+  variable_target : (l : Layer) (x : Identifier) (ss : syntax.Selectors) (q : code.Place) (t : Ty) → World l → IsNoRoutine (scopes.find x.name h.scope) → SelectorsUsed h ss → AreReady h (cells l) (selectors_calls h.scope ss) → designator_form h (syntax.designator x ss) ≡ Some (a_variable q t) →
+      TargetIs l q t (target_of (designator l (syntax.designator x ss)).1 (designator l (syntax.designator x ss)).0)
   unfolding designator
-  variable_target l x ss place t w r u n f =
-      let p : (d : Designated) × (begun_form h x.name (scopes.find x.name h.scope) ≡ Some d) × (selected_form h ss d ≡ Some (a_variable place t)) = known.inside (begun_form h x.name (scopes.find x.name h.scope)) (selected_form h ss) (a_variable place t) f in
+  variable_target l x ss q t w r u n f =
+      let p : (d : Designated) × (begun_form h x.name (scopes.find x.name h.scope) ≡ Some d) × (selected_form h ss d ≡ Some (a_variable q t)) = known.inside (begun_form h x.name (scopes.find x.name h.scope)) (selected_form h ss) (a_variable q t) f in
       let begins : DesignatedIs k l.types p.0 (begun l x.name) = begun_same k h l w.names x.name p.0 r p.1 in
-      let i = known.selected_is k h l w.names w.calls l p.0 (a_variable place t) (begun l x.name) ss refl u begins (no_entry p.0 ss place t p.2) (ready_next h (cells l) (selectors_calls h.scope ss) n) p.2 in
-      let y : PlaceIs k l.types place t (selectors l (begun l x.name) ss).0 = i.leads in
+      let i = known.selected_is k h l w.names w.calls l p.0 (a_variable q t) (begun l x.name) ss refl u begins (no_entry p.0 ss q t p.2) (ready_next h (cells l) (selectors_calls h.scope ss) n) p.2 in
+      let y : PlaceIs k l.types q t (selectors l (begun l x.name) ss).0 = i.leads in
       let m : Layer = (selectors l (begun l x.name) ss).1 in
       record { place_is = ap (λ d. (target_of m d).place) y.is; belongs = subst (λ (v : Target). TypeIs k l.types t v.value_type) (sym (ap (target_of m) y.is)) y.belongs }
 
   -- a function's own result
-  result_of_own : (l : Layer) (x : Identifier) (place : code.Place) (t : Ty) (b : Bool) → World l → is_own h x.name ≡ b → then_form (result_begun h b) (λ d. Some d) ≡ Some (a_variable place t) → TargetIs l place t (target_of l (begun l x.name))
-  result_of_own l x place t false w e f = absurd (cc)
-  result_of_own l x place t true w e f =
+  result_of_own : (l : Layer) (x : Identifier) (q : code.Place) (t : Ty) (b : Bool) → World l → is_own h x.name ≡ b → then_form (result_begun h b) (λ d. Some d) ≡ Some (a_variable q t) → TargetIs l q t (target_of l (begun l x.name))
+  result_of_own l x q t false w e f = absurd (cc)
+  result_of_own l x q t true w e f =
       let o : OwnResult k h l x.name = w.result x.name e in
-      let same : a_variable (code.place ((frame_here h).origins result_name) 0 code.no_indices) (result_type (h.layouts.meanings h.routine).result) ≡ a_variable place t = same_inside _ (a_variable place t) f in
+      let same : a_variable (code.place ((frame_here h).origins result_name) 0 code.no_indices) (result_type (h.layouts.meanings h.routine).result) ≡ a_variable q t = same_inside _ (a_variable q t) f in
       let begins : begun l x.name ≡ values.a_routine o.number = ap begun_as o.there in
       let target : target_of l (begun l x.name) ≡ (let z : Target = record { place = place_at (origin.Local o.result.slot); value_type = o.result.value_type } in z) =
       ap (target_of l) begins ∙ ap (λ c. result_target c (layers.result_of l o.number)) o.own ∙ ap (result_target true) o.held in
       record {
-        place_is = ap (λ (z : Target). z.place) target ∙ ap place_at (sym o.cell) ∙ place_inside _ place _ t same;
-        belongs = subst (λ u. TypeIs k l.types u (target_of l (begun l x.name)).value_type) (type_inside _ place _ t same) (subst (λ (z : Target). TypeIs k l.types (result_type (h.layouts.meanings h.routine).result) z.value_type) (sym target) o.belongs);
+        place_is = ap (λ (z : Target). z.place) target ∙ ap place_at (sym o.cell) ∙ place_inside _ q _ t same;
+        belongs = subst (λ u. TypeIs k l.types u (target_of l (begun l x.name)).value_type) (type_inside _ q _ t same) (subst (λ (z : Target). TypeIs k l.types (result_type (h.layouts.meanings h.routine).result) z.value_type) (sym target) o.belongs);
       }
 
-  own_target : (l : Layer) (x : Identifier) (ss : syntax.Selectors) (place : code.Place) (t : Ty) (m : Option scopes.Meaning) → World l → scopes.find x.name h.scope ≡ m → IsTarget m (syntax.designator x ss) → SelectorsUsed h ss → AreReady h (cells l) (selectors_calls h.scope ss) → designator_form h (syntax.designator x ss) ≡ Some (a_variable place t) →
-      TargetIs l place t (target_of (designator l (syntax.designator x ss)).1 (designator l (syntax.designator x ss)).0)
+  own_target : (l : Layer) (x : Identifier) (ss : syntax.Selectors) (q : code.Place) (t : Ty) (m : Option scopes.Meaning) → World l → scopes.find x.name h.scope ≡ m → IsTarget m (syntax.designator x ss) → SelectorsUsed h ss → AreReady h (cells l) (selectors_calls h.scope ss) → designator_form h (syntax.designator x ss) ≡ Some (a_variable q t) →
+      TargetIs l q t (target_of (designator l (syntax.designator x ss)).1 (designator l (syntax.designator x ss)).0)
   unfolding designator selectors
-  own_target l x syntax.no_selectors place t (Some (scopes.routine_meaning r)) w e i u n f = result_of_own l x place t (is_own h x.name) w refl (ap (λ m. then_form (begun_form h x.name m) (λ d. Some d)) (sym e) ∙ f)
-  own_target l x (syntax.more_selectors s ss) place t (Some (scopes.routine_meaning r)) w e i u n f = absurd i
-  own_target l x ss place t None w e i u n f = variable_target l x ss place t w (subst IsNoRoutine (sym e) tt) u n f
-  own_target l x ss place t (Some (scopes.constant_meaning b z)) w e i u n f = variable_target l x ss place t w (subst IsNoRoutine (sym e) tt) u n f
-  own_target l x ss place t (Some (scopes.type_meaning v)) w e i u n f = variable_target l x ss place t w (subst IsNoRoutine (sym e) tt) u n f
-  own_target l x ss place t (Some (scopes.local_variable v)) w e i u n f = variable_target l x ss place t w (subst IsNoRoutine (sym e) tt) u n f
-  own_target l x ss place t (Some (scopes.permanent_variable v)) w e i u n f = variable_target l x ss place t w (subst IsNoRoutine (sym e) tt) u n f
-  own_target l x ss place t (Some (scopes.standard_meaning q)) w e i u n f = variable_target l x ss place t w (subst IsNoRoutine (sym e) tt) u n f
+  own_target l x syntax.no_selectors q t (Some (scopes.routine_meaning r)) w e i u n f = result_of_own l x q t (is_own h x.name) w refl (ap (λ m. then_form (begun_form h x.name m) (λ d. Some d)) (sym e) ∙ f)
+  own_target l x (syntax.more_selectors s ss) q t (Some (scopes.routine_meaning r)) w e i u n f = absurd i
+  own_target l x ss q t None w e i u n f = variable_target l x ss q t w (subst IsNoRoutine (sym e) tt) u n f
+  own_target l x ss q t (Some (scopes.constant_meaning b z)) w e i u n f = variable_target l x ss q t w (subst IsNoRoutine (sym e) tt) u n f
+  own_target l x ss q t (Some (scopes.type_meaning v)) w e i u n f = variable_target l x ss q t w (subst IsNoRoutine (sym e) tt) u n f
+  own_target l x ss q t (Some (scopes.local_variable v)) w e i u n f = variable_target l x ss q t w (subst IsNoRoutine (sym e) tt) u n f
+  own_target l x ss q t (Some (scopes.permanent_variable v)) w e i u n f = variable_target l x ss q t w (subst IsNoRoutine (sym e) tt) u n f
+  own_target l x ss q t (Some (scopes.standard_meaning c)) w e i u n f = variable_target l x ss q t w (subst IsNoRoutine (sym e) tt) u n f
 
   designator_goes : (l : Layer) (x : Identifier) (ss : syntax.Selectors) (q : Designated) → World l → SelectorsUsed h ss → AreReady h (cells l) (selectors_calls h.scope ss) → designator_form h (syntax.designator x ss) ≡ Some q → Goes g.lines h l (designator l (syntax.designator x ss)).1 (selectors_calls h.scope ss)
   unfolding designator
@@ -664,3 +656,9 @@ module _ (k : Numbering) (h : Here) (g : Ground) (few : length g.tables.items �
         let x : Option ℕ × Layer = statement l s None in
         let a = statement_does l s None w none f.1 n in
         then_does l x.1 (calls_laid h.scope s) _ (OwnArm g h (syntax.arm cs s) (one_arm l (syntax.arm cs s)).0) (λ y. (labels_same x.1 cs (world_grown l x.1 a.grew w) f.0, y)) a
+
+-- the items of a whole list
+pub statements_law : StatementsLaw
+statements_law k h g l ss few numbered w c =
+    let d = statements_do k h g few numbered l ss w c.pending c.formed c.calls in
+    record { stand = d.stands; cells = d.taken }

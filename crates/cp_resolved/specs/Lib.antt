@@ -7,6 +7,7 @@ pub mod Fit
 pub mod Formed
 pub mod FormedStatements
 pub mod InStep
+pub mod ItemsStand
 pub mod Knows
 pub mod Layouts
 pub mod LayoutsKnow

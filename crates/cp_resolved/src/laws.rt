@@ -1,5 +1,6 @@
 //! Laws over the definitions alone.
 
+ghost use Rattle.cp_resolved.specs.ItemsStand.{StatementsLaw};
 ghost use Rattle.cp_resolved.specs.LayoutsKnow.{LayoutsLaw};
 ghost use Rattle.cp_resolved.specs.Names.{NamesLaw};
 ghost use Rattle.cp_resolved.specs.Soundness.{SoundLaw};
@@ -17,4 +18,9 @@ pub fn law_sound()
 /// The layouts of a tree know the names, the routines and the cells of calls where its statements begin.
 pub fn law_layouts()
     ensures { LayoutsLaw }
+{}
+
+/// The items that are laid out of statements stand for these statements.
+pub fn law_statements()
+    ensures { StatementsLaw }
 {}

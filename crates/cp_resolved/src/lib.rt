@@ -3,4 +3,4 @@
 
 pub mod laws;
 
-pub use laws::{law_layouts, law_names, law_sound};
+pub use laws::{law_layouts, law_names, law_sound, law_statements};
