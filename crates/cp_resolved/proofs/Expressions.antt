@@ -105,7 +105,7 @@ NoEntry (a_variable p t) ss = Unit {0}
 NoEntry (some_components first r k) ss = last_field ss ≡ None
 NoEntry (a_component c k) ss = last_field ss ≡ None
 
-no_entry : (d : Designated) (ss : syntax.Selectors) → last_field ss ≡ None → NoEntry d ss
+pub no_entry : (d : Designated) (ss : syntax.Selectors) → last_field ss ≡ None → NoEntry d ss
 no_entry (a_variable p t) ss e = tt
 no_entry (some_components first r k) ss e = e
 no_entry (a_component c k) ss e = e

@@ -1,6 +1,7 @@
 pub mod Alike
 pub mod Applied
 pub mod BegunKnown
+pub mod BodiesStand
 pub mod Calling
 mod CallingProgram
 pub mod Cells
@@ -8,6 +9,7 @@ pub mod Declared
 pub mod Declares
 pub mod Designating
 pub mod EachInStep
+pub mod Ended
 pub mod Entries
 pub mod EntriesKnown
 pub mod Expressions

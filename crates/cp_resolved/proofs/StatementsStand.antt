@@ -22,26 +22,27 @@ use Rattle.cp_slots.specs.Layers.{Layer, Names, added, again, settled, need_insi
 use Rattle.cp_slots.specs.LaidTypes as laid_types
 use Rattle.cp_slots.specs.LaidExpressions.{begun_as, begun, entry_found, counted, arguments_from, arguments, expression, designator, selectors, first_value}
 use Rattle.cp_slots.specs.LaidStatements as laid
-use Rattle.cp_slots.specs.LaidStatements.{statement, statements, arms, one_arm, arms_need, chosen, while_item, until_item, selected, for_item, blocked, cycled, repeated, assigned, invoked, standard, procedure, Target, target_of, result_target, low_of, high_of, origin_of, token_of}
+use Rattle.cp_slots.specs.LaidStatements.{statement, statements, arms, one_arm, arms_need, chosen, while_item, until_item, selected, for_item, blocked, cycled, repeated, assigned, invoked, standard, procedure, begun_component, started, starts, Target, target_of, result_target, low_of, high_of, origin_of, token_of}
 use Rattle.cp_meaning.specs.Names.{Name, result_name}
 use Rattle.cp_meaning.specs.Types as named
 use Rattle.cp_meaning.specs.Types.{Ty}
 use Rattle.cp_meaning.specs.Scopes as scopes
 use Rattle.cp_meaning.specs.Declarations as meant
 use Rattle.cp_meaning.specs.State.{Item}
+use Rattle.cp_meaning.specs.Systems.{system_of}
 use Rattle.cp_meaning.specs.Places.{result_type}
 use Rattle.cp_meaning.specs.Expressions.{name_of, routine_of_type, routine_meant, routine_called}
-use Rattle.cp_meaning.specs.Lifting.{last_field, expression_calls, expressions_calls, selectors_calls}
+use Rattle.cp_meaning.specs.Lifting.{last_field, designator_calls, expression_calls, expressions_calls, selectors_calls}
 use Rattle.cp_meaning.specs.Steps.{at_expression}
-use Rattle.cp_resolved.specs.Calls.{calls_laid, all_calls_laid, arms_calls_laid, arm_calls_laid}
+use Rattle.cp_resolved.specs.Calls.{starts_calls, calls_laid, all_calls_laid, arms_calls_laid, arm_calls_laid}
 use Rattle.cp_resolved.specs.Compiled.{as_ordinal, Formed, then_form, Designated, a_variable, some_components, a_component, result_begun, permanent_begun, begun_form, ordinal_form, with_index_form, with_element_form, expression_form, designator_form, selected_form}
 use Rattle.cp_resolved.specs.Formed.{CanGiveAll, CallFormed, AreReady, parameters_in, HeadingIs}
-use Rattle.cp_resolved.specs.FormedStatements.{IsTarget, PerformFormed, EntryFormed, InvokeFormed, TestFormed, OrdinalFormed, AssignFormed, OwnResult, ForFormed, IsNotRoutine, StatementFormed, AllFormed, ArmsFormed, ArmFormed}
+use Rattle.cp_resolved.specs.FormedStatements.{IsTarget, PerformFormed, StartFormed, StartIs, EntryFormed, InvokeFormed, TestFormed, OrdinalFormed, AssignFormed, OwnResult, ForFormed, IsNotRoutine, StatementFormed, AllFormed, ArmsFormed, ArmFormed}
 use Rattle.cp_resolved.specs.InStep.{Numbering, base_of, range_on, predeclared_as, FoundIs, TypeIs}
 use Rattle.cp_resolved.specs.ItemsStand.{Surroundings, StatementsLaw}
 use Rattle.cp_resolved.specs.Layouts.{Here, frame_here, is_own, cell_named}
 use Rattle.cp_resolved.specs.Small.{Each, IsSmallConstant}
-use Rattle.cp_resolved.specs.Stands.{Ground, ItemAt, CalleeIs, CallItem, CallsAre, kind_of, first_of, Performed, InvokedBy, IsOrdinal, labels_of, is_down, OwnAll, OwnArms, OwnArm, StatementIs}
+use Rattle.cp_resolved.specs.Stands.{StartItem, StartsAre, Ground, ItemAt, CalleeIs, CallItem, CallsAre, kind_of, first_of, Performed, InvokedBy, IsOrdinal, labels_of, is_down, OwnAll, OwnArms, OwnArm, StatementIs}
 use Rattle.cp_resolved.specs.Used.{IsUsed, AreUsed, SelectorsUsed, system_type}
 use Rattle.cp_resolved.specs.Valued.{ValueIs, PlaceIs, DesignatedIs}
 use Rattle.cp_resolved.proofs.Alike.{same_inside}
@@ -114,6 +115,7 @@ module _ (k : Numbering) (h : Here) (g : Ground) (few : length g.tables.items �
           entry = λ x y t r n e f d. (let i = w.headings.entry x y t r n e f d in (i.0, record { same = i.1.same; parameters = i.1.parameters }));
         };
         result = λ x e. (let i = w.result x e in record { number = i.number; there = i.there; own = i.own; result = i.result; held = i.held; cell = i.cell; belongs = i.belongs });
+        starts = λ d c n e. (let i = w.starts d c n e in record { initial = i.initial; parameters = i.parameters });
         lines = w.lines;
       }
 
@@ -489,6 +491,65 @@ module _ (k : Numbering) (h : Here) (g : Ground) (few : length g.tables.items �
   labels_same l [] w s = refl
   labels_same l (c ∷ cs) w s = ap (λ x. x.1 ∷ laid_types.labels_of l.names cs) (constant_same k l.types l.names h.scope c s.0 w.names.names).0 ∙ ap (λ zs. (meant.constant_of h.scope c).1 ∷ zs) (labels_same l cs w s.1)
 
+  -- ---- starts
+
+  start_by : (l : Layer) (x : Identifier) (ss : syntax.Selectors) (es : syntax.Expressions) (next : Option ℕ) → World l → l.pending ≡ [] → StartFormed h (record { target = syntax.designator x ss; arguments = es }) → AreReady h (cells l) (selectors_calls h.scope ss ++ expressions_calls h.scope es) →
+      Does l (settled (started l (record { target = syntax.designator x ss; arguments = es })) next).1 (selectors_calls h.scope ss ++ expressions_calls h.scope es)
+      ((n : ℕ) × CallsAre g h (settled (started l (record { target = syntax.designator x ss; arguments = es })) next).0 (selectors_calls h.scope ss ++ expressions_calls h.scope es) (Some n) × StartItem g h n (record { target = syntax.designator x ss; arguments = es }) next)
+  unfolding started begun_component arguments designator
+  start_by l x ss es next w none f n =
+      let t : syntax.Start = record { target = syntax.designator x ss; arguments = es } in
+      let d : syntax.Designator = syntax.designator x ss in
+      let is : List Item = selectors_calls h.scope ss in
+      let js : List Item = expressions_calls h.scope es in
+      let first : AreReady h (cells l) is = ready_first h (cells l) is js n in
+      let m : Layer = (selectors l (begun l x.name) ss).1 in
+      let p : (y : Designated) × (begun_form h x.name (scopes.find x.name h.scope) ≡ Some y) × (selected_form h ss y ≡ Some (a_component f.part f.system)) = known.inside (begun_form h x.name (scopes.find x.name h.scope)) (selected_form h ss) (a_component f.part f.system) f.target in
+      let begins : DesignatedIs k l.types p.0 (begun l x.name) = begun_same k h l w.names x.name p.0 (not_routine (scopes.find x.name h.scope) f.named) p.1 in
+      let part = known.selected_is k h l w.names w.calls l p.0 (a_component f.part f.system) (begun l x.name) ss refl f.chosen begins (known.no_entry p.0 ss f.whole) (ready_next h (cells l) is first) p.2 in
+      let leads : (selectors l (begun l x.name) ss).0 ≡ values.a_component f.part f.system = part.leads in
+      let s : StartIs k h l f.system = w.starts d f.part f.system f.target in
+      let number : ℕ = laid.initial_of l f.system in
+      let kept : Kept l m = designator_kept l d in
+      let same : laid.initial_of m f.system ≡ number = ap (λ (j : Layer). laid.initial_of j f.system) kept in
+      let i : Goes g.lines h l m is = designator_goes l x ss (a_component f.part f.system) w f.chosen first f.target in
+      let rest : AreReady h (cells m) js = ready_rest h (cells l) m is js i.taken n in
+      let a = arguments_go k h l w.names w.calls w.headings g.lines w.lines m number 0 es (h.layouts.systems f.system).slots (system_of h.program f.system).parameters (parameters_in (slice_get l.headings number)) kept f.used rest s.parameters
+      (λ j. heading_parameters k h l w.names w.calls w.headings g.lines w.lines number 0 j refl) f.arguments in
+      let j : Layer = (arguments_from m number 0 es).1 in
+      let given : List code.Argument = (arguments_from m number 0 es).0 in
+      let c : List code.Argument × Layer = counted (arguments_from m number 0 es) in
+      let o : Layer = layers.with_room c.1 number in
+      let act : code.Action = code.start f.part number given in
+      let wanted : code.Action = code.start f.part (h.layouts.systems f.system).initial given in
+      let need : ℕ = layers.call_need c.1 number in
+      let goes_there : Goes g.lines h m o js = record { taken = grown_room k h l w.names w.calls w.headings g.lines w.lines c.1.frame (slice_get c.1.routines number) ∙ a.0.taken; new = a.0.new; pending = a.0.pending; stand = a.0.stand } in
+      let whole : Kept l o = kept_trans l j o (kept_trans l m j kept (arguments_kept m number 0 es)) refl in
+      let done : Does l (ended g h o x.at act need next).1 (is ++ js) ((z : ℕ) × CallsAre g h (ended g h o x.at act need next).0 (is ++ js) (Some z) × StartItem g h z t next) =
+      then_does l (ended g h o x.at act need next).1 (is ++ js) (Led g h (ended g h o x.at act need next).0 (is ++ js) x.at act next) ((z : ℕ) × CallsAre g h (ended g h o x.at act need next).0 (is ++ js) (Some z) × StartItem g h z t next)
+      (λ y. (let z = led_as (ended g h o x.at act need next).0 (is ++ js) x.at act wanted next (ap (λ r. code.start f.part r given) s.initial) y in
+      (z.number, z.calls, record { part = f.part; system = f.system; arguments = given; target = f.target; given = a.1; item = z.item })))
+      (own_does l o (is ++ js) x.at act need next w none whole (goes_both g.lines h l m o is js i goes_there)) in
+      let numbered_so : Does l (settled (laid.started_as m x.at (Some (f.part, f.system)) es) next).1 (is ++ js) ((z : ℕ) × CallsAre g h (settled (laid.started_as m x.at (Some (f.part, f.system)) es) next).0 (is ++ js) (Some z) × StartItem g h z t next) =
+      subst (λ r. Does l (settled (begun_component m x.at f.part r es) next).1 (is ++ js) ((z : ℕ) × CallsAre g h (settled (begun_component m x.at f.part r es) next).0 (is ++ js) (Some z) × StartItem g h z t next)) (sym same) done in
+      subst (λ y. Does l (settled (laid.started_as m x.at (laid.placed_of y) es) next).1 (is ++ js) ((z : ℕ) × CallsAre g h (settled (laid.started_as m x.at (laid.placed_of y) es) next).0 (is ++ js) (Some z) × StartItem g h z t next)) (sym leads) numbered_so
+
+  start_does : (l : Layer) (d : syntax.Designator) (es : syntax.Expressions) (next : Option ℕ) → World l → l.pending ≡ [] → StartFormed h (record { target = d; arguments = es }) → AreReady h (cells l) (designator_calls h.scope d ++ expressions_calls h.scope es) →
+      Does l (settled (started l (record { target = d; arguments = es })) next).1 (designator_calls h.scope d ++ expressions_calls h.scope es)
+      ((n : ℕ) × CallsAre g h (settled (started l (record { target = d; arguments = es })) next).0 (designator_calls h.scope d ++ expressions_calls h.scope es) (Some n) × StartItem g h n (record { target = d; arguments = es }) next)
+  start_does l (syntax.designator x ss) es next w none f n = start_by l x ss es next w none f n
+
+  starts_do : (l : Layer) (ts : List syntax.Start) (next : Option ℕ) → World l → l.pending ≡ [] → Each (StartFormed h) ts → AreReady h (cells l) (starts_calls h.scope ts) → Does l (starts l ts next).1 (starts_calls h.scope ts) (StartsAre g h (starts l ts next).0 ts next)
+  unfolding starts
+  starts_do l [] next w none f n = record { taken = takes_none l; pending = none; grew = kept_grew l l refl; stands = λ b. refl }
+  starts_do l (t ∷ ts) next w none f n =
+      let rest : Option ℕ × Layer = starts l ts next in
+      let is : List Item = starts_calls h.scope ts in
+      let js : List Item = designator_calls h.scope t.target ++ expressions_calls h.scope t.arguments in
+      let a = starts_do l ts next w none f.1 (ready_first h (cells l) is js n) in
+      let c = start_does rest.1 t.target t.arguments rest.0 (world_grown l rest.1 a.grew w) a.pending f.0 (ready_rest h (cells l) rest.1 is js a.taken n) in
+      both_do l rest.1 (settled (started rest.1 t) rest.0).1 is js (StartsAre g h rest.0 ts next) _ (StartsAre g h (settled (started rest.1 t) rest.0).0 (t ∷ ts) next) a c (λ y z. (z.0, rest.0, z.1, z.2, y))
+
   -- ---- all statements
 
   repeat_does : (l m : Layer) (at : ℕ) (body : Option ℕ) (ss : syntax.Statements) (e : syntax.Expression) (next : Option ℕ) → World m → l.pending ≡ [] → TestFormed h e → Does l m (all_calls_laid h.scope ss) (OwnAll g h ss body None) → AreReady h (cells m) (expression_calls h.scope e) →
@@ -629,7 +690,7 @@ module _ (k : Numbering) (h : Here) (g : Ground) (few : length g.tables.items �
           v.calls,
           record { origin = x.0.origin; range = x.0.range; from_ty = x.0.first.ty; to_ty = x.0.last.ty; from = x.0.first.cell; to = x.0.last.cell; body = y.0; variable = x.0.variable; first = x.0.first.formed; last = x.0.last.formed; list = u; item = v.item },
         ))
-    statement_does l (syntax.init at ts) next w none f n = absurd f
+    statement_does l (syntax.init at ts) next w none f n = starts_do l ts next w none f n
 
     pub statements_do : (l : Layer) (ss : syntax.Statements) → World l → l.pending ≡ [] → AllFormed h ss → AreReady h (cells l) (all_calls_laid h.scope ss) → Does l (statements l ss).1 (all_calls_laid h.scope ss) (OwnAll g h ss (statements l ss).0 None)
     statements_do l syntax.no_statements w none f n = record { taken = takes_none l; pending = none; grew = kept_grew l l refl; stands = λ b. refl }

@@ -1,7 +1,7 @@
 -- The forms of accepted statements on slots: each expression has the form that its statement wants, and names are used as the rules want it.
-use Rattle.std.specs.Prelude.{◌≡◌, ℕ, true, Option, Some}
+use Rattle.std.specs.Prelude.{◌≡◌, ℕ, true, Option, Some, None, slice_get}
 use Rattle.cp_tree.specs.declared.constant.Identifier.{Identifier}
-use Rattle.cp_tree.specs.Syntax.{Expression, Expressions, Designator, Statement, empty, assign, invoke, block, if_then, if_else, case_of, while_do, repeat_until, for_do, cycle, init, Statements, no_statements, more_statements, Arms, no_arms, more_arms, Arm, arm}
+use Rattle.cp_tree.specs.Syntax.{Expression, Expressions, Designator, Start, Statement, empty, assign, invoke, block, if_then, if_else, case_of, while_do, repeat_until, for_do, cycle, init, Statements, no_statements, more_statements, Arms, no_arms, more_arms, Arm, arm}
 use Rattle.cp_slots.specs.declared.place.Origin.{Origin}
 use Rattle.cp_slots.specs.declared.place.Origin.TheVariants.{Local}
 use Rattle.cp_slots.specs.declared.lay_out.layer.FunctionResult.{FunctionResult}
@@ -9,14 +9,17 @@ use Rattle.cp_slots.specs.declared.lay_out.names.Meaning.TheVariants as meaning
 use Rattle.cp_slots.specs.Code as code
 use Rattle.cp_slots.specs.Layers as layers
 use Rattle.cp_slots.specs.Layers.{Layer}
+use Rattle.cp_slots.specs.LaidStatements.{initial_of}
 use Rattle.cp_meaning.specs.Names.{Name, result_name}
 use Rattle.cp_meaning.specs.Types.{Range, Ty, ordinal, queue_type}
 use Rattle.cp_meaning.specs.Scopes.{Meaning, routine_meaning, standard_meaning, Standard, delay_procedure, continue_procedure, display_procedure, find}
+use Rattle.cp_meaning.specs.Systems.{system_of}
+use Rattle.cp_meaning.specs.Lifting.{last_field}
 use Rattle.cp_meaning.specs.Places.{result_type}
 use Rattle.cp_meaning.specs.Expressions.{name_of}
 use Rattle.cp_resolved.specs.Layouts.{Here, frame_here, is_own}
-use Rattle.cp_resolved.specs.Compiled.{as_place, Formed, Designated, a_variable, begun_form, expression_form, designator_form}
-use Rattle.cp_resolved.specs.Formed.{IsMoved, CallFormed}
+use Rattle.cp_resolved.specs.Compiled.{as_place, Formed, Designated, a_variable, a_component, begun_form, expression_form, designator_form}
+use Rattle.cp_resolved.specs.Formed.{IsMoved, CanGiveAll, CallFormed, ParametersAre, parameters_in}
 use Rattle.cp_resolved.specs.InStep.{Numbering, TypeIs}
 use Rattle.cp_resolved.specs.Small.{Each, IsSmallConstant}
 use Rattle.cp_resolved.specs.Stands.{IsOrdinal, IsTest, selectors_in, AssignedBy, first_of}
@@ -115,7 +118,26 @@ pub record ForFormed (h : Here) (i : Identifier) (e f : Expression) : Type 0 whe
   pub first : OrdinalFormed h e
   pub last : OrdinalFormed h f
 
--- all but starts of components
+-- ---- starts
+
+pub record StartFormed (h : Here) (t : Start) : Type 0 where
+  pub part : code.ComponentPlace
+  pub system : ℕ
+  pub target : designator_form h t.target ≡ Some (a_component part system)
+  pub named : IsNotRoutine (find (name_of t.target) h.scope)
+  pub whole : last_field (selectors_in t.target) ≡ None
+  pub chosen : SelectorsUsed h (selectors_in t.target)
+  pub used : AreUsed h t.arguments
+  pub arguments : CanGiveAll h (system_of h.program system).parameters t.arguments
+
+-- what is laid out of the initial statement of a component's system type: its number, and in its heading the parameters of the system type
+pub record StartIs (k : Numbering) (h : Here) (l : Layer) (n : ℕ) : Type 0 where
+  pub initial : initial_of l n ≡ (h.layouts.systems n).initial
+  pub parameters : ParametersAre k l.types (h.layouts.systems n).slots (system_of h.program n).parameters (parameters_in (slice_get l.headings (initial_of l n)))
+
+abbrev pub KnowsStarts : Numbering → Here → Layer → Type 0
+KnowsStarts k h l = (d : Designator) (c : code.ComponentPlace) (n : ℕ) → designator_form h d ≡ Some (a_component c n) → StartIs k h l n
+
 abbrev mutual
   pub StatementFormed : Here → Statement → Type 0
   StatementFormed h (empty at) = Unit {0}
@@ -129,7 +151,7 @@ abbrev mutual
   StatementFormed h (repeat_until at ss e) = AllFormed h ss × TestFormed h e
   StatementFormed h (for_do at i e d f t) = ForFormed h i e f × StatementFormed h t
   StatementFormed h (cycle at ss) = AllFormed h ss
-  StatementFormed h (init at ts) = ⊥
+  StatementFormed h (init at ts) = Each (StartFormed h) ts
 
   pub AllFormed : Here → Statements → Type 0
   AllFormed h no_statements = Unit {0}

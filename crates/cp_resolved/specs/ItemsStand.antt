@@ -8,7 +8,7 @@ use Rattle.cp_slots.specs.Layers.{Layer}
 use Rattle.cp_slots.specs.LaidStatements.{statements}
 use Rattle.cp_resolved.specs.Calls.{all_calls_laid}
 use Rattle.cp_resolved.specs.Formed.{AreReady, KnowsHeadings}
-use Rattle.cp_resolved.specs.FormedStatements.{KnowsResult, AllFormed}
+use Rattle.cp_resolved.specs.FormedStatements.{KnowsResult, KnowsStarts, AllFormed}
 use Rattle.cp_resolved.specs.InStep.{Numbering}
 use Rattle.cp_resolved.specs.Knows.{Knows}
 use Rattle.cp_resolved.specs.Layouts.{Here}
@@ -32,6 +32,7 @@ pub record Surroundings (k : Numbering) (h : Here) (g : Ground) (l : Layer) : Ty
   pub calls : KnowsCalls k h l
   pub headings : KnowsHeadings k h l
   pub result : KnowsResult k h l
+  pub starts : KnowsStarts k h l
   pub lines : l.lines ≡ g.lines
 
 -- No item is still to come. The statements have forms, and their calls, in the order in which they are laid out, have the next cells of the frame.

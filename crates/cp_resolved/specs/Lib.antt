@@ -1,4 +1,5 @@
 pub mod Begun
+pub mod BodiesStand
 pub mod Calls
 pub mod Compiled
 pub mod Encoded

@@ -1,5 +1,6 @@
 //! Laws over the definitions alone.
 
+ghost use Rattle.cp_resolved.specs.BodiesStand.{BodiesLaw};
 ghost use Rattle.cp_resolved.specs.ItemsStand.{StatementsLaw};
 ghost use Rattle.cp_resolved.specs.LayoutsKnow.{LayoutsLaw};
 ghost use Rattle.cp_resolved.specs.Names.{NamesLaw};
@@ -23,4 +24,9 @@ pub fn law_layouts()
 /// The items that are laid out of statements stand for these statements.
 pub fn law_statements()
     ensures { StatementsLaw }
+{}
+
+/// The items of each routine and of each initial statement of a tree stand for its statements.
+pub fn law_bodies()
+    ensures { BodiesLaw }
 {}

@@ -3,4 +3,4 @@
 
 pub mod laws;
 
-pub use laws::{law_layouts, law_names, law_sound, law_statements};
+pub use laws::{law_bodies, law_layouts, law_names, law_sound, law_statements};
