@@ -43,7 +43,7 @@ use Rattle.cp_resolved.specs.ItemsStand.{Surroundings, StatementsLaw}
 use Rattle.cp_resolved.specs.Layouts.{Here, frame_here, is_own, cell_named}
 use Rattle.cp_resolved.specs.Small.{Each, IsSmallConstant}
 use Rattle.cp_resolved.specs.Stands.{StartItem, StartsAre, Ground, ItemAt, CalleeIs, CallItem, CallsAre, kind_of, first_of, Performed, InvokedBy, IsOrdinal, labels_of, is_down, OwnAll, OwnArms, OwnArm, StatementIs}
-use Rattle.cp_resolved.specs.Used.{IsUsed, AreUsed, SelectorsUsed, system_type}
+use Rattle.cp_resolved.specs.Used.{HasResult, IsUsed, AreUsed, SelectorsUsed, system_type}
 use Rattle.cp_resolved.specs.Valued.{ValueIs, PlaceIs, DesignatedIs}
 use Rattle.cp_resolved.proofs.Alike.{same_inside}
 use Rattle.cp_resolved.proofs.Designating.{IsNoRoutine, begun_same}
@@ -114,7 +114,7 @@ module _ (k : Numbering) (h : Here) (g : Ground) (few : length g.tables.items �
           own = λ x n e. (let i = w.headings.own x n e in (i.0, record { same = i.1.same; parameters = i.1.parameters }));
           entry = λ x y t r n e f d. (let i = w.headings.entry x y t r n e f d in (i.0, record { same = i.1.same; parameters = i.1.parameters }));
         };
-        result = λ x e. (let i = w.result x e in record { number = i.number; there = i.there; own = i.own; result = i.result; held = i.held; cell = i.cell; belongs = i.belongs });
+        result = λ x r e f a. (let i = w.result x r e f a in record { number = i.number; there = i.there; own = i.own; result = i.result; held = i.held; cell = i.cell; belongs = i.belongs });
         starts = λ d c n e. (let i = w.starts d c n e in record { initial = i.initial; parameters = i.parameters });
         lines = w.lines;
       }
@@ -246,10 +246,10 @@ module _ (k : Numbering) (h : Here) (g : Ground) (few : length g.tables.items �
       record { place_is = ap (λ d. (target_of m d).place) y.is; belongs = subst (λ (v : Target). TypeIs k l.types t v.value_type) (sym (ap (target_of m) y.is)) y.belongs }
 
   -- a function's own result
-  result_of_own : (l : Layer) (x : Identifier) (q : code.Place) (t : Ty) (b : Bool) → World l → is_own h x.name ≡ b → then_form (result_begun h b) (λ d. Some d) ≡ Some (a_variable q t) → TargetIs l q t (target_of l (begun l x.name))
-  result_of_own l x q t false w e f = absurd (cc)
-  result_of_own l x q t true w e f =
-      let o : OwnResult k h l x.name = w.result x.name e in
+  result_of_own : (l : Layer) (x : Identifier) (q : code.Place) (t : Ty) (b : Bool) (r : syntax.Routine) → World l → is_own h x.name ≡ b → scopes.find x.name h.scope ≡ Some (scopes.routine_meaning r) → HasResult (h.layouts.meanings h.routine).result → then_form (result_begun h b) (λ d. Some d) ≡ Some (a_variable q t) → TargetIs l q t (target_of l (begun l x.name))
+  result_of_own l x q t false r w e me a f = absurd (cc)
+  result_of_own l x q t true r w e me a f =
+      let o : OwnResult k h l x.name = w.result x.name r e me a in
       let same : a_variable (code.place ((frame_here h).origins result_name) 0 code.no_indices) (result_type (h.layouts.meanings h.routine).result) ≡ a_variable q t = same_inside _ (a_variable q t) f in
       let begins : begun l x.name ≡ values.a_routine o.number = ap begun_as o.there in
       let target : target_of l (begun l x.name) ≡ (let z : Target = record { place = place_at (origin.Local o.result.slot); value_type = o.result.value_type } in z) =
@@ -259,11 +259,11 @@ module _ (k : Numbering) (h : Here) (g : Ground) (few : length g.tables.items �
         belongs = subst (λ u. TypeIs k l.types u (target_of l (begun l x.name)).value_type) (type_inside _ q _ t same) (subst (λ (z : Target). TypeIs k l.types (result_type (h.layouts.meanings h.routine).result) z.value_type) (sym target) o.belongs);
       }
 
-  own_target : (l : Layer) (x : Identifier) (ss : syntax.Selectors) (q : code.Place) (t : Ty) (m : Option scopes.Meaning) → World l → scopes.find x.name h.scope ≡ m → IsTarget m (syntax.designator x ss) → SelectorsUsed h ss → AreReady h (cells l) (selectors_calls h.scope ss) → designator_form h (syntax.designator x ss) ≡ Some (a_variable q t) →
+  own_target : (l : Layer) (x : Identifier) (ss : syntax.Selectors) (q : code.Place) (t : Ty) (m : Option scopes.Meaning) → World l → scopes.find x.name h.scope ≡ m → IsTarget h m (syntax.designator x ss) → SelectorsUsed h ss → AreReady h (cells l) (selectors_calls h.scope ss) → designator_form h (syntax.designator x ss) ≡ Some (a_variable q t) →
       TargetIs l q t (target_of (designator l (syntax.designator x ss)).1 (designator l (syntax.designator x ss)).0)
   unfolding designator selectors
-  own_target l x syntax.no_selectors q t (Some (scopes.routine_meaning r)) w e i u n f = result_of_own l x q t (is_own h x.name) w refl (ap (λ m. then_form (begun_form h x.name m) (λ d. Some d)) (sym e) ∙ f)
-  own_target l x (syntax.more_selectors s ss) q t (Some (scopes.routine_meaning r)) w e i u n f = absurd i
+  own_target l x syntax.no_selectors q t (Some (scopes.routine_meaning r)) w e i u n f = result_of_own l x q t (is_own h x.name) r w refl e i.1 (ap (λ m. then_form (begun_form h x.name m) (λ d. Some d)) (sym e) ∙ f)
+  own_target l x (syntax.more_selectors s ss) q t (Some (scopes.routine_meaning r)) w e i u n f = absurd i.0
   own_target l x ss q t None w e i u n f = variable_target l x ss q t w (subst IsNoRoutine (sym e) tt) u n f
   own_target l x ss q t (Some (scopes.constant_meaning b z)) w e i u n f = variable_target l x ss q t w (subst IsNoRoutine (sym e) tt) u n f
   own_target l x ss q t (Some (scopes.type_meaning v)) w e i u n f = variable_target l x ss q t w (subst IsNoRoutine (sym e) tt) u n f

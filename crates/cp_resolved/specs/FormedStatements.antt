@@ -1,7 +1,7 @@
 -- The forms of accepted statements on slots: each expression has the form that its statement wants, and names are used as the rules want it.
 use Rattle.std.specs.Prelude.{◌≡◌, ℕ, true, Option, Some, None, slice_get}
 use Rattle.cp_tree.specs.declared.constant.Identifier.{Identifier}
-use Rattle.cp_tree.specs.Syntax.{Expression, Expressions, Designator, Start, Statement, empty, assign, invoke, block, if_then, if_else, case_of, while_do, repeat_until, for_do, cycle, init, Statements, no_statements, more_statements, Arms, no_arms, more_arms, Arm, arm}
+use Rattle.cp_tree.specs.Syntax.{Expression, Expressions, Designator, Start, Routine, Statement, empty, assign, invoke, block, if_then, if_else, case_of, while_do, repeat_until, for_do, cycle, init, Statements, no_statements, more_statements, Arms, no_arms, more_arms, Arm, arm}
 use Rattle.cp_slots.specs.declared.place.Origin.{Origin}
 use Rattle.cp_slots.specs.declared.place.Origin.TheVariants.{Local}
 use Rattle.cp_slots.specs.declared.lay_out.layer.FunctionResult.{FunctionResult}
@@ -23,7 +23,7 @@ use Rattle.cp_resolved.specs.Formed.{IsMoved, CanGiveAll, CallFormed, Parameters
 use Rattle.cp_resolved.specs.InStep.{Numbering, TypeIs}
 use Rattle.cp_resolved.specs.Small.{Each, IsSmallConstant}
 use Rattle.cp_resolved.specs.Stands.{IsOrdinal, IsTest, selectors_in, AssignedBy, first_of}
-use Rattle.cp_resolved.specs.Used.{IsBare, AreEntry, IsOne, IsUsed, AreUsed, SelectorsUsed}
+use Rattle.cp_resolved.specs.Used.{IsBare, HasResult, AreEntry, IsOne, IsUsed, AreUsed, SelectorsUsed}
 
 -- ---- expressions
 
@@ -41,9 +41,9 @@ pub record OrdinalFormed (h : Here) (e : Expression) : Type 0 where
 -- ---- assignments
 
 -- a function's own result is assigned by its name alone
-abbrev pub IsTarget : Option Meaning → Designator → Type 0
-IsTarget (Some (routine_meaning r)) d = IsBare d
-IsTarget m d = Unit {0}
+abbrev pub IsTarget : Here → Option Meaning → Designator → Type 0
+IsTarget h (Some (routine_meaning r)) d = IsBare d × HasResult (h.layouts.meanings h.routine).result
+IsTarget h m d = Unit {0}
 
 pub record AssignFormed (h : Here) (d : Designator) (e : Expression) : Type 0 where
   pub place : code.Place
@@ -54,7 +54,7 @@ pub record AssignFormed (h : Here) (d : Designator) (e : Expression) : Type 0 wh
   pub formed : expression_form h e ≡ Some value
   pub assigned : AssignedBy ty place value.ty value.form act
   pub moved : IsMoved ty
-  pub named : IsTarget (find (name_of d) h.scope) d
+  pub named : IsTarget h (find (name_of d) h.scope) d
   pub chosen : SelectorsUsed h (selectors_in d)
   pub used : IsUsed h e
 
@@ -69,7 +69,7 @@ pub record OwnResult (k : Numbering) (h : Here) (l : Layer) (x : Name) : Type 0 
   pub belongs : TypeIs k l.types (result_type (h.layouts.meanings h.routine).result) result.value_type
 
 abbrev pub KnowsResult : Numbering → Here → Layer → Type 0
-KnowsResult k h l = (x : Name) → is_own h x ≡ true → OwnResult k h l x
+KnowsResult k h l = (x : Name) (r : Routine) → is_own h x ≡ true → find x h.scope ≡ Some (routine_meaning r) → HasResult (h.layouts.meanings h.routine).result → OwnResult k h l x
 
 -- ---- calls
 
