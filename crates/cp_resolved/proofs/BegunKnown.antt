@@ -1,8 +1,10 @@
 -- What is known where the statements of each routine and of each initial statement begin.
-use Rattle.std.proofs.Common.{◌≡◌, ◌+◌, ℕ, suc, List, [], ◌∷◌, ◌++◌, length, Some, None, slice_get, refl, sym, ap, subst, ◌∙◌, arith, append_assoc, append-nil, length-append}
+use Rattle.std.proofs.Common.{◌≡◌, true, false, ◌+◌, ℕ, suc, List, [], ◌∷◌, ◌++◌, length, Some, None, slice_get, refl, sym, ap, subst, ◌∙◌, arith, append_assoc, append-nil, length-append}
 use Rattle.cp_tree.specs.Syntax as syntax
-use Rattle.cp_slots.specs.Layers.{Layer, System, nothing_laid}
+use Rattle.cp_slots.specs.declared.lay_out.names.Meaning.TheVariants as meaning
+use Rattle.cp_slots.specs.Layers.{find, Layer, System, nothing_laid}
 use Rattle.cp_slots.specs.LaidDeclarations.{heading_with, with_new_frame, with_heading, routine, routines, system_definition, system_definitions, program_part, program_parts, program}
+use Rattle.cp_meaning.specs.Names.{Name}
 use Rattle.cp_meaning.specs.Scopes.{Scope, permanent_variable, seen_inside}
 use Rattle.cp_meaning.specs.Declarations.{Block, with_groups}
 use Rattle.cp_meaning.specs.Systems.{SystemMeaning, system_in, Declared, definition_in, definitions_in, program_part_in, program_parts_in, declared, program_system, own_meaning, or_own, system_of}
@@ -10,7 +12,7 @@ use Rattle.cp_resolved.specs.Begun.{routines_begun, initial_begun, parameters_of
 use Rattle.cp_resolved.specs.Enumerations.{Enumerated, each_in, in_part, in_routine, in_definition, in_program_part, enumerations_of}
 use Rattle.cp_resolved.specs.Fit.{IsFitDefinition, AreFitDefinitions, IsFitPart, AreFitParts, nothing_declared}
 use Rattle.cp_resolved.specs.InStep.{Numbering, InStep}
-use Rattle.cp_resolved.specs.Layouts.{is_parameter}
+use Rattle.cp_resolved.specs.Layouts.{is_named, is_parameter}
 use Rattle.cp_resolved.specs.Once.{AreOthers, IsOnceDefinition, IsOncePart, IsOnce}
 use Rattle.cp_resolved.specs.Openings.{Opening, with_routine, routine_openings, parts_scope, initial_opening, definition_openings, definitions_openings, part_openings, parts_openings, openings_of, AreOpened}
 use Rattle.cp_resolved.specs.Resolved.{initial_meaning}
@@ -18,9 +20,9 @@ use Rattle.cp_resolved.specs.Small.{Each, IsSmallRoutine, IsSmallSystem, IsSmall
 use Rattle.cp_resolved.specs.TreeLayouts.{definition_parts, definitions_parts, part_parts, program_parts_parts, all_parts, whole_laid}
 use Rattle.cp_resolved.proofs.Entries.{past_there}
 use Rattle.cp_resolved.proofs.Extends.{Longer, Extends, system_definition_extends, system_definitions_extend, program_parts_extend}
-use Rattle.cp_resolved.proofs.Knowing.{begun_same, Knowing, begun_knows, begun_count, routine_knows, routine_even, routines_even, initial_knows, initial_count, parts_know, parts_even}
+use Rattle.cp_resolved.proofs.Knowing.{begun_same, begun_routines, Knowing, begun_knows, begun_count, routine_knows, routine_even, routines_even, initial_knows, initial_count, parts_know, parts_even}
 use Rattle.cp_resolved.proofs.KnowingSystems.{longer_both, routines_know, begun_many, definitions_longer, parts_longer, IsFirst, first_before, first_is, Known, definition_known, part_known, parts_known, nothing_known}
-use Rattle.cp_resolved.proofs.PermanentNames.{Under, under_same, under_routine, under_after, under_routines, BoundIn, program_bound, parts_bound, FirstsApart, parts_first}
+use Rattle.cp_resolved.proofs.PermanentNames.{Under, under_same, under_routine, under_after, under_routines, own_number, BoundIn, program_bound, parts_bound, FirstsApart, parts_first}
 use Rattle.cp_resolved.proofs.Steps.{outermost_in}
 use Rattle.cp_resolved.proofs.StepsOfParts.{Reached}
 use Rattle.cp_resolved.proofs.StepsOfProgram.{Standing, Stood, definition_stood, part_stood, parts_stood, opened_after, program_reached, all_outer}
@@ -74,6 +76,8 @@ module _ (k : Numbering) (p : syntax.Program) (once : IsOnce p) (all : List Laye
     pub around : Layer
     pub outer : Around o.owner around
     pub under : Under around.names l.names
+    -- the routine's own name stands for it, if for a routine
+    pub own : (x : Name) → is_named x o.name ≡ true → (i : ℕ) → find x l.names ≡ Some (meaning.Routine i) → i ≡ length l.routines
 
   abbrev pub AreBegun : List Layer → List Opening → Type 0
   AreBegun [] [] = Unit {0}
@@ -108,6 +112,7 @@ module _ (k : Numbering) (p : syntax.Program) (once : IsOnce p) (all : List Laye
           around = q;
           outer = g;
           under = under_routine q.names l r u;
+          own = λ x e i f. own_number l r x e i f ∙ sym (ap (λ rs. length rs) (begun_routines l r));
         },
         routines_begin m (with_routine s r) owner q rs h.1 (numbered_after k l.constants m.constants (in_routine r) (each_in in_routine rs) b.constants n) next b.names (record { knowing = routine_knows k p l s r i o.0 a.even a.knowing; even = routine_even k p l r a.even }) g (under_after q.names l r u) (subst IsLonger (sym (routine_systems l r)) x),
       )
@@ -158,6 +163,7 @@ module _ (k : Numbering) (p : syntax.Program) (once : IsOnce p) (all : List Laye
           around = z;
           outer = g;
           under = under_routines z.names z s.routines (under_same z.names);
+          own = λ x e i f. absurd (let w : false ≡ true = e in cc);
         },
         tt,
       )
@@ -281,6 +287,7 @@ all_begin k t once h f e o =
         around = m;
         outer = outer;
         under = under_routines m.names m p.routines (under_same m.names);
+        own = λ x e i f. absurd (let w : false ≡ true = e in cc);
       },
       tt,
     ))

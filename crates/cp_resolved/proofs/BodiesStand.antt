@@ -31,6 +31,7 @@ use Rattle.cp_resolved.specs.Used.{AreNext}
 use Rattle.cp_resolved.proofs.Ended.{Ends, AreEnded, all_end}
 use Rattle.cp_resolved.proofs.Entries.{still_there, entry_at}
 use Rattle.cp_resolved.proofs.Extends.{Longer, routines_extend, initial_extends, program_parts_extend}
+use Rattle.cp_resolved.proofs.ResultKnown.{result_known}
 use Rattle.cp_resolved.proofs.StatementsStand.{statements_law}
 use Rattle.cp_resolved.proofs.TreeKnown.{layouts_law}
 
@@ -173,7 +174,7 @@ bodies_law t r same few place n l e f =
       names = known.names;
       calls = known.calls;
       headings = f.headings;
-      result = f.result;
+      result = result_known t place n l e ends.number;
       starts = f.starts;
       lines = lines;
     }) can in

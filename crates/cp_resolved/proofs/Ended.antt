@@ -115,6 +115,7 @@ before l m o e x = record { lines = x.lines ∙ e.lines; items = longer_both l.i
 module _ (end : Layer) where
   -- the statements of routine n, which begin in this state
   pub record Ends (n : ℕ) (l : Layer) (o : Opening) : Type 0 where
+    pub number : length l.routines ≡ n
     pub lines : l.lines ≡ end.lines
     pub pending : l.pending ≡ []
     pub items : Longer (statements l o.meaning.body).1.items end.items
@@ -140,6 +141,7 @@ module _ (end : Layer) where
       let g = (statements_grew l o.meaning.body).1 in
       let many : length y.1.routines ≡ n = ap (λ (j : Layer). length j.routines) g ∙ len in
       record {
+        number = len;
         lines = sym (x.lines ∙ ap (λ (j : Layer). j.lines) g);
         pending = none;
         items = x.items;

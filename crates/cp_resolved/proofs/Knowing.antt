@@ -112,7 +112,7 @@ begun_same l r =
     let h = heading x r.name.name r.kind in
     ap (λ (j : Layer). j.systems) (local_parts_declare (with_heading h.1 h.0) r.parts).same ∙ ap (λ (j : Layer). j.systems) (heading_declares x r.name.name r.kind).same
 
-begun_routines : (l : Layer) (r : syntax.Routine) → (routine_begun l r).routines ≡ l.routines
+pub begun_routines : (l : Layer) (r : syntax.Routine) → (routine_begun l r).routines ≡ l.routines
 begun_routines l r =
     let x : Layer = (opened l r.name.name).1 in
     let h = heading x r.name.name r.kind in

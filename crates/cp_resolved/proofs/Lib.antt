@@ -35,6 +35,7 @@ pub mod Outer
 pub mod Owning
 pub mod PermanentNames
 pub mod PlainInside
+pub mod ResultKnown
 pub mod Rooms
 pub mod Selecting
 pub mod Settled

@@ -38,6 +38,9 @@ found_cases d ds x m e = go (bytes_eq d.0 x) refl e
     go true w f = inl (w, same_Some d.1 m f)
     go false w f = inr f
 
+same_turned : (x y : List ℕ) → bytes_eq x y ≡ true → bytes_eq y x ≡ true
+same_turned x y h = (bytes_eq-Decides y x).1 (sym ((bytes_eq-Decides x y).0 h))
+
 pub no_name : (x : List ℕ) (m : Meaning) → find x [] ≡ Some m → ⊥
 no_name x m e = absurd (cc)
 
@@ -90,6 +93,37 @@ pub under_routines : (outer : Names) (l : Layer) (rs : List syntax.Routine) → 
 unfolding routines
 under_routines outer l [] u = u
 under_routines outer l (r ∷ rs) u = under_routines outer (routine l r) rs (under_after outer l r u)
+
+-- ---- a routine's own name
+
+abbrev IsNoRoutine : Meaning → Type 0
+IsNoRoutine (meaning.Routine n) = ⊥
+IsNoRoutine m = Unit {0}
+
+-- a name that stands for a routine stands for this one
+abbrev OnlyRoutine : ℕ → List ℕ → Names → Type 0
+OnlyRoutine n x ns = (i : ℕ) → find x ns ≡ Some (meaning.Routine i) → i ≡ n
+
+only_added : (n : ℕ) (x y : List ℕ) (m : Meaning) (ns : Names) → IsNoRoutine m → OnlyRoutine n x ns → OnlyRoutine n x ((y, m) ∷ ns)
+only_added n x y m ns o u i e = go (found_cases (y, m) ns x (meaning.Routine i) e)
+  where
+    go : ((bytes_eq y x ≡ true) × (m ≡ meaning.Routine i)) ⊎ (find x ns ≡ Some (meaning.Routine i)) → i ≡ n
+    go (inl w) = absurd (subst IsNoRoutine w.1 o)
+    go (inr f) = u i f
+
+routine_inside : (n i : ℕ) → meaning.Routine n ≡ meaning.Routine i → i ≡ n
+routine_inside n i e = cc
+
+-- its own name stands in a routine for the routine, if for any
+pub own_number : (l : Layer) (r : syntax.Routine) (x : Name) → same_name x r.name.name ≡ true → OnlyRoutine (length l.routines) x (routine_begun l r).names
+own_number l r x same =
+    let n : ℕ = length l.routines in
+    let y : Layer = (opened l r.name.name).1 in
+    let h = heading y r.name.name r.kind in
+    let t : bytes_eq r.name.name x ≡ true = same_turned x r.name.name same in
+    let first : OnlyRoutine n x y.names = λ i e. routine_inside n i (same_Some (meaning.Routine n) (meaning.Routine i) (sym (ap (λ b. if b then Some (meaning.Routine n) else find x l.names) t) ∙ e)) in
+    let inside : OnlyRoutine n x h.1.names = kept.heading_keep (OnlyRoutine n x) IsNoRoutine (only_added n x) (λ b z. tt) (λ v. tt) (λ o v i. tt) y r.name.name r.kind first in
+    kept.local_parts_keep (OnlyRoutine n x) IsNoRoutine (only_added n x) (λ b z. tt) (λ v. tt) (λ o v i. tt) (with_heading h.1 h.0) r.parts inside
 
 -- ---- what a system type sees of the names around it
 
@@ -149,9 +183,6 @@ parameter_more x (q ∷ qs) rs h = go (same_name x q.name) (parameter_more x qs 
 parameter_last : (x : Name) (qs : List Parameter) (q : Parameter) (rs : List Parameter) → same_name x q.name ≡ true → is_parameter x (qs ++ q ∷ rs) ≡ true
 parameter_last x [] q rs h = left_true (same_name x q.name) (is_parameter x rs) h
 parameter_last x (p ∷ qs) q rs h = either_true (same_name x p.name) (is_parameter x (qs ++ q ∷ rs)) (parameter_last x qs q rs h)
-
-same_turned : (x y : List ℕ) → bytes_eq x y ≡ true → bytes_eq y x ≡ true
-same_turned x y h = (bytes_eq-Decides y x).1 (sym ((bytes_eq-Decides x y).0 h))
 
 -- one more name that is a parameter
 bound_parameter : (qs : List Parameter) (q : Parameter) (m : Meaning) (ns : Names) → BoundIn qs ns → BoundIn (qs ++ q ∷ []) ((q.name, m) ∷ ns)

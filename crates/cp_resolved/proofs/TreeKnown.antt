@@ -60,13 +60,13 @@ permanent_sized x t (d ∷ ds) h e = go (same_name x d.0) (permanent_sized x t d
     go true rest f = subst IsSizedMeaning (same_Some d.1 (scopes.permanent_variable t) f) h.0
     go false rest f = rest f
 
--- no temporary name is declared
-no_temporary : (at : ℕ) (s : Scope) → AreWords s → scopes.find (temporary at) s ≡ None
-no_temporary at [] h = refl
-no_temporary at (d ∷ ds) h = go (same_name (temporary at) d.0) refl (no_temporary at ds h.1)
+-- no name that is no word is declared
+pub undeclared_name : (x : Name) (s : Scope) → (IsWord x → ⊥) → AreWords s → scopes.find x s ≡ None
+undeclared_name x [] bad h = refl
+undeclared_name x (d ∷ ds) bad h = go (same_name x d.0) refl (undeclared_name x ds bad h.1)
   where
-    go : (b : Bool) → same_name (temporary at) d.0 ≡ b → scopes.find (temporary at) ds ≡ None → (if b then Some d.1 else scopes.find (temporary at) ds) ≡ None
-    go true e rest = absurd (subst IsWord (sym ((bytes_eq-Decides (temporary at) d.0).0 e)) h.0)
+    go : (b : Bool) → same_name x d.0 ≡ b → scopes.find x ds ≡ None → (if b then Some d.1 else scopes.find x ds) ≡ None
+    go true e rest = absurd (bad (subst IsWord (sym ((bytes_eq-Decides x d.0).0 e)) h.0))
     go false e rest = rest
 
 module _ (t : syntax.Tree) (place : IsPlaced t) (n : ℕ) (l : Layer) (o : Opening) (at : slice_get (all_begun t) n ≡ Some l) (opening : slice_get (openings_of t.program) n ≡ Some o)
@@ -201,7 +201,7 @@ module _ (t : syntax.Tree) (place : IsPlaced t) (n : ℕ) (l : Layer) (o : Openi
 
   temporary_is : (c : ℕ) → (frame_here h).origins (temporary c) ≡ origin.Local (length l.frame.image + calls_before c calls)
   temporary_is c =
-      let none : scopes.find (temporary c) h.scope ≡ None = no_temporary c (meaning_at t.program n).scope (place.words n) in
+      let none : scopes.find (temporary c) h.scope ≡ None = undeclared_name (temporary c) (meaning_at t.program n).scope (λ i. i) (place.words n) in
       let gone : layers.find (temporary c) l.names ≡ None = undeclared c (layers.find (temporary c) l.names) (scopes.since (temporary c) h.scope) (subst (λ q. FoundIs k l.types (layers.find (temporary c) l.names) q (scopes.since (temporary c) h.scope)) none (found_in k l.types (temporary c) l.names h.scope knows.names)) in
       ap (λ (m : Layer). origin_in (hidden_origin m calls (temporary c)) (layers.find (temporary c) m.names)) begun_is ∙ ap (origin_in (origin.Local (length l.frame.image + calls_before c calls))) gone
 
@@ -210,12 +210,12 @@ module _ (t : syntax.Tree) (place : IsPlaced t) (n : ℕ) (l : Layer) (o : Openi
 
 -- ---- all routines and initial statements
 
-record Opens (k : Numbering) (t : syntax.Tree) (once : IsOnce t.program) (os : List Opening) (n : ℕ) (l : Layer) : Type 0 where
-  opening : Opening
-  there : slice_get os n ≡ Some opening
-  begins : Begins k t.program once (all_parts t) (whole_laid t) l opening
+pub record Opens (k : Numbering) (t : syntax.Tree) (once : IsOnce t.program) (os : List Opening) (n : ℕ) (l : Layer) : Type 0 where
+  pub opening : Opening
+  pub there : slice_get os n ≡ Some opening
+  pub begins : Begins k t.program once (all_parts t) (whole_laid t) l opening
 
-opens_at : (k : Numbering) (t : syntax.Tree) (once : IsOnce t.program) (ls : List Layer) (os : List Opening) (n : ℕ) (l : Layer) → AreBegun k t.program once (all_parts t) (whole_laid t) ls os → slice_get ls n ≡ Some l → Opens k t once os n l
+pub opens_at : (k : Numbering) (t : syntax.Tree) (once : IsOnce t.program) (ls : List Layer) (os : List Opening) (n : ℕ) (l : Layer) → AreBegun k t.program once (all_parts t) (whole_laid t) ls os → slice_get ls n ≡ Some l → Opens k t once os n l
 opens_at k t once [] os n l h e = absurd (none-some l e)
 opens_at k t once (m ∷ ls) [] n l h e = absurd h
 opens_at k t once (m ∷ ls) (o ∷ os) zero l h e = record { opening = o; there = refl; begins = subst (λ j. Begins k t.program once (all_parts t) (whole_laid t) j o) (same_Some m l e) h.0 }
@@ -223,9 +223,14 @@ opens_at k t once (m ∷ ls) (o ∷ os) (suc n) l h e =
     let w = opens_at k t once ls os n l h.1 e in
     record { opening = w.opening; there = w.there; begins = w.begins }
 
-pub layouts_law : LayoutsLaw
-layouts_law t place n l e =
+-- the routine of a number, and what is known where its statements begin
+pub opens_of : (t : syntax.Tree) (place : IsPlaced t) (n : ℕ) (l : Layer) → slice_get (all_begun t) n ≡ Some l → Opens (numbering_of t.program) t place.once (openings_of t.program) n l
+opens_of t place n l e =
     let k : Numbering = numbering_of t.program in
     let all : AreBegun k t.program place.once (all_parts t) (whole_laid t) (all_begun t) (openings_of t.program) = all_begin k t place.once place.plain.small place.plain.fit place.plain.numbered (opened_all t.program) in
-    let w : Opens k t place.once (openings_of t.program) n l = opens_at k t place.once (all_begun t) (openings_of t.program) n l all e in
+    opens_at k t place.once (all_begun t) (openings_of t.program) n l all e
+
+pub layouts_law : LayoutsLaw
+layouts_law t place n l e =
+    let w : Opens (numbering_of t.program) t place.once (openings_of t.program) n l = opens_of t place n l e in
     known_at t place n l w.opening e w.there w.begins

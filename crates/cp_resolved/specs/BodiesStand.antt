@@ -10,7 +10,7 @@ use Rattle.cp_resolved.specs.Begun.{all_begun}
 use Rattle.cp_resolved.specs.Calls.{all_calls_laid}
 use Rattle.cp_resolved.specs.Enumerations.{constants_before}
 use Rattle.cp_resolved.specs.Formed.{CallFormed, KnowsHeadings}
-use Rattle.cp_resolved.specs.FormedStatements.{KnowsResult, KnowsStarts, AllFormed}
+use Rattle.cp_resolved.specs.FormedStatements.{KnowsStarts, AllFormed}
 use Rattle.cp_resolved.specs.Layouts.{Here}
 use Rattle.cp_resolved.specs.LayoutsKnow.{IsPlaced, place_of}
 use Rattle.cp_resolved.specs.Openings.{meaning_at, numbering_of}
@@ -25,11 +25,10 @@ CallsFormed h [] = Unit {0}
 CallsFormed h (function_call at d es ∷ is) = CallFormed h d es × CallsFormed h is
 CallsFormed h (i ∷ is) = ⊥
 
--- What is wanted of routine n, whose statements begin in this state: that the layouts know the headings of the routines and system types that are named in it, and its own result;
+-- What is wanted of routine n, whose statements begin in this state: that the layouts know the headings of the routines and system types that are named in it,
 -- and that its statements have forms.
 pub record BodyFormed (t : Tree) (n : ℕ) (l : Layer) : Type 0 where
   pub headings : KnowsHeadings (numbering_of t.program) (place_of t n) l
-  pub result : KnowsResult (numbering_of t.program) (place_of t n) l
   pub starts : KnowsStarts (numbering_of t.program) (place_of t n) l
   pub formed : AllFormed (place_of t n) (meaning_at t.program n).body
   pub calls : CallsFormed (place_of t n) (all_calls_laid (meaning_at t.program n).scope (meaning_at t.program n).body)
