@@ -11,6 +11,8 @@ pub mod AgreeingWritten
 pub mod Alike
 pub mod Applied
 pub mod Avoiding
+pub mod BegunKnown
+pub mod BodiesStand
 pub mod Calling
 mod CallingProgram
 pub mod Cells
@@ -20,8 +22,10 @@ pub mod Designating
 pub mod DifferentIndexed
 pub mod DifferentTokens
 pub mod EachInStep
+pub mod Ended
 pub mod Entries
 pub mod EnumerationsRead
+pub mod EntriesKnown
 pub mod Expressions
 pub mod Extends
 pub mod FewItems
@@ -34,11 +38,16 @@ pub mod Fitting
 pub mod FormedStatements
 pub mod FormsOfTrees
 pub mod Foreign
+pub mod Going
 pub mod Grown
 pub mod Handed
 pub mod Kept
+pub mod KeptNames
+pub mod Knowing
+pub mod KnowingSystems
 pub mod Listing
 pub mod Loops
+pub mod Moved
 pub mod Named
 pub mod NamesOfTrees
 pub mod Numbered
@@ -53,11 +62,14 @@ pub mod ParametersFit
 pub mod Plain
 pub mod PlainInside
 pub mod Reserving
+pub mod PermanentNames
+pub mod ResultKnown
 pub mod Rooms
 pub mod ScopesOfTrees
 pub mod Selecting
 pub mod Settled
 pub mod ShapesWritten
+pub mod SettledItems
 pub mod Sized
 pub mod Sizes
 pub mod SmallBodies
@@ -71,12 +83,14 @@ pub mod SoundComponents
 pub mod SoundItems
 pub mod SoundParameters
 pub mod SoundTables
+pub mod StatementsStand
 pub mod Steps
 pub mod StepsOfParts
 pub mod StepsOfProgram
 pub mod StepsOfRoutines
 pub mod StepsOfTypes
 pub mod Temporaries
+pub mod TreeKnown
 pub mod Typing
 pub mod TypingArguments
 pub mod TypingExpressions

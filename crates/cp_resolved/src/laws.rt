@@ -3,6 +3,9 @@
 ghost use Rattle.cp_resolved.specs.Formed.{FormsLaw};
 ghost use Rattle.cp_resolved.specs.Judging.{ScopesLaw};
 ghost use Rattle.cp_resolved.specs.Held.{FewItemsLaw, FewReferencesLaw};
+ghost use Rattle.cp_resolved.specs.BodiesStand.{BodiesLaw};
+ghost use Rattle.cp_resolved.specs.ItemsStand.{StatementsLaw};
+ghost use Rattle.cp_resolved.specs.LayoutsKnow.{LayoutsLaw};
 ghost use Rattle.cp_resolved.specs.Names.{NamesLaw};
 ghost use Rattle.cp_resolved.specs.OwnCalls.{OwnCallsLaw};
 ghost use Rattle.cp_resolved.specs.Read.{PlainLaw, ReadNamesLaw};
@@ -51,4 +54,19 @@ pub fn law_few_items()
 /// Its open calls have no more references than the program has tokens.
 pub fn law_few_references()
     ensures { FewReferencesLaw }
+{}
+
+/// The layouts of a tree know the names, the routines and the cells of calls where its statements begin.
+pub fn law_layouts()
+    ensures { LayoutsLaw }
+{}
+
+/// The items that are laid out of statements stand for these statements.
+pub fn law_statements()
+    ensures { StatementsLaw }
+{}
+
+/// The items of each routine and of each initial statement of a tree stand for its statements.
+pub fn law_bodies()
+    ensures { BodiesLaw }
 {}
