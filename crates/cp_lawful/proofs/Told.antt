@@ -419,7 +419,7 @@ all_append : (cs ds : List Scope) → AllTold cs → AllTold ds → AllTold (cs 
 all_append [] ds h g = g
 all_append (c ∷ cs) ds h g = (h.0, all_append cs ds h.1 g)
 
-enter_told : (b : Bool) (s : Scopes) → Told s → Told (enter b s)
+pub enter_told : (b : Bool) (s : Scopes) → Told s → Told (enter b s)
 unfolding enter
 enter_told b s h = (tt, all_append s.outer (sealed b s.inner ∷ []) h.1 (h.0, tt))
 
@@ -515,7 +515,7 @@ system_admitted_loud at o holds.Queues t = tt
 system_admitted_loud at o (holds.Component k) t = component_admitted_loud at o k t
 system_admitted_loud at o (holds.Components k) t = tt
 
-system_parameter_loud : (o : SystemKind) (s : Scopes) (g : Group) → Told s → Loud (systems.parameter_type o s g)
+pub system_parameter_loud : (o : SystemKind) (s : Scopes) (g : Group) → Told s → Loud (systems.parameter_type o s g)
 unfolding systems.parameter_type
 system_parameter_loud o s g h = loud_then (typing.type_named s g.type_name.at g.type_name.name) (systems.admitted_in s g.type_name.at o) (type_named_loud s g.type_name.at g.type_name.name h) (λ t. system_admitted_loud g.type_name.at o (typing.holding s t) t)
 
