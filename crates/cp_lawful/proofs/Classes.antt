@@ -298,7 +298,7 @@ look_new n s m t h e = go (is_some (find n s.inner.names)) refl e
     go true same f = inl f
     go false same f =
         let there : look_in n (let c : Scope = record { names = s.inner.names ++ (n, Some m) ∷ []; pending = s.inner.pending; is_sealed = s.inner.is_sealed } in c) ≡ Some (Some m) =
-                ap (λ b. if b then through_seal (find n (s.inner.names ++ (n, Some m) ∷ [])) else find n (s.inner.names ++ (n, Some m) ∷ [])) h ∙ last_found n s.inner.names (Some m) same in
+        ap (λ b. if b then through_seal (find n (s.inner.names ++ (n, Some m) ∷ [])) else find n (s.inner.names ++ (n, Some m) ∷ [])) h ∙ last_found n s.inner.names (Some m) same in
         let met : Some (Some m) ≡ Some (Some (Kind t)) = sym (ap (λ o. or_else o (look_outer n s.outer)) there) ∙ f in
         inr cc
 
