@@ -15,13 +15,13 @@ all_after : {A : Type 0} (put : A → List Kind → List Kind) → ((x : A) (r :
 all_after put one [] r e = e
 all_after put one (x ∷ xs) r e = all_after put one xs r (one x (put_all put xs r) e)
 
-parameters_after : {A : Type 0} (put : A → List Kind → List Kind) → ((x : A) (r : List Kind) → AreSmall (put x r) → AreSmall r) → (xs : List A) (r : List Kind) → AreSmall (put_parameters put xs r) → AreSmall r
+pub parameters_after : {A : Type 0} (put : A → List Kind → List Kind) → ((x : A) (r : List Kind) → AreSmall (put x r) → AreSmall r) → (xs : List A) (r : List Kind) → AreSmall (put_parameters put xs r) → AreSmall r
 parameters_after put one [] r e = e
 parameters_after put one (x ∷ xs) r e =
     let last : List Kind = kind.Mark mark.CloseParenthesis ∷ r in
     (all_after (put_behind mark.Semicolon put) (λ y q f. one y q f.1) xs last (one x (put_all (put_behind mark.Semicolon put) xs last) e.1)).1
 
-each_small : {A : Type 0} (put : A → List Kind → List Kind) (P : A → Type 0) → ((x : A) (r : List Kind) → AreSmall (put x r) → P x × AreSmall r) → (xs : List A) (r : List Kind) → AreSmall (put_all put xs r) → Each P xs × AreSmall r
+pub each_small : {A : Type 0} (put : A → List Kind → List Kind) (P : A → Type 0) → ((x : A) (r : List Kind) → AreSmall (put x r) → P x × AreSmall r) → (xs : List A) (r : List Kind) → AreSmall (put_all put xs r) → Each P xs × AreSmall r
 each_small put P one [] r e = (tt, e)
 each_small put P one (x ∷ xs) r e =
     let p : P x × AreSmall (put_all put xs r) = one x (put_all put xs r) e in
@@ -30,17 +30,17 @@ each_small put P one (x ∷ xs) r e =
 
 -- ---- headings and bodies
 
-group_after : (g : Group) (r : List Kind) → AreSmall (put_group g r) → AreSmall r
+pub group_after : (g : Group) (r : List Kind) → AreSmall (put_group g r) → AreSmall r
 group_after g r e = (names_small g.names (kind.Mark mark.Colon ∷ put_identifier g.type_name r) e).1.1
 
 parameter_group_after : (g : ParameterGroup) (r : List Kind) → AreSmall (put_parameter_group g r) → AreSmall r
 parameter_group_after g r e = group_after g.group r (optional_small mark.Var g.is_var (put_group g.group r) e)
 
-kind_after : (k : RoutineKind) (r : List Kind) → AreSmall (put_routine_kind k r) → AreSmall r
+pub kind_after : (k : RoutineKind) (r : List Kind) → AreSmall (put_routine_kind k r) → AreSmall r
 kind_after (procedure gs) r e = parameters_after put_parameter_group parameter_group_after gs r e
 kind_after (function gs i) r e = (parameters_after put_group group_after gs (kind.Mark mark.Colon ∷ put_identifier i r) e).1.1
 
-body_after : (b : Body) (r : List Kind) → AreSmall (put_body b r) → AreSmall r
+pub body_after : (b : Body) (r : List Kind) → AreSmall (put_body b r) → AreSmall r
 body_after b r e = (statements_after b.statements (kind.Mark mark.End ∷ r) e.1).1
 
 -- ---- routines, system types and programs

@@ -47,12 +47,15 @@ tokens_small line [] (t ∷ ts) x = elim x [ ]
 tokens_small line (p ∷ ps) ts (blank none h) = tokens_small (line + line_feeds p.text) ps ts h
 tokens_small line (p ∷ ps) (t ∷ ts) (lexeme is on_line h) = (lexeme_small p.shape p.text t.kind is, tokens_small (line + line_feeds p.text) ps ts h)
 
-kinds_length : (ts : List Token) → length (kinds ts) ≡ length ts
+pub kinds_length : (ts : List Token) → length (kinds ts) ≡ length ts
 kinds_length [] = refl
 kinds_length (t ∷ ts) = ap suc (kinds_length ts)
 
+pub read_tokens_small : (p : Program) → IsRead p → AreSmall (spell p)
+read_tokens_small p h = subst AreSmall h.spelled (tokens_small 1 h.scanned.parts h.tokens h.scanned.reads.tokens)
+
 pub read_small : (p : Program) → IsRead p → IsSmallProgram p
-read_small p h = program_small p (subst AreSmall h.spelled (tokens_small 1 h.scanned.parts h.tokens h.scanned.reads.tokens))
+read_small p h = program_small p (read_tokens_small p h)
 
 pub read_few : (p : Program) → IsRead p → length (spell p) ≤ 20000
 read_few p h =

@@ -4,8 +4,10 @@ pub mod Compiled
 pub mod Encoded
 pub mod Enumerations
 pub mod Fit
+pub mod Formed
 pub mod Held
 pub mod InStep
+pub mod Judging
 pub mod Knows
 pub mod Layouts
 pub mod Names
@@ -14,8 +16,11 @@ pub mod OwnCalls
 pub mod Read
 pub mod Resolved
 pub mod Small
+pub mod SmallStatements
 pub mod Soundness
+pub mod Standing
 pub mod Stands
+pub mod Tokens
 pub mod Typed
 pub mod Used
 pub mod Valued

@@ -1,6 +1,8 @@
 //! Laws over the definitions alone.
 
+ghost use Rattle.cp_resolved.specs.Formed.{FormsLaw};
 ghost use Rattle.cp_resolved.specs.Held.{FewItemsLaw, FewReferencesLaw};
+ghost use Rattle.cp_resolved.specs.Judging.{ScopesLaw};
 ghost use Rattle.cp_resolved.specs.Names.{NamesLaw};
 ghost use Rattle.cp_resolved.specs.OwnCalls.{OwnCallsLaw};
 ghost use Rattle.cp_resolved.specs.Read.{PlainLaw, ReadNamesLaw};
@@ -39,4 +41,14 @@ pub fn law_few_items()
 /// Its open calls have no more references than the program has tokens.
 pub fn law_few_references()
     ensures { FewReferencesLaw }
+{}
+
+/// Where statements of a program that breaks no rule stand, the checker's names stand for what the names of the program stand for.
+pub fn law_scopes()
+    ensures { ScopesLaw }
+{}
+
+/// So the tests, bounds and values of its statements have forms of the right kind on slots, by any layouts.
+pub fn law_forms()
+    ensures { FormsLaw }
 {}
