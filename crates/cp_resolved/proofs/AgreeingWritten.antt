@@ -38,7 +38,7 @@ use Rattle.cp_resolved.specs.Enumerations.{in_simple, in_type, in_groups}
 use Rattle.cp_resolved.specs.Small.{Each, IsSmallSimple, IsSmallType, AreSmallGroups}
 use Rattle.cp_resolved.specs.Standing.{is_bounded, is_free, are_free, is_element}
 use Rattle.cp_resolved.specs.Tokens.{type_tokens, groups_tokens}
-use Rattle.cp_resolved.specs.Typed.{Written, BaseIs, RangeIs, TypeIs, FieldsAre}
+use Rattle.cp_resolved.specs.Typed.{BaseIs, RangeIs, TypeIs, FieldsAre}
 use Rattle.cp_resolved.proofs.Agreeing.{Good, good_then, Sound, good_sound, none_left, none_right, none_first, none_of_both, new_names, find_last, is_itself, More, more_same, more_trans, with_more, with_there}
 use Rattle.cp_resolved.proofs.AgreeingNames.{W, Agree, sees, agree_added, agree_kept, type_more, fields_more}
 use Rattle.cp_resolved.proofs.AgreeingTypes.{StandsAt, stands_free, spotted_stands, held_array, IsOrdinal, ordinal_of, IsFew, TypedAs, type_spotted, subrange_typed}

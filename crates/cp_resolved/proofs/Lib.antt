@@ -1,10 +1,10 @@
 pub mod Agreeing
-pub mod AgreeingNames
 pub mod AgreeingBodies
 pub mod AgreeingConstants
+pub mod AgreeingNames
 pub mod AgreeingParts
-pub mod AgreeingRoutines
 pub mod AgreeingProgram
+pub mod AgreeingRoutines
 pub mod AgreeingSystems
 pub mod AgreeingTypes
 pub mod AgreeingWritten
