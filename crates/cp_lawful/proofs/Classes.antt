@@ -238,7 +238,7 @@ pub look_entered : (n : List ℕ) (s : Scopes) (t : ValueType) → find n s.inne
 unfolding enter
 look_entered n s t e = outer_last n s.outer (sealed true s.inner) (Some (Kind t)) (kind_through (find n s.inner.names) t e)
 
-same_kind : (o : Option (Option Meaning)) (t u : ValueType) → o ≡ Some (Some (Kind t)) → o ≡ Some (Some (Kind u)) → t ≡ u
+pub same_kind : (o : Option (Option Meaning)) (t u : ValueType) → o ≡ Some (Some (Kind t)) → o ≡ Some (Some (Kind u)) → t ≡ u
 same_kind o t u h g = let e : Some (Some (Kind t)) ≡ Some (Some (Kind u)) = sym h ∙ g in cc
 
 knows_entered : (ss : List SystemMeaning) (s : Scopes) (m : meant.Scope) → Told s → AllTell ss s m → Knows ss (seen_inside m) (enter true s)
@@ -290,7 +290,7 @@ unfolding add
 look_added x n s m h = ap (λ o. or_else o (look_outer x s.outer)) (look_named x n s.inner m h)
 
 -- a name that is added stands for what it is added for, unless it stood there before
-look_new : (n : List ℕ) (s : Scopes) (m : Meaning) (t : ValueType) → s.inner.is_sealed ≡ false → look n (add s n (Some m)) ≡ Some (Some (Kind t)) → (look n s ≡ Some (Some (Kind t))) ⊎ (m ≡ Kind t)
+pub look_new : (n : List ℕ) (s : Scopes) (m : Meaning) (t : ValueType) → s.inner.is_sealed ≡ false → look n (add s n (Some m)) ≡ Some (Some (Kind t)) → (look n s ≡ Some (Some (Kind t))) ⊎ (m ≡ Kind t)
 unfolding add
 look_new n s m t h e = go (is_some (find n s.inner.names)) refl e
   where
@@ -302,7 +302,7 @@ look_new n s m t h e = go (is_some (find n s.inner.names)) refl e
         let met : Some (Some m) ≡ Some (Some (Kind t)) = sym (ap (λ o. or_else o (look_outer n s.outer)) there) ∙ f in
         inr cc
 
-added_open : (s : Scopes) (n : List ℕ) (m : Option Meaning) → s.inner.is_sealed ≡ false → (add s n m).inner.is_sealed ≡ false
+pub added_open : (s : Scopes) (n : List ℕ) (m : Option Meaning) → s.inner.is_sealed ≡ false → (add s n m).inner.is_sealed ≡ false
 unfolding add
 added_open s n m h = go (is_some (find n s.inner.names))
   where
@@ -332,12 +332,12 @@ unfolding add_all settle
 knows_all_added ss ns t u m s h = let k = knows_added ss ns t u m s h in record { told = k.told; is_open = k.is_open; known = k.known }
 
 -- what breaks no rule as a type is one
-parameter_is : (j : Judged ValueType) → Loud j → faults j ≡ [] → (u : ValueType) × (as_declared (j >>= systems.to_parameter) ≡ Some (stands.Parameter u))
+pub parameter_is : (j : Judged ValueType) → Loud j → faults j ≡ [] → (u : ValueType) × (as_declared (j >>= systems.to_parameter) ≡ Some (stands.Parameter u))
 parameter_is (Ok u) loud e = (u, refl)
 parameter_is (Err []) loud e = absurd loud
 parameter_is (Err (f ∷ fs)) loud e = absurd (let bad : f ∷ fs ≡ [] = e in cc)
 
-type_there : (o : Option (Option Meaning)) (at : ℕ) (f : ValueType → Judged ValueType) → Loud (names.found at o) → faults (names.found at o >>= typing.to_type at >>= f) ≡ [] → (t : ValueType) × (o ≡ Some (Some (Kind t)))
+pub type_there : (o : Option (Option Meaning)) (at : ℕ) (f : ValueType → Judged ValueType) → Loud (names.found at o) → faults (names.found at o >>= typing.to_type at >>= f) ≡ [] → (t : ValueType) × (o ≡ Some (Some (Kind t)))
 type_there None at f loud e = absurd (let bad : check_fault.Rule at C1 ∷ [] ≡ [] = e in cc)
 type_there (Some None) at f loud e = absurd loud
 type_there (Some (Some (Kind t))) at f loud e = (t, refl)
@@ -392,7 +392,7 @@ open_reserved s n = go (is_declared s n.name)
     go true = refl
     go false = pending (is_among n.name s.inner.pending)
 
-open_all_reserved : (s : Scopes) (ns : List Identifier) → (reserve_names s ns).scopes.inner.is_sealed ≡ s.inner.is_sealed
+pub open_all_reserved : (s : Scopes) (ns : List Identifier) → (reserve_names s ns).scopes.inner.is_sealed ≡ s.inner.is_sealed
 unfolding reserve_names
 open_all_reserved s [] = refl
 open_all_reserved s (n ∷ ns) = open_all_reserved (reserve_name s n).scopes ns ∙ open_reserved s n
