@@ -23,7 +23,7 @@ use Rattle.cp_check.specs.Names as names
 use Rattle.cp_check.specs.Constants.{constant}
 use Rattle.cp_check.specs.Types as typing
 use Rattle.cp_check.specs.Types.{Step, nothing, Typed, typed}
-use Rattle.cp_meaning.specs.Names.{Name}
+use Rattle.cp_meaning.specs.Names.{Name, same_name}
 use Rattle.cp_meaning.specs.Types as named
 use Rattle.cp_meaning.specs.Types.{Ty, is_within, range_of}
 use Rattle.cp_meaning.specs.Scopes as scopes
@@ -175,24 +175,50 @@ pub record IsFew (constants_at : ℕ → List Name) (e : Enumerated) : Type 0 wh
   pub few : length e.names ≤ 32768
   pub listed : meant.names_of e.names ≡ constants_at e.at
 
+abbrev is_type : Option scopes.Meaning → Bool
+is_type (Some (scopes.type_meaning t)) = true
+is_type o = false
+
+abbrev type_of : Option scopes.Meaning → Ty
+type_of (Some (scopes.type_meaning t)) = t
+type_of o = named.ordinal named.all_integers
+
+skipped : (b : Bool) (d o : Option scopes.Meaning) (t : Ty) → is_type d ≡ false → (if b then d else o) ≡ Some (scopes.type_meaning t) → o ≡ Some (scopes.type_meaning t)
+skipped true d o t n f = absurd (let bad : false ≡ true = sym n ∙ ap is_type f in cc)
+skipped false d o t n f = f
+
+-- a name that stands for a type is the latest type of that name
+latest_is : (x : Name) (m : scopes.Scope) (t : Ty) → find x m ≡ Some (scopes.type_meaning t) → meant.type_named m x ≡ t
+latest_is x [] t e = absurd (let bad : false ≡ true = ap is_type e in cc)
+latest_is x ((n, scopes.type_meaning u) ∷ ds) t e = go (same_name x n) e (latest_is x ds t)
+  where
+    go : (b : Bool) → (if b then Some (scopes.type_meaning u) else find x ds) ≡ Some (scopes.type_meaning t) → (find x ds ≡ Some (scopes.type_meaning t) → meant.type_named ds x ≡ t) → (if b then u else meant.type_named ds x) ≡ t
+    go true f rest = ap type_of f
+    go false f rest = rest f
+latest_is x ((n, scopes.constant_meaning b z) ∷ ds) t e = latest_is x ds t (skipped (same_name x n) (Some (scopes.constant_meaning b z)) (find x ds) t refl e)
+latest_is x ((n, scopes.local_variable u) ∷ ds) t e = latest_is x ds t (skipped (same_name x n) (Some (scopes.local_variable u)) (find x ds) t refl e)
+latest_is x ((n, scopes.permanent_variable u) ∷ ds) t e = latest_is x ds t (skipped (same_name x n) (Some (scopes.permanent_variable u)) (find x ds) t refl e)
+latest_is x ((n, scopes.routine_meaning r) ∷ ds) t e = latest_is x ds t (skipped (same_name x n) (Some (scopes.routine_meaning r)) (find x ds) t refl e)
+latest_is x ((n, scopes.standard_meaning q) ∷ ds) t e = latest_is x ds t (skipped (same_name x n) (Some (scopes.standard_meaning q)) (find x ds) t refl e)
+
 module _ (systems : ℕ → ℕ) (constants_at : ℕ → List Name) where
   pub record KindOf (ss : Shapes) (t : Ty) (v : ValueType) : Type 0 where
     pub belongs : TypeIs (W systems constants_at ss) t v
     pub standing : is_standing t ≡ true
 
-  kind_meant : (ss : Shapes) (v : ValueType) (o : Option scopes.Meaning) → KindIs (W systems constants_at ss) v o → IsFit o → KindOf ss (meant.type_meant o) v
-  kind_meant ss v (Some (scopes.type_meaning t)) h f = record { belongs = h; standing = f }
-  kind_meant ss v (Some (scopes.constant_meaning b z)) h f = absurd h
-  kind_meant ss v (Some (scopes.local_variable t)) h f = absurd h
-  kind_meant ss v (Some (scopes.permanent_variable t)) h f = absurd h
-  kind_meant ss v (Some (scopes.routine_meaning r)) h f = absurd h
-  kind_meant ss v (Some (scopes.standard_meaning q)) h f = absurd h
-  kind_meant ss v None h f = absurd h
+  kind_meant : (ss : Shapes) (v : ValueType) (x : Name) (m : scopes.Scope) (o : Option scopes.Meaning) → find x m ≡ o → KindIs (W systems constants_at ss) v o → IsFit o → KindOf ss (meant.type_named m x) v
+  kind_meant ss v x m (Some (scopes.type_meaning t)) e h f = subst (λ (q : Ty). KindOf ss q v) (sym (latest_is x m t e)) (record { belongs = h; standing = f })
+  kind_meant ss v x m (Some (scopes.constant_meaning b z)) e h f = absurd h
+  kind_meant ss v x m (Some (scopes.local_variable t)) e h f = absurd h
+  kind_meant ss v x m (Some (scopes.permanent_variable t)) e h f = absurd h
+  kind_meant ss v x m (Some (scopes.routine_meaning r)) e h f = absurd h
+  kind_meant ss v x m (Some (scopes.standard_meaning q)) e h f = absurd h
+  kind_meant ss v x m None e h f = absurd h
 
   found_kind : (at : ℕ) (s : Scopes) (m : scopes.Scope) (x : Name) (o : Option (Option Meaning)) → IsKnown systems constants_at s m x o → Good (KindOf s.shapes (meant.type_named m x)) (names.found at o >>= typing.to_type at)
   found_kind at s m x None h = tt
   found_kind at s m x (Some None) h = absurd h
-  found_kind at s m x (Some (Some (meaning.Kind v))) h = kind_meant s.shapes v (find x m) h.means h.fit
+  found_kind at s m x (Some (Some (meaning.Kind v))) h = kind_meant s.shapes v x m (find x m) refl h.means h.fit
   found_kind at s m x (Some (Some (meaning.Constant b v))) h = tt
   found_kind at s m x (Some (Some (meaning.Variable v))) h = tt
   found_kind at s m x (Some (Some (meaning.Parameter v))) h = tt

@@ -131,7 +131,7 @@ module _ (k : Numbering) (h : Here) (l : Layer) (g : Knows k h l) where
       let there : array_of l.types w ≡ Some (kinds.array_type l.types (range_on k r) v.element) = ap (array_of l.types) v.is ∙ ap as_array v.there in
       ap (λ a. component_found l first a c) there
       ∙ ap (λ u. component_of_array l first (kinds.array_type l.types (range_on k r) v.element) u c) v.belongs
-      ∙ ap (λ q. values.a_component (code.element first r.low r.high q c) n) (g.count n)
+      ∙ ap (λ q. values.a_component (code.element first r.low r.high q c) n) (g.count v.number n (kinds.array_type l.types (range_on k r) v.element) v.there v.belongs)
 
   pub element_same : (d q : Designated) (x : values.Designated) (c : code.Expression) → DesignatedIs k l.types d x → with_element_form h d c ≡ Some q → DesignatedIs k l.types q (element_selected l x c)
   element_same (a_variable p t) q x c v e = subst (λ y. DesignatedIs k l.types q (element_selected l y c)) (sym v.is) (element_selected_same k l.types p t v.value_type c q v.belongs v.ends v.full e)

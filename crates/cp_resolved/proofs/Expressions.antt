@@ -57,17 +57,17 @@ cells l = length l.frame.image
 abbrev pub TakesFrom : ℕ → Layer → List Item → Type 0
 TakesFrom n m is = cells m ≡ n + length is
 
-takes_none : (l : Layer) → TakesFrom (cells l) l []
+pub takes_none : (l : Layer) → TakesFrom (cells l) l []
 takes_none l = omega arith
 
-takes_both : (n : ℕ) (l m : Layer) (is js : List Item) → TakesFrom n l is → TakesFrom (cells l) m js → TakesFrom n m (is ++ js)
+pub takes_both : (n : ℕ) (l m : Layer) (is js : List Item) → TakesFrom n l is → TakesFrom (cells l) m js → TakesFrom n m (is ++ js)
 takes_both n l m [] js h i = i ∙ ap (λ c. c + length js) h ∙ omega arith
 takes_both n l m (x ∷ is) js h i =
     let e : length l.frame.image ≡ suc n + length is = h ∙ omega arith in
     takes_both (suc n) l m is js e i ∙ omega arith
 
 module _ (h : Here) where
-  next_first : (n : ℕ) (is js : List Item) → AreNext h n (is ++ js) → AreNext h n is
+  pub next_first : (n : ℕ) (is js : List Item) → AreNext h n (is ++ js) → AreNext h n is
   next_first n [] js a = tt
   next_first n (function_call at d es ∷ is) js a = (a.0, next_first (suc n) is js a.1)
   next_first n (statement_item t ∷ is) js a = absurd a
@@ -89,23 +89,23 @@ module _ (h : Here) where
   next_after n (init_end k ∷ is) js a = absurd a
   next_after n (end ∷ is) js a = absurd a
 
-  next_rest : (n : ℕ) (l : Layer) (is js : List Item) → TakesFrom n l is → AreNext h n (is ++ js) → AreNext h (cells l) js
+  pub next_rest : (n : ℕ) (l : Layer) (is js : List Item) → TakesFrom n l is → AreNext h n (is ++ js) → AreNext h (cells l) js
   next_rest n l is js e a = subst (λ m. AreNext h m js) (sym e) (next_after n is js a)
 
 -- ---- components and their entries
 
-abbrev Parts : ℕ → Designated → Type 0
+abbrev pub Parts : ℕ → Designated → Type 0
 Parts n (a_variable p t) = ⊥
 Parts n (some_components first r k) = k ≡ n
 Parts n (a_component c k) = k ≡ n
 
 -- a component's routine is not named in the middle
-abbrev NoEntry : Designated → syntax.Selectors → Type 0
+abbrev pub NoEntry : Designated → syntax.Selectors → Type 0
 NoEntry (a_variable p t) ss = Unit {0}
 NoEntry (some_components first r k) ss = last_field ss ≡ None
 NoEntry (a_component c k) ss = last_field ss ≡ None
 
-no_entry : (d : Designated) (ss : syntax.Selectors) → last_field ss ≡ None → NoEntry d ss
+pub no_entry : (d : Designated) (ss : syntax.Selectors) → last_field ss ≡ None → NoEntry d ss
 no_entry (a_variable p t) ss e = tt
 no_entry (some_components first r k) ss e = e
 no_entry (a_component c k) ss e = e
@@ -135,16 +135,16 @@ last_same e (syntax.more_selectors s ss) h = refl
 module _ (k : Numbering) (h : Here) (b : Layer) (g : Knows k h b) (calls : KnowsCalls k h b) where
   -- ---- what stays as it was where the statement begins
 
-  same_begun : (l : Layer) (x : Name) → Kept b l → begun l x ≡ begun b x
+  pub same_begun : (l : Layer) (x : Name) → Kept b l → begun l x ≡ begun b x
   same_begun l x e = ap (λ m. begun m x) e
 
-  same_element : (l : Layer) (d : values.Designated) (c : code.Expression) → Kept b l → element_selected l d c ≡ element_selected b d c
+  pub same_element : (l : Layer) (d : values.Designated) (c : code.Expression) → Kept b l → element_selected l d c ≡ element_selected b d c
   same_element l d c e = ap (λ m. element_selected m d c) e
 
   same_field : (l : Layer) (d : values.Designated) (x : Name) → Kept b l → field_selected l d x ≡ field_selected b d x
   same_field l d x e = ap (λ m. field_selected m d x) e
 
-  same_result : (l : Layer) (n : ℕ) → Kept b l → result_of l n ≡ result_of b n
+  pub same_result : (l : Layer) (n : ℕ) → Kept b l → result_of l n ≡ result_of b n
   same_result l n e = ap (λ m. result_of m n) e
 
   -- ---- what is answered
@@ -161,14 +161,15 @@ module _ (k : Numbering) (h : Here) (b : Layer) (g : Knows k h b) (calls : Knows
     pub set : x.0 ≡ s
     pub taken : TakesFrom n x.1 is
 
-  abbrev entry_named : ℕ → Option Name → Option ℕ
+  abbrev pub entry_named : ℕ → Option Name → Option ℕ
   entry_named n None = None
   entry_named n (Some x) = entry_of b n x
 
-  record Entered (c : ℕ) (o : Option Name) (n : ℕ) (x : values.Designated × Layer) (is : List Item) : Type 0 where
-    part : code.ComponentPlace
-    leads : x.0 ≡ entry_found part (entry_named c o)
-    taken : TakesFrom n x.1 is
+  pub record Entered (q : Designated) (c : ℕ) (o : Option Name) (n : ℕ) (x : values.Designated × Layer) (is : List Item) : Type 0 where
+    pub part : code.ComponentPlace
+    pub is_part : q ≡ a_component part c
+    pub leads : x.0 ≡ entry_found part (entry_named c o)
+    pub taken : TakesFrom n x.1 is
 
   -- ---- constants
 
@@ -182,7 +183,7 @@ module _ (k : Numbering) (h : Here) (b : Layer) (g : Knows k h b) (calls : Knows
   number_is : (n : ℕ) (f : Formed) → constant_form named.integers (pos n) ≡ Some f → ValueIs k b.types f (number_value (as_integer n) base.Integer)
   number_is n f e = constant_is named.integers (pos n) f (number_value (as_integer n) base.Integer) (ap (λ z. number_value z base.Integer) (number_kept n (nat_le n 32767) refl f (record { ty = named.ordinal (range_of_base named.integers); form = as_ordinal (code.number (pos n)) }) e)) e
 
-  constant_found : (x : Name) (p : Option Meaning) (a : Base) (z : ℤ) (s : scopes.Scope) → layers.find x b.names ≡ p → FoundIs k b.types p (Some (scopes.constant_meaning a z)) s → begun b x ≡ values.a_value (number_value z (base_of k a))
+  pub constant_found : (x : Name) (p : Option Meaning) (a : Base) (z : ℤ) (s : scopes.Scope) → layers.find x b.names ≡ p → FoundIs k b.types p (Some (scopes.constant_meaning a z)) s → begun b x ≡ values.a_value (number_value z (base_of k a))
   constant_found x None a z s i f = absurd f
   constant_found x (Some m) a z s i f = ap begun_as i ∙ ap (λ n. begun_as (Some n)) f.0
 
@@ -218,7 +219,7 @@ module _ (k : Numbering) (h : Here) (b : Layer) (g : Knows k h b) (calls : Knows
         taken = takes_both n l x is (function_call at d es ∷ []) i taken;
       }
 
-  result_given : (r : RoutineMeaning) (o : Option Ty) (w : Option FunctionResult) → r.result ≡ o → HasResult o → ResultsAre k b.types o w → ResultsAre k b.types (Some (result_type r.result)) w
+  pub result_given : (r : RoutineMeaning) (o : Option Ty) (w : Option FunctionResult) → r.result ≡ o → HasResult o → ResultsAre k b.types o w → ResultsAre k b.types (Some (result_type r.result)) w
   result_given r None w e i v = absurd i
   result_given r (Some t) w e i v = subst (λ u. ResultsAre k b.types (Some (result_type u)) w) (sym e) v
 
@@ -231,13 +232,13 @@ module _ (k : Numbering) (h : Here) (b : Layer) (g : Knows k h b) (calls : Knows
 
   -- ---- selectors
 
-  ordinal_is : (t : Ty) (f : Form) (v : Value) (c : code.Expression) → FormIs k b.types t f v → ordinal_form f ≡ Some c → ordinal_of v ≡ c
+  pub ordinal_is : (t : Ty) (f : Form) (v : Value) (c : code.Expression) → FormIs k b.types t f v → ordinal_form f ≡ Some c → ordinal_of v ≡ c
   ordinal_is t (as_ordinal e) v c i f = ap ordinal_of i.2 ∙ same_inside e c f
   ordinal_is t (as_set e) v c i f = absurd (cc)
   ordinal_is t (as_place e) v c i f = absurd (cc)
   ordinal_is t (as_component e) v c i f = absurd (cc)
 
-  index_is : (d q : Designated) (x : values.Designated) (a : Formed) (v : Value) → DesignatedIs k b.types d x → ValueIs k b.types a v → with_index_form h d a ≡ Some q → DesignatedIs k b.types q (element_selected b x (ordinal_of v))
+  pub index_is : (d q : Designated) (x : values.Designated) (a : Formed) (v : Value) → DesignatedIs k b.types d x → ValueIs k b.types a v → with_index_form h d a ≡ Some q → DesignatedIs k b.types q (element_selected b x (ordinal_of v))
   index_is d q x a v i j f =
       let p : (c : code.Expression) × (ordinal_form a.form ≡ Some c) × (with_element_form h d c ≡ Some q) = inside (ordinal_form a.form) (with_element_form h d) q f in
       subst (λ o. DesignatedIs k b.types q (element_selected b x o)) (sym (ordinal_is a.ty a.form v p.0 j p.1)) (element_same k h b g d q x p.0 i p.2)
@@ -250,7 +251,7 @@ module _ (k : Numbering) (h : Here) (b : Layer) (g : Knows k h b) (calls : Knows
   element_stays (named.record_with us) w c q ss e = absurd (cc)
   element_stays (named.component_of n) w c q ss e = absurd (cc)
 
-  goes_on : (d : Designated) (a : Formed) (q : Designated) (o : syntax.Expression) (ss : syntax.Selectors) → NoEntry d (syntax.more_selectors (syntax.index o) ss) → with_index_form h d a ≡ Some q → NoEntry q ss
+  pub goes_on : (d : Designated) (a : Formed) (q : Designated) (o : syntax.Expression) (ss : syntax.Selectors) → NoEntry d (syntax.more_selectors (syntax.index o) ss) → with_index_form h d a ≡ Some q → NoEntry q ss
   goes_on (a_variable w t) a q o ss e f =
       let p : (c : code.Expression) × (ordinal_form a.form ≡ Some c) × (with_element_form h (a_variable w t) c ≡ Some q) = inside (ordinal_form a.form) (with_element_form h (a_variable w t)) q f in
       element_stays t w p.0 q ss p.2
@@ -262,7 +263,7 @@ module _ (k : Numbering) (h : Here) (b : Layer) (g : Knows k h b) (calls : Knows
       let p : (c : Chosen) × (field_chosen us y ≡ Some c) × (Some (part_of_form (code.place o n is) c) ≡ Some q) = inside (field_chosen us y) _ q e in
       subst (λ v. NoEntry v ss) (same_inside _ q p.2) tt
 
-  stays : (w : code.Place) (t : Ty) (y : Name) (q : Designated) (ss : syntax.Selectors) → with_field_form (a_variable w t) y ≡ Some q → NoEntry q ss
+  pub stays : (w : code.Place) (t : Ty) (y : Name) (q : Designated) (ss : syntax.Selectors) → with_field_form (a_variable w t) y ≡ Some q → NoEntry q ss
   stays w (named.record_with us) y q ss e = field_stays w us y q ss e
   stays w (named.ordinal r) y q ss e = absurd (cc)
   stays w named.queue_type y q ss e = absurd (cc)
@@ -289,7 +290,7 @@ module _ (k : Numbering) (h : Here) (b : Layer) (g : Knows k h b) (calls : Knows
       let t : (v : code.Expression) × (ordinal_form r.0.form ≡ Some v) × (with_element_form h d v ≡ Some p.0) = inside (ordinal_form r.0.form) (with_element_form h d) p.0 r.2 in
       let w : with_element_form h d t.0 ≡ Some p.0 = t.2 in cc
 
-  parts_begun : (x : Name) (t : Ty) → has_components t ≡ true → Parts (system_type t) (permanent_begun h x t)
+  pub parts_begun : (x : Name) (t : Ty) → has_components t ≡ true → Parts (system_type t) (permanent_begun h x t)
   parts_begun x (named.component_of n) e = go (is_parameter x (system_of h.program h.system).parameters)
     where
       go : (c : Bool) → Parts n (component_begun h x n c)
@@ -307,7 +308,7 @@ module _ (k : Numbering) (h : Here) (b : Layer) (g : Knows k h b) (calls : Knows
   parts_begun x (named.record_with us) e = absurd (cc)
 
   -- a variable of components is named without an entry, or has no components
-  no_entry_of : (x : Name) (t : Ty) (ss : syntax.Selectors) (o : Option Name) → last_field ss ≡ o → is_call_meant (Some (scopes.permanent_variable t)) o ≡ false → NoEntry (permanent_begun h x t) ss
+  pub no_entry_of : (x : Name) (t : Ty) (ss : syntax.Selectors) (o : Option Name) → last_field ss ≡ o → is_call_meant (Some (scopes.permanent_variable t)) o ≡ false → NoEntry (permanent_begun h x t) ss
   no_entry_of x t ss None e f = no_entry (permanent_begun h x t) ss e
   no_entry_of x t ss (Some y) e f = subst (λ d. NoEntry d ss) (sym (without_components k h b g x t f)) tt
 
@@ -319,17 +320,17 @@ module _ (k : Numbering) (h : Here) (b : Layer) (g : Knows k h b) (calls : Knows
       subst (λ y. Is z n (named_as m at y first as') is) (sym i) (record { value = subst (λ y. ValueIs k b.types y (values.component_value c)) (same_inside _ z f) refl; taken = j })
   valued_is n m at (some_components c r o) x first as' is z i j f = absurd (cc)
 
-  standard_found : (x : Name) (p : Option Meaning) (q : scopes.Standard) (s : scopes.Scope) → layers.find x b.names ≡ p → FoundIs k b.types p (Some (scopes.standard_meaning q)) s → begun b x ≡ values.a_standard (predeclared_as q)
+  pub standard_found : (x : Name) (p : Option Meaning) (q : scopes.Standard) (s : scopes.Scope) → layers.find x b.names ≡ p → FoundIs k b.types p (Some (scopes.standard_meaning q)) s → begun b x ≡ values.a_standard (predeclared_as q)
   standard_found x None q s i f = absurd f
   standard_found x (Some m) q s i f = ap begun_as i ∙ ap (λ n. begun_as (Some n)) f
 
   -- the routine of a component
-  record Reached (t : Ty) (o : Option Name) (q : Option RoutineMeaning) : Type 0 where
-    routine : RoutineMeaning
-    called : q ≡ Some routine
-    number : ℕ
-    there : entry_named (system_type t) o ≡ Some number
-    results : ResultsAre k b.types (Some (result_type routine.result)) (result_of b number)
+  pub record Reached (t : Ty) (o : Option Name) (q : Option RoutineMeaning) : Type 0 where
+    pub routine : RoutineMeaning
+    pub called : q ≡ Some routine
+    pub number : ℕ
+    pub there : entry_named (system_type t) o ≡ Some number
+    pub results : ResultsAre k b.types (Some (result_type routine.result)) (result_of b number)
 
   reached : (x : Name) (t : Ty) (y : Name) (q : Option RoutineMeaning) → scopes.find x h.scope ≡ Some (scopes.permanent_variable t) → routine_of_type h.program t y ≡ q → IsFunction q → Reached t (Some y) q
   reached x t y None e f i = absurd i
@@ -337,16 +338,16 @@ module _ (k : Numbering) (h : Here) (b : Layer) (g : Knows k h b) (calls : Knows
       let d : EntryIs k b (system_type t) y r = calls.entry x y t r e f in
       record { routine = r; called = refl; number = d.number; there = d.there; results = result_given r r.result (result_of b d.number) refl i d.result }
 
-  reached_by : (x : Name) (t : Ty) (o : Option Name) → is_call_meant (Some (scopes.permanent_variable t)) o ≡ true → scopes.find x h.scope ≡ Some (scopes.permanent_variable t) → IsFunction (routine_meant h.program h.scope x (Some (scopes.permanent_variable t)) o) →
+  pub reached_by : (x : Name) (t : Ty) (o : Option Name) → is_call_meant (Some (scopes.permanent_variable t)) o ≡ true → scopes.find x h.scope ≡ Some (scopes.permanent_variable t) → IsFunction (routine_meant h.program h.scope x (Some (scopes.permanent_variable t)) o) →
       Reached t o (routine_meant h.program h.scope x (Some (scopes.permanent_variable t)) o)
   reached_by x t None c e i = absurd (cc)
   reached_by x t (Some y) c e i = reached x t y (routine_of_type h.program t y) e refl i
 
-  has_parts : (t : Ty) (o : Option Name) → is_call_meant (Some (scopes.permanent_variable t)) o ≡ true → has_components t ≡ true
+  pub has_parts : (t : Ty) (o : Option Name) → is_call_meant (Some (scopes.permanent_variable t)) o ≡ true → has_components t ≡ true
   has_parts t None c = absurd (cc)
   has_parts t (Some y) c = c
 
-  nothing_begun : (x : Name) (ss : syntax.Selectors) (m : Option scopes.Meaning) (z : Formed) → scopes.find x h.scope ≡ m → begun_form h x m ≡ None → then_form (then_form (begun_form h x (scopes.find x h.scope)) (selected_form h ss)) valued_form ≡ Some z → ⊥
+  pub nothing_begun : (x : Name) (ss : syntax.Selectors) (m : Option scopes.Meaning) (z : Formed) → scopes.find x h.scope ≡ m → begun_form h x m ≡ None → then_form (then_form (begun_form h x (scopes.find x h.scope)) (selected_form h ss)) valued_form ≡ Some z → ⊥
   nothing_begun x ss m z e i f =
       let p : (y : Designated) × (then_form (begun_form h x (scopes.find x h.scope)) (selected_form h ss) ≡ Some y) × (valued_form y ≡ Some z) = inside (then_form (begun_form h x (scopes.find x h.scope)) (selected_form h ss)) valued_form z f in
       let q : (y : Designated) × (begun_form h x (scopes.find x h.scope) ≡ Some y) × (selected_form h ss y ≡ Some p.0) = inside (begun_form h x (scopes.find x h.scope)) _ p.0 p.1 in
@@ -359,7 +360,7 @@ module _ (k : Numbering) (h : Here) (b : Layer) (g : Knows k h b) (calls : Knows
   Selects l ss = (d q : Designated) (x : values.Designated) → DesignatedIs k b.types d x → NoEntry d ss → AreNext h (cells l) (selectors_calls h.scope ss) → selected_form h ss d ≡ Some q → Selected q (cells l) (selectors l x ss) (selectors_calls h.scope ss)
 
   abbrev Enters : Layer → syntax.Selectors → Type 0
-  Enters l ss = (c : ℕ) (d q : Designated) (x : values.Designated) → DesignatedIs k b.types d x → Parts c d → AreEntry ss → AreNext h (cells l) (selectors_calls h.scope ss) → selected_form h ss d ≡ Some q → Entered c (last_field ss) (cells l) (selectors l x ss) (selectors_calls h.scope ss)
+  Enters l ss = (c : ℕ) (d q : Designated) (x : values.Designated) → DesignatedIs k b.types d x → Parts c d → AreEntry ss → AreNext h (cells l) (selectors_calls h.scope ss) → selected_form h ss d ≡ Some q → Entered q c (last_field ss) (cells l) (selectors l x ss) (selectors_calls h.scope ss)
 
   abbrev Takes : syntax.Expressions → Type 0
   Takes es = (m : Layer) (r : ℕ) → Kept b m → AreFormed h es → AreNext h (cells m) (expressions_calls h.scope es) → TakesFrom (cells m) (arguments_from m r 0 es).1 (expressions_calls h.scope es)
@@ -410,7 +411,7 @@ module _ (k : Numbering) (h : Here) (b : Layer) (g : Knows k h b) (calls : Knows
       let target : selected_form h ss first ≡ Some u.3.0 = ap (λ w. then_form w (selected_form h ss)) (sym formed) ∙ u.3.1 in
       let begins : DesignatedIs k b.types first (begun b x.name) = begun_same k h b g x.name first (subst IsNoRoutine (sym me) tt) formed in
       let begins_here : DesignatedIs k b.types first (begun l x.name) = subst (λ w. DesignatedIs k b.types first w) (sym (same_begun l x.name s)) begins in
-      let e : Entered (system_type t) (last_field ss) (cells l) (selectors l (begun l x.name) ss) (selectors_calls h.scope ss) = en (system_type t) first u.3.0 (begun l x.name) begins_here (parts_begun x.name t (has_parts t (last_field ss) ce)) u.0
+      let e : Entered u.3.0 (system_type t) (last_field ss) (cells l) (selectors l (begun l x.name) ss) (selectors_calls h.scope ss) = en (system_type t) first u.3.0 (begun l x.name) begins_here (parts_begun x.name t (has_parts t (last_field ss) ce)) u.0
       (next_first h (cells l) (selectors_calls h.scope ss) (expressions_calls h.scope es ++ function_call at d es ∷ []) n) target in
       let met : routine_called h.program h.scope d ≡ routine_meant h.program h.scope x.name (Some (scopes.permanent_variable t)) (last_field ss) = ap (λ m. routine_meant h.program h.scope x.name m (last_field ss)) me in
       let r : Reached t (last_field ss) (routine_meant h.program h.scope x.name (Some (scopes.permanent_variable t)) (last_field ss)) = reached_by x.name t (last_field ss) ce me (subst IsFunction met u.1) in
@@ -587,7 +588,7 @@ module _ (k : Numbering) (h : Here) (b : Layer) (g : Knows k h b) (calls : Knows
         (arguments_take m r (i + 1) es (kept_trans b l m s (expression_kept l e)) u.1 f.1 (next_rest h (cells l) m (expression_calls h.scope e) (expressions_calls h.scope es) j.taken n))
 
     -- a name with its selectors that is no call
-    selected_is : (l : Layer) (d q : Designated) (x : values.Designated) (ss : syntax.Selectors) → Kept b l → SelectorsUsed h ss → DesignatedIs k b.types d x → NoEntry d ss → AreNext h (cells l) (selectors_calls h.scope ss) → selected_form h ss d ≡ Some q → Selected q (cells l) (selectors l x ss) (selectors_calls h.scope ss)
+    pub selected_is : (l : Layer) (d q : Designated) (x : values.Designated) (ss : syntax.Selectors) → Kept b l → SelectorsUsed h ss → DesignatedIs k b.types d x → NoEntry d ss → AreNext h (cells l) (selectors_calls h.scope ss) → selected_form h ss d ≡ Some q → Selected q (cells l) (selectors l x ss) (selectors_calls h.scope ss)
     selected_is l d q x syntax.no_selectors s u i e n f = record { leads = subst (λ y. DesignatedIs k b.types y x) (same_inside d q f) i; taken = takes_none l }
     selected_is l (a_variable w t) q x (syntax.more_selectors (syntax.field y) ss) s u i e n f =
         let p : (c : Designated) × (with_field_form (a_variable w t) y.name ≡ Some c) × (selected_form h ss c ≡ Some q) = inside (with_field_form (a_variable w t) y.name) _ q f in
@@ -608,12 +609,12 @@ module _ (k : Numbering) (h : Here) (b : Layer) (g : Knows k h b) (calls : Knows
         record { leads = t.leads; taken = takes_both (cells l) m (selectors m w ss).1 (expression_calls h.scope o) (selectors_calls h.scope ss) j.taken t.taken }
 
     -- an entry of a component
-    entered_is : (l : Layer) (c : ℕ) (d q : Designated) (x : values.Designated) (ss : syntax.Selectors) → Kept b l → SelectorsUsed h ss → DesignatedIs k b.types d x → Parts c d → AreEntry ss → AreNext h (cells l) (selectors_calls h.scope ss) → selected_form h ss d ≡ Some q → Entered c (last_field ss) (cells l) (selectors l x ss) (selectors_calls h.scope ss)
+    pub entered_is : (l : Layer) (c : ℕ) (d q : Designated) (x : values.Designated) (ss : syntax.Selectors) → Kept b l → SelectorsUsed h ss → DesignatedIs k b.types d x → Parts c d → AreEntry ss → AreNext h (cells l) (selectors_calls h.scope ss) → selected_form h ss d ≡ Some q → Entered q c (last_field ss) (cells l) (selectors l x ss) (selectors_calls h.scope ss)
     entered_is l c d q x syntax.no_selectors s u i e r n f = absurd r
     entered_is l c (a_variable w t) q x ss s u i e r n f = absurd e
     entered_is l c (some_components a y w) q x (syntax.more_selectors (syntax.field o) ss) s u i e r n f = absurd (cc)
     entered_is l c (a_component a w) q x (syntax.more_selectors (syntax.field o) syntax.no_selectors) s u i e r n f =
-        record { part = a; leads = same_field l x o.name s ∙ ap (λ v. field_selected b v o.name) i ∙ ap (λ v. entry_found a (entry_of b v o.name)) e; taken = takes_none l }
+        record { part = a; is_part = sym (same_inside (a_component a w) q f) ∙ ap (a_component a) e; leads = same_field l x o.name s ∙ ap (λ v. field_selected b v o.name) i ∙ ap (λ v. entry_found a (entry_of b v o.name)) e; taken = takes_none l }
     entered_is l c (a_component a w) q x (syntax.more_selectors (syntax.field o) (syntax.more_selectors y ss)) s u i e r n f = absurd r
     entered_is l c d q x (syntax.more_selectors (syntax.index o) ss) s u i e r n f =
         let p : (v : Designated) × (then_form (expression_form h o) (with_index_form h d) ≡ Some v) × (selected_form h ss v ≡ Some q) = inside (then_form (expression_form h o) (with_index_form h d)) _ q f in
@@ -623,12 +624,12 @@ module _ (k : Numbering) (h : Here) (b : Layer) (g : Knows k h b) (calls : Knows
         let kept : Kept b m = kept_trans b l m s (expression_kept l o) in
         let w : values.Designated = element_selected m x (ordinal_of (expression l o).0) in
         let t : DesignatedIs k b.types p.0 w = subst (λ v. DesignatedIs k b.types p.0 v) (sym (same_element m x (ordinal_of (expression l o).0) kept)) (index_is d p.0 x a.0 (expression l o).0 i j.value a.2) in
-        let z : Entered c (last_field ss) (cells m) (selectors m w ss) (selectors_calls h.scope ss) = entered_is m c p.0 q w ss kept u.1 t (part_of c d a.0 p.0 e a.2) r
+        let z : Entered q c (last_field ss) (cells m) (selectors m w ss) (selectors_calls h.scope ss) = entered_is m c p.0 q w ss kept u.1 t (part_of c d a.0 p.0 e a.2) r
         (next_rest h (cells l) m (expression_calls h.scope o) (selectors_calls h.scope ss) j.taken n) p.2 in
-        record { part = z.part; leads = subst (λ y. (selectors m w ss).0 ≡ entry_found z.part (entry_named c y)) (sym (last_same o ss r)) z.leads; taken = takes_both (cells l) m (selectors m w ss).1 (expression_calls h.scope o) (selectors_calls h.scope ss) j.taken z.taken }
+        record { part = z.part; is_part = z.is_part; leads = subst (λ y. (selectors m w ss).0 ≡ entry_found z.part (entry_named c y)) (sym (last_same o ss r)) z.leads; taken = takes_both (cells l) m (selectors m w ss).1 (expression_calls h.scope o) (selectors_calls h.scope ss) j.taken z.taken }
 
     -- the one argument of a standard function
-    first_is : (l : Layer) (es : syntax.Expressions) (z : Formed) → Kept b l → AreUsed h es → IsOne es → AreNext h (cells l) (expressions_calls h.scope es) → first_form h es ≡ Some z → Is z (cells l) (first_value l es) (expressions_calls h.scope es)
+    pub first_is : (l : Layer) (es : syntax.Expressions) (z : Formed) → Kept b l → AreUsed h es → IsOne es → AreNext h (cells l) (expressions_calls h.scope es) → first_form h es ≡ Some z → Is z (cells l) (first_value l es) (expressions_calls h.scope es)
     first_is l syntax.no_expressions z s u i n f = absurd i
     first_is l (syntax.more_expressions e (syntax.more_expressions o es)) z s u i n f = absurd i
     first_is l (syntax.more_expressions e syntax.no_expressions) z s u i n f =

@@ -55,7 +55,7 @@ module _ (total : ℕ) where
   more_names_room [] rest = omega arith
   more_names_room (i ∷ is) rest = let le = more_names_room is rest in omega (arith, le)
 
-  names_room : (is : List Identifier) (rest : List Kind) → length rest + length is ≤ length (put_names is rest)
+  pub names_room : (is : List Identifier) (rest : List Kind) → length rest + length is ≤ length (put_names is rest)
   names_room [] rest = omega arith
   names_room (i ∷ is) rest = let le = more_names_room is rest in omega (arith, le)
 

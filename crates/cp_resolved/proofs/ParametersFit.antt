@@ -1,5 +1,6 @@
 -- In a program that breaks no rule no parameter of a system type is an array of components.
-use Rattle.std.proofs.Common.{◌≡◌, ℕ, suc, ◌+◌, ◌≤◌, ◌∙◌, Bool, true, false, if◌then◌else◌, List, [], ◌∷◌, ◌++◌, length, Option, Some, None, Ok, Err, is_some, pos, refl, sym, ap, subst, arith}
+use Rattle.std.proofs.Common.{◌≡◌, ℕ, suc, ◌+◌, ◌≤◌, ◌∙◌, Bool, true, false, if◌then◌else◌, List, [], ◌∷◌, ◌++◌, length, Option, Some, None, Ok, Err, is_some, pos, refl, sym, ap, subst, arith, inl, inr}
+use Rattle.std.specs.Prelude.{◌⊎◌}
 use Rattle.std.specs.Str.{bytes_eq}
 use Rattle.std.proofs.lemmas.Slice.Eq.{bytes_eq-Decides}
 use Rattle.cp_text.specs.declared.token.Kind.{Kind as Token}
@@ -36,16 +37,16 @@ use Rattle.cp_check.specs.Declarations.{as_declared, to_kind, reserve_name, rese
 use Rattle.cp_check.specs.Systems as systems
 use Rattle.cp_check.specs.Faults.{faults_of}
 use Rattle.cp_meaning.specs.Names.{Name, same_name}
-use Rattle.cp_meaning.specs.Types.{Base, Range, Ty, ordinal, queue_type, set_over, array_over, record_with, component_of, has_components, range_of}
+use Rattle.cp_meaning.specs.Types.{Base, Range, Ty, ordinal, queue_type, set_over, array_over, record_with, component_of, has_components, range_of, all_integers}
 use Rattle.cp_meaning.specs.Scopes as meant
 use Rattle.cp_meaning.specs.Scopes.{constant_meaning, type_meaning, permanent_variable, is_seen, seen_inside}
-use Rattle.cp_meaning.specs.Declarations.{type_meant, type_named, names_of, with_constants, simple_in, type_in, fields_in, group_in, constants_in, with_names, Block, variables_in, Heading, with_group}
+use Rattle.cp_meaning.specs.Declarations.{type_named, names_of, with_constants, simple_in, type_in, fields_in, group_in, constants_in, with_names, Block, variables_in, Heading, with_group}
 use Rattle.cp_meaning.specs.Systems.{Declared, definition_in, definitions_in, program_part_in}
 use Rattle.cp_lawful.proofs.Classes as classes
 use Rattle.cp_lawful.proofs.Kept.{Keeps, type_kept, definition_kept, program_part_kept, name_reserved}
 use Rattle.cp_lawful.proofs.Loud.{Loud}
 use Rattle.cp_lawful.proofs.Once.{no_left, no_right, no_first, inside_sound, defined_sound, parts_sound, or_right}
-use Rattle.cp_lawful.proofs.Told.{Told, type_told, name_reserved_told, definition_told, program_part_told, start_told}
+use Rattle.cp_lawful.proofs.Told.{Told, heard, add_told, enter_told, names_reserved_told, system_parameter_loud, type_told, name_reserved_told, definition_told, program_part_told, start_told}
 use Rattle.cp_resolved.specs.Small.{IsParameter, AreParameters}
 use Rattle.cp_resolved.specs.Fit.{IsFitDefinition, AreFitDefinitions, IsFitPart, AreFitParts, nothing_declared}
 use Rattle.cp_resolved.proofs.ShapesWritten as shapes
@@ -152,21 +153,22 @@ variables_tell s (g ∷ gs) b tell = variables_tell s gs _ (names_tell s (names_
 
 -- ---- a name that means such a type
 
-meant_is : (m : meant.Meaning) (t : Ty) → has_components t ≡ true → type_meant (Some m) ≡ t → m ≡ type_meaning t
-meant_is (type_meaning q) t has e = ap type_meaning e
-meant_is (constant_meaning b z) t has e = absurd (let bad : false ≡ true = ap has_components e ∙ has in cc)
-meant_is (meant.local_variable q) t has e = absurd (let bad : false ≡ true = ap has_components e ∙ has in cc)
-meant_is (permanent_variable q) t has e = absurd (let bad : false ≡ true = ap has_components e ∙ has in cc)
-meant_is (meant.routine_meaning r) t has e = absurd (let bad : false ≡ true = ap has_components e ∙ has in cc)
-meant_is (meant.standard_meaning q) t has e = absurd (let bad : false ≡ true = ap has_components e ∙ has in cc)
+abbrev type_meant : meant.Meaning → Ty
+type_meant (type_meaning t) = t
+type_meant m = ordinal all_integers
 
-found_tell : (s : Scopes) (x : Name) (m : meant.Scope) (t : Ty) → AllTell s m → has_components t ≡ true → type_meant (meant.find x m) ≡ t → Known s.shapes (find x s.inner.names) t
+found_tell : (s : Scopes) (x : Name) (m : meant.Scope) (t : Ty) → AllTell s m → has_components t ≡ true → type_named m x ≡ t → Known s.shapes (find x s.inner.names) t
 found_tell s x [] t tell has e = absurd (let bad : false ≡ true = ap has_components e ∙ has in cc)
-found_tell s x (d ∷ ds) t tell has e = go (same_name x d.0) refl e (λ f. found_tell s x ds t tell.1 has f)
+found_tell s x ((n, constant_meaning b z) ∷ ds) t tell has e = found_tell s x ds t tell.1 has e
+found_tell s x ((n, type_meaning q) ∷ ds) t tell has e = go (same_name x n) refl e (λ f. found_tell s x ds t tell.1 has f)
   where
-    go : (b : Bool) → same_name x d.0 ≡ b → type_meant (if b then Some d.1 else meant.find x ds) ≡ t → (type_meant (meant.find x ds) ≡ t → Known s.shapes (find x s.inner.names) t) → Known s.shapes (find x s.inner.names) t
-    go true same f rest = subst (λ n. Known s.shapes (find n s.inner.names) t) (sym ((bytes_eq-Decides x d.0).0 same)) (tell.0 t (meant_is d.1 t has f) has)
+    go : (b : Bool) → same_name x n ≡ b → (if b then q else type_named ds x) ≡ t → (type_named ds x ≡ t → Known s.shapes (find x s.inner.names) t) → Known s.shapes (find x s.inner.names) t
+    go true same f rest = subst (λ i. Known s.shapes (find i s.inner.names) t) (sym ((bytes_eq-Decides x n).0 same)) (tell.0 t (ap type_meaning f) has)
     go false same f rest = rest f
+found_tell s x ((n, meant.local_variable q) ∷ ds) t tell has e = found_tell s x ds t tell.1 has e
+found_tell s x ((n, permanent_variable q) ∷ ds) t tell has e = found_tell s x ds t tell.1 has e
+found_tell s x ((n, meant.routine_meaning r) ∷ ds) t tell has e = found_tell s x ds t tell.1 has e
+found_tell s x ((n, meant.standard_meaning q) ∷ ds) t tell has e = found_tell s x ds t tell.1 has e
 
 -- ---- judgements without faults
 
@@ -401,37 +403,51 @@ reserved_pending s n h = (reserved_among s n h, ap (λ ds. is_some (find n.name 
 
 -- ---- parameters
 
-abbrev Knows : meant.Scope → Scopes → Type 0
-Knows m s = (x : Name) (t : Ty) → has_components t ≡ true → type_meant (meant.find x m) ≡ t → Known s.shapes (look x s) t
+-- where the checker has a type by the name of such a type, it is that one
+record Knows (m : meant.Scope) (s : Scopes) : Type 0 where
+  told : Told s
+  is_open : s.inner.is_sealed ≡ false
+  known : (x : Name) (t : Ty) → has_components t ≡ true → type_named m x ≡ t → (v : ValueType) → look x s ≡ Some (Some (Kind v)) → Holds s.shapes t v
 
-knows_entered : (s : Scopes) (m : meant.Scope) → AllTell s m → Knows (seen_inside m) (enter true s)
+knows_entered : (s : Scopes) (m : meant.Scope) → Told s → AllTell s m → Knows (seen_inside m) (enter true s)
 unfolding enter
-knows_entered s m tell x t has e =
-    let r = found_tell s x (seen_inside m) t (tell_seen s m tell) has e in
-    record { value_type = r.value_type; found = classes.look_entered x s r.value_type r.found; holds = r.holds }
+knows_entered s m told tell =
+    record {
+      told = enter_told true s told;
+      is_open = refl;
+      known = λ x t has e v f. (let r = found_tell s x (seen_inside m) t (tell_seen s m tell) has e in subst (Holds s.shapes t) (classes.same_kind (look x (enter true s)) r.value_type v (classes.look_entered x s r.value_type r.found) f) r.holds);
+    }
 
-knows_moved : (m : meant.Scope) (s u : Scopes) → u.shapes ≡ s.shapes → ((x : Name) → look x u ≡ look x s) → Knows m s → Knows m u
-knows_moved m s u same looked knows x t has e =
-    let r = knows x t has e in
-    record { value_type = r.value_type; found = looked x ∙ r.found; holds = subst (λ w. Holds w t r.value_type) (sym same) r.holds }
+knows_reserved : (m : meant.Scope) (s : Scopes) (ns : List Identifier) → Knows m s → Knows m (reserve_names s ns).scopes
+knows_reserved m s ns h = record {
+  told = names_reserved_told s ns h.told;
+  is_open = classes.open_all_reserved s ns ∙ h.is_open;
+  known = λ x t has e v f. subst (λ w. Holds w t v) (sym (shapes.names_reserved s ns)) (h.known x t has e v (sym (classes.look_all_reserved x s ns) ∙ f));
+}
 
-knows_added : (ns : List Identifier) (t : Ty) (o : Option Meaning) (m : meant.Scope) (s : Scopes) → Knows m s → Knows (with_names (names_of ns) (permanent_variable t) m) (add_names s ns o)
+knows_added : (ns : List Identifier) (t : Ty) (u : ValueType) (m : meant.Scope) (s : Scopes) → Knows m s → Knows (with_names (names_of ns) (permanent_variable t) m) (add_names s ns (Some (meaning.Parameter u)))
 unfolding add_names
-knows_added [] t o m s h = h
-knows_added (n ∷ ns) t o m s h = knows_added ns t o ((n.name, permanent_variable t) ∷ m) (add s n.name o) (λ x q has e. go x q has (same_name x n.name) refl e)
+knows_added [] t u m s h = h
+knows_added (n ∷ ns) t u m s h =
+    knows_added ns t u ((n.name, permanent_variable t) ∷ m) (add s n.name (Some (meaning.Parameter u)))
+    (record { told = add_told s n.name (Some (meaning.Parameter u)) h.told tt; is_open = classes.added_open s n.name (Some (meaning.Parameter u)) h.is_open; known = λ x q has e v f. subst (λ w. Holds w q v) (sym shapes_same) (h.known x q has e v (go x v (same_name x n.name) refl f)) })
   where
-    shapes_same : (add s n.name o).shapes ≡ s.shapes
-    shapes_same = shapes.names_added s (n ∷ []) o
+    shapes_same : (add s n.name (Some (meaning.Parameter u))).shapes ≡ s.shapes
+    shapes_same = shapes.names_added s (n ∷ []) (Some (meaning.Parameter u))
 
-    go : (x : Name) (q : Ty) → has_components q ≡ true → (b : Bool) → same_name x n.name ≡ b → type_meant (if b then Some (permanent_variable t) else meant.find x m) ≡ q → Known (add s n.name o).shapes (look x (add s n.name o)) q
-    go x q has true same e = absurd (let bad : false ≡ true = ap has_components e ∙ has in cc)
-    go x q has false same e =
-        let r = h x q has e in
-        record { value_type = r.value_type; found = classes.look_added x n.name s o same ∙ r.found; holds = subst (λ w. Holds w q r.value_type) (sym shapes_same) r.holds }
+    new : (v : ValueType) → (look n.name s ≡ Some (Some (Kind v))) ⊎ (meaning.Parameter u ≡ Kind v) → look n.name s ≡ Some (Some (Kind v))
+    new v (inl f) = f
+    new v (inr bad) = absurd cc
 
-knows_all_added : (ns : List Identifier) (t : Ty) (o : Option Meaning) (m : meant.Scope) (s : Scopes) → Knows m s → Knows (with_names (names_of ns) (permanent_variable t) m) (add_all s ns o)
+    go : (x : Name) (v : ValueType) (b : Bool) → same_name x n.name ≡ b → look x (add s n.name (Some (meaning.Parameter u))) ≡ Some (Some (Kind v)) → look x s ≡ Some (Some (Kind v))
+    go x v true same f =
+        let e : n.name ≡ x = sym ((bytes_eq-Decides x n.name).0 same) in
+        subst (λ y. look y s ≡ Some (Some (Kind v))) e (new v (classes.look_new n.name s (meaning.Parameter u) v h.is_open (subst (λ y. look y (add s n.name (Some (meaning.Parameter u))) ≡ Some (Some (Kind v))) (sym e) f)))
+    go x v false same f = sym (classes.look_added x n.name s (Some (meaning.Parameter u)) same) ∙ f
+
+knows_all_added : (ns : List Identifier) (t : Ty) (u : ValueType) (m : meant.Scope) (s : Scopes) → Knows m s → Knows (with_names (names_of ns) (permanent_variable t) m) (add_all s ns (Some (meaning.Parameter u)))
 unfolding add_all settle
-knows_all_added ns t o m s h = knows_added ns t o m s h
+knows_all_added ns t u m s h = let k = knows_added ns t u m s h in record { told = k.told; is_open = k.is_open; known = k.known }
 
 refused : (s : Scopes) (at : ℕ) (o : SystemKind) (v : ValueType) (t : Range) (k : ℕ) → AreComponents s.shapes v → faults (systems.admitted_in s at o v) ≡ [] → ⊥
 refused s at o v t k h e = bad (subst (λ (u : ValueType). faults (systems.admitted at o (typing.holding s u) u) ≡ []) h.is e)
@@ -448,9 +464,10 @@ group_fits o s g m h knows = go (type_named m g.type_name.name) refl
   where
     no_components : (r : Range) (k : ℕ) → type_named m g.type_name.name ≡ array_over r (component_of k) → ⊥
     no_components r k e =
-        let known = knows g.type_name.name (array_over r (component_of k)) refl e in
-        let admitted : faults (systems.admitted_in s g.type_name.at o known.value_type) ≡ [] = subst (λ f. faults (names.found g.type_name.at f >>= typing.to_type g.type_name.at >>= systems.admitted_in s g.type_name.at o) ≡ []) known.found h in
-        refused s g.type_name.at o known.value_type r k known.holds admitted
+        let there = classes.type_there (look g.type_name.name s) g.type_name.at (systems.admitted_in s g.type_name.at o) (heard s knows.told g.type_name.at g.type_name.name) h in
+        let held = knows.known g.type_name.name (array_over r (component_of k)) refl e there.0 there.1 in
+        let admitted : faults (systems.admitted_in s g.type_name.at o there.0) ≡ [] = subst (λ f. faults (names.found g.type_name.at f >>= typing.to_type g.type_name.at >>= systems.admitted_in s g.type_name.at o) ≡ []) there.1 h in
+        refused s g.type_name.at o there.0 r k held admitted
 
     go : (t : Ty) → type_named m g.type_name.name ≡ t → IsParameter t
     go (array_over r (component_of k)) e = absurd (no_components r k e)
@@ -472,11 +489,12 @@ groups_fit o (g ∷ gs) s h e knows =
     let after : Scopes = (reserve_names s g.names).scopes in
     let first : (systems.group_step o s g).faults ≡ [] = no_left (systems.group_step o s g).faults (systems.group_steps o (systems.group_step o s g).scopes gs).faults e in
     let typed_well : faults (systems.parameter_type o after g) ≡ [] = no_first (systems.parameter_type o after g) systems.to_parameter (no_right (reserve_names s g.names).faults (faults (systems.parameter_type o after g >>= systems.to_parameter)) first) in
-    let known : Knows h.scope after = knows_moved h.scope s after (shapes.names_reserved s g.names) (λ x. classes.look_all_reserved x s g.names) knows in (
+    let known : Knows h.scope after = knows_reserved h.scope s g.names knows in
+    let declares = classes.parameter_is (systems.parameter_type o after g) (system_parameter_loud o after g known.told) typed_well in (
       group_fits o after g h.scope typed_well known,
       groups_fit o gs (systems.group_step o s g).scopes (with_group permanent_variable false h g)
           (no_right (systems.group_step o s g).faults (systems.group_steps o (systems.group_step o s g).scopes gs).faults e)
-          (knows_all_added g.names (type_named h.scope g.type_name.name) (as_declared (systems.parameter_type o after g >>= systems.to_parameter)) h.scope after known),
+          (subst (λ p. Knows (with_group permanent_variable false h g).scope (add_all after g.names p)) (sym declares.1) (knows_all_added g.names (type_named h.scope g.type_name.name) declares.0 h.scope after known)),
     )
 
 system_fits : (s : Scopes) (y : System) (m : meant.Scope) → (systems.inside s y).faults ≡ [] → Knows m s → AreParameters (record { parameters = []; scope = m }) y.parameters
@@ -504,7 +522,7 @@ named_known s n t q new h = record {
 }
 
 kind_meant : (t q : Ty) → type_meaning t ≡ type_meaning q → t ≡ q
-kind_meant t q e = ap (λ (m : meant.Meaning). type_meant (Some m)) e
+kind_meant t q e = ap type_meant e
 
 reserved_sound : (s : Scopes) (d : Declared) (n : Identifier) → Sound s d → Sound (reserve_name s n).scopes d
 reserved_sound s d n sound = record {
@@ -534,7 +552,7 @@ definition_tells total s d n (system_definition y) rest sound indexed fresh rese
     let there : find n.name.name u.inner.names ≡ Some (Some (Kind (Component y.kind y.at))) = ap (λ (w : Scopes). find n.name.name w.inner.names) is ∙ classes.system_found s n.name y sound.told reserved h in
     let known : (q : Ty) → type_meaning (component_of (length d.systems)) ≡ type_meaning q → has_components q ≡ true → Known u.shapes (find n.name.name u.inner.names) q = λ q e has.
     subst (λ (z : Ty). Known u.shapes (find n.name.name u.inner.names) z) (kind_meant (component_of (length d.systems)) q e) (record { value_type = Component y.kind y.at; found = there; holds = record { kind = y.kind; token = y.at; is = refl } }) in
-    ((known, tell_kept s u d.scope keeps stay sound.tell), system_fits (enter true named) y (seen_inside d.scope) (inside_sound named y h) (knows_entered named d.scope before.tell))
+    ((known, tell_kept s u d.scope keeps stay sound.tell), system_fits (enter true named) y (seen_inside d.scope) (inside_sound named y h) (knows_entered named d.scope before.told before.tell))
 
 definition_sound : (total : ℕ) (s : Scopes) (d : Declared) (n : SystemDefinition) (rest : List Token) → IsIndexedSystemDefinition total n rest → IsFresh total (length (put_system_definition n rest)) s.shapes → (systems.definition_step s n).faults ≡ [] → Sound s d → Sound (systems.definition_step s n).scopes (definition_in d n n.value) × IsFitDefinition d n.value
 unfolding systems.definition_step

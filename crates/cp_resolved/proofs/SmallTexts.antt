@@ -57,8 +57,11 @@ read_tokens_small p h = subst AreSmall h.spelled (tokens_small 1 h.scanned.parts
 pub read_small : (p : Program) → IsRead p → IsSmallProgram p
 read_small p h = program_small p (read_tokens_small p h)
 
-pub read_numbered : (p : Program) → IsRead p → AreNumbered (constants_before p) 0 (enumerations_of p)
-read_numbered p h =
+pub read_few : (p : Program) → IsRead p → length (spell p) ≤ 20000
+read_few p h =
     let few : length h.tokens ≤ 20000 = h.scanned.reads.few in
     let same : length (spell p) ≡ length h.tokens = sym (ap (λ (ks : List Kind). length ks) h.spelled) ∙ kinds_length h.tokens in
-    program_numbered p h.proper.indexed (omega (arith, few, same))
+    omega (arith, few, same)
+
+pub read_numbered : (p : Program) → IsRead p → AreNumbered (constants_before p) 0 (enumerations_of p)
+read_numbered p h = program_numbered p h.proper.indexed (read_few p h)

@@ -50,7 +50,7 @@ module _ (k : Numbering) where
 
   -- ---- types and system types
 
-  system_count : (l : Layer) (s : syntax.System) → length (system l s).1.routines ≡ length l.routines + (length s.routines + 1)
+  pub system_count : (l : Layer) (s : syntax.System) → length (system l s).1.routines ≡ length l.routines + (length s.routines + 1)
   unfolding system
   system_count l s =
       let z : Layer = permanent_parts (system_groups (entered l).1 [] s.parameters).1 s.parts in

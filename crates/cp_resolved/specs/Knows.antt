@@ -1,10 +1,12 @@
 -- When what is laid out so far and the layouts say the same of the names where a statement stands.
-use Rattle.std.specs.Prelude.{◌≡◌, ◌≤◌, ℕ, true, false, Some}
+use Rattle.std.specs.Prelude.{◌≡◌, ◌≤◌, ℕ, true, false, Some, slice_get}
 use Rattle.cp_slots.specs.declared.place.Origin.{Origin}
 use Rattle.cp_slots.specs.declared.place.Origin.TheVariants.{Permanent}
+use Rattle.cp_slots.specs.declared.lay_out.kinds.ArrayType.{ArrayType}
 use Rattle.cp_slots.specs.declared.lay_out.kinds.ValueType.{ValueType}
+use Rattle.cp_slots.specs.declared.lay_out.kinds.ValueType.TheVariants as types
 use Rattle.cp_slots.specs.declared.lay_out.names.Meaning.TheVariants.{Variable, Contained, Bound}
-use Rattle.cp_slots.specs.Kinds.{most}
+use Rattle.cp_slots.specs.Kinds.{array, most}
 use Rattle.cp_slots.specs.Layers as layers
 use Rattle.cp_slots.specs.Layers.{Layer}
 use Rattle.cp_slots.specs.LaidExpressions.{component_count}
@@ -23,8 +25,8 @@ pub record Knows (k : Numbering) (h : Here) (l : Layer) : Type 0 where
   pub slot : (x : Name) (n : ℕ) (v : ValueType) → layers.find x l.names ≡ Some (Variable (Permanent n) v) → (system_here h).slots x ≡ n
   pub first : (x : Name) (n : ℕ) (v : ValueType) → layers.find x l.names ≡ Some (Contained n v) → ((system_here h).firsts x ≡ n) × (is_parameter x (system_of h.program h.system).parameters ≡ false)
   pub bound : (x : Name) (n c : ℕ) → layers.find x l.names ≡ Some (Bound n c) → ((system_here h).slots x ≡ n) × (is_parameter x (system_of h.program h.system).parameters ≡ true)
-  -- how many components one of a system type is
-  pub count : (n : ℕ) → component_count l n ≡ (h.layouts.systems n).count
+  -- how many components one of a system type is, where there are arrays of them
+  pub count : (number n : ℕ) (a : ArrayType) → slice_get l.types number ≡ Some (array a) → a.element ≡ types.System n → component_count l n ≡ (h.layouts.systems n).count
   -- variables have few cells, and no array without elements
   pub local : (x : Name) (t : Ty) → find x h.scope ≡ Some (local_variable t) → (cells_of t ≤ most) × IsFull t
   pub permanent : (x : Name) (t : Ty) → find x h.scope ≡ Some (permanent_variable t) → (cells_of t ≤ most) × IsFull t

@@ -2,7 +2,12 @@
 
 ghost use Rattle.cp_resolved.specs.Formed.{FormsLaw};
 ghost use Rattle.cp_resolved.specs.Judging.{ScopesLaw};
+ghost use Rattle.cp_resolved.specs.Held.{FewItemsLaw, FewReferencesLaw};
+ghost use Rattle.cp_resolved.specs.BodiesStand.{BodiesLaw};
+ghost use Rattle.cp_resolved.specs.ItemsStand.{StatementsLaw};
+ghost use Rattle.cp_resolved.specs.LayoutsKnow.{LayoutsLaw};
 ghost use Rattle.cp_resolved.specs.Names.{NamesLaw};
+ghost use Rattle.cp_resolved.specs.OwnCalls.{OwnCallsLaw};
 ghost use Rattle.cp_resolved.specs.Read.{PlainLaw, ReadNamesLaw};
 ghost use Rattle.cp_resolved.specs.Soundness.{SoundLaw};
 
@@ -34,4 +39,34 @@ pub fn law_scopes()
 /// So the tests, bounds and values of its statements have forms of the right kind on slots, by any layouts.
 pub fn law_forms()
     ensures { FormsLaw }
+{}
+
+/// No routine of an accepted program calls itself, as `law_sound` wants it.
+pub fn law_own_calls()
+    ensures { OwnCallsLaw }
+{}
+
+/// The tables of a program that was read have no more items than the program has tokens.
+pub fn law_few_items()
+    ensures { FewItemsLaw }
+{}
+
+/// Its open calls have no more references than the program has tokens.
+pub fn law_few_references()
+    ensures { FewReferencesLaw }
+{}
+
+/// The layouts of a tree know the names, the routines and the cells of calls where its statements begin.
+pub fn law_layouts()
+    ensures { LayoutsLaw }
+{}
+
+/// The items that are laid out of statements stand for these statements.
+pub fn law_statements()
+    ensures { StatementsLaw }
+{}
+
+/// The items of each routine and of each initial statement of a tree stand for its statements.
+pub fn law_bodies()
+    ensures { BodiesLaw }
 {}

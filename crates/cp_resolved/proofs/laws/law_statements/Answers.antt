@@ -1,0 +1,5 @@
+use Rattle.cp_resolved.proofs.StatementsStand.{statements_law}
+use Rattle.cp_resolved.proofs.laws.law_statements.Goals as goal
+
+pub returns : goal.returns
+returns c = statements_law

@@ -1,0 +1,50 @@
+-- That the items which are laid out of statements stand for them, as a law: what is known where they begin, and what they want.
+use Rattle.std.specs.Prelude.{◌≡◌, ◌<◌, ◌≤◌, ◌+◌, ℕ, List, [], length, Some, None, slice_get}
+use Rattle.cp_tree.specs.Syntax.{Statements}
+use Rattle.cp_slots.specs.Code as code
+use Rattle.cp_slots.specs.Kinds.{most}
+use Rattle.cp_slots.specs.Tables.{item_at}
+use Rattle.cp_slots.specs.Layers.{Layer}
+use Rattle.cp_slots.specs.LaidStatements.{statements}
+use Rattle.cp_resolved.specs.Calls.{all_calls_laid}
+use Rattle.cp_resolved.specs.FormedParts.{AreReady, KnowsHeadings}
+use Rattle.cp_resolved.specs.FormedStatements.{KnowsResult, KnowsStarts, AllFormed}
+use Rattle.cp_resolved.specs.InStep.{Numbering}
+use Rattle.cp_resolved.specs.Knows.{Knows}
+use Rattle.cp_resolved.specs.Layouts.{Here}
+use Rattle.cp_resolved.specs.Stands.{Ground, OwnAll}
+use Rattle.cp_resolved.specs.Used.{KnowsCalls}
+
+-- the item of this number in the tables
+pub record ItemIs (g : Ground) (n : ℕ) (i : code.Item) : Type 0 where
+  pub inside : n < length g.tables.items
+  pub action : code.action_seen (item_at g.tables n).action ≡ i.action
+  pub follows : (item_at g.tables n).next ≡ i.next
+  pub line : (item_at g.tables n).line ≡ i.line
+
+-- these are the first items of the tables
+abbrev pub AreItems : Ground → List code.Item → Type 0
+AreItems g is = (n : ℕ) (i : code.Item) → slice_get is n ≡ Some i → ItemIs g n i
+
+-- what is known where statements begin
+pub record Surroundings (k : Numbering) (h : Here) (g : Ground) (l : Layer) : Type 0 where
+  pub names : Knows k h l
+  pub calls : KnowsCalls k h l
+  pub headings : KnowsHeadings k h l
+  pub result : KnowsResult k h l
+  pub starts : KnowsStarts k h l
+  pub lines : l.lines ≡ g.lines
+
+-- No item is still to come. The statements have forms, and their calls, in the order in which they are laid out, have the next cells of the frame.
+pub record CanStand (h : Here) (l : Layer) (ss : Statements) : Type 0 where
+  pub pending : l.pending ≡ []
+  pub formed : AllFormed h ss
+  pub calls : AreReady h (length l.frame.image) (all_calls_laid h.scope ss)
+
+-- The items of a list of statements stand for these statements, in tables of which they are among the first items. After them the frame has a cell more for each function call.
+pub record AreLaid (k : Numbering) (h : Here) (g : Ground) (l : Layer) (ss : Statements) : Type 0 where
+  pub stand : AreItems g (statements l ss).1.items → OwnAll g h ss (statements l ss).0 None
+  pub cells : length (statements l ss).1.frame.image ≡ length l.frame.image + length (all_calls_laid h.scope ss)
+
+abbrev pub StatementsLaw : Type 0
+StatementsLaw = (k : Numbering) (h : Here) (g : Ground) (l : Layer) (ss : Statements) → length g.tables.items ≤ most → ((at : ℕ) → g.firsts at ≡ k.firsts at) → Surroundings k h g l → CanStand h l ss → AreLaid k h g l ss
