@@ -28,7 +28,7 @@ use Rattle.cp_meaning.specs.Declarations as meant
 use Rattle.cp_meaning.specs.Declarations.{routine_in}
 use Rattle.cp_meaning.specs.Systems.{with_routines}
 use Rattle.cp_resolved.specs.Enumerations.{each_in, in_routine}
-use Rattle.cp_resolved.specs.Judging.{routine_place, routine_places, IsRoutineApart, IsAgreed, AreAgreed}
+use Rattle.cp_resolved.specs.Judging.{routine_place, routine_places, IsAgreed, AreAgreed}
 use Rattle.cp_resolved.specs.Openings.{Opening, with_routine, routine_openings}
 use Rattle.cp_resolved.specs.Small.{Each, IsSmallRoutine}
 use Rattle.cp_resolved.specs.Standing.{IsFit, IsFreeVariable, IsFreeParameter, IsFreeResult}
@@ -147,16 +147,16 @@ module _ (systems : ℕ → ℕ) (constants_at : ℕ → List Name) (p : Program
         record { agree = body.step.agree; outer = body.step.outer ∙ outer; settled = body.step.settled; more = more_trans s.shapes a.shapes (routines.headed_step owner r h).scopes.shapes more body.step.more },
       )
 
-  pub routine_agrees : (owner : Option SystemKind) (s : Scopes) (m below : scopes.Scope) (ks : List ℕ) (n : ℕ) (r : Routine) → (routine_step owner s r).faults ≡ [] → IsRoutineApart r → IsSmallRoutine r → Each (IsFew constants_at) (in_routine r) → s.inner.pending ≡ [] → Agree systems constants_at p false None s m below (routine_tokens r ks) → RoutineResult owner s m below ks n r
+  pub routine_agrees : (owner : Option SystemKind) (s : Scopes) (m below : scopes.Scope) (ks : List ℕ) (n : ℕ) (r : Routine) → (routine_step owner s r).faults ≡ [] → IsSmallRoutine r → Each (IsFew constants_at) (in_routine r) → s.inner.pending ≡ [] → Agree systems constants_at p false None s m below (routine_tokens r ks) → RoutineResult owner s m below ks n r
   unfolding routine_step enter
-  routine_agrees owner s m below ks n r e apart small few empty h =
+  routine_agrees owner s m below ks n r e small few empty h =
       let a : Scopes = (reserve_name s r.name).scopes in
       let hd : Headed = heading owner r (reserve_name s r.name) in
       let none : faults hd.result ≡ [] = none_left (faults hd.result) (faults (routines.opened owner r (announced_of r hd.result hd.scopes)).uses) e in
       let reserved : (reserve_name s r.name).faults ≡ [] = heading_none systems constants_at p owner r (reserve_name s r.name) none in
       let named = name_result systems constants_at p false None s r.name m below (routine_tokens r ks) reserved empty h in
       let fresh : is_some (checker.find r.name.name a.inner.names) ≡ false = named.reserved.pends r.name.name named.reserved.all.0 in
-      let head = heading_agrees systems constants_at p owner s m below (routine_tokens r ks) r none apart named.agree in
+      let head = heading_agrees systems constants_at p owner s m below (routine_tokens r ks) r none named.agree in
       let ann = announced_agrees systems constants_at p a hd.scopes m below (with_routine m r) (meant.heading_of (with_routine m r) r.kind).scope (routine_tokens r ks) (all_tokens part_tokens r.parts (r.body.at ∷ ks)) r head.value refl fresh named.agree head.step.agree head.step.outer head.step.settled head.step.more head.result in
       let body = body_agrees owner a hd.scopes m below (routine_tokens r ks) ks r head.value fresh named.agree ann small few
       (subst (λ (j : Judged (Option ValueType)). faults (routines.opened owner r (announced_of r j hd.scopes)).uses ≡ []) head.is (none_right (faults hd.result) (faults (routines.opened owner r (announced_of r hd.result hd.scopes)).uses) e)) in
@@ -169,14 +169,14 @@ module _ (systems : ℕ → ℕ) (constants_at : ℕ → List Name) (p : Program
     pub places : AreAgreed systems p (routine_places owner s rs) (routine_openings n m rs)
     pub step : StepResult systems constants_at p false None s (routine_steps owner s rs).scopes (with_routines m rs) below ks
 
-  pub routines_agree : (owner : Option SystemKind) (s : Scopes) (m below : scopes.Scope) (ks : List ℕ) (n : ℕ) (rs : List Routine) → (routine_steps owner s rs).faults ≡ [] → Each IsRoutineApart rs → Each IsSmallRoutine rs → Each (IsFew constants_at) (each_in in_routine rs) → s.inner.pending ≡ [] → Agree systems constants_at p false None s m below (all_tokens routine_tokens rs ks) →
+  pub routines_agree : (owner : Option SystemKind) (s : Scopes) (m below : scopes.Scope) (ks : List ℕ) (n : ℕ) (rs : List Routine) → (routine_steps owner s rs).faults ≡ [] → Each IsSmallRoutine rs → Each (IsFew constants_at) (each_in in_routine rs) → s.inner.pending ≡ [] → Agree systems constants_at p false None s m below (all_tokens routine_tokens rs ks) →
       RoutinesResult owner s m below ks n rs
   unfolding routine_steps
-  routines_agree owner s m below ks n [] e apart small few empty h = record { places = tt; step = step_same systems constants_at p false None s m below ks empty h }
-  routines_agree owner s m below ks n (r ∷ rs) e apart small few empty h =
+  routines_agree owner s m below ks n [] e small few empty h = record { places = tt; step = step_same systems constants_at p false None s m below ks empty h }
+  routines_agree owner s m below ks n (r ∷ rs) e small few empty h =
       let t : Scopes = (routine_step owner s r).scopes in
       let js : List ℕ = all_tokens routine_tokens rs ks in
       let k : scopes.Scope = with_routine m r in
-      let first : RoutineResult owner s m below js n r = routine_agrees owner s m below js n r (none_left (routine_step owner s r).faults (routine_steps owner t rs).faults e) apart.0 small.0 (each_left (IsFew constants_at) (in_routine r) (each_in in_routine rs) few) empty h in
-      let rest : RoutinesResult owner t k below ks n rs = routines_agree owner t k below ks n rs (none_right (routine_step owner s r).faults (routine_steps owner t rs).faults e) apart.1 small.1 (each_right (IsFew constants_at) (in_routine r) (each_in in_routine rs) few) first.step.settled first.step.agree in
+      let first : RoutineResult owner s m below js n r = routine_agrees owner s m below js n r (none_left (routine_step owner s r).faults (routine_steps owner t rs).faults e) small.0 (each_left (IsFew constants_at) (in_routine r) (each_in in_routine rs) few) empty h in
+      let rest : RoutinesResult owner t k below ks n rs = routines_agree owner t k below ks n rs (none_right (routine_step owner s r).faults (routine_steps owner t rs).faults e) small.1 (each_right (IsFew constants_at) (in_routine r) (each_in in_routine rs) few) first.step.settled first.step.agree in
       record { places = (first.place, rest.places); step = step_then systems constants_at p false None s t (routine_steps owner t rs).scopes k (with_routines k rs) below js ks first.step rest.step }

@@ -16,9 +16,9 @@ use Rattle.cp_meaning.specs.Types as named
 use Rattle.cp_meaning.specs.Types.{Ty, FieldTypes}
 use Rattle.cp_meaning.specs.Scopes as scopes
 use Rattle.cp_meaning.specs.Scopes.{find, since, is_seen, seen_inside}
-use Rattle.cp_meaning.specs.Declarations.{routine_in}
+use Rattle.cp_meaning.specs.Declarations.{routine_in, type_named}
 use Rattle.cp_meaning.specs.Expressions.{routine_of_type}
-use Rattle.cp_resolved.specs.Standing.{IsFit}
+use Rattle.cp_resolved.specs.Standing.{IsFit, is_standing}
 use Rattle.cp_resolved.specs.Tokens.{AreDifferent}
 use Rattle.cp_resolved.specs.Typed.{Written, TypeIs, FieldsAre, ResultIs, VariableIs, KindIs, RoutineIs, MeaningIs}
 use Rattle.cp_resolved.proofs.Agreeing.{itself, is_itself, unknown, find_last, new_names, inner_look, look_is, More, with_more, with_there, with_other, AreFree, free_others}
@@ -159,6 +159,7 @@ module _ (systems : ℕ → ℕ) (constants_at : ℕ → List Name) where
   pub record Below (m below : scopes.Scope) (x : Name) : Type 0 where
     pub found : find x below ≡ find x m
     pub rest : since x below ≡ since x m
+    pub latest : type_named below x ≡ type_named m x
 
   abbrev pub IsStacked : Scopes → (m below : scopes.Scope) → Name → Option (Option Meaning) → Type 0
   IsStacked s m below x None = Below m below x
@@ -195,11 +196,19 @@ module _ (systems : ℕ → ℕ) (constants_at : ℕ → List Name) where
   pub since_other : (x n : Name) (d : scopes.Meaning) (m : scopes.Scope) → bytes_eq x n ≡ false → since x m ≡ since x ((n, d) ∷ m)
   since_other x n d m h = ap (λ (b : Bool). if b then (n, d) ∷ m else since x m) (sym h)
 
+  type_other : (x n : Name) (d : scopes.Meaning) (m : scopes.Scope) → bytes_eq x n ≡ false → type_named m x ≡ type_named ((n, d) ∷ m) x
+  type_other x n (scopes.type_meaning t) m h = ap (λ (b : Bool). if b then t else type_named m x) (sym h)
+  type_other x n (scopes.constant_meaning b z) m h = refl
+  type_other x n (scopes.local_variable t) m h = refl
+  type_other x n (scopes.permanent_variable t) m h = refl
+  type_other x n (scopes.routine_meaning r) m h = refl
+  type_other x n (scopes.standard_meaning q) m h = refl
+
   pub new_known : (t : Scopes) (m : scopes.Scope) (n : Name) (c : Meaning) (d : scopes.Meaning) → New t n c d → Known t ((n, d) ∷ m) n c
   new_known t m n c d h = record { means = subst (MeaningIs (W t.shapes) t n ((n, d) ∷ m) c) (find_first n d m) (h.means m); there = h.there; fit = subst IsFit (find_first n d m) h.fit; given = subst (IsGiven constants_at) (find_first n d m) h.given }
 
   stacked_other : (s t : Scopes) (m below : scopes.Scope) (x n : Name) (d : scopes.Meaning) (o : Option (Option Meaning)) → More s.shapes t.shapes → bytes_eq x n ≡ false → IsStacked s m below x o → IsStacked t ((n, d) ∷ m) below x o
-  stacked_other s t m below x n d None more e h = record { found = h.found ∙ find_other x n d m e; rest = h.rest ∙ since_other x n d m e }
+  stacked_other s t m below x n d None more e h = record { found = h.found ∙ find_other x n d m e; rest = h.rest ∙ since_other x n d m e; latest = h.latest ∙ type_other x n d m e }
   stacked_other s t m below x n d (Some None) more e h = h
   stacked_other s t m below x n d (Some (Some c)) more e h = known_moved s t m ((n, d) ∷ m) x c more (find_other x n d m e) (since_other x n d m e) h
 
@@ -221,6 +230,33 @@ module _ (systems : ℕ → ℕ) (constants_at : ℕ → List Name) where
   viewed false m = m
   viewed true m = seen_inside m
 
+  -- where a type is written, a name that stands for a type is the latest type of that name
+  abbrev pub IsTypeKnown : Scopes → scopes.Scope → Name → Option (Option Meaning) → Type 0
+  IsTypeKnown s m x None = Unit {0}
+  IsTypeKnown s m x (Some None) = ⊥
+  IsTypeKnown s m x (Some (Some (meaning.Kind v))) = TypeIs (W s.shapes) (type_named m x) v × (is_standing (type_named m x) ≡ true)
+  IsTypeKnown s m x (Some (Some c)) = Unit {0}
+
+  type_known_more : (s t : Scopes) (m : scopes.Scope) (x : Name) (o : Option (Option Meaning)) → More s.shapes t.shapes → IsTypeKnown s m x o → IsTypeKnown t m x o
+  type_known_more s t m x None more h = tt
+  type_known_more s t m x (Some None) more h = h
+  type_known_more s t m x (Some (Some (meaning.Kind v))) more h = (type_more s.shapes t.shapes more (type_named m x) v h.0, h.1)
+  type_known_more s t m x (Some (Some (meaning.Constant b z))) more h = tt
+  type_known_more s t m x (Some (Some (meaning.Variable v))) more h = tt
+  type_known_more s t m x (Some (Some (meaning.Parameter v))) more h = tt
+  type_known_more s t m x (Some (Some (meaning.Reference v))) more h = tt
+  type_known_more s t m x (Some (Some (meaning.Routine n))) more h = tt
+  type_known_more s t m x (Some (Some (meaning.Predeclared q))) more h = tt
+
+  -- in a heading: what the name of its routine stands for outside
+  abbrev pub OwnIs : Option Name → Scopes → scopes.Scope → Type 0
+  OwnIs None s m = Unit {0}
+  OwnIs (Some n) s m = IsTypeKnown s m n (look_outer n s.outer)
+
+  own_moved : (but : Option Name) (s t : Scopes) (m : scopes.Scope) → More s.shapes t.shapes → t.outer ≡ s.outer → OwnIs but s m → OwnIs but t m
+  own_moved None s t m more o h = tt
+  own_moved (Some n) s t m more o h = subst (λ (cs : List Scope). IsTypeKnown t m n (look_outer n cs)) (sym o) (type_known_more s t m n (look_outer n s.outer) more h)
+
   module _ (p : Program) where
     abbrev pub AreEntries : Scopes → Type 0
     AreEntries s = (k n : ℕ) (y : Name) → member_at (systems k) y s ≡ Some (Some (meaning.Routine n)) → ResultIs (heading_at n s).result (routine_of_type p (named.component_of k) y) × HeadingThere n s.shapes
@@ -231,6 +267,7 @@ module _ (systems : ℕ → ℕ) (constants_at : ℕ → List Name) where
       pub names : Stacked (inner_look false s) s m below
       pub seen : Stacked (inner_look inside s) s (viewed inside m) below
       pub outer : (x : Name) → IsBut but x → IsKnown s below x (look_outer x s.outer)
+      pub own : OwnIs but s below
       pub base : (x : Name) → IsFit (find x below)
       pub free : AreFree s.shapes ks
       pub different : AreDifferent ks
@@ -268,6 +305,7 @@ module _ (systems : ℕ → ℕ) (constants_at : ℕ → List Name) where
           names = stacked_more (inner_look false s) (inner_look false t) s t m below more (λ x. ap (checker.find x) n) h.names;
           seen = stacked_more (inner_look b s) (inner_look b t) s t (viewed b m) below more (λ x. ap (λ (ds : Names). if b then through_seal (checker.find x ds) else checker.find x ds) n) h.seen;
           outer = λ x g. is_known_moved s t below below x (look_outer x t.outer) more refl refl (subst (λ (cs : List Scope). IsKnown s below x (look_outer x cs)) (sym o) (h.outer x g));
+          own = own_moved but s t below more o h.own;
           base = h.base;
           free = subst (λ (ss : Shapes). AreFree ss ks) (sym e) h.free;
           different = h.different;
@@ -308,6 +346,7 @@ module _ (systems : ℕ → ℕ) (constants_at : ℕ → List Name) where
           names = stacked_more (inner_look false s) (inner_look false s) s (keep s k d) m below more (λ x. refl) h.names;
           seen = stacked_more (inner_look b s) (inner_look b s) s (keep s k d) (viewed b m) below more (λ x. refl) h.seen;
           outer = λ x g. is_known_moved s (keep s k d) below below x (look_outer x s.outer) more refl refl (h.outer x g);
+          own = own_moved but s (keep s k d) below more refl h.own;
           base = h.base;
           free = free_others s.shapes k d ks h.free.0 h.different.0 h.free.1;
           different = h.different.1;
@@ -387,6 +426,7 @@ module _ (systems : ℕ → ℕ) (constants_at : ℕ → List Name) where
           names = all;
           seen = go b same within h.seen;
           outer = λ x g. is_known_moved s (add s n (Some c)) below below x (look_outer x s.outer) (λ i g e. e) refl refl (h.outer x g);
+          own = own_moved but s (add s n (Some c)) below (λ i g e. e) refl h.own;
           base = h.base;
           free = h.free;
           different = h.different;
@@ -413,6 +453,7 @@ module _ (systems : ℕ → ℕ) (constants_at : ℕ → List Name) where
           names = stacked_more (inner_look false s) (inner_look false t) s t m below more (λ x. ap (checker.find x) n) h.names;
           seen = stacked_more (inner_look b s) (inner_look b t) s t (viewed b m) below more (λ x. ap (λ (ds : Names). if b then through_seal (checker.find x ds) else checker.find x ds) n) h.seen;
           outer = λ x g. is_known_moved s t below below x (look_outer x t.outer) more refl refl (subst (λ (cs : List Scope). IsKnown s below x (look_outer x cs)) (sym o) (h.outer x g));
+          own = own_moved but s t below more o h.own;
           base = h.base;
           free = free;
           different = different;

@@ -30,7 +30,7 @@ use Rattle.cp_meaning.specs.Declarations as meant
 use Rattle.cp_meaning.specs.Systems.{SystemMeaning, system_in, Declared, definition_in, definitions_in, program_part_in, program_parts_in, declared, program_system, own_meaning, with_routines}
 use Rattle.cp_resolved.specs.Enumerations.{in_routine, in_definition, in_program_part, each_in, enumerations_of}
 use Rattle.cp_resolved.specs.Fit.{nothing_declared}
-use Rattle.cp_resolved.specs.Judging.{Place, definition_places, definitions_places, part_places, parts_places, routine_places, places_of, IsDefinitionApart, IsPartApart, AreHeadingsApart, AreAgreed}
+use Rattle.cp_resolved.specs.Judging.{Place, definition_places, definitions_places, part_places, parts_places, routine_places, places_of, AreAgreed}
 use Rattle.cp_resolved.specs.Openings.{Opening, definition_openings, definitions_openings, part_openings, parts_openings, routine_openings, initial_opening, openings_of}
 use Rattle.cp_resolved.specs.Small.{Each, IsSmallDefinition, IsSmallProgramPart, IsSmallProgram}
 use Rattle.cp_resolved.specs.Standing.{IsFit, IsStandingVariable, IsStandingParameter}
@@ -80,10 +80,10 @@ module _ (systems : ℕ → ℕ) (constants_at : ℕ → List Name) (p : Program
   each_last [] m h g = (g, tt)
   each_last (x ∷ ms) m h g = (h.0, each_last ms m h.1 g)
 
-  defined_agrees : (s a : Scopes) (d : Declared) (below : scopes.Scope) (ks : List ℕ) (n : SystemDefinition) (v : Definition) → NamesResult systems constants_at p true None s a (n.name ∷ []) d.scope below (definition_tokens v ks) → faults (systems_of.defined a v).type ≡ [] → IsNumberedDefinition d v → IsDefinitionApart v → IsSmallDefinition v → Each (IsFew constants_at) (in_definition v) →
+  defined_agrees : (s a : Scopes) (d : Declared) (below : scopes.Scope) (ks : List ℕ) (n : SystemDefinition) (v : Definition) → NamesResult systems constants_at p true None s a (n.name ∷ []) d.scope below (definition_tokens v ks) → faults (systems_of.defined a v).type ≡ [] → IsNumberedDefinition d v → IsSmallDefinition v → Each (IsFew constants_at) (in_definition v) →
       DefinedResult s (add_one (systems_of.defined a v).scopes n.name (as_declared ((systems_of.defined a v).type >>= to_kind))) d (definition_in d n v) below ks (definition_places a v) (definition_openings d v)
   unfolding systems_of.defined
-  defined_agrees s a d below ks n (type_definition t) r e number apart small few =
+  defined_agrees s a d below ks n (type_definition t) r e number small few =
       let w = type_reached systems constants_at p true s a (n.name ∷ []) d.scope below ks spot.Definition t r e small few in
       record {
         places = tt;
@@ -91,10 +91,10 @@ module _ (systems : ℕ → ℕ) (constants_at : ℕ → List Name) (p : Program
         types = λ h. h;
         variables = λ h. h;
       }
-  defined_agrees s a d below ks n (system_definition y) r e number apart small few =
+  defined_agrees s a d below ks n (system_definition y) r e number small few =
       let c : ℕ = length d.systems in
       let t : Typed = systems_of.system_typed a y in
-      let w = system_agrees systems constants_at p a d.scope below ks c y number e apart small few r.agree in
+      let w = system_agrees systems constants_at p a d.scope below ks c y number e small few r.agree in
       record {
         places = w.places;
         step = kind_declared systems constants_at p true s n.name t d.scope below ks (named.component_of c) (types.Component y.kind y.at) w.is (record { kind = y.kind; is = ap (types.Component y.kind) (sym number.token) }) refl
@@ -103,11 +103,11 @@ module _ (systems : ℕ → ℕ) (constants_at : ℕ → List Name) (p : Program
         variables = λ h. h;
       }
 
-  definitions_agree : (s : Scopes) (d : Declared) (below : scopes.Scope) (ks : List ℕ) (ns : List SystemDefinition) → (definition_steps s ns).faults ≡ [] → AreNumberedDefinitions d ns → Each (λ n. IsDefinitionApart n.value) ns → Each (λ n. IsSmallDefinition n.value) ns → Each (IsFew constants_at) (each_in (λ n. in_definition n.value) ns) → s.inner.pending ≡ [] → Agree systems constants_at p true None s d.scope below (all_tokens (λ n. definition_tokens n.value) ns ks) →
+  definitions_agree : (s : Scopes) (d : Declared) (below : scopes.Scope) (ks : List ℕ) (ns : List SystemDefinition) → (definition_steps s ns).faults ≡ [] → AreNumberedDefinitions d ns → Each (λ n. IsSmallDefinition n.value) ns → Each (IsFew constants_at) (each_in (λ n. in_definition n.value) ns) → s.inner.pending ≡ [] → Agree systems constants_at p true None s d.scope below (all_tokens (λ n. definition_tokens n.value) ns ks) →
       DefinedResult s (definition_steps s ns).scopes d (definitions_in d ns) below ks (definitions_places s ns) (definitions_openings d ns)
   unfolding definition_steps definition_step
-  definitions_agree s d below ks [] e number apart small few empty h = record { places = tt; step = step_same systems constants_at p true None s d.scope below ks empty h; types = λ i. i; variables = λ i. i }
-  definitions_agree s d below ks (n ∷ ns) e number apart small few empty h =
+  definitions_agree s d below ks [] e number small few empty h = record { places = tt; step = step_same systems constants_at p true None s d.scope below ks empty h; types = λ i. i; variables = λ i. i }
+  definitions_agree s d below ks (n ∷ ns) e number small few empty h =
       let a : Scopes = (reserve_name s n.name).scopes in
       let x : Typed = systems_of.defined a n.value in
       let t : Scopes = (definition_step s n).scopes in
@@ -115,8 +115,8 @@ module _ (systems : ℕ → ℕ) (constants_at : ℕ → List Name) (p : Program
       let k : Declared = definition_in d n n.value in
       let first : (reserve_name s n.name).faults ++ faults (x.type >>= to_kind) ≡ [] = none_left ((reserve_name s n.name).faults ++ faults (x.type >>= to_kind)) (definition_steps t ns).faults e in
       let r = name_result systems constants_at p true None s n.name d.scope below (definition_tokens n.value js) (none_left (reserve_name s n.name).faults (faults (x.type >>= to_kind)) first) empty h in
-      let one = defined_agrees s a d below js n n.value r (none_first x.type to_kind (none_right (reserve_name s n.name).faults (faults (x.type >>= to_kind)) first)) number.0 apart.0 small.0 (each_left (IsFew constants_at) (in_definition n.value) (each_in (λ (c : SystemDefinition). in_definition c.value) ns) few) in
-      let rest = definitions_agree t k below ks ns (none_right ((reserve_name s n.name).faults ++ faults (x.type >>= to_kind)) (definition_steps t ns).faults e) number.1 apart.1 small.1 (each_right (IsFew constants_at) (in_definition n.value) (each_in (λ (c : SystemDefinition). in_definition c.value) ns) few) one.step.settled one.step.agree in
+      let one = defined_agrees s a d below js n n.value r (none_first x.type to_kind (none_right (reserve_name s n.name).faults (faults (x.type >>= to_kind)) first)) number.0 small.0 (each_left (IsFew constants_at) (in_definition n.value) (each_in (λ (c : SystemDefinition). in_definition c.value) ns) few) in
+      let rest = definitions_agree t k below ks ns (none_right ((reserve_name s n.name).faults ++ faults (x.type >>= to_kind)) (definition_steps t ns).faults e) number.1 small.1 (each_right (IsFew constants_at) (in_definition n.value) (each_in (λ (c : SystemDefinition). in_definition c.value) ns) few) one.step.settled one.step.agree in
       record {
         places = agreed_append systems p (definition_places a n.value) (definitions_places t ns) (definition_openings d n.value) (definitions_openings k ns) one.places rest.places;
         step = step_then systems constants_at p true None s t (definition_steps t ns).scopes k.scope (definitions_in k ns).scope below js ks one.step rest.step;
@@ -126,12 +126,12 @@ module _ (systems : ℕ → ℕ) (constants_at : ℕ → List Name) (p : Program
 
   -- ---- parts of the program
 
-  part_agrees : (s : Scopes) (d : Declared) (below : scopes.Scope) (ks : List ℕ) (q : ProgramPart) → (program_part_step s q).faults ≡ [] → IsNumberedPart d q → IsPartApart q → IsSmallProgramPart q → Each (IsFew constants_at) (in_program_part q) → s.inner.pending ≡ [] → Agree systems constants_at p true None s d.scope below (program_part_tokens q ks) →
+  part_agrees : (s : Scopes) (d : Declared) (below : scopes.Scope) (ks : List ℕ) (q : ProgramPart) → (program_part_step s q).faults ≡ [] → IsNumberedPart d q → IsSmallProgramPart q → Each (IsFew constants_at) (in_program_part q) → s.inner.pending ≡ [] → Agree systems constants_at p true None s d.scope below (program_part_tokens q ks) →
       DefinedResult s (program_part_step s q).scopes d (program_part_in d q) below ks (part_places s q) (part_openings d q)
   unfolding program_part_step
-  part_agrees s d below ks (program_constants at ds) e number apart small few empty h = record { places = tt; step = constants_agree systems constants_at p true s d.scope below ks ds e small empty h; types = λ i. i; variables = λ i. i }
-  part_agrees s d below ks (program_types at ns) e number apart small few empty h = definitions_agree s d below ks ns e number apart small few empty h
-  part_agrees s d below ks (program_variables at gs) e number apart small few empty h =
+  part_agrees s d below ks (program_constants at ds) e number small few empty h = record { places = tt; step = constants_agree systems constants_at p true s d.scope below ks ds e small empty h; types = λ i. i; variables = λ i. i }
+  part_agrees s d below ks (program_types at ns) e number small few empty h = definitions_agree s d below ks ns e number small few empty h
+  part_agrees s d below ks (program_variables at gs) e number small few empty h =
       record {
         places = tt;
         step = variables_agree systems constants_at p true (spot.Permanent None) scopes.permanent_variable (permanent_kind systems constants_at p true None) s (record { variables = d.variables; scope = d.scope }) below ks gs e small few empty h;
@@ -139,16 +139,16 @@ module _ (systems : ℕ → ℕ) (constants_at : ℕ → List Name) (p : Program
         variables = variables_stand systems constants_at p true (spot.Permanent None) scopes.permanent_variable (permanent_kind systems constants_at p true None) s (record { variables = d.variables; scope = d.scope }) below ks gs e small few empty h;
       }
 
-  parts_agree : (s : Scopes) (d : Declared) (below : scopes.Scope) (ks : List ℕ) (qs : List ProgramPart) → (program_part_steps s qs).faults ≡ [] → AreNumberedParts d qs → Each IsPartApart qs → Each IsSmallProgramPart qs → Each (IsFew constants_at) (each_in in_program_part qs) → s.inner.pending ≡ [] → Agree systems constants_at p true None s d.scope below (all_tokens program_part_tokens qs ks) →
+  parts_agree : (s : Scopes) (d : Declared) (below : scopes.Scope) (ks : List ℕ) (qs : List ProgramPart) → (program_part_steps s qs).faults ≡ [] → AreNumberedParts d qs → Each IsSmallProgramPart qs → Each (IsFew constants_at) (each_in in_program_part qs) → s.inner.pending ≡ [] → Agree systems constants_at p true None s d.scope below (all_tokens program_part_tokens qs ks) →
       DefinedResult s (program_part_steps s qs).scopes d (program_parts_in d qs) below ks (parts_places s qs) (parts_openings d qs)
   unfolding program_part_steps
-  parts_agree s d below ks [] e number apart small few empty h = record { places = tt; step = step_same systems constants_at p true None s d.scope below ks empty h; types = λ i. i; variables = λ i. i }
-  parts_agree s d below ks (q ∷ qs) e number apart small few empty h =
+  parts_agree s d below ks [] e number small few empty h = record { places = tt; step = step_same systems constants_at p true None s d.scope below ks empty h; types = λ i. i; variables = λ i. i }
+  parts_agree s d below ks (q ∷ qs) e number small few empty h =
       let t : Scopes = (program_part_step s q).scopes in
       let js : List ℕ = all_tokens program_part_tokens qs ks in
       let k : Declared = program_part_in d q in
-      let one = part_agrees s d below js q (none_left (program_part_step s q).faults (program_part_steps t qs).faults e) number.0 apart.0 small.0 (each_left (IsFew constants_at) (in_program_part q) (each_in in_program_part qs) few) empty h in
-      let rest = parts_agree t k below ks qs (none_right (program_part_step s q).faults (program_part_steps t qs).faults e) number.1 apart.1 small.1 (each_right (IsFew constants_at) (in_program_part q) (each_in in_program_part qs) few) one.step.settled one.step.agree in
+      let one = part_agrees s d below js q (none_left (program_part_step s q).faults (program_part_steps t qs).faults e) number.0 small.0 (each_left (IsFew constants_at) (in_program_part q) (each_in in_program_part qs) few) empty h in
+      let rest = parts_agree t k below ks qs (none_right (program_part_step s q).faults (program_part_steps t qs).faults e) number.1 small.1 (each_right (IsFew constants_at) (in_program_part q) (each_in in_program_part qs) few) one.step.settled one.step.agree in
       record {
         places = agreed_append systems p (part_places s q) (parts_places t qs) (part_openings d q) (parts_openings k qs) one.places rest.places;
         step = step_then systems constants_at p true None s t (program_part_steps t qs).scopes k.scope (program_parts_in k qs).scope below js ks one.step rest.step;
@@ -289,9 +289,10 @@ module _ (systems : ℕ → ℕ) (constants_at : ℕ → List Name) (p : Program
   start_agrees ks different =
       record {
         unsealed = refl;
-        names = λ x. record { found = refl; rest = refl };
-        seen = λ x. record { found = refl; rest = refl };
+        names = λ x. record { found = refl; rest = refl; latest = refl };
+        seen = λ x. record { found = refl; rest = refl; latest = refl };
         outer = λ x g. always_known start x (look_outer x start.outer) (always_found x (look_scope start).names predeclared predeclared_always);
+        own = tt;
         base = λ x. always_fit (look_outer x start.outer) (find x predeclared) (always_found x (look_scope start).names predeclared predeclared_always);
         free = all_free ks;
         different = different;
@@ -301,7 +302,7 @@ module _ (systems : ℕ → ℕ) (constants_at : ℕ → List Name) (p : Program
   -- ---- the program
 
   agree_plain : (s : Scopes) (m below : scopes.Scope) (ks : List ℕ) → Agree systems constants_at p true None s m below ks → Agree systems constants_at p false None s m below ks
-  agree_plain s m below ks h = record { unsealed = h.unsealed; names = h.names; seen = h.names; outer = h.outer; base = h.base; free = h.free; different = h.different; entries = h.entries }
+  agree_plain s m below ks h = record { unsealed = h.unsealed; names = h.names; seen = h.names; outer = h.outer; own = tt; base = h.base; free = h.free; different = h.different; entries = h.entries }
 
   uses_sound : (at : ℕ) (s : Scopes) (j : Judged Use) → limit_faults at s j ≡ [] → faults j ≡ []
   uses_sound at s (Ok u) k = refl
@@ -316,9 +317,9 @@ module _ (systems : ℕ → ℕ) (constants_at : ℕ → List Name) (p : Program
     pub types : Each IsStandingSystem (declared p).systems
     pub variables : Each IsStandingVariable (declared p).variables
 
-  pub program_agrees : (t : Tree) → p ≡ t.program → faults_of t ≡ [] → AreNumberedParts nothing_declared p.parts → AreHeadingsApart p → IsSmallProgram p → Each (IsFew constants_at) (enumerations_of p) → AreDifferent (program_tokens p) → ProgramResult
+  pub program_agrees : (t : Tree) → p ≡ t.program → faults_of t ≡ [] → AreNumberedParts nothing_declared p.parts → IsSmallProgram p → Each (IsFew constants_at) (enumerations_of p) → AreDifferent (program_tokens p) → ProgramResult
   unfolding faults_of opened declarations
-  program_agrees t is e number apart small few different =
+  program_agrees t is e number small few different =
       let none : faults (opened start p).uses ≡ [] = subst (λ (q : Program). faults (opened start q).uses ≡ []) (sym is) (uses_sound t.program.period (opened start t.program).scopes (opened start t.program).uses e) in
       let d : Step = declarations start p in
       let j : Judged Use = statements d.scopes program_context (Ok no_use) p.body.statements in
@@ -326,9 +327,9 @@ module _ (systems : ℕ → ℕ) (constants_at : ℕ → List Name) (p : Program
       let a : Step = program_part_steps start p.parts in
       let b : Step = routine_steps None a.scopes p.routines in
       let js : List ℕ = all_tokens routine_tokens p.routines (p.period ∷ []) in
-      let parts = parts_agree start nothing_declared predeclared js p.parts (none_left a.faults b.faults sound) number apart.0 small.0 (each_left (IsFew constants_at) (each_in in_program_part p.parts) (each_in in_routine p.routines) few) start_settled (start_agrees (program_tokens p) different) in
+      let parts = parts_agree start nothing_declared predeclared js p.parts (none_left a.faults b.faults sound) number small.0 (each_left (IsFew constants_at) (each_in in_program_part p.parts) (each_in in_routine p.routines) few) start_settled (start_agrees (program_tokens p) different) in
       let k : scopes.Scope = (declared p).scope in
-      let routines = routines_agree systems constants_at p None a.scopes k predeclared (p.period ∷ []) (program_system p) p.routines (none_right a.faults b.faults sound) apart.1 small.1 (each_right (IsFew constants_at) (each_in in_program_part p.parts) (each_in in_routine p.routines) few) parts.step.settled (agree_plain a.scopes k predeclared js parts.step.agree) in
+      let routines = routines_agree systems constants_at p None a.scopes k predeclared (p.period ∷ []) (program_system p) p.routines (none_right a.faults b.faults sound) small.1 (each_right (IsFew constants_at) (each_in in_program_part p.parts) (each_in in_routine p.routines) few) parts.step.settled (agree_plain a.scopes k predeclared js parts.step.agree) in
       let last : Opening = initial_opening (program_system p) (own_meaning (declared p) p) in
       let place : Place = record { scopes = d.scopes; context = program_context } in
       record {

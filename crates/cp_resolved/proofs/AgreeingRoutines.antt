@@ -31,14 +31,13 @@ use Rattle.cp_meaning.specs.Scopes as scopes
 use Rattle.cp_meaning.specs.Scopes.{find, since, routine_meaning}
 use Rattle.cp_meaning.specs.Declarations as meant
 use Rattle.cp_meaning.specs.Declarations.{routine_in}
-use Rattle.cp_resolved.specs.Judging.{AreApart, AreParametersApart, IsHeadingApart, IsRoutineApart}
 use Rattle.cp_resolved.specs.Openings.{with_routine}
 use Rattle.cp_resolved.specs.Small.{Each}
 use Rattle.cp_resolved.specs.Standing.{is_free, IsFit, IsFreeParameter, IsFreeResult}
 use Rattle.cp_resolved.specs.Typed.{TypeIs, IsOrdinalResult, ResultIs, RoutineIs}
 use Rattle.cp_resolved.proofs.Agreeing.{Good, good_then, good_sound, none_left, none_right, none_first, itself, is_itself, new_names, look_last, look_is, look_entered, find_last, inner_look, More, more_same, more_trans, with_more, with_there}
-use Rattle.cp_resolved.proofs.AgreeingNames.{W, IsGiven, New, Known, IsKnown, is_known_moved, stacked_more, IsBut, find_first, find_other, since_other, last_or, Agree, sees, fits, agree_kept}
-use Rattle.cp_resolved.proofs.AgreeingTypes.{Held, held_named, KindOf, type_named, IsOrdinal, ordinal_of}
+use Rattle.cp_resolved.proofs.AgreeingNames.{W, IsTypeKnown, IsGiven, New, Known, IsKnown, is_known_moved, stacked_more, find_first, find_other, since_other, last_or, Agree, sees, fits, agree_kept}
+use Rattle.cp_resolved.proofs.AgreeingTypes.{Held, held_named, KindOf, IsOrdinal, ordinal_of, type_seen, known_type}
 use Rattle.cp_resolved.proofs.AgreeingParts.{free_plain, StepResult, step_then, step_same, names_result, all_declared}
 use Rattle.cp_resolved.proofs.Reserving.{pending_fresh}
 
@@ -66,51 +65,51 @@ module _ (systems : ℕ → ℕ) (constants_at : ℕ → List Name) (p : Program
   admitted_good ss at (holds.Component system_kind.Process) t v b k = tt
   admitted_good ss at (holds.Components j) t v b k = tt
 
-  parameter_good : (s : Scopes) (m : scopes.Scope) (g : Group) → IsKnown systems constants_at s m g.type_name.name (look g.type_name.name s) → Good (PlainType s.shapes (meant.type_named m g.type_name.name)) (headings.parameter_type s g)
+  parameter_good : (s : Scopes) (m : scopes.Scope) (g : Group) → Good (KindOf systems constants_at s.shapes (meant.type_named m g.type_name.name)) (typing.type_named s g.type_name.at g.type_name.name) → Good (PlainType s.shapes (meant.type_named m g.type_name.name)) (headings.parameter_type s g)
   unfolding headings.parameter_type
   parameter_good s m g h =
       good_then (KindOf systems constants_at s.shapes (meant.type_named m g.type_name.name)) (PlainType s.shapes (meant.type_named m g.type_name.name)) (typing.type_named s g.type_name.at g.type_name.name) (headings.admitted_in s g.type_name.at)
-      (type_named systems constants_at s m g.type_name.at g.type_name.name h)
+      h
       (λ v k. admitted_good s.shapes g.type_name.at (typing.holding s v) (meant.type_named m g.type_name.name) v k.belongs (held_named (W systems constants_at s.shapes) s (meant.type_named m g.type_name.name) v refl k.belongs k.standing))
 
   parameter_new : (is_var : Bool) (ss : Shapes) (u : Scopes) (n : Name) (t : Ty) (v : ValueType) → u.shapes ≡ ss → PlainType ss t v → New systems constants_at u n (if is_var then meaning.Reference v else meaning.Parameter v) (scopes.local_variable t)
   parameter_new true ss u n t v e h = record { means = λ r. (subst (λ us. TypeIs (W systems constants_at us) t v) (sym e) h.belongs, free_plain t h.free); there = tt; fit = h.free; given = tt }
   parameter_new false ss u n t v e h = record { means = λ r. (subst (λ us. TypeIs (W systems constants_at us) t v) (sym e) h.belongs, free_plain t h.free); there = tt; fit = h.free; given = tt }
 
-  group_agrees : (is_var : Bool) (but : Option Name) (s : Scopes) (m below : scopes.Scope) (ks : List ℕ) (g : Group) → (headings.group_step is_var s g).faults ≡ [] → IsBut systems constants_at but g.type_name.name → s.inner.pending ≡ [] → Agree systems constants_at p false but s m below ks →
+  group_agrees : (is_var : Bool) (but : Option Name) (s : Scopes) (m below : scopes.Scope) (ks : List ℕ) (g : Group) → (headings.group_step is_var s g).faults ≡ [] → s.inner.pending ≡ [] → Agree systems constants_at p false but s m below ks →
       StepResult systems constants_at p false but s (headings.group_step is_var s g).scopes (meant.with_names (meant.names_of g.names) (scopes.local_variable (meant.type_named m g.type_name.name)) m) below ks
   unfolding headings.group_step
-  group_agrees is_var but s m below ks g e other empty h =
+  group_agrees is_var but s m below ks g e empty h =
       let a : Scopes = (reserve_names s g.names).scopes in
       let j : Judged ValueType = headings.parameter_type a g in
       let t : Ty = meant.type_named m g.type_name.name in
       let r = names_result systems constants_at p false but s g.names m below ks (none_left (reserve_names s g.names).faults (faults (j >>= headings.to_parameter is_var)) e) empty h in
-      let v = good_sound (PlainType a.shapes t) j (parameter_good a m g (sees systems constants_at p false but a m below ks r.agree g.type_name.name other)) (none_first j (headings.to_parameter is_var) (none_right (reserve_names s g.names).faults (faults (j >>= headings.to_parameter is_var)) e)) in
+      let v = good_sound (PlainType a.shapes t) j (parameter_good a m g (type_seen systems constants_at p false but a m below ks g.type_name.at g.type_name.name r.agree)) (none_first j (headings.to_parameter is_var) (none_right (reserve_names s g.names).faults (faults (j >>= headings.to_parameter is_var)) e)) in
       subst (λ (i : Judged ValueType). StepResult systems constants_at p false but s (add_all a g.names (as_declared (i >>= headings.to_parameter is_var))) (meant.with_names (meant.names_of g.names) (scopes.local_variable t) m) below ks) (sym v.is)
       (all_declared systems constants_at p false but s a g.names m below ks (if is_var then meaning.Reference v.value else meaning.Parameter v.value) (scopes.local_variable t) (pending_fresh a.inner g.names a.inner.pending r.reserved.pends r.reserved.all) r.reserved.others (λ i. absurd (cc))
       (λ u i n. parameter_new is_var a.shapes u n t v.value i v.holds) r.outer (λ k d i. ap (shape_in k) r.shapes ∙ i) r.agree)
 
-  groups_agree : (own : Name) (s : Scopes) (h : meant.Heading) (below : scopes.Scope) (ks : List ℕ) (gs : List Group) → (headings.group_steps s gs).faults ≡ [] → AreApart own gs → s.inner.pending ≡ [] → Agree systems constants_at p false (Some own) s h.scope below ks →
+  groups_agree : (own : Name) (s : Scopes) (h : meant.Heading) (below : scopes.Scope) (ks : List ℕ) (gs : List Group) → (headings.group_steps s gs).faults ≡ [] → s.inner.pending ≡ [] → Agree systems constants_at p false (Some own) s h.scope below ks →
       StepResult systems constants_at p false (Some own) s (headings.group_steps s gs).scopes (meant.with_groups scopes.local_variable h gs).scope below ks
   unfolding headings.group_steps
-  groups_agree own s h below ks [] e apart empty agree = step_same systems constants_at p false (Some own) s h.scope below ks empty agree
-  groups_agree own s h below ks (g ∷ gs) e apart empty agree =
+  groups_agree own s h below ks [] e empty agree = step_same systems constants_at p false (Some own) s h.scope below ks empty agree
+  groups_agree own s h below ks (g ∷ gs) e empty agree =
       let t : Scopes = (headings.group_step false s g).scopes in
       let k : meant.Heading = meant.with_group scopes.local_variable false h g in
-      let r = group_agrees false (Some own) s h.scope below ks g (none_left (headings.group_step false s g).faults (headings.group_steps t gs).faults e) apart.0 empty agree in
+      let r = group_agrees false (Some own) s h.scope below ks g (none_left (headings.group_step false s g).faults (headings.group_steps t gs).faults e) empty agree in
       step_then systems constants_at p false (Some own) s t (headings.group_steps t gs).scopes k.scope (meant.with_groups scopes.local_variable k gs).scope below ks ks r
-      (groups_agree own t k below ks gs (none_right (headings.group_step false s g).faults (headings.group_steps t gs).faults e) apart.1 r.settled r.agree)
+      (groups_agree own t k below ks gs (none_right (headings.group_step false s g).faults (headings.group_steps t gs).faults e) r.settled r.agree)
 
-  parameters_agree : (own : Name) (s : Scopes) (h : meant.Heading) (below : scopes.Scope) (ks : List ℕ) (gs : List ParameterGroup) → (headings.parameter_steps s gs).faults ≡ [] → AreParametersApart own gs → s.inner.pending ≡ [] → Agree systems constants_at p false (Some own) s h.scope below ks →
+  parameters_agree : (own : Name) (s : Scopes) (h : meant.Heading) (below : scopes.Scope) (ks : List ℕ) (gs : List ParameterGroup) → (headings.parameter_steps s gs).faults ≡ [] → s.inner.pending ≡ [] → Agree systems constants_at p false (Some own) s h.scope below ks →
       StepResult systems constants_at p false (Some own) s (headings.parameter_steps s gs).scopes (meant.with_parameter_groups h gs).scope below ks
   unfolding headings.parameter_steps
-  parameters_agree own s h below ks [] e apart empty agree = step_same systems constants_at p false (Some own) s h.scope below ks empty agree
-  parameters_agree own s h below ks (g ∷ gs) e apart empty agree =
+  parameters_agree own s h below ks [] e empty agree = step_same systems constants_at p false (Some own) s h.scope below ks empty agree
+  parameters_agree own s h below ks (g ∷ gs) e empty agree =
       let t : Scopes = (headings.parameter_step s g).scopes in
       let k : meant.Heading = meant.with_group scopes.local_variable g.is_var h g.group in
-      let r = group_agrees g.is_var (Some own) s h.scope below ks g.group (none_left (headings.parameter_step s g).faults (headings.parameter_steps t gs).faults e) apart.0 empty agree in
+      let r = group_agrees g.is_var (Some own) s h.scope below ks g.group (none_left (headings.parameter_step s g).faults (headings.parameter_steps t gs).faults e) empty agree in
       step_then systems constants_at p false (Some own) s t (headings.parameter_steps t gs).scopes k.scope (meant.with_parameter_groups k gs).scope below ks ks r
-      (parameters_agree own t k below ks gs (none_right (headings.parameter_step s g).faults (headings.parameter_steps t gs).faults e) apart.1 r.settled r.agree)
+      (parameters_agree own t k below ks gs (none_right (headings.parameter_step s g).faults (headings.parameter_steps t gs).faults e) r.settled r.agree)
 
   -- ---- types of parameters
 
@@ -122,39 +121,39 @@ module _ (systems : ℕ → ℕ) (constants_at : ℕ → List Name) (p : Program
   free_both [] rs h g = g
   free_both (q ∷ qs) rs h g = (h.0, free_both qs rs h.1 g)
 
-  group_free : (is_var : Bool) (but : Option Name) (s : Scopes) (m below : scopes.Scope) (ks : List ℕ) (g : Group) → (headings.group_step is_var s g).faults ≡ [] → IsBut systems constants_at but g.type_name.name → s.inner.pending ≡ [] → Agree systems constants_at p false but s m below ks → is_free (meant.type_named m g.type_name.name) ≡ true
+  group_free : (is_var : Bool) (but : Option Name) (s : Scopes) (m below : scopes.Scope) (ks : List ℕ) (g : Group) → (headings.group_step is_var s g).faults ≡ [] → s.inner.pending ≡ [] → Agree systems constants_at p false but s m below ks → is_free (meant.type_named m g.type_name.name) ≡ true
   unfolding headings.group_step
-  group_free is_var but s m below ks g e other empty h =
+  group_free is_var but s m below ks g e empty h =
       let a : Scopes = (reserve_names s g.names).scopes in
       let j : Judged ValueType = headings.parameter_type a g in
       let t : Ty = meant.type_named m g.type_name.name in
       let r = names_result systems constants_at p false but s g.names m below ks (none_left (reserve_names s g.names).faults (faults (j >>= headings.to_parameter is_var)) e) empty h in
-      let v = good_sound (PlainType a.shapes t) j (parameter_good a m g (sees systems constants_at p false but a m below ks r.agree g.type_name.name other)) (none_first j (headings.to_parameter is_var) (none_right (reserve_names s g.names).faults (faults (j >>= headings.to_parameter is_var)) e)) in
+      let v = good_sound (PlainType a.shapes t) j (parameter_good a m g (type_seen systems constants_at p false but a m below ks g.type_name.at g.type_name.name r.agree)) (none_first j (headings.to_parameter is_var) (none_right (reserve_names s g.names).faults (faults (j >>= headings.to_parameter is_var)) e)) in
       v.holds.free
 
-  groups_free : (own : Name) (s : Scopes) (h : meant.Heading) (below : scopes.Scope) (ks : List ℕ) (gs : List Group) → (headings.group_steps s gs).faults ≡ [] → AreApart own gs → s.inner.pending ≡ [] → Agree systems constants_at p false (Some own) s h.scope below ks → Each IsFreeParameter h.parameters → Each IsFreeParameter (meant.with_groups scopes.local_variable h gs).parameters
+  groups_free : (own : Name) (s : Scopes) (h : meant.Heading) (below : scopes.Scope) (ks : List ℕ) (gs : List Group) → (headings.group_steps s gs).faults ≡ [] → s.inner.pending ≡ [] → Agree systems constants_at p false (Some own) s h.scope below ks → Each IsFreeParameter h.parameters → Each IsFreeParameter (meant.with_groups scopes.local_variable h gs).parameters
   unfolding headings.group_steps
-  groups_free own s h below ks [] e apart empty agree qs = qs
-  groups_free own s h below ks (g ∷ gs) e apart empty agree qs =
+  groups_free own s h below ks [] e empty agree qs = qs
+  groups_free own s h below ks (g ∷ gs) e empty agree qs =
       let t : Scopes = (headings.group_step false s g).scopes in
       let k : meant.Heading = meant.with_group scopes.local_variable false h g in
       let none : (headings.group_step false s g).faults ≡ [] = none_left (headings.group_step false s g).faults (headings.group_steps t gs).faults e in
-      let r = group_agrees false (Some own) s h.scope below ks g none apart.0 empty agree in
+      let r = group_agrees false (Some own) s h.scope below ks g none empty agree in
       let u : Ty = meant.type_named h.scope g.type_name.name in
-      groups_free own t k below ks gs (none_right (headings.group_step false s g).faults (headings.group_steps t gs).faults e) apart.1 r.settled r.agree
-      (free_both h.parameters (meant.parameters_named (meant.names_of g.names) u false) qs (named_free (meant.names_of g.names) u false (group_free false (Some own) s h.scope below ks g none apart.0 empty agree)))
+      groups_free own t k below ks gs (none_right (headings.group_step false s g).faults (headings.group_steps t gs).faults e) r.settled r.agree
+      (free_both h.parameters (meant.parameters_named (meant.names_of g.names) u false) qs (named_free (meant.names_of g.names) u false (group_free false (Some own) s h.scope below ks g none empty agree)))
 
-  parameters_free : (own : Name) (s : Scopes) (h : meant.Heading) (below : scopes.Scope) (ks : List ℕ) (gs : List ParameterGroup) → (headings.parameter_steps s gs).faults ≡ [] → AreParametersApart own gs → s.inner.pending ≡ [] → Agree systems constants_at p false (Some own) s h.scope below ks → Each IsFreeParameter h.parameters → Each IsFreeParameter (meant.with_parameter_groups h gs).parameters
+  parameters_free : (own : Name) (s : Scopes) (h : meant.Heading) (below : scopes.Scope) (ks : List ℕ) (gs : List ParameterGroup) → (headings.parameter_steps s gs).faults ≡ [] → s.inner.pending ≡ [] → Agree systems constants_at p false (Some own) s h.scope below ks → Each IsFreeParameter h.parameters → Each IsFreeParameter (meant.with_parameter_groups h gs).parameters
   unfolding headings.parameter_steps
-  parameters_free own s h below ks [] e apart empty agree qs = qs
-  parameters_free own s h below ks (g ∷ gs) e apart empty agree qs =
+  parameters_free own s h below ks [] e empty agree qs = qs
+  parameters_free own s h below ks (g ∷ gs) e empty agree qs =
       let t : Scopes = (headings.parameter_step s g).scopes in
       let k : meant.Heading = meant.with_group scopes.local_variable g.is_var h g.group in
       let none : (headings.parameter_step s g).faults ≡ [] = none_left (headings.parameter_step s g).faults (headings.parameter_steps t gs).faults e in
-      let r = group_agrees g.is_var (Some own) s h.scope below ks g.group none apart.0 empty agree in
+      let r = group_agrees g.is_var (Some own) s h.scope below ks g.group none empty agree in
       let u : Ty = meant.type_named h.scope g.group.type_name.name in
-      parameters_free own t k below ks gs (none_right (headings.parameter_step s g).faults (headings.parameter_steps t gs).faults e) apart.1 r.settled r.agree
-      (free_both h.parameters (meant.parameters_named (meant.names_of g.group.names) u g.is_var) qs (named_free (meant.names_of g.group.names) u g.is_var (group_free g.is_var (Some own) s h.scope below ks g.group none apart.0 empty agree)))
+      parameters_free own t k below ks gs (none_right (headings.parameter_step s g).faults (headings.parameter_steps t gs).faults e) r.settled r.agree
+      (free_both h.parameters (meant.parameters_named (meant.names_of g.group.names) u g.is_var) qs (named_free (meant.names_of g.group.names) u g.is_var (group_free g.is_var (Some own) s h.scope below ks g.group none empty agree)))
 
   -- ---- results
 
@@ -170,12 +169,12 @@ module _ (systems : ℕ → ℕ) (constants_at : ℕ → List Name) (p : Program
   returned_good ss at (holds.Component j) t v b k = tt
   returned_good ss at (holds.Components j) t v b k = tt
 
-  result_good : (s : Scopes) (m : scopes.Scope) (i : Identifier) → IsKnown systems constants_at s m i.name (look i.name s) → Good (λ o. IsResult s.shapes o (Some (meant.type_named m i.name)) × (is_free (meant.type_named m i.name) ≡ true)) (headings.result_type s i)
+  result_good : (s : Scopes) (m : scopes.Scope) (i : Identifier) → Good (KindOf systems constants_at s.shapes (meant.type_named m i.name)) (typing.type_named s i.at i.name) → Good (λ o. IsResult s.shapes o (Some (meant.type_named m i.name)) × (is_free (meant.type_named m i.name) ≡ true)) (headings.result_type s i)
   unfolding headings.result_type
   result_good s m i h =
       let t : Ty = meant.type_named m i.name in
       good_then (PlainType s.shapes t) (λ o. IsResult s.shapes o (Some t) × (is_free t ≡ true)) (typing.type_named s i.at i.name >>= headings.returned_in s i.at) headings.some_type
-      (good_then (KindOf systems constants_at s.shapes t) (PlainType s.shapes t) (typing.type_named s i.at i.name) (headings.returned_in s i.at) (type_named systems constants_at s m i.at i.name h)
+      (good_then (KindOf systems constants_at s.shapes t) (PlainType s.shapes t) (typing.type_named s i.at i.name) (headings.returned_in s i.at) h
       (λ v k. returned_good s.shapes i.at (typing.holding s v) t v k.belongs (held_named (W systems constants_at s.shapes) s t v refl k.belongs k.standing)))
       (λ v k. (k, k.free))
 
@@ -208,31 +207,31 @@ module _ (systems : ℕ → ℕ) (constants_at : ℕ → List Name) (p : Program
     pub parameters : Each IsFreeParameter (meant.heading_of m k).parameters
     pub free : IsFreeResult (meant.result_of (meant.heading_of m k).scope k)
 
-  written_agrees : (own : Name) (s : Scopes) (m below : scopes.Scope) (ks : List ℕ) (k : RoutineKind) → faults (written s k).result ≡ [] → IsHeadingApart own k → s.inner.pending ≡ [] → Agree systems constants_at p false (Some own) s m below ks → WrittenResult own s m below ks (written s k) k
+  written_agrees : (own : Name) (s : Scopes) (m below : scopes.Scope) (ks : List ℕ) (k : RoutineKind) → faults (written s k).result ≡ [] → s.inner.pending ≡ [] → Agree systems constants_at p false (Some own) s m below ks → WrittenResult own s m below ks (written s k) k
   unfolding headings.written
-  written_agrees own s m below ks (procedure gs) e apart empty agree =
+  written_agrees own s m below ks (procedure gs) e empty agree =
       let none : (headings.parameter_steps s gs).faults ≡ [] = none_before {A = Option ValueType} (headings.parameter_steps s gs).faults (Ok None) e in
       record {
-        step = parameters_agree own s (record { parameters = []; scope = m }) below ks gs none apart empty agree;
+        step = parameters_agree own s (record { parameters = []; scope = m }) below ks gs none empty agree;
         value = None;
         is = none_after (headings.parameter_steps s gs).faults (Ok None) e;
         result = tt;
-        parameters = parameters_free own s (record { parameters = []; scope = m }) below ks gs none apart empty agree tt;
+        parameters = parameters_free own s (record { parameters = []; scope = m }) below ks gs none empty agree tt;
         free = tt;
       }
-  written_agrees own s m below ks (function gs i) e apart empty agree =
+  written_agrees own s m below ks (function gs i) e empty agree =
       let d : Step = headings.group_steps s gs in
       let none : d.faults ≡ [] = none_before d.faults (headings.result_type d.scopes i) e in
-      let step = groups_agree own s (record { parameters = []; scope = m }) below ks gs none apart.0 empty agree in
+      let step = groups_agree own s (record { parameters = []; scope = m }) below ks gs none empty agree in
       let k : scopes.Scope = (meant.with_groups scopes.local_variable (record { parameters = []; scope = m }) gs).scope in
       let same : after_faults d.faults (headings.result_type d.scopes i) ≡ headings.result_type d.scopes i = none_after d.faults (headings.result_type d.scopes i) e in
-      let v = good_sound (λ o. IsResult d.scopes.shapes o (Some (meant.type_named k i.name)) × (is_free (meant.type_named k i.name) ≡ true)) (headings.result_type d.scopes i) (result_good d.scopes k i (sees systems constants_at p false (Some own) d.scopes k below ks step.agree i.name apart.1)) (ap faults (sym same) ∙ e) in
+      let v = good_sound (λ o. IsResult d.scopes.shapes o (Some (meant.type_named k i.name)) × (is_free (meant.type_named k i.name) ≡ true)) (headings.result_type d.scopes i) (result_good d.scopes k i (type_seen systems constants_at p false (Some own) d.scopes k below ks i.at i.name step.agree)) (ap faults (sym same) ∙ e) in
       record {
         step = step;
         value = v.value;
         is = same ∙ v.is;
         result = v.holds.0;
-        parameters = groups_free own s (record { parameters = []; scope = m }) below ks gs none apart.0 empty agree tt;
+        parameters = groups_free own s (record { parameters = []; scope = m }) below ks gs none empty agree tt;
         free = v.holds.1;
       }
 
@@ -270,11 +269,13 @@ module _ (systems : ℕ → ℕ) (constants_at : ℕ → List Name) (p : Program
       let k : scopes.Scope = with_routine m r in
       record {
         unsealed = refl;
-        names = λ x. record { found = refl; rest = refl };
-        seen = λ x. record { found = refl; rest = refl };
+        names = λ x. record { found = refl; rest = refl; latest = refl };
+        seen = λ x. record { found = refl; rest = refl; latest = refl };
         outer = λ x g. subst (IsKnown systems constants_at (enter false s) k x) (sym (look_entered false x s))
             (is_known_moved systems constants_at s (enter false s) m k x (or_else (inner_look false s x) (look_outer x s.outer)) (more_same s.shapes) (find_other systems constants_at x r.name.name (routine_meaning r) m g) (since_other systems constants_at x r.name.name (routine_meaning r) m g)
             (subst (IsKnown systems constants_at s m x) (look_is x s h.unsealed) (sees systems constants_at p false None s m below ks h x tt)));
+        own = subst (IsTypeKnown systems constants_at (enter false s) k r.name.name) (sym (look_entered false r.name.name s))
+            (subst (IsTypeKnown systems constants_at (enter false s) m r.name.name) (look_is r.name.name s h.unsealed) (known_type systems constants_at s (enter false s) m r.name.name (look r.name.name s) refl (sees systems constants_at p false None s m below ks h r.name.name tt)));
         base = λ x. fit_routine x (bytes_eq x r.name.name) (fits systems constants_at p false None s m below ks h x);
         free = h.free;
         different = h.different;
@@ -290,17 +291,17 @@ module _ (systems : ℕ → ℕ) (constants_at : ℕ → List Name) (p : Program
   unfolding heading
   heading_none owner r d h = none_before d.faults (written (enter false d.scopes) r.kind).result (none_first (after_faults d.faults (written (enter false d.scopes) r.kind).result) (headings.ruled owner r) h)
 
-  pub heading_agrees : (owner : Option SystemKind) (s : Scopes) (m below : scopes.Scope) (ks : List ℕ) (r : Routine) → faults (heading owner r (reserve_name s r.name)).result ≡ [] → IsRoutineApart r → Agree systems constants_at p false None (reserve_name s r.name).scopes m below ks →
+  pub heading_agrees : (owner : Option SystemKind) (s : Scopes) (m below : scopes.Scope) (ks : List ℕ) (r : Routine) → faults (heading owner r (reserve_name s r.name)).result ≡ [] → Agree systems constants_at p false None (reserve_name s r.name).scopes m below ks →
       HeadingResult (enter false (reserve_name s r.name).scopes) m (with_routine m r) (with_routine m r) ks r (heading owner r (reserve_name s r.name))
   unfolding heading enter
-  heading_agrees owner s m below ks r none apart h =
+  heading_agrees owner s m below ks r none h =
       let a : Scopes = (reserve_name s r.name).scopes in
       let e : Scopes = enter false a in
       let d : Step = reserve_name s r.name in
       let w : Headed = written e r.kind in
       let first : faults (after_faults d.faults w.result) ≡ [] = none_first (after_faults d.faults w.result) (headings.ruled owner r) none in
       ruled_result owner s e m (with_routine m r) (with_routine m r) ks r d.faults w none
-      (written_agrees r.name.name e (with_routine m r) (with_routine m r) ks r.kind (ap faults (sym (none_after d.faults w.result first)) ∙ first) apart refl (entered_agrees a m below ks r h))
+      (written_agrees r.name.name e (with_routine m r) (with_routine m r) ks r.kind (ap faults (sym (none_after d.faults w.result first)) ∙ first) refl (entered_agrees a m below ks r h))
 
   -- ---- a routine that is visible from its heading on
 
@@ -354,6 +355,7 @@ module _ (systems : ℕ → ℕ) (constants_at : ℕ → List Name) (p : Program
           seen = stacked_more systems constants_at (inner_look false t) (inner_look false a) t a rs k (more_same t.shapes) (λ x. refl) kept.seen;
           outer = λ x g. subst (λ (cs : List Scope). IsKnown systems constants_at a k x (look_outer x cs)) (sym is)
               (subst (IsKnown systems constants_at a k x) (sym (look_last x s.outer c ∙ ap (λ o. or_else o (look_outer x s.outer)) (routine_last x s.inner r.name.name (announcing r) fresh))) (around a further known x (bytes_eq x r.name.name) refl));
+          own = tt;
           base = kept.base;
           free = kept.free;
           different = kept.different;

@@ -36,7 +36,7 @@ use Rattle.cp_meaning.specs.Declarations.{Block}
 use Rattle.cp_meaning.specs.Systems.{with_routines, system_in, system_of}
 use Rattle.cp_meaning.specs.Expressions.{routine_of_system, routine_of_type}
 use Rattle.cp_resolved.specs.Enumerations.{each_in, in_part, in_routine, in_system}
-use Rattle.cp_resolved.specs.Judging.{Place, initial_place, routine_places, system_places, IsRoutineApart, AreAgreed}
+use Rattle.cp_resolved.specs.Judging.{Place, initial_place, routine_places, system_places, AreAgreed}
 use Rattle.cp_resolved.specs.Openings.{Opening, parts_scope, routine_openings, initial_opening, system_openings}
 use Rattle.cp_resolved.specs.Small.{Each, IsSmallSystem}
 use Rattle.cp_resolved.specs.Standing.{is_standing, IsStandingVariable, IsStandingParameter}
@@ -150,11 +150,12 @@ module _ (systems : ℕ → ℕ) (constants_at : ℕ → List Name) (p : Program
   entered_agrees s m below ks h =
       record {
         unsealed = refl;
-        names = λ x. record { found = refl; rest = refl };
-        seen = λ x. record { found = refl; rest = refl };
+        names = λ x. record { found = refl; rest = refl; latest = refl };
+        seen = λ x. record { found = refl; rest = refl; latest = refl };
         outer = λ x g. subst (IsKnown systems constants_at (enter true s) (seen_inside m) x) (sym (look_entered true x s))
             (is_known_moved systems constants_at s (enter true s) (seen_inside m) (seen_inside m) x (or_else (inner_look true s x) (look_outer x s.outer)) (more_same s.shapes) refl refl
             (sees_of systems constants_at p s (seen_inside m) below x (inner_look true s x) (look_outer x s.outer) (h.seen x) (h.outer x tt)));
+        own = tt;
         base = λ x. fit_of systems constants_at p s (seen_inside m) below x (inner_look true s x) (h.seen x) (h.base x);
         free = h.free;
         different = h.different;
@@ -170,9 +171,9 @@ module _ (systems : ℕ → ℕ) (constants_at : ℕ → List Name) (p : Program
     pub parameters : Each IsStandingParameter (system_in m y).parameters
     pub uses : Uses (systems_of.opened s y).uses
 
-  inside_agrees : (s : Scopes) (m : scopes.Scope) (ks : List ℕ) (n : ℕ) (y : System) → faults (systems_of.opened s y).uses ≡ [] → Each IsRoutineApart y.routines → IsSmallSystem y → Each (IsFew constants_at) (in_system y) → s.inner.pending ≡ [] → Agree systems constants_at p false None s m m (system_tokens y ks) → InsideResult s m ks n y
+  inside_agrees : (s : Scopes) (m : scopes.Scope) (ks : List ℕ) (n : ℕ) (y : System) → faults (systems_of.opened s y).uses ≡ [] → IsSmallSystem y → Each (IsFew constants_at) (in_system y) → s.inner.pending ≡ [] → Agree systems constants_at p false None s m m (system_tokens y ks) → InsideResult s m ks n y
   unfolding systems_of.opened inside
-  inside_agrees s m ks n y e apart small few empty h =
+  inside_agrees s m ks n y e small few empty h =
       let d : Step = inside s y in
       let j : Judged Use = statements d.scopes (initial_context y.kind) (Ok no_use) y.body.statements in
       let none : d.faults ≡ [] = none_before d.faults j e in
@@ -186,7 +187,7 @@ module _ (systems : ℕ → ℕ) (constants_at : ℕ → List Name) (p : Program
       let parts = parts_agree systems constants_at p false (spot.Permanent (Some y.kind)) scopes.permanent_variable (permanent_kind systems constants_at p false (Some y.kind)) a.scopes o m rs y.parts (none_left b.faults c.faults (none_right a.faults (b.faults ++ c.faults) none)) small.0 (each_left (IsFew constants_at) (each_in in_part y.parts) (each_in in_routine y.routines) few) first.settled first.agree in
       let ps : scopes.Scope = parts_scope m y in
       let all : RoutinesResult systems constants_at p (Some y.kind) b.scopes ps m (y.at ∷ ks) n y.routines =
-      routines_agree systems constants_at p (Some y.kind) b.scopes ps m (y.at ∷ ks) n y.routines (none_right b.faults c.faults (none_right a.faults (b.faults ++ c.faults) none)) apart small.1 (each_right (IsFew constants_at) (each_in in_part y.parts) (each_in in_routine y.routines) few) parts.settled parts.agree in
+      routines_agree systems constants_at p (Some y.kind) b.scopes ps m (y.at ∷ ks) n y.routines (none_right b.faults c.faults (none_right a.faults (b.faults ++ c.faults) none)) small.1 (each_right (IsFew constants_at) (each_in in_part y.parts) (each_in in_routine y.routines) few) parts.settled parts.agree in
       let step = step_then systems constants_at p false None s b.scopes c.scopes ps (with_routines ps y.routines) m rs (y.at ∷ ks) (step_then systems constants_at p false None s a.scopes b.scopes hs ps m (system_tokens y ks) rs first parts) all.step in
       let same : after_faults d.faults j ≡ j = none_after d.faults j e in
       let sound : faults j ≡ [] = ap faults (sym same) ∙ e in
@@ -279,13 +280,13 @@ module _ (systems : ℕ → ℕ) (constants_at : ℕ → List Name) (p : Program
     pub is : t.type ≡ Ok (types.Component y.kind y.at)
     pub closed : ClosedResult s t.scopes m below ks
 
-  pub system_agrees : (s : Scopes) (m below : scopes.Scope) (ks : List ℕ) (n : ℕ) (y : System) → IsNumbered n (seen_inside m) y → faults (systems_of.system_typed s y).type ≡ [] → Each IsRoutineApart y.routines → IsSmallSystem y → Each (IsFew constants_at) (in_system y) → Agree systems constants_at p true None s m below (system_tokens y ks) →
+  pub system_agrees : (s : Scopes) (m below : scopes.Scope) (ks : List ℕ) (n : ℕ) (y : System) → IsNumbered n (seen_inside m) y → faults (systems_of.system_typed s y).type ≡ [] → IsSmallSystem y → Each (IsFew constants_at) (in_system y) → Agree systems constants_at p true None s m below (system_tokens y ks) →
       SystemResult s m below ks n y (systems_of.system_typed s y)
   unfolding systems_of.system_typed systems_of.opened enter
-  system_agrees s m below ks n y i e apart small few h =
+  system_agrees s m below ks n y i e small few h =
       let a : Scopes = enter true s in
       let o : Opened = systems_of.opened a y in
-      let r : InsideResult a (seen_inside m) ks n y = inside_agrees a (seen_inside m) ks n y (none_first o.uses (systems_of.to_component y.kind y.at) e) apart small few refl (entered_agrees s m below (system_tokens y ks) h) in
+      let r : InsideResult a (seen_inside m) ks n y = inside_agrees a (seen_inside m) ks n y (none_first o.uses (systems_of.to_component y.kind y.at) e) small few refl (entered_agrees s m below (system_tokens y ks) h) in
       record {
         places = r.places;
         variables = r.variables;

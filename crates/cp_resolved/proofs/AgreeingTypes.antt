@@ -1,5 +1,6 @@
 -- Types that break no rule: the checker and the scope give them the same type, and their enumerations the same names.
 use Rattle.std.proofs.Common.{◌≡◌, ℕ, ◌≤◌, ℤ, Bool, true, false, ◌&&◌, if◌then◌else◌, List, [], ◌∷◌, length, Option, Some, None, Ok, Err, refl, sym, ap, subst, ◌∙◌}
+use Rattle.std.specs.Str.{bytes_eq}
 use Rattle.std.specs.Prelude.{int_lt}
 use Rattle.cp_tree.specs.declared.constant.Constant.{Constant}
 use Rattle.cp_tree.specs.Syntax as syntax
@@ -13,7 +14,7 @@ use Rattle.cp_scope.specs.declared.types.Meaning.{Meaning}
 use Rattle.cp_scope.specs.declared.types.Meaning.TheVariants as meaning
 use Rattle.cp_scope.specs.Types.{same_base}
 use Rattle.cp_scope.specs.Judged.{Judged, both, ◌>>=◌}
-use Rattle.cp_scope.specs.Scopes.{Scopes, Shapes, shape_in, as_array, look}
+use Rattle.cp_scope.specs.Scopes.{Scopes, Shapes, shape_in, as_array, look, or_else, look_outer}
 use Rattle.cp_check.specs.declared.constant.Number.{Number}
 use Rattle.cp_check.specs.declared.types.Spot.{Spot}
 use Rattle.cp_check.specs.declared.types.Spot.TheVariants as spot
@@ -34,8 +35,8 @@ use Rattle.cp_resolved.specs.Enumerations.{Enumerated}
 use Rattle.cp_resolved.specs.Small.{IsSmallSimple}
 use Rattle.cp_resolved.specs.Standing.{is_bounded, is_free, is_element, is_standing, IsFit}
 use Rattle.cp_resolved.specs.Typed.{Written, RangeIs, TypeIs, KindIs}
-use Rattle.cp_resolved.proofs.Agreeing.{Good, good_then, good_both, good_if}
-use Rattle.cp_resolved.proofs.AgreeingNames.{W, IsKnown}
+use Rattle.cp_resolved.proofs.Agreeing.{Good, good_then, good_both, good_if, is_itself, look_is, inner_look}
+use Rattle.cp_resolved.proofs.AgreeingNames.{W, IsKnown, IsStacked, IsTypeKnown, Agree, sees}
 use Rattle.cp_resolved.proofs.AgreeingConstants.{NumberIs, base_same, constant_number_of}
 
 -- ---- where queues and components stand
@@ -229,6 +230,48 @@ module _ (systems : ℕ → ℕ) (constants_at : ℕ → List Name) where
   pub type_named : (s : Scopes) (m : scopes.Scope) (at : ℕ) (x : Name) → IsKnown systems constants_at s m x (look x s) → Good (KindOf s.shapes (meant.type_named m x)) (typing.type_named s at x)
   unfolding typing.type_named names.visible
   type_named s m at x h = found_kind at s m x (look x s) h
+
+  outer_kind : (at : ℕ) (s : Scopes) (m below : scopes.Scope) (x : Name) (o : Option (Option Meaning)) → meant.type_named below x ≡ meant.type_named m x → IsTypeKnown systems constants_at s below x o → Good (KindOf s.shapes (meant.type_named m x)) (names.found at o >>= typing.to_type at)
+  outer_kind at s m below x None e h = tt
+  outer_kind at s m below x (Some None) e h = absurd h
+  outer_kind at s m below x (Some (Some (meaning.Kind v))) e h = subst (λ (t : Ty). KindOf s.shapes t v) e (record { belongs = h.0; standing = h.1 })
+  outer_kind at s m below x (Some (Some (meaning.Constant b z))) e h = tt
+  outer_kind at s m below x (Some (Some (meaning.Variable v))) e h = tt
+  outer_kind at s m below x (Some (Some (meaning.Parameter v))) e h = tt
+  outer_kind at s m below x (Some (Some (meaning.Reference v))) e h = tt
+  outer_kind at s m below x (Some (Some (meaning.Routine n))) e h = tt
+  outer_kind at s m below x (Some (Some (meaning.Predeclared q))) e h = tt
+
+  stacked_kind : (at : ℕ) (s : Scopes) (m below : scopes.Scope) (x : Name) (o q : Option (Option Meaning)) → IsStacked systems constants_at s m below x o → IsTypeKnown systems constants_at s below x q → Good (KindOf s.shapes (meant.type_named m x)) (names.found at (or_else o q) >>= typing.to_type at)
+  stacked_kind at s m below x None q h g = outer_kind at s m below x q h.latest g
+  stacked_kind at s m below x (Some None) q h g = absurd h
+  stacked_kind at s m below x (Some (Some c)) q h g = found_kind at s m x (Some (Some c)) h
+
+  -- in a heading too, where the name of its routine is passed over
+  pub type_seen : (p : Program) (b : Bool) (but : Option Name) (s : Scopes) (m below : scopes.Scope) (ks : List ℕ) (at : ℕ) (x : Name) → Agree systems constants_at p b but s m below ks → Good (KindOf s.shapes (meant.type_named m x)) (typing.type_named s at x)
+  unfolding typing.type_named names.visible
+  type_seen p b None s m below ks at x h = found_kind at s m x (look x s) (sees systems constants_at p b None s m below ks h x tt)
+  type_seen p b (Some n) s m below ks at x h = go (bytes_eq x n) refl
+    where
+      go : (c : Bool) → bytes_eq x n ≡ c → Good (KindOf s.shapes (meant.type_named m x)) (names.found at (look x s) >>= typing.to_type at)
+      go false e = found_kind at s m x (look x s) (sees systems constants_at p b (Some n) s m below ks h x e)
+      go true e =
+          subst (λ o. Good (KindOf s.shapes (meant.type_named m x)) (names.found at o >>= typing.to_type at)) (sym (look_is x s h.unsealed))
+          (stacked_kind at s m below x (inner_look false s x) (look_outer x s.outer) (h.names x) (subst (λ (y : Name). IsTypeKnown systems constants_at s below y (look_outer y s.outer)) (sym (is_itself x n e)) h.own))
+
+  -- what a name stands for that is visible outside
+  pub known_type : (s t : Scopes) (m : scopes.Scope) (x : Name) (o : Option (Option Meaning)) → t.shapes ≡ s.shapes → IsKnown systems constants_at s m x o → IsTypeKnown systems constants_at t m x o
+  known_type s t m x None e h = tt
+  known_type s t m x (Some None) e h = h
+  known_type s t m x (Some (Some (meaning.Kind v))) e h =
+      let k : KindOf s.shapes (meant.type_named m x) v = kind_meant s.shapes v x m (find x m) refl h.means h.fit in
+      (subst (λ ss. TypeIs (W systems constants_at ss) (meant.type_named m x) v) (sym e) k.belongs, k.standing)
+  known_type s t m x (Some (Some (meaning.Constant b z))) e h = tt
+  known_type s t m x (Some (Some (meaning.Variable v))) e h = tt
+  known_type s t m x (Some (Some (meaning.Parameter v))) e h = tt
+  known_type s t m x (Some (Some (meaning.Reference v))) e h = tt
+  known_type s t m x (Some (Some (meaning.Routine n))) e h = tt
+  known_type s t m x (Some (Some (meaning.Predeclared q))) e h = tt
 
   -- what it is, and what it holds
   pub record TypedAs (ss : Shapes) (p : Spot) (t : Ty) (v : ValueType) : Type 0 where

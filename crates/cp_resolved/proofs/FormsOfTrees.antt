@@ -41,4 +41,4 @@ module _ (p : Program) where
   all_formed (x ∷ xs) [] h small = absurd h
 
 pub forms_law : FormsLaw
-forms_law t read accepted apart = all_formed t.program (places_of t.program) (openings_of t.program) (scopes_law t read accepted apart).places (read_opens t.program read)
+forms_law t read accepted = all_formed t.program (places_of t.program) (openings_of t.program) (scopes_law t read accepted).places (read_opens t.program read)

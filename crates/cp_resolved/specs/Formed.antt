@@ -9,7 +9,6 @@ use Rattle.cp_meaning.specs.Expressions.{name_of}
 use Rattle.cp_slots.specs.Code as code
 use Rattle.cp_resolved.specs.Layouts.{Layouts, Here}
 use Rattle.cp_resolved.specs.Compiled.{as_ordinal, as_set, as_place, Designated, a_variable, a_component, begun_form, expression_form, designator_form}
-use Rattle.cp_resolved.specs.Judging.{AreHeadingsApart}
 use Rattle.cp_resolved.specs.Openings.{Opening, openings_of}
 use Rattle.cp_resolved.specs.Read.{IsRead}
 use Rattle.cp_resolved.specs.Small.{Each}
@@ -114,5 +113,5 @@ abbrev mutual
 -- by any layouts, the statements of each routine and of each initial statement
 abbrev pub FormsLaw : Type 0
 FormsLaw =
-    (t : Tree) → IsRead t.program → IsAccepted t → AreHeadingsApart t.program →
+    (t : Tree) → IsRead t.program → IsAccepted t →
     Each (λ (o : Opening). (l : Layouts) (k n : ℕ) → AreFormed (record { program = t.program; layouts = l; system = k; routine = n; scope = o.meaning.scope }) o.meaning.body) (openings_of t.program)

@@ -1,7 +1,7 @@
 -- Where the checker judges statements: its scopes and the context, of the routines and initial statements in the order in which the tables number them.
-use Rattle.std.specs.Prelude.{◌≡◌, ℕ, true, false, List, [], ◌∷◌, ◌++◌, Option, Some, None, Ok}
+use Rattle.std.specs.Prelude.{◌≡◌, ℕ, true, List, [], ◌∷◌, ◌++◌, Option, Some, None, Ok}
 use Rattle.cp_tree.specs.declared.declaration.SystemKind.{SystemKind}
-use Rattle.cp_tree.specs.Syntax.{Group, ParameterGroup, RoutineKind, procedure, function, Routine, System, Definition, type_definition, system_definition, SystemDefinition, ProgramPart, program_constants, program_types, program_variables, Program, Tree}
+use Rattle.cp_tree.specs.Syntax.{Routine, System, Definition, type_definition, system_definition, SystemDefinition, ProgramPart, program_constants, program_types, program_variables, Program, Tree}
 use Rattle.cp_scope.specs.Counts.{no_use}
 use Rattle.cp_scope.specs.Judged.{faults}
 use Rattle.cp_scope.specs.Scopes.{Scopes, look, enter, start}
@@ -14,7 +14,7 @@ use Rattle.cp_check.specs.Systems.{group_steps, inside, initial_context, definit
 use Rattle.cp_check.specs.Statements.{statements}
 use Rattle.cp_check.specs.Faults.{declarations, program_context}
 use Rattle.cp_lawful.specs.Accepted.{IsAccepted}
-use Rattle.cp_meaning.specs.Names.{Name, same_name}
+use Rattle.cp_meaning.specs.Names.{Name}
 use Rattle.cp_meaning.specs.Scopes.{find}
 use Rattle.cp_meaning.specs.Systems.{system_of}
 use Rattle.cp_resolved.specs.Layouts.{Layouts}
@@ -76,36 +76,6 @@ places_of p =
     parts_places start p.parts
     ++ (routine_places None (program_part_steps start p.parts).scopes p.routines ++ (let x : Place = record { scopes = (declarations start p).scopes; context = program_context } in x) ∷ [])
 
--- ---- headings: a routine's own name is not yet visible in them, so no type there may have it
-
-abbrev pub IsApart : Name → Group → Type 0
-IsApart x g = same_name g.type_name.name x ≡ false
-
-abbrev pub AreApart : Name → List Group → Type 0
-AreApart x gs = Each (IsApart x) gs
-
-abbrev pub AreParametersApart : Name → List ParameterGroup → Type 0
-AreParametersApart x gs = Each (λ g. IsApart x g.group) gs
-
-abbrev pub IsHeadingApart : Name → RoutineKind → Type 0
-IsHeadingApart x (procedure gs) = AreParametersApart x gs
-IsHeadingApart x (function gs i) = AreApart x gs × (same_name i.name x ≡ false)
-
-abbrev pub IsRoutineApart : Routine → Type 0
-IsRoutineApart r = IsHeadingApart r.name.name r.kind
-
-abbrev pub IsDefinitionApart : Definition → Type 0
-IsDefinitionApart (type_definition t) = Unit {0}
-IsDefinitionApart (system_definition y) = Each IsRoutineApart y.routines
-
-abbrev pub IsPartApart : ProgramPart → Type 0
-IsPartApart (program_constants at ds) = Unit {0}
-IsPartApart (program_types at ds) = Each (λ d. IsDefinitionApart d.value) ds
-IsPartApart (program_variables at gs) = Unit {0}
-
-abbrev pub AreHeadingsApart : Program → Type 0
-AreHeadingsApart p = Each IsPartApart p.parts × Each IsRoutineApart p.routines
-
 -- ---- the law
 
 -- The checker's scopes at a place agree with the scope of what is opened there, where each system type is written at a token; and its statements break no rule.
@@ -133,4 +103,4 @@ pub record ScopesAre (p : Program) : Type 0 where
   pub parameters : (k : ℕ) → Each IsStandingParameter (system_of p k).parameters
 
 abbrev pub ScopesLaw : Type 0
-ScopesLaw = (t : Tree) → IsRead t.program → IsAccepted t → AreHeadingsApart t.program → ScopesAre t.program
+ScopesLaw = (t : Tree) → IsRead t.program → IsAccepted t → ScopesAre t.program
