@@ -42,7 +42,7 @@ abbrev just_name : ℕ → Name → Expression
 just_name at x = alone at (sum at None (term at (named at (of_name at x) no_expressions) no_factors) no_terms)
 
 -- function f(a: integer): integer; begin f := a + n end
-abbrev f : Routine
+abbrev pub f : Routine
 f =
     record {
       at = 5;
@@ -57,7 +57,7 @@ f =
     }
 
 -- procedure p(var b: integer); begin b := f(b) end
-abbrev p : Routine
+abbrev pub p : Routine
 p =
     record {
       at = 23;

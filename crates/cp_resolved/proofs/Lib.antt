@@ -3,6 +3,8 @@ pub mod Applied
 pub mod BegunKnown
 pub mod BodiesStand
 pub mod Calling
+pub mod CallingBodies
+pub mod CallingPlaced
 mod CallingProgram
 pub mod Cells
 pub mod Declared
