@@ -1,11 +1,11 @@
 -- The law of layouts is not empty: a program with a function, a procedure with a `var` parameter, a permanent variable and a call has what it asks.
-use Rattle.std.proofs.Common.{◌≡◌, ◌≤◌, ℕ, zero, suc, false, refl, arith}
+use Rattle.std.proofs.Common.{◌≤◌, ℕ, zero, suc, refl, arith}
 use Rattle.cp_slots.specs.Kinds.{most}
 use Rattle.cp_meaning.specs.Systems.{system_of}
 use Rattle.cp_resolved.specs.Calls.{all_calls_laid, AreApart}
 use Rattle.cp_resolved.specs.LayoutsKnow.{IsPlaced}
 use Rattle.cp_resolved.specs.Names.{IsPlain}
-use Rattle.cp_resolved.specs.Once.{IsOnce, AreOthers, AreSized, AreWords}
+use Rattle.cp_resolved.specs.Once.{AreOthers, AreSized, AreWords}
 use Rattle.cp_resolved.specs.Openings.{meaning_at}
 use Rattle.cp_resolved.proofs.CallingProgram.{calling}
 

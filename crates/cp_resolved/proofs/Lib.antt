@@ -5,7 +5,7 @@ pub mod BodiesStand
 pub mod Calling
 pub mod CallingBodies
 pub mod CallingPlaced
-mod CallingProgram
+pub mod CallingProgram
 pub mod Cells
 pub mod Declared
 pub mod Declares
