@@ -1,12 +1,13 @@
 -- What an outcome feeds a hasher, and the numbers of no value.
-use Rattle.std.proofs.Common.{◌≡◌, ◌∙◌, ℕ, suc, ◌+◌, ◌<◌, arith, take, get_or, List, [], ◌∷◌, ◌++◌, Bool, true, false, ◌&&◌, ◌*◌, length, fold, flat_map, map, nat_eq, ◌==◌, if◌then◌else◌, refl, sym, ap}
-use Rattle.std.specs.Prelude.{unsigned_abs}
-use Rattle.std.specs.Int.{is_negative}
+use Rattle.std.proofs.Common.{◌≡◌, ◌∙◌, ℕ, suc, ◌+◌, ◌<◌, arith, take, get_or, List, [], ◌∷◌, ◌++◌, Bool, true, false, ◌&&◌, ◌*◌, ◌-◌, length, fold, flat_map, map, nat_eq, ◌==◌, if◌then◌else◌, refl, sym, ap}
+use Rattle.std.specs.Prelude.{unsigned_abs, ℤ, pos, negsuc}
+use Rattle.std.specs.Int.{is_negative, cast_unsigned}
+use mir.Syntax.{w16}
 use Rattle.std.specs.Hash as fed
 use Rattle.std.specs.Hash.{fed_then, fed_along}
 use Rattle.std.specs.Cmp.Lexicographic.{pointwise}
 use Rattle.std.proofs.hash.Loops.{each_more}
-use Rattle.std.proofs.lemmas.Bool.{ne_eqb}
+use Rattle.std.proofs.lemmas.Bool.{le-ltb, ne_eqb}
 use Rattle.std.proofs.lemmas.Grind.{flat_map-append}
 use Rattle.std.proofs.lemmas.List.{get_or_default}
 use Rattle.cp_machine.specs.declared.shown.Shown.{Shown}
@@ -21,13 +22,17 @@ each_fed : (values : List Shown) → flat_map (λ v. fed.u32 (shown_code v)) val
 each_fed [] = refl
 each_fed (v ∷ vs) = ap (λ l. fed.u32 (shown_code v) ++ l) (each_fed vs)
 
+none_more : (n : ℕ) → 0 + n ≡ n
+none_more n = omega arith
+
+-- one number for an integer, from its two
+integer_code : (z : ℤ) → (if (if is_negative z then 1 else 0) == 1 then 65536 - unsigned_abs z else (if is_negative z then 1 else 0) * 65536 + unsigned_abs z) ≡ cast_unsigned w16 z
+integer_code (pos n) = ap (λ (b : Bool). if (if b then 1 else 0) == 1 then 65536 - n else (if b then 1 else 0) * 65536 + n) (le-ltb n 0 (omega arith)) ∙ none_more n
+integer_code (negsuc n) = refl
+
 coded : (values : List Shown) → codes_of (each shown_numbers values) ≡ map shown_code values
 coded [] = refl
-coded (Integer z ∷ vs) = ap (λ n. (n + unsigned_abs z) ∷ codes_of (each shown_numbers vs)) (signed (is_negative z)) ∙ ap (λ l. shown_code (Integer z) ∷ l) (coded vs)
-  where
-    signed : (b : Bool) → (if b then 1 else 0) * 65536 ≡ (if b then 65536 else 0)
-    signed true = refl
-    signed false = refl
+coded (Integer z ∷ vs) = ap (λ n. n ∷ codes_of (each shown_numbers vs)) (integer_code z) ∙ ap (λ l. shown_code (Integer z) ∷ l) (coded vs)
 coded (Char c ∷ vs) = ap (λ l. shown_code (Char c) ∷ l) (coded vs)
 coded (Truth b ∷ vs) = ap (λ l. shown_code (Truth b) ∷ l) (coded vs)
 coded (Constant n ∷ vs) = ap (λ l. shown_code (Constant n) ∷ l) (coded vs)

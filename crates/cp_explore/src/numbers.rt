@@ -25,12 +25,12 @@ fn number_of(name: ErrorName) -> u32
     }
 }
 
-/// One number for a value: its type and sign, and its number.
+/// One number for a value: an integer by its 16 bits, any other by its type and its number.
 fn code_of(value: Shown) -> u32
     ensures { result ≡ shown_code value }
 {
     match value {
-        Shown::Integer(n) => (if n < 0 { 65_536 } else { 0 }) + u32::from(n.unsigned_abs()),
+        Shown::Integer(n) => u32::from(n.cast_unsigned()),
         Shown::Char(code) => 131_072 + u32::from(code),
         Shown::Truth(is_true) => 196_608 + (if is_true { 1 } else { 0 }),
         Shown::Constant(constant) => 262_144 + u32::from(constant),
@@ -79,7 +79,11 @@ fn is_same_kind(mine: OutcomeKind, theirs: OutcomeKind) -> bool
 fn is_same_value(mine: Shown, theirs: Shown) -> bool
     ensures { (r s : List ℕ) → pointwise nat_eq (shown_numbers mine ++ r) (shown_numbers theirs ++ s) ≡ (result && pointwise nat_eq r s) }
 {
-    mine == theirs
+    match (mine, theirs) {
+        // Most values are integers.
+        (Shown::Integer(number), Shown::Integer(other)) => number == other,
+        _ => mine == theirs,
+    }
 }
 
 fn is_same_output(mine: &[Shown], theirs: &[Shown]) -> bool

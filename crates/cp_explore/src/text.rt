@@ -99,7 +99,11 @@ fn push_shown(text: &mut String, program: &Resolved, value: Shown) -> Result<(),
 }
 
 /// Appends what was displayed: the values joined by spaces, or a hyphen.
-pub fn push_output(text: &mut String, program: &Resolved, values: &[Shown]) -> Result<(), AllocError>
+pub fn push_output(
+    text: &mut String,
+    program: &Resolved,
+    values: &[Shown],
+) -> Result<(), AllocError>
     ensures { IfOk result (λ _. string_bytes text.new ≡ string_bytes text.old ++ output_text program.now values.now) }
 {
     let Some((first, rest)) = values.split_first() else {

@@ -37,17 +37,17 @@ fn add_row(
     if rows.len() >= MOST_ROWS {
         return Err(ExploreFault::TooManyRows);
     }
+    if rows.reserve(1).is_err() {
+        return Err(ExploreFault::Memory);
+    }
     let Ok(outcome) = outcome_at(alloc, kind, state) else {
         return Err(ExploreFault::Memory);
     };
-    let row = Row {
+    rows.push_reserved(Row {
         word: word_of(word.as_slice()),
         outcome,
-    };
-    match rows.push(row) {
-        Ok(()) => Ok(()),
-        Err(_) => Err(ExploreFault::Memory),
-    }
+    });
+    Ok(())
 }
 
 /// Walks from a node, at the end of `word`; there is a kept state for each choice left. The node's state goes on with the last number

@@ -199,12 +199,12 @@ thread = seen_as thread_key (both status (both frame (both (list entry) (both (l
 monitor : Code monitor_key
 monitor = seen_as monitor_key (both (option byte) (list byte)) (λ m. (m.holder, m.line)) (λ p. record { holder = p.0; line = p.1 }) (λ m. refl) (λ m. refl)
 
-rest : Code (both_key (list_key monitor_key) (both_key (option_key byte_key) (both_key gates_key (list_key shown_key))))
-rest = both (list monitor) (both (option byte) (both gates (list shown)))
+rest : Code (both_key (list_key monitor_key) (both_key (option_key byte_key) gates_key))
+rest = both (list monitor) (both (option byte) gates)
 
 machine : Code key_of
 unfolding key_of rest_key
-machine = seen_as key_of (both (list integer) (both (list number) (both (list phase) (both (list thread) rest)))) (λ m. (m.permanents, (m.bindings, (m.phases, (m.threads, (m.monitors, (m.pending, (m.gates, m.output)))))))) (λ p. record { permanents = p.0; bindings = p.1.0; phases = p.1.1.0; threads = p.1.1.1.0; monitors = p.1.1.1.1.0; pending = p.1.1.1.1.1.0; gates = p.1.1.1.1.1.1.0; output = p.1.1.1.1.1.1.1 }) (λ m. refl) (λ m. refl)
+machine = seen_as key_of (both (list shown) (both (list integer) (both (list number) (both (list phase) (both (list thread) rest))))) (λ m. (m.output, (m.permanents, (m.bindings, (m.phases, (m.threads, (m.monitors, (m.pending, m.gates)))))))) (λ p. record { output = p.0; permanents = p.1.0; bindings = p.1.1.0; phases = p.1.1.1.0; threads = p.1.1.1.1.0; monitors = p.1.1.1.1.1.0; pending = p.1.1.1.1.1.1.0; gates = p.1.1.1.1.1.1.1 }) (λ m. refl) (λ m. refl)
 
 -- states of one key are one
 pub key_tells : (m n : Machine) → key_of m ≡ key_of n → m ≡ n

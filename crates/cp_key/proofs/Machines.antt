@@ -4,8 +4,8 @@ use Rattle.cp_machine.specs.declared.gates.Gates.{Gates}
 use Rattle.cp_machine.specs.declared.shown.Shown.{Shown}
 use Rattle.cp_machine.specs.declared.state.Phase.{Phase}
 use Rattle.cp_machine.specs.Machine.{Machine, Thread, Monitor}
-use Rattle.cp_key.specs.Key.{option_key, phase_key, gates_key, shown_key, thread_key, rest_key}
-use Rattle.cp_key.specs.Numbers.{byte_key, number_key, list_key}
+use Rattle.cp_key.specs.Key.{option_key, phase_key, gates_key, thread_key, rest_key}
+use Rattle.cp_key.specs.Numbers.{byte_key, integer_key, number_key, list_key}
 
 abbrev pub after_phases : Machine → List ℕ
 after_phases m = list_key thread_key m.threads ++ rest_key m
@@ -16,11 +16,11 @@ after_bindings m = list_key phase_key m.phases ++ after_phases m
 abbrev pub after_permanents : Machine → List ℕ
 after_permanents m = list_key number_key m.bindings ++ after_bindings m
 
-abbrev pub after_pending : Machine → List ℕ
-after_pending m = gates_key m.gates ++ list_key shown_key m.output
+abbrev pub after_output : Machine → List ℕ
+after_output m = list_key integer_key m.permanents ++ after_permanents m
 
 abbrev pub after_monitors : Machine → List ℕ
-after_monitors m = option_key byte_key m.pending ++ after_pending m
+after_monitors m = option_key byte_key m.pending ++ gates_key m.gates
 
 abbrev made_of : List ℤ → List ℕ → List Phase → List Thread → List Monitor → Option ℕ → Gates → List Shown → Machine
 made_of permanents bindings phases threads monitors pending gates output = record { permanents = permanents; bindings = bindings; phases = phases; threads = threads; monitors = monitors; pending = pending; gates = gates; output = output }

@@ -74,9 +74,10 @@ thread_key t = status_key t.status ++ (frame_key t.frame ++ frames_key t)
 abbrev pub monitor_key : Monitor → List ℕ
 monitor_key m = option_key byte_key m.holder ++ list_key byte_key m.line
 
--- the monitors, what is pending, and the output
+-- the monitors, and what is pending
 unfoldable pub rest_key : Machine → List ℕ
-rest_key m = list_key monitor_key m.monitors ++ (option_key byte_key m.pending ++ (gates_key m.gates ++ list_key shown_key m.output))
+rest_key m = list_key monitor_key m.monitors ++ (option_key byte_key m.pending ++ gates_key m.gates)
 
+-- the output is first, so that it is read without the rest
 unfoldable pub key_of : Machine → List ℕ
-key_of m = list_key integer_key m.permanents ++ (list_key number_key m.bindings ++ (list_key phase_key m.phases ++ (list_key thread_key m.threads ++ rest_key m)))
+key_of m = list_key shown_key m.output ++ (list_key integer_key m.permanents ++ (list_key number_key m.bindings ++ (list_key phase_key m.phases ++ (list_key thread_key m.threads ++ rest_key m))))

@@ -10,5 +10,5 @@ mod reading;
 mod writing;
 
 pub use law::law_key;
-pub use reading::thaw;
+pub use reading::{thaw, thaw_output};
 pub use writing::freeze;

@@ -48,6 +48,11 @@ impl Keyed for usize {
             thaw_eight(key)
         }
     }
+
+    #[inline(always)]
+    fn short(self) -> Option<u8> {
+        if self < 254 { Some(self as u8) } else { None }
+    }
 }
 
 #[cold]
@@ -114,6 +119,12 @@ impl Keyed for i16 {
     #[inline(always)]
     fn thaw(key: &mut Reader) -> i16 {
         at_place(thaw_short(key))
+    }
+
+    #[inline(always)]
+    fn short(self) -> Option<u8> {
+        let place = place_of(self);
+        if place < 255 { Some(place as u8) } else { None }
     }
 }
 

@@ -1,6 +1,7 @@
 //! The parts of a state as bytes.
 
-ghost use Rattle.std.specs.Prelude.{◌≡◌, ◌++◌, ℕ, List, IfOk, IsTrue};
+ghost use Rattle.std.specs.Prelude.{◌≡◌, ◌∷◌, ◌++◌, ℕ, List, IfOk, IsTrue};
+ghost use Rattle.cp_key.specs.Numbers.{number_key};
 ghost use Rattle.cp_key.specs.Key.{IsSmall, address_key, entry_key, frame_key, gates_key, option_key, phase_key, shown_key, status_key};
 
 use crate::keyed::Keyed;
@@ -54,6 +55,15 @@ impl Keyed for Phase {
             1 => Phase::Initialising,
             _ => Phase::Initialised,
         }
+    }
+
+    #[inline(always)]
+    fn short(self) -> Option<u8> {
+        Some(match self {
+            Phase::Uninitialised => 0,
+            Phase::Initialising => 1,
+            Phase::Initialised => 2,
+        })
     }
 }
 
@@ -173,16 +183,26 @@ fn freeze_both<T: Keyed, U: Keyed>(first: T, second: U, key: &mut Vec<u8>) -> Re
     second.freeze(key)
 }
 
+// The rest of a list.
+#[inline(always)]
+fn freeze_rest(item: usize, key: &mut Vec<u8>) -> Result<(), AllocError>
+    ensures { IfOk result (λ _. key.new.items ≡ key.old.items ++ 0 ∷ number_key item) }
+{
+    if item < 254 {
+        key.extend_from_slice(&[0, item as u8])
+    } else {
+        key.push(0)?;
+        item.freeze(key)
+    }
+}
+
 impl Keyed for Entry {
     ghost key_of = { entry_key };
 
     #[inline(always)]
     fn freeze(self, key: &mut Vec<u8>) -> Result<(), AllocError> {
         match self {
-            Entry::Rest(item) => {
-                key.push(0)?;
-                item.freeze(key)
-            }
+            Entry::Rest(item) => freeze_rest(item, key),
             Entry::Successor(item, value, last) => {
                 key.push(1)?;
                 item.freeze(key)?;

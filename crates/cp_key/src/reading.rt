@@ -4,7 +4,7 @@ ghost use Rattle.std.specs.Prelude.{◌≡◌, ◌<◌, ◌≤◌, ◌++◌, ℕ
 ghost use Rattle.std.specs.List.{flat_map};
 ghost use Rattle.cp_slots.specs.Tables.{Tables};
 ghost use Rattle.cp_machine.specs.Fits.{HaveCells, HaveReferences, HaveStacks, IsReserved, IsStateOf};
-ghost use Rattle.cp_machine.specs.Machine.{Machine, Monitor, Thread, machine_of, monitor_of, thread_of};
+ghost use Rattle.cp_machine.specs.Machine.{Machine, Monitor, Thread, machine_of, monitor_of, output_of, thread_of};
 ghost use Rattle.cp_key.specs.Key.{key_of, monitor_key, thread_key};
 ghost use Rattle.cp_key.specs.Numbers.{byte_key, list_key};
 ghost use Rattle.cp_key.specs.Room.{AreShort, HasMachineRoom, HasThreadRoom, HaveThreadRoom, IsMachineOf};
@@ -24,11 +24,21 @@ pub fn thaw(key: &[u8], state: &mut State)
     thaw_state(&mut Reader { bytes: key }, state);
 }
 
+/// The output of a state becomes that of the one that has a key, and the rest stays as it is. It takes no memory.
+pub fn thaw_output(key: &[u8], state: &mut State)
+    requires { (m : Machine) × (length m.output ≤ vec_capacity state.old.output) × (key.now ≡ key_of m) }
+    ensures output { (m : Machine) → key.now ≡ key_of m → output_of (machine_of state.new) ≡ m.output }
+    ensures room { vec_capacity state.old.output ≤ vec_capacity state.new.output }
+{
+    thaw_list(&mut Reader { bytes: key }, &mut state.output);
+}
+
 #[inline(always)]
 fn thaw_state(key: &mut Reader, state: &mut State)
     ensures same { (m : Machine) (more : List ℕ) → key.old.bytes.now ≡ key_of m ++ more → HasMachineRoom state.old m → machine_of state.new ≡ m }
     ensures reserved { (r : Tables) → IsReserved r state.old → vec_len state.new.output ≤ LIMIT → IsReserved r state.new }
 {
+    thaw_list(key, &mut state.output);
     thaw_list(key, &mut state.permanents);
     thaw_list(key, &mut state.bindings);
     thaw_list(key, &mut state.phases);
@@ -36,7 +46,6 @@ fn thaw_state(key: &mut Reader, state: &mut State)
     thaw_guards(key, &mut state.guards);
     state.pending = Option::thaw(key);
     state.gates = Gates::thaw(key);
-    thaw_list(key, &mut state.output);
 }
 
 #[inline(always)]

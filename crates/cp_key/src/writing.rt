@@ -2,10 +2,10 @@
 
 ghost use Rattle.std.specs.Prelude.{◌≡◌, ◌++◌, IfOk, map};
 ghost use Rattle.cp_machine.specs.Machine.{machine_of, monitor_of, thread_of};
-ghost use Rattle.cp_key.specs.Key.{frames_key, key_of, monitor_key, rest_key, thread_key};
-ghost use Rattle.cp_key.specs.Numbers.{list_key};
+ghost use Rattle.cp_key.specs.Key.{frames_key, key_of, monitor_key, phase_key, rest_key, thread_key};
+ghost use Rattle.cp_key.specs.Numbers.{integer_key, list_key, number_key};
 
-use crate::keyed::{Keyed, freeze_list};
+use crate::keyed::{Keyed, freeze_list, freeze_numbers};
 use cp_machine::{Guard, Process, State};
 use std::alloc::AllocError;
 
@@ -14,13 +14,21 @@ use std::alloc::AllocError;
 pub fn freeze(state: &State, key: &mut Vec<u8>) -> Result<(), AllocError>
     ensures { IfOk result (λ _. key.new.items ≡ key.old.items ++ key_of (machine_of state.now)) }
 {
-    freeze_list(&state.permanents, key)?;
-    freeze_list(&state.bindings, key)?;
-    freeze_list(&state.phases, key)?;
+    freeze_list(&state.output, key)?;
+    freeze_hidden(state, key)
+}
+
+// All but the output.
+fn freeze_hidden(state: &State, key: &mut Vec<u8>) -> Result<(), AllocError>
+    ensures { IfOk result (λ _. key.new.items ≡ key.old.items ++ (list_key integer_key (machine_of state.now).permanents ++ (list_key number_key (machine_of state.now).bindings ++ (list_key phase_key (machine_of state.now).phases ++ (list_key thread_key (machine_of state.now).threads ++ rest_key (machine_of state.now)))))) }
+{
+    freeze_numbers(&state.permanents, key)?;
+    freeze_numbers(&state.bindings, key)?;
+    freeze_numbers(&state.phases, key)?;
     freeze_running(state, key)
 }
 
-// The processes, and all that changes with them.
+// The processes and the monitors.
 fn freeze_running(state: &State, key: &mut Vec<u8>) -> Result<(), AllocError>
     ensures { IfOk result (λ _. key.new.items ≡ key.old.items ++ (list_key thread_key (machine_of state.now).threads ++ rest_key (machine_of state.now))) }
 {
@@ -34,8 +42,7 @@ fn freeze_rest(state: &State, key: &mut Vec<u8>) -> Result<(), AllocError>
 {
     freeze_guards(&state.guards, key)?;
     state.pending.freeze(key)?;
-    state.gates.freeze(key)?;
-    freeze_list(&state.output, key)
+    state.gates.freeze(key)
 }
 
 fn freeze_processes(processes: &[Process], key: &mut Vec<u8>) -> Result<(), AllocError>
@@ -62,7 +69,7 @@ fn freeze_frames(process: &Process, key: &mut Vec<u8>) -> Result<(), AllocError>
     ensures { IfOk result (λ _. key.new.items ≡ key.old.items ++ frames_key (thread_of process.now)) }
 {
     freeze_list(&process.stack, key)?;
-    freeze_list(&process.room.cells, key)?;
+    freeze_numbers(&process.room.cells, key)?;
     freeze_list(&process.room.references, key)
 }
 

@@ -4,8 +4,8 @@ use Rattle.std.proofs.lemmas.Option.{slice_get_cases}
 use Rattle.cp_tree.specs.Syntax.{Simple, type_name, enumeration, subrange, TypeTerm, simple, array_of, set_type, record_of, FieldGroups, no_fields, more_fields, FieldGroup, fields, ConstantDefinition, TypeDefinition, VariableGroup, Part, constants, types, variables, Group, System, Definition, type_definition, system_definition, SystemDefinition, ProgramPart, program_constants, program_types, program_variables, Program}
 use Rattle.cp_meaning.specs.Names.{Name, same_name}
 use Rattle.cp_meaning.specs.Types.{Base, Ty, ordinal, queue_type, set_over, array_over, record_with, component_of}
-use Rattle.cp_meaning.specs.Scopes.{Meaning, constant_meaning, type_meaning, local_variable, permanent_variable, routine_meaning, standard_meaning, Scope, find, is_seen, seen_inside, predeclared}
-use Rattle.cp_meaning.specs.Declarations.{type_meant, type_named, names_of, with_constants, simple_in, type_in, fields_in, group_in, Variable, Block, constant_of, constants_in, types_in, named_variables, with_names, variables_in, part_in, parts_in, Parameter, Heading, parameters_named, with_group, with_groups}
+use Rattle.cp_meaning.specs.Scopes.{Meaning, constant_meaning, type_meaning, local_variable, permanent_variable, routine_meaning, standard_meaning, Scope, is_seen, seen_inside, predeclared}
+use Rattle.cp_meaning.specs.Declarations.{type_named, names_of, with_constants, simple_in, type_in, fields_in, group_in, Variable, Block, constant_of, constants_in, types_in, named_variables, with_names, variables_in, part_in, parts_in, Parameter, Heading, parameters_named, with_group, with_groups}
 use Rattle.cp_meaning.specs.Systems.{SystemMeaning, system_in, Declared, definition_in, definitions_in, program_part_in, program_parts_in, declared, own_meaning, or_own, system_of}
 use Rattle.cp_meaning.specs.WellFormed.{HasEarlier}
 
@@ -61,16 +61,16 @@ seen_below k (d ∷ ds) h = go (is_seen d.1) (seen_below k ds h.1)
 
 found_below : (k : ℕ) (x : Name) (s : Scope) → ScopeBelow k s → TyBelow k (type_named s x)
 found_below k x [] h = tt
-found_below k x (d ∷ ds) h = go (same_name x d.0) d.1 h.0 (found_below k x ds h.1)
+found_below k x ((n, constant_meaning b z) ∷ ds) h = found_below k x ds h.1
+found_below k x ((n, type_meaning t) ∷ ds) h = go (same_name x n) (found_below k x ds h.1)
   where
-    go : (b : Bool) (m : Meaning) → MeaningBelow k m → TyBelow k (type_meant (find x ds)) → TyBelow k (type_meant (if b then Some m else find x ds))
-    go true (constant_meaning b z) below rest = tt
-    go true (type_meaning t) below rest = below
-    go true (local_variable t) below rest = tt
-    go true (permanent_variable t) below rest = tt
-    go true (routine_meaning r) below rest = tt
-    go true (standard_meaning s) below rest = tt
-    go false m below rest = rest
+    go : (b : Bool) → TyBelow k (type_named ds x) → TyBelow k (if b then t else type_named ds x)
+    go true rest = h.0
+    go false rest = rest
+found_below k x ((n, local_variable t) ∷ ds) h = found_below k x ds h.1
+found_below k x ((n, permanent_variable t) ∷ ds) h = found_below k x ds h.1
+found_below k x ((n, routine_meaning r) ∷ ds) h = found_below k x ds h.1
+found_below k x ((n, standard_meaning s) ∷ ds) h = found_below k x ds h.1
 
 -- ---- types as they are written
 

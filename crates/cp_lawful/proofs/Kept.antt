@@ -211,7 +211,7 @@ unfolding headings.parameter_steps
 parameters_kept s [] = same s
 parameters_kept s (g ∷ gs) = after s (headings.group_step g.is_var s g.group).scopes _ (routine_group_kept g.is_var s g.group) (parameters_kept (headings.group_step g.is_var s g.group).scopes gs)
 
-written_kept : (s : Scopes) (k : RoutineKind) → Keeps s (headings.written s k).scopes
+pub written_kept : (s : Scopes) (k : RoutineKind) → Keeps s (headings.written s k).scopes
 unfolding headings.written
 written_kept s (procedure gs) = parameters_kept s gs
 written_kept s (function gs i) = routine_groups_kept s gs

@@ -1,8 +1,8 @@
-mod Accepting
-mod Classes
-mod Earlier
-mod Kept
-mod Loud
-mod Once
-mod Paths
-mod Told
+pub mod Accepting
+pub mod Classes
+pub mod Earlier
+pub mod Kept
+pub mod Loud
+pub mod Once
+pub mod Paths
+pub mod Told

@@ -69,7 +69,7 @@ Heard s = (at : ℕ) (n : List ℕ) → Loud (names.visible s at n)
 
 -- ---- names
 
-begun_loud : (s : Scopes) (i : Identifier) → Heard s → Loud (names.begun s i)
+pub begun_loud : (s : Scopes) (i : Identifier) → Heard s → Loud (names.begun s i)
 unfolding names.begun
 begun_loud s i h = loud_then _ _ (h i.at i.name) (λ m. tt)
 
@@ -387,11 +387,11 @@ started_loud s at d os (name.Routine n) = tt
 started_loud s at d os (name.Entry n) = tt
 started_loud s at d os (name.Predeclared p) = tt
 
-start_loud : (s : Scopes) (w : Context) (i : Start) → Heard s → Loud (statements.start s w i)
+pub start_loud : (s : Scopes) (w : Context) (i : Start) → Heard s → Loud (statements.start s w i)
 unfolding statements.start statements.started
 start_loud s w i h = loud_then _ _ (loud_both _ _ (designator_loud s w h i.target) (arguments_loud s w h [] 0 i.arguments)) (λ p. started_loud s _ p.0 p.1 p.0.named)
 
-starts_loud : (s : Scopes) (w : Context) (is : List Start) (j : Judged Use) → Heard s → Loud j → Loud (statements.starts s w j is)
+pub starts_loud : (s : Scopes) (w : Context) (is : List Start) (j : Judged Use) → Heard s → Loud j → Loud (statements.starts s w j is)
 unfolding statements.starts
 starts_loud s w [] j h g = g
 starts_loud s w (i ∷ is) j h g = starts_loud s w is _ h (loud_then _ _ (loud_both j _ g (start_loud s w i h)) (λ p. tt))
@@ -417,11 +417,11 @@ mutual
   statement_loud s w h (init at is) = loud_then _ _ (starts_loud s w is _ h tt) (λ u. initial_loud at w.routine u)
   statement_loud s w h (case_of at e as' b) = loud_then _ _ (loud_both _ _ (expression_loud s w h false e) (arms_loud s w h as' _ tt)) (chosen_loud at)
 
-  arms_loud : (s : Scopes) (w : Context) → Heard s → (as' : Arms) (j : Judged (List Label × Use)) → Loud j → Loud (statements.arms s w j as')
+  pub arms_loud : (s : Scopes) (w : Context) → Heard s → (as' : Arms) (j : Judged (List Label × Use)) → Loud j → Loud (statements.arms s w j as')
   arms_loud s w h no_arms j g = g
   arms_loud s w h (more_arms a as') j g = arms_loud s w h as' _ (loud_then _ _ (loud_both j _ g (labelled_loud s w h a)) (λ p. tt))
 
-  labelled_loud : (s : Scopes) (w : Context) → Heard s → (a : Arm) → Loud (statements.labelled s w a)
+  pub labelled_loud : (s : Scopes) (w : Context) → Heard s → (a : Arm) → Loud (statements.labelled s w a)
   labelled_loud s w h (arm cs t) = loud_both _ _ (labels_loud s cs h) (statement_loud s w h t)
 
   pub statements_loud : (s : Scopes) (w : Context) → Heard s → (ss : Statements) (j : Judged Use) → Loud j → Loud (statements.statements s w j ss)

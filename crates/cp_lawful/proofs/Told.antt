@@ -399,7 +399,7 @@ after_loud : {A : Type 0} (fs : List CheckFault) (j : Judged A) → (fs ≡ [] �
 after_loud [] j g = g refl
 after_loud (f ∷ fs) j g = tt
 
-none_after : {A : Type 0} (fs : List CheckFault) (j : Judged A) → faults (after_faults fs j) ≡ [] → faults j ≡ []
+pub none_after : {A : Type 0} (fs : List CheckFault) (j : Judged A) → faults (after_faults fs j) ≡ [] → faults j ≡ []
 none_after [] j h = h
 none_after (f ∷ fs) j h = absurd (let bad : f ∷ (fs ++ faults j) ≡ [] = h in cc)
 
@@ -408,7 +408,7 @@ unfolding headings.written
 written_loud s (procedure gs) h = after_loud (headings.parameter_steps s gs).faults (Ok None) (λ e. tt)
 written_loud s (function gs i) h = after_loud (headings.group_steps s gs).faults (headings.result_type (headings.group_steps s gs).scopes i) (λ e. result_loud (headings.group_steps s gs).scopes i (routine_groups_told s gs e h))
 
-written_told : (s : Scopes) (k : RoutineKind) → faults (headings.written s k).result ≡ [] → Told s → Told (headings.written s k).scopes
+pub written_told : (s : Scopes) (k : RoutineKind) → faults (headings.written s k).result ≡ [] → Told s → Told (headings.written s k).scopes
 unfolding headings.written
 written_told s (procedure gs) e h = parameters_told s gs (none_before {A = Option ValueType} (headings.parameter_steps s gs).faults (Ok None) e) h
 written_told s (function gs i) e h = routine_groups_told s gs (none_before (headings.group_steps s gs).faults (headings.result_type (headings.group_steps s gs).scopes i) e) h
@@ -419,7 +419,7 @@ all_append : (cs ds : List Scope) → AllTold cs → AllTold ds → AllTold (cs 
 all_append [] ds h g = g
 all_append (c ∷ cs) ds h g = (h.0, all_append cs ds h.1 g)
 
-enter_told : (b : Bool) (s : Scopes) → Told s → Told (enter b s)
+pub enter_told : (b : Bool) (s : Scopes) → Told s → Told (enter b s)
 unfolding enter
 enter_told b s h = (tt, all_append s.outer (sealed b s.inner ∷ []) h.1 (h.0, tt))
 
@@ -443,7 +443,7 @@ add_around_told s n m h g =
 
 -- ---- routines
 
-announced_told : (r : Routine) (j : Judged (Option ValueType)) (s : Scopes) → Loud j → faults j ≡ [] → Told s → Told (headings.announced_of r j s)
+pub announced_told : (r : Routine) (j : Judged (Option ValueType)) (s : Scopes) → Loud j → faults j ≡ [] → Told s → Told (headings.announced_of r j s)
 unfolding headings.announced
 announced_told r (Ok t) s loud e h = add_around_told (keep s r.name.at _) r.name.name (Some (meaning.Routine r.name.at)) (keep_told s r.name.at _ h) tt
 announced_told r (Err []) s loud e h = absurd loud
@@ -458,14 +458,14 @@ closed_told r (Err []) u s a b c d h = absurd a
 closed_told r (Err (f ∷ fs)) u s a b c d h = absurd (let bad : f ∷ fs ≡ [] = b in cc)
 
 -- the heading has a result, and its scopes no name that stands for nothing
-heading_loud : (k : Option SystemKind) (r : Routine) (d : Step) → Told d.scopes → Loud (headings.heading k r d).result
+pub heading_loud : (k : Option SystemKind) (r : Routine) (d : Step) → Told d.scopes → Loud (headings.heading k r d).result
 unfolding headings.heading
 heading_loud k r d h =
     loud_then (after_faults d.faults (headings.written (enter false d.scopes) r.kind).result) (headings.ruled k r)
     (after_loud d.faults (headings.written (enter false d.scopes) r.kind).result (λ e. written_loud (enter false d.scopes) r.kind (enter_told false d.scopes h)))
     (λ t. loud_unless (headings.heading_faults k r t) t)
 
-heading_told : (k : Option SystemKind) (r : Routine) (d : Step) → faults (headings.heading k r d).result ≡ [] → Told d.scopes → Told (headings.heading k r d).scopes
+pub heading_told : (k : Option SystemKind) (r : Routine) (d : Step) → faults (headings.heading k r d).result ≡ [] → Told d.scopes → Told (headings.heading k r d).scopes
 unfolding headings.heading
 heading_told k r d e h =
     written_told (enter false d.scopes) r.kind (none_after d.faults (headings.written (enter false d.scopes) r.kind).result (no_first (after_faults d.faults (headings.written (enter false d.scopes) r.kind).result) (headings.ruled k r) e)) (enter_told false d.scopes h)
@@ -485,12 +485,12 @@ headed_told k r h e loud told =
     quiet
     (parts (none_before (part_steps spot.Other (headings.announced_of r h.result h.scopes) r.parts).faults (statements (part_steps spot.Other (headings.announced_of r h.result h.scopes) r.parts).scopes (routines.routine_context k r) (Ok no_use) r.body.statements) quiet))
 
-routine_told : (k : Option SystemKind) (s : Scopes) (r : Routine) → (routines.routine_step k s r).faults ≡ [] → Told s → Told (routines.routine_step k s r).scopes
+pub routine_told : (k : Option SystemKind) (s : Scopes) (r : Routine) → (routines.routine_step k s r).faults ≡ [] → Told s → Told (routines.routine_step k s r).scopes
 unfolding routines.routine_step
 routine_told k s r e h =
     headed_told k r (headings.heading k r (reserve_name s r.name)) e (heading_loud k r (reserve_name s r.name) (name_reserved_told s r.name h)) (λ none. heading_told k r (reserve_name s r.name) none (name_reserved_told s r.name h))
 
-routines_told : (k : Option SystemKind) (s : Scopes) (rs : List Routine) → (routines.routine_steps k s rs).faults ≡ [] → Told s → Told (routines.routine_steps k s rs).scopes
+pub routines_told : (k : Option SystemKind) (s : Scopes) (rs : List Routine) → (routines.routine_steps k s rs).faults ≡ [] → Told s → Told (routines.routine_steps k s rs).scopes
 unfolding routines.routine_steps
 routines_told k s [] e h = h
 routines_told k s (r ∷ rs) e h = routines_told k (routines.routine_step k s r).scopes rs (no_right (routines.routine_step k s r).faults (routines.routine_steps k (routines.routine_step k s r).scopes rs).faults e) (routine_told k s r (no_left (routines.routine_step k s r).faults (routines.routine_steps k (routines.routine_step k s r).scopes rs).faults e) h)
@@ -515,7 +515,7 @@ system_admitted_loud at o holds.Queues t = tt
 system_admitted_loud at o (holds.Component k) t = component_admitted_loud at o k t
 system_admitted_loud at o (holds.Components k) t = tt
 
-system_parameter_loud : (o : SystemKind) (s : Scopes) (g : Group) → Told s → Loud (systems.parameter_type o s g)
+pub system_parameter_loud : (o : SystemKind) (s : Scopes) (g : Group) → Told s → Loud (systems.parameter_type o s g)
 unfolding systems.parameter_type
 system_parameter_loud o s g h = loud_then (typing.type_named s g.type_name.at g.type_name.name) (systems.admitted_in s g.type_name.at o) (type_named_loud s g.type_name.at g.type_name.name h) (λ t. system_admitted_loud g.type_name.at o (typing.holding s t) t)
 
@@ -527,12 +527,12 @@ system_group_told o s g e h =
     (loud_then (systems.parameter_type o (reserve_names s g.names).scopes g) systems.to_parameter (system_parameter_loud o (reserve_names s g.names).scopes g named) (λ t. tt))
     (no_right (reserve_names s g.names).faults (faults (systems.parameter_type o (reserve_names s g.names).scopes g >>= systems.to_parameter)) e)
 
-system_groups_told : (o : SystemKind) (s : Scopes) (gs : List Group) → (systems.group_steps o s gs).faults ≡ [] → Told s → Told (systems.group_steps o s gs).scopes
+pub system_groups_told : (o : SystemKind) (s : Scopes) (gs : List Group) → (systems.group_steps o s gs).faults ≡ [] → Told s → Told (systems.group_steps o s gs).scopes
 unfolding systems.group_steps
 system_groups_told o s [] e h = h
 system_groups_told o s (g ∷ gs) e h = system_groups_told o (systems.group_step o s g).scopes gs (no_right (systems.group_step o s g).faults (systems.group_steps o (systems.group_step o s g).scopes gs).faults e) (system_group_told o s g (no_left (systems.group_step o s g).faults (systems.group_steps o (systems.group_step o s g).scopes gs).faults e) h)
 
-inside_told : (s : Scopes) (y : System) → (systems.inside s y).faults ≡ [] → Told s → Told (systems.inside s y).scopes
+pub inside_told : (s : Scopes) (y : System) → (systems.inside s y).faults ≡ [] → Told s → Told (systems.inside s y).scopes
 unfolding systems.inside
 inside_told s y e h =
     let later = no_right (systems.group_steps y.kind s y.parameters).faults _ e in

@@ -28,6 +28,7 @@ pub struct Callee {
 }
 
 // Opens the call of a routine in a component, and binds its parameters.
+#[inline(always)]
 fn open_call(
     program: &Resolved,
     state: &mut State,

@@ -103,7 +103,7 @@ fn perform_local(program: &Resolved, state: &mut State, pid: u8, at: usize, item
             value,
             low,
             high,
-        } => is_done(assign(state, pid, item, target, value, *low, *high)),
+        } => is_done(assign(state, pid, item, target, value, low, high)),
         Action::If {
             test,
             then,

@@ -19,6 +19,7 @@ use crate::statement::{assign, assign_set, branch, case_of, copy, display};
 use cp_slots::{Action, Item, Resolved};
 
 /// Does what an item says, which is the topmost entry.
+#[inline(always)]
 pub fn perform(
     program: &Resolved,
     state: &mut State,
@@ -72,7 +73,7 @@ fn perform_assignment(state: &mut State, pid: u8, item: &Item) -> Result<Event, 
             value,
             low,
             high,
-        } => assign(state, pid, item, target, value, *low, *high),
+        } => assign(state, pid, item, target, value, low, high),
         Action::AssignSet {
             target,
             value,

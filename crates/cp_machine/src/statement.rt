@@ -26,19 +26,19 @@ pub fn assign(
     item: &Item,
     target: &Place,
     value: &Expression,
-    low: i16,
-    high: i16,
+    low: &i16,
+    high: &i16,
 ) -> Result<Event, ErrorName>
     requires pid { pid < length state.old.processes.items }
     requires busy { IsBusy state.old pid }
     requires reads { CanRead (machine_of state.old) pid value.now }
     requires reach { CanReach (machine_of state.old) pid target.now 1 }
-    ensures after { spec.assign (machine_of state.old) pid item.now.line target.now value.now low high (rest_of item.now.next (under (machine_of state.old) pid)) ≡ spec.outcome result (machine_of state.new) pid item.now.line }
+    ensures after { spec.assign (machine_of state.old) pid item.now.line target.now value.now low.now high.now (rest_of item.now.next (under (machine_of state.old) pid)) ≡ spec.outcome result (machine_of state.new) pid item.now.line }
     ensures reserved { (r : Tables) → IsReserved r state.old → IsReserved r state.new }
 {
     let right = value_here(state, pid, value)?;
     let left = address_of(state, pid, target)?;
-    let value = ranged(right, low, high)?;
+    let value = ranged(right, *low, *high)?;
     replace(state, pid, None, item.next);
     put_number(state, pid, left, value);
     Ok(Event::Local)
@@ -213,7 +213,7 @@ fn show(state: &mut State, pid: u8, next: Option<usize>, value: Shown) -> Event
 }
 
 /// `display`: its value first, and then whether there is room for it.
-#[inline(never)]
+#[inline(always)]
 pub fn display(
     state: &mut State,
     pid: u8,

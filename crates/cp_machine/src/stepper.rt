@@ -40,6 +40,7 @@ pub fn step<L: Ledger>(
     event
 }
 
+#[inline(always)]
 fn take_step(program: &Resolved, state: &mut State, pid: u8) -> Event
     requires own { IsStateOf program.now state.old }
     requires pid { pid < length state.old.processes.items }

@@ -26,6 +26,7 @@ fn failed(pid: u8, item: &Item, name: ErrorName) -> Event
 }
 
 /// Takes an item, which is the topmost entry of a process.
+#[inline(always)]
 pub fn take_item(program: &Resolved, state: &mut State, pid: u8, at: usize) -> Event
     requires own { IsStateOf program.now state.old }
     requires pid { pid < length state.old.processes.items }

@@ -79,3 +79,8 @@ cycle_until_no_case =
 abbrev pub empty_queue : Program
 empty_queue =
     record { parts = ((program_types 0 ((record { name = (named_at 1 (codes "m")); value = (system_definition (record { at = 3; kind = system_kind.Monitor; parameters = ([]); has_semicolon = true; parts = ((variables 5 ((record { names = ((named_at 6 (codes "q")) ∷ []); variable_type = (simple 8 (type_name 8 (codes "queue"))) }) ∷ [])) ∷ []); routines = ((record { at = 10; is_entry = true; name = (named_at 12 (codes "go")); kind = (procedure ((record { at = 14; is_var = true; group = (record { names = ((named_at 15 (codes "b")) ∷ []); type_name = (named_at 17 (codes "boolean")) }) }) ∷ [])); parts = ([]); body = (record { at = 20; statements = (more_statements (assign 21 (designator (named_at 21 (codes "b")) no_selectors) (just 23 (named 23 (designator (named_at 23 (codes "empty")) no_selectors) (more_expressions (just 25 (named 25 (designator (named_at 25 (codes "q")) no_selectors) no_expressions)) no_expressions)))) no_statements) }) }) ∷ []); body = (record { at = 29; statements = (more_statements (empty 30) no_statements) }) })) }) ∷ [])) ∷ (program_variables 32 ((record { names = ((named_at 33 (codes "x")) ∷ []); variable_type = (simple 35 (type_name 35 (codes "m"))) }) ∷ (record { names = ((named_at 37 (codes "b")) ∷ []); variable_type = (simple 39 (type_name 39 (codes "boolean"))) }) ∷ [])) ∷ []); routines = ([]); body = (record { at = 41; statements = (more_statements (init 42 ((record { target = (designator (named_at 43 (codes "x")) no_selectors); arguments = no_expressions }) ∷ [])) (more_statements (invoke 45 (designator (named_at 45 (codes "x")) (more_selectors (field (named_at 47 (codes "go"))) no_selectors)) (more_expressions (just 49 (named 49 (designator (named_at 49 (codes "b")) no_selectors) no_expressions)) no_expressions)) (more_statements (invoke 52 (designator (named_at 52 (codes "display")) no_selectors) (more_expressions (just 54 (named 54 (designator (named_at 54 (codes "b")) no_selectors) no_expressions)) no_expressions)) no_statements))) }); period = 57 }
+
+-- type range = 1..5; m = monitor; procedure entry range(x: range); begin display(x) end; begin end; var v: m; begin init v; v.range(7) end.
+abbrev pub own_name_in_heading : Program
+own_name_in_heading =
+    record { parts = ((program_types 0 ((record { name = (named_at 1 (codes "range")); value = (type_definition (simple 3 (subrange 3 (record { at = 3; kind = constant_kind.Number None 1 }) (record { at = 5; kind = constant_kind.Number None 5 })))) }) ∷ (record { name = (named_at 7 (codes "m")); value = (system_definition (record { at = 9; kind = system_kind.Monitor; parameters = ([]); has_semicolon = true; parts = ([]); routines = ((record { at = 11; is_entry = true; name = (named_at 13 (codes "range")); kind = (procedure ((record { at = 15; is_var = false; group = (record { names = ((named_at 15 (codes "x")) ∷ []); type_name = (named_at 17 (codes "range")) }) }) ∷ [])); parts = ([]); body = (record { at = 20; statements = (more_statements (invoke 21 (designator (named_at 21 (codes "display")) no_selectors) (more_expressions (just 23 (named 23 (designator (named_at 23 (codes "x")) no_selectors) no_expressions)) no_expressions)) no_statements) }) }) ∷ []); body = (record { at = 27; statements = (more_statements (empty 28) no_statements) }) })) }) ∷ [])) ∷ (program_variables 30 ((record { names = ((named_at 31 (codes "v")) ∷ []); variable_type = (simple 33 (type_name 33 (codes "m"))) }) ∷ [])) ∷ []); routines = ([]); body = (record { at = 35; statements = (more_statements (init 36 ((record { target = (designator (named_at 37 (codes "v")) no_selectors); arguments = no_expressions }) ∷ [])) (more_statements (invoke 39 (designator (named_at 39 (codes "v")) (more_selectors (field (named_at 41 (codes "range"))) no_selectors)) (more_expressions (just 43 (number 43 7)) no_expressions)) no_statements)) }); period = 46 }

@@ -1,9 +1,9 @@
 -- Features of the language, by computing.
 use Rattle.std.specs.Prelude.{◌≡◌, [], ◌∷◌, refl, pos, negsuc}
-use Rattle.cp_meaning.specs.Outcome.{no_case}
+use Rattle.cp_meaning.specs.Outcome.{out_of_range, no_case}
 use Rattle.cp_meaning.specs.Kernel.{ended_event, fault_event}
 use Rattle.cp_meaning.proofs.Following.{ending}
-use Rattle.cp_meaning.proofs.FeaturePrograms.{own_name_in_for, whole_subrange, type_named_again, constant_hides, reference_passed_on, sets_in_records, classes_in_monitor, array_of_chars, call_at_each_test, call_at_each_until, truth_values, arithmetic, cycle_until_no_case, empty_queue}
+use Rattle.cp_meaning.proofs.FeaturePrograms.{own_name_in_for, own_name_in_heading, whole_subrange, type_named_again, constant_hides, reference_passed_on, sets_in_records, classes_in_monitor, array_of_chars, call_at_each_test, call_at_each_until, truth_values, arithmetic, cycle_until_no_case, empty_queue}
 
 -- function f: integer; begin for f := 1 to 3 do end; begin display(f) end.
 pub own_name_in_for-ends : ending own_name_in_for ≡ (ended_event, pos 3 ∷ [])
@@ -60,3 +60,8 @@ cycle_until_no_case-ends = refl
 -- type m = monitor; var q: queue; procedure entry go(var b: boolean); begin b := empty(q) end; begin end; var x: m; b: boolean; begin init x; x.go(b); display(b) end.
 pub empty_queue-ends : ending empty_queue ≡ (ended_event, pos 1 ∷ [])
 empty_queue-ends = refl
+
+-- The type is the program's, since the routine is not visible in its heading.
+-- type range = 1..5; m = monitor; procedure entry range(x: range); begin display(x) end; begin end; var v: m; begin init v; v.range(7) end.
+pub own_name_in_heading-ends : ending own_name_in_heading ≡ (fault_event out_of_range, [])
+own_name_in_heading-ends = refl

@@ -1,5 +1,5 @@
 -- What declarations declare (the book, chapter 8). Each is read in the scope that stands before it, and adds to it.
-use Rattle.std.specs.Prelude.{ℕ, suc, ◌-◌, ℤ, pos, neg_ℤ, Bool, false, List, [], ◌∷◌, ◌++◌, map, length, Option, Some, None}
+use Rattle.std.specs.Prelude.{ℕ, suc, ◌-◌, ℤ, pos, neg_ℤ, if◌then◌else◌, Bool, false, List, [], ◌∷◌, ◌++◌, map, length, Option, Some, None}
 use Rattle.cp_tree.specs.declared.constant.Identifier.{Identifier}
 use Rattle.cp_tree.specs.declared.constant.Sign.{Sign}
 use Rattle.cp_tree.specs.declared.constant.Sign.TheVariants as sign
@@ -7,7 +7,7 @@ use Rattle.cp_tree.specs.declared.constant.Constant.{Constant}
 use Rattle.cp_tree.specs.declared.constant.ConstantKind.{ConstantKind}
 use Rattle.cp_tree.specs.declared.constant.ConstantKind.TheVariants as constant_kind
 use Rattle.cp_tree.specs.Syntax.{Simple, type_name, enumeration, subrange, TypeTerm, simple, array_of, set_type, record_of, FieldGroups, no_fields, more_fields, FieldGroup, fields, ConstantDefinition, TypeDefinition, VariableGroup, Part, constants, types, variables, Group, ParameterGroup, RoutineKind, procedure, function, Routine, Statements}
-use Rattle.cp_meaning.specs.Names.{Name}
+use Rattle.cp_meaning.specs.Names.{Name, same_name}
 use Rattle.cp_meaning.specs.Types.{Base, integers, characters, enumerated, Ty, ordinal, set_over, array_over, record_with, FieldTypes, no_field_types, more_field_types, all_integers, range_of}
 use Rattle.cp_meaning.specs.Scopes.{Meaning, constant_meaning, type_meaning, local_variable, Scope, find}
 
@@ -35,13 +35,12 @@ constant_of s c = constant_of_kind s c.kind
 
 -- ---- types, with the scope that their enumeration constants leave
 
--- what a name stands for in the place of a type
-abbrev pub type_meant : Option Meaning → Ty
-type_meant (Some (type_meaning t)) = t
-type_meant o = ordinal all_integers
-
+-- Where a type is written, a name stands for the latest type of that name. In its heading a routine's own name is not visible yet, and is passed over.
+-- The rules refuse every other name there that is no type: so nothing else is passed over in an accepted program.
 abbrev pub type_named : Scope → Name → Ty
-type_named s x = type_meant (find x s)
+type_named [] x = ordinal all_integers
+type_named ((n, type_meaning t) ∷ s) x = if same_name x n then t else type_named s x
+type_named (d ∷ s) x = type_named s x
 
 abbrev pub names_of : List Identifier → List Name
 names_of is = map (λ i. i.name) is

@@ -2,6 +2,7 @@ pub mod Adding
 pub mod Anywhere
 pub mod Arriving
 pub mod Basics
+pub mod Choosing
 pub mod Completing
 pub mod Exact
 pub mod Exploring

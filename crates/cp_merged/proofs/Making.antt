@@ -6,6 +6,7 @@ use Rattle.std.proofs.lemmas.List.{length-map}
 use Rattle.std.proofs.lemmas.List.Elements.{All-head, All-tail}
 use Rattle.cp_slots.specs.Tables.{Tables}
 use Rattle.cp_machine.specs.System.{Machine, output_of}
+use Rattle.cp_machine.specs.declared.shown.Shown.{Shown}
 use Rattle.cp_run.specs.declared.outcome.OutcomeKind.TheVariants.{ChoiceLimit}
 use Rattle.cp_machine.specs.declared.gates.Gates.{Gates}
 use Rattle.cp_run.specs.System.{System}
@@ -75,8 +76,14 @@ below : 16 ^ 100 < 10 ^ 126
 below = lit< tt
 
 -- what a lead of the last layer adds
+abbrev limited : List ℕ → List Shown → ℕ → Tally
+limited word output count = record { first = record { word = word; outcome = record { kind = ChoiceLimit; output = output } }; count = count }
+
 abbrev limit_tally : Lead Machine → Tally
-limit_tally x = record { first = record { word = x.first; outcome = record { kind = ChoiceLimit; output = output_of x.state } }; count = x.count }
+limit_tally x = limited x.first (output_of x.state) x.count
+
+limit_same : (word : List ℕ) (output : List Shown) (count : ℕ) (x : Lead Machine) → word ≡ x.first → output ≡ output_of x.state → count ≡ x.count → limited word output count ≡ limit_tally x
+limit_same word output count x a b c = ap (λ w. limited w output count) a ∙ ap (λ o. limited x.first o count) b ∙ ap (λ k. limited x.first (output_of x.state) k) c
 
 module _ (r : Tables) (gates : Gates) (steps : ℕ) where
   abbrev made : ℕ → Front Machine
@@ -211,20 +218,19 @@ module _ (r : Tables) (gates : Gates) (steps : ℕ) where
   pub ending_next : (choices : ℕ) (ends : List (EndKey × code.Lead)) (es : List (StateKey × code.Lead)) (e : StateKey × code.Lead) (m : Ending choices ends (e ∷ es)) → IsNext r e es m.leads
   ending_next choices ends es e m = next_lead r e es m.leads m.left
 
-  pub ending_more : (choices : ℕ) (ends new_ends : List (EndKey × code.Lead)) (es : List (StateKey × code.Lead)) (e : StateKey × code.Lead) (m : Ending choices ends (e ∷ es)) (t : Machine) (w : List ℕ) → t ≡ (ending_next choices ends es e m).lead.state → w ≡ e.1.first.items → ((ts : List Tally) → AreEnds ends ts → AreEnds new_ends (with_tally same_outcome ts (record { first = record { word = w; outcome = record { kind = ChoiceLimit; output = output_of t } }; count = e.1.count }))) → Ending choices new_ends es
+  pub ending_more : (choices : ℕ) (ends new_ends : List (EndKey × code.Lead)) (es : List (StateKey × code.Lead)) (e : StateKey × code.Lead) (m : Ending choices ends (e ∷ es)) (o : List Shown) (w : List ℕ) → o ≡ output_of (ending_next choices ends es e m).lead.state → w ≡ e.1.first.items → ((ts : List Tally) → AreEnds ends ts → AreEnds new_ends (with_tally same_outcome ts (limited w o e.1.count))) → Ending choices new_ends es
   unfolding ending_next
-  ending_more choices ends new_ends es e m t w at word go =
+  ending_more choices ends new_ends es e m o w at word go =
       let n = next_lead r e es m.leads m.left in
       let here = subst (Each (IsLead (slots r gates) same_outcome exact_outcomes same_key key_sound steps choices)) n.is m.lead in
-      let same : Lead Machine = record { state = t; first = w; count = e.1.count } in
-      let is : same ≡ n.lead = lead_same t w e.1.count n.lead at (word ∙ n.first) n.count in
+      let is : limited w o e.1.count ≡ limit_tally n.lead = limit_same w o e.1.count n.lead (word ∙ n.first) at n.count in
       let words = ap words_of n.is in
       let more = counts_with (slots r gates) same_outcome same_key steps m.tallies (limit_tally n.lead) in
       let old = m.small in
       record {
         tallies = with_tally same_outcome m.tallies (limit_tally n.lead);
         leads = n.rest;
-        ended = subst (λ x. AreEnds new_ends (with_tally same_outcome m.tallies (limit_tally x))) is (go m.tallies m.ended);
+        ended = subst (λ t. AreEnds new_ends (with_tally same_outcome m.tallies t)) is (go m.tallies m.ended);
         left = n.left;
         comes = ap (λ xs. at_limit (slots r gates) same_outcome xs m.tallies) (sym n.is) ∙ m.comes;
         small = omega (arith, words, more, old);

@@ -61,21 +61,6 @@ module _ {S : Type 0} (sys : System S) (same : Sameness) (eq : S → S → Bool)
       let l = total_layer few f.layer (record { ended = f.ended; layer = [] }) in
       grind (arith, on, l)
 
-  -- with one process more
-  pub choice_more : (x : Lead S) (p : ℕ) (f : Front S) (P : Front S → Type 0) → P (after_choice sys same eq steps x p (after_choices sys same eq steps x p f)) → P (after_choices sys same eq steps x (p + 1) f)
-  choice_more x p f P h = subst (λ n. P (after_choices sys same eq steps x n f)) (next p) h
-    where
-      next : (n : ℕ) → suc n ≡ n + 1
-      next n = omega arith
-
-  -- words that lead on with one process more are few enough
-  pub room_for_choice : (x : Lead S) (p : ℕ) (f : Front S) → p < 16 → total f + 16 * x.count < 10 ^ 126 → total (after_choices sys same eq steps x p f) + x.count < 10 ^ 126
-  room_for_choice x p f l small =
-      let a = total_choices x p f in
-      let b = fewer (suc p) 16 x.count (omega (arith, l)) in
-      let c : suc p * x.count ≡ p * x.count + x.count = grind arith in
-      omega (arith, a, b, c, small)
-
   pub counts_limit : (xs : List (Lead S)) (ts : List Tally) → counts (at_limit sys same xs ts) ≡ counts ts + words_of xs
   counts_limit [] ts = omega arith
   counts_limit (x ∷ xs) ts =

@@ -1,7 +1,8 @@
 //! From layer to layer.
 
-ghost use Rattle.std.specs.Prelude.{◌≡◌, ◌+◌, ◌*◌, ◌^◌, ◌<◌, ◌≤◌, [], length, IfOk, IfErr};
+ghost use Rattle.std.specs.Prelude.{◌≡◌, ◌+◌, ◌*◌, ◌^◌, ◌<◌, ◌≤◌, [], true, length, IfOk, IfErr};
 ghost use Rattle.cp_machine.specs.System.{Machine, machine_of, IsStateOf};
+ghost use Rattle.cp_run.specs.Run.{may};
 ghost use Rattle.cp_run.specs.Slots.{slots, processes_of};
 ghost use Rattle.cp_explore.specs.Report.{same_outcome};
 ghost use Rattle.cp_merged.specs.Layers as layers;
@@ -13,70 +14,73 @@ use crate::fault::MergeFault;
 use crate::front::{Front, Layer};
 use crate::lead::Lead;
 use crate::word::{longer, word_of};
-use cp_key::thaw;
+use cp_key::{thaw, thaw_output};
 use cp_machine::{State, Ticks};
-use cp_run::{Limits, OutcomeKind, choose, may};
+use cp_run::{Limits, OutcomeKind, choose, wanted};
 use cp_slots::Resolved;
 use std::alloc::{AllocError, Global};
 use std::sync::ledger::Ledger;
 
-/// A lead goes one choice on with a process, if that may be chosen.
+/// A lead goes one choice on with a process that may be chosen.
 fn take_choice<S: Ledger, C: Ledger>(
     alloc: Global,
     program: &Resolved,
     limits: Limits,
-    state: &State,
+    state: &mut State,
     lead: &Lead,
     process: u8,
-    next: &mut State,
     front: &mut Front,
     steps: &mut Ticks<S>,
     calls: &mut Ticks<C>,
 ) -> Result<(), AllocError>
-    requires own { IsStateOf program.now state.now }
-    requires next { IsStateOf program.now next.old }
+    requires own { IsStateOf program.now state.old }
+    requires may { may (slots program.now limits.gates) (machine_of state.old) process ≡ true }
     requires room { length lead.now.first.items < 100 }
     requires small { (f : layers.Front Machine) × Holds program.now front.old.ended.entries front.old.layer.entries f × (total f + lead.now.count < 10 ^ 126) }
-    ensures next { IsStateOf program.now next.new }
-    ensures front { IfOk result (λ _. (f : layers.Front Machine) → Holds program.now front.old.ended.entries front.old.layer.entries f → Holds program.now front.new.ended.entries front.new.layer.entries (layers.after_choice (slots program.now limits.gates) same_outcome same_key limits.steps (record { state = machine_of state.now; first = lead.now.first.items; count = lead.now.count }) process f)) }
+    ensures own { IsStateOf program.now state.new }
+    ensures front { IfOk result (λ _. (f : layers.Front Machine) → Holds program.now front.old.ended.entries front.old.layer.entries f → Holds program.now front.new.ended.entries front.new.layer.entries (layers.after_choice (slots program.now limits.gates) same_outcome same_key limits.steps (record { state = machine_of state.old; first = lead.now.first.items; count = lead.now.count }) process f)) }
 {
-    if !may(program, limits, state, process) {
-        return Ok(());
-    }
-    next.take_from(state);
-    let halt = choose(program, limits, next, process, steps, calls);
+    let halt = choose(program, limits, state, process, steps, calls);
     let arriving = Lead {
         count: lead.count,
         first: longer(lead.first.as_slice(), process),
     };
-    front.arrive(alloc, next, halt, arriving)
+    front.arrive(alloc, state, halt, arriving)
 }
 
-/// A lead goes one choice on with each process that may be chosen.
+/// A lead goes one choice on with each process that may be chosen: with the last in its own state, and with the others in copies.
 fn take_choices<S: Ledger, C: Ledger>(
     alloc: Global,
     program: &Resolved,
     limits: Limits,
-    state: &State,
+    state: &mut State,
     lead: &Lead,
     next: &mut State,
     front: &mut Front,
     steps: &mut Ticks<S>,
     calls: &mut Ticks<C>,
 ) -> Result<(), AllocError>
-    requires own { IsStateOf program.now state.now }
+    requires own { IsStateOf program.now state.old }
     requires next { IsStateOf program.now next.old }
     requires room { length lead.now.first.items < 100 }
     requires small { (f : layers.Front Machine) × Holds program.now front.old.ended.entries front.old.layer.entries f × (total f + 16 * lead.now.count < 10 ^ 126) }
+    ensures own { IsStateOf program.now state.new }
     ensures next { IsStateOf program.now next.new }
-    ensures front { IfOk result (λ _. (f : layers.Front Machine) → Holds program.now front.old.ended.entries front.old.layer.entries f → Holds program.now front.new.ended.entries front.new.layer.entries (layers.after_choices (slots program.now limits.gates) same_outcome same_key limits.steps (record { state = machine_of state.now; first = lead.now.first.items; count = lead.now.count }) (processes_of program.now) f)) }
+    ensures front { IfOk result (λ _. (f : layers.Front Machine) → Holds program.now front.old.ended.entries front.old.layer.entries f → Holds program.now front.new.ended.entries front.new.layer.entries (layers.after_choices (slots program.now limits.gates) same_outcome same_key limits.steps (record { state = machine_of state.old; first = lead.now.first.items; count = lead.now.count }) (processes_of program.now) f)) }
 {
-    for process in 0..program.processes() {
+    let numbers = wanted(program, limits, state);
+    let Some((last, others)) = numbers.as_slice().split_last() else {
+        return Ok(());
+    };
+    for process in others {
+        next.take_from(state);
         take_choice(
-            alloc, program, limits, state, lead, process, next, front, steps, calls,
+            alloc, program, limits, next, lead, *process, front, steps, calls,
         )?;
     }
-    Ok(())
+    take_choice(
+        alloc, program, limits, state, lead, *last, front, steps, calls,
+    )
 }
 
 /// Each lead of layer `depth` goes one choice on. A layer of more than `most` states is not made to its end.
@@ -136,7 +140,7 @@ pub fn end_layer(
     let _ = program;
     let _ = limits;
     for (key, lead) in layer.iter() {
-        thaw(key.bytes.as_slice(), state);
+        thaw_output(key.bytes.as_slice(), state);
         let ending = Lead {
             count: lead.count,
             first: word_of(lead.first.as_slice()),

@@ -20,7 +20,7 @@ use Rattle.cp_meaning.specs.Expressions.{result_called, routine_called}
 use Rattle.cp_resolved.specs.Begun.{all_begun}
 use Rattle.cp_resolved.specs.BodiesStand.{ground_of, CallsFormed, BodiesLaw}
 use Rattle.cp_resolved.specs.Calls.{all_calls_laid, IsAmong, IsApart, AreApart}
-use Rattle.cp_resolved.specs.Formed.{AreReady}
+use Rattle.cp_resolved.specs.FormedParts.{AreReady}
 use Rattle.cp_resolved.specs.ItemsStand.{AreItems, CanStand, AreLaid}
 use Rattle.cp_resolved.specs.Layouts.{Here, frame_here, look}
 use Rattle.cp_resolved.specs.LayoutsKnow.{place_of, KnowsAt}

@@ -27,7 +27,7 @@ use Rattle.cp_meaning.specs.Expressions.{routine_of_type}
 use Rattle.cp_resolved.specs.Begun.{routine_begun, all_begun}
 use Rattle.cp_resolved.specs.BodiesStand.{ground_of, BodyFormed}
 use Rattle.cp_resolved.specs.Compiled.{as_ordinal, then_form, Designated, a_variable, some_components, a_component, result_begun, begun_form, ordinal_form, with_index_form, with_element_form, expression_form, selected_form}
-use Rattle.cp_resolved.specs.Formed.{HeadingIs, KnowsHeadings}
+use Rattle.cp_resolved.specs.FormedParts.{HeadingIs, KnowsHeadings}
 use Rattle.cp_resolved.specs.FormedStatements.{KnowsStarts}
 use Rattle.cp_resolved.specs.InStep.{Numbering}
 use Rattle.cp_resolved.specs.Layouts.{Here, is_own}

@@ -1,5 +1,6 @@
 -- Constants, types, variables and parameters change names, types and frames alone, and their names lead to what is there.
 use Rattle.std.proofs.Common.{◌≡◌, ℕ, ◌+◌, ℤ, Bool, true, false, if◌then◌else◌, List, [], ◌∷◌, ◌++◌, length, Option, Some, None, slice_get, refl, sym, ap, subst, ◌∙◌, ◌⊎◌, inl, inr, arith}
+use Rattle.std.specs.Str.{bytes_eq}
 use Rattle.cp_tree.specs.declared.constant.Identifier.{Identifier}
 use Rattle.cp_tree.specs.Syntax as syntax
 use Rattle.cp_tree.specs.Syntax.{ConstantDefinition, TypeDefinition, VariableGroup, Part, Group, ParameterGroup, RoutineKind, Simple, TypeTerm, FieldGroup, FieldGroups}
@@ -12,7 +13,7 @@ use Rattle.cp_slots.specs.declared.lay_out.names.Meaning.TheVariants as meaning
 use Rattle.cp_slots.specs.declared.lay_out.layer.Contained.{Contained}
 use Rattle.cp_slots.specs.declared.lay_out.layer.Content.TheVariants as content
 use Rattle.cp_slots.specs.Kinds.{Compound, array, record_with, Fields, no_fields, cells_of, array_type}
-use Rattle.cp_slots.specs.Layers.{Layer, find, with_name}
+use Rattle.cp_slots.specs.Layers.{Layer, Names, find_type, with_name}
 use Rattle.cp_slots.specs.LaidExpressions.{as_integer}
 use Rattle.cp_slots.specs.LaidTypes.{type_meant, named_type, with_constant, enumerated, enumeration_base, simple_type, range_of, written_type, field_groups, field_group, with_array_type, with_record_type}
 use Rattle.cp_slots.specs.LaidDeclarations.{Parameters, constant, constants, type_named, type_definition, type_definitions, components_of, cell_variable, variable_with, variable, variables_of, variable_group, variables, local, local_at, locals_of, local_group, local_variables, permanent_part, permanent_parts, local_part, local_parts, constant_parameter, constant_parameters_of, constant_group, constant_groups, var_parameter, var_parameters_of, var_group, parameter_group, parameter_groups, heading, system_parameter, system_parameters_of, system_group, system_groups}
@@ -20,7 +21,7 @@ use Rattle.cp_resolved.proofs.Entries.{last_or_before}
 use Rattle.cp_resolved.proofs.Sized.{Resized, resized_same, resized_trans, resized_cells, resized_component, resized_type, FieldsFit, fields_resized, fields_of_fit}
 use Rattle.cp_resolved.proofs.Sizes.{Counts}
 use Rattle.cp_resolved.proofs.Owning.{OwnedStep, step_same, step_trans, cells_step, contained_step, component_step}
-use Rattle.cp_resolved.proofs.Named.{IsType, IsMeaning, IsCompound, Named, IsFound, found}
+use Rattle.cp_resolved.proofs.Named.{IsType, IsMeaning, AreNames, IsCompound, Named}
 
 -- with other names, types, headings, permanent variables and another frame
 abbrev pub redeclared : Layer → Layer → Layer
@@ -56,18 +57,22 @@ name_declared l x m h n = record { same = refl; named = record { names = (h, n.n
 
 -- ---- types
 
-meant : (s r : ℕ) (o : Option Meaning) → IsFound s r o → IsType s (type_meant o)
-meant s r None h = tt
-meant s r (Some (meaning.Kind t)) h = h
-meant s r (Some (meaning.Constant b z)) h = tt
-meant s r (Some (meaning.Variable o t)) h = tt
-meant s r (Some (meaning.Contained n t)) h = tt
-meant s r (Some (meaning.Bound n k)) h = tt
-meant s r (Some (meaning.Routine n)) h = tt
-meant s r (Some (meaning.Predeclared p)) h = tt
+latest_there : (s r : ℕ) (x : List ℕ) (ds : Names) → AreNames s r ds → IsType s (type_meant (find_type x ds))
+latest_there s r x [] h = tt
+latest_there s r x ((n, meaning.Kind t) ∷ ds) h = go (bytes_eq n x) (latest_there s r x ds h.1)
+  where
+    go : (b : Bool) → IsType s (type_meant (find_type x ds)) → IsType s (type_meant (if b then Some t else find_type x ds))
+    go true rest = h.0
+    go false rest = rest
+latest_there s r x ((n, meaning.Constant b z) ∷ ds) h = latest_there s r x ds h.1
+latest_there s r x ((n, meaning.Variable o t) ∷ ds) h = latest_there s r x ds h.1
+latest_there s r x ((n, meaning.Contained i t) ∷ ds) h = latest_there s r x ds h.1
+latest_there s r x ((n, meaning.Bound i k) ∷ ds) h = latest_there s r x ds h.1
+latest_there s r x ((n, meaning.Routine i) ∷ ds) h = latest_there s r x ds h.1
+latest_there s r x ((n, meaning.Predeclared p) ∷ ds) h = latest_there s r x ds h.1
 
 pub named_there : (l : Layer) (x : List ℕ) → Named l → IsType (length l.systems) (named_type l x)
-named_there l x n = meant (length l.systems) (length l.routines) (find x l.names) (found (length l.systems) (length l.routines) x l.names n.names)
+named_there l x n = latest_there (length l.systems) (length l.routines) x l.names n.names
 
 constant_declared : (l : Layer) (x : List ℕ) (b : Base) (z : ℤ) → Named l → Declared l (with_constant l x (meaning.Constant b z))
 constant_declared l x b z n = record { same = refl; named = record { names = (tt, n.names); types = n.types; systems = n.systems }; owned = step_same l.owned; sizes = resized_same l _ refl refl refl refl }

@@ -26,7 +26,7 @@ use Rattle.cp_meaning.specs.Lifting.{last_field, is_call_meant, own_call, expres
 use Rattle.cp_meaning.specs.Expressions.{name_of, routine_called, routine_meant, result_called}
 use Rattle.cp_resolved.specs.Layouts.{Here, frame_here, cell_named, slot_of, look}
 use Rattle.cp_resolved.specs.Compiled.{compared_forms, Formed, then_form, Designated, a_variable, some_components, a_component, named_form, valued_form, with_index_form, with_field_form, permanent_begun, begun_form, signed_form, added_forms, multiplied_forms, not_form, applied_form, with_member_form, set_form, expression_form, sum_form, terms_form, term_form, factors_form, factor_form, members_form, first_form, designator_form, selected_form}
-use Rattle.cp_resolved.specs.Formed.{CanGive, CanGiveAll, CallFormed, IsReady, AreReady, PassedBy, ParametersAre, parameters_in, HeadingIs, KnowsHeadings}
+use Rattle.cp_resolved.specs.FormedParts.{CanGive, CanGiveAll, CallFormed, IsReady, AreReady, PassedBy, ParametersAre, parameters_in, HeadingIs, KnowsHeadings}
 use Rattle.cp_resolved.specs.InStep.{Numbering, base_of, FoundIs, predeclared_as}
 use Rattle.cp_resolved.specs.Knows.{Knows}
 use Rattle.cp_resolved.specs.Stands.{AreGiven, IsGiven, CalleeIs, IsCalled, ResultGoes, result_cell}

@@ -13,7 +13,7 @@ use Rattle.cp_slots.specs.LaidStatements.{assigned_as}
 use Rattle.cp_meaning.specs.Types as named
 use Rattle.cp_meaning.specs.Types.{Ty, natural_of}
 use Rattle.cp_resolved.specs.Compiled.{Form, as_ordinal, as_set, as_place, as_component, Formed, place_form}
-use Rattle.cp_resolved.specs.Formed.{IsByte, IsMoved, PassedBy}
+use Rattle.cp_resolved.specs.FormedParts.{IsByte, IsMoved, PassedBy}
 use Rattle.cp_resolved.specs.InStep.{Numbering, TypeIs}
 use Rattle.cp_resolved.specs.Layouts.{cells_of}
 use Rattle.cp_resolved.specs.Stands.{ValueGiven, PlaceGiven, GivenBy, AssignedBy}

@@ -23,7 +23,7 @@ more_names : (is : List Identifier) (rest : List Kind) → AreSmall (put_all (pu
 more_names [] rest e = e
 more_names (i ∷ is) rest e = more_names is rest e.1.1
 
-names_small : (is : List Identifier) (rest : List Kind) → AreSmall (put_names is rest) → AreSmall rest
+pub names_small : (is : List Identifier) (rest : List Kind) → AreSmall (put_names is rest) → AreSmall rest
 names_small [] rest e = e
 names_small (i ∷ is) rest e = more_names is rest e.1
 
@@ -77,7 +77,7 @@ mutual
   group_small : (g : FieldGroup) (rest : List Kind) → AreSmall (put_field_group g rest) → IsSmallGroup g × AreSmall rest
   group_small (fields is t) rest e = type_small t rest (names_small is (kind.Mark mark.Colon ∷ put_type t rest) e).1
 
-constants_small : (ds : List ConstantDefinition) (rest : List Kind) → AreSmall (put_all put_constant_definition ds rest) → Each (λ (d : ConstantDefinition). IsSmallConstant d.value.kind) ds × AreSmall rest
+pub constants_small : (ds : List ConstantDefinition) (rest : List Kind) → AreSmall (put_all put_constant_definition ds rest) → Each (λ (d : ConstantDefinition). IsSmallConstant d.value.kind) ds × AreSmall rest
 constants_small [] rest e = (tt, e)
 constants_small (d ∷ ds) rest e =
     let after : List Kind = kind.Mark mark.Semicolon ∷ put_all put_constant_definition ds rest in
@@ -93,7 +93,7 @@ types_small (d ∷ ds) rest e =
     let q : Each (λ (d : TypeDefinition). IsSmallType d.value) ds × AreSmall rest = types_small ds rest p.1.1 in
     ((p.0, q.0), q.1)
 
-variables_small : (gs : List VariableGroup) (rest : List Kind) → AreSmall (put_all put_variable_group gs rest) → Each (λ (g : VariableGroup). IsSmallType g.variable_type) gs × AreSmall rest
+pub variables_small : (gs : List VariableGroup) (rest : List Kind) → AreSmall (put_all put_variable_group gs rest) → Each (λ (g : VariableGroup). IsSmallType g.variable_type) gs × AreSmall rest
 variables_small [] rest e = (tt, e)
 variables_small (g ∷ gs) rest e =
     let after : List Kind = kind.Mark mark.Semicolon ∷ put_all put_variable_group gs rest in

@@ -36,7 +36,7 @@ use Rattle.cp_meaning.specs.Lifting.{last_field, designator_calls, expression_ca
 use Rattle.cp_meaning.specs.Steps.{at_expression}
 use Rattle.cp_resolved.specs.Calls.{starts_calls, calls_laid, all_calls_laid, arms_calls_laid, arm_calls_laid}
 use Rattle.cp_resolved.specs.Compiled.{as_ordinal, Formed, then_form, Designated, a_variable, some_components, a_component, result_begun, permanent_begun, begun_form, ordinal_form, with_index_form, with_element_form, expression_form, designator_form, selected_form}
-use Rattle.cp_resolved.specs.Formed.{CanGiveAll, CallFormed, AreReady, parameters_in, HeadingIs}
+use Rattle.cp_resolved.specs.FormedParts.{CanGiveAll, CallFormed, AreReady, parameters_in, HeadingIs}
 use Rattle.cp_resolved.specs.FormedStatements.{IsTarget, PerformFormed, StartFormed, StartIs, EntryFormed, InvokeFormed, TestFormed, OrdinalFormed, AssignFormed, OwnResult, ForFormed, IsNotRoutine, StatementFormed, AllFormed, ArmsFormed, ArmFormed}
 use Rattle.cp_resolved.specs.InStep.{Numbering, base_of, range_on, predeclared_as, FoundIs, TypeIs}
 use Rattle.cp_resolved.specs.ItemsStand.{Surroundings, StatementsLaw}

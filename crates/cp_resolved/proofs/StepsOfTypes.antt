@@ -1,6 +1,7 @@
 -- Names stay in step as constants and types are declared, and a written type is laid out as the type that it stands for.
-use Rattle.std.proofs.Common.{◌≡◌, ◌+◌, ◌-◌, ◌<◌, ◌≤◌, ℕ, zero, suc, ℤ, pos, negsuc, neg_ℤ, true, false, List, [], ◌∷◌, ◌++◌, length, map, Option, Some, None, refl, sym, ap, subst, ◌∙◌, arith, append_assoc, length-append, inl, inr}
+use Rattle.std.proofs.Common.{◌≡◌, ◌+◌, ◌-◌, ◌<◌, ◌≤◌, ℕ, zero, suc, ℤ, pos, negsuc, neg_ℤ, Bool, true, false, if◌then◌else◌, List, [], ◌∷◌, ◌++◌, length, map, Option, Some, None, refl, sym, ap, subst, ◌∙◌, arith, append_assoc, length-append, inl, inr}
 use Rattle.std.specs.Prelude.{◌⊎◌, nat_le, slice_get}
+use Rattle.std.specs.Str.{bytes_eq}
 use Rattle.std.proofs.lemmas.Bool.{le-leb}
 use Rattle.std.proofs.lemmas.Bool.Decides.{leb_tells}
 use Rattle.std.proofs.lemmas.List.{append-nil, length-map}
@@ -13,6 +14,7 @@ use Rattle.cp_tree.specs.declared.constant.Constant.{Constant}
 use Rattle.cp_tree.specs.declared.constant.ConstantKind.{ConstantKind}
 use Rattle.cp_tree.specs.declared.constant.ConstantKind.TheVariants as constant_kind
 use Rattle.cp_tree.specs.Syntax as syntax
+use Rattle.cp_slots.specs.declared.place.Origin.TheVariants as origin
 use Rattle.cp_slots.specs.declared.lay_out.kinds.Base.{Base}
 use Rattle.cp_slots.specs.declared.lay_out.kinds.Base.TheVariants as base
 use Rattle.cp_slots.specs.declared.lay_out.kinds.Range.{Range}
@@ -33,10 +35,10 @@ use Rattle.cp_meaning.specs.Scopes as scopes
 use Rattle.cp_meaning.specs.Scopes.{Scope}
 use Rattle.cp_meaning.specs.Declarations as meant
 use Rattle.cp_resolved.specs.Enumerations.{Enumerated, in_simple, in_type, in_groups, names_among}
-use Rattle.cp_resolved.specs.InStep.{Numbering, base_of, range_on, TypeIs, FieldsAre, IsSmall, CellsAre, PartsAre, BoundIs, MeaningIs, InStep, FoundIs}
+use Rattle.cp_resolved.specs.InStep.{Numbering, base_of, range_on, TypeIs, FieldsAre, IsSmall, CellsAre, PartsAre, BoundIs, MeaningIs, InStep, FoundIs, predeclared_as}
 use Rattle.cp_resolved.specs.Small.{IsSmallConstant, IsSmallSimple, IsSmallType, AreSmallGroups, AreNumbered}
 use Rattle.cp_resolved.proofs.Declares.{Declares, groups_declare}
-use Rattle.cp_resolved.proofs.Steps.{found_in, cells_grown, type_grown, fields_grown, names_grown}
+use Rattle.cp_resolved.proofs.Steps.{bytes_turned, found_in, cells_grown, type_grown, fields_grown, names_grown}
 
 pub slice_end : {X : Type 0} (xs : List X) (x : X) → slice_get (xs ++ x ∷ []) (length xs) ≡ Some x
 slice_end xs x =
@@ -110,27 +112,39 @@ module _ (k : Numbering) where
 
   -- ---- names of types
 
-  abbrev Integers : ValueType → Type 0
-  Integers v = v ≡ types.Ordinal (range_on k named.all_integers)
+  -- the latest types of a name, so far
+  abbrev Latest : Compounds → Scope → List ℕ → Option ValueType → Type 0
+  Latest ts s x o = TypeIs k ts (meant.type_named s x) (laid.type_meant o)
 
-  no_type : (ts : Compounds) (m : Meaning) (t : Ty) → CellsAre k ts t m ⊎ (PartsAre k ts t m ⊎ BoundIs t m) → Integers (laid.type_meant (Some m))
-  no_type ts m t (inl h) = ap (λ n. laid.type_meant (Some n)) h.is
-  no_type ts m t (inr (inl h)) = ap (λ n. laid.type_meant (Some n)) h.is
-  no_type ts m t (inr (inr h)) = ap (λ n. laid.type_meant (Some n)) h.is
+  either_type : (b : Bool) (ts : Compounds) (t u : Ty) (v : ValueType) (o : Option ValueType) → TypeIs k ts t v → TypeIs k ts u (laid.type_meant o) → TypeIs k ts (if b then t else u) (laid.type_meant (if b then Some v else o))
+  either_type true ts t u v o h i = h
+  either_type false ts t u v o h i = i
 
-  type_meant_same : (ts : Compounds) (p : Option Meaning) (q : Option scopes.Meaning) (s : Scope) → FoundIs k ts p q s → TypeIs k ts (meant.type_meant q) (laid.type_meant p)
-  type_meant_same ts None None s h = refl
-  type_meant_same ts None (Some n) s h = absurd h
-  type_meant_same ts (Some m) None s h = absurd h
-  type_meant_same ts (Some m) (Some (scopes.constant_meaning b z)) s h = ap (λ n. laid.type_meant (Some n)) h.0
-  type_meant_same ts (Some m) (Some (scopes.type_meaning t)) s h = subst (λ n. TypeIs k ts t (laid.type_meant (Some n))) (sym h.1) h.2
-  type_meant_same ts (Some m) (Some (scopes.local_variable t)) s h = ap (λ n. laid.type_meant (Some n)) h.is
-  type_meant_same ts (Some m) (Some (scopes.permanent_variable t)) s h = no_type ts m t h
-  type_meant_same ts (Some m) (Some (scopes.routine_meaning r)) s h = ap (λ n. laid.type_meant (Some n)) h.1
-  type_meant_same ts (Some m) (Some (scopes.standard_meaning q)) s h = ap (λ n. laid.type_meant (Some n)) h
+  -- what is no type is passed over
+  passed : (ts : Compounds) (s : Scope) (x n : List ℕ) (m p : Meaning) (ds : Names) → m ≡ p → layers.find_type x ((n, p) ∷ ds) ≡ layers.find_type x ds → Latest ts s x (layers.find_type x ds) → Latest ts s x (layers.find_type x ((n, m) ∷ ds))
+  passed ts s x n m p ds e same h = subst (Latest ts s x) (sym (ap (λ q. layers.find_type x ((n, q) ∷ ds)) e ∙ same)) h
+
+  passed_permanent : (ts : Compounds) (s : Scope) (x n : List ℕ) (m : Meaning) (t : Ty) (ds : Names) → CellsAre k ts t m ⊎ (PartsAre k ts t m ⊎ BoundIs t m) → Latest ts s x (layers.find_type x ds) → Latest ts s x (layers.find_type x ((n, m) ∷ ds))
+  passed_permanent ts s x n m t ds (inl h) rest = passed ts s x n m (meaning.Variable (origin.Permanent h.slot) h.value_type) ds h.is refl rest
+  passed_permanent ts s x n m t ds (inr (inl h)) rest = passed ts s x n m (meaning.Contained h.first h.value_type) ds h.is refl rest
+  passed_permanent ts s x n m t ds (inr (inr h)) rest = passed ts s x n m (meaning.Bound h.slot h.system) ds h.is refl rest
+
+  latest_same : (ts : Compounds) (x : List ℕ) (ds : Names) (s : Scope) → InStep k ts ds s → Latest ts s x (layers.find_type x ds)
+  latest_same ts x [] [] h = refl
+  latest_same ts x [] (e ∷ es) h = absurd h
+  latest_same ts x (d ∷ ds) [] h = absurd h
+  latest_same ts x ((n, m) ∷ ds) ((y, scopes.constant_meaning b z) ∷ es) h = passed ts es x n m (meaning.Constant (base_of k b) z) ds h.1.0 refl (latest_same ts x ds es h.2)
+  latest_same ts x ((n, m) ∷ ds) ((y, scopes.type_meaning t) ∷ es) h =
+      let w : bytes_eq n x ≡ bytes_eq x y = bytes_turned n x ∙ ap (bytes_eq x) h.0 in
+      let there : layers.find_type x ((n, m) ∷ ds) ≡ (if bytes_eq x y then Some h.1.0 else layers.find_type x ds) = ap (λ q. layers.find_type x ((n, q) ∷ ds)) h.1.1 ∙ ap (λ b. if b then Some h.1.0 else layers.find_type x ds) w in
+      subst (Latest ts ((y, scopes.type_meaning t) ∷ es) x) (sym there) (either_type (bytes_eq x y) ts t (meant.type_named es x) h.1.0 (layers.find_type x ds) h.1.2 (latest_same ts x ds es h.2))
+  latest_same ts x ((n, m) ∷ ds) ((y, scopes.local_variable t) ∷ es) h = passed ts es x n m (meaning.Variable h.1.origin h.1.value_type) ds h.1.is refl (latest_same ts x ds es h.2)
+  latest_same ts x ((n, m) ∷ ds) ((y, scopes.permanent_variable t) ∷ es) h = passed_permanent ts es x n m t ds h.1 (latest_same ts x ds es h.2)
+  latest_same ts x ((n, m) ∷ ds) ((y, scopes.routine_meaning r) ∷ es) h = passed ts es x n m (meaning.Routine h.1.0) ds h.1.1 refl (latest_same ts x ds es h.2)
+  latest_same ts x ((n, m) ∷ ds) ((y, scopes.standard_meaning q) ∷ es) h = passed ts es x n m (meaning.Predeclared (predeclared_as q)) ds h.1 refl (latest_same ts x ds es h.2)
 
   pub named_type_same : (l : Layer) (s : Scope) (x : List ℕ) → InStep k l.types l.names s → TypeIs k l.types (meant.type_named s x) (laid.named_type l x)
-  named_type_same l s x h = type_meant_same l.types (layers.find x l.names) (scopes.find x s) (scopes.since x s) (found_in k l.types x l.names s h)
+  named_type_same l s x h = latest_same l.types x l.names s h
 
   -- ---- enumerations
 

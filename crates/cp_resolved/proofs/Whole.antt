@@ -199,7 +199,7 @@ declared_laid l m h w = record { later = later_declared l m h; whole = whole_dec
 then_laid : (l k m : Layer) → Laid l k → Laid k m → Laid l m
 then_laid l k m h i = record { later = later_trans l k m h.later i.later; whole = i.whole }
 
-body_laid : (l : Layer) (b : Body) → Whole l → Laid l (body l b)
+pub body_laid : (l : Layer) (b : Body) → Whole l → Laid l (body l b)
 body_laid l b w =
     let x : Option ℕ × Layer = statements l b.statements in
     let r : Result l x = statements_fitted l b.statements (whole_fitted l w) in
@@ -216,19 +216,19 @@ body_laid l b w =
       whole = whole;
     }
 
-heading_added : (l : Layer) (h : Heading) → Named l → Declared l (with_heading l h)
+pub heading_added : (l : Layer) (h : Heading) → Named l → Declared l (with_heading l h)
 heading_added l h n = record { same = refl; named = record { names = n.names; types = n.types; systems = n.systems }; owned = step_same l.owned; sizes = resized_same l _ refl refl refl refl }
 
-frame_new : (l : Layer) → Named l → Declared l (with_new_frame l)
+pub frame_new : (l : Layer) → Named l → Declared l (with_new_frame l)
 frame_new l n = record { same = refl; named = record { names = n.names; types = n.types; systems = n.systems }; owned = step_same l.owned; sizes = resized_same l _ refl refl refl refl }
 
-names_closed : (l : Layer) (n : ℕ) → Named l → Declared l (closed l n)
+pub names_closed : (l : Layer) (n : ℕ) → Named l → Declared l (closed l n)
 names_closed l n h = record { same = refl; named = record { names = names_dropped (length l.systems) (length l.routines) (length l.names - n) l.names h.names; types = h.types; systems = h.systems }; owned = step_same l.owned; sizes = resized_same l _ refl refl refl refl }
 
-routine_opened : (l : Layer) (x : List ℕ) → Named l → Declared l (opened l x).1
+pub routine_opened : (l : Layer) (x : List ℕ) → Named l → Declared l (opened l x).1
 routine_opened l x n = record { same = refl; named = record { names = (omega arith, n.names); types = n.types; systems = n.systems }; owned = step_same l.owned; sizes = resized_same l _ refl refl refl refl }
 
-inside_laid : (l : Layer) (r : Routine) → Whole l → Laid l (routine_inside l r)
+pub inside_laid : (l : Layer) (r : Routine) → Whole l → Laid l (routine_inside l r)
 inside_laid l r w =
     let h = heading l r.name.name r.kind in
     let a : Declared l h.1 = heading_declared l r.name.name r.kind w.ground.named in
@@ -239,7 +239,7 @@ inside_laid l r w =
     let d : Laid l k = declared_laid l k c w in
     then_laid l k (body k r.body) d (body_laid k r.body d.whole)
 
-routine_laid : (l : Layer) (r : Routine) → Whole l → Laid l (routine l r)
+pub routine_laid : (l : Layer) (r : Routine) → Whole l → Laid l (routine l r)
 routine_laid l r w =
     let x = opened l r.name.name in
     let a : Laid l x.1 = declared_laid l x.1 (routine_opened l r.name.name w.ground.named) w in
@@ -260,14 +260,14 @@ initial_laid l ps b w =
     let a : Laid l k = declared_laid l k d w in
     then_laid l k (body k b) a (body_laid k b a.whole)
 
-body_count : (l : Layer) (b : Body) → Whole l → length (body l b).routines ≡ length l.routines + 1
+pub body_count : (l : Layer) (b : Body) → Whole l → length (body l b).routines ≡ length l.routines + 1
 body_count l b w =
     let x : Option ℕ × Layer = statements l b.statements in
     let r : Result l x = statements_fitted l b.statements (whole_fitted l w) in
     let len : length x.1.routines ≡ length l.routines = ap (λ (js : List RoutineView). length js) (onward_routines l x.1 r.onward) in
     length-append x.1.routines (routine_of x.1 x.0 ∷ []) ∙ ap (λ k. k + 1) len
 
-initial_count : (l : Layer) (ps : Parameters) (b : Body) → Whole l → length (initial_statement l ps b).routines ≡ length l.routines + 1
+pub initial_count : (l : Layer) (ps : Parameters) (b : Body) → Whole l → length (initial_statement l ps b).routines ≡ length l.routines + 1
 initial_count l ps b w =
     let m : Layer = with_new_frame l in
     let k : Layer = with_heading m (heading_with [] ps None) in
@@ -306,10 +306,10 @@ initial_last l ps b w =
 
 -- ---- system types
 
-record SystemLaid (x : ValueType × Layer) : Type 0 where
-  whole : Whole x.1
-  is : IsType (length x.1.systems) x.0
-  outside : Outside x.1
+pub record SystemLaid (x : ValueType × Layer) : Type 0 where
+  pub whole : Whole x.1
+  pub is : IsType (length x.1.systems) x.0
+  pub outside : Outside x.1
 
 systems_with : (r : ℕ) (ss : List System) (s : System) → s.initial < r → AreSystems r ss → AreSystems r (ss ++ s ∷ [])
 systems_with r ss s lt h k t e = go (last_or_before ss s k t e)
@@ -318,7 +318,7 @@ systems_with r ss s lt h k t e = go (last_or_before ss s k t e)
     go (inl g) = h k t g
     go (inr g) = rw g.1 lt
 
-outside_declared : (l m : Layer) → Declared l m → Outside l → Outside m
+pub outside_declared : (l m : Layer) → Declared l m → Outside l → Outside m
 outside_declared l m h o = subst (λ (j : Layer). Outside j) (sym h.same) o
 
 -- what the routines of a system type name is its own, once it is whole
@@ -367,7 +367,7 @@ left_laid l m kind first initial n own z h lt last =
       outside = λ i r e. left_outside m s i r (omega arith) (h.whole.owning.routines i r e);
     }
 
-system_entered : (l : Layer) → Outside l → Whole l → Laid l (entered l).1
+pub system_entered : (l : Layer) → Outside l → Whole l → Laid l (entered l).1
 system_entered l o w =
     let n = w.ground.named in
     let h = w.owning in
@@ -381,7 +381,7 @@ system_entered l o w =
       }) (record { types = w.sized.types; owned = omega arith; systems = w.sized.systems }) w;
     }
 
-system_laid : (l : Layer) (s : syntax.System) → Whole l → Outside l → SystemLaid (system l s)
+pub system_laid : (l : Layer) (s : syntax.System) → Whole l → Outside l → SystemLaid (system l s)
 unfolding system
 system_laid l s w out =
     let o = entered l in
@@ -399,33 +399,33 @@ system_laid l s w out =
     let last : Last m (length k.routines) (length k.systems) 0 = initial_last k x.0 s.body d.whole in
     left_laid l m s.kind (length l.routines) (length k.routines) w.ground.named w.owning w.sized e (initial_more k x.0 s.body d.whole) (subst (λ (ss : List System). Last m (length k.routines) (length ss) 0) (sym i.later.systems) last)
 
-definition_laid : (l : Layer) (d : Definition) → Whole l → Outside l → SystemLaid (definition l d)
+pub definition_laid : (l : Layer) (d : Definition) → Whole l → Outside l → SystemLaid (definition l d)
 definition_laid l (syntax.type_definition t) w o = let h : Typed l (written_type l t) = written_typed l t w.ground.named in record { whole = whole_declared l (written_type l t).1 h.declared w; is = h.is; outside = outside_declared l (written_type l t).1 h.declared o }
 definition_laid l (syntax.system_definition s) w o = system_laid l s w o
 
-named_laid : (x : List ℕ) (t : ValueType × Layer) → SystemLaid t → Whole (type_named x t) × Outside (type_named x t)
+pub named_laid : (x : List ℕ) (t : ValueType × Layer) → SystemLaid t → Whole (type_named x t) × Outside (type_named x t)
 named_laid x t h =
     let d = name_declared t.1 x (meaning.Kind t.0) h.is h.whole.ground.named in
     (whole_declared t.1 (type_named x t) d h.whole, outside_declared t.1 (type_named x t) d h.outside)
 
-definitions_laid : (l : Layer) (ds : List SystemDefinition) → Whole l → Outside l → Whole (system_definitions l ds) × Outside (system_definitions l ds)
+pub definitions_laid : (l : Layer) (ds : List SystemDefinition) → Whole l → Outside l → Whole (system_definitions l ds) × Outside (system_definitions l ds)
 unfolding system_definitions
 definitions_laid l [] w o = (w, o)
 definitions_laid l (d ∷ ds) w o = let h = named_laid d.name.name (definition l d.value) (definition_laid l d.value w o) in definitions_laid (system_definition l d) ds h.0 h.1
 
 -- ---- the program
 
-part_laid : (l : Layer) (p : ProgramPart) → Whole l → Outside l → Whole (program_part l p) × Outside (program_part l p)
+pub part_laid : (l : Layer) (p : ProgramPart) → Whole l → Outside l → Whole (program_part l p) × Outside (program_part l p)
 part_laid l (syntax.program_constants at ds) w o = let d = constants_declared l ds w.ground.named in (whole_declared l (constants l ds) d w, outside_declared l (constants l ds) d o)
 part_laid l (syntax.program_types at ds) w o = definitions_laid l ds w o
 part_laid l (syntax.program_variables at gs) w o = let d = variables_declared l gs w.ground.named in (whole_declared l (variables l gs) d w, outside_declared l (variables l gs) d o)
 
-parts_laid : (l : Layer) (ps : List ProgramPart) → Whole l → Outside l → Whole (program_parts l ps)
+pub parts_laid : (l : Layer) (ps : List ProgramPart) → Whole l → Outside l → Whole (program_parts l ps)
 unfolding program_parts
 parts_laid l [] w o = w
 parts_laid l (p ∷ ps) w o = let h = part_laid l p w o in parts_laid (program_part l p) ps h.0 h.1
 
-nothing_whole : (lines : List ℕ) → Whole (nothing_laid lines)
+pub nothing_whole : (lines : List ℕ) → Whole (nothing_laid lines)
 nothing_whole lines =
     record {
       ground = record {

@@ -9,7 +9,7 @@ use Rattle.cp_meaning.specs.State.{Item, function_call}
 use Rattle.cp_resolved.specs.Begun.{all_begun}
 use Rattle.cp_resolved.specs.Calls.{all_calls_laid}
 use Rattle.cp_resolved.specs.Enumerations.{constants_before}
-use Rattle.cp_resolved.specs.Formed.{CallFormed, KnowsHeadings}
+use Rattle.cp_resolved.specs.FormedParts.{CallFormed, KnowsHeadings}
 use Rattle.cp_resolved.specs.FormedStatements.{KnowsStarts, AllFormed}
 use Rattle.cp_resolved.specs.Layouts.{Here}
 use Rattle.cp_resolved.specs.LayoutsKnow.{IsPlaced, place_of}

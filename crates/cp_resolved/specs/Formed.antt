@@ -1,96 +1,118 @@
--- The forms that the parts of accepted statements have on slots, and what is laid out of the headings of the routines that they call.
-use Rattle.std.specs.Prelude.{◌≡◌, ◌≤◌, ℕ, suc, ℤ, pos, negsuc, Bool, true, false, List, [], ◌∷◌, Option, Some, None, slice_get}
-use Rattle.cp_tree.specs.Syntax.{Expression, Expressions, no_expressions, more_expressions, Designator}
-use Rattle.cp_slots.specs.declared.place.Origin.TheVariants.{Local}
-use Rattle.cp_slots.specs.declared.lay_out.kinds.ValueType.{ValueType}
-use Rattle.cp_slots.specs.declared.lay_out.layer.Passing.{Passing}
-use Rattle.cp_slots.specs.declared.lay_out.layer.Passing.TheVariants as passing
-use Rattle.cp_slots.specs.declared.lay_out.layer.Parameter as code_parameter
-use Rattle.cp_slots.specs.declared.lay_out.names.Meaning.TheVariants as meaning
+-- What the expressions of statements are on slots, in the statements themselves and in those inside them: tests, selectors, bounds, values and components.
+use Rattle.std.specs.Prelude.{◌≡◌, ℕ, Option, Some}
+use Rattle.cp_tree.specs.declared.constant.Identifier.{Identifier}
+use Rattle.cp_tree.specs.Syntax.{Expression, Expressions, no_expressions, more_expressions, Designator, Start, Statement, empty, assign, invoke, block, if_then, if_else, case_of, while_do, repeat_until, for_do, cycle, init, Statements, no_statements, more_statements, Arms, no_arms, more_arms, Arm, arm, Tree}
+use Rattle.cp_lawful.specs.Accepted.{IsAccepted}
+use Rattle.cp_meaning.specs.Types.{Range, Ty, ordinal, queue_type, set_over, array_over, record_with}
+use Rattle.cp_meaning.specs.Scopes.{Meaning, routine_meaning, standard_meaning, Standard, delay_procedure, continue_procedure, display_procedure, find}
+use Rattle.cp_meaning.specs.Expressions.{name_of}
 use Rattle.cp_slots.specs.Code as code
-use Rattle.cp_slots.specs.Kinds.{Compounds, most}
-use Rattle.cp_slots.specs.Layers as layers
-use Rattle.cp_slots.specs.Layers.{Layer, Heading}
-use Rattle.cp_slots.specs.LaidExpressions.{entry_of}
-use Rattle.cp_meaning.specs.Names.{Name, temporary}
-use Rattle.cp_meaning.specs.Types.{Ty, set_over, component_of}
-use Rattle.cp_meaning.specs.Scopes.{permanent_variable, find}
-use Rattle.cp_meaning.specs.Declarations.{Parameter, RoutineMeaning}
-use Rattle.cp_meaning.specs.State.{Item, function_call}
-use Rattle.cp_meaning.specs.Expressions.{routine_called, routine_of_type, result_called}
-use Rattle.cp_resolved.specs.InStep.{Numbering, TypeIs}
-use Rattle.cp_resolved.specs.Layouts.{cells_of, Here, frame_here, cell_named, look}
-use Rattle.cp_resolved.specs.Stands.{IsGiven}
-use Rattle.cp_resolved.specs.Used.{system_type}
+use Rattle.cp_resolved.specs.Layouts.{Layouts, Here}
+use Rattle.cp_resolved.specs.Compiled.{as_ordinal, as_set, as_place, Designated, a_variable, a_component, begun_form, expression_form, designator_form}
+use Rattle.cp_resolved.specs.Judging.{AreHeadingsApart}
+use Rattle.cp_resolved.specs.Openings.{Opening, openings_of}
+use Rattle.cp_resolved.specs.Read.{IsRead}
+use Rattle.cp_resolved.specs.Small.{Each}
+use Rattle.cp_resolved.specs.Stands.{IsTest}
 
--- ---- what is assigned or handed over
+-- ---- forms
 
-abbrev pub IsByte : ℤ → Type 0
-IsByte (pos n) = n ≤ 255
-IsByte (negsuc n) = ⊥
+abbrev pub HasTest : Here → Expression → Type 0
+HasTest h e = (c : code.Expression) × IsTest h e c
 
--- the elements of a set are numbers of a byte, and all else has few cells
-abbrev pub IsMoved : Ty → Type 0
-IsMoved (set_over r) = IsByte r.low × IsByte r.high
-IsMoved t = cells_of t ≤ most
+pub record HasOrdinal (h : Here) (e : Expression) : Type 0 where
+  pub range : Range
+  pub code : code.Expression
+  pub formed : expression_form h e ≡ Some (record { ty = ordinal range; form = as_ordinal code })
 
--- the expression fits the parameter
-pub record CanGive (h : Here) (q : Parameter) (e : Expression) : Type 0 where
-  pub value : code.ArgumentValue
-  pub given : IsGiven h q e value
-  pub moved : IsMoved q.ty
+pub record HasSet (h : Here) (e : Expression) : Type 0 where
+  pub ty : Ty
+  pub code : code.SetExpression
+  pub formed : expression_form h e ≡ Some (record { ty = ty; form = as_set code })
 
-abbrev pub CanGiveAll : Here → List Parameter → Expressions → Type 0
-CanGiveAll h [] no_expressions = Unit {0}
-CanGiveAll h (q ∷ qs) (more_expressions e es) = CanGive h q e × CanGiveAll h qs es
-CanGiveAll h [] (more_expressions e es) = ⊥
-CanGiveAll h (q ∷ qs) no_expressions = ⊥
+pub record HasPlace (h : Here) (e : Expression) : Type 0 where
+  pub ty : Ty
+  pub place : code.Place
+  pub formed : expression_form h e ≡ Some (record { ty = ty; form = as_place place })
 
--- ---- function calls
+pub record HasQueue (h : Here) (e : Expression) : Type 0 where
+  pub place : code.Place
+  pub formed : expression_form h e ≡ Some (record { ty = queue_type; form = as_place place })
 
-pub record CallFormed (h : Here) (d : Designator) (es : Expressions) : Type 0 where
-  pub routine : RoutineMeaning
-  pub called : routine_called h.program h.scope d ≡ Some routine
-  pub arguments : CanGiveAll h routine.parameters es
+-- ---- assignments and counts
 
--- The temporary name of a call has this cell of the frame, as a variable of the type of the result. The arguments fit the parameters.
-pub record IsReady (h : Here) (n at : ℕ) (d : Designator) (es : Expressions) : Type 0 where
-  pub cell : (frame_here h).origins (temporary at) ≡ Local n
-  pub held : look (temporary at) (frame_here h).variables ≡ Some (result_called (routine_called h.program h.scope d))
-  pub formed : CallFormed h d es
+-- a value for a variable of a type; that the types of two arrays or records are one is not said
+abbrev pub HasValueFor : Here → Option Designated → Expression → Type 0
+HasValueFor h (Some (a_variable p (ordinal r))) e = HasOrdinal h e
+HasValueFor h (Some (a_variable p (set_over r))) e = HasSet h e
+HasValueFor h (Some (a_variable p (array_over r t))) e = HasPlace h e
+HasValueFor h (Some (a_variable p (record_with ts))) e = HasPlace h e
+HasValueFor h d e = ⊥
 
--- all are function calls, one cell after the other
-abbrev pub AreReady : Here → ℕ → List Item → Type 0
-AreReady h n [] = Unit {0}
-AreReady h n (function_call at d es ∷ is) = IsReady h n at d es × AreReady h (suc n) is
-AreReady h n (i ∷ is) = ⊥
+-- the name of a function stands for its result, which is an ordinal
+abbrev pub IsAssigned : Here → Designator → Expression → Option Meaning → Type 0
+IsAssigned h d e (Some (routine_meaning r)) = HasOrdinal h e
+IsAssigned h d e m = HasValueFor h (designator_form h d) e
 
--- ---- what is laid out of the headings of routines
+pub record IsCounter (h : Here) (i : Identifier) : Type 0 where
+  pub place : code.Place
+  pub range : Range
+  pub formed : begun_form h i.name (find i.name h.scope) ≡ Some (a_variable place (ordinal range))
 
-abbrev pub PassedBy : Numbering → Compounds → Bool → Ty → Passing → Type 0
-PassedBy k ts true t p = p ≡ passing.Reference
-PassedBy k ts false (component_of n) p = p ≡ passing.Component
-PassedBy k ts false t p = (v : ValueType) × (p ≡ passing.Value v) × TypeIs k ts t v
+abbrev pub Counts : Here → Identifier → Option Meaning → Type 0
+Counts h i (Some (routine_meaning r)) = Unit {0}
+Counts h i m = IsCounter h i
 
--- the parameters in their order, each with its slot
-abbrev pub ParametersAre : Numbering → Compounds → (Name → ℕ) → List Parameter → List code_parameter.Parameter → Type 0
-ParametersAre k ts slots [] [] = Unit {0}
-ParametersAre k ts slots (q ∷ qs) (p ∷ ps) = (p.slot ≡ slots q.name) × PassedBy k ts q.is_var q.ty p.passing × ParametersAre k ts slots qs ps
-ParametersAre k ts slots [] (p ∷ ps) = ⊥
-ParametersAre k ts slots (q ∷ qs) [] = ⊥
+-- ---- the standard procedures, and starts
 
-abbrev pub parameters_in : Option Heading → List code_parameter.Parameter
-parameters_in None = []
-parameters_in (Some h) = h.parameters
+abbrev pub IsPerformed : Here → Standard → Expressions → Type 0
+IsPerformed h display_procedure (more_expressions e no_expressions) = HasOrdinal h e
+IsPerformed h delay_procedure (more_expressions e no_expressions) = HasQueue h e
+IsPerformed h continue_procedure (more_expressions e no_expressions) = HasQueue h e
+IsPerformed h q es = ⊥
 
--- routine n is this one, and its heading has its parameters
-pub record HeadingIs (k : Numbering) (h : Here) (l : Layer) (n : ℕ) (r : RoutineMeaning) : Type 0 where
-  pub same : h.layouts.meanings n ≡ r
-  pub parameters : ParametersAre k l.types (cell_named (h.layouts.frames n)) r.parameters (parameters_in (slice_get l.headings n))
+-- of the arguments of other procedures nothing is said here
+abbrev pub IsInvoked : Here → Expressions → Option Meaning → Type 0
+IsInvoked h es (Some (standard_meaning q)) = IsPerformed h q es
+IsInvoked h es m = Unit {0}
 
-pub record KnowsHeadings (k : Numbering) (h : Here) (l : Layer) : Type 0 where
-  -- of a routine that is visible
-  pub own : (x : Name) (n : ℕ) → layers.find x l.names ≡ Some (meaning.Routine n) → (h.layouts.owners n ≡ h.system) × HeadingIs k h l n (k.routines n)
-  -- and of an entry of a component
-  pub entry : (x y : Name) (t : Ty) (r : RoutineMeaning) (n : ℕ) → find x h.scope ≡ Some (permanent_variable t) → routine_of_type h.program t y ≡ Some r →
-      entry_of l (system_type t) y ≡ Some n → (h.layouts.owners n ≡ system_type t) × HeadingIs k h l n r
+pub record IsStarted (h : Here) (t : Start) : Type 0 where
+  pub part : code.ComponentPlace
+  pub system : ℕ
+  pub formed : designator_form h t.target ≡ Some (a_component part system)
+
+-- ---- statements
+
+abbrev mutual
+  pub IsFormed : Here → Statement → Type 0
+  IsFormed h (empty at) = Unit {0}
+  IsFormed h (assign at d e) = IsAssigned h d e (find (name_of d) h.scope)
+  IsFormed h (invoke at d es) = IsInvoked h es (find (name_of d) h.scope)
+  IsFormed h (block at ss) = AreFormed h ss
+  IsFormed h (if_then at e t) = HasTest h e × IsFormed h t
+  IsFormed h (if_else at e t u) = HasTest h e × IsFormed h t × IsFormed h u
+  IsFormed h (case_of at e as' b) = HasOrdinal h e × AreArmsFormed h as'
+  IsFormed h (while_do at e t) = HasTest h e × IsFormed h t
+  IsFormed h (repeat_until at ss e) = AreFormed h ss × HasTest h e
+  IsFormed h (for_do at i e d f t) = Counts h i (find i.name h.scope) × HasOrdinal h e × HasOrdinal h f × IsFormed h t
+  IsFormed h (cycle at ss) = AreFormed h ss
+  IsFormed h (init at ts) = Each (IsStarted h) ts
+
+  pub AreFormed : Here → Statements → Type 0
+  AreFormed h no_statements = Unit {0}
+  AreFormed h (more_statements t ts) = IsFormed h t × AreFormed h ts
+
+  pub AreArmsFormed : Here → Arms → Type 0
+  AreArmsFormed h no_arms = Unit {0}
+  AreArmsFormed h (more_arms a as') = IsArmFormed h a × AreArmsFormed h as'
+
+  pub IsArmFormed : Here → Arm → Type 0
+  IsArmFormed h (arm cs t) = IsFormed h t
+
+-- ---- the law
+
+-- by any layouts, the statements of each routine and of each initial statement
+abbrev pub FormsLaw : Type 0
+FormsLaw =
+    (t : Tree) → IsRead t.program → IsAccepted t → AreHeadingsApart t.program →
+    Each (λ (o : Opening). (l : Layouts) (k n : ℕ) → AreFormed (record { program = t.program; layouts = l; system = k; routine = n; scope = o.meaning.scope }) o.meaning.body) (openings_of t.program)

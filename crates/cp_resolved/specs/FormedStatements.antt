@@ -19,7 +19,7 @@ use Rattle.cp_meaning.specs.Places.{result_type}
 use Rattle.cp_meaning.specs.Expressions.{name_of}
 use Rattle.cp_resolved.specs.Layouts.{Here, frame_here, is_own}
 use Rattle.cp_resolved.specs.Compiled.{as_place, Formed, Designated, a_variable, a_component, begun_form, expression_form, designator_form}
-use Rattle.cp_resolved.specs.Formed.{IsMoved, CanGiveAll, CallFormed, ParametersAre, parameters_in}
+use Rattle.cp_resolved.specs.FormedParts.{IsMoved, CanGiveAll, CallFormed, ParametersAre, parameters_in}
 use Rattle.cp_resolved.specs.InStep.{Numbering, TypeIs}
 use Rattle.cp_resolved.specs.Small.{Each, IsSmallConstant}
 use Rattle.cp_resolved.specs.Stands.{IsOrdinal, IsTest, selectors_in, AssignedBy, first_of}

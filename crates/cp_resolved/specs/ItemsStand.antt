@@ -7,7 +7,7 @@ use Rattle.cp_slots.specs.Tables.{item_at}
 use Rattle.cp_slots.specs.Layers.{Layer}
 use Rattle.cp_slots.specs.LaidStatements.{statements}
 use Rattle.cp_resolved.specs.Calls.{all_calls_laid}
-use Rattle.cp_resolved.specs.Formed.{AreReady, KnowsHeadings}
+use Rattle.cp_resolved.specs.FormedParts.{AreReady, KnowsHeadings}
 use Rattle.cp_resolved.specs.FormedStatements.{KnowsResult, KnowsStarts, AllFormed}
 use Rattle.cp_resolved.specs.InStep.{Numbering}
 use Rattle.cp_resolved.specs.Knows.{Knows}

@@ -1,9 +1,14 @@
 //! Laws over the definitions alone.
 
+ghost use Rattle.cp_resolved.specs.Formed.{FormsLaw};
+ghost use Rattle.cp_resolved.specs.Judging.{ScopesLaw};
+ghost use Rattle.cp_resolved.specs.Held.{FewItemsLaw, FewReferencesLaw};
 ghost use Rattle.cp_resolved.specs.BodiesStand.{BodiesLaw};
 ghost use Rattle.cp_resolved.specs.ItemsStand.{StatementsLaw};
 ghost use Rattle.cp_resolved.specs.LayoutsKnow.{LayoutsLaw};
 ghost use Rattle.cp_resolved.specs.Names.{NamesLaw};
+ghost use Rattle.cp_resolved.specs.OwnCalls.{OwnCallsLaw};
+ghost use Rattle.cp_resolved.specs.Read.{PlainLaw, ReadNamesLaw};
 ghost use Rattle.cp_resolved.specs.Soundness.{SoundLaw};
 
 /// The names of the tables stand for what the names of the program stand for.
@@ -11,9 +16,44 @@ pub fn law_names()
     ensures { NamesLaw }
 {}
 
+/// What was read and breaks no rule is plain, as `law_names` wants it.
+pub fn law_plain()
+    ensures { PlainLaw }
+{}
+
+/// So the names of the tables stand for those of each program that was read and breaks no rule.
+pub fn law_read_names()
+    ensures { ReadNamesLaw }
+{}
+
 /// Tables that are laid out are sound where no count has stopped and what their items name is there.
 pub fn law_sound()
     ensures { SoundLaw }
+{}
+
+/// Where statements of a program that breaks no rule stand, the checker's names stand for what the names of the program stand for.
+pub fn law_scopes()
+    ensures { ScopesLaw }
+{}
+
+/// So the tests, bounds and values of its statements have forms of the right kind on slots, by any layouts.
+pub fn law_forms()
+    ensures { FormsLaw }
+{}
+
+/// No routine of an accepted program calls itself, as `law_sound` wants it.
+pub fn law_own_calls()
+    ensures { OwnCallsLaw }
+{}
+
+/// The tables of a program that was read have no more items than the program has tokens.
+pub fn law_few_items()
+    ensures { FewItemsLaw }
+{}
+
+/// Its open calls have no more references than the program has tokens.
+pub fn law_few_references()
+    ensures { FewReferencesLaw }
 {}
 
 /// The layouts of a tree know the names, the routines and the cells of calls where its statements begin.

@@ -1,5 +1,5 @@
 -- What is laid out of constants and types as they are written, and the state after the constants of their enumerations. In the shape of the code, as `Laid` says.
-use Rattle.std.specs.Prelude.{ℕ, ◌+◌, ◌-◌, nat_le, pos, negsuc, neg_ℤ, int_le, ℤ, if◌then◌else◌, List, [], ◌∷◌, ◌++◌, map, length, Option, Some}
+use Rattle.std.specs.Prelude.{ℕ, ◌+◌, ◌-◌, nat_le, pos, negsuc, neg_ℤ, int_le, ℤ, if◌then◌else◌, List, [], ◌∷◌, ◌++◌, map, length, Option, Some, None}
 use Rattle.cp_tree.specs.declared.constant.Identifier.{Identifier}
 use Rattle.cp_tree.specs.declared.constant.Sign.{Sign}
 use Rattle.cp_tree.specs.declared.constant.Sign.TheVariants as sign
@@ -16,7 +16,7 @@ use Rattle.cp_slots.specs.declared.lay_out.kinds.ValueType.TheVariants as types
 use Rattle.cp_slots.specs.declared.lay_out.names.Meaning.{Meaning}
 use Rattle.cp_slots.specs.declared.lay_out.names.Meaning.TheVariants as meaning
 use Rattle.cp_slots.specs.Kinds.{Compounds, whole, values_of, cells_of, with_array, Fields, no_fields, with_field, with_record}
-use Rattle.cp_slots.specs.Layers.{Names, find, Layer}
+use Rattle.cp_slots.specs.Layers.{Names, find, find_type, Layer}
 use Rattle.cp_slots.specs.LaidExpressions.{as_integer}
 
 -- ---- constants
@@ -47,13 +47,14 @@ labels_of names cs = map (λ c. (constant_of names c).1) cs
 
 -- ---- simple types
 
-abbrev pub type_meant : Option Meaning → ValueType
-type_meant (Some (meaning.Kind t)) = t
-type_meant m = values_of base.Integer
+-- a name that no type has
+abbrev pub type_meant : Option ValueType → ValueType
+type_meant (Some t) = t
+type_meant None = values_of base.Integer
 
 -- the type that a name stands for
 abbrev pub named_type : Layer → List ℕ → ValueType
-named_type l x = type_meant (find x l.names)
+named_type l x = type_meant (find_type x l.names)
 
 abbrev pub subrange : (low high : Base × ℤ) → ValueType
 subrange low high = types.Ordinal (record { base = low.0; low = low.1; high = high.1 })

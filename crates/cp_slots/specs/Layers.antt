@@ -4,6 +4,7 @@ use Rattle.std.specs.String.{string_bytes}
 use Rattle.std.specs.Str.{bytes_eq}
 use Rattle.cp_tree.specs.declared.declaration.SystemKind.{SystemKind}
 use Rattle.cp_slots.specs.declared.tables.ComponentParameter.{ComponentParameter}
+use Rattle.cp_slots.specs.declared.lay_out.kinds.ValueType.{ValueType}
 use Rattle.cp_slots.specs.declared.lay_out.kinds.ValueType.TheVariants as types
 use Rattle.cp_slots.specs.declared.lay_out.kinds.Base.TheVariants as base
 use Rattle.cp_slots.specs.declared.lay_out.names.Meaning.{Meaning}
@@ -34,6 +35,13 @@ Names = List (List ℕ × Meaning)
 abbrev pub find : List ℕ → Names → Option Meaning
 find x [] = None
 find x (d ∷ ds) = if bytes_eq d.0 x then Some d.1 else find x ds
+
+-- Where a type is written, a name stands for the latest type of that name. In its heading a routine's own name is not visible yet, and is passed over.
+-- The rules refuse every other name there that is no type.
+abbrev pub find_type : List ℕ → Names → Option ValueType
+find_type x [] = None
+find_type x ((n, meaning.Kind t) ∷ ds) = if bytes_eq n x then Some t else find_type x ds
+find_type x (d ∷ ds) = find_type x ds
 
 abbrev pub declared_seen : code_declared.Declared → List ℕ × Meaning
 declared_seen d = (d.name.now, d.meaning)

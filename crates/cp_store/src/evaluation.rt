@@ -169,6 +169,21 @@ fn part(expression: &Expression, view: &View) -> Result<i16, ErrorName>
     }
 }
 
+// The value of the left side of an operation, which often is one itself: that is computed where it stands.
+#[cycle(evaluate)]
+#[inline(always)]
+fn left_part(expression: &Expression, view: &View) -> Result<i16, ErrorName>
+    requires { CanRead (memory_of view.now.permanents.now view.now.room.now) view.now.frame.now expression.now }
+    ensures { result ≡ spec.value_at (memory_of view.now.permanents.now view.now.room.now) view.now.frame.now expression.now }
+{
+    if let Expression::Arithmetic(operator, left, right) = expression {
+        let left = part(left, view)?;
+        let right = part(right, view)?;
+        return calculated(*operator, left, right);
+    }
+    part(expression, view)
+}
+
 // The value of an expression, handed over in a register.
 #[cycle(evaluate)]
 #[inline(never)]
@@ -188,7 +203,7 @@ fn computed(expression: &Expression, view: &View) -> Result<i16, ErrorName>
 {
     // The most frequent form is not looked up in a table.
     if let Expression::Arithmetic(operator, left, right) = expression {
-        let left = part(left, view)?;
+        let left = left_part(left, view)?;
         let right = part(right, view)?;
         return calculated(*operator, left, right);
     }

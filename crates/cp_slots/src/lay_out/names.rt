@@ -137,6 +137,24 @@ impl<'a> Names<'a> {
         None
     }
 
+    /// The type that a name stands for where a type is written: the latest of that name, past what is no type.
+    #[tactic(auto, unfolding(crate::specs::Layers::names_seen), using(crate::proofs::NamesSeen::seen_all, crate::proofs::NamesSeen::seen_none, crate::proofs::NamesSeen::seen_last))]
+    pub fn look_type(&self, name: &str) -> Option<ValueType>
+        ensures { result ≡ spec.find_type name.now (names_seen self.now) }
+    {
+        let mut left = self.items.len();
+        while 0 < left {
+            left -= 1;
+            let declared = self.items[left];
+            if let Meaning::Kind(value_type) = declared.meaning {
+                if declared.name == name {
+                    return Some(value_type);
+                }
+            }
+        }
+        None
+    }
+
     /// How many names there are, as a scope begins.
     #[tactic(auto, unfolding(crate::specs::Layers::names_seen), using(crate::proofs::NamesSeen::seen_length))]
     pub fn open(&self) -> usize

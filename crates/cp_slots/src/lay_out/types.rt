@@ -83,9 +83,9 @@ impl<'a> Layer<'a> {
     pub fn named_type(&self, name: &str) -> ValueType
         ensures { result ≡ spec.named_type (layer_seen self.now) name.now }
     {
-        match self.names.look(name) {
-            Some(Meaning::Kind(value_type)) => value_type,
-            _ => values_of(Base::Integer),
+        match self.names.look_type(name) {
+            Some(value_type) => value_type,
+            None => values_of(Base::Integer),
         }
     }
 

@@ -1,4 +1,3 @@
-use Rattle.std.proofs.Common.{of_z, to_z, w16}
 use Rattle.cp_slots.specs.declared.item.Action.TheVariants.{Assign, If, While, Until}
 use Rattle.cp_machine.specs.Machine.{machine_of, under}
 use Rattle.cp_machine.specs.Stack.{rest_of}
@@ -16,12 +15,12 @@ assign-requires-clause-reach c = (taken_reads c.args.program.now c.args.state.no
 pub returns-in-Assign-clause-same : goal.returns-in-Assign-clause-same
 returns-in-Assign-clause-same c =
     let m = machine_of c.args.state.now in
-    λ off. done_same m (machine_of c.assign.new.state) c.args.pid c.args.item.now.line (assign m c.args.pid c.args.item.now.line c.in-Assign.target c.in-Assign.value (to_z w16 (of_z w16 c.in-Assign.low)) (to_z w16 (of_z w16 c.in-Assign.high)) (rest_of c.args.item.now.next (under m c.args.pid))) (assign_calm m c.args.pid c.args.item.now.line c.in-Assign.target c.in-Assign.value (to_z w16 (of_z w16 c.in-Assign.low)) (to_z w16 (of_z w16 c.in-Assign.high)) (rest_of c.args.item.now.next (under m c.args.pid))) c.assign.result c.assign.ensures.after (c.is_done.ensures.no off)
+    λ off. done_same m (machine_of c.assign.new.state) c.args.pid c.args.item.now.line (assign m c.args.pid c.args.item.now.line c.in-Assign.target c.in-Assign.value c.in-Assign.low c.in-Assign.high (rest_of c.args.item.now.next (under m c.args.pid))) (assign_calm m c.args.pid c.args.item.now.line c.in-Assign.target c.in-Assign.value c.in-Assign.low c.in-Assign.high (rest_of c.args.item.now.next (under m c.args.pid))) c.assign.result c.assign.ensures.after (c.is_done.ensures.no off)
 
 pub returns-in-Assign-clause-pending : goal.returns-in-Assign-clause-pending
 returns-in-Assign-clause-pending c =
     let m = machine_of c.args.state.now in
-    done_pending m (machine_of c.assign.new.state) c.args.pid c.args.item.now.line (assign m c.args.pid c.args.item.now.line c.in-Assign.target c.in-Assign.value (to_z w16 (of_z w16 c.in-Assign.low)) (to_z w16 (of_z w16 c.in-Assign.high)) (rest_of c.args.item.now.next (under m c.args.pid))) (assign_calm m c.args.pid c.args.item.now.line c.in-Assign.target c.in-Assign.value (to_z w16 (of_z w16 c.in-Assign.low)) (to_z w16 (of_z w16 c.in-Assign.high)) (rest_of c.args.item.now.next (under m c.args.pid))) c.assign.result c.assign.ensures.after
+    done_pending m (machine_of c.assign.new.state) c.args.pid c.args.item.now.line (assign m c.args.pid c.args.item.now.line c.in-Assign.target c.in-Assign.value c.in-Assign.low c.in-Assign.high (rest_of c.args.item.now.next (under m c.args.pid))) (assign_calm m c.args.pid c.args.item.now.line c.in-Assign.target c.in-Assign.value c.in-Assign.low c.in-Assign.high (rest_of c.args.item.now.next (under m c.args.pid))) c.assign.result c.assign.ensures.after
 
 pub returns-in-Assign-clause-reserved : goal.returns-in-Assign-clause-reserved
 returns-in-Assign-clause-reserved c = c.assign.ensures.reserved c.args.program.now c.requires.taken.own.reserved

@@ -1,5 +1,5 @@
 use Rattle.std.proofs.Common.{rules, ◌≡◌, ◌∙◌, ◌<◌, ◌≤◌, [], ◌∷◌, ap, length, sym, subst, arith}
-use Rattle.cp_machine.specs.System.{machine_of}
+use Rattle.cp_machine.specs.System.{machine_of, output_of}
 use Rattle.cp_key.specs.Key.{key_of}
 use Rattle.cp_run.specs.Slots.{slots}
 use Rattle.cp_explore.specs.Report.{same_outcome}
@@ -14,12 +14,12 @@ loop-key-init c =
     let l = c.args.limits in
     let all = c.into_iter-key-iterator.ensures.into_iter_gives ∙ c.iter-key-items.ensures.rest in
     record {
-      own = c.requires.own;
+      room = c.requires.own.reserved.output;
       ending = ending_start r l.gates l.steps l.choices c.args.front.now.ended.entries c.into_iter-key-iterator.result c.requires.own.sound.few l.few_choices (subst (λ es. AreLeads r es (front_at (slots r l.gates) same_outcome same_key l.steps l.choices).layer) (sym all) c.requires.layer) c.requires.ended;
     }
 
-pub thaw-requires : goal.thaw-requires
-thaw-requires c =
+pub thaw_output-requires : goal.thaw_output-requires
+thaw_output-requires c =
     let r = c.args.program.now in
     let l = c.args.limits in
     let old = c.loop-key.front in
@@ -28,7 +28,9 @@ thaw-requires c =
     let m = subst (Ending r l.gates l.steps l.choices old.ended.entries) at c.loop-key.invariant.ending in
     let n = ending_next r l.gates l.steps l.choices old.ended.entries es (c.in-Some.key.now, c.in-Some.lead.now) m in
     let key : c.as_slice.result.now ≡ key_of n.lead.state = c.as_slice.ensures.value ∙ n.key in
-    (r, n.lead.state, c.loop-key.invariant.own, n.own, key)
+    let shown = n.own.shown in
+    let room = c.loop-key.invariant.room in
+    (n.lead.state, omega (arith, shown, room), key)
 
 pub end-requires : goal.end-requires
 end-requires c =
@@ -53,10 +55,12 @@ loop-key-preserved c =
     let n = ending_next r l.gates l.steps l.choices old.ended.entries es (c.in-Some.key.now, c.in-Some.lead.now) m in
     let key : c.as_slice.result.now ≡ key_of n.lead.state = c.as_slice.ensures.value ∙ n.key in
     let new = c.end.new.self in
-    let same : machine_of c.thaw.new.state ≡ n.lead.state = c.thaw.ensures.same n.lead.state key in
+    let same : output_of (machine_of c.thaw_output.new.state) ≡ output_of n.lead.state = c.thaw_output.ensures.output n.lead.state key in
+    let room = c.loop-key.invariant.room in
+    let more = c.thaw_output.ensures.room in
     record {
-      own = c.thaw.ensures.own r n.lead.state c.loop-key.invariant.own n.own key;
-      ending = ending_more r l.gates l.steps l.choices old.ended.entries new.ended.entries es (c.in-Some.key.now, c.in-Some.lead.now) m (machine_of c.thaw.new.state) c.word_of.result.items same (c.word_of.ensures ∙ c.as_slice-in-loop-key.ensures.value) (λ ts h. c.in_ok-end.ensures.ended ts h);
+      room = omega (arith, room, more);
+      ending = ending_more r l.gates l.steps l.choices old.ended.entries new.ended.entries es (c.in-Some.key.now, c.in-Some.lead.now) m (output_of (machine_of c.thaw_output.new.state)) c.word_of.result.items same (c.word_of.ensures ∙ c.as_slice-in-loop-key.ensures.value) (λ ts h. c.in_ok-end.ensures.ended ts h);
     }
 
 pub returns : goal.returns

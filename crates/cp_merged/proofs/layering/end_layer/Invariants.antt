@@ -1,10 +1,12 @@
-use Rattle.cp_machine.specs.System.{IsStateOf}
+use Rattle.std.proofs.Common.{◌≤◌}
+use Rattle.std.specs.Prelude.{vec_capacity}
+use Rattle.cp_machine.specs.declared.state.TheConstants.{LIMIT}
 use Rattle.cp_merged.proofs.Making.{Ending}
 use Rattle.cp_merged.proofs.layering.end_layer.Given as goal
 
 abbrev pub invariant-loop-key : goal.invariant-loop-key
 invariant-loop-key l =
     record {
-      own : IsStateOf l.program l.state;
+      room : LIMIT ≤ vec_capacity l.state.output;
       ending : Ending l.program l.fn.limits.gates l.fn.limits.steps l.fn.limits.choices l.front.ended.entries l.key-iterator;
     }

@@ -78,32 +78,6 @@ take_choices-requires-clause-small g c =
     let key : c.as_slice.result.now ≡ key_of n.lead.state = c.as_slice.ensures.value ∙ n.key in
     making_small r l.gates l.steps d old.ended.entries old.layer.entries es (c.in-Some.key.now, c.in-Some.lead.now) m
 
-pub returns-in_default-clause-own : goal.returns-in_default-clause-own
-returns-in_default-clause-own g c =
-    let r = c.args.program.now in
-    let l = c.args.limits in
-    let d = c.args.depth in
-    let old = c.loop-key.front in
-    let es = c.next.new.self in
-    let at : c.loop-key.key-iterator ≡ (c.in-Some.key.now, c.in-Some.lead.now) ∷ c.next.new.self = first_of (search (rules, c.in-Some.ensures.steps), cc (c.in-Some.ensures.steps, c.in-Some.key-is, c.in-Some.lead-is), grind (arith, c.in-Some.ensures.steps, c.in-Some.key-is, c.in-Some.lead-is), assumption c.in-Some.ensures.steps) in
-    let m = subst (Making r l.gates l.steps d old.ended.entries old.layer.entries) at c.loop-key.invariant.making in
-    let n = making_next r l.gates l.steps d old.ended.entries old.layer.entries es (c.in-Some.key.now, c.in-Some.lead.now) m in
-    let key : c.as_slice.result.now ≡ key_of n.lead.state = c.as_slice.ensures.value ∙ n.key in
-    c.thaw.ensures.own r n.lead.state c.loop-key.invariant.own n.own key
-
-pub returns-then-len-most-clause-own : goal.returns-then-len-most-clause-own
-returns-then-len-most-clause-own g c =
-    let r = c.args.program.now in
-    let l = c.args.limits in
-    let d = c.args.depth in
-    let old = c.loop-key.front in
-    let es = c.next.new.self in
-    let at : c.loop-key.key-iterator ≡ (c.in-Some.key.now, c.in-Some.lead.now) ∷ c.next.new.self = first_of (search (rules, c.in-Some.ensures.steps), cc (c.in-Some.ensures.steps, c.in-Some.key-is, c.in-Some.lead-is), grind (arith, c.in-Some.ensures.steps, c.in-Some.key-is, c.in-Some.lead-is), assumption c.in-Some.ensures.steps) in
-    let m = subst (Making r l.gates l.steps d old.ended.entries old.layer.entries) at c.loop-key.invariant.making in
-    let n = making_next r l.gates l.steps d old.ended.entries old.layer.entries es (c.in-Some.key.now, c.in-Some.lead.now) m in
-    let key : c.as_slice.result.now ≡ key_of n.lead.state = c.as_slice.ensures.value ∙ n.key in
-    c.thaw.ensures.own r n.lead.state c.loop-key.invariant.own n.own key
-
 pub returns-then-len-most-clause-many : goal.returns-then-len-most-clause-many
 returns-then-len-most-clause-many g c =
     let r = c.args.program.now in
@@ -136,7 +110,7 @@ loop-key-preserved g c =
     let same : machine_of c.thaw.new.state ≡ n.lead.state = c.thaw.ensures.same n.lead.state key in
     let made = making_more r l.gates l.steps d old.ended.entries new.ended.entries old.layer.entries new.layer.entries es (c.in-Some.key.now, c.in-Some.lead.now) m (machine_of c.thaw.new.state) c.requires.own.sound.few (n.key ∙ ap key_of (sym same)) same (λ f h. c.in-Ok.ensures.front f h) in
     record {
-      own = c.thaw.ensures.own r n.lead.state c.loop-key.invariant.own n.own key;
+      own = c.take_choices.ensures.own;
       next = c.take_choices.ensures.next;
       few = omega arith;
       making = made;

@@ -1,0 +1,309 @@
+-- Programs that break no rule: their scopes agree at the statements of each routine and of each initial statement.
+use Rattle.std.proofs.Common.{◌≡◌, ◌≤◌, ℕ, pos, Bool, true, false, if◌then◌else◌, List, [], ◌∷◌, ◌++◌, length, Option, Some, None, Ok, Err, is_some, refl, sym, ap, subst, ◌∙◌, arith}
+use Rattle.std.specs.Str.{bytes_eq}
+use Rattle.cp_tree.specs.Syntax.{Program, Definition, type_definition, system_definition, SystemDefinition, ProgramPart, program_constants, program_types, program_variables, Tree}
+use Rattle.cp_scope.specs.declared.types.Base.TheVariants as base
+use Rattle.cp_scope.specs.declared.types.Range.{Range}
+use Rattle.cp_scope.specs.declared.types.ValueType.{ValueType}
+use Rattle.cp_scope.specs.declared.types.ValueType.TheVariants as types
+use Rattle.cp_scope.specs.Types.{whole}
+use Rattle.cp_scope.specs.declared.types.Meaning.{Meaning}
+use Rattle.cp_scope.specs.declared.types.Meaning.TheVariants as meaning
+use Rattle.cp_scope.specs.declared.count.Use.{Use}
+use Rattle.cp_scope.specs.Counts.{no_use}
+use Rattle.cp_scope.specs.Judged.{Judged, ◌>>=◌, faults}
+use Rattle.cp_scope.specs.Scopes.{Names, Scopes, shape_in, look_outer, look_in, add, enter, start}
+use Rattle.cp_scope.specs.Scopes as checker
+use Rattle.cp_check.specs.declared.types.Spot.TheVariants as spot
+use Rattle.cp_check.specs.Types.{Step, Typed, typed}
+use Rattle.cp_check.specs.Declarations.{as_declared, to_kind, reserve_name, add_one}
+use Rattle.cp_check.specs.Routines.{routine_steps}
+use Rattle.cp_check.specs.Statements.{statements}
+use Rattle.cp_check.specs.Systems as systems_of
+use Rattle.cp_check.specs.Systems.{definition_step, definition_steps, program_part_step, program_part_steps}
+use Rattle.cp_check.specs.Faults.{declarations, program_context, opened, limit_faults, faults_of}
+use Rattle.cp_meaning.specs.Names.{Name}
+use Rattle.cp_meaning.specs.Types as named
+use Rattle.cp_meaning.specs.Scopes as scopes
+use Rattle.cp_meaning.specs.Scopes.{find, predeclared, seen_inside}
+use Rattle.cp_meaning.specs.Declarations as meant
+use Rattle.cp_meaning.specs.Systems.{Declared, definition_in, definitions_in, program_part_in, program_parts_in, declared, program_system, own_meaning, with_routines}
+use Rattle.cp_resolved.specs.Enumerations.{in_routine, in_definition, in_program_part, each_in, enumerations_of}
+use Rattle.cp_resolved.specs.Fit.{nothing_declared}
+use Rattle.cp_resolved.specs.Judging.{Place, definition_places, definitions_places, part_places, parts_places, routine_places, places_of, IsDefinitionApart, IsPartApart, AreHeadingsApart, AreAgreed}
+use Rattle.cp_resolved.specs.Openings.{Opening, definition_openings, definitions_openings, part_openings, parts_openings, routine_openings, initial_opening, openings_of}
+use Rattle.cp_resolved.specs.Small.{Each, IsSmallDefinition, IsSmallProgramPart, IsSmallProgram}
+use Rattle.cp_resolved.specs.Standing.{IsFit}
+use Rattle.cp_resolved.specs.Tokens.{AreDifferent, all_tokens, routine_tokens, definition_tokens, program_part_tokens, program_tokens}
+use Rattle.cp_resolved.specs.Typed.{RangeIs, TypeIs, predeclared_of, MeaningIs}
+use Rattle.cp_resolved.proofs.Agreeing.{none_left, none_right, none_first, AreFree}
+use Rattle.cp_resolved.proofs.AgreeingNames.{W, IsThere, IsGiven, IsKnown, Agree}
+use Rattle.cp_resolved.proofs.AgreeingTypes.{IsFew, standing_at}
+use Rattle.cp_resolved.proofs.AgreeingWritten.{each_left, each_right}
+use Rattle.cp_resolved.proofs.AgreeingParts.{StepResult, step_then, step_same, NamesResult, name_result, type_reached, kind_declared, constants_agree, permanent_kind, variables_agree}
+use Rattle.cp_resolved.proofs.AgreeingRoutines.{none_before, none_after}
+use Rattle.cp_resolved.proofs.AgreeingBodies.{place_agreed, routines_agree}
+use Rattle.cp_resolved.proofs.AgreeingSystems.{agreed_append, IsNumbered, system_agrees}
+
+module _ (systems : ℕ → ℕ) (constants_at : ℕ → List Name) (p : Program) where
+  -- ---- system types by their numbers
+
+  abbrev pub IsNumberedDefinition : Declared → Definition → Type 0
+  IsNumberedDefinition d (type_definition t) = Unit {0}
+  IsNumberedDefinition d (system_definition y) = IsNumbered systems constants_at p (length d.systems) (seen_inside d.scope) y
+
+  abbrev pub AreNumberedDefinitions : Declared → List SystemDefinition → Type 0
+  AreNumberedDefinitions d [] = Unit {0}
+  AreNumberedDefinitions d (n ∷ ns) = IsNumberedDefinition d n.value × AreNumberedDefinitions (definition_in d n n.value) ns
+
+  abbrev pub IsNumberedPart : Declared → ProgramPart → Type 0
+  IsNumberedPart d (program_constants at ds) = Unit {0}
+  IsNumberedPart d (program_types at ns) = AreNumberedDefinitions d ns
+  IsNumberedPart d (program_variables at gs) = Unit {0}
+
+  abbrev pub AreNumberedParts : Declared → List ProgramPart → Type 0
+  AreNumberedParts d [] = Unit {0}
+  AreNumberedParts d (q ∷ qs) = IsNumberedPart d q × AreNumberedParts (program_part_in d q) qs
+
+  -- ---- definitions
+
+  record DefinedResult (s t : Scopes) (m below : scopes.Scope) (ks : List ℕ) (xs : List Place) (os : List Opening) : Type 0 where
+    pub places : AreAgreed systems p xs os
+    pub step : StepResult systems constants_at p true None s t m below ks
+
+  defined_agrees : (s a : Scopes) (d : Declared) (below : scopes.Scope) (ks : List ℕ) (n : SystemDefinition) (v : Definition) → NamesResult systems constants_at p true None s a (n.name ∷ []) d.scope below (definition_tokens v ks) → faults (systems_of.defined a v).type ≡ [] → IsNumberedDefinition d v → IsDefinitionApart v → IsSmallDefinition v → Each (IsFew constants_at) (in_definition v) →
+      DefinedResult s (add_one (systems_of.defined a v).scopes n.name (as_declared ((systems_of.defined a v).type >>= to_kind))) (definition_in d n v).scope below ks (definition_places a v) (definition_openings d v)
+  unfolding systems_of.defined
+  defined_agrees s a d below ks n (type_definition t) r e number apart small few =
+      let w = type_reached systems constants_at p true s a (n.name ∷ []) d.scope below ks spot.Definition t r e small few in
+      record {
+        places = tt;
+        step = kind_declared systems constants_at p true s n.name (typed a spot.Definition t) (meant.type_in d.scope t).1 below ks (meant.type_in d.scope t).0 w.value w.is w.typed.belongs (standing_at spot.Definition (meant.type_in d.scope t).0 w.typed.stands) w.fresh.0 w.outer w.more w.agree;
+      }
+  defined_agrees s a d below ks n (system_definition y) r e number apart small few =
+      let c : ℕ = length d.systems in
+      let t : Typed = systems_of.system_typed a y in
+      let w = system_agrees systems constants_at p a d.scope below ks c y number e apart small few r.agree in
+      record {
+        places = w.places;
+        step = kind_declared systems constants_at p true s n.name t d.scope below ks (named.component_of c) (types.Component y.kind y.at) w.is (record { kind = y.kind; is = ap (types.Component y.kind) (sym number.token) }) refl
+            (ap (λ (ds : Names). is_some (checker.find n.name.name ds)) w.closed.names ∙ r.reserved.pends n.name.name r.reserved.all.0) (w.closed.outer ∙ r.outer) (λ k f i. w.closed.more k f (ap (shape_in k) r.shapes ∙ i)) w.closed.agree;
+      }
+
+  definitions_agree : (s : Scopes) (d : Declared) (below : scopes.Scope) (ks : List ℕ) (ns : List SystemDefinition) → (definition_steps s ns).faults ≡ [] → AreNumberedDefinitions d ns → Each (λ n. IsDefinitionApart n.value) ns → Each (λ n. IsSmallDefinition n.value) ns → Each (IsFew constants_at) (each_in (λ n. in_definition n.value) ns) → s.inner.pending ≡ [] → Agree systems constants_at p true None s d.scope below (all_tokens (λ n. definition_tokens n.value) ns ks) →
+      DefinedResult s (definition_steps s ns).scopes (definitions_in d ns).scope below ks (definitions_places s ns) (definitions_openings d ns)
+  unfolding definition_steps definition_step
+  definitions_agree s d below ks [] e number apart small few empty h = record { places = tt; step = step_same systems constants_at p true None s d.scope below ks empty h }
+  definitions_agree s d below ks (n ∷ ns) e number apart small few empty h =
+      let a : Scopes = (reserve_name s n.name).scopes in
+      let x : Typed = systems_of.defined a n.value in
+      let t : Scopes = (definition_step s n).scopes in
+      let js : List ℕ = all_tokens (λ (c : SystemDefinition). definition_tokens c.value) ns ks in
+      let k : Declared = definition_in d n n.value in
+      let first : (reserve_name s n.name).faults ++ faults (x.type >>= to_kind) ≡ [] = none_left ((reserve_name s n.name).faults ++ faults (x.type >>= to_kind)) (definition_steps t ns).faults e in
+      let r = name_result systems constants_at p true None s n.name d.scope below (definition_tokens n.value js) (none_left (reserve_name s n.name).faults (faults (x.type >>= to_kind)) first) empty h in
+      let one = defined_agrees s a d below js n n.value r (none_first x.type to_kind (none_right (reserve_name s n.name).faults (faults (x.type >>= to_kind)) first)) number.0 apart.0 small.0 (each_left (IsFew constants_at) (in_definition n.value) (each_in (λ (c : SystemDefinition). in_definition c.value) ns) few) in
+      let rest = definitions_agree t k below ks ns (none_right ((reserve_name s n.name).faults ++ faults (x.type >>= to_kind)) (definition_steps t ns).faults e) number.1 apart.1 small.1 (each_right (IsFew constants_at) (in_definition n.value) (each_in (λ (c : SystemDefinition). in_definition c.value) ns) few) one.step.settled one.step.agree in
+      record {
+        places = agreed_append systems p (definition_places a n.value) (definitions_places t ns) (definition_openings d n.value) (definitions_openings k ns) one.places rest.places;
+        step = step_then systems constants_at p true None s t (definition_steps t ns).scopes k.scope (definitions_in k ns).scope below js ks one.step rest.step;
+      }
+
+  -- ---- parts of the program
+
+  part_agrees : (s : Scopes) (d : Declared) (below : scopes.Scope) (ks : List ℕ) (q : ProgramPart) → (program_part_step s q).faults ≡ [] → IsNumberedPart d q → IsPartApart q → IsSmallProgramPart q → Each (IsFew constants_at) (in_program_part q) → s.inner.pending ≡ [] → Agree systems constants_at p true None s d.scope below (program_part_tokens q ks) →
+      DefinedResult s (program_part_step s q).scopes (program_part_in d q).scope below ks (part_places s q) (part_openings d q)
+  unfolding program_part_step
+  part_agrees s d below ks (program_constants at ds) e number apart small few empty h = record { places = tt; step = constants_agree systems constants_at p true s d.scope below ks ds e small empty h }
+  part_agrees s d below ks (program_types at ns) e number apart small few empty h = definitions_agree s d below ks ns e number apart small few empty h
+  part_agrees s d below ks (program_variables at gs) e number apart small few empty h =
+      record { places = tt; step = variables_agree systems constants_at p true (spot.Permanent None) scopes.permanent_variable (permanent_kind systems constants_at p true None) s (record { variables = d.variables; scope = d.scope }) below ks gs e small few empty h }
+
+  parts_agree : (s : Scopes) (d : Declared) (below : scopes.Scope) (ks : List ℕ) (qs : List ProgramPart) → (program_part_steps s qs).faults ≡ [] → AreNumberedParts d qs → Each IsPartApart qs → Each IsSmallProgramPart qs → Each (IsFew constants_at) (each_in in_program_part qs) → s.inner.pending ≡ [] → Agree systems constants_at p true None s d.scope below (all_tokens program_part_tokens qs ks) →
+      DefinedResult s (program_part_steps s qs).scopes (program_parts_in d qs).scope below ks (parts_places s qs) (parts_openings d qs)
+  unfolding program_part_steps
+  parts_agree s d below ks [] e number apart small few empty h = record { places = tt; step = step_same systems constants_at p true None s d.scope below ks empty h }
+  parts_agree s d below ks (q ∷ qs) e number apart small few empty h =
+      let t : Scopes = (program_part_step s q).scopes in
+      let js : List ℕ = all_tokens program_part_tokens qs ks in
+      let k : Declared = program_part_in d q in
+      let one = part_agrees s d below js q (none_left (program_part_step s q).faults (program_part_steps t qs).faults e) number.0 apart.0 small.0 (each_left (IsFew constants_at) (in_program_part q) (each_in in_program_part qs) few) empty h in
+      let rest = parts_agree t k below ks qs (none_right (program_part_step s q).faults (program_part_steps t qs).faults e) number.1 apart.1 small.1 (each_right (IsFew constants_at) (in_program_part q) (each_in in_program_part qs) few) one.step.settled one.step.agree in
+      record {
+        places = agreed_append systems p (part_places s q) (parts_places t qs) (part_openings d q) (parts_openings k qs) one.places rest.places;
+        step = step_then systems constants_at p true None s t (program_part_steps t qs).scopes k.scope (program_parts_in k qs).scope below js ks one.step rest.step;
+      }
+
+  -- ---- the predeclared names
+
+  -- a name that stands for the same wherever it is visible
+  record Always (c : Meaning) (o : Option scopes.Meaning) : Type 0 where
+    pub means : (s : Scopes) (x : Name) (m : scopes.Scope) → MeaningIs (W systems constants_at s.shapes) s x m c o
+    pub there : (s : Scopes) → IsThere systems constants_at s.shapes c
+    pub fit : IsFit o
+    pub given : IsGiven constants_at o
+
+  abbrev AlwaysFound : Option (Option Meaning) → Option scopes.Meaning → Type 0
+  AlwaysFound None o = o ≡ None
+  AlwaysFound (Some None) o = ⊥
+  AlwaysFound (Some (Some c)) o = Always c o
+
+  abbrev IsAlways : Option Meaning → scopes.Meaning → Type 0
+  IsAlways None d = ⊥
+  IsAlways (Some c) d = Always c (Some d)
+
+  abbrev AllAlways : Names → scopes.Scope → Type 0
+  AllAlways [] [] = Unit {0}
+  AllAlways (d ∷ ds) (e ∷ es) = (d.0 ≡ e.0) × IsAlways d.1 e.1 × AllAlways ds es
+  AllAlways [] (e ∷ es) = ⊥
+  AllAlways (d ∷ ds) [] = ⊥
+
+  always_some : (c : Option Meaning) (d : scopes.Meaning) → IsAlways c d → AlwaysFound (Some c) (Some d)
+  always_some None d h = absurd h
+  always_some (Some c) d h = h
+
+  always_found : (x : Name) (ds : Names) (es : scopes.Scope) → AllAlways ds es → AlwaysFound (checker.find x ds) (find x es)
+  always_found x [] [] h = refl
+  always_found x [] (e ∷ es) h = absurd h
+  always_found x (d ∷ ds) [] h = absurd h
+  always_found x (d ∷ ds) (e ∷ es) h = subst (λ (y : Name). AlwaysFound (checker.find x (d ∷ ds)) (if bytes_eq x y then Some e.1 else find x es)) h.0 (go (bytes_eq x d.0) (always_found x ds es h.2))
+    where
+      go : (b : Bool) → AlwaysFound (checker.find x ds) (find x es) → AlwaysFound (if b then Some d.1 else checker.find x ds) (if b then Some e.1 else find x es)
+      go true rest = always_some d.1 e.1 h.1
+      go false rest = rest
+
+  kind_always : (t : named.Ty) (v : ValueType) → ((s : Scopes) → TypeIs (W systems constants_at s.shapes) t v) → IsFit (Some (scopes.type_meaning t)) → Always (meaning.Kind v) (Some (scopes.type_meaning t))
+  kind_always t v h f = record { means = λ s x m. h s; there = λ s. tt; fit = f; given = tt }
+
+  standard_always : (q : scopes.Standard) → Always (meaning.Predeclared (predeclared_of q)) (Some (scopes.standard_meaning q))
+  standard_always q = record { means = λ s x m. refl; there = λ s. tt; fit = tt; given = tt }
+
+  ordinal_always : (q : named.Range) (r : Range) → RangeIs q r → IsFit (Some (scopes.type_meaning (named.ordinal q))) → Always (meaning.Kind (types.Ordinal r)) (Some (scopes.type_meaning (named.ordinal q)))
+  ordinal_always q r h f = kind_always (named.ordinal q) (types.Ordinal r) (λ s. record { range = r; is = refl; belongs = h }) f
+
+  truth_always : (n : ℕ) → n ≤ 1 → Always (meaning.Constant base.Boolean (pos n)) (Some (scopes.constant_meaning named.booleans (pos n)))
+  truth_always n h = record { means = λ s x m. (refl, refl, search (arith, h)); there = λ s. tt; fit = omega (arith, h); given = tt }
+
+  -- the scope around the program
+  abbrev look_scope : Scopes → checker.Scope
+  look_scope s = (checker.last_of s.outer).inner
+
+  predeclared_always : AllAlways (look_scope start).names predeclared
+  unfolding enter add
+  predeclared_always = (
+    refl,
+    ordinal_always named.all_integers (whole base.Integer) (record { base = refl; low = refl; high = refl }) refl,
+    (
+      refl,
+      ordinal_always named.all_booleans (whole base.Boolean) (record { base = refl; low = refl; high = refl }) refl,
+      (
+        refl,
+        ordinal_always named.all_characters (whole base.Char) (record { base = refl; low = refl; high = refl }) refl,
+        (
+          refl,
+          kind_always named.queue_type types.Queue (λ s. refl) refl,
+          (
+            refl,
+            truth_always 0 (omega arith),
+            (
+              refl,
+              truth_always 1 (omega arith),
+              (
+                refl,
+                standard_always scopes.succ_function,
+                (
+                  refl,
+                  standard_always scopes.pred_function,
+                  (
+                    refl,
+                    standard_always scopes.chr_function,
+                    (
+                      refl,
+                      standard_always scopes.ord_function,
+                      (
+                        refl,
+                        standard_always scopes.abs_function,
+                        (
+                          refl,
+                          standard_always scopes.empty_function,
+                          (
+                            refl,
+                            standard_always scopes.delay_procedure,
+                            (
+                              refl,
+                              standard_always scopes.continue_procedure,
+                              (refl, standard_always scopes.display_procedure, tt),
+                            ),
+                          ),
+                        ),
+                      ),
+                    ),
+                  ),
+                ),
+              ),
+            ),
+          ),
+        ),
+      ),
+    ),
+  )
+
+  always_known : (s : Scopes) (x : Name) (o : Option (Option Meaning)) → AlwaysFound o (find x predeclared) → IsKnown systems constants_at s predeclared x o
+  always_known s x None h = tt
+  always_known s x (Some None) h = absurd h
+  always_known s x (Some (Some c)) h = record { means = h.means s x predeclared; there = h.there s; fit = h.fit; given = h.given }
+
+  always_fit : (o : Option (Option Meaning)) (q : Option scopes.Meaning) → AlwaysFound o q → IsFit q
+  always_fit None q h = subst IsFit (sym h) tt
+  always_fit (Some None) q h = absurd h
+  always_fit (Some (Some c)) q h = h.fit
+
+  all_free : (ks : List ℕ) → AreFree [] ks
+  all_free [] = tt
+  all_free (k ∷ ks) = (refl, all_free ks)
+
+  start_agrees : (ks : List ℕ) → AreDifferent ks → Agree systems constants_at p true None start predeclared predeclared ks
+  unfolding enter add
+  start_agrees ks different =
+      record {
+        unsealed = refl;
+        names = λ x. record { found = refl; rest = refl };
+        seen = λ x. record { found = refl; rest = refl };
+        outer = λ x g. always_known start x (look_outer x start.outer) (always_found x (look_scope start).names predeclared predeclared_always);
+        base = λ x. always_fit (look_outer x start.outer) (find x predeclared) (always_found x (look_scope start).names predeclared predeclared_always);
+        free = all_free ks;
+        different = different;
+        entries = λ k n y e. absurd (let bad : None ≡ Some (Some (meaning.Routine n)) = e in cc);
+      }
+
+  -- ---- the program
+
+  agree_plain : (s : Scopes) (m below : scopes.Scope) (ks : List ℕ) → Agree systems constants_at p true None s m below ks → Agree systems constants_at p false None s m below ks
+  agree_plain s m below ks h = record { unsealed = h.unsealed; names = h.names; seen = h.names; outer = h.outer; base = h.base; free = h.free; different = h.different; entries = h.entries }
+
+  uses_sound : (at : ℕ) (s : Scopes) (j : Judged Use) → limit_faults at s j ≡ [] → faults j ≡ []
+  uses_sound at s (Ok u) k = refl
+  uses_sound at s (Err fs) k = k
+
+  start_settled : start.inner.pending ≡ []
+  unfolding enter add
+  start_settled = refl
+
+  pub program_agrees : (t : Tree) → p ≡ t.program → faults_of t ≡ [] → AreNumberedParts nothing_declared p.parts → AreHeadingsApart p → IsSmallProgram p → Each (IsFew constants_at) (enumerations_of p) → AreDifferent (program_tokens p) → AreAgreed systems p (places_of p) (openings_of p)
+  unfolding faults_of opened declarations
+  program_agrees t is e number apart small few different =
+      let none : faults (opened start p).uses ≡ [] = subst (λ (q : Program). faults (opened start q).uses ≡ []) (sym is) (uses_sound t.program.period (opened start t.program).scopes (opened start t.program).uses e) in
+      let d : Step = declarations start p in
+      let j : Judged Use = statements d.scopes program_context (Ok no_use) p.body.statements in
+      let sound : d.faults ≡ [] = none_before d.faults j none in
+      let a : Step = program_part_steps start p.parts in
+      let b : Step = routine_steps None a.scopes p.routines in
+      let js : List ℕ = all_tokens routine_tokens p.routines (p.period ∷ []) in
+      let parts = parts_agree start nothing_declared predeclared js p.parts (none_left a.faults b.faults sound) number apart.0 small.0 (each_left (IsFew constants_at) (each_in in_program_part p.parts) (each_in in_routine p.routines) few) start_settled (start_agrees (program_tokens p) different) in
+      let k : scopes.Scope = (declared p).scope in
+      let routines = routines_agree systems constants_at p None a.scopes k predeclared (p.period ∷ []) (program_system p) p.routines (none_right a.faults b.faults sound) apart.1 small.1 (each_right (IsFew constants_at) (each_in in_program_part p.parts) (each_in in_routine p.routines) few) parts.step.settled (agree_plain a.scopes k predeclared js parts.step.agree) in
+      let last : Opening = initial_opening (program_system p) (own_meaning (declared p) p) in
+      let place : Place = record { scopes = d.scopes; context = program_context } in
+      agreed_append systems p (parts_places start p.parts) (routine_places None a.scopes p.routines ++ place ∷ []) (parts_openings nothing_declared p.parts) (routine_openings (program_system p) k p.routines ++ last ∷ []) parts.places
+      (agreed_append systems p (routine_places None a.scopes p.routines) (place ∷ []) (routine_openings (program_system p) k p.routines) (last ∷ []) routines.places
+      (place_agreed systems constants_at p d.scopes program_context (with_routines k p.routines) predeclared (p.period ∷ []) last refl (ap faults (sym (none_after d.faults j none)) ∙ none) routines.step.agree, tt))

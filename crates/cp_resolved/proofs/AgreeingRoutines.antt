@@ -1,0 +1,313 @@
+-- Routines that break no rule: where their statements stand, the checker's scopes agree with the scope of the routine, and so they do after it.
+use Rattle.std.proofs.Common.{◌≡◌, ℕ, Bool, true, false, if◌then◌else◌, List, [], ◌∷◌, ◌++◌, Option, Some, None, Ok, is_some, refl, sym, ap, subst, ◌∙◌}
+use Rattle.std.specs.Prelude.{◌-◌}
+use Rattle.std.specs.Str.{bytes_eq}
+use Rattle.cp_tree.specs.declared.constant.Identifier.{Identifier}
+use Rattle.cp_tree.specs.declared.declaration.SystemKind.{SystemKind}
+use Rattle.cp_tree.specs.declared.declaration.SystemKind.TheVariants as system_kind
+use Rattle.cp_tree.specs.Syntax.{Program, Group, ParameterGroup, RoutineKind, procedure, function, Routine}
+use Rattle.cp_scope.specs.declared.fault.CheckFault.{CheckFault}
+use Rattle.cp_scope.specs.declared.types.ValueType.{ValueType}
+use Rattle.cp_scope.specs.declared.types.ValueType.TheVariants as types
+use Rattle.cp_scope.specs.declared.types.Meaning.{Meaning}
+use Rattle.cp_scope.specs.declared.types.Meaning.TheVariants as meaning
+use Rattle.cp_scope.specs.Types.{is_ordinal}
+use Rattle.cp_scope.specs.Judged.{Judged, ◌>>=◌, faults}
+use Rattle.cp_scope.specs.Scopes.{Scope, Scopes, Shapes, Shape, heading_shape, body_shape, shape_in, look_in, or_else, look_outer, look, with_shape, with_name, sealed, add, enter, Around, last_of, leave, add_around, keep, settle, census}
+use Rattle.cp_scope.specs.Scopes as checker
+use Rattle.cp_check.specs.declared.types.Holding.{Holding}
+use Rattle.cp_check.specs.declared.types.Holding.TheVariants as holds
+use Rattle.cp_check.specs.Types as typing
+use Rattle.cp_check.specs.Types.{Step}
+use Rattle.cp_scope.specs.declared.fault.Rule.TheVariants.{C5}
+use Rattle.cp_check.specs.Calls.{fault, unless}
+use Rattle.cp_check.specs.Declarations.{as_declared, reserve_name, reserve_names, add_all}
+use Rattle.cp_check.specs.Headings as headings
+use Rattle.cp_check.specs.Headings.{after_faults, Headed, written, heading, announced}
+use Rattle.cp_lawful.proofs.Kept.{last_is}
+use Rattle.cp_meaning.specs.Names.{Name}
+use Rattle.cp_meaning.specs.Types.{Ty}
+use Rattle.cp_meaning.specs.Scopes as scopes
+use Rattle.cp_meaning.specs.Scopes.{find, since, routine_meaning}
+use Rattle.cp_meaning.specs.Declarations as meant
+use Rattle.cp_meaning.specs.Declarations.{routine_in}
+use Rattle.cp_resolved.specs.Judging.{AreApart, AreParametersApart, IsHeadingApart, IsRoutineApart}
+use Rattle.cp_resolved.specs.Openings.{with_routine}
+use Rattle.cp_resolved.specs.Standing.{is_free, IsFit}
+use Rattle.cp_resolved.specs.Typed.{TypeIs, IsOrdinalResult, ResultIs, RoutineIs}
+use Rattle.cp_resolved.proofs.Agreeing.{Good, good_then, good_sound, none_left, none_right, none_first, itself, is_itself, new_names, look_last, look_is, look_entered, find_last, inner_look, More, more_same, more_trans, with_more, with_there}
+use Rattle.cp_resolved.proofs.AgreeingNames.{W, IsGiven, New, Known, IsKnown, is_known_moved, stacked_more, IsBut, find_first, find_other, since_other, last_or, Agree, sees, fits, agree_kept}
+use Rattle.cp_resolved.proofs.AgreeingTypes.{Held, held_named, KindOf, type_named, IsOrdinal, ordinal_of}
+use Rattle.cp_resolved.proofs.AgreeingParts.{free_plain, StepResult, step_then, step_same, names_result, all_declared}
+use Rattle.cp_resolved.proofs.Reserving.{pending_fresh}
+
+pub none_before : {A : Type 0} (fs : List CheckFault) (j : Judged A) → faults (after_faults fs j) ≡ [] → fs ≡ []
+none_before [] j h = refl
+none_before (f ∷ fs) j h = absurd (let bad : f ∷ (fs ++ faults j) ≡ [] = h in cc)
+
+pub none_after : {A : Type 0} (fs : List CheckFault) (j : Judged A) → faults (after_faults fs j) ≡ [] → after_faults fs j ≡ j
+none_after [] j h = refl
+none_after (f ∷ fs) j h = absurd (let bad : f ∷ (fs ++ faults j) ≡ [] = h in cc)
+
+module _ (systems : ℕ → ℕ) (constants_at : ℕ → List Name) (p : Program) where
+  -- ---- parameters
+
+  record PlainType (ss : Shapes) (t : Ty) (v : ValueType) : Type 0 where
+    pub belongs : TypeIs (W systems constants_at ss) t v
+    pub free : is_free t ≡ true
+
+  admitted_good : (ss : Shapes) (at : ℕ) (h : Holding) (t : Ty) (v : ValueType) → TypeIs (W systems constants_at ss) t v → Held h t → Good (PlainType ss t) (headings.admitted at h v)
+  admitted_good ss at holds.Plain t v b k = record { belongs = b; free = k.free refl }
+  admitted_good ss at holds.Queue t v b k = tt
+  admitted_good ss at holds.Queues t v b k = tt
+  admitted_good ss at (holds.Component system_kind.Class) t v b k = tt
+  admitted_good ss at (holds.Component system_kind.Monitor) t v b k = tt
+  admitted_good ss at (holds.Component system_kind.Process) t v b k = tt
+  admitted_good ss at (holds.Components j) t v b k = tt
+
+  parameter_good : (s : Scopes) (m : scopes.Scope) (g : Group) → IsKnown systems constants_at s m g.type_name.name (look g.type_name.name s) → Good (PlainType s.shapes (meant.type_named m g.type_name.name)) (headings.parameter_type s g)
+  unfolding headings.parameter_type
+  parameter_good s m g h =
+      good_then (KindOf systems constants_at s.shapes (meant.type_named m g.type_name.name)) (PlainType s.shapes (meant.type_named m g.type_name.name)) (typing.type_named s g.type_name.at g.type_name.name) (headings.admitted_in s g.type_name.at)
+      (type_named systems constants_at s m g.type_name.at g.type_name.name h)
+      (λ v k. admitted_good s.shapes g.type_name.at (typing.holding s v) (meant.type_named m g.type_name.name) v k.belongs (held_named (W systems constants_at s.shapes) s (meant.type_named m g.type_name.name) v refl k.belongs k.standing))
+
+  parameter_new : (is_var : Bool) (ss : Shapes) (u : Scopes) (n : Name) (t : Ty) (v : ValueType) → u.shapes ≡ ss → PlainType ss t v → New systems constants_at u n (if is_var then meaning.Reference v else meaning.Parameter v) (scopes.local_variable t)
+  parameter_new true ss u n t v e h = record { means = λ r. (subst (λ us. TypeIs (W systems constants_at us) t v) (sym e) h.belongs, free_plain t h.free); there = tt; fit = h.free; given = tt }
+  parameter_new false ss u n t v e h = record { means = λ r. (subst (λ us. TypeIs (W systems constants_at us) t v) (sym e) h.belongs, free_plain t h.free); there = tt; fit = h.free; given = tt }
+
+  group_agrees : (is_var : Bool) (but : Option Name) (s : Scopes) (m below : scopes.Scope) (ks : List ℕ) (g : Group) → (headings.group_step is_var s g).faults ≡ [] → IsBut systems constants_at but g.type_name.name → s.inner.pending ≡ [] → Agree systems constants_at p false but s m below ks →
+      StepResult systems constants_at p false but s (headings.group_step is_var s g).scopes (meant.with_names (meant.names_of g.names) (scopes.local_variable (meant.type_named m g.type_name.name)) m) below ks
+  unfolding headings.group_step
+  group_agrees is_var but s m below ks g e other empty h =
+      let a : Scopes = (reserve_names s g.names).scopes in
+      let j : Judged ValueType = headings.parameter_type a g in
+      let t : Ty = meant.type_named m g.type_name.name in
+      let r = names_result systems constants_at p false but s g.names m below ks (none_left (reserve_names s g.names).faults (faults (j >>= headings.to_parameter is_var)) e) empty h in
+      let v = good_sound (PlainType a.shapes t) j (parameter_good a m g (sees systems constants_at p false but a m below ks r.agree g.type_name.name other)) (none_first j (headings.to_parameter is_var) (none_right (reserve_names s g.names).faults (faults (j >>= headings.to_parameter is_var)) e)) in
+      subst (λ (i : Judged ValueType). StepResult systems constants_at p false but s (add_all a g.names (as_declared (i >>= headings.to_parameter is_var))) (meant.with_names (meant.names_of g.names) (scopes.local_variable t) m) below ks) (sym v.is)
+      (all_declared systems constants_at p false but s a g.names m below ks (if is_var then meaning.Reference v.value else meaning.Parameter v.value) (scopes.local_variable t) (pending_fresh a.inner g.names a.inner.pending r.reserved.pends r.reserved.all) r.reserved.others (λ i. absurd (cc))
+      (λ u i n. parameter_new is_var a.shapes u n t v.value i v.holds) r.outer (λ k d i. ap (shape_in k) r.shapes ∙ i) r.agree)
+
+  groups_agree : (own : Name) (s : Scopes) (h : meant.Heading) (below : scopes.Scope) (ks : List ℕ) (gs : List Group) → (headings.group_steps s gs).faults ≡ [] → AreApart own gs → s.inner.pending ≡ [] → Agree systems constants_at p false (Some own) s h.scope below ks →
+      StepResult systems constants_at p false (Some own) s (headings.group_steps s gs).scopes (meant.with_groups scopes.local_variable h gs).scope below ks
+  unfolding headings.group_steps
+  groups_agree own s h below ks [] e apart empty agree = step_same systems constants_at p false (Some own) s h.scope below ks empty agree
+  groups_agree own s h below ks (g ∷ gs) e apart empty agree =
+      let t : Scopes = (headings.group_step false s g).scopes in
+      let k : meant.Heading = meant.with_group scopes.local_variable false h g in
+      let r = group_agrees false (Some own) s h.scope below ks g (none_left (headings.group_step false s g).faults (headings.group_steps t gs).faults e) apart.0 empty agree in
+      step_then systems constants_at p false (Some own) s t (headings.group_steps t gs).scopes k.scope (meant.with_groups scopes.local_variable k gs).scope below ks ks r
+      (groups_agree own t k below ks gs (none_right (headings.group_step false s g).faults (headings.group_steps t gs).faults e) apart.1 r.settled r.agree)
+
+  parameters_agree : (own : Name) (s : Scopes) (h : meant.Heading) (below : scopes.Scope) (ks : List ℕ) (gs : List ParameterGroup) → (headings.parameter_steps s gs).faults ≡ [] → AreParametersApart own gs → s.inner.pending ≡ [] → Agree systems constants_at p false (Some own) s h.scope below ks →
+      StepResult systems constants_at p false (Some own) s (headings.parameter_steps s gs).scopes (meant.with_parameter_groups h gs).scope below ks
+  unfolding headings.parameter_steps
+  parameters_agree own s h below ks [] e apart empty agree = step_same systems constants_at p false (Some own) s h.scope below ks empty agree
+  parameters_agree own s h below ks (g ∷ gs) e apart empty agree =
+      let t : Scopes = (headings.parameter_step s g).scopes in
+      let k : meant.Heading = meant.with_group scopes.local_variable g.is_var h g.group in
+      let r = group_agrees g.is_var (Some own) s h.scope below ks g.group (none_left (headings.parameter_step s g).faults (headings.parameter_steps t gs).faults e) apart.0 empty agree in
+      step_then systems constants_at p false (Some own) s t (headings.parameter_steps t gs).scopes k.scope (meant.with_parameter_groups k gs).scope below ks ks r
+      (parameters_agree own t k below ks gs (none_right (headings.parameter_step s g).faults (headings.parameter_steps t gs).faults e) apart.1 r.settled r.agree)
+
+  -- ---- results
+
+  abbrev IsResult : Shapes → Option ValueType → Option Ty → Type 0
+  IsResult ss None o = Unit {0}
+  IsResult ss (Some v) (Some t) = PlainType ss t v
+  IsResult ss (Some v) None = ⊥
+
+  returned_good : (ss : Shapes) (at : ℕ) (h : Holding) (t : Ty) (v : ValueType) → TypeIs (W systems constants_at ss) t v → Held h t → Good (PlainType ss t) (headings.returned at h v)
+  returned_good ss at holds.Plain t v b k = record { belongs = b; free = k.free refl }
+  returned_good ss at holds.Queue t v b k = tt
+  returned_good ss at holds.Queues t v b k = tt
+  returned_good ss at (holds.Component j) t v b k = tt
+  returned_good ss at (holds.Components j) t v b k = tt
+
+  result_good : (s : Scopes) (m : scopes.Scope) (i : Identifier) → IsKnown systems constants_at s m i.name (look i.name s) → Good (λ o. IsResult s.shapes o (Some (meant.type_named m i.name))) (headings.result_type s i)
+  unfolding headings.result_type
+  result_good s m i h =
+      let t : Ty = meant.type_named m i.name in
+      good_then (PlainType s.shapes t) (λ o. IsResult s.shapes o (Some t)) (typing.type_named s i.at i.name >>= headings.returned_in s i.at) headings.some_type
+      (good_then (KindOf systems constants_at s.shapes t) (PlainType s.shapes t) (typing.type_named s i.at i.name) (headings.returned_in s i.at) (type_named systems constants_at s m i.at i.name h)
+      (λ v k. returned_good s.shapes i.at (typing.holding s v) t v k.belongs (held_named (W systems constants_at s.shapes) s t v refl k.belongs k.standing)))
+      (λ v k. k)
+
+  ordinal_result : (ss : Shapes) (t : Ty) (v : ValueType) → PlainType ss t v → is_ordinal v ≡ true → IsOrdinalResult v (Some t)
+  ordinal_result ss t (types.Ordinal r) h e =
+      let o : IsOrdinal (W systems constants_at ss) t r = ordinal_of (W systems constants_at ss) t r h.belongs in
+      subst (λ (u : Ty). IsOrdinalResult (types.Ordinal r) (Some u)) (sym o.is) (record { range = r; is = refl; belongs = o.range })
+  ordinal_result ss t types.Queue h e = absurd (let bad : false ≡ true = e in cc)
+  ordinal_result ss t (types.Set r) h e = absurd (let bad : false ≡ true = e in cc)
+  ordinal_result ss t (types.Array n) h e = absurd (let bad : false ≡ true = e in cc)
+  ordinal_result ss t (types.Record n) h e = absurd (let bad : false ≡ true = e in cc)
+  ordinal_result ss t (types.Component k n) h e = absurd (let bad : false ≡ true = e in cc)
+
+  result_is : (ss : Shapes) (at : ℕ) (o : Option ValueType) (q : Option Ty) → IsResult ss o q → headings.result_faults at o ≡ [] → ((r : meant.RoutineMeaning) → r.result ≡ q → ResultIs o (Some r))
+  result_is ss at None q h e r i = tt
+  result_is ss at (Some v) (Some t) h e r i = subst (IsOrdinalResult v) (sym i) (ordinal_result ss t v h (go (is_ordinal v) e))
+    where
+      go : (b : Bool) → (if b then [] else fault at C5) ≡ [] → b ≡ true
+      go true k = refl
+      go false k = absurd (cc)
+  result_is ss at (Some v) None h e r i = absurd h
+
+  -- ---- headings
+
+  record WrittenResult (own : Name) (s : Scopes) (m below : scopes.Scope) (ks : List ℕ) (h : Headed) (k : RoutineKind) : Type 0 where
+    pub step : StepResult systems constants_at p false (Some own) s h.scopes (meant.heading_of m k).scope below ks
+    pub value : Option ValueType
+    pub is : h.result ≡ Ok value
+    pub result : IsResult h.scopes.shapes value (meant.result_of (meant.heading_of m k).scope k)
+
+  written_agrees : (own : Name) (s : Scopes) (m below : scopes.Scope) (ks : List ℕ) (k : RoutineKind) → faults (written s k).result ≡ [] → IsHeadingApart own k → s.inner.pending ≡ [] → Agree systems constants_at p false (Some own) s m below ks → WrittenResult own s m below ks (written s k) k
+  unfolding headings.written
+  written_agrees own s m below ks (procedure gs) e apart empty agree =
+      let none : (headings.parameter_steps s gs).faults ≡ [] = none_before {A = Option ValueType} (headings.parameter_steps s gs).faults (Ok None) e in
+      record {
+        step = parameters_agree own s (record { parameters = []; scope = m }) below ks gs none apart empty agree;
+        value = None;
+        is = none_after (headings.parameter_steps s gs).faults (Ok None) e;
+        result = tt;
+      }
+  written_agrees own s m below ks (function gs i) e apart empty agree =
+      let d : Step = headings.group_steps s gs in
+      let none : d.faults ≡ [] = none_before d.faults (headings.result_type d.scopes i) e in
+      let step = groups_agree own s (record { parameters = []; scope = m }) below ks gs none apart.0 empty agree in
+      let k : scopes.Scope = (meant.with_groups scopes.local_variable (record { parameters = []; scope = m }) gs).scope in
+      let same : after_faults d.faults (headings.result_type d.scopes i) ≡ headings.result_type d.scopes i = none_after d.faults (headings.result_type d.scopes i) e in
+      let v = good_sound (λ o. IsResult d.scopes.shapes o (Some (meant.type_named k i.name))) (headings.result_type d.scopes i) (result_good d.scopes k i (sees systems constants_at p false (Some own) d.scopes k below ks step.agree i.name apart.1)) (ap faults (sym same) ∙ e) in
+      record { step = step; value = v.value; is = same ∙ v.is; result = v.holds }
+
+  pub record HeadingResult (s : Scopes) (m k below : scopes.Scope) (ks : List ℕ) (r : Routine) (h : Headed) : Type 0 where
+    pub step : StepResult systems constants_at p false (Some r.name.name) s h.scopes (meant.heading_of k r.kind).scope below ks
+    pub value : Option ValueType
+    pub is : h.result ≡ Ok value
+    pub result : ResultIs value (Some (routine_in k r))
+
+  ruled_none : (fs : List CheckFault) (v : Option ValueType) → faults (unless fs v) ≡ [] → fs ≡ []
+  ruled_none [] v h = refl
+  ruled_none (f ∷ fs) v h = h
+
+  -- the rules of the heading itself
+  ruled_result : (owner : Option SystemKind) (s e : Scopes) (m k below : scopes.Scope) (ks : List ℕ) (r : Routine) (fs : List CheckFault) (h : Headed) → faults (headings.ruled_behind owner r fs h).result ≡ [] → WrittenResult r.name.name e k below ks h r.kind → HeadingResult e m k below ks r (headings.ruled_behind owner r fs h)
+  ruled_result owner s e m k below ks r fs h none w =
+      let first : faults (after_faults fs h.result) ≡ [] = none_first (after_faults fs h.result) (headings.ruled owner r) none in
+      let same : after_faults fs h.result ≡ Ok w.value = none_after fs h.result first ∙ w.is in
+      let all : headings.heading_faults owner r w.value ≡ [] = ruled_none (headings.heading_faults owner r w.value) w.value (subst (λ (j : Judged (Option ValueType)). faults (j >>= headings.ruled owner r) ≡ []) same none) in
+      record {
+        step = w.step;
+        value = w.value;
+        is = ap (λ (j : Judged (Option ValueType)). j >>= headings.ruled owner r) same ∙ ap (λ gs. unless gs w.value) all;
+        result = result_is h.scopes.shapes r.at w.value (meant.result_of (meant.heading_of k r.kind).scope r.kind) w.result (none_left (headings.result_faults r.at w.value) (headings.entry_faults (r.name.at - 1) owner r.is_entry) all) (routine_in k r) refl;
+      }
+
+  -- a routine's own scope, before its parameters
+  entered_agrees : (s : Scopes) (m below : scopes.Scope) (ks : List ℕ) (r : Routine) → Agree systems constants_at p false None s m below ks → Agree systems constants_at p false (Some r.name.name) (enter false s) (with_routine m r) (with_routine m r) ks
+  unfolding enter
+  entered_agrees s m below ks r h =
+      let k : scopes.Scope = with_routine m r in
+      record {
+        unsealed = refl;
+        names = λ x. record { found = refl; rest = refl };
+        seen = λ x. record { found = refl; rest = refl };
+        outer = λ x g. subst (IsKnown systems constants_at (enter false s) k x) (sym (look_entered false x s))
+            (is_known_moved systems constants_at s (enter false s) m k x (or_else (inner_look false s x) (look_outer x s.outer)) (more_same s.shapes) (find_other systems constants_at x r.name.name (routine_meaning r) m g) (since_other systems constants_at x r.name.name (routine_meaning r) m g)
+            (subst (IsKnown systems constants_at s m x) (look_is x s h.unsealed) (sees systems constants_at p false None s m below ks h x tt)));
+        base = λ x. fit_routine x (bytes_eq x r.name.name) (fits systems constants_at p false None s m below ks h x);
+        free = h.free;
+        different = h.different;
+        entries = h.entries;
+      }
+    where
+      fit_routine : (x : Name) (b : Bool) → IsFit (find x m) → IsFit (if b then Some (routine_meaning r) else find x m)
+      fit_routine x true f = tt
+      fit_routine x false f = f
+
+  -- the name breaks no rule
+  pub heading_none : (owner : Option SystemKind) (r : Routine) (d : Step) → faults (heading owner r d).result ≡ [] → d.faults ≡ []
+  unfolding heading
+  heading_none owner r d h = none_before d.faults (written (enter false d.scopes) r.kind).result (none_first (after_faults d.faults (written (enter false d.scopes) r.kind).result) (headings.ruled owner r) h)
+
+  pub heading_agrees : (owner : Option SystemKind) (s : Scopes) (m below : scopes.Scope) (ks : List ℕ) (r : Routine) → faults (heading owner r (reserve_name s r.name)).result ≡ [] → IsRoutineApart r → Agree systems constants_at p false None (reserve_name s r.name).scopes m below ks →
+      HeadingResult (enter false (reserve_name s r.name).scopes) m (with_routine m r) (with_routine m r) ks r (heading owner r (reserve_name s r.name))
+  unfolding heading enter
+  heading_agrees owner s m below ks r none apart h =
+      let a : Scopes = (reserve_name s r.name).scopes in
+      let e : Scopes = enter false a in
+      let d : Step = reserve_name s r.name in
+      let w : Headed = written e r.kind in
+      let first : faults (after_faults d.faults w.result) ≡ [] = none_first (after_faults d.faults w.result) (headings.ruled owner r) none in
+      ruled_result owner s e m (with_routine m r) (with_routine m r) ks r d.faults w none
+      (written_agrees r.name.name e (with_routine m r) (with_routine m r) ks r.kind (ap faults (sym (none_after d.faults w.result first)) ∙ first) apart refl (entered_agrees a m below ks r h))
+
+  -- ---- a routine that is visible from its heading on
+
+  abbrev pub announcing : Routine → Option Meaning
+  announcing r = Some (meaning.Routine r.name.at)
+
+  pub record Announced (a s : Scopes) (r : Routine) (m k rs : scopes.Scope) (ks : List ℕ) : Type 0 where
+    pub agree : Agree systems constants_at p false None a rs k ks
+    pub known : Known systems constants_at a k r.name.name (meaning.Routine r.name.at)
+    pub outer : a.outer ≡ s.outer ++ with_name (sealed false s.inner) r.name.name (announcing r) ∷ []
+    pub more : More s.shapes a.shapes
+    pub settled : a.inner.pending ≡ []
+
+  since_first : (n : Name) (d : scopes.Meaning) (m : scopes.Scope) → since n ((n, d) ∷ m) ≡ (n, d) ∷ m
+  since_first n d m = ap (λ (b : Bool). if b then (n, d) ∷ m else since n m) (itself n)
+
+  routine_known : (a : Scopes) (m : scopes.Scope) (r : Routine) (v : Option ValueType) (h : checker.Heading) (body : ℕ) → shape_in r.name.at a.shapes ≡ Some (heading_shape h body) → h.result ≡ v → ResultIs v (Some (routine_in (with_routine m r) r)) → Known systems constants_at a (with_routine m r) r.name.name (meaning.Routine r.name.at)
+  routine_known a m r v h body there is result =
+      let k : scopes.Scope = with_routine m r in
+      record {
+        means = subst (λ o. RoutineIs (checker.heading_at r.name.at a).result r.name.name k o) (find_first systems constants_at r.name.name (routine_meaning r) m)
+            (subst (λ (t : scopes.Scope). ResultIs (checker.heading_at r.name.at a).result (Some (routine_in t r))) (sym (since_first r.name.name (routine_meaning r) m))
+            (subst (λ o. ResultIs o (Some (routine_in k r))) (sym (ap (λ (o : Option Shape). (checker.as_heading o).result) there ∙ is)) result));
+        there = record { heading = h; body = body; there = there };
+        fit = subst IsFit (find_first systems constants_at r.name.name (routine_meaning r) m) tt;
+        given = subst (IsGiven constants_at) (find_first systems constants_at r.name.name (routine_meaning r) m) tt;
+      }
+
+  -- the names of a scope with a routine more
+  routine_last : (x : Name) (c : Scope) (n : Name) (o : Option Meaning) → is_some (checker.find n c.names) ≡ false → look_in x (with_name (sealed false c) n o) ≡ (if bytes_eq x n then Some o else checker.find x c.names)
+  routine_last x c n o h = ap (look_in x) (new_names (sealed false c) n o h) ∙ find_last x n c.names o ∙ last_or systems constants_at p x n c.names o h
+
+  pub announced_agrees : (s hs : Scopes) (m below k rs : scopes.Scope) (js ks : List ℕ) (r : Routine) (v : Option ValueType) → k ≡ with_routine m r → is_some (checker.find r.name.name s.inner.names) ≡ false → Agree systems constants_at p false None s m below js → Agree systems constants_at p false (Some r.name.name) hs rs k (r.name.at ∷ ks) → hs.outer ≡ s.outer ++ sealed false s.inner ∷ [] → hs.inner.pending ≡ [] → More s.shapes hs.shapes →
+      ResultIs v (Some (routine_in (with_routine m r) r)) → Announced (announced r v hs) s r m k rs ks
+  unfolding announced add_around keep
+  announced_agrees s hs m below k rs js ks r v same fresh before h outer settled more result =
+      let d : Shape = heading_shape (headings.as_heading r v hs) r.body.at in
+      let t : Scopes = keep hs r.name.at d in
+      let a : Scopes = announced r v hs in
+      let kept : Agree systems constants_at p false (Some r.name.name) t rs k ks = agree_kept systems constants_at p false (Some r.name.name) hs rs k r.name.at ks d (λ y. refl) h in
+      let there : shape_in r.name.at t.shapes ≡ Some d = with_there hs.shapes r.name.at d h.free.0 in
+      let further : More s.shapes a.shapes = more_trans s.shapes hs.shapes a.shapes more (with_more hs.shapes r.name.at d h.free.0) in
+      let c : Scope = with_name (sealed false s.inner) r.name.name (announcing r) in
+      let known : Known systems constants_at a k r.name.name (meaning.Routine r.name.at) = subst (λ (i : scopes.Scope). Known systems constants_at a i r.name.name (meaning.Routine r.name.at)) (sym same) (routine_known a m r v (headings.as_heading r v hs) r.body.at there refl result) in
+      let last : last_of hs.outer ≡ (let b : Around = record { outer = s.outer; inner = sealed false s.inner } in b) = ap last_of outer ∙ last_is s.outer (sealed false s.inner) in
+      let is : a.outer ≡ s.outer ++ c ∷ [] = ap (λ (b : Around). b.outer ++ with_name b.inner r.name.name (announcing r) ∷ []) last in
+      record {
+        agree = record {
+          unsealed = kept.unsealed;
+          names = stacked_more systems constants_at (inner_look false t) (inner_look false a) t a rs k (more_same t.shapes) (λ x. refl) kept.names;
+          seen = stacked_more systems constants_at (inner_look false t) (inner_look false a) t a rs k (more_same t.shapes) (λ x. refl) kept.seen;
+          outer = λ x g. subst (λ (cs : List Scope). IsKnown systems constants_at a k x (look_outer x cs)) (sym is)
+              (subst (IsKnown systems constants_at a k x) (sym (look_last x s.outer c ∙ ap (λ o. or_else o (look_outer x s.outer)) (routine_last x s.inner r.name.name (announcing r) fresh))) (around a further known x (bytes_eq x r.name.name) refl));
+          base = kept.base;
+          free = kept.free;
+          different = kept.different;
+          entries = kept.entries;
+        };
+        known = known;
+        outer = is;
+        more = further;
+        settled = settled;
+      }
+    where
+      around : (a : Scopes) → More s.shapes a.shapes → Known systems constants_at a k r.name.name (meaning.Routine r.name.at) → (x : Name) (b : Bool) → bytes_eq x r.name.name ≡ b → IsKnown systems constants_at a k x (or_else (if b then Some (announcing r) else checker.find x s.inner.names) (look_outer x s.outer))
+      around a further known x true e = subst (λ (y : Name). Known systems constants_at a k y (meaning.Routine r.name.at)) (sym (is_itself x r.name.name e)) known
+      around a further known x false e =
+          subst (λ (i : scopes.Scope). IsKnown systems constants_at a i x (or_else (checker.find x s.inner.names) (look_outer x s.outer))) (sym same)
+          (is_known_moved systems constants_at s a m (with_routine m r) x (or_else (checker.find x s.inner.names) (look_outer x s.outer)) further (find_other systems constants_at x r.name.name (routine_meaning r) m e) (since_other systems constants_at x r.name.name (routine_meaning r) m e)
+          (subst (IsKnown systems constants_at s m x) (look_is x s before.unsealed) (sees systems constants_at p false None s m below js before x tt)))

@@ -1,0 +1,254 @@
+-- System types that break no rule: where their statements stand the scopes agree, and they stand for components whose routines are those of their scope.
+use Rattle.std.proofs.Common.{◌≡◌, ℕ, Bool, true, false, if◌then◌else◌, List, [], ◌∷◌, ◌++◌, Option, Some, None, Ok, refl, sym, ap, subst, ◌∙◌}
+use Rattle.std.specs.Prelude.{nat_eq}
+use Rattle.std.proofs.lemmas.Bool.Decides.{Decides-eqb}
+use Rattle.cp_tree.specs.declared.declaration.SystemKind.{SystemKind}
+use Rattle.cp_tree.specs.declared.declaration.SystemKind.TheVariants as system_kind
+use Rattle.cp_tree.specs.Syntax.{Program, Group, System}
+use Rattle.cp_scope.specs.declared.types.ValueType.{ValueType}
+use Rattle.cp_scope.specs.declared.types.ValueType.TheVariants as types
+use Rattle.cp_scope.specs.declared.types.Meaning.TheVariants as meaning
+use Rattle.cp_scope.specs.declared.count.Use.{Use}
+use Rattle.cp_scope.specs.Counts.{no_use}
+use Rattle.cp_scope.specs.Judged.{Judged, ◌>>=◌, faults}
+use Rattle.cp_scope.specs.Scopes.{Scope, Scopes, Shapes, Shape, system_shape, shape_in, as_member, member_at, heading_at, look_in, or_else, look_outer, look, with_shape, sealed, enter, Around, last_of, leave, keep, census}
+use Rattle.cp_scope.specs.Scopes as checker
+use Rattle.cp_check.specs.declared.types.Spot.TheVariants as spot
+use Rattle.cp_check.specs.declared.types.Holding.{Holding}
+use Rattle.cp_check.specs.declared.types.Holding.TheVariants as holds
+use Rattle.cp_check.specs.Types as typing
+use Rattle.cp_check.specs.Types.{Step, Typed}
+use Rattle.cp_check.specs.Declarations.{as_declared, reserve_names, add_all, part_steps}
+use Rattle.cp_check.specs.Headings.{after_faults}
+use Rattle.cp_check.specs.Routines.{Opened, need_of, routine_steps}
+use Rattle.cp_check.specs.Statements.{statements}
+use Rattle.cp_check.specs.Systems as systems_of
+use Rattle.cp_check.specs.Systems.{inside, initial_context, system_heading}
+use Rattle.cp_lawful.proofs.Kept.{last_is}
+use Rattle.cp_lawful.proofs.Loud.{statements_loud}
+use Rattle.cp_meaning.specs.Names.{Name}
+use Rattle.cp_meaning.specs.Types as named
+use Rattle.cp_meaning.specs.Types.{Ty}
+use Rattle.cp_meaning.specs.Scopes as scopes
+use Rattle.cp_meaning.specs.Scopes.{find, since, seen_inside}
+use Rattle.cp_meaning.specs.Declarations as meant
+use Rattle.cp_meaning.specs.Declarations.{Block}
+use Rattle.cp_meaning.specs.Systems.{with_routines, system_in, system_of}
+use Rattle.cp_meaning.specs.Expressions.{routine_of_system, routine_of_type}
+use Rattle.cp_resolved.specs.Enumerations.{each_in, in_part, in_routine, in_system}
+use Rattle.cp_resolved.specs.Judging.{Place, initial_place, routine_places, system_places, IsRoutineApart, AreAgreed}
+use Rattle.cp_resolved.specs.Openings.{Opening, parts_scope, routine_openings, initial_opening, system_openings}
+use Rattle.cp_resolved.specs.Small.{Each, IsSmallSystem}
+use Rattle.cp_resolved.specs.Tokens.{all_tokens, routine_tokens, system_tokens}
+use Rattle.cp_resolved.specs.Typed.{TypeIs, ResultIs, RoutineIs}
+use Rattle.cp_resolved.proofs.Agreeing.{Good, good_then, good_sound, none_left, none_right, none_first, look_entered, inner_look, More, more_same, more_trans, with_more, with_there, with_other, free_others}
+use Rattle.cp_resolved.proofs.AgreeingNames.{W, HeadingThere, heading_kept, heading_more, New, Known, IsKnown, is_known_moved, IsStacked, AreEntries, Agree, sees, sees_of, fit_of, agree_returned}
+use Rattle.cp_resolved.proofs.AgreeingTypes.{IsFew, KindOf, type_named}
+use Rattle.cp_resolved.proofs.AgreeingWritten.{each_left, each_right}
+use Rattle.cp_resolved.proofs.AgreeingParts.{standing_may, StepResult, step_then, step_same, names_result, all_declared, permanent_kind, parts_agree}
+use Rattle.cp_resolved.proofs.AgreeingRoutines.{none_before, none_after}
+use Rattle.cp_resolved.proofs.AgreeingBodies.{Uses, loud_uses, all_heard, place_agreed, RoutinesResult, routines_agree}
+use Rattle.cp_resolved.proofs.Reserving.{pending_fresh}
+
+pub agreed_append : (tokens : ℕ → ℕ) (p : Program) (xs ys : List Place) (os qs : List Opening) → AreAgreed tokens p xs os → AreAgreed tokens p ys qs → AreAgreed tokens p (xs ++ ys) (os ++ qs)
+agreed_append tokens p [] ys [] qs h g = g
+agreed_append tokens p (x ∷ xs) ys (o ∷ os) qs h g = (h.0, agreed_append tokens p xs ys os qs h.1 g)
+agreed_append tokens p [] ys (o ∷ os) qs h g = absurd h
+agreed_append tokens p (x ∷ xs) ys [] qs h g = absurd h
+
+module _ (systems : ℕ → ℕ) (constants_at : ℕ → List Name) (p : Program) where
+  -- ---- parameters
+
+  component_good : (at : ℕ) (o k : SystemKind) (P : ValueType → Type 0) (v : ValueType) → P v → Good P (systems_of.component_admitted at o k v)
+  component_good at system_kind.Class system_kind.Class P v h = h
+  component_good at system_kind.Class system_kind.Monitor P v h = h
+  component_good at system_kind.Class system_kind.Process P v h = tt
+  component_good at system_kind.Monitor system_kind.Class P v h = tt
+  component_good at system_kind.Monitor system_kind.Monitor P v h = h
+  component_good at system_kind.Monitor system_kind.Process P v h = tt
+  component_good at system_kind.Process system_kind.Class P v h = tt
+  component_good at system_kind.Process system_kind.Monitor P v h = h
+  component_good at system_kind.Process system_kind.Process P v h = tt
+
+  admitted_good : (at : ℕ) (o : SystemKind) (h : Holding) (P : ValueType → Type 0) (v : ValueType) → P v → Good P (systems_of.admitted at o h v)
+  admitted_good at o holds.Plain P v k = k
+  admitted_good at o holds.Queue P v k = tt
+  admitted_good at o holds.Queues P v k = tt
+  admitted_good at o (holds.Component j) P v k = component_good at o j P v k
+  admitted_good at o (holds.Components j) P v k = tt
+
+  parameter_good : (o : SystemKind) (s : Scopes) (m : scopes.Scope) (g : Group) → IsKnown systems constants_at s m g.type_name.name (look g.type_name.name s) → Good (KindOf systems constants_at s.shapes (meant.type_named m g.type_name.name)) (systems_of.parameter_type o s g)
+  unfolding systems_of.parameter_type
+  parameter_good o s m g h =
+      let K : ValueType → Type 0 = KindOf systems constants_at s.shapes (meant.type_named m g.type_name.name) in
+      good_then K K (typing.type_named s g.type_name.at g.type_name.name) (systems_of.admitted_in s g.type_name.at o) (type_named systems constants_at s m g.type_name.at g.type_name.name h) (λ v k. admitted_good g.type_name.at o (typing.holding s v) K v k)
+
+  parameter_new : (ss : Shapes) (u : Scopes) (n : Name) (t : Ty) (v : ValueType) → u.shapes ≡ ss → KindOf systems constants_at ss t v → New systems constants_at u n (meaning.Parameter v) (scopes.permanent_variable t)
+  parameter_new ss u n t v e h = record { means = λ r. (subst (λ us. TypeIs (W systems constants_at us) t v) (sym e) h.belongs, standing_may t h.standing); there = tt; fit = h.standing; given = tt }
+
+  group_agrees : (o : SystemKind) (s : Scopes) (m below : scopes.Scope) (ks : List ℕ) (g : Group) → (systems_of.group_step o s g).faults ≡ [] → s.inner.pending ≡ [] → Agree systems constants_at p false None s m below ks →
+      StepResult systems constants_at p false None s (systems_of.group_step o s g).scopes (meant.with_names (meant.names_of g.names) (scopes.permanent_variable (meant.type_named m g.type_name.name)) m) below ks
+  unfolding systems_of.group_step
+  group_agrees o s m below ks g e empty h =
+      let a : Scopes = (reserve_names s g.names).scopes in
+      let j : Judged ValueType = systems_of.parameter_type o a g in
+      let t : Ty = meant.type_named m g.type_name.name in
+      let r = names_result systems constants_at p false None s g.names m below ks (none_left (reserve_names s g.names).faults (faults (j >>= systems_of.to_parameter)) e) empty h in
+      let v = good_sound (KindOf systems constants_at a.shapes t) j (parameter_good o a m g (sees systems constants_at p false None a m below ks r.agree g.type_name.name tt)) (none_first j systems_of.to_parameter (none_right (reserve_names s g.names).faults (faults (j >>= systems_of.to_parameter)) e)) in
+      subst (λ (i : Judged ValueType). StepResult systems constants_at p false None s (add_all a g.names (as_declared (i >>= systems_of.to_parameter))) (meant.with_names (meant.names_of g.names) (scopes.permanent_variable t) m) below ks) (sym v.is)
+      (all_declared systems constants_at p false None s a g.names m below ks (meaning.Parameter v.value) (scopes.permanent_variable t) (pending_fresh a.inner g.names a.inner.pending r.reserved.pends r.reserved.all) r.reserved.others (λ i. absurd (cc))
+      (λ u i n. parameter_new a.shapes u n t v.value i v.holds) r.outer (λ k d i. ap (shape_in k) r.shapes ∙ i) r.agree)
+
+  groups_agree : (o : SystemKind) (s : Scopes) (h : meant.Heading) (below : scopes.Scope) (ks : List ℕ) (gs : List Group) → (systems_of.group_steps o s gs).faults ≡ [] → s.inner.pending ≡ [] → Agree systems constants_at p false None s h.scope below ks →
+      StepResult systems constants_at p false None s (systems_of.group_steps o s gs).scopes (meant.with_groups scopes.permanent_variable h gs).scope below ks
+  unfolding systems_of.group_steps
+  groups_agree o s h below ks [] e empty agree = step_same systems constants_at p false None s h.scope below ks empty agree
+  groups_agree o s h below ks (g ∷ gs) e empty agree =
+      let t : Scopes = (systems_of.group_step o s g).scopes in
+      let k : meant.Heading = meant.with_group scopes.permanent_variable false h g in
+      let r = group_agrees o s h.scope below ks g (none_left (systems_of.group_step o s g).faults (systems_of.group_steps o t gs).faults e) empty agree in
+      step_then systems constants_at p false None s t (systems_of.group_steps o t gs).scopes k.scope (meant.with_groups scopes.permanent_variable k gs).scope below ks ks r
+      (groups_agree o t k below ks gs (none_right (systems_of.group_step o s g).faults (systems_of.group_steps o t gs).faults e) r.settled r.agree)
+
+  -- ---- into a system type
+
+  pub entered_agrees : (s : Scopes) (m below : scopes.Scope) (ks : List ℕ) → Agree systems constants_at p true None s m below ks → Agree systems constants_at p false None (enter true s) (seen_inside m) (seen_inside m) ks
+  unfolding enter
+  entered_agrees s m below ks h =
+      record {
+        unsealed = refl;
+        names = λ x. record { found = refl; rest = refl };
+        seen = λ x. record { found = refl; rest = refl };
+        outer = λ x g. subst (IsKnown systems constants_at (enter true s) (seen_inside m) x) (sym (look_entered true x s))
+            (is_known_moved systems constants_at s (enter true s) (seen_inside m) (seen_inside m) x (or_else (inner_look true s x) (look_outer x s.outer)) (more_same s.shapes) refl refl
+            (sees_of systems constants_at p s (seen_inside m) below x (inner_look true s x) (look_outer x s.outer) (h.seen x) (h.outer x tt)));
+        base = λ x. fit_of systems constants_at p s (seen_inside m) below x (inner_look true s x) (h.seen x) (h.base x);
+        free = h.free;
+        different = h.different;
+        entries = h.entries;
+      }
+
+  -- ---- the declarations inside
+
+  pub record InsideResult (s : Scopes) (m : scopes.Scope) (ks : List ℕ) (n : ℕ) (y : System) : Type 0 where
+    pub places : AreAgreed systems p (system_places s y) (system_openings n m y)
+    pub step : StepResult systems constants_at p false None s (inside s y).scopes (system_in m y).scope m (y.at ∷ ks)
+    pub uses : Uses (systems_of.opened s y).uses
+
+  inside_agrees : (s : Scopes) (m : scopes.Scope) (ks : List ℕ) (n : ℕ) (y : System) → faults (systems_of.opened s y).uses ≡ [] → Each IsRoutineApart y.routines → IsSmallSystem y → Each (IsFew constants_at) (in_system y) → s.inner.pending ≡ [] → Agree systems constants_at p false None s m m (system_tokens y ks) → InsideResult s m ks n y
+  unfolding systems_of.opened inside
+  inside_agrees s m ks n y e apart small few empty h =
+      let d : Step = inside s y in
+      let j : Judged Use = statements d.scopes (initial_context y.kind) (Ok no_use) y.body.statements in
+      let none : d.faults ≡ [] = none_before d.faults j e in
+      let a : Step = systems_of.group_steps y.kind s y.parameters in
+      let b : Step = part_steps (spot.Permanent (Some y.kind)) a.scopes y.parts in
+      let c : Step = routine_steps (Some y.kind) b.scopes y.routines in
+      let rs : List ℕ = all_tokens routine_tokens y.routines (y.at ∷ ks) in
+      let first = groups_agree y.kind s (record { parameters = []; scope = m }) m (system_tokens y ks) y.parameters (none_left a.faults (b.faults ++ c.faults) none) empty h in
+      let hs : scopes.Scope = (meant.with_groups scopes.permanent_variable (record { parameters = []; scope = m }) y.parameters).scope in
+      let o : Block = record { variables = []; scope = hs } in
+      let parts = parts_agree systems constants_at p false (spot.Permanent (Some y.kind)) scopes.permanent_variable (permanent_kind systems constants_at p false (Some y.kind)) a.scopes o m rs y.parts (none_left b.faults c.faults (none_right a.faults (b.faults ++ c.faults) none)) small.0 (each_left (IsFew constants_at) (each_in in_part y.parts) (each_in in_routine y.routines) few) first.settled first.agree in
+      let ps : scopes.Scope = parts_scope m y in
+      let all : RoutinesResult systems constants_at p (Some y.kind) b.scopes ps m (y.at ∷ ks) n y.routines =
+      routines_agree systems constants_at p (Some y.kind) b.scopes ps m (y.at ∷ ks) n y.routines (none_right b.faults c.faults (none_right a.faults (b.faults ++ c.faults) none)) apart small.1 (each_right (IsFew constants_at) (each_in in_part y.parts) (each_in in_routine y.routines) few) parts.settled parts.agree in
+      let step = step_then systems constants_at p false None s b.scopes c.scopes ps (with_routines ps y.routines) m rs (y.at ∷ ks) (step_then systems constants_at p false None s a.scopes b.scopes hs ps m (system_tokens y ks) rs first parts) all.step in
+      let same : after_faults d.faults j ≡ j = none_after d.faults j e in
+      let sound : faults j ≡ [] = ap faults (sym same) ∙ e in
+      let uses : Uses j = loud_uses j (statements_loud d.scopes (initial_context y.kind) (all_heard systems constants_at p false d.scopes (system_in m y).scope m (y.at ∷ ks) step.agree) y.body.statements (Ok no_use) tt) sound in
+      record {
+        places = agreed_append systems p (routine_places (Some y.kind) b.scopes y.routines) (initial_place s y ∷ []) (routine_openings n ps y.routines) (initial_opening n (system_in m y) ∷ []) all.places
+            (place_agreed systems constants_at p d.scopes (initial_context y.kind) (system_in m y).scope m (y.at ∷ ks) (initial_opening n (system_in m y)) refl sound step.agree, tt);
+        step = step;
+        uses = record { value = uses.value; is = subst (λ (i : Judged Use). i ≡ Ok uses.value) (sym same) uses.is };
+      }
+
+  -- ---- out of a system type
+
+  -- its number and its token
+  pub record IsNumbered (c : ℕ) (m : scopes.Scope) (y : System) : Type 0 where
+    pub meaning : system_of p c ≡ system_in m y
+    pub token : systems c ≡ y.at
+    pub only : (k : ℕ) → systems k ≡ y.at → k ≡ c
+
+  routine_entry : (s : Scopes) (m : scopes.Scope) (x : Name) (n : ℕ) (o : Option scopes.Meaning) → RoutineIs (heading_at n s).result x m o → ResultIs (heading_at n s).result (routine_of_system x o m)
+  routine_entry s m x n (Some (scopes.routine_meaning r)) h = h
+  routine_entry s m x n (Some (scopes.constant_meaning b z)) h = absurd h
+  routine_entry s m x n (Some (scopes.type_meaning t)) h = absurd h
+  routine_entry s m x n (Some (scopes.local_variable t)) h = absurd h
+  routine_entry s m x n (Some (scopes.permanent_variable t)) h = absurd h
+  routine_entry s m x n (Some (scopes.standard_meaning q)) h = absurd h
+  routine_entry s m x n None h = absurd h
+
+  -- the routines of a component of the type that was closed
+  own_entry : (s : Scopes) (m below : scopes.Scope) (ks : List ℕ) (c : ℕ) (around : scopes.Scope) (y : System) (n : ℕ) (x : Name) → IsNumbered c around y → m ≡ (system_in around y).scope → Agree systems constants_at p false None s m below ks → look_in x s.inner ≡ Some (Some (meaning.Routine n)) →
+      ResultIs (heading_at n s).result (routine_of_type p (named.component_of c) x) × HeadingThere n s.shapes
+  own_entry s m below ks c around y n x i same h e =
+      let found : inner_look false s x ≡ Some (Some (meaning.Routine n)) = sym (ap (λ (b : Bool). if b then checker.through_seal (checker.find x s.inner.names) else checker.find x s.inner.names) h.unsealed) ∙ e in
+      let known : Known systems constants_at s m x (meaning.Routine n) = subst (IsStacked systems constants_at s m below x) found (h.names x) in
+      let scope : m ≡ (system_of p c).scope = same ∙ sym (ap (λ (z : _). z.scope) i.meaning) in
+      (subst (λ (z : scopes.Scope). ResultIs (heading_at n s).result (routine_of_system x (find x z) z)) scope (routine_entry s m x n (find x m) known.means), known.there)
+
+  closed_entries : (s t : Scopes) (m below : scopes.Scope) (ks : List ℕ) (c : ℕ) (around : scopes.Scope) (y : System) (d : Shape) → IsNumbered c around y → m ≡ (system_in around y).scope → Agree systems constants_at p false None s m below (y.at ∷ ks) → ((x : Name) → as_member x (Some d) ≡ look_in x s.inner) → t.shapes ≡ with_shape s.shapes y.at d → AreEntries systems constants_at p t
+  closed_entries s t m below ks c around y d i same h members is k n x e = go (nat_eq (systems k) y.at) refl
+    where
+      more : More s.shapes t.shapes
+      more = λ j f g. ap (shape_in j) is ∙ with_more s.shapes y.at d h.free.0 j f g
+
+      moved : (q : ℕ) → ResultIs (heading_at n s).result (routine_of_type p (named.component_of q) x) × HeadingThere n s.shapes → ResultIs (heading_at n t).result (routine_of_type p (named.component_of q) x) × HeadingThere n t.shapes
+      moved q r = (subst (λ (f : checker.Heading). ResultIs f.result (routine_of_type p (named.component_of q) x)) (sym (heading_kept n s.shapes t.shapes more r.1)) r.0, heading_more n s.shapes t.shapes more r.1)
+
+      there : as_member x (shape_in (systems k) (with_shape s.shapes y.at d)) ≡ Some (Some (meaning.Routine n))
+      there = sym (ap (λ ss. as_member x (shape_in (systems k) ss)) is) ∙ e
+
+      go : (b : Bool) → nat_eq (systems k) y.at ≡ b → ResultIs (heading_at n t).result (routine_of_type p (named.component_of k) x) × HeadingThere n t.shapes
+      go true at =
+          let token : systems k ≡ y.at = (Decides-eqb (systems k) y.at).0 at in
+          let own : look_in x s.inner ≡ Some (Some (meaning.Routine n)) = sym (members x) ∙ ap (as_member x) (sym (with_there s.shapes y.at d h.free.0)) ∙ ap (λ j. as_member x (shape_in j (with_shape s.shapes y.at d))) (sym token) ∙ there in
+          subst (λ j. ResultIs (heading_at n t).result (routine_of_type p (named.component_of j) x) × HeadingThere n t.shapes) (sym (i.only k token)) (moved c (own_entry s m below (y.at ∷ ks) c around y n x i same h own))
+      go false at = moved k (h.entries k n x (other_entry at))
+        where
+          other_entry : nat_eq (systems k) y.at ≡ false → member_at (systems k) x s ≡ Some (Some (meaning.Routine n))
+          other_entry at = ap (as_member x) (sym (with_other s.shapes y.at (systems k) d h.free.0 (λ j. (let bad : true ≡ false = sym ((Decides-eqb (systems k) y.at).1 j) ∙ at in absurd cc)))) ∙ there
+
+  pub record ClosedResult (s t : Scopes) (m below : scopes.Scope) (ks : List ℕ) : Type 0 where
+    pub agree : Agree systems constants_at p true None t m below ks
+    pub outer : t.outer ≡ s.outer
+    pub names : t.inner.names ≡ s.inner.names
+    pub more : More s.shapes t.shapes
+
+  closed_agrees : (s u : Scopes) (m below : scopes.Scope) (js ks : List ℕ) (c : ℕ) (y : System) (w : Use) → IsNumbered c (seen_inside m) y → Agree systems constants_at p true None s m below js → Agree systems constants_at p false None u (system_in (seen_inside m) y).scope (seen_inside m) (y.at ∷ ks) → u.outer ≡ (enter true s).outer → More s.shapes u.shapes →
+      ClosedResult s (systems_of.closed u y.at w) m below ks
+  unfolding systems_of.closed keep leave enter
+  closed_agrees s u m below js ks c y w i before h outer more =
+      let d : Shape = system_shape u.inner (system_heading u) (census u.inner.names u.shapes) (need_of w) in
+      let t : Scopes = systems_of.closed u y.at w in
+      let last : last_of u.outer ≡ (let b : Around = record { outer = s.outer; inner = sealed true s.inner } in b) = ap last_of outer ∙ last_is s.outer (sealed true s.inner) in
+      let all : More s.shapes t.shapes = more_trans s.shapes u.shapes t.shapes more (with_more u.shapes y.at d h.free.0) in
+      record {
+        agree = agree_returned systems constants_at p true None s t m below js ks before (ap (λ (b : Around). b.outer) last) (ap (λ (b : Around). b.inner.names) last) refl all
+            (free_others u.shapes y.at d ks h.free.0 h.different.0 h.free.1) h.different.1 (closed_entries u t (system_in (seen_inside m) y).scope (seen_inside m) ks c (seen_inside m) y d i refl h (λ x. refl) refl);
+        outer = ap (λ (b : Around). b.outer) last;
+        names = ap (λ (b : Around). b.inner.names) last;
+        more = all;
+      }
+
+  -- ---- a system type
+
+  pub record SystemResult (s : Scopes) (m below : scopes.Scope) (ks : List ℕ) (n : ℕ) (y : System) (t : Typed) : Type 0 where
+    pub places : AreAgreed systems p (system_places (enter true s) y) (system_openings n (seen_inside m) y)
+    pub is : t.type ≡ Ok (types.Component y.kind y.at)
+    pub closed : ClosedResult s t.scopes m below ks
+
+  pub system_agrees : (s : Scopes) (m below : scopes.Scope) (ks : List ℕ) (n : ℕ) (y : System) → IsNumbered n (seen_inside m) y → faults (systems_of.system_typed s y).type ≡ [] → Each IsRoutineApart y.routines → IsSmallSystem y → Each (IsFew constants_at) (in_system y) → Agree systems constants_at p true None s m below (system_tokens y ks) →
+      SystemResult s m below ks n y (systems_of.system_typed s y)
+  unfolding systems_of.system_typed systems_of.opened enter
+  system_agrees s m below ks n y i e apart small few h =
+      let a : Scopes = enter true s in
+      let o : Opened = systems_of.opened a y in
+      let r : InsideResult a (seen_inside m) ks n y = inside_agrees a (seen_inside m) ks n y (none_first o.uses (systems_of.to_component y.kind y.at) e) apart small few refl (entered_agrees s m below (system_tokens y ks) h) in
+      record {
+        places = r.places;
+        is = ap (λ (j : Judged Use). j >>= systems_of.to_component y.kind y.at) r.uses.is;
+        closed = closed_agrees s o.scopes m below (system_tokens y ks) ks n y (systems_of.use_of o.uses) i h r.step.agree r.step.outer r.step.more;
+      }

@@ -1,0 +1,5 @@
+use Rattle.cp_resolved.proofs.FewItemsOfTables.{few_items_law}
+use Rattle.cp_resolved.proofs.laws.law_few_items.Goals as goal
+
+pub returns : goal.returns
+returns c = few_items_law

@@ -1,0 +1,5 @@
+use Rattle.cp_resolved.proofs.FewReferencesOfTables.{few_references_law}
+use Rattle.cp_resolved.proofs.laws.law_few_references.Goals as goal
+
+pub returns : goal.returns
+returns c = few_references_law

@@ -1,0 +1,5 @@
+use Rattle.cp_resolved.proofs.Plain.{plain_law}
+use Rattle.cp_resolved.proofs.laws.law_plain.Goals as goal
+
+pub returns : goal.returns
+returns c = plain_law

@@ -1,0 +1,5 @@
+use Rattle.cp_resolved.proofs.ScopesOfTrees.{scopes_law}
+use Rattle.cp_resolved.proofs.laws.law_scopes.Goals as goal
+
+pub returns : goal.returns
+returns c = scopes_law

@@ -1,0 +1,16 @@
+-- What the count of tokens says of the tables of a program that was read, as laws.
+use Rattle.std.specs.Prelude.{◌≡◌, ℕ, ◌<◌, ◌≤◌, length}
+use Rattle.cp_tree.specs.Syntax.{Tree}
+use Rattle.cp_slots.specs.Laid.{plain, laid}
+use Rattle.cp_slots.specs.Tables.{Tables, routine_at}
+use Rattle.cp_resolved.specs.Read.{IsRead}
+
+-- no more items than tokens, and so the premise `items` of `AreHeld`
+abbrev pub FewItemsLaw : Type 0
+FewItemsLaw = (t : Tables) (tree : Tree) → plain t ≡ laid tree → IsRead tree.program → length t.items ≤ 20000
+
+-- no more `var` parameters in open calls than tokens, and so `reference_rooms` of `AreHeld` and `references` of `AreWords`
+abbrev pub FewReferencesLaw : Type 0
+FewReferencesLaw =
+    (t : Tables) (tree : Tree) → plain t ≡ laid tree → IsRead tree.program →
+    ((number : ℕ) → number < length t.routines → (routine_at t number).reference_room ≤ 20000) × (t.references ≤ 20000)

@@ -1,0 +1,126 @@
+-- Where the checker judges statements: its scopes and the context, of the routines and initial statements in the order in which the tables number them.
+use Rattle.std.specs.Prelude.{◌≡◌, ℕ, true, false, List, [], ◌∷◌, ◌++◌, Option, Some, None, Ok}
+use Rattle.cp_tree.specs.declared.declaration.SystemKind.{SystemKind}
+use Rattle.cp_tree.specs.Syntax.{Group, ParameterGroup, RoutineKind, procedure, function, Routine, System, Definition, type_definition, system_definition, SystemDefinition, ProgramPart, program_constants, program_types, program_variables, Program, Tree}
+use Rattle.cp_scope.specs.Counts.{no_use}
+use Rattle.cp_scope.specs.Judged.{faults}
+use Rattle.cp_scope.specs.Scopes.{Scopes, look, enter, start}
+use Rattle.cp_check.specs.declared.operand.Context.{Context}
+use Rattle.cp_check.specs.declared.types.Spot.TheVariants.{Other, Permanent}
+use Rattle.cp_check.specs.Declarations.{reserve_name, part_steps}
+use Rattle.cp_check.specs.Headings.{Headed, heading, announced_of}
+use Rattle.cp_check.specs.Routines.{routine_context, routine_step}
+use Rattle.cp_check.specs.Systems.{group_steps, inside, initial_context, definition_step, program_part_step, program_part_steps}
+use Rattle.cp_check.specs.Statements.{statements}
+use Rattle.cp_check.specs.Faults.{declarations, program_context}
+use Rattle.cp_lawful.specs.Accepted.{IsAccepted}
+use Rattle.cp_meaning.specs.Names.{Name, same_name}
+use Rattle.cp_meaning.specs.Scopes.{find}
+use Rattle.cp_resolved.specs.Layouts.{Layouts}
+use Rattle.cp_resolved.specs.Openings.{Opening, openings_of}
+use Rattle.cp_resolved.specs.Read.{IsRead}
+use Rattle.cp_resolved.specs.Small.{Each}
+use Rattle.cp_resolved.specs.Standing.{IsFit}
+use Rattle.cp_resolved.specs.Tokens.{token_of_type}
+use Rattle.cp_resolved.specs.Typed.{ScopesAgree}
+
+pub record Place : Type 0 where
+  pub scopes : Scopes
+  pub context : Context
+
+-- ---- places
+
+abbrev pub headed_scopes : Option SystemKind → Scopes → Routine → Headed → Scopes
+headed_scopes owner s r h = (part_steps Other (announced_of r h.result h.scopes) r.parts).scopes
+
+-- after its name, its heading and its parts
+abbrev pub routine_place : Option SystemKind → Scopes → Routine → Place
+routine_place owner s r = record { scopes = headed_scopes owner s r (heading owner r (reserve_name s r.name)); context = routine_context owner r }
+
+abbrev pub routine_places : Option SystemKind → Scopes → List Routine → List Place
+routine_places owner s [] = []
+routine_places owner s (r ∷ rs) = routine_place owner s r ∷ routine_places owner (routine_step owner s r).scopes rs
+
+-- after its parameters, its parts and its routines
+abbrev pub initial_place : Scopes → System → Place
+initial_place s y = record { scopes = (inside s y).scopes; context = initial_context y.kind }
+
+-- the scopes of a system type's routines
+abbrev pub parts_scopes : Scopes → System → Scopes
+parts_scopes s y = (part_steps (Permanent (Some y.kind)) (group_steps y.kind s y.parameters).scopes y.parts).scopes
+
+abbrev pub system_places : Scopes → System → List Place
+system_places s y = routine_places (Some y.kind) (parts_scopes s y) y.routines ++ initial_place s y ∷ []
+
+abbrev pub definition_places : Scopes → Definition → List Place
+definition_places s (type_definition t) = []
+definition_places s (system_definition y) = system_places (enter true s) y
+
+abbrev pub definitions_places : Scopes → List SystemDefinition → List Place
+definitions_places s [] = []
+definitions_places s (d ∷ ds) = definition_places (reserve_name s d.name).scopes d.value ++ definitions_places (definition_step s d).scopes ds
+
+abbrev pub part_places : Scopes → ProgramPart → List Place
+part_places s (program_constants at ds) = []
+part_places s (program_types at ds) = definitions_places s ds
+part_places s (program_variables at gs) = []
+
+abbrev pub parts_places : Scopes → List ProgramPart → List Place
+parts_places s [] = []
+parts_places s (p ∷ ps) = part_places s p ++ parts_places (program_part_step s p).scopes ps
+
+-- the statements of the program itself come last
+abbrev pub places_of : Program → List Place
+places_of p =
+    parts_places start p.parts
+    ++ (routine_places None (program_part_steps start p.parts).scopes p.routines ++ (let x : Place = record { scopes = (declarations start p).scopes; context = program_context } in x) ∷ [])
+
+-- ---- headings: a routine's own name is not yet visible in them, so no type there may have it
+
+abbrev pub IsApart : Name → Group → Type 0
+IsApart x g = same_name g.type_name.name x ≡ false
+
+abbrev pub AreApart : Name → List Group → Type 0
+AreApart x gs = Each (IsApart x) gs
+
+abbrev pub AreParametersApart : Name → List ParameterGroup → Type 0
+AreParametersApart x gs = Each (λ g. IsApart x g.group) gs
+
+abbrev pub IsHeadingApart : Name → RoutineKind → Type 0
+IsHeadingApart x (procedure gs) = AreParametersApart x gs
+IsHeadingApart x (function gs i) = AreApart x gs × (same_name i.name x ≡ false)
+
+abbrev pub IsRoutineApart : Routine → Type 0
+IsRoutineApart r = IsHeadingApart r.name.name r.kind
+
+abbrev pub IsDefinitionApart : Definition → Type 0
+IsDefinitionApart (type_definition t) = Unit {0}
+IsDefinitionApart (system_definition y) = Each IsRoutineApart y.routines
+
+abbrev pub IsPartApart : ProgramPart → Type 0
+IsPartApart (program_constants at ds) = Unit {0}
+IsPartApart (program_types at ds) = Each (λ d. IsDefinitionApart d.value) ds
+IsPartApart (program_variables at gs) = Unit {0}
+
+abbrev pub AreHeadingsApart : Program → Type 0
+AreHeadingsApart p = Each IsPartApart p.parts × Each IsRoutineApart p.routines
+
+-- ---- the law
+
+-- The checker's scopes at a place agree with the scope of what is opened there, where each system type is written at a token; and its statements break no rule.
+pub record IsAgreed (tokens : ℕ → ℕ) (p : Program) (x : Place) (o : Opening) : Type 0 where
+  pub scopes : (l : Layouts) (k n : ℕ) → ScopesAgree tokens x.scopes (record { program = p; layouts = l; system = k; routine = n; scope = o.meaning.scope })
+  pub sound : faults (statements x.scopes x.context (Ok no_use) o.meaning.body) ≡ []
+  -- each visible name stands for something
+  pub known : (y : Name) → look y x.scopes ≡ Some None → ⊥
+  -- ranges are inside their bases, and queues and components stand alone or in arrays
+  pub fit : (x : Name) → IsFit (find x o.meaning.scope)
+
+abbrev pub AreAgreed : (ℕ → ℕ) → Program → List Place → List Opening → Type 0
+AreAgreed tokens p [] [] = Unit {0}
+AreAgreed tokens p (x ∷ xs) (o ∷ os) = IsAgreed tokens p x o × AreAgreed tokens p xs os
+AreAgreed tokens p [] (o ∷ os) = ⊥
+AreAgreed tokens p (x ∷ xs) [] = ⊥
+
+abbrev pub ScopesLaw : Type 0
+ScopesLaw = (t : Tree) → IsRead t.program → IsAccepted t → AreHeadingsApart t.program → AreAgreed (token_of_type t.program) t.program (places_of t.program) (openings_of t.program)
