@@ -29,20 +29,20 @@ use Rattle.cp_resolved.specs.Resolved.{StandsAt, ContainedAt, initial_meaning, f
 
 -- ---- the program
 
-abbrev integer : Ty
+abbrev pub integer : Ty
 integer = ordinal all_integers
 
 abbrev named_at : ℕ → Name → Identifier
 named_at at x = record { at = at; name = x }
 
-abbrev of_name : ℕ → Name → Designator
+abbrev pub of_name : ℕ → Name → Designator
 of_name at x = designator (named_at at x) no_selectors
 
-abbrev just_name : ℕ → Name → Expression
+abbrev pub just_name : ℕ → Name → Expression
 just_name at x = alone at (sum at None (term at (named at (of_name at x) no_expressions) no_factors) no_terms)
 
 -- function f(a: integer): integer; begin f := a + n end
-abbrev f : Routine
+abbrev pub f : Routine
 f =
     record {
       at = 5;
@@ -57,7 +57,7 @@ f =
     }
 
 -- procedure p(var b: integer); begin b := f(b) end
-abbrev p : Routine
+abbrev pub p : Routine
 p =
     record {
       at = 23;
@@ -98,17 +98,17 @@ parameter_a = code.place (Local 0) 0 code.no_indices
 abbrev result_f : code.Place
 result_f = code.place (Local 1) 0 code.no_indices
 
-abbrev parameter_b : code.Place
+abbrev pub parameter_b : code.Place
 parameter_b = code.place (Reference 0) 0 code.no_indices
 
 -- the result of the call of f
-abbrev called_f : code.Place
+abbrev pub called_f : code.Place
 called_f = code.place (Local 0) 0 code.no_indices
 
-abbrev lowest : ℤ
+abbrev pub lowest : ℤ
 lowest = negsuc 32767
 
-abbrev highest : ℤ
+abbrev pub highest : ℤ
 highest = pos 32767
 
 abbrev item : code.Action → Option ℕ → ℕ → code.Item

@@ -14,7 +14,9 @@ pub mod Avoiding
 pub mod BegunKnown
 pub mod BodiesStand
 pub mod Calling
-mod CallingProgram
+pub mod CallingBodies
+pub mod CallingPlaced
+pub mod CallingProgram
 pub mod Cells
 pub mod Declared
 pub mod Declares

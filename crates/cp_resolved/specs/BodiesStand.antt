@@ -35,5 +35,5 @@ pub record BodyFormed (t : Tree) (n : ℕ) (l : Layer) : Type 0 where
 
 abbrev pub BodiesLaw : Type 0
 BodiesLaw =
-    (t : Tree) (r : Tables) → plain r ≡ laid t → length r.items ≤ most → IsPlaced t → (n : ℕ) (l : Layer) → slice_get (all_begun t) n ≡ Some l → BodyFormed t n l →
-    OwnAll (ground_of r t) (place_of t n) (meaning_at t.program n).body (routine_at r n).body None
+    (t : Tree) (r : Tables) → plain r ≡ laid t → length r.items ≤ most → IsPlaced t → (n : ℕ) (l : Layer) →
+    slice_get (all_begun t) n ≡ Some l → BodyFormed t n l → OwnAll (ground_of r t) (place_of t n) (meaning_at t.program n).body (routine_at r n).body None

@@ -92,4 +92,5 @@ pub record KnowsHeadings (k : Numbering) (h : Here) (l : Layer) : Type 0 where
   -- of a routine that is visible
   pub own : (x : Name) (n : ℕ) → layers.find x l.names ≡ Some (meaning.Routine n) → (h.layouts.owners n ≡ h.system) × HeadingIs k h l n (k.routines n)
   -- and of an entry of a component
-  pub entry : (x y : Name) (t : Ty) (r : RoutineMeaning) (n : ℕ) → find x h.scope ≡ Some (permanent_variable t) → routine_of_type h.program t y ≡ Some r → entry_of l (system_type t) y ≡ Some n → (h.layouts.owners n ≡ system_type t) × HeadingIs k h l n r
+  pub entry : (x y : Name) (t : Ty) (r : RoutineMeaning) (n : ℕ) → find x h.scope ≡ Some (permanent_variable t) → routine_of_type h.program t y ≡ Some r →
+      entry_of l (system_type t) y ≡ Some n → (h.layouts.owners n ≡ system_type t) × HeadingIs k h l n r

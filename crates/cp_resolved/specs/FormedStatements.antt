@@ -69,7 +69,8 @@ pub record OwnResult (k : Numbering) (h : Here) (l : Layer) (x : Name) : Type 0 
   pub belongs : TypeIs k l.types (result_type (h.layouts.meanings h.routine).result) result.value_type
 
 abbrev pub KnowsResult : Numbering → Here → Layer → Type 0
-KnowsResult k h l = (x : Name) (r : Routine) → is_own h x ≡ true → find x h.scope ≡ Some (routine_meaning r) → HasResult (h.layouts.meanings h.routine).result → OwnResult k h l x
+KnowsResult k h l =
+    (x : Name) (r : Routine) → is_own h x ≡ true → find x h.scope ≡ Some (routine_meaning r) → HasResult (h.layouts.meanings h.routine).result → OwnResult k h l x
 
 -- ---- calls
 

@@ -41,10 +41,12 @@ pub record CanStand (h : Here) (l : Layer) (ss : Statements) : Type 0 where
   pub formed : AllFormed h ss
   pub calls : AreReady h (length l.frame.image) (all_calls_laid h.scope ss)
 
--- The items of a list of statements stand for these statements, in tables of which they are among the first items. After them the frame has a cell more for each function call.
+-- The items of a list of statements stand for these statements, in tables of which they are among the first items.
+-- After them the frame has a cell more for each function call.
 pub record AreLaid (k : Numbering) (h : Here) (g : Ground) (l : Layer) (ss : Statements) : Type 0 where
   pub stand : AreItems g (statements l ss).1.items → OwnAll g h ss (statements l ss).0 None
   pub cells : length (statements l ss).1.frame.image ≡ length l.frame.image + length (all_calls_laid h.scope ss)
 
 abbrev pub StatementsLaw : Type 0
-StatementsLaw = (k : Numbering) (h : Here) (g : Ground) (l : Layer) (ss : Statements) → length g.tables.items ≤ most → ((at : ℕ) → g.firsts at ≡ k.firsts at) → Surroundings k h g l → CanStand h l ss → AreLaid k h g l ss
+StatementsLaw =
+    (k : Numbering) (h : Here) (g : Ground) (l : Layer) (ss : Statements) → length g.tables.items ≤ most → ((at : ℕ) → g.firsts at ≡ k.firsts at) → Surroundings k h g l → CanStand h l ss → AreLaid k h g l ss
