@@ -69,7 +69,7 @@ lies_kept m m2 a z t v b w h apart =
       block = λ k less. w.there (further b k) (apart k (omega (arith, n, less))) ∙ h.block k less;
     }
 
-further_apart : (a : Address) (k n : ℕ) → k ≢ n → further a k ≢ further a n
+pub further_apart : (a : Address) (k n : ℕ) → k ≢ n → further a k ≢ further a n
 further_apart (Permanent j) k n d e = (let s : j + k ≡ j + n = cc in d (omega (arith, s)))
 further_apart (Local j) k n d e = (let s : j + k ≡ j + n = cc in d (omega (arith, s)))
 
