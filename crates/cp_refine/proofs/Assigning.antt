@@ -35,7 +35,7 @@ use Rattle.cp_refine.proofs.WritingCalls.{FrameApart, FramesApart, new_for, call
 
 -- ---- what an environment does not change
 
-entries_kept : (n below : ℕ) (e : Environment) (cs : List Call) → has_entry n (with_call_environment cs below e) ≡ has_entry n cs
+pub entries_kept : (n below : ℕ) (e : Environment) (cs : List Call) → has_entry n (with_call_environment cs below e) ≡ has_entry n cs
 entries_kept n below e [] = refl
 entries_kept n below e (c ∷ cs) = go (length cs == below) (entries_kept n below e cs)
   where
@@ -44,7 +44,7 @@ entries_kept n below e (c ∷ cs) = go (length cs == below) (entries_kept n belo
     go false ih = ap (λ b. (is_entry_kind c.kind && c.component == n) || b) ih
 
 -- the same call but for its environment
-stack_kept : (g : Ground) (p : Program) (l : Layouts) (below : ℕ) (e : Environment) (f : Frame) (calls : List Call) (items : List Item) (es : List Entry) → StackIs g p l f calls items es → StackIs g p l f (with_call_environment calls below e) items es
+pub stack_kept : (g : Ground) (p : Program) (l : Layouts) (below : ℕ) (e : Environment) (f : Frame) (calls : List Call) (items : List Item) (es : List Entry) → StackIs g p l f calls items es → StackIs g p l f (with_call_environment calls below e) items es
 stack_kept g p l below e f calls items [] h =
     subst (λ cs. StackIs g p l f (with_call_environment cs below e) items []) (sym h.1) (go (0 == below))
   where
@@ -66,7 +66,7 @@ stack_kept g p l below e f calls items (InitEnd caller component ∷ es) h =
     go true ih = (with_environment h.0 e, h.1, h.2, refl, h.4, h.5, h.6)
     go false ih = (h.0, with_call_environment h.1 below e, h.2, refl, h.4, h.5, ih)
 
-set_set : {A : Type 0} (xs : List A) (n : ℕ) (a b : A) → slice_set (slice_set xs n a) n b ≡ slice_set xs n b
+pub set_set : {A : Type 0} (xs : List A) (n : ℕ) (a b : A) → slice_set (slice_set xs n a) n b ≡ slice_set xs n b
 set_set [] n a b = refl
 set_set (x ∷ xs) zero a b = refl
 set_set (x ∷ xs) (suc n) a b = ap (λ ys. x ∷ ys) (set_set xs n a b)

@@ -1,5 +1,6 @@
 pub mod Agrees
 pub mod InStep
+pub mod Kinds
 pub mod Law
 pub mod Named
 pub mod PlainValues
