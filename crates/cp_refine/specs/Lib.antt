@@ -1,4 +1,5 @@
 pub mod Agrees
+pub mod Given
 pub mod InStep
 pub mod Kinds
 pub mod Law
