@@ -5,6 +5,7 @@ pub mod Assigning
 pub mod Assignments
 pub mod Begun
 pub mod Binding
+pub mod CallSteps
 pub mod Calling
 pub mod Cases
 pub mod Choosing

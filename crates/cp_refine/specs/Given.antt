@@ -1,9 +1,10 @@
 -- When what arguments give on slots is what they give on names.
-use Rattle.std.specs.Prelude.{◌≡◌, ℕ, ◌^◌, ◌<◌, ◌≤◌, true, false, ℤ, pos, List, [], ◌∷◌, length, slice_index_or}
+use Rattle.std.specs.Prelude.{◌≡◌, ℕ, ◌^◌, ◌<◌, ◌≤◌, true, false, ℤ, pos, List, [], ◌∷◌, length, slice_index_or, Result, Ok, Err}
 use Rattle.cp_slots.specs.declared.place.Argument.{Argument}
 use Rattle.cp_slots.specs.Tables.{Tables}
 use Rattle.cp_store.specs.declared.argument.Bound.{Bound}
 use Rattle.cp_store.specs.declared.argument.Bound.TheVariants.{Scalar, Set, Copy, Reference, Component}
+use Rattle.cp_store.specs.declared.error.ErrorName as slots
 use Rattle.cp_store.specs.declared.memory.Address.{Address}
 use Rattle.cp_store.specs.declared.memory.Address.TheVariants.{Permanent, Local}
 use Rattle.cp_store.specs.declared.memory.Frame.{Frame}
@@ -11,12 +12,15 @@ use Rattle.cp_store.specs.Arguments.{put_value}
 use Rattle.cp_store.specs.Inside.{HasCells}
 use Rattle.cp_store.specs.Memory.{Memory, cell_at}
 use Rattle.cp_meaning.specs.Names.{Name}
+use Rattle.cp_meaning.specs.Outcome.{Outcome}
 use Rattle.cp_meaning.specs.Types.{Ty}
 use Rattle.cp_meaning.specs.Values.{Value}
 use Rattle.cp_meaning.specs.Declarations.{Parameter}
 use Rattle.cp_meaning.specs.State.{Content, holds, refers, Environment}
+use Rattle.cp_meaning.specs.Places.{View, Target, component_there}
 use Rattle.cp_resolved.specs.Layouts.{Layouts, cells_of}
 use Rattle.cp_resolved.specs.Encoded.{encode, HasType}
+use Rattle.cp_refine.specs.Named.{error_of}
 use Rattle.cp_refine.specs.Represents.{further, PlaceAt}
 
 -- ---- a value that is put into cells
@@ -77,3 +81,16 @@ abbrev pub AreBound : Tables → Layouts → List Frame → Memory → (Name →
 AreBound r l fs m slots [] [] [] [] = Unit {0}
 AreBound r l fs m slots (q ∷ qs) (d ∷ e) (x ∷ xs) (b ∷ bs) = (d.0 ≡ q.name) × (x.slot ≡ slots q.name) × IsBound r l fs m q d.1 b × AreBound r l fs m slots qs e xs bs
 AreBound r l fs m slots qs e xs bs = ⊥
+
+-- the same, or the same error
+abbrev pub BoundsAgree : (Environment → List Bound → Type 0) → Outcome Environment → Result (List Bound) slots.ErrorName → Type 0
+BoundsAgree Are (Ok e) (Ok bs) = Are e bs
+BoundsAgree Are (Err e) (Err d) = error_of e ≡ d
+BoundsAgree Are o r = ⊥
+
+-- ---- components that are called or started
+
+abbrev pub ComponentAgrees : View → Outcome Target → Result ℕ slots.ErrorName → Type 0
+ComponentAgrees v (Ok t) (Ok n) = component_there v t.place ≡ n
+ComponentAgrees v (Err e) (Err d) = error_of e ≡ d
+ComponentAgrees v o r = ⊥
