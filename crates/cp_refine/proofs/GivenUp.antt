@@ -75,7 +75,7 @@ module _ (g : Ground) (p : Program) (l : Layouts) (routines : (n : ℕ) → n < 
     (cells_are : length t.cells ≡ t.frame.base + size_of g.tables t.frame.routine) (few : length t.cells < 2 ^ 64)
     (held : CallsHold g.tables l (own_memory t) (c ∷ cs) (t.frame ∷ frames_of caller es)) where
   -- the cells and references of the calls around
-  abbrev closed : Memory
+  abbrev pub closed : Memory
   closed = record { permanents = []; cells = take t.frame.base t.cells; references = take t.frame.references t.references }
 
   closed_length : length closed.cells ≡ t.frame.base
@@ -89,7 +89,7 @@ module _ (g : Ground) (p : Program) (l : Layouts) (routines : (n : ℕ) → n < 
         references = λ k h. get_or-take t.frame.references t.references k nowhere h;
       }
 
-  closed_calls : CallsHold g.tables l closed cs (frames_of caller es)
+  pub closed_calls : CallsHold g.tables l closed cs (frames_of caller es)
   closed_calls =
       calls_below g p l routines (own_memory t) closed t.frame.base t.frame.references closed_same cs (frames_of caller es)
       (subst (λ n. LieBelow g.tables n t.frame.references (frames_of caller es)) (sym base_is)

@@ -17,6 +17,7 @@ pub mod Expressions
 pub mod FramesBelow
 pub mod Gates
 pub mod GivenUp
+pub mod InitialEnding
 pub mod Kept
 pub mod LeastValues
 pub mod LettingIn
@@ -30,6 +31,7 @@ pub mod OpeningState
 pub mod Parts
 pub mod PermanentAssigning
 pub mod Permanents
+pub mod Phases
 pub mod Reading
 pub mod Returning
 pub mod Rewriting
