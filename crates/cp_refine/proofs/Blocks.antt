@@ -12,22 +12,16 @@ use Rattle.cp_meaning.specs.Types.{Ty}
 use Rattle.cp_meaning.specs.Values.{Value, Choice, with_part}
 use Rattle.cp_resolved.specs.Layouts.{cells_of}
 use Rattle.cp_resolved.specs.Encoded.{encode, set_cells, HasType, chosen_at}
-use Rattle.cp_refine.specs.Agrees.{Few}
+use Rattle.cp_refine.specs.Given.{OthersKept, PutsBlock, IsNumbered}
 use Rattle.cp_refine.specs.Represents.{further, LiesAt}
-use Rattle.cp_refine.proofs.Choosing.{moved_is}
 use Rattle.cp_refine.proofs.Moving.{same_or_other}
 use Rattle.cp_refine.proofs.Parts.{encode_length}
 use Rattle.cp_refine.proofs.Reading.{further_further}
 use Rattle.cp_refine.proofs.Rewriting.{Outside, part_new}
-use Rattle.cp_refine.proofs.SetCells.{no_further, on_from}
+use Rattle.cp_refine.proofs.SetCells.{no_further, moved_on, on_from}
 use Rattle.cp_refine.proofs.Writing.{put_writes, further_apart}
 
 -- ---- the first cells of a block
-
--- of permanent cells and those of the process, the ones that an address is not among are the same
-abbrev pub OthersSame : Address → Memory → Memory → Type 0
-OthersSame (Permanent n) m m2 = m2.cells ≡ m.cells
-OthersSame (Local n) m m2 = m2.permanents ≡ m.permanents
 
 -- from an address on this many cells are those of the list, and all others are as they were
 pub record WritesFirst (m m2 : Memory) (a : Address) (ws : List ℤ) (n : ℕ) : Type 0 where
@@ -36,16 +30,20 @@ pub record WritesFirst (m m2 : Memory) (a : Address) (ws : List ℤ) (n : ℕ) :
   pub permanents : length m2.permanents ≡ length m.permanents
   pub cells : length m2.cells ≡ length m.cells
   pub references : m2.references ≡ m.references
-  pub others : OthersSame a m m2
+  pub others : OthersKept a m m2
 
 abbrev pub WritesBlock : Memory → Memory → Address → List ℤ → Type 0
 WritesBlock m m2 a ws = WritesFirst m m2 a ws (length ws)
 
-pub others_same : (a : Address) (m : Memory) → OthersSame a m m
+-- as the word of specs is
+pub puts_block : (m m2 : Memory) (a : Address) (ws : List ℤ) → WritesBlock m m2 a ws → PutsBlock m m2 a ws
+puts_block m m2 a ws w = record { here = w.here; there = w.there; permanents = w.permanents; cells = w.cells; references = w.references; others = w.others }
+
+pub others_same : (a : Address) (m : Memory) → OthersKept a m m
 others_same (Permanent n) m = refl
 others_same (Local n) m = refl
 
-others_put : (a : Address) (m m2 : Memory) (k : ℕ) (z : ℤ) → OthersSame a m m2 → OthersSame a m (put_number m2 (further a k) z)
+others_put : (a : Address) (m m2 : Memory) (k : ℕ) (z : ℤ) → OthersKept a m m2 → OthersKept a m (put_number m2 (further a k) z)
 others_put (Permanent n) m m2 k z e = e
 others_put (Local n) m m2 k z e = e
 
@@ -79,13 +77,13 @@ one_written m m2 a ws n cells z h has less e =
 abbrev pub ReadsFirst : (from to : Address) → ℕ → Type 0
 ReadsFirst from to n = (i k : ℕ) → i < k → k < n → further from k ≢ further to i
 
-pub copy_writes : (m : Memory) (to from : Address) (ws : List ℤ) (size n : ℕ) → Few m → HasCells m to size → HasCells m from size → ((k : ℕ) → k < size → cell_at m (further from k) ≡ slice_index_or ws k (pos 0)) → ReadsFirst from to size → n ≤ size → WritesFirst m (put_copy m to from n) to ws n
+pub copy_writes : (m : Memory) (to from : Address) (ws : List ℤ) (size n : ℕ) → IsNumbered m → HasCells m to size → HasCells m from size → ((k : ℕ) → k < size → cell_at m (further from k) ≡ slice_index_or ws k (pos 0)) → ReadsFirst from to size → n ≤ size → WritesFirst m (put_copy m to from n) to ws n
 copy_writes m to from ws size zero few has source lies reads le = none_written m to ws
 copy_writes m to from ws size (suc n) few has source lies reads le =
     let ih = copy_writes m to from ws size n few has source lies reads (omega (arith, le)) in
     let read : cell_at (put_copy m to from n) (moved from n) ≡ slice_index_or ws n (pos 0) =
-    ap (cell_at (put_copy m to from n)) (moved_is m from size n few source (omega (arith, le))) ∙ (ih.there (further from n) (λ i less. reads i n less (omega (arith, le))) ∙ lies n (omega (arith, le))) in
-    subst (λ (b : Address). WritesFirst m (put_number (put_copy m to from n) b (cell_at (put_copy m to from n) (moved from n))) to ws (suc n)) (sym (moved_is m to size n few has (omega (arith, le))))
+    ap (cell_at (put_copy m to from n)) (moved_on m from size n few source (omega (arith, le))) ∙ (ih.there (further from n) (λ i less. reads i n less (omega (arith, le))) ∙ lies n (omega (arith, le))) in
+    subst (λ (b : Address). WritesFirst m (put_number (put_copy m to from n) b (cell_at (put_copy m to from n) (moved from n))) to ws (suc n)) (sym (moved_on m to size n few has (omega (arith, le))))
     (one_written m (put_copy m to from n) to ws n size (cell_at (put_copy m to from n) (moved from n)) ih has (omega (arith, le)) (sym read))
 
 -- ---- a set
@@ -106,7 +104,7 @@ quad_put m at a0 a1 a2 a3 x y0 y1 y2 y3 e0 e1 e2 e3 d0 d1 d2 d3 =
 abbrev word : ℕ → ℕ → ℕ
 word b k = (b / 2 ^ (16 * k)) % 2 ^ 16
 
-module _ (m : Memory) (a : Address) (b : ℕ) (few : Few m) (has : HasCells m a 8) (small : b < 2 ^ 128) where
+module _ (m : Memory) (a : Address) (b : ℕ) (few : IsNumbered m) (has : HasCells m a 8) (small : b < 2 ^ 128) where
   from : (j k n : ℕ) → j + k ≡ n → n ≤ 8 → moved (further a j) k ≡ further a n
   from j k n e le = on_from m a j k few has (omega (arith, e, le)) ∙ ap (further a) e
 

@@ -2,6 +2,7 @@ pub mod Admitting
 pub mod Alike
 pub mod AnyAssignments
 pub mod Apart
+pub mod Arguments
 pub mod Assigning
 pub mod Assignments
 pub mod Begun
@@ -10,6 +11,7 @@ pub mod BlockStores
 pub mod Blocks
 pub mod BlocksInCalls
 pub mod BlocksInComponents
+pub mod CallArguments
 pub mod CallSteps
 pub mod Calling
 pub mod Cases
