@@ -40,9 +40,7 @@ pub mod Observed
 pub mod OpeningState
 pub mod Overlaps
 pub mod Parts
-pub mod PermanentAssigning
 pub mod PermanentBlocks
-pub mod Permanents
 pub mod Phases
 pub mod PlacesApart
 pub mod Reading
