@@ -57,6 +57,7 @@ pub mod Storing
 pub mod Turns
 pub mod Values
 pub mod VariableExpressions
+pub mod VariablesKnown
 pub mod Views
 pub mod Writing
 pub mod WritingCalls
