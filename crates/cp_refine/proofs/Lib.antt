@@ -16,6 +16,7 @@ pub mod CallSteps
 pub mod Calling
 pub mod Cases
 pub mod Choosing
+pub mod ComponentPlaces
 pub mod Control
 pub mod CopyAssignments
 pub mod Counting
