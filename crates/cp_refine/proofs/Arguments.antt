@@ -119,7 +119,7 @@ copy_given m t w from lies =
     long = encode_length t w lies.typed
 
 -- a value, or the same error
-abbrev ValueAgrees : Memory → Ty → Outcome Content → Result Bound slots.ErrorName → Type 0
+abbrev pub ValueAgrees : Memory → Ty → Outcome Content → Result Bound slots.ErrorName → Type 0
 ValueAgrees m t (Ok (holds w)) (Ok b) = GivesValue m t w b
 ValueAgrees m t (Err e) (Err d) = error_of e ≡ d
 ValueAgrees m t o r = ⊥
@@ -190,7 +190,7 @@ ArgumentsKnown h (q ∷ qs) no_expressions = Unit {0}
 ArgumentsKnown h (q ∷ qs) (more_expressions e es) = ArgumentKnown h q e × ArgumentsKnown h qs es
 
 module _ (r : Tables) (l : Layouts) (fs : List Frame) (v : View) (m : Memory) (f : Frame) (h : Here) (sees : Sees r l fs v m f h) (bindings : List ℕ) where
-  value_given : (u t : Ty) (form : Form) (e : Expression) (a : ArgumentValue) (c : code.ArgumentValue) → code.value_seen a ≡ c → expression_form h e ≡ Some (record { ty = t; form = form }) → AreKept h (expression_calls h.scope e) → RangeKnown u → IsNoComponent u → ValueGiven u t form c →
+  pub value_given : (u t : Ty) (form : Form) (e : Expression) (a : ArgumentValue) (c : code.ArgumentValue) → code.value_seen a ≡ c → expression_form h e ≡ Some (record { ty = t; form = form }) → AreKept h (expression_calls h.scope e) → RangeKnown u → IsNoComponent u → ValueGiven u t form c →
       ValueAgrees m u (bound_value v u e) (bound_at m bindings f a)
   value_given (ordinal q) t (as_ordinal x) e a c seen formed kept base plain given =
       subst (λ s. ValueAgrees m (ordinal q) (held (ordinal q) (value v e)) s) (sym (scalar_bound m bindings f a x q.low q.high (seen ∙ given)))
@@ -269,7 +269,7 @@ module _ (r : Tables) (l : Layouts) (fs : List Frame) (v : View) (m : Memory) (f
       go (Err e) one two = refl
       go (Ok b) one two = one b ∙ (joined b (bounds_after m bindings f [] xs) ∙ ap (λ s. then_with s (λ bs. Ok (acc ++ bs))) (sym (two b)))
 
-  first_bound : (x : Argument) (xs : List Argument) → bounds_at m bindings f (x ∷ xs) ≡ then_with (bound_at m bindings f x.value) (λ b. then_with (bounds_at m bindings f xs) (λ bs. Ok (b ∷ bs)))
+  pub first_bound : (x : Argument) (xs : List Argument) → bounds_at m bindings f (x ∷ xs) ≡ then_with (bound_at m bindings f x.value) (λ b. then_with (bounds_at m bindings f xs) (λ bs. Ok (b ∷ bs)))
   first_bound x xs = go (bound_at m bindings f x.value)
     where
       go : (s : Result Bound slots.ErrorName) → then_with s (λ b. bounds_after m bindings f (b ∷ []) xs) ≡ then_with s (λ b. then_with (bounds_at m bindings f xs) (λ bs. Ok (b ∷ bs)))

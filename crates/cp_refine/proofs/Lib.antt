@@ -54,6 +54,7 @@ pub mod SetCells
 pub mod SetRanges
 pub mod Sets
 pub mod Standards
+pub mod StartArguments
 pub mod Storing
 pub mod Turns
 pub mod Values

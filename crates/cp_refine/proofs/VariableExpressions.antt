@@ -30,10 +30,11 @@ use Rattle.cp_refine.proofs.Expressions.{designator_ok}
 use Rattle.cp_refine.proofs.Kept.{kept_left}
 use Rattle.cp_refine.proofs.Values.{then_some, form_is}
 
--- ---- what is no variable has no form of an array or a record
+-- ---- what is no variable has the form of an ordinal or of a set
 
 abbrev pub IsPlace : Form → Type 0
 IsPlace (as_place p) = Unit {0}
+IsPlace (as_component c) = Unit {0}
 IsPlace f = ⊥
 
 abbrev NotPlace : Option Formed → Type 0
@@ -375,3 +376,30 @@ module _ (r : Tables) (l : Layouts) (fs : List Frame) (v : View) (m : Memory) (f
       let n = variable_is v h e d is in
       designated d z p (own_calls n.token d no_expressions (n.calls kept))
       (plain_name h n.token d (find (name_of d) h.scope) z p (ap (λ b. named_form h n.token d b (find (name_of d) h.scope) (designator_form h d) None) (sym plain) ∙ (sym n.same_form ∙ formed)) k) k
+
+-- ---- a component
+
+no_component : (p : code.Place) (t : Ty) (c : code.ComponentPlace) → loaded_form p t ≡ as_component c → ⊥
+no_component p (ordinal r) c e = cc
+no_component p queue_type c e = cc
+no_component p (set_over r) c e = cc
+no_component p (array_over r t) c e = cc
+no_component p (record_with ts) c e = cc
+no_component p (component_of k) c e = cc
+
+-- a component that is named alone
+pub component_found : (v : View) (h : Here) (e : Expression) (d : Designator) (z : Formed) (c : code.ComponentPlace) → variable_in e ≡ Some d → expression_form h e ≡ Some z → z.form ≡ as_component c →
+    (k : ℕ) × (designator_form h d ≡ Some (a_component c k)) × (AreKept h (expression_calls h.scope e) → AreKept h (designator_calls h.scope d))
+component_found v h e d z c named_by formed is =
+    then_some ((k : ℕ) × (designator_form h d ≡ Some (a_component c k)) × (AreKept h (expression_calls h.scope e) → AreKept h (designator_calls h.scope d))) (designator_form h d) valued_form z (place_name v h n.token d (first_value v no_expressions) None (is_call h.scope d) (find (name_of d) h.scope) z (sym n.same_form ∙ formed) (subst IsPlace (sym is) tt)).1 (λ w ew j. go w ew j)
+  where
+    n : IsName v h e d no_expressions
+    n = variable_is v h e d named_by
+
+    kept_calls : AreKept h (expression_calls h.scope e) → AreKept h (designator_calls h.scope d)
+    kept_calls kept = kept_left h (designator_calls h.scope d) [] (kept_left h (designator_calls h.scope d ++ []) (own_call (is_call h.scope d) n.token d no_expressions) (n.calls kept))
+
+    go : (w : Designated) → designator_form h d ≡ Some w → valued_form w ≡ Some z → (k : ℕ) × (designator_form h d ≡ Some (a_component c k)) × (AreKept h (expression_calls h.scope e) → AreKept h (designator_calls h.scope d))
+    go (a_variable p t) ew j = absurd (no_component p t c (ap (λ (x : Formed). x.form) (form_is j) ∙ is))
+    go (some_components first q k) ew j = absurd (cc)
+    go (a_component p k) ew j = (let same : as_component p ≡ as_component c = ap (λ (x : Formed). x.form) (form_is j) ∙ is in let part : p ≡ c = cc in (k, ew ∙ ap (λ x. Some (a_component x k)) part, kept_calls))

@@ -7,3 +7,4 @@ pub mod Named
 pub mod PlainValues
 pub mod Remaining
 pub mod Represents
+pub mod Started
