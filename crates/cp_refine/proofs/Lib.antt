@@ -32,6 +32,7 @@ pub mod Parts
 pub mod PermanentAssigning
 pub mod Permanents
 pub mod Phases
+pub mod QueueParts
 pub mod Reading
 pub mod Returning
 pub mod Rewriting
