@@ -33,6 +33,7 @@ pub mod PermanentAssigning
 pub mod Permanents
 pub mod Phases
 pub mod QueueParts
+pub mod QueueWriting
 pub mod Reading
 pub mod Returning
 pub mod Rewriting
