@@ -11,6 +11,7 @@ pub mod Cases
 pub mod Choosing
 pub mod Control
 pub mod Counting
+pub mod Delayed
 pub mod Displaying
 pub mod Ending
 pub mod Expressions

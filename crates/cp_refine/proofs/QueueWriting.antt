@@ -251,6 +251,12 @@ module _ (g : Ground) (p : Program) (l : Layouts) (s : State) (m : Machine) (rep
       ∙ (ap (λ ds. part_at (value_held (content_of y (named.component_at components_after n).environment)) ds) w.parts
       ∙ (ap (λ (k : Option Content). part_at (value_held k) choices) (content_new s) ∙ part_written u old choices (offset, queue_type) (queue_value o) old_lies.typed chosen)))))
 
+  -- and it held what its variable had there
+  pub old_written : (v : View) (x : Place) (i : ℕ) → x.holder ≡ in_component i → IsWritten x i → value_at (old_view v) x ≡ part_at old choices
+  old_written v x i e w =
+      value_of (old_view v) x i e ∙ (ap (λ k. part_at (value_held (content_of x.name (named.component_at s.components k).environment)) x.choices) w.component
+      ∙ (ap (λ z. part_at (value_held (content_of z (named.component_at s.components n).environment)) x.choices) w.name ∙ ap (part_at old) w.parts))
+
   -- any other queue holds what it held
   pub queue_kept : (v : View) (x : Place) (i a : ℕ) → v.components ≡ components_after → x.holder ≡ in_component i → PlaceAt g.tables l [] x queue_type (Permanent a) → (IsWritten x i × (same_name y y ≡ true)) ⊎ (value_at v x ≡ value_at (old_view v) x)
   queue_kept v x i a c e h = go (by_name i x.name)
