@@ -12,6 +12,7 @@ pub mod Choosing
 pub mod Control
 pub mod Counting
 pub mod Delayed
+pub mod Delaying
 pub mod Displaying
 pub mod Ending
 pub mod Expressions
