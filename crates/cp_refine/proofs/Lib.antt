@@ -37,6 +37,7 @@ pub mod Phases
 pub mod QueueParts
 pub mod QueueWriting
 pub mod Reading
+pub mod Resumed
 pub mod Returning
 pub mod Rewriting
 pub mod Running
