@@ -9,6 +9,7 @@ pub mod CallSteps
 pub mod Calling
 pub mod Cases
 pub mod Choosing
+pub mod Continuing
 pub mod Control
 pub mod Counting
 pub mod Delayed

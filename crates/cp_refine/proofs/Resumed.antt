@@ -87,10 +87,10 @@ module _ (g : Ground) (p : Program) (l : Layouts) (s : State) (m : Machine) (rep
   there_component : n < length s.components
   there_component = there_named g p l s m rep apart parts_apart n y u choices offset None there known chosen
 
-  count : length emptied ≡ length s.components
+  pub count : length emptied ≡ length s.components
   count = count_same g p l s m rep apart parts_apart n y u choices offset None there known chosen
 
-  lines_same : (i : ℕ) → (named.component_at emptied i).line ≡ (named.component_at s.components i).line
+  pub lines_same : (i : ℕ) → (named.component_at emptied i).line ≡ (named.component_at s.components i).line
   lines_same i = line_same g p l s m rep apart parts_apart n y u choices offset None there known chosen i
 
   kept : (v : View) (x : Place) (i a : ℕ) → v.components ≡ emptied → x.holder ≡ in_component i → PlaceAt g.tables l [] x queue_type (Permanent a) → (Written x i × (same_name y y ≡ true)) ⊎ (value_at v x ≡ value_at (old_view v) x)
