@@ -33,13 +33,13 @@ use Rattle.cp_refine.proofs.Gates.{OthersOutside, none_left}
 use Rattle.cp_refine.proofs.LettingIn.{FirstWaits, lets_in}
 use Rattle.cp_refine.proofs.Moving.{set_here, set_there}
 use Rattle.cp_refine.proofs.Resumed as resumed
-use Rattle.cp_refine.proofs.Returning.{Returns, MayLeave, process_back, thread_back, left_free, outside, let_in_freed, first_waits_kept}
+use Rattle.cp_refine.proofs.Returning.{Returns, MayLeave, call, calls_were, process_back, thread_back, left_free, outside, let_in_freed, first_waits_kept}
 use Rattle.cp_refine.proofs.Writing.{ComponentsApart}
 
 -- ---- the end of the entry
 
 -- the items of a list are no returns
-no_return : (g : Ground) (h : Here) (first last : Option ℕ) (xs ys : List Item) → ItemsAre g h first xs last → after_return (xs ++ ys) ≡ after_return ys
+pub no_return : (g : Ground) (h : Here) (first last : Option ℕ) (xs ys : List Item) → ItemsAre g h first xs last → after_return (xs ++ ys) ≡ after_return ys
 no_return g h first last [] ys i = refl
 no_return g h first last (statement_item t ∷ xs) ys i = no_return g h i.1 last xs ys i.5
 no_return g h first last (function_call at d es ∷ xs) ys i = no_return g h i.1 last xs ys i.5
@@ -125,6 +125,7 @@ fits_end r f (InitEnd caller n ∷ es) h = h
 pub record MayContinue (g : Ground) (p : Program) (l : Layouts) (s : State) (m : Machine) (q n j : ℕ) (es : List Entry) : Type 0 where
   pub apart : ComponentsApart g.tables l
   pub parts_apart : (n : ℕ) (x w : Name) (t u : Ty) → look x (l.systems n).parts ≡ Some t → look w (l.systems n).variables ≡ Some u → same_name x w ≡ false
+  pub there : n < length g.tables.components
   pub is : (component_at g.tables n).kind ≡ kind.Monitor j
   pub leave : MayLeave g s m q n
   pub fits : ThreadFits g.tables (thread_at m.threads q)
@@ -149,10 +150,10 @@ module _ (g : Ground) (p : Program) (l : Layouts) (s : State) (m : Machine) (q :
 
   -- ---- the rest of the entry is removed
 
-  abbrev process_ends : Process
+  abbrev pub process_ends : Process
   process_ends = still_process g p l s m q es k (return ends.result ∷ ends.rest)
 
-  abbrev state_ends : State
+  abbrev pub state_ends : State
   state_ends = record s { processes = slice_set s.processes q process_ends }
 
   abbrev pub machine_ends : Machine
@@ -167,7 +168,7 @@ module _ (g : Ground) (p : Program) (l : Layouts) (s : State) (m : Machine) (q :
   many : q < length m.threads
   many = let e = k.rep.process_count in let a = k.there in omega (arith, e, a)
 
-  here_process : named.process_at state_ends.processes q ≡ process_ends
+  pub here_process : named.process_at state_ends.processes q ≡ process_ends
   here_process = set_here s.processes q process_ends no_process k.there
 
   here_thread : thread_at machine_ends.threads q ≡ record thread { stack = from_end es }
@@ -196,3 +197,96 @@ module _ (g : Ground) (p : Program) (l : Layouts) (s : State) (m : Machine) (q :
         once = ap (λ (x : Process). has_entry n (callers x.calls)) here_process ∙ may.leave.once;
         line = first_waits_kept s q n process_ends (meaning.line_of s n) k.was may.leave.line;
       }
+
+  -- ---- the call is given up, and nobody is inside
+
+  pub call_is : call g p l state_ends machine_ends q ends.caller ends.slot ends.monitor ends.entries returns ≡ c
+  call_is = ap named.current (sym (calls_were g p l state_ends machine_ends q ends.caller ends.slot ends.monitor ends.entries returns)) ∙ (ap (λ (x : Process). named.current x.calls) here_process ∙ ap named.current calls_are)
+
+  there_n : n < length s.components
+  there_n = let a = k.rep.component_count in let b = may.there in omega (arith, a, b)
+
+  abbrev pub state_left : State
+  state_left = record s { processes = slice_set state_ends.processes q (process_back g p l state_ends machine_ends q ends.caller ends.slot ends.monitor ends.entries returns None) }
+
+  abbrev pub machine_left : Machine
+  machine_left = record machine_ends { threads = slice_set machine_ends.threads q (thread_back g p l state_ends machine_ends q ends.caller ends.slot ends.monitor ends.entries returns None) }
+
+  abbrev pub machine_empty : Machine
+  machine_empty = record machine_left { monitors = slice_set m.monitors j (record { holder = None; line = (monitor_at m j).line }) }
+
+  pub left_so : Represents g p l state_left machine_empty
+  left_so =
+      left_free g p l state_ends machine_ends q ends.caller ends.slot ends.monitor ends.entries returns None tt n j may.is there_n (ap (λ (d : Call). d.kind) call_is ∙ entry) (ap (λ (d : Call). d.component) call_is ∙ component) leave_ends
+
+  pub nobody : first_inside n state_left.processes ≡ None
+  nobody =
+      none_left n q (process_back g p l state_ends machine_ends q ends.caller ends.slot ends.monitor ends.entries returns None) state_ends.processes returns.there leave_ends.exclusive
+      (outside g p l state_ends machine_ends q ends.caller ends.slot ends.monitor ends.entries returns None tt n j may.is there_n (ap (λ (d : Call). d.kind) call_is ∙ entry) (ap (λ (d : Call). d.component) call_is ∙ component) leave_ends)
+
+  known_j : j < length m.monitors
+  known_j = may.leave.known j may.is
+
+  pub known_empty : j < length machine_empty.monitors
+  known_empty = let e = length-set m.monitors j (record { holder = None; line = (monitor_at m j).line }) in let w = known_j in omega (arith, e, w)
+
+  -- ---- the queue is emptied
+
+  module _ (y : Name) (u : Ty) (choices : List Choice) (offset : ℕ) (there : n < length g.tables.components) (known : look y (l.systems (component_at g.tables n).system).variables ≡ Some u) (chosen : chosen_at u choices ≡ Some (offset, queue_type)) where
+    abbrev pub at : ℕ
+    at = resumed.at g p l state_left machine_empty left_so may.apart may.parts_apart may.leave.own n j may.is known_empty nobody y u choices offset there known chosen
+
+    abbrev pub old_queue : Value
+    old_queue = resumed.old_queue g p l state_left machine_empty left_so may.apart may.parts_apart may.leave.own n j may.is known_empty nobody y u choices offset there known chosen
+
+    abbrev pub state_emptied : State
+    state_emptied = record state_left { components = resumed.emptied g p l state_left machine_empty left_so may.apart may.parts_apart may.leave.own n j may.is known_empty nobody y u choices offset there known chosen }
+
+    -- the machine that the queue's cell is written in, before the monitor is let go
+    abbrev pub machine_emptied : Machine
+    machine_emptied = record machine_left { permanents = slice_set m.permanents at (pos 0) }
+
+    line_left : FirstWaits state_emptied n (meaning.line_of state_emptied n)
+    line_left =
+        subst (λ ks. FirstWaits state_emptied n ks) (sym (resumed.lines_same g p l state_left machine_empty left_so may.apart may.parts_apart may.leave.own n j may.is known_empty nobody y u choices offset there known chosen n))
+        (first_waits_kept state_ends q n (process_back g p l state_ends machine_ends q ends.caller ends.slot ends.monitor ends.entries returns None) (meaning.line_of s n) returns.was leave_ends.line)
+
+    -- nobody waited: the line is let in
+    none_on : old_queue ≡ queue_value None → Represents g p l (meaning.continuing state_emptied n None) (machine.continued machine_left j at)
+    none_on free =
+        subst (λ o. Represents g p l (meaning.continuing state_emptied n None) (machine.resumed o machine_emptied j)) (sym (resumed.found_none g p l state_left machine_empty left_so may.apart may.parts_apart may.leave.own n j may.is known_empty nobody y u choices offset there known chosen free))
+        (subst (λ w. Represents g p l (meaning.let_in s.gates state_emptied n) w) (let_in_freed machine_emptied j known_j)
+        (lets_in g p l state_emptied (record machine_emptied { monitors = slice_set m.monitors j (record { holder = None; line = (monitor_at m j).line }) }) n j
+        (resumed.emptied_none g p l state_left machine_empty left_so may.apart may.parts_apart may.leave.own n j may.is known_empty nobody y u choices offset there known chosen free) may.leave.own may.is known_empty
+        (subst (λ i. n < i) (sym (resumed.count g p l state_left machine_empty left_so may.apart may.parts_apart may.leave.own n j may.is known_empty nobody y u choices offset there known chosen)) there_n) nobody line_left))
+
+    -- a process waited: it goes on inside
+    some_on : (r : ℕ) → old_queue ≡ queue_value (Some r) → Represents g p l (meaning.continuing state_emptied n (Some r)) (machine.continued machine_left j at)
+    some_on r somebody =
+        let w = resumed.is_waiting g p l state_left machine_empty left_so may.apart may.parts_apart may.leave.own n j may.is known_empty nobody y u choices offset there known chosen r somebody in
+        subst (λ (v : Status). Represents g p l (if meaning.is_delayed_in n v then meaning.made_ready state_emptied r else meaning.let_in s.gates state_emptied n) (machine.continued machine_left j at)) (sym w.1)
+        (subst (λ b. Represents g p l (if b then meaning.made_ready state_emptied r else meaning.let_in s.gates state_emptied n) (machine.continued machine_left j at)) (sym (eq-eqb n n refl))
+        (subst (λ o. Represents g p l (meaning.made_ready state_emptied r) (machine.resumed o machine_emptied j)) (sym (resumed.found_some g p l state_left machine_empty left_so may.apart may.parts_apart may.leave.own n j may.is known_empty nobody y u choices offset there known chosen r somebody))
+        (subst (λ v. Represents g p l (meaning.made_ready state_emptied r) v) (machine_same r)
+        (resumed.resumed_some g p l state_left machine_empty left_so may.apart may.parts_apart may.leave.own n j may.is known_empty nobody y u choices offset there known chosen r somebody (called_left r w.0 w.1)))))
+      where
+        -- the monitor is written once and twice
+        machine_same : (r : ℕ) → (record machine_emptied { threads = slice_set machine_left.threads r (record (thread_at machine_left.threads r) { status = status.Ready }); monitors = slice_set (slice_set m.monitors j (record { holder = None; line = (monitor_at m j).line })) j (record { holder = Some r; line = (monitor_at machine_empty j).line }) })
+            ≡ machine.goes_in machine_emptied j r (monitor_at machine_emptied j).line
+        machine_same r =
+            ap (λ (w : Monitor). record machine_emptied { threads = slice_set machine_left.threads r (record (thread_at machine_left.threads r) { status = status.Ready }); monitors = slice_set (slice_set m.monitors j (record { holder = None; line = (monitor_at m j).line })) j (record { holder = Some r; line = w.line }) })
+            (set_here m.monitors j (record { holder = None; line = (monitor_at m j).line }) no_monitor known_j)
+            ∙ ap (λ (ms : List Monitor). record machine_emptied { threads = slice_set machine_left.threads r (record (thread_at machine_left.threads r) { status = status.Ready }); monitors = ms }) (set_set m.monitors j (record { holder = None; line = (monitor_at m j).line }) (record { holder = Some r; line = (monitor_at m j).line }))
+
+        called_left : (r : ℕ) → r < length state_left.processes → (named.process_at state_left.processes r).status ≡ delayed n → has_entry n (named.process_at state_left.processes r).calls ≡ true
+        called_left r h e =
+            let other : r ≢ q = (λ d. absurd (let w : ready ≡ delayed n = sym (ap (λ b. (named.process_at state_left.processes b).status) d ∙ ap (λ (x : Process). x.status) (set_here state_ends.processes q (process_back g p l state_ends machine_ends q ends.caller ends.slot ends.monitor ends.entries returns None) no_process returns.there)) ∙ e in cc)) in
+            let same : named.process_at state_left.processes r ≡ named.process_at s.processes r =
+            set_there state_ends.processes q r (process_back g p l state_ends machine_ends q ends.caller ends.slot ends.monitor ends.entries returns None) no_process other ∙ set_there s.processes q r process_ends no_process other in
+            ap (λ (x : Process). has_entry n x.calls) same
+            ∙ may.called r (let a = length-set state_ends.processes q (process_back g p l state_ends machine_ends q ends.caller ends.slot ends.monitor ends.entries returns None) in let b = length-set s.processes q process_ends in omega (arith, a, b, h)) (sym (ap (λ (x : Process). x.status) same) ∙ e)
+
+    -- what the queue has says who goes on
+    pub continues_on : (o : Option ℕ) → old_queue ≡ queue_value o → Represents g p l (meaning.continuing state_emptied n o) (machine.continued machine_left j at)
+    continues_on None free = none_on free
+    continues_on (Some r) somebody = some_on r somebody
