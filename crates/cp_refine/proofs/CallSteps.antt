@@ -61,7 +61,7 @@ is_own Own e = refl
 is_own d e = absurd (cc)
 
 -- the innermost call is one of the component that its frame says
-call_component : (r : Tables) (l : Layouts) (m : Memory) (cs : List Call) (f : Frame) (fs : List Frame) → CallsHold r l m cs (f ∷ fs) → (current cs).component ≡ f.component
+pub call_component : (r : Tables) (l : Layouts) (m : Memory) (cs : List Call) (f : Frame) (fs : List Frame) → CallsHold r l m cs (f ∷ fs) → (current cs).component ≡ f.component
 call_component r l m [] f fs h = absurd h
 call_component r l m (c ∷ cs) f fs h = h.0.component
 

@@ -17,9 +17,12 @@ pub mod Calling
 pub mod Cases
 pub mod Choosing
 pub mod ComponentPlaces
+pub mod Continuing
 pub mod Control
 pub mod CopyAssignments
 pub mod Counting
+pub mod Delayed
+pub mod Delaying
 pub mod Displaying
 pub mod Ending
 pub mod Expressions
@@ -44,7 +47,10 @@ pub mod Parts
 pub mod PermanentBlocks
 pub mod Phases
 pub mod PlacesApart
+pub mod QueueParts
+pub mod QueueWriting
 pub mod Reading
+pub mod Resumed
 pub mod Returning
 pub mod Rewriting
 pub mod Running

@@ -221,7 +221,7 @@ module _ (g : Ground) (p : Program) (l : Layouts) (s : State) (m : Machine) (q :
 
   module _ (o : Option Name) (goes : ResultGoes (here p l caller.routine) o (l.meanings thread.frame.routine).result) (n j : ℕ) (is : (component_at g.tables n).kind ≡ kind.Monitor j) (there_n : n < length s.components)
       (entry : call.kind ≡ entry_routine) (same : call.component ≡ n) (may : MayLeave g s m q n) where
-    has_returned : HasReturned n (process_back o) before
+    pub has_returned : HasReturned n (process_back o) before
     has_returned =
         record {
           out = entries_back o n ∙ (sym (ap (λ cs. has_entry n (callers cs)) calls_were) ∙ may.once);
@@ -229,19 +229,19 @@ module _ (g : Ground) (p : Program) (l : Layouts) (s : State) (m : Machine) (q :
         }
 
     -- nobody is inside, and the line is not let in yet
-    abbrev state_out : State
+    abbrev pub state_out : State
     state_out = record s { processes = slice_set s.processes q (process_back o) }
 
-    abbrev machine_out : Machine
+    abbrev pub machine_out : Machine
     machine_out = with_thread m q (thread_back (result_cell (here p l caller.routine) o))
 
-    abbrev machine_freed : Machine
+    abbrev pub machine_freed : Machine
     machine_freed = record machine_out { monitors = slice_set m.monitors j (record { holder = None; line = (monitor_at m j).line }) }
 
     pub left_free : Represents g p l state_out machine_freed
     left_free = gates.leaves g p l s m q (process_back o) (thread_back (result_cell (here p l caller.routine) o)) n j k.rep may.own is (may.known j is) there_n k.there k.was has_returned may.exclusive refl k.was_slot (stands_back o goes)
 
-    outside : is_inside n (process_back o) ≡ false
+    pub outside : is_inside n (process_back o) ≡ false
     outside = ap (λ b. b && true) has_returned.out
 
     pub lets_line_in : Represents g p l (meaning.let_in s.gates state_out n) (machine.let_in machine_out j)
