@@ -1,8 +1,7 @@
 -- A component that is named: its number on slots is that of the component that stands at the place on names.
-use Rattle.std.proofs.Common.{◌≡◌, ◌∙◌, ℕ, suc, ◌+◌, ◌-◌, ◌*◌, ◌^◌, min, ◌<◌, ◌≤◌, ◌==◌, Bool, true, false, if◌then◌else◌, List, [], ◌∷◌, ◌++◌, Option, Some, None, ap, sym, refl, subst, arith, length, append_assoc}
+use Rattle.std.proofs.Common.{◌≡◌, ◌∙◌, ℕ, suc, ◌+◌, ◌-◌, ◌*◌, ◌^◌, min, ◌<◌, ◌≤◌, Bool, true, false, if◌then◌else◌, List, [], ◌∷◌, ◌++◌, Option, Some, None, ap, sym, refl, subst, arith, length, append_assoc}
 use Rattle.std.specs.Prelude.{ℤ, pos, ◌+ℤ◌, ◌-ℤ◌, neg_ℤ, unsigned_abs, slice_index_or, Result, Ok, Err}
 use Rattle.std.proofs.lemmas.Bool.{eq-eqb}
-use Rattle.cp_tree.specs.declared.constant.Identifier.{Identifier}
 use Rattle.cp_tree.specs.Syntax.{Designator, designator, Selectors, no_selectors, more_selectors, Selector, field, index}
 use Rattle.cp_slots.specs.Code as code
 use Rattle.cp_slots.specs.Tables.{Tables}
@@ -27,7 +26,7 @@ use Rattle.cp_meaning.specs.Systems.{system_of}
 use Rattle.cp_meaning.specs.Operations.{Typed}
 use Rattle.cp_meaning.specs.Places.{View, Target, content_of, target_meant, target_named, plain_place, with_choice, this_component, component_with, component_known, component_there}
 use Rattle.cp_meaning.specs.Expressions.{value, target_value, selected, chosen, with_field, with_index, with_element_of}
-use Rattle.cp_meaning.specs.Lifting.{expression_calls, designator_calls, selectors_calls, selector_calls}
+use Rattle.cp_meaning.specs.Lifting.{designator_calls, selectors_calls, selector_calls}
 use Rattle.cp_resolved.specs.Layouts.{Layouts, Here, system_here, is_parameter, is_own}
 use Rattle.cp_resolved.specs.Compiled as compiled
 use Rattle.cp_resolved.specs.Compiled.{Form, as_ordinal, as_set, as_place, as_component, Formed, Designated, a_variable, some_components, a_component, then_form, component_begun, permanent_begun, result_begun, begun_form, part_of_form, field_of_form, with_field_form, element_of_form, with_element_form, with_index_form, expression_form, designator_form, selected_form, chosen_form}

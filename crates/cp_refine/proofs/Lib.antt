@@ -12,6 +12,7 @@ pub mod Blocks
 pub mod BlocksInCalls
 pub mod BlocksInComponents
 pub mod CallArguments
+pub mod CallRuns
 pub mod CallSteps
 pub mod Calling
 pub mod Cases
