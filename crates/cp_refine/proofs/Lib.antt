@@ -18,6 +18,7 @@ pub mod Calling
 pub mod Cases
 pub mod Choosing
 pub mod ComponentPlaces
+pub mod ComponentsSeen
 pub mod Continuing
 pub mod Control
 pub mod CopyAssignments
