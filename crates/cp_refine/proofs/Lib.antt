@@ -9,6 +9,7 @@ pub mod CallSteps
 pub mod Calling
 pub mod Cases
 pub mod Choosing
+pub mod ContinueSteps
 pub mod Continuing
 pub mod Control
 pub mod Counting
@@ -20,6 +21,7 @@ pub mod Expressions
 pub mod FramesBelow
 pub mod Gates
 pub mod GivenUp
+pub mod Giving
 pub mod InitialEnding
 pub mod Kept
 pub mod LeastValues
