@@ -89,7 +89,7 @@ module _ (r : Tables) (l : Layouts) (fs : List Frame) (lay : FrameLayout) (m : M
       let at : onward f.base slot ≡ cell_of q = ap (onward f.base) same ∙ onward_is f.base (cell_named lay q.name) (let a = few in omega (arith, a, inside)) in
       subst (λ k. PutsBlock n k (Local (cell_of q)) (encode w)) (sym (put_is m n f slot b gives.value ∙ ap (λ a. put_value n (Local a) b) at))
       (gives.puts n (Local (cell_of q)) (keeps n i b gives.value) (ap length i.permanents) (let e = i.many in let d = base_is in omega (arith, e, d))
-      (record { permanents = subst (λ xs. length xs < 2 ^ 64) (sym i.permanents) few_permanents; cells = (let e = i.many in let a = few in omega (arith, e, a)) })
+      (record { permanents = subst (λ xs. length xs < 2 ^ 64) (sym i.permanents) few_permanents; cells = (let e = i.many in let a = few in omega (arith, e, a)); references = (let e = i.places in let a = few_references in omega (arith, e, a)) })
       (let e = i.many in omega (arith, e, inside)) (source_apart (cell_named lay q.name) (cells_of q.ty) b gives.value))
 
   value_binds : (q : Parameter) (w : Value) (n n2 : Memory) → Binds n → PutsBlock n n2 (Local (cell_of q)) (encode w) → Binds n2

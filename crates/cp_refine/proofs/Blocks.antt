@@ -12,7 +12,8 @@ use Rattle.cp_meaning.specs.Types.{Ty}
 use Rattle.cp_meaning.specs.Values.{Value, Choice, with_part}
 use Rattle.cp_resolved.specs.Layouts.{cells_of}
 use Rattle.cp_resolved.specs.Encoded.{encode, set_cells, HasType, chosen_at}
-use Rattle.cp_refine.specs.Given.{OthersKept, PutsBlock, IsNumbered}
+use Rattle.cp_refine.specs.Agrees.{Few}
+use Rattle.cp_refine.specs.Given.{OthersKept, PutsBlock}
 use Rattle.cp_refine.specs.Represents.{further, LiesAt}
 use Rattle.cp_refine.proofs.Moving.{same_or_other}
 use Rattle.cp_refine.proofs.Parts.{encode_length}
@@ -77,7 +78,7 @@ one_written m m2 a ws n cells z h has less e =
 abbrev pub ReadsFirst : (from to : Address) → ℕ → Type 0
 ReadsFirst from to n = (i k : ℕ) → i < k → k < n → further from k ≢ further to i
 
-pub copy_writes : (m : Memory) (to from : Address) (ws : List ℤ) (size n : ℕ) → IsNumbered m → HasCells m to size → HasCells m from size → ((k : ℕ) → k < size → cell_at m (further from k) ≡ slice_index_or ws k (pos 0)) → ReadsFirst from to size → n ≤ size → WritesFirst m (put_copy m to from n) to ws n
+pub copy_writes : (m : Memory) (to from : Address) (ws : List ℤ) (size n : ℕ) → Few m → HasCells m to size → HasCells m from size → ((k : ℕ) → k < size → cell_at m (further from k) ≡ slice_index_or ws k (pos 0)) → ReadsFirst from to size → n ≤ size → WritesFirst m (put_copy m to from n) to ws n
 copy_writes m to from ws size zero few has source lies reads le = none_written m to ws
 copy_writes m to from ws size (suc n) few has source lies reads le =
     let ih = copy_writes m to from ws size n few has source lies reads (omega (arith, le)) in
@@ -104,7 +105,7 @@ quad_put m at a0 a1 a2 a3 x y0 y1 y2 y3 e0 e1 e2 e3 d0 d1 d2 d3 =
 abbrev word : ℕ → ℕ → ℕ
 word b k = (b / 2 ^ (16 * k)) % 2 ^ 16
 
-module _ (m : Memory) (a : Address) (b : ℕ) (few : IsNumbered m) (has : HasCells m a 8) (small : b < 2 ^ 128) where
+module _ (m : Memory) (a : Address) (b : ℕ) (few : Few m) (has : HasCells m a 8) (small : b < 2 ^ 128) where
   from : (j k n : ℕ) → j + k ≡ n → n ≤ 8 → moved (further a j) k ≡ further a n
   from j k n e le = on_from m a j k few has (omega (arith, e, le)) ∙ ap (further a) e
 

@@ -1,5 +1,5 @@
 -- What names of components stand for in a state for which a machine stands.
-use Rattle.std.proofs.Common.{◌≡◌, ◌∙◌, ℕ, ◌+◌, ◌*◌, ◌-◌, ◌^◌, ◌<◌, true, false, List, [], ◌∷◌, Option, Some, None, ap, sym, refl, subst, arith, length}
+use Rattle.std.proofs.Common.{◌≡◌, ◌∙◌, ℕ, ◌+◌, ◌*◌, ◌^◌, ◌<◌, true, false, List, [], ◌∷◌, Option, Some, None, ap, sym, refl, subst, arith, length}
 use Rattle.std.specs.Prelude.{slice_index_or}
 use Rattle.cp_tree.specs.Syntax.{Program}
 use Rattle.cp_slots.specs.Tables.{Tables, component_at}
@@ -8,7 +8,7 @@ use Rattle.cp_store.specs.Memory.{Memory, onward}
 use Rattle.cp_machine.specs.Machine.{Machine}
 use Rattle.cp_meaning.specs.Components.{Path, step_down}
 use Rattle.cp_meaning.specs.Names.{Name}
-use Rattle.cp_meaning.specs.Types.{Ty, Range, component_of, array_over, length_of_range, has_components}
+use Rattle.cp_meaning.specs.Types.{Ty, Range, component_of, array_over, has_components}
 use Rattle.cp_meaning.specs.Scopes.{permanent_variable, find}
 use Rattle.cp_meaning.specs.State as named
 use Rattle.cp_meaning.specs.State.{Call, current, knows, State}

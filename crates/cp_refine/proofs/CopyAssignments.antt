@@ -46,7 +46,6 @@ use Rattle.cp_refine.proofs.Parts.{encode_length}
 use Rattle.cp_refine.proofs.PlacesApart.{places_apart}
 use Rattle.cp_refine.proofs.Reading.{AllLie}
 use Rattle.cp_refine.proofs.Running.{Executes, all_lie, frames_below, sees_now}
-use Rattle.cp_refine.proofs.SetCells.{are_numbered}
 use Rattle.cp_refine.proofs.VariableExpressions.{of_variable, place_found}
 use Rattle.cp_refine.proofs.Views.{views_agree}
 use Rattle.cp_refine.proofs.WritingCalls.{FramesApart}
@@ -83,7 +82,7 @@ module _ (g : Ground) (p : Program) (l : Layouts) (s : State) (m : Machine) (q a
       let source = seen.lies b t from i in
       let len = encode_length t (value_at (view_of p s q) b) source.typed in
       subst (λ n. WritesFirst (memory_at m q) (put_copy (memory_at m q) to from (cells_of t)) to (encode (value_at (view_of p s q) b)) n) (sym len)
-      (copy_writes (memory_at m q) to from (encode (value_at (view_of p s q) b)) (cells_of t) (cells_of t) (are_numbered (memory_at m q) ex.few) target.cells source.cells (λ j less. source.block j (omega (arith, less, len))) (reads_first from to (cells_of t) (beside a b to from h i)) (omega arith))
+      (copy_writes (memory_at m q) to from (encode (value_at (view_of p s q) b)) (cells_of t) (cells_of t) ex.few target.cells source.cells (λ j less. source.block j (omega (arith, less, len))) (reads_first from to (cells_of t) (beside a b to from h i)) (omega arith))
 
   success : (a b : Place) (to from : Address) (o : Option ℕ) → o ≡ mid → PlaceAt g.tables l fs a t to → PlaceAt g.tables l fs b t from →
       StepIs g p l q line (settled p s q (becomes (stored (view_of p s q) a (value_at (view_of p s q) b)) (xs ++ ys))) (statements.local (cells_put (with_stack m q (rest_of o es)) q to from (cells_of t)))

@@ -72,7 +72,7 @@ pub record QueueNamed (g : Ground) (p : Program) (l : Layouts) (s : State) (m : 
   -- it is one of the component whose statement names it
   pub own : (t : Target) → target_value (view_of p s q) designator ≡ Ok t → t.place.holder ≡ in_component (this_component (view_of p s q))
 
-abbrev place_with : Place → Holder → Place
+abbrev pub place_with : Place → Holder → Place
 place_with x h = record { holder = h; name = x.name; choices = x.choices }
 
 module _ (g : Ground) (p : Program) (l : Layouts) (s : State) (m : Machine) (q at token : ℕ) (d : Designator) (e : Expression) (more : Expressions) (mid : Option ℕ) (es : List Entry) (xs ys : List Item) (k : Taken g p l s m q at (statement_item (invoke token d (more_expressions e more))) mid es xs ys)

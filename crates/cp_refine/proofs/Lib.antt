@@ -19,6 +19,7 @@ pub mod Cases
 pub mod Choosing
 pub mod ComponentPlaces
 pub mod ComponentsSeen
+pub mod ContinueSteps
 pub mod Continuing
 pub mod Control
 pub mod CopyAssignments
@@ -31,6 +32,7 @@ pub mod Expressions
 pub mod FramesBelow
 pub mod Gates
 pub mod GivenUp
+pub mod Giving
 pub mod InitialEnding
 pub mod Kept
 pub mod LeastValues
@@ -49,6 +51,7 @@ pub mod Parts
 pub mod PermanentBlocks
 pub mod Phases
 pub mod PlacesApart
+pub mod QueueNames
 pub mod QueueParts
 pub mod QueueWriting
 pub mod Reading

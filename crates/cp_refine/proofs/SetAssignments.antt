@@ -47,7 +47,6 @@ use Rattle.cp_refine.proofs.Expressions.{expression_ok, designator_ok}
 use Rattle.cp_refine.proofs.Kept.{kept_left, kept_right}
 use Rattle.cp_refine.proofs.Members.{bits_below, set_with}
 use Rattle.cp_refine.proofs.Running.{Executes, frames_below, sees_now}
-use Rattle.cp_refine.proofs.SetCells.{are_numbered}
 use Rattle.cp_refine.proofs.SetRanges.{set_range_same}
 use Rattle.cp_refine.proofs.Sets.{members_of_type}
 use Rattle.cp_refine.proofs.Views.{views_agree}
@@ -83,7 +82,7 @@ module _ (g : Ground) (p : Program) (l : Layouts) (s : State) (m : Machine) (q a
       block_success g p l s m q at line (statement_item (assign token d e)) mid es xs ys k (set_over range) known place a (set_value ns) o n
       (subst (λ hs. PlaceAt g.tables l hs place (set_over range) a) (sym (top_frame (thread_at m.threads q).frame es).1) h) typed (λ x. set_written x a (set_with (bits_of ns)))
       (subst (λ (x : Memory). WritesBlock (memory_at m q) x a (set_cells (bits_of ns))) (sym (set_written_is (memory_at m q) a (set_with (bits_of ns))))
-      (set_writes (memory_at m q) a (bits_of ns) (are_numbered (memory_at m q) ex.few) (seen.lies place (set_over range) a h).cells (let w = bits_below 0 ns (omega arith) typed in omega (arith, w))))
+      (set_writes (memory_at m q) a (bits_of ns) ex.few (seen.lies place (set_over range) a h).cells (let w = bits_below 0 ns (omega arith) typed in omega (arith, w))))
 
   in_range : (place : Place) (a : Address) (ns : List ℕ) (o : Option ℕ) → o ≡ mid → PlaceAt g.tables l fs place (set_over range) a → AreMembers 0 ns →
       StepIs g p l q line (settled p s q (assigned (view_of p s q) (record { place = place; ty = set_over range }) (set_value ns) >>= λ u. becomes u (xs ++ ys))) (statements.set_assigned m q line (natural_of range.low) (natural_of range.high) (rest_of o es) (set_with (bits_of ns)) a)

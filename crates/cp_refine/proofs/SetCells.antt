@@ -13,7 +13,6 @@ use Rattle.cp_meaning.specs.Types.{Range, set_over}
 use Rattle.cp_meaning.specs.Values.{set_value}
 use Rattle.cp_resolved.specs.Encoded.{bits_of, set_cells}
 use Rattle.cp_refine.specs.Agrees.{Few}
-use Rattle.cp_refine.specs.Given.{IsNumbered}
 use Rattle.cp_refine.specs.Represents.{further, LiesAt}
 use Rattle.cp_refine.proofs.Members.{bits_below}
 
@@ -48,18 +47,15 @@ no_further (Permanent n) = ap Permanent (omega arith)
 no_further (Local n) = ap Local (omega arith)
 
 -- to a cell that is there one moves by exactly that many cells
-pub moved_on : (m : Memory) (a : Address) (all k : ℕ) → IsNumbered m → HasCells m a all → k ≤ all → moved a k ≡ further a k
+pub moved_on : (m : Memory) (a : Address) (all k : ℕ) → Few m → HasCells m a all → k ≤ all → moved a k ≡ further a k
 moved_on m (Permanent n) all k few h le = ap Permanent (let p = few.permanents in omega (arith, p, h, le))
 moved_on m (Local n) all k few h le = ap Local (let p = few.cells in omega (arith, p, h, le))
 
-pub on_from : (m : Memory) (a : Address) (j k : ℕ) → IsNumbered m → HasCells m a 8 → j + k ≤ 8 → moved (further a j) k ≡ further a (j + k)
+pub on_from : (m : Memory) (a : Address) (j k : ℕ) → Few m → HasCells m a 8 → j + k ≤ 8 → moved (further a j) k ≡ further a (j + k)
 on_from m (Permanent n) j k few h le = ap Permanent (let p = few.permanents in omega (arith, p, h, le))
 on_from m (Local n) j k few h le = ap Local (let p = few.cells in omega (arith, p, h, le))
 
-pub are_numbered : (m : Memory) → Few m → IsNumbered m
-are_numbered m few = record { permanents = few.permanents; cells = few.cells }
-
-module _ (m : Memory) (a : Address) (b : ℕ) (few : IsNumbered m) (has : HasCells m a 8) (block : (k : ℕ) → k < 8 → cell_at m (further a k) ≡ slice_index_or (set_cells b) k (pos 0)) where
+module _ (m : Memory) (a : Address) (b : ℕ) (few : Few m) (has : HasCells m a 8) (block : (k : ℕ) → k < 8 → cell_at m (further a k) ≡ slice_index_or (set_cells b) k (pos 0)) where
   word_lies : (k : ℕ) → k < 8 → slice_index_or (set_cells b) k (pos 0) ≡ cast_signed w16 (word b k) → word_at m (further a k) ≡ word b k
   word_lies k less e = ap (cast_unsigned w16) (block k less ∙ e) ∙ of_z-to_z w16 (word b k) (omega arith)
 
@@ -90,4 +86,4 @@ module _ (m : Memory) (a : Address) (b : ℕ) (few : IsNumbered m) (has : HasCel
 pub set_lies : (m : Memory) (r : Range) (ns : List ℕ) (a : Address) → Few m → LiesAt m (set_over r) (set_value ns) a → (stored_at m a).members ≡ bits_of ns
 set_lies m r ns a few h =
     let below = bits_below 0 ns (omega arith) h.typed in
-    stored_is m a (bits_of ns) (are_numbered m few) h.cells h.block (omega (arith, below))
+    stored_is m a (bits_of ns) few h.cells h.block (omega (arith, below))

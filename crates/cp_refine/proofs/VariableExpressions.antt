@@ -377,6 +377,13 @@ module _ (r : Tables) (l : Layouts) (fs : List Frame) (v : View) (m : Memory) (f
       designated d z p (own_calls n.token d no_expressions (n.calls kept))
       (plain_name h n.token d (find (name_of d) h.scope) z p (ap (λ b. named_form h n.token d b (find (name_of d) h.scope) (designator_form h d) None) (sym plain) ∙ (sym n.same_form ∙ formed)) k) k
 
+  -- an array, a record or a queue that is named alone
+  pub variable_place : (e : Expression) (d : Designator) (z : Formed) (p : code.Place) → AreKept h (expression_calls h.scope e) → variable_in e ≡ Some d → expression_form h e ≡ Some z → z.form ≡ as_place p → TargetAgrees r l fs (target_value v d) z.ty (plain_address m f p)
+  variable_place e d z p kept named_by formed is =
+      let n = variable_is v h e d named_by in
+      let found = place_name v h n.token d (first_value v no_expressions) None (is_call h.scope d) (find (name_of d) h.scope) z (sym n.same_form ∙ formed) (subst IsPlace (sym is) tt) in
+      designated d z p (own_calls n.token d no_expressions (n.calls kept)) found.1 (place_of_place z.form p is)
+
 -- ---- a component
 
 no_component : (p : code.Place) (t : Ty) (c : code.ComponentPlace) → loaded_form p t ≡ as_component c → ⊥

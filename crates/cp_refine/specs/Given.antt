@@ -1,5 +1,5 @@
 -- When what arguments give on slots is what they give on names.
-use Rattle.std.specs.Prelude.{◌≡◌, ℕ, ◌^◌, ◌<◌, ◌≤◌, true, false, ℤ, pos, List, [], ◌∷◌, length, slice_index_or, Result, Ok, Err}
+use Rattle.std.specs.Prelude.{◌≡◌, ℕ, ◌<◌, ◌≤◌, true, false, ℤ, pos, List, [], ◌∷◌, length, slice_index_or, Result, Ok, Err}
 use Rattle.cp_slots.specs.declared.place.Argument.{Argument}
 use Rattle.cp_slots.specs.Tables.{Tables}
 use Rattle.cp_store.specs.declared.argument.Bound.{Bound}
@@ -20,6 +20,7 @@ use Rattle.cp_meaning.specs.State.{Content, holds, refers, Environment}
 use Rattle.cp_meaning.specs.Places.{View, Target, component_there}
 use Rattle.cp_resolved.specs.Layouts.{Layouts, cells_of}
 use Rattle.cp_resolved.specs.Encoded.{encode, HasType}
+use Rattle.cp_refine.specs.Agrees.{Few}
 use Rattle.cp_refine.specs.Named.{error_of}
 use Rattle.cp_refine.specs.Represents.{further, PlaceAt}
 
@@ -57,16 +58,11 @@ abbrev pub IsApartFrom : Address → ℕ → Bound → Type 0
 IsApartFrom a cells (Copy from size) = (j k : ℕ) → j < cells → k < size → further a j ≡ further from k → ⊥
 IsApartFrom a cells b = Unit {0}
 
--- memories have as many cells and references as machine words can number
-pub record IsNumbered (m : Memory) : Type 0 where
-  pub permanents : length m.permanents < 2 ^ 64
-  pub cells : length m.cells < 2 ^ 64
-
 -- wherever the value is put, its cells are there
 pub record GivesValue (m : Memory) (t : Ty) (w : Value) (b : Bound) : Type 0 where
   pub typed : HasType t w
   pub value : IsValue m b
-  pub puts : (m2 : Memory) (a : Address) → Keeps m m2 b → length m2.permanents ≡ length m.permanents → length m.cells ≤ length m2.cells → IsNumbered m2 → HasCells m2 a (cells_of t) → IsApartFrom a (cells_of t) b → PutsBlock m2 (put_value m2 a b) a (encode w)
+  pub puts : (m2 : Memory) (a : Address) → Keeps m m2 b → length m2.permanents ≡ length m.permanents → length m.cells ≤ length m2.cells → Few m2 → HasCells m2 a (cells_of t) → IsApartFrom a (cells_of t) b → PutsBlock m2 (put_value m2 a b) a (encode w)
 
 -- ---- the arguments of a call, and of a start
 
