@@ -22,6 +22,7 @@ pub mod FramesBelow
 pub mod Gates
 pub mod GivenUp
 pub mod Giving
+pub mod Handing
 pub mod InitialEnding
 pub mod Kept
 pub mod LeastValues
