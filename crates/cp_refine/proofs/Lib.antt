@@ -4,6 +4,7 @@ pub mod Apart
 pub mod Assigning
 pub mod Assignments
 pub mod Begun
+pub mod BegunProcess
 pub mod Binding
 pub mod CallSteps
 pub mod Calling
@@ -22,6 +23,7 @@ pub mod FramesBelow
 pub mod Gates
 pub mod GivenUp
 pub mod Giving
+pub mod Handed
 pub mod Handing
 pub mod InitialEnding
 pub mod Kept
