@@ -70,7 +70,7 @@ module _ (g : Ground) (p : Program) (l : Layouts) (s : State) (m : Machine) (rep
   abbrev pub components_after : List Component
   components_after = slice_set s.components d changed
 
-  hands : Hands lay mem m.bindings base own can.hand memory bindings
+  pub hands : Hands lay mem m.bindings base own can.hand memory bindings
   hands = hands_all lay mem m.bindings base own can.hand qs e old xs bs can.parameters can.distinct given can.not_both can.closed
 
   there_d : d < length s.components

@@ -40,6 +40,7 @@ pub mod Parts
 pub mod PermanentAssigning
 pub mod Permanents
 pub mod Phases
+pub mod ProcessStarts
 pub mod QueueParts
 pub mod QueueWriting
 pub mod Reading
