@@ -55,7 +55,7 @@ use Rattle.cp_refine.proofs.Views.{views_agree}
 
 -- ---- what an argument gives by its view
 
-scalar_bound : (m : Memory) (bindings : List ℕ) (f : Frame) (a : ArgumentValue) (c : code.Expression) (low high : ℤ) → code.value_seen a ≡ code.scalar c low high → bound_at m bindings f a ≡ then_with (plain_value m f c) (λ z. then_with (ranged low high z) (λ v. Ok (Scalar v)))
+pub scalar_bound : (m : Memory) (bindings : List ℕ) (f : Frame) (a : ArgumentValue) (c : code.Expression) (low high : ℤ) → code.value_seen a ≡ code.scalar c low high → bound_at m bindings f a ≡ then_with (plain_value m f c) (λ z. then_with (ranged low high z) (λ v. Ok (Scalar v)))
 scalar_bound m bindings f (value_of.Scalar e l h) c low high k =
     let same : code.expression_seen e ≡ c = cc in
     let below : l ≡ low = cc in
@@ -64,7 +64,7 @@ scalar_bound m bindings f (value_of.Scalar e l h) c low high k =
     ∙ (ap (λ n. then_with (plain_value m f c) (λ z. then_with (ranged n h z) (λ v. Ok (Scalar v)))) below ∙ ap (λ n. then_with (plain_value m f c) (λ z. then_with (ranged low n z) (λ v. Ok (Scalar v)))) above)
 scalar_bound m bindings f a c low high k = absurd (cc)
 
-set_bound : (m : Memory) (bindings : List ℕ) (f : Frame) (a : ArgumentValue) (c : code.SetExpression) (low high : ℕ) → code.value_seen a ≡ code.set c low high → bound_at m bindings f a ≡ then_with (plain_set m f c) (λ z. then_with (sets.ranged low high z) (λ v. Ok (Set v)))
+pub set_bound : (m : Memory) (bindings : List ℕ) (f : Frame) (a : ArgumentValue) (c : code.SetExpression) (low high : ℕ) → code.value_seen a ≡ code.set c low high → bound_at m bindings f a ≡ then_with (plain_set m f c) (λ z. then_with (sets.ranged low high z) (λ v. Ok (Set v)))
 set_bound m bindings f (value_of.Set e l h) c low high k =
     let same : code.set_seen e ≡ c = cc in
     let below : l ≡ low = cc in
@@ -73,7 +73,7 @@ set_bound m bindings f (value_of.Set e l h) c low high k =
     ∙ (ap (λ n. then_with (plain_set m f c) (λ z. then_with (sets.ranged n h z) (λ v. Ok (Set v)))) below ∙ ap (λ n. then_with (plain_set m f c) (λ z. then_with (sets.ranged low n z) (λ v. Ok (Set v)))) above)
 set_bound m bindings f a c low high k = absurd (cc)
 
-copy_bound : (m : Memory) (bindings : List ℕ) (f : Frame) (a : ArgumentValue) (c : code.Place) (size : ℕ) → code.value_seen a ≡ code.copy c size → bound_at m bindings f a ≡ then_with (plain_address m f c) (λ at. Ok (Copy at size))
+pub copy_bound : (m : Memory) (bindings : List ℕ) (f : Frame) (a : ArgumentValue) (c : code.Place) (size : ℕ) → code.value_seen a ≡ code.copy c size → bound_at m bindings f a ≡ then_with (plain_address m f c) (λ at. Ok (Copy at size))
 copy_bound m bindings f (value_of.Copy e n) c size k =
     let same : code.place_seen e ≡ c = cc in
     let long : n ≡ size = cc in
@@ -103,7 +103,7 @@ has_more : (m m2 : Memory) (a : Address) (n : ℕ) → length m2.permanents ≡ 
 has_more m m2 (Permanent k) n e le h = omega (arith, e, h)
 has_more m m2 (Local k) n e le h = omega (arith, le, h)
 
-copy_given : (m : Memory) (t : Ty) (w : Value) (from : Address) → LiesAt m t w from → GivesValue m t w (Copy from (cells_of t))
+pub copy_given : (m : Memory) (t : Ty) (w : Value) (from : Address) → LiesAt m t w from → GivesValue m t w (Copy from (cells_of t))
 copy_given m t w from lies =
     record {
       typed = lies.typed;
@@ -125,7 +125,7 @@ ValueAgrees m t (Err e) (Err d) = error_of e ≡ d
 ValueAgrees m t o r = ⊥
 
 -- the value is bound where it is in the range
-abbrev held : Ty → Outcome Typed → Outcome Content
+abbrev pub held : Ty → Outcome Typed → Outcome Content
 held t o = o >>= λ x. checked t x.value >>= λ w. Ok (holds w)
 
 number_bound : (m : Memory) (r : Range) (t : Ty) (o : Outcome Typed) (s : Result ℤ slots.ErrorName) → RangeKnown (ordinal r) → OrdinalAgrees o t s → ValueAgrees m (ordinal r) (held (ordinal r) o) (then_with s (λ z. then_with (ranged r.low r.high z) (λ v. Ok (Scalar v))))

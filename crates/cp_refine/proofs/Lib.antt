@@ -6,6 +6,7 @@ pub mod Arguments
 pub mod Assigning
 pub mod Assignments
 pub mod Begun
+pub mod BegunProcess
 pub mod Binding
 pub mod BlockStores
 pub mod Blocks
@@ -33,6 +34,8 @@ pub mod FramesBelow
 pub mod Gates
 pub mod GivenUp
 pub mod Giving
+pub mod Handed
+pub mod Handing
 pub mod InitialEnding
 pub mod Kept
 pub mod LeastValues
@@ -51,6 +54,7 @@ pub mod Parts
 pub mod PermanentBlocks
 pub mod Phases
 pub mod PlacesApart
+pub mod ProcessStarts
 pub mod QueueNames
 pub mod QueueParts
 pub mod QueueWriting

@@ -80,7 +80,7 @@ no_place x (d ∷ a) y h e = go (same_name x d.0) (no_place x a y h.1) e
 
 -- ---- parameters by their names
 
-others_named : (x : Name) (qs : List Parameter) → look x (parameter_variables qs) ≡ None → IsOther x qs
+pub others_named : (x : Name) (qs : List Parameter) → look x (parameter_variables qs) ≡ None → IsOther x qs
 others_named x [] e = tt
 others_named x (q ∷ qs) e = go (same_name x q.name) refl (others_named x qs) e
   where

@@ -1,5 +1,5 @@
 -- When what arguments give on slots is what they give on names.
-use Rattle.std.specs.Prelude.{◌≡◌, ℕ, ◌<◌, ◌≤◌, true, false, ℤ, pos, List, [], ◌∷◌, length, slice_index_or, Result, Ok, Err}
+use Rattle.std.specs.Prelude.{◌≡◌, ℕ, ◌+◌, ◌<◌, ◌≤◌, ◌⊎◌, true, false, ℤ, pos, List, [], ◌∷◌, length, slice_index_or, Result, Ok, Err}
 use Rattle.cp_slots.specs.declared.place.Argument.{Argument}
 use Rattle.cp_slots.specs.Tables.{Tables}
 use Rattle.cp_store.specs.declared.argument.Bound.{Bound}
@@ -13,10 +13,10 @@ use Rattle.cp_store.specs.Inside.{HasCells}
 use Rattle.cp_store.specs.Memory.{Memory, cell_at}
 use Rattle.cp_meaning.specs.Names.{Name}
 use Rattle.cp_meaning.specs.Outcome.{Outcome}
-use Rattle.cp_meaning.specs.Types.{Ty}
+use Rattle.cp_meaning.specs.Types.{Ty, component_of}
 use Rattle.cp_meaning.specs.Values.{Value}
 use Rattle.cp_meaning.specs.Declarations.{Parameter}
-use Rattle.cp_meaning.specs.State.{Content, holds, refers, Environment}
+use Rattle.cp_meaning.specs.State.{Content, holds, refers, knows, Environment}
 use Rattle.cp_meaning.specs.Places.{View, Target, component_there}
 use Rattle.cp_resolved.specs.Layouts.{Layouts, cells_of}
 use Rattle.cp_resolved.specs.Encoded.{encode, HasType}
@@ -64,7 +64,7 @@ pub record GivesValue (m : Memory) (t : Ty) (w : Value) (b : Bound) : Type 0 whe
   pub value : IsValue m b
   pub puts : (m2 : Memory) (a : Address) → Keeps m m2 b → length m2.permanents ≡ length m.permanents → length m.cells ≤ length m2.cells → Few m2 → HasCells m2 a (cells_of t) → IsApartFrom a (cells_of t) b → PutsBlock m2 (put_value m2 a b) a (encode w)
 
--- ---- the arguments of a call, and of a start
+-- ---- the arguments of a call
 
 -- a parameter of a routine holds a value or refers to a place
 abbrev pub IsBound : Tables → Layouts → List Frame → Memory → Parameter → Content → Bound → Type 0
@@ -77,6 +77,24 @@ abbrev pub AreBound : Tables → Layouts → List Frame → Memory → (Name →
 AreBound r l fs m slots [] [] [] [] = Unit {0}
 AreBound r l fs m slots (q ∷ qs) (d ∷ e) (x ∷ xs) (b ∷ bs) = (d.0 ≡ q.name) × (x.slot ≡ slots q.name) × IsBound r l fs m q d.1 b × AreBound r l fs m slots qs e xs bs
 AreBound r l fs m slots qs e xs bs = ⊥
+
+-- ---- the arguments of a start
+
+-- what is copied lies outside the permanent cells of the component that is started
+abbrev pub IsOutside : (base own : ℕ) → Bound → Type 0
+IsOutside base own (Copy (Permanent from) size) = (from + size ≤ base) ⊎ (base + own ≤ from)
+IsOutside base own b = Unit {0}
+
+-- a parameter of a component holds a value, or knows a component
+abbrev pub IsHanded : Memory → (base own : ℕ) → Parameter → Content → Bound → Type 0
+IsHanded m base own q (holds w) b = GivesValue m q.ty w b × IsOutside base own b
+IsHanded m base own q (knows c) (Component n) = (k : ℕ) × (q.ty ≡ component_of k) × (c ≡ n)
+IsHanded m base own q c b = ⊥
+
+abbrev pub AreHanded : Memory → (base own : ℕ) → (Name → ℕ) → List Parameter → Environment → List Argument → List Bound → Type 0
+AreHanded m base own slots [] [] [] [] = Unit {0}
+AreHanded m base own slots (q ∷ qs) (d ∷ e) (x ∷ xs) (b ∷ bs) = (d.0 ≡ q.name) × (x.slot ≡ slots q.name) × IsHanded m base own q d.1 b × AreHanded m base own slots qs e xs bs
+AreHanded m base own slots qs e xs bs = ⊥
 
 -- the same, or the same error
 abbrev pub BoundsAgree : (Environment → List Bound → Type 0) → Outcome Environment → Result (List Bound) slots.ErrorName → Type 0

@@ -7,4 +7,3 @@ pub mod Named
 pub mod PlainValues
 pub mod Remaining
 pub mod Represents
-pub mod Started
