@@ -1,6 +1,5 @@
 -- Of tables that stand for a program, variables are apart: those of frames, those of components, and the frames of a process.
 use Rattle.std.proofs.Common.{◌≡◌, ◌≢◌, ℕ, zero, suc, ◌+◌, ◌<◌, ◌≤◌, ◌⊎◌, inl, inr, Bool, true, false, List, [], ◌∷◌, ap, sym, refl, subst, arith, length, Some}
-use Rattle.std.specs.Prelude.{ℤ}
 use Rattle.std.proofs.lemmas.Slice.Eq.{bytes_eq-Decides}
 use Rattle.cp_tree.specs.Syntax.{Program}
 use Rattle.cp_slots.specs.Systems.{IsTyped}
@@ -11,15 +10,13 @@ use Rattle.cp_machine.specs.declared.process.Entry.TheVariants.{Rest, Successor,
 use Rattle.cp_machine.specs.Fits.{StackFits, ThreadFits, size_of}
 use Rattle.cp_machine.specs.Machine.{Machine, thread_at}
 use Rattle.cp_meaning.specs.Names.{Name, same_name}
-use Rattle.cp_meaning.specs.Types.{Range, Ty, ordinal, is_within}
-use Rattle.cp_meaning.specs.Values.{number_value}
-use Rattle.cp_resolved.specs.Encoded.{HasType}
+use Rattle.cp_meaning.specs.Types.{Ty}
 use Rattle.cp_resolved.specs.Layouts.{cells_of, Layouts, look}
 use Rattle.cp_resolved.specs.Resolved.{RoutineIs, SystemIs}
 use Rattle.cp_resolved.specs.Stands.{Ground}
 use Rattle.cp_refine.specs.Represents.{frames_of}
-use Rattle.cp_refine.proofs.Assigning.{CallsKnown}
 use Rattle.cp_refine.proofs.Control.{top_frame}
+use Rattle.cp_refine.proofs.LocalBlocks.{CallsApart}
 use Rattle.cp_refine.proofs.Moving.{same_or_other}
 use Rattle.cp_refine.proofs.Writing.{ComponentsApart}
 use Rattle.cp_refine.proofs.WritingCalls.{FrameApart, FramesApart, Below}
@@ -54,14 +51,12 @@ frames_apart r f (Return caller slot monitor ∷ es) h = frames_below_base (size
 frames_apart r f (InitEnd caller component ∷ es) h = frames_below_base (size_of r) f.base caller es (let e = h.0.cells in omega (arith, e)) (frames_apart r caller es h.2)
 
 -- what an assignment to a variable of an open call wants to know
-pub calls_known : (g : Ground) (p : Program) (l : Layouts) (m : Machine) (q at : ℕ) (es : List Entry) (range : Range) → ((n : ℕ) → n < length g.tables.routines → RoutineIs g p l n) → ThreadFits g.tables (thread_at m.threads q) → (thread_at m.threads q).stack ≡ Rest at ∷ es →
-    ((z : ℤ) → is_within range z ≡ true → HasType (ordinal range) (number_value z)) → CallsKnown g l m q es range
-calls_known g p l m q at es range routines fits stack base =
+pub calls_apart : (g : Ground) (p : Program) (l : Layouts) (m : Machine) (q at : ℕ) (es : List Entry) → ((n : ℕ) → n < length g.tables.routines → RoutineIs g p l n) → ThreadFits g.tables (thread_at m.threads q) → (thread_at m.threads q).stack ≡ Rest at ∷ es → CallsApart g l m q es
+calls_apart g p l m q at es routines fits stack =
     record {
       size = size_of g.tables;
       apart = λ n h. frame_apart g p l n (routines n h);
       frames = frames_apart g.tables (thread_at m.threads q).frame es (subst (λ (us : List Entry). StackFits g.tables (thread_at m.threads q).frame us) stack fits.stack).1;
-      base = base;
     }
 
 -- ---- the variables of components

@@ -39,7 +39,7 @@ use Rattle.cp_refine.proofs.Expressions.{expression_ok, designator_ok}
 use Rattle.cp_meaning.specs.Lifting.{expression_calls, designator_calls}
 use Rattle.cp_refine.proofs.Kept.{kept_left, kept_right}
 use Rattle.cp_refine.proofs.Views.{views_agree}
-use Rattle.cp_refine.proofs.Running.{Executes, Leaves, frames_below, sees_now}
+use Rattle.cp_refine.proofs.Running.{Executes, frames_below, sees_now}
 
 is_assign : (a : Action) (p : code.Place) (c : code.Expression) (low high : ℤ) → code.action_seen a ≡ code.assign p c low high → (t : code_place.Place) × (x : code_expression.Expression) × (a ≡ action.Assign t x low high) × (code.place_seen t ≡ p) × (code.expression_seen x ≡ c)
 is_assign (action.Assign t x l h) p c low high e = (t, x, cc, cc, cc)
@@ -78,13 +78,12 @@ module _ (g : Ground) (p : Program) (l : Layouts) (s : State) (m : Machine) (q a
 
 -- the whole step, for any variable that is found
 pub assign_runs : (g : Ground) (p : Program) (l : Layouts) (s : State) (m : Machine) (q at token : ℕ) (d : Designator) (e : Expression) (mid : Option ℕ) (es : List Entry) (xs ys : List Item) → (k : Taken g p l s m q at (statement_item (assign token d e)) mid es xs ys) → (ex : Executes g p l m q) →
-    Leaves g p l s m q at (statement_item (assign token d e)) mid es xs ys k ex →
     (range : Range) (t : Ty) (c : code.Expression) (place : code.Place) → ItemAt g at token mid (code.assign place c range.low range.high) →
     designator_form (here p l (thread_at m.threads q).frame.routine) d ≡ Some (a_variable place (ordinal range)) → expression_form (here p l (thread_at m.threads q).frame.routine) e ≡ Some (record { ty = t; form = as_ordinal c }) →
     ((w : Place) (a : Address) (z : ℤ) (o : Option ℕ) → o ≡ mid → PlaceAt g.tables l ((thread_at m.threads q).frame ∷ frames_below g p l s m q at (statement_item (assign token d e)) mid es xs ys k ex) w (ordinal range) a → is_within range z ≡ true →
     StepIs g p l q (slice_index g.lines token) (settled p s q (becomes (stored (view_of p s q) w (number_value z)) (xs ++ ys))) (statements.local (number_put (with_stack m q (rest_of o es)) q a z))) →
     StepIs g p l q (slice_index g.lines token) (step_of p s q) (step_at g.tables m q)
-assign_runs g p l s m q at token d e mid es xs ys k ex leaves range t c spot item target formed success =
+assign_runs g p l s m q at token d e mid es xs ys k ex range t c spot item target formed success =
     takes_item g p l s m q at (statement_item (assign token d e)) mid es xs ys k (slice_index g.lines token)
     (let a = is_assign (item_at g.tables at).action spot c range.low range.high item.action in
     acts g p l s m q at (statement_item (assign token d e)) mid es xs ys k (slice_index g.lines token) token (code.assign spot c range.low range.high) (action.Assign a.0 a.1 range.low range.high) _ item a.2
@@ -95,8 +94,8 @@ assign_runs g p l s m q at token d e mid es xs ys k ex leaves range t c spot ite
     (subst (λ (r : Result Address slots.ErrorName). StepIs g p l q (slice_index g.lines token) result (statements.with_value (plain_value (memory_at m q) (thread_at m.threads q).frame c) (statements.fault m q (slice_index g.lines token)) (λ v. statements.with_value r (statements.fault m q (slice_index g.lines token)) (statements.assigned m q (slice_index g.lines token) range.low range.high (rest_of it.next es) v))))
     (sym (views_agree.place (memory_at m q) (thread_at m.threads q).frame a.0 ∙ ap (plain_address (memory_at m q) (thread_at m.threads q).frame) a.3))
     (outcomes g p l s m q at token d e mid es xs ys k range fs success t (value (view_of p s q) e) (plain_value (memory_at m q) (thread_at m.threads q).frame c) (target_value (view_of p s q) d) (plain_address (memory_at m q) (thread_at m.threads q).frame spot) it.next n
-    (expression_ok g.tables l fs (view_of p s q) (memory_at m q) (thread_at m.threads q).frame this sees leaves e (record { ty = t; form = as_ordinal c }) (kept_right this (designator_calls this.scope d) (expression_calls this.scope e) k.kept) formed)
-    (designator_ok g.tables l fs (view_of p s q) (memory_at m q) (thread_at m.threads q).frame this sees leaves d (a_variable spot (ordinal range)) (kept_left this (designator_calls this.scope d) (expression_calls this.scope e) k.kept) target))))))
+    (expression_ok g.tables l fs (view_of p s q) (memory_at m q) (thread_at m.threads q).frame this sees e (record { ty = t; form = as_ordinal c }) (kept_right this (designator_calls this.scope d) (expression_calls this.scope e) k.kept) formed)
+    (designator_ok g.tables l fs (view_of p s q) (memory_at m q) (thread_at m.threads q).frame this sees d (a_variable spot (ordinal range)) (kept_left this (designator_calls this.scope d) (expression_calls this.scope e) k.kept) target))))))
   where
     fs : List Frame
     fs = (thread_at m.threads q).frame ∷ frames_below g p l s m q at (statement_item (assign token d e)) mid es xs ys k ex

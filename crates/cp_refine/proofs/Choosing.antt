@@ -126,19 +126,19 @@ field_named (more_field_types y t ts) x c e = go (same_name x y) (λ b d. field_
 
 -- ---- how many elements are before one
 
-natural_is : (d : ℤ) → int_le (pos 0) d ≡ true → unsigned_abs d ≡ natural_of d
+pub natural_is : (d : ℤ) → int_le (pos 0) d ≡ true → unsigned_abs d ≡ natural_of d
 natural_is (pos n) h = grind (arith, ints)
 natural_is (negsuc n) h = absurd (grind (arith, ints))
 
-natural_less : (d e : ℤ) → int_le (pos 0) d ≡ true → int_lt d e ≡ true → natural_of d < natural_of e
+pub natural_less : (d e : ℤ) → int_le (pos 0) d ≡ true → int_lt d e ≡ true → natural_of d < natural_of e
 natural_less (pos n) (pos k) h i = grind (arith, ints)
 natural_less (pos n) (negsuc k) h i = absurd (grind (arith, ints))
 natural_less (negsuc n) e h i = absurd (grind (arith, ints))
 
-above_low : (low high z : ℤ) → (int_le low z && int_le z high) ≡ true → int_le (pos 0) (z +ℤ neg_ℤ low) ≡ true
+pub above_low : (low high z : ℤ) → (int_le low z && int_le z high) ≡ true → int_le (pos 0) (z +ℤ neg_ℤ low) ≡ true
 above_low low high z h = grind (arith, ints)
 
-below_all : (low high z : ℤ) → (int_le low z && int_le z high) ≡ true → int_lt (z +ℤ neg_ℤ low) ((high +ℤ neg_ℤ low) +ℤ pos 1) ≡ true
+pub below_all : (low high z : ℤ) → (int_le low z && int_le z high) ≡ true → int_lt (z +ℤ neg_ℤ low) ((high +ℤ neg_ℤ low) +ℤ pos 1) ≡ true
 below_all low high z h = grind (arith, ints)
 
 -- ---- parts of places

@@ -52,7 +52,7 @@ use Rattle.cp_refine.specs.Remaining.{ItemsAre}
 use Rattle.cp_store.specs.declared.memory.Frame.{Frame}
 use Rattle.cp_refine.proofs.Kept.{kept_left, kept_right}
 use Rattle.cp_refine.proofs.Lists.{statement_items, stack_rest, frames_rest}
-use Rattle.cp_refine.proofs.Running.{Executes, Leaves, frames_below, sees_now}
+use Rattle.cp_refine.proofs.Running.{Executes, frames_below, sees_now}
 use Rattle.cp_refine.proofs.Views.{views_agree}
 
 is_for : (a : Action) (o : Origin) (low high : ℤ) (c d : code.Expression) (down : Bool) (list : Option ℕ) → code.action_seen a ≡ code.for_do o low high c d down list →
@@ -197,7 +197,7 @@ module _ (g : Ground) (p : Program) (l : Layouts) (s : State) (m : Machine) (q a
 -- ---- the step of a `for`
 
 module _ (g : Ground) (p : Program) (l : Layouts) (s : State) (m : Machine) (q at token : ℕ) (i : Identifier) (e : Expression) (d : Direction) (f : Expression) (t : Statement) (mid : Option ℕ) (es : List Entry) (xs ys : List Item)
-    (k : Taken g p l s m q at (statement_item (for_do token i e d f t)) mid es xs ys) (ex : Executes g p l m q) (leaves : Leaves g p l s m q at (statement_item (for_do token i e d f t)) mid es xs ys k ex)
+    (k : Taken g p l s m q at (statement_item (for_do token i e d f t)) mid es xs ys) (ex : Executes g p l m q)
     (stores : (place : Place) (a : Address) → PlaceAt g.tables l ((thread_at m.threads q).frame ∷ frames_below g p l s m q at (statement_item (for_do token i e d f t)) mid es xs ys k ex) place (ordinal k.own.range) a → StoresIn g p l s m q (slice_index g.lines token) es k.own.range place a) where
   abbrev for_item : Item
   for_item = statement_item (for_do token i e d f t)
@@ -251,8 +251,8 @@ module _ (g : Ground) (p : Program) (l : Layouts) (s : State) (m : Machine) (q a
       (subst (λ (r : Result ℤ slots.ErrorName). StepIs g p l q for_line result (statements.with_value (plain_value (memory_at m q) (thread_at m.threads q).frame k.own.from) (statements.fault m q for_line) (λ x. statements.with_value r (statements.fault m q for_line) (statements.for_from m q for_line at k.own.origin k.own.range.low k.own.range.high (is_down d) k.own.body mid es x))))
       (sym (views_agree.value (memory_at m q) (thread_at m.threads q).frame a.1 ∙ ap (plain_value (memory_at m q) (thread_at m.threads q).frame) a.4))
       (outcomes k.own.from_ty k.own.to_ty (value view e) (value view f) (plain_value (memory_at m q) (thread_at m.threads q).frame k.own.from) (plain_value (memory_at m q) (thread_at m.threads q).frame k.own.to)
-      (expression_ok g.tables l frames_now view (memory_at m q) (thread_at m.threads q).frame inside seen leaves e (record { ty = k.own.from_ty; form = as_ordinal k.own.from }) (kept_left inside (expression_calls inside.scope e) (expression_calls inside.scope f) k.kept) k.own.first)
-      (expression_ok g.tables l frames_now view (memory_at m q) (thread_at m.threads q).frame inside seen leaves f (record { ty = k.own.to_ty; form = as_ordinal k.own.to }) (kept_right inside (expression_calls inside.scope e) (expression_calls inside.scope f) k.kept) k.own.last))))))))
+      (expression_ok g.tables l frames_now view (memory_at m q) (thread_at m.threads q).frame inside seen e (record { ty = k.own.from_ty; form = as_ordinal k.own.from }) (kept_left inside (expression_calls inside.scope e) (expression_calls inside.scope f) k.kept) k.own.first)
+      (expression_ok g.tables l frames_now view (memory_at m q) (thread_at m.threads q).frame inside seen f (record { ty = k.own.to_ty; form = as_ordinal k.own.to }) (kept_right inside (expression_calls inside.scope e) (expression_calls inside.scope f) k.kept) k.own.last))))))))
     where
       result : Stepped
       result = settled p s q (value view e >>= λ a. value view f >>= λ b. with_bounds inside.scope a b)

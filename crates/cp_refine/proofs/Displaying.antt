@@ -49,7 +49,7 @@ use Rattle.cp_refine.proofs.Control.{Taken, StepIs, takes_item, acts, fails, goe
 use Rattle.cp_refine.proofs.Expressions.{expression_ok}
 use Rattle.cp_refine.proofs.Kept.{kept_left, kept_right}
 use Rattle.cp_refine.proofs.Numbers.{is_true_same}
-use Rattle.cp_refine.proofs.Running.{Executes, Leaves, frames_below, sees_now}
+use Rattle.cp_refine.proofs.Running.{Executes, frames_below, sees_now}
 use Rattle.cp_refine.proofs.Views.{views_agree}
 
 is_display : (a : Action) (c : code.Expression) (k : ShownKind) → code.action_seen a ≡ code.display c k → (x : code_expression.Expression) × (a ≡ action.Display x k) × (code.expression_seen x ≡ c)
@@ -178,8 +178,8 @@ module _ (g : Ground) (p : Program) (l : Layouts) (s : State) (m : Machine) (q a
     abbrev pub own_display : DisplayItem g this at token e mid
     own_display = subst (λ (w : Option Meaning). InvokedBy g this at token w d (more_expressions e more) mid) standard k.own
 
-    pub display_step : (ex : Executes g p l m q) → Leaves g p l s m q at item_here mid es xs ys k ex → FewConstants g own_display.range.base → StepIs g p l q line (step_of p s q) (step_at g.tables m q)
-    display_step ex leaves few =
+    pub display_step : (ex : Executes g p l m q) → FewConstants g own_display.range.base → StepIs g p l q line (step_of p s q) (step_at g.tables m q)
+    display_step ex few =
         takes_item g p l s m q at item_here mid es xs ys k line
         (subst (λ (w : Option Meaning). StepIs g p l q line (settled p s q (invoked (view_of p s q) q w d (more_expressions e more) (xs ++ ys))) (act g.tables m q at (item_at g.tables at) (item_at g.tables at).action es))
         (sym (ap (find (name_of d)) (scope_is g p l s m q at item_here mid es xs ys k) ∙ standard))
@@ -190,7 +190,7 @@ module _ (g : Ground) (p : Program) (l : Layouts) (s : State) (m : Machine) (q a
         (subst (λ (r : Result ℤ slots.ErrorName). StepIs g p l q line result (statements.with_value r (statements.fault m q line) (λ v. statements.show m q (rest_of item.next es) (shown_as (kind_of g.firsts own_display.range.base) v))))
         (sym (views_agree.value (memory_at m q) (thread_at m.threads q).frame a.0 ∙ ap (plain_value (memory_at m q) (thread_at m.threads q).frame) a.2))
         (outcomes own_display.range few (value (view_of p s q) e) (plain_value (memory_at m q) (thread_at m.threads q).frame own_display.cell)
-        (expression_ok g.tables l ((thread_at m.threads q).frame ∷ frames_below g p l s m q at item_here mid es xs ys k ex) (view_of p s q) (memory_at m q) (thread_at m.threads q).frame this (sees_now g p l s m q at item_here mid es xs ys k ex) leaves e (record { ty = ordinal own_display.range; form = as_ordinal own_display.cell })
+        (expression_ok g.tables l ((thread_at m.threads q).frame ∷ frames_below g p l s m q at item_here mid es xs ys k ex) (view_of p s q) (memory_at m q) (thread_at m.threads q).frame this (sees_now g p l s m q at item_here mid es xs ys k ex) e (record { ty = ordinal own_display.range; form = as_ordinal own_display.cell })
         (kept_left this (expression_calls this.scope e) (expressions_calls this.scope more) (kept_right this (designator_calls this.scope d) (expression_calls this.scope e ++ expressions_calls this.scope more) k.kept)) own_display.formed) item.next n)))))
       where
         result : Stepped

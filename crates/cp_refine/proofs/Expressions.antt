@@ -1,5 +1,5 @@
 -- Expressions give the same on names and on slots: the induction.
-use Rattle.std.proofs.Common.{◌≡◌, ◌∙◌, ℕ, ◌+◌, ◌++◌, Bool, true, false, not, if◌then◌else◌, List, Option, Some, None, ap, sym, refl, subst, arith}
+use Rattle.std.proofs.Common.{◌≡◌, ◌∙◌, ℕ, ◌+◌, ◌++◌, Bool, true, false, not, if◌then◌else◌, List, [], Option, Some, None, ap, sym, refl, subst, arith}
 use Rattle.std.specs.Prelude.{ℤ, pos, neg_ℤ, int_lt, ◌&&◌, Result, Ok, Err}
 use Rattle.cp_tree.specs.declared.constant.Identifier.{Identifier}
 use Rattle.cp_tree.specs.declared.constant.Sign.{Sign}
@@ -24,12 +24,12 @@ use Rattle.cp_meaning.specs.Values.{Value, number_value, array_value, record_val
 use Rattle.cp_meaning.specs.Scopes.{Scope, Meaning, constant_meaning, type_meaning, local_variable, permanent_variable, routine_meaning, standard_meaning, Standard, find}
 use Rattle.cp_meaning.specs.Operations.{Typed, truth, is_true, related_values, added_values, multiplied_values, signed_value, standard_value, range_of_base}
 use Rattle.cp_meaning.specs.Places.{View, Target, target_named, value_at, plain_place, this_call}
-use Rattle.cp_meaning.specs.Expressions.{value, sum_value, terms_value, term_value, factors_value, factor_value, first_value, target_value, selected, chosen, named_value, call_value, result_called, routine_called}
+use Rattle.cp_meaning.specs.Expressions.{value, sum_value, terms_value, term_value, factors_value, factor_value, first_value, members_value, with_member_checked, target_value, selected, chosen, named_value, call_value, result_called, routine_called}
 use Rattle.cp_meaning.specs.Lifting.{is_call, own_call, expression_calls, sum_calls, terms_calls, term_calls, factors_calls, factor_calls, expressions_calls, designator_calls, selectors_calls, selector_calls}
 use Rattle.cp_slots.specs.Code as code
 use Rattle.cp_refine.specs.PlainValues.{plain_value, plain_set, plain_address}
 use Rattle.cp_resolved.specs.Layouts.{Layouts, Here, frame_here, look}
-use Rattle.cp_resolved.specs.Compiled.{Form, as_ordinal, as_set, as_place, as_component, Formed, Designated, a_variable, some_components, a_component, then_form, is_integer, is_boolean, compared_forms, added_forms, multiplied_forms, signed_ordinal, signed_form, not_form_of, not_form, applied_form, valued_form, loaded_form, call_form, constant_form, named_form, begun_form, expression_form, sum_form, terms_form, term_form, factors_form, factor_form, first_form, designator_form, selected_form, chosen_form}
+use Rattle.cp_resolved.specs.Compiled.{Form, as_ordinal, as_set, as_place, as_component, Formed, Designated, a_variable, some_components, a_component, then_form, is_integer, is_boolean, compared_forms, added_forms, multiplied_forms, signed_ordinal, signed_form, not_form_of, not_form, applied_form, valued_form, loaded_form, call_form, constant_form, named_form, begun_form, expression_form, sum_form, terms_form, term_form, factors_form, factor_form, first_form, members_form, set_form, with_member_form, designator_form, selected_form, chosen_form}
 use Rattle.cp_resolved.specs.Encoded.{encode, HasType}
 use Rattle.cp_refine.specs.Represents.{further, BlockAt, LiesAt}
 use Rattle.cp_refine.specs.Agrees.{OrdinalAgrees, SetAgrees, PlaceAgrees, FormAgrees, TargetAgrees, DesignatedAgrees, BegunAgrees, Sees}
@@ -38,6 +38,7 @@ use Rattle.cp_refine.proofs.Choosing.{field_ok, index_ok}
 use Rattle.cp_refine.proofs.Kept.{kept_left, kept_right}
 use Rattle.cp_refine.proofs.Standards.{base_again, signed_plus, applied_ok}
 use Rattle.cp_refine.proofs.Numbers.{fits_narrowed, not_same}
+use Rattle.cp_refine.proofs.Sets.{sets_related, member, sets_added, sets_multiplied, set_loaded, MembersAgree, member_added, set_constructed, members_done}
 use Rattle.cp_refine.proofs.Values.{then_some, FormOk, one_agrees, related_cells, added_agree, multiplied_agree, truth_range}
 
 -- ---- what lies at an address
@@ -56,16 +57,6 @@ number_lies m r w a h = go w h.typed h.block
     go (record_value fs) t b = absurd t
     go (set_value ns) t b = absurd t
     go (queue_value o) t b = absurd t
-
--- ---- what is left: sets
-
-pub record LeavesAgree (r : Tables) (l : Layouts) (fs : List Frame) (v : View) (m : Memory) (f : Frame) (h : Here) : Type 0 where
-  pub sets_related : (q : Relation) (t u : Ty) (a b : code.SetExpression) (o p : Outcome Typed) → SetAgrees o t (plain_set m f a) → SetAgrees p u (plain_set m f b) → FormOk m f (o >>= λ x. p >>= λ y. Ok (truth (related_values q x.value y.value))) (compared_forms q (as_set a) (as_set b))
-  pub member : (q : Relation) (t u : Ty) (a : code.Expression) (b : code.SetExpression) (o p : Outcome Typed) → OrdinalAgrees o t (plain_value m f a) → SetAgrees p u (plain_set m f b) → FormOk m f (o >>= λ x. p >>= λ y. Ok (truth (related_values q x.value y.value))) (compared_forms q (as_ordinal a) (as_set b))
-  pub sets_added : (op : Addition) (x y : Formed) (a b : code.SetExpression) (o p : Outcome Typed) → SetAgrees o x.ty (plain_set m f a) → SetAgrees p y.ty (plain_set m f b) → FormOk m f (o >>= λ x. p >>= λ y. added_values op x.value y.value) (added_forms op x y (as_set a) (as_set b))
-  pub sets_multiplied : (op : Multiplication) (x y : Formed) (a b : code.SetExpression) (o p : Outcome Typed) → SetAgrees o x.ty (plain_set m f a) → SetAgrees p y.ty (plain_set m f b) → FormOk m f (o >>= λ x. p >>= λ y. multiplied_values op x.value y.value) (multiplied_forms op x y (as_set a) (as_set b))
-  pub constructed : (at : ℕ) (es : Expressions) → FormOk m f (factor_value v (set_of at es)) (factor_form h (set_of at es))
-  pub set_loaded : (q : Range) (p : code.Place) (w : Value) (a : Address) → plain_address m f p ≡ Ok a → LiesAt m (set_over q) w a → SetAgrees (Ok (record { ty = set_over q; value = w })) (set_over q) (plain_set m f (code.load_set p))
 
 -- ---- binding
 
@@ -88,11 +79,11 @@ both_true : (a b : Bool) → (a && b) ≡ true → (a ≡ true) × (b ≡ true)
 both_true true b h = (refl, h)
 both_true false b h = absurd (cc)
 
-module _ (r : Tables) (l : Layouts) (fs : List Frame) (v : View) (m : Memory) (f : Frame) (h : Here) (sees : Sees r l fs v m f h) (leaves : LeavesAgree r l fs v m f h) where
+module _ (r : Tables) (l : Layouts) (fs : List Frame) (v : View) (m : Memory) (f : Frame) (h : Here) (sees : Sees r l fs v m f h) where
   related_ok : (q : Relation) (t u : Ty) (x y : Form) (o p : Outcome Typed) → FormAgrees m f o t x → FormAgrees m f p u y → FormOk m f (o >>= λ a. p >>= λ b. Ok (truth (related_values q a.value b.value))) (compared_forms q x y)
   related_ok q t u (as_ordinal a) (as_ordinal b) o p i j = related_cells m f q t u a b o p i j
-  related_ok q t u (as_ordinal a) (as_set b) o p i j = leaves.member q t u a b o p i j
-  related_ok q t u (as_set a) (as_set b) o p i j = leaves.sets_related q t u a b o p i j
+  related_ok q t u (as_ordinal a) (as_set b) o p i j = member m f q t u a b o p i j
+  related_ok q t u (as_set a) (as_set b) o p i j = sets_related m f q t u a b o p i j
   related_ok q t u (as_ordinal a) (as_place b) o p i j = tt
   related_ok q t u (as_ordinal a) (as_component b) o p i j = tt
   related_ok q t u (as_set a) (as_ordinal b) o p i j = tt
@@ -103,7 +94,7 @@ module _ (r : Tables) (l : Layouts) (fs : List Frame) (v : View) (m : Memory) (f
 
   added_ok : (op : Addition) (x y : Formed) (a b : Form) (o p : Outcome Typed) → FormAgrees m f o x.ty a → FormAgrees m f p y.ty b → FormOk m f (o >>= λ i. p >>= λ j. added_values op i.value j.value) (added_forms op x y a b)
   added_ok op x y (as_ordinal a) (as_ordinal b) o p i j = added_agree m f op x.ty y.ty (is_integer x.ty && is_integer y.ty) (is_boolean x.ty && is_boolean y.ty) a b o p (both_true (is_integer x.ty) (is_integer y.ty)) (both_true (is_boolean x.ty) (is_boolean y.ty)) i j
-  added_ok op x y (as_set a) (as_set b) o p i j = leaves.sets_added op x y a b o p i j
+  added_ok op x y (as_set a) (as_set b) o p i j = sets_added m f op x y a b o p i j
   added_ok op x y (as_ordinal a) (as_set b) o p i j = tt
   added_ok op x y (as_ordinal a) (as_place b) o p i j = tt
   added_ok op x y (as_ordinal a) (as_component b) o p i j = tt
@@ -115,7 +106,7 @@ module _ (r : Tables) (l : Layouts) (fs : List Frame) (v : View) (m : Memory) (f
 
   multiplied_ok : (op : Multiplication) (x y : Formed) (a b : Form) (o p : Outcome Typed) → FormAgrees m f o x.ty a → FormAgrees m f p y.ty b → FormOk m f (o >>= λ i. p >>= λ j. multiplied_values op i.value j.value) (multiplied_forms op x y a b)
   multiplied_ok op x y (as_ordinal a) (as_ordinal b) o p i j = multiplied_agree m f op x.ty y.ty (is_integer x.ty && is_integer y.ty) (is_boolean x.ty && is_boolean y.ty) a b o p (both_true (is_integer x.ty) (is_integer y.ty)) (both_true (is_boolean x.ty) (is_boolean y.ty)) i j
-  multiplied_ok op x y (as_set a) (as_set b) o p i j = leaves.sets_multiplied op x y a b o p i j
+  multiplied_ok op x y (as_set a) (as_set b) o p i j = sets_multiplied m f op x y a b o p i j
   multiplied_ok op x y (as_ordinal a) (as_set b) o p i j = tt
   multiplied_ok op x y (as_ordinal a) (as_place b) o p i j = tt
   multiplied_ok op x y (as_ordinal a) (as_component b) o p i j = tt
@@ -167,7 +158,7 @@ module _ (r : Tables) (l : Layouts) (fs : List Frame) (v : View) (m : Memory) (f
     where
       of_type : (t : Ty) → LiesAt m t (value_at v x.place) a → FormAgrees m f (Ok (record { ty = t; value = value_at v x.place })) t (loaded_form p t)
       of_type (ordinal q) k = number_ok q p x (value_at v x.place) a e k
-      of_type (set_over q) k = leaves.set_loaded q p (value_at v x.place) a e k
+      of_type (set_over q) k = set_loaded m f sees.few q p (value_at v x.place) a e k
       of_type queue_type k = subst (λ (s : Result Address slots.ErrorName). PlaceAgrees m (Ok (record { ty = queue_type; value = value_at v x.place })) queue_type s) (sym e) (refl, k)
       of_type (array_over q u) k = subst (λ (s : Result Address slots.ErrorName). PlaceAgrees m (Ok (record { ty = array_over q u; value = value_at v x.place })) (array_over q u) s) (sym e) (refl, k)
       of_type (record_with ts) k = subst (λ (s : Result Address slots.ErrorName). PlaceAgrees m (Ok (record { ty = record_with ts; value = value_at v x.place })) (record_with ts) s) (sym e) (refl, k)
@@ -300,7 +291,19 @@ module _ (r : Tables) (l : Layouts) (fs : List Frame) (v : View) (m : Memory) (f
     factor_ok (negated at c) z kept e =
         then_some (FormAgrees m f (factor_value v (negated at c)) z.ty z.form) (factor_form h c) _ z e (λ x ex k.
         ok_some m f (factor_value v (negated at c)) (not_form x) z k (not_ok x (is_boolean x.ty) x.form (factor_value v c) refl (factor_ok c x kept ex)))
-    factor_ok (set_of at es) z kept e = ok_some m f (factor_value v (set_of at es)) (factor_form h (set_of at es)) z e (leaves.constructed at es)
+    factor_ok (set_of at es) z kept e =
+        then_some (FormAgrees m f (factor_value v (set_of at es)) z.ty z.form) (members_form h es code.empty_set) set_form z e (λ c ec k.
+        ok_some m f (factor_value v (set_of at es)) (set_form c) z k (set_constructed m f c (members_value v es []) (members_ok es code.empty_set c (Ok []) kept (tt, refl) ec)))
+
+    -- the members of a constructor from left to right
+    members_ok : (es : Expressions) (b c : code.SetExpression) (o : Outcome (List ℕ)) → AreKept h (expressions_calls h.scope es) → MembersAgree o (plain_set m f b) → members_form h es b ≡ Some c → MembersAgree (o >>= members_value v es) (plain_set m f c)
+    members_ok no_expressions b c o kept i e = members_done m f b c o i e
+    members_ok (more_expressions a es) b c o kept i e =
+        then_some (MembersAgree (o >>= members_value v (more_expressions a es)) (plain_set m f c)) (expression_form h a) _ c e (λ x ex k.
+        then_some (MembersAgree (o >>= members_value v (more_expressions a es)) (plain_set m f c)) (with_member_form b x.form) _ c k (λ d ed j.
+        subst (λ (p : Outcome (List ℕ)). MembersAgree p (plain_set m f c)) (chain_assoc o (value v a) with_member_checked (members_value v es))
+        (members_ok es d c (o >>= λ ns. value v a >>= λ y. with_member_checked ns y) (kept_right h (expression_calls h.scope a) (expressions_calls h.scope es) kept)
+        (member_added m f b d x.form x.ty o (value v a) i (expression_ok a x (kept_left h (expression_calls h.scope a) (expressions_calls h.scope es) kept) ex) ed) j)))
 
     pub first_ok : (es : Expressions) (z : Formed) → AreKept h (expressions_calls h.scope es) → first_form h es ≡ Some z → FormAgrees m f (first_value v es) z.ty z.form
     first_ok no_expressions z kept e = absurd (cc)

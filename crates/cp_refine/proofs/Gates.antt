@@ -83,11 +83,11 @@ none_left n (suc q) x (p ∷ ps) less others e =
     let c = none_left n q x ps (omega arith) (λ k h z. others (suc k) (omega arith) (λ w. z (omega (arith, w)))) e in
     ap (λ (b : Bool). if b then Some 0 else after (first_inside n (slice_set ps q x))) d ∙ ap after c
 
-and_false : (b : Bool) → (b && false) ≡ false
+pub and_false : (b : Bool) → (b && false) ≡ false
 and_false true = refl
 and_false false = refl
 
-differs : (a b : ℕ) → (a ≡ b → ⊥) → (a == b) ≡ false
+pub differs : (a b : ℕ) → (a ≡ b → ⊥) → (a == b) ≡ false
 differs a b d = go (a == b) refl
   where
     go : (c : Bool) → (a == b) ≡ c → (a == b) ≡ false

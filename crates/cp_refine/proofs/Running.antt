@@ -27,7 +27,7 @@ use Rattle.cp_resolved.specs.Resolved.{RoutineIs}
 use Rattle.cp_refine.specs.Represents.{LiesAt, PlaceAt, CallsHold, own_memory, all_permanents, Represents}
 use Rattle.cp_refine.specs.Agrees.{Few, Sees}
 use Rattle.cp_refine.proofs.Control.{Taken, StepIs, TestAgrees, top_frame, if_step}
-use Rattle.cp_refine.proofs.Expressions.{LeavesAgree, expression_ok}
+use Rattle.cp_refine.proofs.Expressions.{expression_ok}
 use Rattle.cp_refine.proofs.Reading.{AllLie}
 use Rattle.cp_refine.proofs.Seeing.{sees}
 
@@ -92,14 +92,10 @@ module _ (g : Ground) (p : Program) (l : Layouts) (s : State) (m : Machine) (q a
       by_calls (named.process_at s.processes q).calls frames_below
       (all_lie g p l s m q ((thread_at m.threads q).frame ∷ frames_below) k.rep (subst (λ fs. CallsHold g.tables l (own_memory (thread_at m.threads q)) (named.process_at s.processes q).calls fs) (top_frame (thread_at m.threads q).frame es).1 k.calls))
 
-  -- what of sets is not proved yet
-  abbrev pub Leaves : Type 0
-  Leaves = LeavesAgree g.tables l ((thread_at m.threads q).frame ∷ frames_below) (view_of p s q) (memory_at m q) (thread_at m.threads q).frame (here p l (thread_at m.threads q).frame.routine)
-
-  pub test_agrees : (e : Expression) (c : code.Expression) → Leaves → AreKept (here p l (thread_at m.threads q).frame.routine) (expression_calls (l.meanings (thread_at m.threads q).frame.routine).scope e) → IsTest (here p l (thread_at m.threads q).frame.routine) e c → TestAgrees l p s m q e c
-  test_agrees e c leaves kept test = (test.ty, test.truth, expression_ok g.tables l ((thread_at m.threads q).frame ∷ frames_below) (view_of p s q) (memory_at m q) (thread_at m.threads q).frame (here p l (thread_at m.threads q).frame.routine) sees_now leaves e (record { ty = test.ty; form = as_ordinal c }) kept test.cell)
+  pub test_agrees : (e : Expression) (c : code.Expression) → AreKept (here p l (thread_at m.threads q).frame.routine) (expression_calls (l.meanings (thread_at m.threads q).frame.routine).scope e) → IsTest (here p l (thread_at m.threads q).frame.routine) e c → TestAgrees l p s m q e c
+  test_agrees e c kept test = (test.ty, test.truth, expression_ok g.tables l ((thread_at m.threads q).frame ∷ frames_below) (view_of p s q) (memory_at m q) (thread_at m.threads q).frame (here p l (thread_at m.threads q).frame.routine) sees_now e (record { ty = test.ty; form = as_ordinal c }) kept test.cell)
 
 -- the whole step of an `if`
 pub if_runs : (g : Ground) (p : Program) (l : Layouts) (s : State) (m : Machine) (q at token : ℕ) (e : Expression) (u : Statement) (mid : Option ℕ) (es : List Entry) (xs ys : List Item) → (k : Taken g p l s m q at (statement_item (if_then token e u)) mid es xs ys) → (ex : Executes g p l m q) →
-    Leaves g p l s m q at (statement_item (if_then token e u)) mid es xs ys k ex → StepIs g p l q (slice_index g.lines token) (step_of p s q) (step_at g.tables m q)
-if_runs g p l s m q at token e u mid es xs ys k ex leaves = if_step g p l s m q at token e u mid es xs ys k (test_agrees g p l s m q at (statement_item (if_then token e u)) mid es xs ys k ex e k.own.0 leaves k.kept k.own.2)
+    StepIs g p l q (slice_index g.lines token) (step_of p s q) (step_at g.tables m q)
+if_runs g p l s m q at token e u mid es xs ys k ex = if_step g p l s m q at token e u mid es xs ys k (test_agrees g p l s m q at (statement_item (if_then token e u)) mid es xs ys k ex e k.own.0 k.kept k.own.2)

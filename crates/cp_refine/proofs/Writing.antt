@@ -1,5 +1,5 @@
 -- A number that is written into a variable, or into a part of one: what lies there is the value with that part, and all else lies as it did.
-use Rattle.std.proofs.Common.{◌≡◌, ◌≢◌, ◌∙◌, ℕ, zero, suc, ◌+◌, ◌<◌, ◌⊎◌, inl, inr, Bool, true, false, if◌then◌else◌, List, [], ◌∷◌, Option, Some, None, ap, sym, refl, subst, arith, length, length-set, get_or}
+use Rattle.std.proofs.Common.{◌≡◌, ◌≢◌, ◌∙◌, ℕ, zero, suc, ◌+◌, ◌<◌, ◌⊎◌, inl, inr, Bool, true, false, if◌then◌else◌, List, [], ◌∷◌, Option, Some, None, ap, sym, refl, arith, length, length-set, get_or}
 use Rattle.std.specs.Prelude.{ℤ, pos, slice_index_or}
 use Rattle.std.proofs.lemmas.Slice.Eq.{bytes_eq-Decides}
 use Rattle.cp_slots.specs.Tables.{Tables, component_at}
@@ -12,11 +12,11 @@ use Rattle.cp_meaning.specs.Types.{Range, Ty, ordinal}
 use Rattle.cp_meaning.specs.Values.{Value, number_value, Choice, with_part}
 use Rattle.cp_meaning.specs.State as named
 use Rattle.cp_meaning.specs.State.{Content, holds, Environment, Component, no_component}
-use Rattle.cp_meaning.specs.Places.{content_of, with_content, value_held, with_permanents}
+use Rattle.cp_meaning.specs.Places.{content_of, with_content, value_held}
 use Rattle.cp_resolved.specs.Layouts.{cells_of, Layouts, look}
 use Rattle.cp_resolved.specs.Encoded.{encode, HasType, chosen_at}
 use Rattle.cp_refine.specs.Represents.{further, LiesAt}
-use Rattle.cp_refine.proofs.Parts.{encode_length, part_stands}
+use Rattle.cp_refine.proofs.Parts.{encode_length}
 use Rattle.cp_refine.proofs.Rewriting.{Outside, NewAt, part_new}
 use Rattle.cp_refine.proofs.Moving.{set_here, set_there, same_or_other}
 
@@ -69,7 +69,7 @@ lies_kept m m2 a z t v b w h apart =
       block = λ k less. w.there (further b k) (apart k (omega (arith, n, less))) ∙ h.block k less;
     }
 
-further_apart : (a : Address) (k n : ℕ) → k ≢ n → further a k ≢ further a n
+pub further_apart : (a : Address) (k n : ℕ) → k ≢ n → further a k ≢ further a n
 further_apart (Permanent j) k n d e = (let s : j + k ≡ j + n = cc in d (omega (arith, s)))
 further_apart (Local j) k n d e = (let s : j + k ≡ j + n = cc in d (omega (arith, s)))
 
@@ -138,65 +138,3 @@ abbrev pub ComponentsApart : Tables → Layouts → Type 0
 ComponentsApart r l = (n k : ℕ) (x y : Name) (t u : Ty) → n < length r.components → k < length r.components → look x (l.systems (component_at r n).system).variables ≡ Some t → look y (l.systems (component_at r k).system).variables ≡ Some u →
     ((n ≡ k) × (same_name x y ≡ true)) ⊎
     (((n ≢ k) ⊎ (same_name x y ≡ false)) × ((i j : ℕ) → i < cells_of t → j < cells_of u → (component_at r n).base + (l.systems (component_at r n).system).slots x + i ≢ (component_at r k).base + (l.systems (component_at r k).system).slots y + j))
-
-module _ (r : Tables) (l : Layouts) (cs : List Component) (m m2 : Memory) (lie : ComponentsLie r l cs m) (apart : ComponentsApart r l)
-    (k : ℕ) (y : Name) (u : Ty) (choices : List Choice) (offset : ℕ) (range : Range) (z : ℤ) (there : k < length r.components) (there_named : k < length cs) (known : look y (l.systems (component_at r k).system).variables ≡ Some u)
-    (chosen : chosen_at u choices ≡ Some (offset, ordinal range)) (typed : HasType (ordinal range) (number_value z))
-    (writes : WritesCell m m2 (further (Permanent ((component_at r k).base + (l.systems (component_at r k).system).slots y)) offset) z) where
-  abbrev pub old : Value
-  old = value_held (content_of y (named.component_at cs k).environment)
-
-  abbrev pub new_environment : Environment
-  new_environment = with_content y (holds (with_part old choices (number_value z))) (named.component_at cs k).environment
-
-  abbrev pub after : List Component
-  after = with_permanents cs k new_environment
-
-  abbrev Lies : ℕ → Name → Ty → Type 0
-  Lies n x t = LiesAt m2 t (value_held (content_of x (named.component_at after n).environment)) (Permanent ((component_at r n).base + (l.systems (component_at r n).system).slots x))
-
-  environment_here : (named.component_at after k).environment ≡ new_environment
-  environment_here = ap (λ (c : Component). c.environment) (set_here cs k (record (named.component_at cs k) { environment = new_environment }) no_component there_named)
-
-  environment_there : (n : ℕ) → n ≢ k → (named.component_at after n).environment ≡ (named.component_at cs n).environment
-  environment_there n d = ap (λ (c : Component). c.environment) (set_there cs k n (record (named.component_at cs k) { environment = new_environment }) no_component d)
-
-  target_lies : same_name y y ≡ true → Lies k y u
-  target_lies h =
-      let e : content_of y (named.component_at after k).environment ≡ Some (holds (with_part old choices (number_value z))) = ap (content_of y) environment_here ∙ content_here y y (holds (with_part old choices (number_value z))) (named.component_at cs k).environment h in
-      subst (λ (o : Option Content). LiesAt m2 u (value_held o) (Permanent ((component_at r k).base + (l.systems (component_at r k).system).slots y))) (sym e)
-      (lies_new m m2 z u old (Permanent ((component_at r k).base + (l.systems (component_at r k).system).slots y)) choices offset range writes (lie k y u there known) chosen typed)
-
-  pub content_kept : (n : ℕ) (x : Name) → (n ≢ k) ⊎ (same_name x y ≡ false) → content_of x (named.component_at after n).environment ≡ content_of x (named.component_at cs n).environment
-  content_kept n x (inl d) = ap (content_of x) (environment_there n d)
-  content_kept n x (inr h) = go (same_or_other n k)
-    where
-      go : (n ≡ k) ⊎ (n ≢ k) → content_of x (named.component_at after n).environment ≡ content_of x (named.component_at cs n).environment
-      go (inl e) = ap (λ i. content_of x (named.component_at after i).environment) e ∙ (ap (content_of x) environment_here ∙ (content_there x y (holds (with_part old choices (number_value z))) (named.component_at cs k).environment h ∙ ap (λ i. content_of x (named.component_at cs i).environment) (sym e)))
-      go (inr d) = ap (content_of x) (environment_there n d)
-
-  offset_inside : offset < cells_of u
-  offset_inside =
-      let w = lie k y u there known in
-      let i = (part_stands u old choices (offset, ordinal range) w.typed chosen).inside in
-      let n = encode_length u old w.typed in
-      omega (arith, i, n)
-
-  permanent_is : (a b : ℕ) → Permanent a ≡ Permanent b → a ≡ b
-  permanent_is a b e = cc
-
-  type_is : (a b : Ty) → Some a ≡ Some b → a ≡ b
-  type_is a b e = cc
-
-  pub components_written : ComponentsLie r l after m2
-  components_written n x t less looked = go (apart n k x y t u less there looked known)
-    where
-      go : ((n ≡ k) × (same_name x y ≡ true)) ⊎ (((n ≢ k) ⊎ (same_name x y ≡ false)) × ((i j : ℕ) → i < cells_of t → j < cells_of u → (component_at r n).base + (l.systems (component_at r n).system).slots x + i ≢ (component_at r k).base + (l.systems (component_at r k).system).slots y + j)) → Lies n x t
-      go (inl same) =
-          let ex : x ≡ y = (bytes_eq-Decides x y).0 same.1 in
-          let et : t ≡ u = type_is t u (sym looked ∙ (ap (λ i. look x (l.systems (component_at r i).system).variables) same.0 ∙ (ap (λ w. look w (l.systems (component_at r k).system).variables) ex ∙ known))) in
-          subst (λ i. Lies i x t) (sym same.0) (subst (λ w. Lies k w t) (sym ex) (subst (λ w. Lies k y w) (sym et) (target_lies (subst (λ w. same_name w y ≡ true) ex same.1))))
-      go (inr other) =
-          subst (λ (o : Option Content). LiesAt m2 t (value_held o) (Permanent ((component_at r n).base + (l.systems (component_at r n).system).slots x))) (sym (content_kept n x other.0))
-          (lies_kept m m2 (further (Permanent ((component_at r k).base + (l.systems (component_at r k).system).slots y)) offset) z t (value_held (content_of x (named.component_at cs n).environment)) (Permanent ((component_at r n).base + (l.systems (component_at r n).system).slots x)) writes (lie n x t less looked)
-          (λ i h e. other.1 i offset h offset_inside (permanent_is _ _ e)))

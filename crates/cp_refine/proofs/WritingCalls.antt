@@ -44,7 +44,7 @@ type_is : (a b : Ty) → Some a ≡ Some b → a ≡ b
 type_is a b e = cc
 
 -- a frame of a list lies where the list does
-below_in : (size : ℕ → ℕ) (base below : ℕ) (fs : List Frame) (f : Frame) → Below size base fs → frame_above fs below ≡ Some f → f.base + size f.routine ≤ base
+pub below_in : (size : ℕ → ℕ) (base below : ℕ) (fs : List Frame) (f : Frame) → Below size base fs → frame_above fs below ≡ Some f → f.base + size f.routine ≤ base
 below_in size base below [] f b e = absurd (cc)
 below_in size base below (g ∷ fs) f b e = go (length fs == below) (λ d. below_in size g.base below fs f b.1 d) e
   where
@@ -52,7 +52,7 @@ below_in size base below (g ∷ fs) f b e = go (length fs == below) (λ d. below
     go true ih d = subst (λ (x : Frame). x.base + size x.routine ≤ base) (frame_is g f d) b.0
     go false ih d = let w = ih d in let v = b.0 in omega (arith, w, v)
 
-apart_below : (size : ℕ → ℕ) (base : ℕ) (fs : List Frame) → Below size base fs → FramesApart size fs
+pub apart_below : (size : ℕ → ℕ) (base : ℕ) (fs : List Frame) → Below size base fs → FramesApart size fs
 apart_below size base [] b = tt
 apart_below size base (f ∷ fs) b = b.1
 

@@ -1,5 +1,7 @@
 pub mod Agrees
+pub mod Given
 pub mod InStep
+pub mod Kinds
 pub mod Law
 pub mod Named
 pub mod PlainValues
