@@ -293,9 +293,6 @@ module _ (systems : ℕ → ℕ) (constants_at : ℕ → List Name) where
 
   -- ---- subranges
 
-  low_first : (a b : ℤ) → int_lt b a ≡ false → Unit {0}
-  low_first a b h = tt
-
   ranged_typed : (ss : Shapes) (at : ℕ) (p : Spot) (q r : named.Base × ℤ) (n k : Number) → NumberIs constants_at q n → NumberIs constants_at r k → Good (TypedAs ss p (named.ordinal (record { base = q.0; low = q.1; high = r.1 }))) (typing.ranged at (n, k))
   ranged_typed ss at p q r n k h g = go (same_base n.base k.base) refl
     where
