@@ -70,6 +70,7 @@ pub mod SetRanges
 pub mod Sets
 pub mod Standards
 pub mod StartArguments
+pub mod StartNames
 pub mod Storing
 pub mod Turns
 pub mod Values
