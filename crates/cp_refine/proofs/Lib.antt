@@ -27,6 +27,7 @@ pub mod Handed
 pub mod Handing
 pub mod InitialEnding
 pub mod InitialOpened
+pub mod InitialStarts
 pub mod Kept
 pub mod LeastValues
 pub mod LettingIn
