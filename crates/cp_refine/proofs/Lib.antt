@@ -37,6 +37,8 @@ pub mod Giving
 pub mod Handed
 pub mod Handing
 pub mod InitialEnding
+pub mod InitialOpened
+pub mod InitialStarts
 pub mod Kept
 pub mod LeastValues
 pub mod LettingIn

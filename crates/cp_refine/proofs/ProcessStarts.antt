@@ -55,7 +55,7 @@ use Rattle.cp_refine.proofs.Control.{Taken, StepIs, goes, goes_on_to, still_proc
 use Rattle.cp_refine.proofs.Handed.{CanStart, hands}
 use Rattle.cp_refine.proofs.Moving.{set_here, set_there, same_or_other}
 
-is_start : (a : Action) (c : code.ComponentPlace) (r : ℕ) (xs : List code.Argument) → code.action_seen a ≡ code.start c r xs →
+pub is_start : (a : Action) (c : code.ComponentPlace) (r : ℕ) (xs : List code.Argument) → code.action_seen a ≡ code.start c r xs →
     (d : ComponentPlace) × (ys : Vec Argument Global) × (a ≡ action.Start d r ys) × (code.component_seen d ≡ c) × (map code.argument_seen ys.items ≡ xs)
 is_start (action.Start d n w) c r xs e = (d, w, cc, cc, cc)
 is_start a c r xs e = absurd (cc)
@@ -66,7 +66,7 @@ process_kept d q x [] e h = absurd (omega arith)
 process_kept d zero x (p ∷ ps) e h = ap (λ n. if n == d then Some 0 else after (process_of d ps)) e
 process_kept d (suc q) x (p ∷ ps) e h = ap (λ (o : Option ℕ). if p.component == d then Some 0 else after o) (process_kept d q x ps e (omega arith))
 
-abbrev memory_with : List ℤ → List ℤ → List Address → Memory
+abbrev pub memory_with : List ℤ → List ℤ → List Address → Memory
 memory_with permanents cells references = record { permanents = permanents; cells = cells; references = references }
 
 module _ (g : Ground) (p : Program) (l : Layouts) (s : State) (m : Machine) (q at : ℕ) (t : Start) (mid : Option ℕ) (es : List Entry) (xs ys : List Item) (k : Taken g p l s m q at (start_item t) mid es xs ys) where
