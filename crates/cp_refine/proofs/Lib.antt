@@ -38,6 +38,7 @@ pub mod Handed
 pub mod Handing
 pub mod InitialEnding
 pub mod InitialOpened
+pub mod InitialStarts
 pub mod Kept
 pub mod LeastValues
 pub mod LettingIn
@@ -71,6 +72,7 @@ pub mod SetRanges
 pub mod Sets
 pub mod Standards
 pub mod StartArguments
+pub mod StartNames
 pub mod Storing
 pub mod Turns
 pub mod Values
