@@ -1,5 +1,5 @@
 -- A process that was not started begins, with its parameters bound.
-use Rattle.std.proofs.Common.{◌≡◌, ◌≢◌, ◌∙◌, ℕ, ◌+◌, ◌<◌, ◌⊎◌, inl, inr, Bool, List, [], ◌∷◌, ◌++◌, Option, Some, ap, sym, refl, subst, arith, length, length-set}
+use Rattle.std.proofs.Common.{◌≡◌, ◌≢◌, ◌∙◌, ℕ, ◌<◌, ◌⊎◌, inl, inr, List, [], ap, sym, refl, subst, arith, length, length-set}
 use Rattle.std.specs.Prelude.{◌&&◌, not, slice_set}
 use Rattle.cp_tree.specs.Syntax.{Program}
 use Rattle.cp_slots.specs.declared.place.Argument.{Argument}
@@ -15,7 +15,6 @@ use Rattle.cp_machine.specs.declared.process.Status.TheVariants as status
 use Rattle.cp_machine.specs.Machine.{Machine, Thread, no_thread, thread_at}
 use Rattle.cp_machine.specs.Opening.{unstarted_thread}
 use Rattle.cp_meaning.specs.Types.{queue_type}
-use Rattle.cp_meaning.specs.Values.{queue_value}
 use Rattle.cp_meaning.specs.Declarations.{Parameter}
 use Rattle.cp_meaning.specs.Systems.{system_of}
 use Rattle.cp_meaning.specs.State as named

@@ -1,6 +1,6 @@
 -- The whole step of a call: the component's place first, then the arguments, then whether the component is initialised.
-use Rattle.std.proofs.Common.{◌≡◌, ◌∙◌, ℕ, ◌+◌, ◌<◌, ◌==◌, Bool, true, false, if◌then◌else◌, List, [], ◌∷◌, ◌++◌, Option, Some, None, ap, sym, refl, subst, length}
-use Rattle.std.specs.Prelude.{Result, Ok, Err, map, slice_index, slice_set}
+use Rattle.std.proofs.Common.{◌≡◌, ◌∙◌, ℕ, ◌<◌, Bool, true, false, if◌then◌else◌, List, [], ◌∷◌, ◌++◌, Option, Some, None, ap, sym, refl, subst, length}
+use Rattle.std.specs.Prelude.{Result, Ok, Err, map, slice_index}
 use Rattle.std.specs.declared.alloc.Global.{Global}
 use Rattle.std.specs.declared.vec.Vec.{Vec}
 use Rattle.cp_tree.specs.declared.declaration.SystemKind.{SystemKind}
@@ -8,7 +8,6 @@ use Rattle.cp_tree.specs.declared.declaration.SystemKind.TheVariants as system_k
 use Rattle.cp_tree.specs.Syntax.{Program, Routine, Designator, Expressions, invoke}
 use Rattle.cp_slots.specs.declared.item.Action.{Action}
 use Rattle.cp_slots.specs.declared.item.Action.TheVariants as action
-use Rattle.cp_slots.specs.declared.item.Item as slot_item
 use Rattle.cp_slots.specs.declared.place.Argument.{Argument}
 use Rattle.cp_slots.specs.declared.place.ComponentPlace.{ComponentPlace}
 use Rattle.cp_slots.specs.declared.place.ComponentPlace.TheVariants.{Own}
@@ -33,14 +32,12 @@ use Rattle.cp_machine.specs.Statements as statements
 use Rattle.cp_machine.specs.Step.{act, step_at}
 use Rattle.cp_meaning.specs.Names.{Name, temporary}
 use Rattle.cp_meaning.specs.Outcome.{Outcome, ◌>>=◌, not_init}
-use Rattle.cp_meaning.specs.Types.{Ty}
 use Rattle.cp_meaning.specs.Scopes.{Meaning, constant_meaning, type_meaning, local_variable, permanent_variable, routine_meaning, standard_meaning, Standard, find}
 use Rattle.cp_meaning.specs.Declarations.{RoutineMeaning}
 use Rattle.cp_meaning.specs.State as named
 use Rattle.cp_meaning.specs.State.{Environment, ComponentStatus, uninitialised, initialising, initialised, local_routine, Call, current, Item, statement_item, function_call, State, has_entry}
 use Rattle.cp_meaning.specs.Places.{View, Target, this_component, component_there}
-use Rattle.cp_meaning.specs.Kernel.{kernel_step}
-use Rattle.cp_meaning.specs.Calls.{bound, opened, is_initialised, with_move, entered_as, entered, called_as, called}
+use Rattle.cp_meaning.specs.Calls.{bound, opened, is_initialised, entered_as, entered, called_as, called}
 use Rattle.cp_meaning.specs.Expressions.{target_value, name_of, routine_called}
 use Rattle.cp_meaning.specs.LocalRules.{invoked}
 use Rattle.cp_meaning.specs.Steps.{view_of, step_of, settled}

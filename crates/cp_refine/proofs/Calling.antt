@@ -1,14 +1,13 @@
 -- A call is opened: its frame stands above those of its callers, and its end returns to the caller.
-use Rattle.std.proofs.Common.{◌≡◌, ◌≢◌, ◌∙◌, ℕ, ◌+◌, ◌<◌, ◌≤◌, ◌==◌, Bool, true, false, if◌then◌else◌, List, [], ◌∷◌, ◌++◌, append_assoc, Option, Some, None, ap, sym, refl, subst, arith, length}
+use Rattle.std.proofs.Common.{◌≡◌, ◌∙◌, ℕ, ◌+◌, ◌<◌, ◌==◌, true, false, List, [], ◌∷◌, ◌++◌, append_assoc, Option, Some, None, ap, sym, refl, subst, arith, length}
 use Rattle.std.specs.Prelude.{◌&&◌, ◌||◌, ℤ, not, slice_set}
-use Rattle.std.proofs.lemmas.Bool.{eqb-true, eq-eqb}
+use Rattle.std.proofs.lemmas.Bool.{eq-eqb}
 use Rattle.cp_tree.specs.Syntax.{Program}
 use Rattle.cp_slots.specs.declared.place.Argument.{Argument}
 use Rattle.cp_slots.specs.declared.tables.ComponentKind.{ComponentKind}
 use Rattle.cp_slots.specs.declared.tables.ComponentKind.TheVariants as kind
 use Rattle.cp_slots.specs.Tables.{component_at, routine_at}
 use Rattle.cp_store.specs.declared.argument.Bound.{Bound}
-use Rattle.cp_store.specs.declared.memory.Address.{Address}
 use Rattle.cp_store.specs.declared.memory.Frame.{Frame}
 use Rattle.cp_store.specs.Arguments.{bound_in_frame}
 use Rattle.cp_store.specs.Memory.{Memory}
@@ -21,12 +20,11 @@ use Rattle.cp_machine.specs.Calls as calls
 use Rattle.cp_machine.specs.Calls.{frame_behind}
 use Rattle.cp_machine.specs.Fits.{StackFits, size_of}
 use Rattle.cp_machine.specs.Kernel as machine
-use Rattle.cp_machine.specs.Machine.{Machine, Monitor, Thread, no_thread, monitor_at, thread_at, with_thread}
+use Rattle.cp_machine.specs.Machine.{Machine, Thread, no_thread, monitor_at, thread_at, with_thread}
 use Rattle.cp_machine.specs.Memory.{memory_at, frame_opened, with_memory}
 use Rattle.cp_machine.specs.Stack.{rest_of}
 use Rattle.cp_machine.specs.Statements as statements
 use Rattle.cp_meaning.specs.Names.{Name}
-use Rattle.cp_meaning.specs.Types.{Ty}
 use Rattle.cp_meaning.specs.Declarations.{RoutineMeaning}
 use Rattle.cp_meaning.specs.State as named
 use Rattle.cp_meaning.specs.State.{ready, at_gate, unstarted, delayed, Status, Environment, Component, CallKind, local_routine, entry_routine, Call, Item, return, Process, State, has_entry, is_entry_kind, is_inside, waits_at}
@@ -40,15 +38,15 @@ use Rattle.cp_resolved.specs.Layouts.{Layouts, here, cell_named}
 use Rattle.cp_resolved.specs.Resolved.{first_values, RoutineIs}
 use Rattle.cp_resolved.specs.Stands.{Ground, result_cell, ResultGoes}
 use Rattle.cp_refine.specs.Given.{AreBound}
-use Rattle.cp_refine.specs.Represents.{StackIs, StatusIs, ProcessIs, Runs, ReturnIs, monitor_left, CallIs, CallsHold, MonitorIs, frames_of, own_memory, Represents}
+use Rattle.cp_refine.specs.Represents.{StackIs, StatusIs, ProcessIs, Runs, monitor_left, CallIs, CallsHold, MonitorIs, frames_of, own_memory, Represents}
 use Rattle.cp_refine.proofs.Assigning.{set_set}
 use Rattle.cp_refine.proofs.Control.{Goes, StepIs}
-use Rattle.cp_refine.proofs.FramesBelow.{LieBelow, lie_lower, frames_lie, SameBelow, calls_below}
+use Rattle.cp_refine.proofs.FramesBelow.{lie_lower, frames_lie, calls_below}
 use Rattle.cp_refine.proofs.Gates as gates
 use Rattle.cp_refine.proofs.Gates.{OwnNumbers, HasCalled, nobody_inside, somebody_inside, differs}
 use Rattle.cp_refine.proofs.Lists.{all_items, stack_rest, frames_rest}
 use Rattle.cp_refine.proofs.Moving.{set_here, inside_same, moved}
-use Rattle.cp_refine.proofs.NewFrame.{CanOpen, new_memory, bound_memory, binds_all, holds_new}
+use Rattle.cp_refine.proofs.NewFrame.{CanOpen, bound_memory, binds_all, holds_new}
 use Rattle.cp_refine.proofs.Running.{calls_alike}
 
 -- what has to be known of a process that calls a routine in a component

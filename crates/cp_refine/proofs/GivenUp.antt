@@ -1,29 +1,27 @@
 -- The innermost call of a process is given up: the calls around it hold what they held, and the caller has the result.
-use Rattle.std.proofs.Common.{◌≡◌, ◌∙◌, ℕ, suc, ◌+◌, ◌-◌, ◌^◌, ◌<◌, ◌≤◌, ◌==◌, Bool, true, false, if◌then◌else◌, List, [], ◌∷◌, Option, Some, None, ap, sym, refl, subst, arith, length, eq-eqb}
+use Rattle.std.proofs.Common.{◌≡◌, ◌∙◌, ℕ, suc, ◌+◌, ◌-◌, ◌^◌, ◌<◌, Bool, if◌then◌else◌, List, [], ◌∷◌, Option, Some, None, ap, sym, refl, subst, arith, length, eq-eqb}
 use Rattle.std.specs.Prelude.{ℤ, pos, slice_index_or, slice_set, take}
 use Rattle.std.proofs.lemmas.List.{get_or-take, length-take-le}
 use Rattle.cp_tree.specs.Syntax.{Program}
 use Rattle.cp_slots.specs.Tables.{Tables, routine_at}
-use Rattle.cp_store.specs.declared.memory.Address.{Address}
 use Rattle.cp_store.specs.declared.memory.Address.TheVariants.{Local}
 use Rattle.cp_store.specs.declared.memory.Frame.{Frame}
 use Rattle.cp_store.specs.Memory.{Memory, nowhere, onward, put_number}
 use Rattle.cp_machine.specs.declared.process.Entry.{Entry}
 use Rattle.cp_machine.specs.Calls.{given_up}
-use Rattle.cp_machine.specs.Fits.{FrameFits, StackFits, size_of}
+use Rattle.cp_machine.specs.Fits.{StackFits, size_of}
 use Rattle.cp_machine.specs.Machine.{Thread}
 use Rattle.cp_meaning.specs.Names.{Name, result_name}
-use Rattle.cp_meaning.specs.Types.{Range, Ty, ordinal, is_within}
+use Rattle.cp_meaning.specs.Types.{Range, Ty, ordinal}
 use Rattle.cp_meaning.specs.Values.{Value, number_value}
-use Rattle.cp_meaning.specs.Operations.{range_of_base}
 use Rattle.cp_meaning.specs.State.{holds, Component, Call}
 use Rattle.cp_meaning.specs.Places.{View, content_of, with_content, value_held, call_above, with_call_environment, this_call, plain_place, value_at}
 use Rattle.cp_meaning.specs.LocalRules.{with_result}
-use Rattle.cp_resolved.specs.Layouts.{cells_of, Layouts, here, cell_named, look}
-use Rattle.cp_resolved.specs.Encoded.{encode, HasType}
+use Rattle.cp_resolved.specs.Layouts.{Layouts, here, cell_named, look}
+use Rattle.cp_resolved.specs.Encoded.{HasType}
 use Rattle.cp_resolved.specs.Resolved.{RoutineIs, ResultIs}
 use Rattle.cp_resolved.specs.Stands.{Ground, result_cell, ResultGoes}
-use Rattle.cp_refine.specs.Represents.{LiesAt, frame_above, CallHolds, CallsHold, own_memory, frames_of}
+use Rattle.cp_refine.specs.Represents.{LiesAt, frame_above, CallsHold, own_memory, frames_of}
 use Rattle.cp_refine.proofs.Apart.{frame_apart, frames_apart}
 use Rattle.cp_refine.proofs.Control.{top_frame}
 use Rattle.cp_refine.proofs.FramesBelow.{LieBelow, frames_lie, SameBelow, calls_below}

@@ -1,11 +1,11 @@
 -- The frame that a call opens holds the environment of the call: its parameters, and first values for all else.
-use Rattle.std.proofs.Common.{◌≡◌, ◌∙◌, ℕ, ◌+◌, ◌^◌, ◌<◌, ◌≤◌, Bool, true, false, if◌then◌else◌, List, [], ◌∷◌, ◌++◌, Option, Some, None, ap, sym, refl, subst, arith, length}
+use Rattle.std.proofs.Common.{◌≡◌, ◌∙◌, ℕ, ◌+◌, ◌^◌, ◌<◌, Bool, true, false, if◌then◌else◌, List, [], ◌∷◌, ◌++◌, Option, Some, None, ap, sym, refl, subst, arith, length}
 use Rattle.std.specs.Prelude.{pos, replicate, slice_index_or}
 use Rattle.std.proofs.lemmas.List.{get_or_append_left, get_or-append-add, length-append, length-replicate}
 use Rattle.std.proofs.lemmas.Slice.Eq.{bytes_eq-Decides}
 use Rattle.cp_tree.specs.Syntax.{Program}
 use Rattle.cp_slots.specs.declared.place.Argument.{Argument}
-use Rattle.cp_slots.specs.declared.place.Origin.TheVariants.{Local as local_origin, Reference as reference_origin}
+use Rattle.cp_slots.specs.declared.place.Origin.TheVariants.{Reference as reference_origin}
 use Rattle.cp_slots.specs.Tables.{routine_at}
 use Rattle.cp_store.specs.declared.argument.Bound.{Bound}
 use Rattle.cp_store.specs.declared.argument.Bound.TheVariants.{Reference}
@@ -15,16 +15,15 @@ use Rattle.cp_store.specs.Arguments.{bound_in_frame}
 use Rattle.cp_store.specs.Memory.{Memory, nowhere, opened}
 use Rattle.cp_store.specs.Places.{referred}
 use Rattle.cp_machine.specs.Fits.{size_of}
-use Rattle.cp_meaning.specs.Names.{Name, same_name, result_name}
+use Rattle.cp_meaning.specs.Names.{Name, same_name}
 use Rattle.cp_meaning.specs.Types.{Ty, has_components}
-use Rattle.cp_meaning.specs.Values.{Value, least}
+use Rattle.cp_meaning.specs.Values.{least}
 use Rattle.cp_meaning.specs.Declarations.{Variable, Parameter, RoutineMeaning}
 use Rattle.cp_meaning.specs.State.{Content, holds, refers, knows, Place, Environment, Call}
 use Rattle.cp_meaning.specs.Places.{content_of, value_held}
 use Rattle.cp_meaning.specs.Calls.{least_of, least_result}
 use Rattle.cp_meaning.specs.Steps.{parameter_variables}
-use Rattle.cp_resolved.specs.Layouts.{cells_of, Layouts, FrameLayout, cell_named, look}
-use Rattle.cp_resolved.specs.Encoded.{encode}
+use Rattle.cp_resolved.specs.Layouts.{Layouts, FrameLayout, cell_named, look}
 use Rattle.cp_resolved.specs.Resolved.{first_values, first_value, FrameIs, ParameterIs, ParametersAre, RoutineIs}
 use Rattle.cp_resolved.specs.Stands.{Ground}
 use Rattle.cp_refine.specs.Given.{IsBound, AreBound}

@@ -1,5 +1,5 @@
 -- The state in which a run begins on names is what the machine begins with.
-use Rattle.std.proofs.Common.{◌≡◌, ◌≢◌, ◌∙◌, ℕ, zero, suc, ◌+◌, ◌<◌, ◌≤◌, Bool, false, if◌then◌else◌, List, [], ◌∷◌, Option, Some, None, ap, sym, refl, subst, arith, length, length-set}
+use Rattle.std.proofs.Common.{◌≡◌, ◌∙◌, ℕ, zero, suc, ◌+◌, ◌<◌, ◌≤◌, List, [], ◌∷◌, Option, Some, None, ap, sym, refl, subst, arith, length, length-set}
 use Rattle.std.specs.Prelude.{map, replicate, slice_get, slice_index_or, slice_set}
 use Rattle.std.proofs.lemmas.List.{get_or-map, length-map}
 use Rattle.cp_tree.specs.declared.declaration.SystemKind.{SystemKind}
@@ -7,19 +7,17 @@ use Rattle.cp_tree.specs.declared.declaration.SystemKind.TheVariants as system_k
 use Rattle.cp_tree.specs.Syntax.{Program, Tree}
 use Rattle.cp_slots.specs.declared.tables.ComponentKind.{ComponentKind}
 use Rattle.cp_slots.specs.declared.tables.ComponentKind.TheVariants as kind
-use Rattle.cp_slots.specs.declared.tables.Process as slot_process
 use Rattle.cp_slots.specs.Systems.{IsItself, IsTyped}
 use Rattle.cp_slots.specs.Tables as tables
 use Rattle.cp_slots.specs.Tables.{Tables, component_at, process_at}
 use Rattle.cp_store.specs.declared.memory.Address.TheVariants.{Permanent}
 use Rattle.cp_machine.specs.declared.process.Status.TheVariants as status
-use Rattle.cp_machine.specs.declared.state.Phase.{Phase}
 use Rattle.cp_machine.specs.declared.state.Phase.TheVariants as phase
-use Rattle.cp_machine.specs.Machine.{Machine, Monitor, Thread, no_thread, thread_at, no_monitor, monitor_at, phase_at}
+use Rattle.cp_machine.specs.Machine.{Machine, Monitor, Thread, no_thread, thread_at, no_monitor, phase_at}
 use Rattle.cp_machine.specs.Opening as slots
 use Rattle.cp_machine.specs.Opening.{unstarted_thread}
 use Rattle.cp_meaning.specs.Names.{Name}
-use Rattle.cp_meaning.specs.Types.{Ty, queue_type}
+use Rattle.cp_meaning.specs.Types.{Ty}
 use Rattle.cp_meaning.specs.Values.{Value, queue_value, part_at}
 use Rattle.cp_meaning.specs.Systems.{SystemMeaning, system_of, or_own, own_meaning, declared, program_system}
 use Rattle.cp_meaning.specs.Components.{Listed, listed, listed_variables, components_of}
@@ -27,16 +25,15 @@ use Rattle.cp_meaning.specs.State as named
 use Rattle.cp_meaning.specs.State.{Holder, in_call, in_component, Place, Environment, uninitialised, ComponentStatus, Component, no_component, Status, unstarted, ready, delayed, Process, no_process, Gates, first_gates, State}
 use Rattle.cp_meaning.specs.Places.{View, content_of, value_held, environment_of, value_at}
 use Rattle.cp_meaning.specs.Kernel.{after, begun}
-use Rattle.cp_meaning.specs.Readings.{first_inside, holder_of}
-use Rattle.cp_meaning.specs.Steps.{parameter_variables, first_environment, first_component, unstarted_process, process_first, processes_from, own_begun, first_components, opening}
+use Rattle.cp_meaning.specs.Readings.{first_inside}
+use Rattle.cp_meaning.specs.Steps.{parameter_variables, first_environment, first_component, process_first, processes_from, own_begun, first_components, opening}
 use Rattle.cp_meaning.specs.Calls.{least_of}
 use Rattle.cp_resolved.specs.Layouts.{Layouts, look}
 use Rattle.cp_resolved.specs.Encoded.{encode, HasType}
 use Rattle.cp_resolved.specs.Stands.{Ground}
-use Rattle.cp_resolved.specs.Resolved as resolved
 use Rattle.cp_resolved.specs.Resolved.{StandsAt, Stands, first_permanent}
 use Rattle.cp_refine.specs.Named.{gates_of}
-use Rattle.cp_refine.specs.Represents.{LiesAt, PlaceAt, StatusIs, ProcessIs, PhaseIs, HasBegun, ComponentIs, MonitorIs, QueuesAre, all_permanents, Runs, Represents}
+use Rattle.cp_refine.specs.Represents.{LiesAt, StatusIs, ProcessIs, PhaseIs, HasBegun, ComponentIs, MonitorIs, QueuesAre, all_permanents, Runs, Represents}
 use Rattle.cp_refine.proofs.Begun.{CanBegin, begun_runs}
 use Rattle.cp_refine.proofs.LeastValues.{IsFree, part_free, append_free, least_of_free, content_free}
 use Rattle.cp_refine.proofs.Moving.{set_here, set_there}

@@ -1,6 +1,5 @@
 -- A class or monitor goes on to another phase: its initial statement begins or has ended.
 use Rattle.std.proofs.Common.{◌≡◌, ◌≢◌, ◌∙◌, ℕ, ◌+◌, ◌<◌, ◌⊎◌, inl, inr, List, ap, sym, refl, subst, arith, length, length-set}
-use Rattle.std.specs.Prelude.{slice_set}
 use Rattle.cp_tree.specs.Syntax.{Program}
 use Rattle.cp_slots.specs.declared.tables.ComponentKind.{ComponentKind}
 use Rattle.cp_slots.specs.declared.tables.ComponentKind.TheVariants as kind
@@ -16,7 +15,7 @@ use Rattle.cp_meaning.specs.Places.{View, content_of, value_held, environment_of
 use Rattle.cp_meaning.specs.Values.{part_at}
 use Rattle.cp_resolved.specs.Layouts.{Layouts}
 use Rattle.cp_resolved.specs.Stands.{Ground}
-use Rattle.cp_refine.specs.Represents.{LiesAt, PhaseIs, HasBegun, ComponentIs, MonitorIs, QueuesAre, all_permanents, Represents}
+use Rattle.cp_refine.specs.Represents.{LiesAt, PhaseIs, HasBegun, ComponentIs, MonitorIs, all_permanents, Represents}
 use Rattle.cp_refine.proofs.Moving.{set_here, set_there, same_or_other}
 
 module _ (g : Ground) (p : Program) (l : Layouts) (s : State) (m : Machine) (rep : Represents g p l s m) (n : ℕ) (there : n < length s.components) (phases : n < length m.phases) (u : ComponentStatus) (f : Phase)

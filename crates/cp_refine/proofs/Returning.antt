@@ -1,5 +1,5 @@
 -- The step with which a call returns: the caller goes on, with the result of a function; the return from an entry of a monitor leaves it.
-use Rattle.std.proofs.Common.{◌≡◌, ◌≢◌, ◌∙◌, ℕ, ◌+◌, ◌^◌, ◌<◌, ◌==◌, ◌⊎◌, inl, inr, Bool, true, false, if◌then◌else◌, List, [], ◌∷◌, Option, Some, None, ap, sym, refl, subst, arith, length, length-set}
+use Rattle.std.proofs.Common.{◌≡◌, ◌≢◌, ◌∙◌, ℕ, ◌^◌, ◌<◌, ◌==◌, Bool, true, false, if◌then◌else◌, List, [], ◌∷◌, Option, Some, None, ap, sym, refl, subst, arith, length, length-set}
 use Rattle.std.specs.Prelude.{◌&&◌, ◌||◌, not, slice_set}
 use Rattle.std.proofs.lemmas.Bool.{eqb-true}
 use Rattle.cp_tree.specs.declared.declaration.SystemKind.{SystemKind}
@@ -7,7 +7,7 @@ use Rattle.cp_tree.specs.declared.declaration.SystemKind.TheVariants as system_k
 use Rattle.cp_tree.specs.Syntax.{Program}
 use Rattle.cp_slots.specs.declared.tables.ComponentKind.{ComponentKind}
 use Rattle.cp_slots.specs.declared.tables.ComponentKind.TheVariants as kind
-use Rattle.cp_slots.specs.Tables.{component_at, routine_at}
+use Rattle.cp_slots.specs.Tables.{component_at}
 use Rattle.cp_store.specs.declared.memory.Frame.{Frame}
 use Rattle.cp_machine.specs.declared.gates.Gates as slot_gates
 use Rattle.cp_machine.specs.declared.gates.Gates.TheVariants.{First, Any}
@@ -26,11 +26,10 @@ use Rattle.cp_meaning.specs.State as named
 use Rattle.cp_meaning.specs.State.{ready, at_gate, unstarted, delayed, Component, CallKind, own_statement, initial_statement, local_routine, entry_routine, Call, current, callers, Item, return, Process, no_process, State, has_entry, is_entry_kind, is_inside, waits_at}
 use Rattle.cp_meaning.specs.Kernel as meaning
 use Rattle.cp_meaning.specs.Kernel.{kernel_step, local_event, leave_event}
-use Rattle.cp_meaning.specs.Move.{Move, stays, leaves}
+use Rattle.cp_meaning.specs.Move.{stays}
 use Rattle.cp_meaning.specs.Calls.{with_items, with_move}
 use Rattle.cp_meaning.specs.LocalRules.{takes, with_result, leaving_move, return_move}
 use Rattle.cp_meaning.specs.Places.{View}
-use Rattle.cp_meaning.specs.Readings.{first_inside}
 use Rattle.cp_meaning.specs.Steps.{view_of, step_of, settled}
 use Rattle.cp_resolved.specs.Layouts.{Layouts, here}
 use Rattle.cp_resolved.specs.Resolved.{RoutineIs}
@@ -43,7 +42,7 @@ use Rattle.cp_refine.proofs.Gates as gates
 use Rattle.cp_refine.proofs.Gates.{OwnNumbers, OthersOutside, HasReturned, none_left, differs}
 use Rattle.cp_refine.proofs.GivenUp.{calls_back, view_with, calls_are, components_same, calls_given_up}
 use Rattle.cp_refine.proofs.LettingIn.{FirstWaits, lets_in}
-use Rattle.cp_refine.proofs.Moving.{set_here, set_there, same_or_other, inside_same, moved}
+use Rattle.cp_refine.proofs.Moving.{set_here, set_there, inside_same, moved}
 
 -- ---- a monitor that is left, and then lets its line in
 
