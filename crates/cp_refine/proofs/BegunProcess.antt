@@ -1,5 +1,5 @@
 -- A process that was not started begins, with its parameters bound.
-use Rattle.std.proofs.Common.{◌≡◌, ◌≢◌, ◌∙◌, ℕ, ◌+◌, ◌<◌, ◌⊎◌, inl, inr, Bool, List, [], ◌∷◌, ◌++◌, Option, Some, ap, sym, refl, subst, arith, length, length-set}
+use Rattle.std.proofs.Common.{◌≡◌, ◌≢◌, ◌∙◌, ℕ, ◌<◌, ◌⊎◌, inl, inr, List, [], ap, sym, refl, subst, arith, length, length-set}
 use Rattle.std.specs.Prelude.{◌&&◌, not, slice_set}
 use Rattle.cp_tree.specs.Syntax.{Program}
 use Rattle.cp_slots.specs.declared.place.Argument.{Argument}
@@ -15,7 +15,6 @@ use Rattle.cp_machine.specs.declared.process.Status.TheVariants as status
 use Rattle.cp_machine.specs.Machine.{Machine, Thread, no_thread, thread_at}
 use Rattle.cp_machine.specs.Opening.{unstarted_thread}
 use Rattle.cp_meaning.specs.Types.{queue_type}
-use Rattle.cp_meaning.specs.Values.{queue_value}
 use Rattle.cp_meaning.specs.Declarations.{Parameter}
 use Rattle.cp_meaning.specs.Systems.{system_of}
 use Rattle.cp_meaning.specs.State as named
@@ -124,18 +123,32 @@ module _ (g : Ground) (p : Program) (l : Layouts) (s : State) (m : Machine) (rep
   kept : (v : View) (x : Place) (i a : ℕ) → v.components ≡ state_begun.components → x.holder ≡ in_component i → PlaceAt g.tables l [] x queue_type (Permanent a) → value_at v x ≡ value_at (old_view v) x
   kept v x i a c f h = queue_kept g p l s m rep mem d qs can e xs bs given same_status v x i a c f h
 
+  -- the process that begins is ready
+  begun_status : (named.process_at (slice_set s.processes r new_process) r).status ≡ ready
+  begun_status = ap (λ (x : Process). x.status) here_process
+
+  not_begun : (k i : ℕ) → (named.process_at (slice_set s.processes r new_process) k).status ≡ delayed i → k ≢ r
+  not_begun k i f same =
+      let here : (named.process_at (slice_set s.processes r new_process) r).status ≡ delayed i = subst (λ b. (named.process_at (slice_set s.processes r new_process) b).status ≡ delayed i) same f in
+      let begins : ready ≡ delayed i = sym begun_status ∙ here in
+      cc
+
+  -- who is delayed is another process
+  still_delayed : (k i a : ℕ) → k < length s.processes → (named.process_at s.processes k).status ≡ delayed i → (thread_at m.threads k).status ≡ status.Delayed a →
+      (k < length (slice_set s.processes r new_process)) × ((named.process_at (slice_set s.processes r new_process) k).status ≡ delayed i) × ((thread_at (slice_set m.threads r new_thread) k).status ≡ status.Delayed a)
+  still_delayed k i a less f z =
+      let other : k ≢ r = (λ same. absurd (let b : unstarted ≡ delayed i = sym was ∙ (sym (ap (λ b. (named.process_at s.processes b).status) same) ∙ f) in cc)) in
+      (let b = length-set s.processes r new_process in omega (arith, b, less), ap (λ (x : Process). x.status) (there_process k other) ∙ f, ap (λ (t : Thread). t.status) (there_thread k other) ∙ z)
+
   queues_stand : QueuesAre g l state_begun machine_begun
   queues_stand =
       record {
         waiting = λ k i a v h f z c.
-            (let other : k ≢ r = (λ same. absurd (let w : ready ≡ delayed i = sym (ap (λ b. (named.process_at (slice_set s.processes r new_process) b).status) same ∙ ap (λ (x : Process). x.status) here_process) ∙ f in cc)) in
+            (let other : k ≢ r = not_begun k i f in
             let less : k < length s.processes = (let b = length-set s.processes r new_process in omega (arith, b, h)) in
             let w = rep.queues.waiting k i a (old_view v) less (sym (ap (λ (x : Process). x.status) (there_process k other)) ∙ f) (sym (ap (λ (t : Thread). t.status) (there_thread k other)) ∙ z) refl in
             (w.0, w.1, w.2, kept v w.0 i a c w.1 w.2 ∙ w.3));
-        queued = λ x k i a v c f h w.
-            (let old = rep.queues.queued x k i a (old_view v) refl f h (sym (kept v x i a c f h) ∙ w) in
-            let other : k ≢ r = (λ same. absurd (let b : unstarted ≡ delayed i = sym was ∙ (sym (ap (λ b. (named.process_at s.processes b).status) same) ∙ old.1) in cc)) in
-            (let b = old.0 in let z = length-set s.processes r new_process in omega (arith, b, z), ap (λ (x : Process). x.status) (there_process k other) ∙ old.1, ap (λ (t : Thread). t.status) (there_thread k other) ∙ old.2));
+        queued = λ x k i a v c f h w. (let old = rep.queues.queued x k i a (old_view v) refl f h (sym (kept v x i a c f h) ∙ w) in still_delayed k i a old.0 old.1 old.2);
       }
 
   pub process_begun : Represents g p l state_begun machine_begun

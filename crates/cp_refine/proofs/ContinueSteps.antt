@@ -1,11 +1,10 @@
 -- The whole step of `continue`, in an entry procedure of a monitor.
-use Rattle.std.proofs.Common.{◌≡◌, ◌∙◌, ℕ, ◌+◌, ◌<◌, List, [], ◌∷◌, ◌++◌, Option, Some, None, ap, sym, refl, subst, length}
+use Rattle.std.proofs.Common.{◌≡◌, ◌∙◌, ℕ, ◌<◌, List, ◌∷◌, ◌++◌, Option, Some, None, ap, sym, refl, subst, length}
 use Rattle.std.specs.Prelude.{Result, Ok, Err, slice_index, slice_set}
 use Rattle.cp_tree.specs.Syntax.{Program, Expression, Expressions, more_expressions, Designator, invoke}
 use Rattle.cp_slots.specs.declared.item.Action.{Action}
 use Rattle.cp_slots.specs.declared.item.Action.TheVariants as action
 use Rattle.cp_slots.specs.declared.place.Place as code_place
-use Rattle.cp_slots.specs.declared.tables.ComponentKind.{ComponentKind}
 use Rattle.cp_slots.specs.declared.tables.ComponentKind.TheVariants as kind
 use Rattle.cp_slots.specs.Code as code
 use Rattle.cp_slots.specs.Tables.{component_at, item_at}
@@ -20,12 +19,11 @@ use Rattle.cp_machine.specs.Calls as slot_calls
 use Rattle.cp_machine.specs.Kernel as machine
 use Rattle.cp_machine.specs.Machine.{Machine, Thread, thread_at}
 use Rattle.cp_machine.specs.Memory.{memory_at}
-use Rattle.cp_machine.specs.Stack.{from_end}
 use Rattle.cp_machine.specs.Statements as statements
 use Rattle.cp_machine.specs.Step.{act, step_at}
 use Rattle.cp_meaning.specs.Outcome.{Outcome, ◌>>=◌}
 use Rattle.cp_meaning.specs.Types.{queue_type}
-use Rattle.cp_meaning.specs.Values.{Value, queue_value, part_at, waiting_in}
+use Rattle.cp_meaning.specs.Values.{Value, queue_value, waiting_in}
 use Rattle.cp_meaning.specs.Scopes.{Meaning, standard_meaning, continue_procedure, find}
 use Rattle.cp_meaning.specs.State as named
 use Rattle.cp_meaning.specs.State.{Holder, in_component, Place, ready, CallKind, entry_routine, Call, current, callers, Item, statement_item, return, Process, State}
@@ -40,7 +38,7 @@ use Rattle.cp_resolved.specs.Layouts.{Layouts, here}
 use Rattle.cp_resolved.specs.Stands.{Ground, QueueItem, InvokedBy}
 use Rattle.cp_refine.specs.Agrees.{TargetAgrees}
 use Rattle.cp_refine.specs.PlainValues.{plain_address}
-use Rattle.cp_refine.specs.Represents.{further, PlaceAt, StackIs, monitor_left, frames_of, Represents}
+use Rattle.cp_refine.specs.Represents.{further, PlaceAt, monitor_left, frames_of, Represents}
 use Rattle.cp_refine.proofs.Assigning.{set_set}
 use Rattle.cp_refine.proofs.Continuing as continuing
 use Rattle.cp_refine.proofs.Continuing.{MayContinue, EndsWith, ends, no_return, returns, process_ends, state_ends, here_process, call_is, machine_ends, state_left, machine_left, old_queue, continues_on}

@@ -1,18 +1,16 @@
 -- A process is delayed: it waits in a queue of its monitor, in which nobody is then.
-use Rattle.std.proofs.Common.{◌≡◌, ◌≢◌, ◌∙◌, ℕ, ◌+◌, ◌<◌, ◌==◌, ◌⊎◌, inl, inr, Bool, true, false, List, [], ◌∷◌, Option, Some, None, ap, sym, refl, subst, arith, length, length-set, eq-eqb}
+use Rattle.std.proofs.Common.{◌≡◌, ◌≢◌, ◌∙◌, ℕ, ◌+◌, ◌<◌, ◌⊎◌, inl, inr, true, false, List, [], Some, None, ap, sym, refl, subst, arith, length, length-set, eq-eqb}
 use Rattle.std.specs.Prelude.{◌&&◌, not, slice_set}
 use Rattle.std.proofs.lemmas.Slice.Eq.{bytes_eq-Decides}
 use Rattle.cp_tree.specs.Syntax.{Program}
 use Rattle.cp_slots.specs.declared.tables.ComponentKind.{ComponentKind}
 use Rattle.cp_slots.specs.declared.tables.ComponentKind.TheVariants as kind
 use Rattle.cp_slots.specs.Tables.{component_at}
-use Rattle.cp_store.specs.declared.memory.Address.{Address}
 use Rattle.cp_store.specs.declared.memory.Address.TheVariants.{Permanent}
-use Rattle.cp_store.specs.declared.memory.Frame.{Frame}
 use Rattle.cp_machine.specs.declared.process.Entry.{Entry}
 use Rattle.cp_machine.specs.declared.process.Status.TheVariants as status
 use Rattle.cp_machine.specs.Kernel as machine
-use Rattle.cp_machine.specs.Machine.{Machine, Monitor, Thread, no_thread, monitor_at, thread_at, with_stack}
+use Rattle.cp_machine.specs.Machine.{Machine, Thread, no_thread, monitor_at, thread_at}
 use Rattle.cp_meaning.specs.Names.{Name, same_name}
 use Rattle.cp_meaning.specs.Types.{Ty, queue_type}
 use Rattle.cp_meaning.specs.Values.{Value, queue_value, Choice, part_at}
@@ -25,12 +23,11 @@ use Rattle.cp_resolved.specs.Layouts.{Layouts, look}
 use Rattle.cp_resolved.specs.Encoded.{Chosen, chosen_at}
 use Rattle.cp_resolved.specs.Stands.{Ground}
 use Rattle.cp_refine.specs.Represents.{further, StackIs, ProcessIs, CallsHold, MonitorIs, HasBegun, BeginsAt, PlaceAt, frames_of, own_memory, Represents}
-use Rattle.cp_refine.proofs.Assigning.{set_set}
 use Rattle.cp_refine.proofs.Control.{Goes}
 use Rattle.cp_refine.proofs.Gates.{OwnNumbers, OthersOutside, none_left, monitors_change, and_false, differs}
 use Rattle.cp_refine.proofs.LettingIn.{FirstWaits, lets_in}
 use Rattle.cp_refine.proofs.Moving.{set_here, set_there, same_or_other, inside_same}
-use Rattle.cp_refine.proofs.QueueWriting.{old, components_after, permanents_after, old_lies, line_same, count_same, components_stand, IsWritten, written_value, old_written, queue_kept, cell, there_named}
+use Rattle.cp_refine.proofs.QueueWriting.{old, components_after, permanents_after, line_same, count_same, components_stand, IsWritten, written_value, old_written, queue_kept, cell, there_named}
 use Rattle.cp_refine.proofs.Returning.{let_in_freed, first_waits_kept}
 use Rattle.cp_refine.proofs.Writing.{ComponentsApart}
 

@@ -1,11 +1,10 @@
 -- The whole step of `delay`: the caller waits in the queue, unless another process does.
-use Rattle.std.proofs.Common.{◌≡◌, ◌∙◌, ℕ, ◌+◌, ◌<◌, Bool, true, false, if◌then◌else◌, List, [], ◌∷◌, ◌++◌, Option, Some, None, ap, sym, refl, subst, arith, length}
+use Rattle.std.proofs.Common.{◌≡◌, ◌∙◌, ℕ, ◌+◌, ◌<◌, if◌then◌else◌, List, ◌++◌, Option, Some, None, ap, sym, refl, subst, arith, length}
 use Rattle.std.specs.Prelude.{ℤ, pos, Result, Ok, Err, slice_index, slice_index_or, slice_set}
 use Rattle.cp_tree.specs.Syntax.{Program, Expression, Expressions, more_expressions, Designator, invoke}
 use Rattle.cp_slots.specs.declared.item.Action.{Action}
 use Rattle.cp_slots.specs.declared.item.Action.TheVariants as action
 use Rattle.cp_slots.specs.declared.place.Place as code_place
-use Rattle.cp_slots.specs.declared.tables.ComponentKind.{ComponentKind}
 use Rattle.cp_slots.specs.declared.tables.ComponentKind.TheVariants as kind
 use Rattle.cp_slots.specs.Code as code
 use Rattle.cp_slots.specs.Tables.{component_at, item_at}
@@ -13,7 +12,6 @@ use Rattle.cp_store.specs.declared.error.ErrorName as slots
 use Rattle.cp_store.specs.declared.error.ErrorName.TheVariants as error
 use Rattle.cp_store.specs.declared.memory.Address.{Address}
 use Rattle.cp_store.specs.declared.memory.Address.TheVariants.{Permanent}
-use Rattle.cp_store.specs.declared.memory.Frame.{Frame}
 use Rattle.cp_store.specs.Values.{is_true}
 use Rattle.cp_machine.specs.declared.event.Event.TheVariants as event
 use Rattle.cp_machine.specs.declared.event.Kernel.TheVariants as event_call
@@ -22,12 +20,12 @@ use Rattle.cp_machine.specs.declared.process.Status.TheVariants as status
 use Rattle.cp_machine.specs.Calls as calls
 use Rattle.cp_machine.specs.Kernel as machine
 use Rattle.cp_machine.specs.Machine.{Machine, Thread, no_thread, thread_at, with_stack}
-use Rattle.cp_machine.specs.Memory.{memory_at, address_of}
+use Rattle.cp_machine.specs.Memory.{memory_at}
 use Rattle.cp_machine.specs.Stack.{rest_of}
 use Rattle.cp_machine.specs.Statements as statements
 use Rattle.cp_machine.specs.Step.{act, step_at}
 use Rattle.cp_meaning.specs.Outcome.{Outcome, ◌>>=◌, queue_in_use}
-use Rattle.cp_meaning.specs.Types.{Ty, queue_type}
+use Rattle.cp_meaning.specs.Types.{queue_type}
 use Rattle.cp_meaning.specs.Values.{Value, queue_value, part_at, waiting_in}
 use Rattle.cp_meaning.specs.Scopes.{Meaning, standard_meaning, delay_procedure, find}
 use Rattle.cp_meaning.specs.State as named
@@ -40,8 +38,8 @@ use Rattle.cp_meaning.specs.Places.{View, Target, this_component, stored}
 use Rattle.cp_meaning.specs.Expressions.{target_value, variable_in, name_of}
 use Rattle.cp_meaning.specs.LocalRules.{queue_free, delayed_in, in_place_of, invoked}
 use Rattle.cp_meaning.specs.Steps.{view_of, step_of, settled}
-use Rattle.cp_resolved.specs.Layouts.{Layouts, Here, here}
-use Rattle.cp_resolved.specs.Encoded.{HasType, flag_of, encode}
+use Rattle.cp_resolved.specs.Layouts.{Layouts, here}
+use Rattle.cp_resolved.specs.Encoded.{HasType, flag_of}
 use Rattle.cp_resolved.specs.Stands.{Ground, QueueItem, InvokedBy}
 use Rattle.cp_refine.specs.Agrees.{TargetAgrees}
 use Rattle.cp_refine.specs.PlainValues.{plain_address}

@@ -1,5 +1,5 @@
 -- A number that is bound to a parameter gives its value: it is put into one cell.
-use Rattle.std.proofs.Common.{◌≡◌, ◌∙◌, ℕ, zero, suc, ◌+◌, ◌<◌, [], ◌∷◌, ap, sym, refl, arith}
+use Rattle.std.proofs.Common.{◌≡◌, ◌∙◌, ℕ, zero, suc, ◌<◌, [], ◌∷◌, ap, sym, refl, arith}
 use Rattle.std.specs.Prelude.{ℤ, pos, slice_index_or}
 use Rattle.cp_store.specs.declared.argument.Bound.TheVariants.{Scalar}
 use Rattle.cp_store.specs.declared.memory.Address.{Address}

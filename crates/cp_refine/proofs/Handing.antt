@@ -5,7 +5,6 @@ use Rattle.std.proofs.lemmas.Slice.Eq.{bytes_eq-Decides}
 use Rattle.cp_slots.specs.declared.place.Argument.{Argument}
 use Rattle.cp_store.specs.declared.argument.Bound.{Bound}
 use Rattle.cp_store.specs.declared.argument.Bound.TheVariants.{Scalar, Set, Copy, Reference, Component}
-use Rattle.cp_store.specs.declared.memory.Address.{Address}
 use Rattle.cp_store.specs.declared.memory.Address.TheVariants.{Permanent, Local}
 use Rattle.cp_store.specs.Arguments.{put_value, bound_in_component, put_binding, bindings_after}
 use Rattle.cp_store.specs.Memory.{Memory, onward}
@@ -17,10 +16,10 @@ use Rattle.cp_meaning.specs.State.{Content, holds, refers, knows, Environment}
 use Rattle.cp_meaning.specs.Places.{content_of, value_held}
 use Rattle.cp_meaning.specs.Steps.{parameter_variables}
 use Rattle.cp_resolved.specs.Layouts.{cells_of, SystemLayout, look}
-use Rattle.cp_resolved.specs.Encoded.{encode, HasType}
+use Rattle.cp_resolved.specs.Encoded.{HasType}
 use Rattle.cp_resolved.specs.Resolved.{AreApart, SystemParameterIs, SystemParametersAre}
 use Rattle.cp_refine.specs.Agrees.{Few}
-use Rattle.cp_refine.specs.Given.{PutsBlock, IsValue, Keeps, IsApartFrom, GivesValue, IsOutside, IsHanded, AreHanded}
+use Rattle.cp_refine.specs.Given.{IsValue, Keeps, IsApartFrom, IsOutside, IsHanded, AreHanded}
 use Rattle.cp_refine.specs.Represents.{LiesAt}
 use Rattle.cp_refine.proofs.Binding.{IsOther, AreDifferent}
 use Rattle.cp_refine.proofs.Moving.{set_here, set_there}

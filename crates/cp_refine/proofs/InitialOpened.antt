@@ -1,22 +1,17 @@
 -- The initial statement of a class or monitor begins: its frame stands above those of its callers, and its end is that of an initial statement.
-use Rattle.std.proofs.Common.{◌≡◌, ◌∙◌, ℕ, ◌+◌, ◌<◌, ◌≤◌, ◌==◌, Bool, List, [], ◌∷◌, ◌++◌, Option, Some, None, ap, sym, refl, subst, arith, length}
-use Rattle.std.specs.Prelude.{◌&&◌, ◌||◌, not, pos, slice_index_or, slice_set}
+use Rattle.std.proofs.Common.{◌≡◌, ◌∙◌, ℕ, ◌+◌, ◌<◌, ◌≤◌, List, [], ◌∷◌, ◌++◌, None, ap, sym, refl, subst, arith, length}
+use Rattle.std.specs.Prelude.{pos, slice_index_or, slice_set}
 use Rattle.std.proofs.lemmas.List.{get_or_append_left, length-append}
 use Rattle.cp_tree.specs.Syntax.{Program}
 use Rattle.cp_slots.specs.declared.place.Argument.{Argument}
-use Rattle.cp_slots.specs.declared.tables.ComponentKind.{ComponentKind}
-use Rattle.cp_slots.specs.declared.tables.ComponentKind.TheVariants as kind
 use Rattle.cp_slots.specs.Tables.{component_at, routine_at}
 use Rattle.cp_store.specs.declared.argument.Bound.{Bound}
 use Rattle.cp_store.specs.declared.argument.Bound.TheVariants.{Scalar, Set, Copy, Reference, Component}
-use Rattle.cp_store.specs.declared.memory.Address.{Address}
 use Rattle.cp_store.specs.declared.memory.Address.TheVariants.{Permanent, Local}
 use Rattle.cp_store.specs.declared.memory.Frame.{Frame}
-use Rattle.cp_store.specs.Inside.{HasCells}
-use Rattle.cp_store.specs.Memory.{Memory, cell_at, opened}
+use Rattle.cp_store.specs.Memory.{Memory}
 use Rattle.cp_machine.specs.declared.process.Entry.{Entry}
 use Rattle.cp_machine.specs.declared.process.Entry.TheVariants.{InitEnd}
-use Rattle.cp_machine.specs.Calls as calls
 use Rattle.cp_machine.specs.Calls.{frame_behind}
 use Rattle.cp_machine.specs.Fits.{size_of}
 use Rattle.cp_machine.specs.Machine.{Machine, Thread, thread_at, with_thread}
@@ -30,18 +25,18 @@ use Rattle.cp_meaning.specs.Systems.{system_of}
 use Rattle.cp_meaning.specs.State as named
 use Rattle.cp_meaning.specs.State.{Content, holds, refers, knows, Environment, ready, initial_statement, Call, Item, init_end, Process, State, has_entry}
 use Rattle.cp_meaning.specs.Lifting.{items_of_all}
-use Rattle.cp_resolved.specs.Layouts.{Layouts, here, cells_of, cell_named}
+use Rattle.cp_resolved.specs.Layouts.{Layouts, here, cell_named}
 use Rattle.cp_resolved.specs.Resolved.{first_values, initial_meaning}
 use Rattle.cp_resolved.specs.Stands.{Ground}
 use Rattle.cp_refine.specs.Given.{IsValue, Keeps, GivesValue, IsHanded, AreHanded, AreBound}
 use Rattle.cp_refine.specs.Remaining.{ItemsAre}
-use Rattle.cp_refine.specs.Represents.{StackIs, StatusIs, ProcessIs, CallIs, CallsHold, MonitorIs, frames_of, own_memory, Represents}
+use Rattle.cp_refine.specs.Represents.{StackIs, StatusIs, ProcessIs, CallIs, CallsHold, frames_of, own_memory, Represents}
 use Rattle.cp_refine.proofs.Calling.{CanCall}
 use Rattle.cp_refine.proofs.Control.{Goes}
 use Rattle.cp_refine.proofs.FramesBelow.{lie_lower, frames_lie, calls_below}
 use Rattle.cp_refine.proofs.Lists.{all_items, stack_rest, frames_rest}
 use Rattle.cp_refine.proofs.Moving.{moved, stays_inside}
-use Rattle.cp_refine.proofs.NewFrame.{CanOpen, new_memory, bound_memory, binds_all, holds_new}
+use Rattle.cp_refine.proofs.NewFrame.{new_memory, bound_memory, binds_all, holds_new}
 use Rattle.cp_refine.proofs.Running.{calls_alike}
 
 -- ---- what arguments give, they give with more cells too

@@ -1,5 +1,5 @@
 -- The whole step that starts a class or monitor: its parameters are bound, and its initial statement is executed.
-use Rattle.std.proofs.Common.{◌≡◌, ◌≢◌, ◌∙◌, ℕ, ◌+◌, ◌^◌, ◌<◌, Bool, true, false, if◌then◌else◌, List, [], ◌∷◌, ◌++◌, Option, Some, None, ap, sym, refl, subst, arith, length}
+use Rattle.std.proofs.Common.{◌≡◌, ◌∙◌, ℕ, ◌<◌, Bool, true, false, if◌then◌else◌, List, ◌++◌, Option, ap, sym, refl, subst, arith, length}
 use Rattle.std.specs.Prelude.{ℤ, Result, Ok, Err, map, replicate, slice_index, slice_set}
 use Rattle.std.proofs.lemmas.List.{length-append, length-replicate}
 use Rattle.cp_tree.specs.declared.declaration.SystemKind.{SystemKind}
@@ -15,9 +15,6 @@ use Rattle.cp_slots.specs.Tables.{component_at, item_at, routine_at, system_at}
 use Rattle.cp_store.specs.declared.argument.Bound.{Bound}
 use Rattle.cp_store.specs.declared.error.ErrorName as slots
 use Rattle.cp_store.specs.declared.error.ErrorName.TheVariants as error
-use Rattle.cp_store.specs.declared.memory.Address.{Address}
-use Rattle.cp_store.specs.declared.memory.Address.TheVariants.{Permanent}
-use Rattle.cp_store.specs.declared.memory.Frame.{Frame}
 use Rattle.cp_store.specs.Arguments.{bound_in_component, bindings_after}
 use Rattle.cp_store.specs.Memory.{Memory, nowhere}
 use Rattle.cp_machine.specs.declared.process.Entry.{Entry}
@@ -31,9 +28,8 @@ use Rattle.cp_machine.specs.Machine.{Machine, Thread, no_thread, thread_at, phas
 use Rattle.cp_machine.specs.Memory.{memory_at, component_of, arguments_of, with_memory, parameters_bound}
 use Rattle.cp_machine.specs.Stack.{rest_of}
 use Rattle.cp_machine.specs.Statements as statements
-use Rattle.cp_machine.specs.Step.{act, step_at}
+use Rattle.cp_machine.specs.Step.{step_at}
 use Rattle.cp_meaning.specs.Outcome.{Outcome, ◌>>=◌, init_twice}
-use Rattle.cp_meaning.specs.Types.{queue_type}
 use Rattle.cp_meaning.specs.Declarations.{Parameter}
 use Rattle.cp_meaning.specs.Systems.{system_of}
 use Rattle.cp_meaning.specs.State as named

@@ -1,5 +1,5 @@
 -- The whole step that starts a process: the component's place first, then the arguments, and last whether it was started before.
-use Rattle.std.proofs.Common.{◌≡◌, ◌≢◌, ◌∙◌, ℕ, zero, suc, ◌+◌, ◌<◌, ◌==◌, ◌⊎◌, inl, inr, Bool, true, false, if◌then◌else◌, List, [], ◌∷◌, ◌++◌, Option, Some, None, ap, sym, refl, subst, arith, length, length-set}
+use Rattle.std.proofs.Common.{◌≡◌, ◌≢◌, ◌∙◌, ℕ, zero, suc, ◌<◌, ◌==◌, ◌⊎◌, inl, inr, if◌then◌else◌, List, [], ◌∷◌, ◌++◌, Option, Some, None, ap, sym, refl, subst, arith, length, length-set}
 use Rattle.std.specs.Prelude.{ℤ, Result, Ok, Err, map, slice_index, slice_set}
 use Rattle.std.specs.declared.alloc.Global.{Global}
 use Rattle.std.specs.declared.vec.Vec.{Vec}
@@ -10,7 +10,6 @@ use Rattle.cp_slots.specs.declared.item.Action.{Action}
 use Rattle.cp_slots.specs.declared.item.Action.TheVariants as action
 use Rattle.cp_slots.specs.declared.place.Argument.{Argument}
 use Rattle.cp_slots.specs.declared.place.ComponentPlace.{ComponentPlace}
-use Rattle.cp_slots.specs.declared.tables.ComponentKind.{ComponentKind}
 use Rattle.cp_slots.specs.declared.tables.ComponentKind.TheVariants as kind
 use Rattle.cp_slots.specs.Code as code
 use Rattle.cp_slots.specs.Tables.{component_at, item_at, process_at, system_at}
@@ -30,7 +29,7 @@ use Rattle.cp_machine.specs.Machine.{Machine, Thread, no_thread, thread_at, is_u
 use Rattle.cp_machine.specs.Memory.{memory_at, component_of, arguments_of, with_memory, parameters_bound}
 use Rattle.cp_machine.specs.Stack.{rest_of}
 use Rattle.cp_machine.specs.Statements as statements
-use Rattle.cp_machine.specs.Step.{act, step_at}
+use Rattle.cp_machine.specs.Step.{step_at}
 use Rattle.cp_meaning.specs.Outcome.{Outcome, ◌>>=◌, init_twice}
 use Rattle.cp_meaning.specs.Declarations.{Parameter}
 use Rattle.cp_meaning.specs.Systems.{system_of}
@@ -50,7 +49,7 @@ use Rattle.cp_refine.specs.Kinds.{SameKind, KindsAgree}
 use Rattle.cp_refine.specs.Represents.{StatusIs, Represents}
 use Rattle.cp_refine.proofs.Assigning.{set_set}
 use Rattle.cp_refine.proofs.Begun.{CanBegin}
-use Rattle.cp_refine.proofs.BegunProcess.{state_begun, machine_begun, process_begun}
+use Rattle.cp_refine.proofs.BegunProcess.{state_begun, process_begun}
 use Rattle.cp_refine.proofs.Control.{Taken, StepIs, goes, goes_on_to, still_process, takes_item, acts, fails}
 use Rattle.cp_refine.proofs.Handed.{CanStart, hands}
 use Rattle.cp_refine.proofs.Moving.{set_here, set_there, same_or_other}
