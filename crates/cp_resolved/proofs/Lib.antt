@@ -24,6 +24,7 @@ pub mod Designating
 pub mod DifferentIndexed
 pub mod DifferentTokens
 pub mod EachInStep
+pub mod EarlierTypes
 pub mod Ended
 pub mod Entries
 pub mod EntriesKnown
@@ -45,8 +46,10 @@ pub mod Grown
 pub mod Handed
 pub mod Kept
 pub mod KeptNames
+pub mod KeptOwned
 pub mod Knowing
 pub mod KnowingSystems
+pub mod LeastCells
 pub mod Listing
 pub mod Loops
 pub mod Moved
@@ -59,9 +62,11 @@ pub mod Outer
 pub mod OwnCalls
 pub mod OwnCallsOfTables
 pub mod OwnNames
+pub mod OwnedParts
 pub mod Owning
 pub mod ParametersFit
 pub mod PermanentNames
+pub mod Permanents
 pub mod Plain
 pub mod PlainInside
 pub mod Reserving
