@@ -18,6 +18,8 @@ pub mod CallingBodies
 pub mod CallingPlaced
 pub mod CallingProgram
 pub mod Cells
+pub mod ComponentOrder
+pub mod ComponentsStand
 pub mod Declared
 pub mod Declares
 pub mod Designating
@@ -97,6 +99,7 @@ pub mod StepsOfParts
 pub mod StepsOfProgram
 pub mod StepsOfRoutines
 pub mod StepsOfTypes
+pub mod SystemsLaid
 pub mod Temporaries
 pub mod TreeKnown
 pub mod Typing
