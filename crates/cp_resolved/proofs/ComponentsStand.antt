@@ -1,7 +1,8 @@
 -- Each component of the tables has the system type of that of the program, and its kind with its own number; and there are as many processes and monitors.
-use Rattle.std.proofs.Common.{◌≡◌, ℕ, zero, suc, ◌+◌, ◌<◌, ℤ, List, [], ◌∷◌, ◌++◌, map, length, Some, slice_get, refl, sym, ap, subst, ◌∙◌, append_assoc, append-nil, arith, length-append}
+use Rattle.std.proofs.Common.{◌≡◌, ℕ, zero, suc, ◌+◌, ◌<◌, ◌≤◌, ℤ, List, [], ◌∷◌, ◌++◌, map, length, Some, slice_get, slice_index_or, refl, sym, ap, subst, ◌∙◌, append_assoc, append-nil, arith, length-append}
 use Rattle.std.specs.Prelude.{min}
 use Rattle.std.proofs.lemmas.List.{length-map}
+use Rattle.std.proofs.lemmas.Option.{none-some, same_Some}
 use Rattle.cp_tree.specs.declared.declaration.SystemKind.{SystemKind}
 use Rattle.cp_tree.specs.declared.declaration.SystemKind.TheVariants as system_kind
 use Rattle.cp_tree.specs.Syntax.{Program}
@@ -9,15 +10,19 @@ use Rattle.cp_slots.specs.declared.tables.Component.{Component}
 use Rattle.cp_slots.specs.declared.tables.Process.{Process}
 use Rattle.cp_slots.specs.Kinds.{Compounds}
 use Rattle.cp_slots.specs.Layers.{Owned, System}
-use Rattle.cp_slots.specs.LaidComponents.{Listing, nothing_listed, process_at, next_kind, component_with, with_component}
-use Rattle.cp_slots.specs.Tables.{Tables}
-use Rattle.cp_meaning.specs.Systems.{system_of}
-use Rattle.cp_meaning.specs.Components.{Listed, components_of}
+use Rattle.cp_slots.specs.LaidComponents.{Listing, nothing_listed, byte, process_at, next_kind, component_with, with_component}
+use Rattle.cp_slots.specs.Tables as tables
+use Rattle.cp_slots.specs.Tables.{Tables, component_at, no_component}
+use Rattle.cp_meaning.specs.Systems.{SystemMeaning, system_of, program_system}
+use Rattle.cp_meaning.specs.Components.{Listed, components_of, listed_variables, listed}
+use Rattle.cp_meaning.specs.Kernel.{begun}
 use Rattle.cp_meaning.specs.Readings.{monitor_first, monitors_from, monitors_of}
 use Rattle.cp_meaning.specs.State as named
 use Rattle.cp_meaning.specs.State.{first_gates}
-use Rattle.cp_meaning.specs.Steps.{first_component, unstarted_process, process_first, processes_from, first_components, opening}
-use Rattle.cp_resolved.proofs.ComponentOrder.{image_at, initial_at, step, steps}
+use Rattle.cp_meaning.specs.Steps.{first_component, unstarted_process, process_first, processes_from, own_begun, first_components, opening}
+use Rattle.cp_resolved.specs.Resolved.{KindIs}
+use Rattle.cp_resolved.proofs.ComponentOrder.{image_at, initial_at, step, steps, steps_append}
+use Rattle.cp_resolved.proofs.Entries.{entry_at}
 
 -- ---- an entry of a list, with those before it and after it
 
@@ -211,3 +216,111 @@ module _ (p : Program) where
 
         pub monitor_count_stands : r.monitors < 255 → r.monitors ≡ length (monitors_of (opening p first_gates))
         monitor_count_stands lt = few_monitors lt ∙ sym (monitors_count 0 (components_of p))
+
+        -- ---- each component
+
+        -- the component of a number, with those listed before it
+        pub record Listing_at (n : ℕ) : Type 0 where
+          pub among : Among (components_of p) n
+          pub there : component_at r n ≡ component_with (next_kind (all_made nothing_listed among.before) (kind_at among.entry.system) (initial_at p ts ss o last among.entry.system)).0 (length (all_made nothing_listed among.before).permanents) among.entry.system
+          pub named : named.component_at (first_components p) n ≡ first_component p among.entry
+          pub grows : Grows (made (all_made nothing_listed among.before) among.entry.system) all
+
+        map_there : (xs : List Listed) (n : ℕ) (x : Listed) → slice_get xs n ≡ Some x → slice_get (map (first_component p) xs) n ≡ Some (first_component p x)
+        map_there [] n x e = absurd (none-some x e)
+        map_there (z ∷ xs) zero x e = ap (λ y. Some (first_component p y)) (same_Some z x e)
+        map_there (z ∷ xs) (suc n) x e = map_there xs n x e
+
+        pub listing_at : (n : ℕ) → n < length r.components → Listing_at n
+        listing_at n lt =
+            let many : length r.components ≡ length (components_of p) = count_stands ∙ length-map (components_of p) (first_component p) in
+            let a : Among (components_of p) n = among (components_of p) n (omega (arith, lt, many)) in
+            let c : Listing = all_made nothing_listed a.before in
+            let d : Listing = made c a.entry.system in
+            let whole : all ≡ all_made d a.after = ap (all_made nothing_listed) a.is ∙ steps_append p ts ss o last nothing_listed a.before (a.entry ∷ a.after) in
+            let g : Grows d all = subst (Grows d) (sym whole) (all_grow d a.after) in
+            let x : Component = component_with (next_kind c (kind_at a.entry.system) (initial_at p ts ss o last a.entry.system)).0 (length c.permanents) a.entry.system in
+            let e : r.components ≡ c.components ++ x ∷ g.components = h.components ∙ g.components_grow ∙ ap (λ ys. ys ++ g.components) (stepped c a.entry.system).components ∙ append_assoc c.components (x ∷ []) g.components in
+            let place : length c.components ≡ n = (let m = components_count nothing_listed a.before in let l = a.place in omega (arith, m, l)) in
+            let got : slice_get r.components n ≡ Some x = ap (λ j. slice_get r.components j) (sym place) ∙ ap (λ (ys : List Component). slice_get ys (length c.components)) e ∙ entry_there c.components x g.components in
+            let listed : slice_get (components_of p) n ≡ Some a.entry = ap (λ j. slice_get (components_of p) j) (sym a.place) ∙ ap (λ (ys : List Listed). slice_get ys (length a.before)) a.is ∙ entry_there a.before a.entry a.after in
+            record {
+              among = a;
+              there = entry_at r.components n no_component x got;
+              named = entry_at (first_components p) n named.no_component (first_component p a.entry) (map_there (components_of p) n a.entry listed);
+              grows = g;
+            }
+
+        pub system_stands : (n : ℕ) → n < length r.components → (component_at r n).system ≡ (named.component_at (first_components p) n).system
+        system_stands n lt = let a = listing_at n lt in ap (λ (x : Component). x.system) a.there ∙ sym (ap (λ (x : named.Component). x.system) a.named)
+
+        -- ---- the kinds
+
+        count_append : (xs ys : List Listed) → monitor_count (xs ++ ys) ≡ monitor_count xs + monitor_count ys
+        count_append [] ys = omega arith
+        count_append (x ∷ xs) ys = let a = count_append xs ys in omega (arith, a)
+
+        process_there : (c : Listing) (n number initial : ℕ) (rest : List Process) → length c.components ≡ n → r.processes ≡ (c.processes ++ process_at (length c.components) initial ∷ []) ++ rest → number ≡ length c.processes → (tables.process_at r number).component ≡ n
+        process_there c n number initial rest place e is =
+            let x : Process = process_at (length c.components) initial in
+            let f : r.processes ≡ c.processes ++ x ∷ rest = e ∙ append_assoc c.processes (x ∷ []) rest in
+            let got : slice_get r.processes number ≡ Some x = ap (λ j. slice_get r.processes j) is ∙ ap (λ (ys : List Process). slice_get ys (length c.processes)) f ∙ entry_there c.processes x rest in
+            ap (λ (q : Process). q.component) (entry_at r.processes number tables.no_process x got) ∙ place
+
+        pub kind_stands : length r.processes ≤ 255 → r.monitors < 255 → (n : ℕ) → n < length r.components → KindIs r p n (named.component_at (first_components p) n).kind (component_at r n).kind
+        kind_stands few rare n lt =
+            let l = listing_at n lt in
+            let c : Listing = all_made nothing_listed l.among.before in
+            let k : SystemKind = kind_at l.among.entry.system in
+            let i : ℕ = initial_at p ts ss o last l.among.entry.system in
+            let place : length c.components ≡ n = (let m = components_count nothing_listed l.among.before in let l = l.among.place in omega (arith, m, l)) in
+            let ps : r.processes ≡ (c.processes ++ process_made k (length c.components) i) ++ l.grows.processes = h.processes ∙ l.grows.processes_grow ∙ ap (λ ys. ys ++ l.grows.processes) (stepped c l.among.entry.system).processes in
+            rw (l.named, l.there) (go n l.among c k i l.grows.processes refl place ps (monitors_same nothing_listed 0 l.among.before (omega arith)))
+          where
+            go : (n : ℕ) (a : Among (components_of p) n) (c : Listing) (k : SystemKind) (i : ℕ) (rest : List Process) → k ≡ kind_at a.entry.system → length c.components ≡ n → r.processes ≡ (c.processes ++ process_made k (length c.components) i) ++ rest → c.monitors ≡ min (0 + monitor_count a.before) 255 → KindIs r p n k (next_kind c k i).0
+            go n a c system_kind.Class i rest e place ps ms = tt
+            go n a c system_kind.Process i rest e place ps ms =
+                let m : length r.processes ≡ length c.processes + 1 + length rest = ap (λ (ys : List Process). length ys) ps ∙ length-append (c.processes ++ _ ∷ []) rest ∙ ap (λ j. j + length rest) (length-append c.processes (_ ∷ [])) in
+                process_there c n (byte (length c.processes)) i rest place ps (omega (arith, m, few))
+            go n a c system_kind.Monitor i rest e place ps ms =
+                let x : Listed = a.entry in
+                let total : r.monitors ≡ monitor_count (components_of p) = few_monitors rare in
+                let split : monitor_count (components_of p) ≡ monitor_count a.before + (monitor_made (kind_at x.system) + monitor_count a.after) = ap monitor_count a.is ∙ count_append a.before (x ∷ a.after) in
+                let mine : c.monitors ≡ monitor_count a.before = omega (arith, ms, total, split, rare) in
+                let got : slice_get (monitors_of (opening p first_gates)) (monitor_count a.before) ≡ Some (0 + length a.before) = ap (λ ys. slice_get (monitors_from 0 (map (first_component p) ys)) (monitor_count a.before)) a.is ∙ monitor_place 0 a.before x a.after (sym e) in
+                let l = a.place in
+                ap (λ j. slice_index_or (monitors_of (opening p first_gates)) j (length r.components)) mine ∙ entry_at (monitors_of (opening p first_gates)) (monitor_count a.before) (length r.components) (0 + length a.before) got ∙ (let z : 0 + length a.before ≡ n = omega (arith, l) in z)
+
+        -- ---- processes
+
+        processes_even : (qs : List Process) (rs : List named.Process) → AreProcesses qs rs → length qs ≡ length rs
+        processes_even [] [] e = refl
+        processes_even [] (s ∷ rs) e = absurd e
+        processes_even (q ∷ qs) [] e = absurd e
+        processes_even (q ∷ qs) (s ∷ rs) e = ap suc (processes_even qs rs e.1)
+
+        process_same : (qs : List Process) (rs : List named.Process) (n : ℕ) → n < length qs → AreProcesses qs rs → (slice_index_or qs n tables.no_process).component ≡ (slice_index_or rs n named.no_process).component
+        process_same [] rs n lt e = absurd (omega (arith, lt))
+        process_same (q ∷ qs) [] n lt e = absurd e
+        process_same (q ∷ qs) (s ∷ rs) zero lt e = e.0
+        process_same (q ∷ qs) (s ∷ rs) (suc n) lt e = process_same qs rs n (omega (arith, lt)) e.1
+
+        -- the program itself runs from the start
+        begun_same : (m : SystemMeaning) (qs : List Process) (rs : List named.Process) → AreProcesses qs (unstarted_process 0 ∷ rs) → AreProcesses qs (begun 0 m ∷ rs)
+        begun_same m [] rs e = e
+        begun_same m (q ∷ qs) rs e = e
+
+        opening_processes : kind_at (program_system p) ≡ system_kind.Process → AreProcesses r.processes (opening p first_gates).processes
+        opening_processes e =
+            let xs : List Listed = listed_variables (listed p (program_system p)) [] (system_of p (program_system p)).variables in
+            let rest : List named.Process = processes_from 1 (map (first_component p) xs) in
+            let a : AreProcesses all.processes (processes_from 0 (first_components p)) = processes_same nothing_listed [] (components_of p) tt in
+            let first : processes_from 0 (first_components p) ≡ unstarted_process 0 ∷ rest = ap (λ k. process_first k 0 rest) e in
+            let b : AreProcesses r.processes (unstarted_process 0 ∷ rest) = rw h.processes (subst (AreProcesses all.processes) first a) in
+            subst (λ ps. AreProcesses r.processes (own_begun p (first_components p) ps)) (sym first) (begun_same (system_of p (program_system p)) r.processes rest b)
+
+        pub process_count_stands : kind_at (program_system p) ≡ system_kind.Process → length r.processes ≡ length (opening p first_gates).processes
+        process_count_stands e = processes_even r.processes (opening p first_gates).processes (opening_processes e)
+
+        pub process_stands : kind_at (program_system p) ≡ system_kind.Process → (q : ℕ) → q < length r.processes → (tables.process_at r q).component ≡ (named.process_at (opening p first_gates).processes q).component
+        process_stands e q lt = process_same r.processes (opening p first_gates).processes q lt (opening_processes e)

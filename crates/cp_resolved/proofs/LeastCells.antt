@@ -133,7 +133,7 @@ none_before : (n : ℕ) → 0 + n ≡ n
 none_before n = omega arith
 
 -- a product of what has stopped stops too
-times_stopped : (n m : ℕ) → times (min m most) n ≡ min (n * m) most
+pub times_stopped : (n m : ℕ) → times (min m most) n ≡ min (n * m) most
 times_stopped zero m = let a : min m most * 0 ≡ 0 = omega arith in rw a (omega arith)
 times_stopped (suc n) m =
     let a : min m most * suc n ≡ min m most + min m most * n = omega arith in

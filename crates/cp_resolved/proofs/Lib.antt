@@ -18,6 +18,7 @@ pub mod CallingBodies
 pub mod CallingPlaced
 pub mod CallingProgram
 pub mod Cells
+pub mod ComponentImages
 pub mod ComponentOrder
 pub mod ComponentsStand
 pub mod Declared
