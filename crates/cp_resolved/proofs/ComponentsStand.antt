@@ -44,6 +44,11 @@ pub entry_there : {A : Type 0} (xs : List A) (x : A) (ys : List A) → slice_get
 entry_there [] x ys = refl
 entry_there (z ∷ xs) x ys = entry_there xs x ys
 
+pub map_there : {A B : Type 0} (f : A → B) (xs : List A) (n : ℕ) (x : A) → slice_get xs n ≡ Some x → slice_get (map f xs) n ≡ Some (f x)
+map_there f [] n x e = absurd (none-some x e)
+map_there f (z ∷ xs) zero x e = ap (λ y. Some (f y)) (same_Some z x e)
+map_there f (z ∷ xs) (suc n) x e = map_there f xs n x e
+
 map_append : {A B : Type 0} (f : A → B) (xs ys : List A) → map f (xs ++ ys) ≡ map f xs ++ map f ys
 map_append f [] ys = refl
 map_append f (x ∷ xs) ys = ap (λ zs. f x ∷ zs) (map_append f xs ys)
@@ -226,11 +231,6 @@ module _ (p : Program) where
           pub named : named.component_at (first_components p) n ≡ first_component p among.entry
           pub grows : Grows (made (all_made nothing_listed among.before) among.entry.system) all
 
-        map_there : (xs : List Listed) (n : ℕ) (x : Listed) → slice_get xs n ≡ Some x → slice_get (map (first_component p) xs) n ≡ Some (first_component p x)
-        map_there [] n x e = absurd (none-some x e)
-        map_there (z ∷ xs) zero x e = ap (λ y. Some (first_component p y)) (same_Some z x e)
-        map_there (z ∷ xs) (suc n) x e = map_there xs n x e
-
         pub listing_at : (n : ℕ) → n < length r.components → Listing_at n
         listing_at n lt =
             let many : length r.components ≡ length (components_of p) = count_stands ∙ length-map (components_of p) (first_component p) in
@@ -247,7 +247,7 @@ module _ (p : Program) where
             record {
               among = a;
               there = entry_at r.components n no_component x got;
-              named = entry_at (first_components p) n named.no_component (first_component p a.entry) (map_there (components_of p) n a.entry listed);
+              named = entry_at (first_components p) n named.no_component (first_component p a.entry) (map_there (first_component p) (components_of p) n a.entry listed);
               grows = g;
             }
 

@@ -21,6 +21,7 @@ pub mod Cells
 pub mod ComponentImages
 pub mod ComponentOrder
 pub mod ComponentsStand
+pub mod Contained
 pub mod Declared
 pub mod Declares
 pub mod Designating
@@ -100,6 +101,7 @@ pub mod StepsOfParts
 pub mod StepsOfProgram
 pub mod StepsOfRoutines
 pub mod StepsOfTypes
+pub mod Subtrees
 pub mod SystemsLaid
 pub mod Temporaries
 pub mod TreeKnown
