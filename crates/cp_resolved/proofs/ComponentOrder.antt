@@ -43,7 +43,7 @@ before (suc n) zero lt other = absurd (omega (arith, lt))
 before (suc n) (suc bound) lt other = let h = before n bound (omega (arith, lt)) (λ e. other (ap suc e)) in omega (arith, h)
 
 module _ (p : Program) (ts : Compounds) (ss : List System) (o : Owned) (last : ℕ) where
-  abbrev owned_in : Option System → Owned
+  abbrev pub owned_in : Option System → Owned
   owned_in None = o
   owned_in (Some s) = s.owned
 

@@ -97,7 +97,7 @@ grows_trans b c d h i =
     }
 
 module _ (p : Program) where
-  abbrev kind_at : ℕ → SystemKind
+  abbrev pub kind_at : ℕ → SystemKind
   kind_at n = (system_of p n).kind
 
   -- how many are monitors
@@ -124,14 +124,17 @@ module _ (p : Program) where
       go system_kind.Class h = omega (arith, h)
 
   module _ (ts : Compounds) (ss : List System) (o : Owned) (last : ℕ) where
-    abbrev made : Listing → ℕ → Listing
+    abbrev pub made : Listing → ℕ → Listing
     made c n = step p ts ss o last c n
 
-    abbrev all_made : Listing → List Listed → Listing
+    abbrev pub all_made : Listing → List Listed → Listing
     all_made c xs = steps p ts ss o last c xs
 
     stepped : (c : Listing) (n : ℕ) → Steps c (made c n) (kind_at n) (initial_at p ts ss o last n) (image_at p ts ss o last n) n
     stepped c n = one_step c (kind_at n) (initial_at p ts ss o last n) (image_at p ts ss o last n) n
+
+    pub permanents_made : (c : Listing) (n : ℕ) → (made c n).permanents ≡ c.permanents ++ image_at p ts ss o last n
+    permanents_made c n = (stepped c n).permanents
 
     pub all_grow : (c : Listing) (xs : List Listed) → Grows c (all_made c xs)
     all_grow c [] = record { components = []; processes = []; permanents = []; components_grow = sym (append-nil c.components); processes_grow = sym (append-nil c.processes); permanents_grow = sym (append-nil c.permanents) }
@@ -195,7 +198,7 @@ module _ (p : Program) where
     -- ---- the tables
 
     module _ (r : Tables) where
-      abbrev all : Listing
+      abbrev pub all : Listing
       all = all_made nothing_listed (components_of p)
 
       -- the tables have what is listed

@@ -20,6 +20,8 @@ pub mod CallingProgram
 pub mod Cells
 pub mod ComponentImages
 pub mod ComponentOrder
+pub mod ComponentsLaw
+pub mod ComponentsOfTree
 pub mod ComponentsStand
 pub mod Contained
 pub mod Declared

@@ -68,15 +68,15 @@ tabled t tree e =
 
 -- ---- system types by their numbers
 
-abbrev own_at : Layer → ℕ → ℕ
+abbrev pub own_at : Layer → ℕ → ℕ
 own_at l k = (slice_index_or (system_types l.systems l.owned) k no_system).own
 
-abbrev initial_in : ℕ → Option System → ℕ
+abbrev pub initial_in : ℕ → Option System → ℕ
 initial_in other None = other
 initial_in other (Some s) = s.initial
 
 -- the program's initial statement is the last routine
-abbrev initial_at : Layer → ℕ → ℕ
+abbrev pub initial_at : Layer → ℕ → ℕ
 initial_at l k = initial_in (length l.routines - 1) (slice_get l.systems k)
 
 types_there : (ss : List System) (k : ℕ) (s : System) → slice_get ss k ≡ Some s → slice_get (types_of ss) k ≡ Some (system_type s.owned)

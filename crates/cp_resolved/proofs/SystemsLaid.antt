@@ -27,7 +27,7 @@ use Rattle.cp_resolved.proofs.KeptNames as kept
 use Rattle.cp_resolved.proofs.KeptOwned.{body_owned, routines_owned, definition_owned, constants_owned}
 use Rattle.cp_resolved.proofs.OwnedParts.{all_contained, AreLow, OwnsAt, Owns, owns_grown}
 use Rattle.cp_resolved.proofs.Owning.{Outside}
-use Rattle.cp_resolved.proofs.PermanentNames.{IsOther, Under, under_same, under_added}
+use Rattle.cp_resolved.proofs.PermanentNames.{IsOther, Under, under_same, under_added, BoundIn, program_bound, parts_bound}
 use Rattle.cp_resolved.proofs.Permanents.{owns_declared, variables_owns, system_owns, nothing_owns, under_kind}
 use Rattle.cp_resolved.proofs.Steps.{found_in, names_grown, outermost_in}
 use Rattle.cp_resolved.proofs.StepsOfProgram.{Standing, Stood, definition_stood, part_stood, parts_stood, opened_after, initial_systems, all_outer}
@@ -55,6 +55,7 @@ module _ (k : Numbering) (end : Layer) where
   pub record OwnIs (number : ℕ) (around : Layer) (o : Owned) (m : SystemMeaning) : Type 0 where
     pub owns : Owns k end.types end.systems around.names o m.variables
     pub low : AreLow number (all_contained m.variables)
+    pub bound : BoundIn m.parameters around.names
     pub found : (x : Name) (t : Ty) → scopes.find x m.scope ≡ Some (permanent_variable t) → PermanentIs t (layers.find x around.names)
 
   pub record SystemIs (number : ℕ) (s : System) (m : SystemMeaning) (around : Layer) : Type 0 where
@@ -135,6 +136,7 @@ module _ (k : Numbering) (end : Layer) where
         own = record {
           owns = subst (λ p. Owns k end.types end.systems z.names p (system_in u s).variables) (sym eq) (owns_end z (system_in u s).variables ts ss o);
           low = subst (λ (us : List System). AreLow (length us) (all_contained (system_in u s).variables)) same o.low;
+          bound = parts_bound u l s;
           found = permanent_found z (parts_scope u s) s.routines ts (parts_begun_reached k l d.scope s h.0 f i.outer e i.names).names;
         };
       }
@@ -284,6 +286,7 @@ all_laid k t h f e o =
       program = record {
         owns = subst (λ q. Owns k end.types end.systems m.names q d.variables) (sym eq) (owns_end k end m d.variables x.types x.systems a.owns);
         low = subst (λ i. AreLow i (all_contained d.variables)) number a.owns.low;
+        bound = program_bound t.lines p.parts;
         found = permanent_found k end m d.scope p.routines x.types stood.standing.names;
       };
     }

@@ -1,0 +1,5 @@
+use Rattle.cp_resolved.proofs.ComponentsLaw.{components_law}
+use Rattle.cp_resolved.proofs.laws.law_components.Goals as goal
+
+pub returns : goal.returns
+returns c = components_law
