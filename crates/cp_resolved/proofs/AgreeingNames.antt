@@ -6,6 +6,7 @@ use Rattle.std.proofs.lemmas.Bool.Decides.{Decides-eqb}
 use Rattle.cp_scope.specs.declared.types.ValueType.{ValueType}
 use Rattle.cp_scope.specs.declared.types.Meaning.{Meaning}
 use Rattle.cp_scope.specs.declared.types.Meaning.TheVariants as meaning
+use Rattle.cp_scope.specs.declared.types.Parameter as check_parameter
 use Rattle.cp_scope.specs.declared.shape.ArrayShape.{ArrayShape}
 use Rattle.cp_scope.specs.Types.{is_open}
 use Rattle.cp_scope.specs.Scopes.{as_member, with_pending, without_pending, reserve, settle, is_among, Names, Scope, Scopes, Heading, Shape, array_shape, record_shape, system_shape, heading_shape, body_shape, Shapes, shape_in, as_array, as_heading, heading_at, member_at, through_seal, look_in, or_else, look_outer, look, with_shape, with_name, sealed, add, enter, keep}
@@ -16,11 +17,11 @@ use Rattle.cp_meaning.specs.Types as named
 use Rattle.cp_meaning.specs.Types.{Ty, FieldTypes}
 use Rattle.cp_meaning.specs.Scopes as scopes
 use Rattle.cp_meaning.specs.Scopes.{find, since, is_seen, seen_inside}
-use Rattle.cp_meaning.specs.Declarations.{routine_in, type_named}
+use Rattle.cp_meaning.specs.Declarations.{Parameter, RoutineMeaning, routine_in, type_named}
 use Rattle.cp_meaning.specs.Expressions.{routine_of_type}
 use Rattle.cp_resolved.specs.Standing.{IsFit, is_standing}
 use Rattle.cp_resolved.specs.Tokens.{AreDifferent}
-use Rattle.cp_resolved.specs.Typed.{Written, TypeIs, FieldsAre, ResultIs, VariableIs, KindIs, RoutineIs, MeaningIs}
+use Rattle.cp_resolved.specs.Typed.{Written, TypeIs, FieldsAre, AreParameters, HeadingIs, VariableIs, KindIs, RoutineIs, MeaningIs}
 use Rattle.cp_resolved.proofs.Agreeing.{itself, is_itself, unknown, find_last, new_names, inner_look, look_is, More, with_more, with_there, with_other, AreFree, free_others}
 
 -- the heading of a routine is written
@@ -108,14 +109,24 @@ module _ (systems : ℕ → ℕ) (constants_at : ℕ → List Name) where
   there_more ss ts m (meaning.Reference v) h = tt
   there_more ss ts m (meaning.Predeclared q) h = tt
 
-  routine_since : (v : Option ValueType) (x : Name) (m k : scopes.Scope) (o : Option scopes.Meaning) → since x m ≡ since x k → RoutineIs v x m o → RoutineIs v x k o
-  routine_since v x m k (Some (scopes.routine_meaning r)) e h = subst (λ (t : scopes.Scope). ResultIs v (Some (routine_in t r))) e h
-  routine_since v x m k (Some (scopes.type_meaning t)) e h = absurd h
-  routine_since v x m k (Some (scopes.constant_meaning b z)) e h = absurd h
-  routine_since v x m k (Some (scopes.local_variable t)) e h = absurd h
-  routine_since v x m k (Some (scopes.permanent_variable t)) e h = absurd h
-  routine_since v x m k (Some (scopes.standard_meaning f)) e h = absurd h
-  routine_since v x m k None e h = absurd h
+  pub parameters_more : (ss ts : Shapes) → More ss ts → (as' : List check_parameter.Parameter) (qs : List Parameter) → AreParameters (W ss) as' qs → AreParameters (W ts) as' qs
+  parameters_more ss ts m [] [] h = tt
+  parameters_more ss ts m (a ∷ as') (q ∷ qs) h = (record { passed = h.0.passed; belongs = type_more ss ts m q.ty a.value_type h.0.belongs; handed = h.0.handed }, parameters_more ss ts m as' qs h.1)
+  parameters_more ss ts m [] (q ∷ qs) h = absurd h
+  parameters_more ss ts m (a ∷ as') [] h = absurd h
+
+  pub heading_is_more : (ss ts : Shapes) → More ss ts → (d : Heading) (o : Option RoutineMeaning) → HeadingIs (W ss) d o → HeadingIs (W ts) d o
+  heading_is_more ss ts m d None h = h
+  heading_is_more ss ts m d (Some r) h = (h.0, parameters_more ss ts m d.parameters r.parameters h.1)
+
+  routine_since : (ss ts : Shapes) → More ss ts → (d : Heading) (x : Name) (m k : scopes.Scope) (o : Option scopes.Meaning) → since x m ≡ since x k → RoutineIs (W ss) d x m o → RoutineIs (W ts) d x k o
+  routine_since ss ts i d x m k (Some (scopes.routine_meaning r)) e h = subst (λ (t : scopes.Scope). HeadingIs (W ts) d (Some (routine_in t r))) e (heading_is_more ss ts i d (Some (routine_in (since x m) r)) h)
+  routine_since ss ts i d x m k (Some (scopes.type_meaning t)) e h = absurd h
+  routine_since ss ts i d x m k (Some (scopes.constant_meaning b z)) e h = absurd h
+  routine_since ss ts i d x m k (Some (scopes.local_variable t)) e h = absurd h
+  routine_since ss ts i d x m k (Some (scopes.permanent_variable t)) e h = absurd h
+  routine_since ss ts i d x m k (Some (scopes.standard_meaning f)) e h = absurd h
+  routine_since ss ts i d x m k None e h = absurd h
 
   -- more may be written, and the scope may be another that has the same for the name
   meaning_moved : (s t : Scopes) (x : Name) (m k : scopes.Scope) (c : Meaning) (o : Option scopes.Meaning) → More s.shapes t.shapes → since x m ≡ since x k → IsThere s.shapes c → MeaningIs (W s.shapes) s x m c o → MeaningIs (W t.shapes) t x k c o
@@ -125,7 +136,7 @@ module _ (systems : ℕ → ℕ) (constants_at : ℕ → List Name) where
   meaning_moved s t x m k (meaning.Parameter v) o more e i h = variable_more s.shapes t.shapes more v o h
   meaning_moved s t x m k (meaning.Reference v) o more e i h = variable_more s.shapes t.shapes more v o h
   meaning_moved s t x m k (meaning.Routine n) o more e i h =
-      subst (λ (d : Heading). RoutineIs d.result x k o) (sym (heading_kept n s.shapes t.shapes more i)) (routine_since (heading_at n s).result x m k o e h)
+      subst (λ (d : Heading). RoutineIs (W t.shapes) d x k o) (sym (heading_kept n s.shapes t.shapes more i)) (routine_since s.shapes t.shapes more (heading_at n s) x m k o e h)
   meaning_moved s t x m k (meaning.Predeclared q) o more e i h = h
 
   -- ---- a name that the checker has
@@ -259,7 +270,7 @@ module _ (systems : ℕ → ℕ) (constants_at : ℕ → List Name) where
 
   module _ (p : Program) where
     abbrev pub AreEntries : Scopes → Type 0
-    AreEntries s = (k n : ℕ) (y : Name) → member_at (systems k) y s ≡ Some (Some (meaning.Routine n)) → ResultIs (heading_at n s).result (routine_of_type p (named.component_of k) y) × HeadingThere n s.shapes
+    AreEntries s = (k n : ℕ) (y : Name) → member_at (systems k) y s ≡ Some (Some (meaning.Routine n)) → HeadingIs (W s.shapes) (heading_at n s) (routine_of_type p (named.component_of k) y) × HeadingThere n s.shapes
 
     -- `inside`: in the program, what its system types see agrees too. `but`: in a heading the name of its routine is not visible yet.
     pub record Agree (inside : Bool) (but : Option Name) (s : Scopes) (m below : scopes.Scope) (ks : List ℕ) : Type 0 where
@@ -295,7 +306,7 @@ module _ (systems : ℕ → ℕ) (constants_at : ℕ → List Name) where
     pub entries_more : (s t : Scopes) → More s.shapes t.shapes → ((k n : ℕ) (y : Name) → member_at (systems k) y t ≡ Some (Some (meaning.Routine n)) → member_at (systems k) y s ≡ Some (Some (meaning.Routine n))) → AreEntries s → AreEntries t
     entries_more s t more back h k n y e =
         let r = h k n y (back k n y e) in
-        (subst (λ (d : Heading). ResultIs d.result (routine_of_type p (named.component_of k) y)) (sym (heading_kept n s.shapes t.shapes more r.1)) r.0, heading_more n s.shapes t.shapes more r.1)
+        (subst (λ (d : Heading). HeadingIs (W t.shapes) d (routine_of_type p (named.component_of k) y)) (sym (heading_kept n s.shapes t.shapes more r.1)) (heading_is_more s.shapes t.shapes more (heading_at n s) (routine_of_type p (named.component_of k) y) r.0), heading_more n s.shapes t.shapes more r.1)
 
     pub agree_same : (b : Bool) (but : Option Name) (s t : Scopes) (m below : scopes.Scope) (ks : List ℕ) → t.outer ≡ s.outer → t.inner.names ≡ s.inner.names → t.inner.is_sealed ≡ s.inner.is_sealed → t.shapes ≡ s.shapes → Agree b but s m below ks → Agree b but t m below ks
     agree_same b but s t m below ks o n i e h =

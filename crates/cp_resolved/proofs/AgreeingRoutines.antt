@@ -11,9 +11,10 @@ use Rattle.cp_scope.specs.declared.types.ValueType.{ValueType}
 use Rattle.cp_scope.specs.declared.types.ValueType.TheVariants as types
 use Rattle.cp_scope.specs.declared.types.Meaning.{Meaning}
 use Rattle.cp_scope.specs.declared.types.Meaning.TheVariants as meaning
-use Rattle.cp_scope.specs.Types.{is_ordinal}
+use Rattle.cp_scope.specs.declared.types.Parameter as check_parameter
+use Rattle.cp_scope.specs.Types.{is_ordinal, parameter_of}
 use Rattle.cp_scope.specs.Judged.{Judged, ◌>>=◌, faults}
-use Rattle.cp_scope.specs.Scopes.{Scope, Scopes, Shapes, Shape, heading_shape, body_shape, shape_in, look_in, or_else, look_outer, look, with_shape, with_name, sealed, add, enter, Around, last_of, leave, add_around, keep, settle, census}
+use Rattle.cp_scope.specs.Scopes.{Names, parameters_in, Scope, Scopes, Shapes, Shape, heading_shape, body_shape, shape_in, look_in, or_else, look_outer, look, with_shape, with_name, sealed, add, enter, Around, last_of, leave, add_around, keep, settle, census}
 use Rattle.cp_scope.specs.Scopes as checker
 use Rattle.cp_check.specs.declared.types.Holding.{Holding}
 use Rattle.cp_check.specs.declared.types.Holding.TheVariants as holds
@@ -21,7 +22,7 @@ use Rattle.cp_check.specs.Types as typing
 use Rattle.cp_check.specs.Types.{Step}
 use Rattle.cp_scope.specs.declared.fault.Rule.TheVariants.{C5}
 use Rattle.cp_check.specs.Calls.{fault, unless}
-use Rattle.cp_check.specs.Declarations.{as_declared, reserve_name, reserve_names, add_all}
+use Rattle.cp_check.specs.Declarations.{as_declared, reserve_name, reserve_names, add_names, add_all}
 use Rattle.cp_check.specs.Headings as headings
 use Rattle.cp_check.specs.Headings.{after_faults, Headed, written, heading, announced}
 use Rattle.cp_lawful.proofs.Kept.{last_is}
@@ -34,12 +35,13 @@ use Rattle.cp_meaning.specs.Declarations.{routine_in}
 use Rattle.cp_resolved.specs.Openings.{with_routine}
 use Rattle.cp_resolved.specs.Small.{Each}
 use Rattle.cp_resolved.specs.Standing.{is_free, IsFit, IsFreeParameter, IsFreeResult}
-use Rattle.cp_resolved.specs.Typed.{TypeIs, IsOrdinalResult, ResultIs, RoutineIs}
+use Rattle.cp_resolved.specs.Typed.{TypeIs, IsOrdinalResult, ResultIs, AreParameters, HeadingIs, RoutineIs}
 use Rattle.cp_resolved.proofs.Agreeing.{Good, good_then, good_sound, none_left, none_right, none_first, itself, is_itself, new_names, look_last, look_is, look_entered, find_last, inner_look, More, more_same, more_trans, with_more, with_there}
-use Rattle.cp_resolved.proofs.AgreeingNames.{W, IsTypeKnown, IsGiven, New, Known, IsKnown, is_known_moved, stacked_more, find_first, find_other, since_other, last_or, Agree, sees, fits, agree_kept}
+use Rattle.cp_resolved.proofs.AgreeingNames.{W, heading_is_more, IsTypeKnown, IsGiven, New, Known, IsKnown, is_known_moved, stacked_more, find_first, find_other, since_other, last_or, Agree, sees, fits, agree_kept}
 use Rattle.cp_resolved.proofs.AgreeingTypes.{Held, held_named, KindOf, IsOrdinal, ordinal_of, type_seen, known_type}
+use Rattle.cp_resolved.proofs.AgreeingParameters.{free_handed, copies, parameters_both, copies_are, names_read, shapes_added}
 use Rattle.cp_resolved.proofs.AgreeingParts.{free_plain, StepResult, step_then, step_same, names_result, all_declared}
-use Rattle.cp_resolved.proofs.Reserving.{pending_fresh}
+use Rattle.cp_resolved.proofs.Reserving.{AreFresh, pending_fresh}
 
 pub none_before : {A : Type 0} (fs : List CheckFault) (j : Judged A) → faults (after_faults fs j) ≡ [] → fs ≡ []
 none_before [] j h = refl
@@ -155,6 +157,58 @@ module _ (systems : ℕ → ℕ) (constants_at : ℕ → List Name) (p : Program
       parameters_free own t k below ks gs (none_right (headings.parameter_step s g).faults (headings.parameter_steps t gs).faults e) r.settled r.agree
       (free_both h.parameters (meant.parameters_named (meant.names_of g.group.names) u g.is_var) qs (named_free (meant.names_of g.group.names) u g.is_var (group_free g.is_var (Some own) s h.scope below ks g.group none empty agree)))
 
+  -- ---- parameters as the checker keeps them
+
+  -- those of a heading so far, against the names of its scope
+  abbrev pub AreRead : Scopes → List meant.Parameter → Type 0
+  AreRead s qs = AreParameters (W systems constants_at s.shapes) (parameters_in s.inner.names) qs
+
+  group_read : (is_var : Bool) (but : Option Name) (s : Scopes) (m below : scopes.Scope) (ks : List ℕ) (g : Group) (qs : List meant.Parameter) → (headings.group_step is_var s g).faults ≡ [] → s.inner.pending ≡ [] → Agree systems constants_at p false but s m below ks → AreRead s qs →
+      AreRead (headings.group_step is_var s g).scopes (qs ++ meant.parameters_named (meant.names_of g.names) (meant.type_named m g.type_name.name) is_var)
+  unfolding headings.group_step add_all settle
+  group_read is_var but s m below ks g qs e empty h read =
+      let a : Scopes = (reserve_names s g.names).scopes in
+      let j : Judged ValueType = headings.parameter_type a g in
+      let t : Ty = meant.type_named m g.type_name.name in
+      let r = names_result systems constants_at p false but s g.names m below ks (none_left (reserve_names s g.names).faults (faults (j >>= headings.to_parameter is_var)) e) empty h in
+      let v = good_sound (PlainType a.shapes t) j (parameter_good a m g (type_seen systems constants_at p false but a m below ks g.type_name.at g.type_name.name r.agree)) (none_first j (headings.to_parameter is_var) (none_right (reserve_names s g.names).faults (faults (j >>= headings.to_parameter is_var)) e)) in
+      let b : check_parameter.Parameter = record { is_var = is_var; value_type = v.value } in
+      let c : Meaning = (if is_var then meaning.Reference v.value else meaning.Parameter v.value) in
+      let before : AreParameters (W systems constants_at a.shapes) (parameters_in a.inner.names) qs =
+      subst (λ (ns : Names). AreParameters (W systems constants_at a.shapes) (parameters_in ns) qs) (sym r.reserved.names) (subst (λ (ss : Shapes). AreParameters (W systems constants_at ss) (parameters_in s.inner.names) qs) (sym r.shapes) read) in
+      let fresh : AreFresh g.names a.inner.names = pending_fresh a.inner g.names a.inner.pending r.reserved.pends r.reserved.all in
+      let all : AreParameters (W systems constants_at a.shapes) (parameters_in (add_names a g.names (Some c)).inner.names) (qs ++ meant.parameters_named (meant.names_of g.names) t is_var) =
+      subst (λ (as' : List check_parameter.Parameter). AreParameters (W systems constants_at a.shapes) as' (qs ++ meant.parameters_named (meant.names_of g.names) t is_var)) (sym (names_read a g.names c b (is_read is_var v.value) fresh r.reserved.others))
+      (parameters_both (W systems constants_at a.shapes) (parameters_in a.inner.names) (copies b g.names) qs (meant.parameters_named (meant.names_of g.names) t is_var) before (copies_are (W systems constants_at a.shapes) b t is_var g.names refl v.holds.belongs (free_handed is_var t v.holds.free))) in
+      subst (λ (i : Judged ValueType). AreRead (add_all a g.names (as_declared (i >>= headings.to_parameter is_var))) (qs ++ meant.parameters_named (meant.names_of g.names) t is_var)) (sym v.is)
+      (subst (λ (ss : Shapes). AreParameters (W systems constants_at ss) (parameters_in (add_names a g.names (Some c)).inner.names) (qs ++ meant.parameters_named (meant.names_of g.names) t is_var)) (sym (shapes_added a g.names (Some c))) all)
+    where
+      is_read : (b : Bool) (v : ValueType) → parameter_of (if b then meaning.Reference v else meaning.Parameter v) ≡ Some (record { is_var = b; value_type = v })
+      is_read true v = refl
+      is_read false v = refl
+
+  groups_read : (own : Name) (s : Scopes) (h : meant.Heading) (below : scopes.Scope) (ks : List ℕ) (gs : List Group) → (headings.group_steps s gs).faults ≡ [] → s.inner.pending ≡ [] → Agree systems constants_at p false (Some own) s h.scope below ks → AreRead s h.parameters →
+      AreRead (headings.group_steps s gs).scopes (meant.with_groups scopes.local_variable h gs).parameters
+  unfolding headings.group_steps
+  groups_read own s h below ks [] e empty agree read = read
+  groups_read own s h below ks (g ∷ gs) e empty agree read =
+      let t : Scopes = (headings.group_step false s g).scopes in
+      let k : meant.Heading = meant.with_group scopes.local_variable false h g in
+      let none : (headings.group_step false s g).faults ≡ [] = none_left (headings.group_step false s g).faults (headings.group_steps t gs).faults e in
+      let r = group_agrees false (Some own) s h.scope below ks g none empty agree in
+      groups_read own t k below ks gs (none_right (headings.group_step false s g).faults (headings.group_steps t gs).faults e) r.settled r.agree (group_read false (Some own) s h.scope below ks g h.parameters none empty agree read)
+
+  parameters_read : (own : Name) (s : Scopes) (h : meant.Heading) (below : scopes.Scope) (ks : List ℕ) (gs : List ParameterGroup) → (headings.parameter_steps s gs).faults ≡ [] → s.inner.pending ≡ [] → Agree systems constants_at p false (Some own) s h.scope below ks → AreRead s h.parameters →
+      AreRead (headings.parameter_steps s gs).scopes (meant.with_parameter_groups h gs).parameters
+  unfolding headings.parameter_steps
+  parameters_read own s h below ks [] e empty agree read = read
+  parameters_read own s h below ks (g ∷ gs) e empty agree read =
+      let t : Scopes = (headings.parameter_step s g).scopes in
+      let k : meant.Heading = meant.with_group scopes.local_variable g.is_var h g.group in
+      let none : (headings.parameter_step s g).faults ≡ [] = none_left (headings.parameter_step s g).faults (headings.parameter_steps t gs).faults e in
+      let r = group_agrees g.is_var (Some own) s h.scope below ks g.group none empty agree in
+      parameters_read own t k below ks gs (none_right (headings.parameter_step s g).faults (headings.parameter_steps t gs).faults e) r.settled r.agree (group_read g.is_var (Some own) s h.scope below ks g.group h.parameters none empty agree read)
+
   -- ---- results
 
   abbrev IsResult : Shapes → Option ValueType → Option Ty → Type 0
@@ -205,11 +259,12 @@ module _ (systems : ℕ → ℕ) (constants_at : ℕ → List Name) (p : Program
     pub is : h.result ≡ Ok value
     pub result : IsResult h.scopes.shapes value (meant.result_of (meant.heading_of m k).scope k)
     pub parameters : Each IsFreeParameter (meant.heading_of m k).parameters
+    pub read : AreRead h.scopes (meant.heading_of m k).parameters
     pub free : IsFreeResult (meant.result_of (meant.heading_of m k).scope k)
 
-  written_agrees : (own : Name) (s : Scopes) (m below : scopes.Scope) (ks : List ℕ) (k : RoutineKind) → faults (written s k).result ≡ [] → s.inner.pending ≡ [] → Agree systems constants_at p false (Some own) s m below ks → WrittenResult own s m below ks (written s k) k
+  written_agrees : (own : Name) (s : Scopes) (m below : scopes.Scope) (ks : List ℕ) (k : RoutineKind) → faults (written s k).result ≡ [] → s.inner.pending ≡ [] → Agree systems constants_at p false (Some own) s m below ks → AreRead s [] → WrittenResult own s m below ks (written s k) k
   unfolding headings.written
-  written_agrees own s m below ks (procedure gs) e empty agree =
+  written_agrees own s m below ks (procedure gs) e empty agree first =
       let none : (headings.parameter_steps s gs).faults ≡ [] = none_before {A = Option ValueType} (headings.parameter_steps s gs).faults (Ok None) e in
       record {
         step = parameters_agree own s (record { parameters = []; scope = m }) below ks gs none empty agree;
@@ -217,9 +272,10 @@ module _ (systems : ℕ → ℕ) (constants_at : ℕ → List Name) (p : Program
         is = none_after (headings.parameter_steps s gs).faults (Ok None) e;
         result = tt;
         parameters = parameters_free own s (record { parameters = []; scope = m }) below ks gs none empty agree tt;
+        read = parameters_read own s (record { parameters = []; scope = m }) below ks gs none empty agree first;
         free = tt;
       }
-  written_agrees own s m below ks (function gs i) e empty agree =
+  written_agrees own s m below ks (function gs i) e empty agree first =
       let d : Step = headings.group_steps s gs in
       let none : d.faults ≡ [] = none_before d.faults (headings.result_type d.scopes i) e in
       let step = groups_agree own s (record { parameters = []; scope = m }) below ks gs none empty agree in
@@ -232,6 +288,7 @@ module _ (systems : ℕ → ℕ) (constants_at : ℕ → List Name) (p : Program
         is = same ∙ v.is;
         result = v.holds.0;
         parameters = groups_free own s (record { parameters = []; scope = m }) below ks gs none empty agree tt;
+        read = groups_read own s (record { parameters = []; scope = m }) below ks gs none empty agree first;
         free = v.holds.1;
       }
 
@@ -241,6 +298,7 @@ module _ (systems : ℕ → ℕ) (constants_at : ℕ → List Name) (p : Program
     pub is : h.result ≡ Ok value
     pub result : ResultIs value (Some (routine_in k r))
     pub parameters : Each IsFreeParameter (routine_in k r).parameters
+    pub read : AreRead h.scopes (routine_in k r).parameters
     pub free : IsFreeResult (routine_in k r).result
 
   ruled_none : (fs : List CheckFault) (v : Option ValueType) → faults (unless fs v) ≡ [] → fs ≡ []
@@ -259,6 +317,7 @@ module _ (systems : ℕ → ℕ) (constants_at : ℕ → List Name) (p : Program
         is = ap (λ (j : Judged (Option ValueType)). j >>= headings.ruled owner r) same ∙ ap (λ gs. unless gs w.value) all;
         result = result_is h.scopes.shapes r.at w.value (meant.result_of (meant.heading_of k r.kind).scope r.kind) w.result (none_left (headings.result_faults r.at w.value) (headings.entry_faults (r.name.at - 1) owner r.is_entry) all) (routine_in k r) refl;
         parameters = w.parameters;
+        read = w.read;
         free = w.free;
       }
 
@@ -293,7 +352,7 @@ module _ (systems : ℕ → ℕ) (constants_at : ℕ → List Name) (p : Program
 
   pub heading_agrees : (owner : Option SystemKind) (s : Scopes) (m below : scopes.Scope) (ks : List ℕ) (r : Routine) → faults (heading owner r (reserve_name s r.name)).result ≡ [] → Agree systems constants_at p false None (reserve_name s r.name).scopes m below ks →
       HeadingResult (enter false (reserve_name s r.name).scopes) m (with_routine m r) (with_routine m r) ks r (heading owner r (reserve_name s r.name))
-  unfolding heading enter
+  unfolding heading enter parameters_in
   heading_agrees owner s m below ks r none h =
       let a : Scopes = (reserve_name s r.name).scopes in
       let e : Scopes = enter false a in
@@ -301,7 +360,7 @@ module _ (systems : ℕ → ℕ) (constants_at : ℕ → List Name) (p : Program
       let w : Headed = written e r.kind in
       let first : faults (after_faults d.faults w.result) ≡ [] = none_first (after_faults d.faults w.result) (headings.ruled owner r) none in
       ruled_result owner s e m (with_routine m r) (with_routine m r) ks r d.faults w none
-      (written_agrees r.name.name e (with_routine m r) (with_routine m r) ks r.kind (ap faults (sym (none_after d.faults w.result first)) ∙ first) refl (entered_agrees a m below ks r h))
+      (written_agrees r.name.name e (with_routine m r) (with_routine m r) ks r.kind (ap faults (sym (none_after d.faults w.result first)) ∙ first) refl (entered_agrees a m below ks r h) tt)
 
   -- ---- a routine that is visible from its heading on
 
@@ -318,13 +377,13 @@ module _ (systems : ℕ → ℕ) (constants_at : ℕ → List Name) (p : Program
   since_first : (n : Name) (d : scopes.Meaning) (m : scopes.Scope) → since n ((n, d) ∷ m) ≡ (n, d) ∷ m
   since_first n d m = ap (λ (b : Bool). if b then (n, d) ∷ m else since n m) (itself n)
 
-  routine_known : (a : Scopes) (m : scopes.Scope) (r : Routine) (v : Option ValueType) (h : checker.Heading) (body : ℕ) → shape_in r.name.at a.shapes ≡ Some (heading_shape h body) → h.result ≡ v → ResultIs v (Some (routine_in (with_routine m r) r)) → Known systems constants_at a (with_routine m r) r.name.name (meaning.Routine r.name.at)
-  routine_known a m r v h body there is result =
+  routine_known : (a : Scopes) (m : scopes.Scope) (r : Routine) (h : checker.Heading) (body : ℕ) → shape_in r.name.at a.shapes ≡ Some (heading_shape h body) → HeadingIs (W systems constants_at a.shapes) h (Some (routine_in (with_routine m r) r)) → Known systems constants_at a (with_routine m r) r.name.name (meaning.Routine r.name.at)
+  routine_known a m r h body there is =
       let k : scopes.Scope = with_routine m r in
       record {
-        means = subst (λ o. RoutineIs (checker.heading_at r.name.at a).result r.name.name k o) (find_first systems constants_at r.name.name (routine_meaning r) m)
-            (subst (λ (t : scopes.Scope). ResultIs (checker.heading_at r.name.at a).result (Some (routine_in t r))) (sym (since_first r.name.name (routine_meaning r) m))
-            (subst (λ o. ResultIs o (Some (routine_in k r))) (sym (ap (λ (o : Option Shape). (checker.as_heading o).result) there ∙ is)) result));
+        means = subst (λ o. RoutineIs (W systems constants_at a.shapes) (checker.heading_at r.name.at a) r.name.name k o) (find_first systems constants_at r.name.name (routine_meaning r) m)
+            (subst (λ (t : scopes.Scope). HeadingIs (W systems constants_at a.shapes) (checker.heading_at r.name.at a) (Some (routine_in t r))) (sym (since_first r.name.name (routine_meaning r) m))
+            (subst (λ (d : checker.Heading). HeadingIs (W systems constants_at a.shapes) d (Some (routine_in k r))) (sym (ap checker.as_heading there)) is));
         there = record { heading = h; body = body; there = there };
         fit = subst IsFit (find_first systems constants_at r.name.name (routine_meaning r) m) tt;
         given = subst (IsGiven constants_at) (find_first systems constants_at r.name.name (routine_meaning r) m) tt;
@@ -335,9 +394,9 @@ module _ (systems : ℕ → ℕ) (constants_at : ℕ → List Name) (p : Program
   routine_last x c n o h = ap (look_in x) (new_names (sealed false c) n o h) ∙ find_last x n c.names o ∙ last_or systems constants_at p x n c.names o h
 
   pub announced_agrees : (s hs : Scopes) (m below k rs : scopes.Scope) (js ks : List ℕ) (r : Routine) (v : Option ValueType) → k ≡ with_routine m r → is_some (checker.find r.name.name s.inner.names) ≡ false → Agree systems constants_at p false None s m below js → Agree systems constants_at p false (Some r.name.name) hs rs k (r.name.at ∷ ks) → hs.outer ≡ s.outer ++ sealed false s.inner ∷ [] → hs.inner.pending ≡ [] → More s.shapes hs.shapes →
-      ResultIs v (Some (routine_in (with_routine m r) r)) → Announced (announced r v hs) s r m k rs ks
+      HeadingIs (W systems constants_at hs.shapes) (headings.as_heading r v hs) (Some (routine_in (with_routine m r) r)) → Announced (announced r v hs) s r m k rs ks
   unfolding announced add_around keep
-  announced_agrees s hs m below k rs js ks r v same fresh before h outer settled more result =
+  announced_agrees s hs m below k rs js ks r v same fresh before h outer settled more is_heading =
       let d : Shape = heading_shape (headings.as_heading r v hs) r.body.at in
       let t : Scopes = keep hs r.name.at d in
       let a : Scopes = announced r v hs in
@@ -345,7 +404,7 @@ module _ (systems : ℕ → ℕ) (constants_at : ℕ → List Name) (p : Program
       let there : shape_in r.name.at t.shapes ≡ Some d = with_there hs.shapes r.name.at d h.free.0 in
       let further : More s.shapes a.shapes = more_trans s.shapes hs.shapes a.shapes more (with_more hs.shapes r.name.at d h.free.0) in
       let c : Scope = with_name (sealed false s.inner) r.name.name (announcing r) in
-      let known : Known systems constants_at a k r.name.name (meaning.Routine r.name.at) = subst (λ (i : scopes.Scope). Known systems constants_at a i r.name.name (meaning.Routine r.name.at)) (sym same) (routine_known a m r v (headings.as_heading r v hs) r.body.at there refl result) in
+      let known : Known systems constants_at a k r.name.name (meaning.Routine r.name.at) = subst (λ (i : scopes.Scope). Known systems constants_at a i r.name.name (meaning.Routine r.name.at)) (sym same) (routine_known a m r (headings.as_heading r v hs) r.body.at there (heading_is_more systems constants_at hs.shapes a.shapes (with_more hs.shapes r.name.at d h.free.0) (headings.as_heading r v hs) (Some (routine_in (with_routine m r) r)) is_heading)) in
       let last : last_of hs.outer ≡ (let b : Around = record { outer = s.outer; inner = sealed false s.inner } in b) = ap last_of outer ∙ last_is s.outer (sealed false s.inner) in
       let is : a.outer ≡ s.outer ++ c ∷ [] = ap (λ (b : Around). b.outer ++ with_name b.inner r.name.name (announcing r) ∷ []) last in
       record {

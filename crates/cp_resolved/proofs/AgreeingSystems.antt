@@ -41,9 +41,9 @@ use Rattle.cp_resolved.specs.Openings.{Opening, parts_scope, routine_openings, i
 use Rattle.cp_resolved.specs.Small.{Each, IsSmallSystem}
 use Rattle.cp_resolved.specs.Standing.{is_standing, IsStandingVariable, IsStandingParameter}
 use Rattle.cp_resolved.specs.Tokens.{all_tokens, routine_tokens, system_tokens}
-use Rattle.cp_resolved.specs.Typed.{TypeIs, ResultIs, RoutineIs}
+use Rattle.cp_resolved.specs.Typed.{TypeIs, HeadingIs, RoutineIs}
 use Rattle.cp_resolved.proofs.Agreeing.{Good, good_then, good_sound, none_left, none_right, none_first, look_entered, inner_look, More, more_same, more_trans, with_more, with_there, with_other, free_others}
-use Rattle.cp_resolved.proofs.AgreeingNames.{W, HeadingThere, heading_kept, heading_more, New, Known, IsKnown, is_known_moved, IsStacked, AreEntries, Agree, sees, sees_of, fit_of, agree_returned}
+use Rattle.cp_resolved.proofs.AgreeingNames.{W, HeadingThere, heading_kept, heading_more, heading_is_more, New, Known, IsKnown, is_known_moved, IsStacked, AreEntries, Agree, sees, sees_of, fit_of, agree_returned}
 use Rattle.cp_resolved.proofs.AgreeingTypes.{IsFew, KindOf, type_named}
 use Rattle.cp_resolved.proofs.AgreeingWritten.{each_left, each_right}
 use Rattle.cp_resolved.proofs.AgreeingParts.{standing_may, StepResult, step_then, step_same, names_result, all_declared, permanent_kind, parts_agree, parts_stand}
@@ -209,7 +209,7 @@ module _ (systems : ℕ → ℕ) (constants_at : ℕ → List Name) (p : Program
     pub token : systems c ≡ y.at
     pub only : (k : ℕ) → systems k ≡ y.at → k ≡ c
 
-  routine_entry : (s : Scopes) (m : scopes.Scope) (x : Name) (n : ℕ) (o : Option scopes.Meaning) → RoutineIs (heading_at n s).result x m o → ResultIs (heading_at n s).result (routine_of_system x o m)
+  routine_entry : (s : Scopes) (m : scopes.Scope) (x : Name) (n : ℕ) (o : Option scopes.Meaning) → RoutineIs (W systems constants_at s.shapes) (heading_at n s) x m o → HeadingIs (W systems constants_at s.shapes) (heading_at n s) (routine_of_system x o m)
   routine_entry s m x n (Some (scopes.routine_meaning r)) h = h
   routine_entry s m x n (Some (scopes.constant_meaning b z)) h = absurd h
   routine_entry s m x n (Some (scopes.type_meaning t)) h = absurd h
@@ -220,12 +220,12 @@ module _ (systems : ℕ → ℕ) (constants_at : ℕ → List Name) (p : Program
 
   -- the routines of a component of the type that was closed
   own_entry : (s : Scopes) (m below : scopes.Scope) (ks : List ℕ) (c : ℕ) (around : scopes.Scope) (y : System) (n : ℕ) (x : Name) → IsNumbered c around y → m ≡ (system_in around y).scope → Agree systems constants_at p false None s m below ks → look_in x s.inner ≡ Some (Some (meaning.Routine n)) →
-      ResultIs (heading_at n s).result (routine_of_type p (named.component_of c) x) × HeadingThere n s.shapes
+      HeadingIs (W systems constants_at s.shapes) (heading_at n s) (routine_of_type p (named.component_of c) x) × HeadingThere n s.shapes
   own_entry s m below ks c around y n x i same h e =
       let found : inner_look false s x ≡ Some (Some (meaning.Routine n)) = sym (ap (λ (b : Bool). if b then checker.through_seal (checker.find x s.inner.names) else checker.find x s.inner.names) h.unsealed) ∙ e in
       let known : Known systems constants_at s m x (meaning.Routine n) = subst (IsStacked systems constants_at s m below x) found (h.names x) in
       let scope : m ≡ (system_of p c).scope = same ∙ sym (ap (λ (z : _). z.scope) i.meaning) in
-      (subst (λ (z : scopes.Scope). ResultIs (heading_at n s).result (routine_of_system x (find x z) z)) scope (routine_entry s m x n (find x m) known.means), known.there)
+      (subst (λ (z : scopes.Scope). HeadingIs (W systems constants_at s.shapes) (heading_at n s) (routine_of_system x (find x z) z)) scope (routine_entry s m x n (find x m) known.means), known.there)
 
   closed_entries : (s t : Scopes) (m below : scopes.Scope) (ks : List ℕ) (c : ℕ) (around : scopes.Scope) (y : System) (d : Shape) → IsNumbered c around y → m ≡ (system_in around y).scope → Agree systems constants_at p false None s m below (y.at ∷ ks) → ((x : Name) → as_member x (Some d) ≡ look_in x s.inner) → t.shapes ≡ with_shape s.shapes y.at d → AreEntries systems constants_at p t
   closed_entries s t m below ks c around y d i same h members is k n x e = go (nat_eq (systems k) y.at) refl
@@ -233,17 +233,17 @@ module _ (systems : ℕ → ℕ) (constants_at : ℕ → List Name) (p : Program
       more : More s.shapes t.shapes
       more = λ j f g. ap (shape_in j) is ∙ with_more s.shapes y.at d h.free.0 j f g
 
-      moved : (q : ℕ) → ResultIs (heading_at n s).result (routine_of_type p (named.component_of q) x) × HeadingThere n s.shapes → ResultIs (heading_at n t).result (routine_of_type p (named.component_of q) x) × HeadingThere n t.shapes
-      moved q r = (subst (λ (f : checker.Heading). ResultIs f.result (routine_of_type p (named.component_of q) x)) (sym (heading_kept n s.shapes t.shapes more r.1)) r.0, heading_more n s.shapes t.shapes more r.1)
+      moved : (q : ℕ) → HeadingIs (W systems constants_at s.shapes) (heading_at n s) (routine_of_type p (named.component_of q) x) × HeadingThere n s.shapes → HeadingIs (W systems constants_at t.shapes) (heading_at n t) (routine_of_type p (named.component_of q) x) × HeadingThere n t.shapes
+      moved q r = (subst (λ (f : checker.Heading). HeadingIs (W systems constants_at t.shapes) f (routine_of_type p (named.component_of q) x)) (sym (heading_kept n s.shapes t.shapes more r.1)) (heading_is_more systems constants_at s.shapes t.shapes more (heading_at n s) (routine_of_type p (named.component_of q) x) r.0), heading_more n s.shapes t.shapes more r.1)
 
       there : as_member x (shape_in (systems k) (with_shape s.shapes y.at d)) ≡ Some (Some (meaning.Routine n))
       there = sym (ap (λ ss. as_member x (shape_in (systems k) ss)) is) ∙ e
 
-      go : (b : Bool) → nat_eq (systems k) y.at ≡ b → ResultIs (heading_at n t).result (routine_of_type p (named.component_of k) x) × HeadingThere n t.shapes
+      go : (b : Bool) → nat_eq (systems k) y.at ≡ b → HeadingIs (W systems constants_at t.shapes) (heading_at n t) (routine_of_type p (named.component_of k) x) × HeadingThere n t.shapes
       go true at =
           let token : systems k ≡ y.at = (Decides-eqb (systems k) y.at).0 at in
           let own : look_in x s.inner ≡ Some (Some (meaning.Routine n)) = sym (members x) ∙ ap (as_member x) (sym (with_there s.shapes y.at d h.free.0)) ∙ ap (λ j. as_member x (shape_in j (with_shape s.shapes y.at d))) (sym token) ∙ there in
-          subst (λ j. ResultIs (heading_at n t).result (routine_of_type p (named.component_of j) x) × HeadingThere n t.shapes) (sym (i.only k token)) (moved c (own_entry s m below (y.at ∷ ks) c around y n x i same h own))
+          subst (λ j. HeadingIs (W systems constants_at t.shapes) (heading_at n t) (routine_of_type p (named.component_of j) x) × HeadingThere n t.shapes) (sym (i.only k token)) (moved c (own_entry s m below (y.at ∷ ks) c around y n x i same h own))
       go false at = moved k (h.entries k n x (other_entry at))
         where
           other_entry : nat_eq (systems k) y.at ≡ false → member_at (systems k) x s ≡ Some (Some (meaning.Routine n))

@@ -2,6 +2,7 @@ pub mod Agreeing
 pub mod AgreeingBodies
 pub mod AgreeingConstants
 pub mod AgreeingNames
+pub mod AgreeingParameters
 pub mod AgreeingParts
 pub mod AgreeingProgram
 pub mod AgreeingRoutines

@@ -33,7 +33,7 @@ use Rattle.cp_resolved.specs.Layouts.{Here, cells_of, is_parameter}
 use Rattle.cp_resolved.specs.Encoded.{Chosen, field_chosen, further_chosen}
 use Rattle.cp_resolved.specs.Compiled.{as_ordinal, Formed, Designated, a_variable, some_components, a_component, then_form, component_begun, permanent_begun, begun_form, part_of_form, with_field_form, element_of_form, with_index_form}
 use Rattle.cp_meaning.specs.Systems.{system_of}
-use Rattle.cp_resolved.specs.Typed.{Written, ComponentIs, TypeIs, FieldsAre, is_plain, are_plain, MayStand, ResultIs, VariableIs, ConstantIs, RoutineIs, StandardIs, MeaningIs, ScopesAgree, Expressed, HasForm}
+use Rattle.cp_resolved.specs.Typed.{Written, ComponentIs, TypeIs, FieldsAre, is_plain, are_plain, MayStand, HeadingIs, VariableIs, ConstantIs, RoutineIs, StandardIs, MeaningIs, ScopesAgree, Expressed, HasForm}
 use Rattle.cp_resolved.proofs.Typing.{formed, OrdinalForm, ordinal_found, first_true, second_true}
 
 -- ---- fields
@@ -104,7 +104,7 @@ module _ (systems : ℕ → ℕ) (s : Scopes) (h : Here) where
   -- the call of a routine, by the name that stands for it
   pub record IsCalled (n : ℕ) (i : Name) (m : Option scopes.Meaning) (x : Option Name) : Type 0 where
     pub is : is_call_meant m x ≡ true
-    pub result : ResultIs (heading_at n s).result (routine_meant h.program h.scope i m x)
+    pub heading : HeadingIs written (heading_at n s) (routine_meant h.program h.scope i m x)
 
   abbrev pub NamedIs : Name → Option scopes.Meaning → Option Name → Named → Option Designated → Type 0
   NamedIs i m x name.Nothing d = Unit {0}
@@ -112,7 +112,7 @@ module _ (systems : ℕ → ℕ) (s : Scopes) (h : Here) where
   NamedIs i m x (name.Variable v) d = Holds written m x v d
   NamedIs i m x (name.Parameter v) d = Holds written m x v d
   NamedIs i m x name.Kind d = Unit {0}
-  NamedIs i m x (name.Routine n) d = RoutineIs (heading_at n s).result i h.scope m
+  NamedIs i m x (name.Routine n) d = RoutineIs written (heading_at n s) i h.scope m
   NamedIs i m x (name.Entry n) d = IsCalled n i m x
   NamedIs i m x (name.Predeclared q) d = StandardIs q m
 
@@ -200,8 +200,8 @@ module _ (systems : ℕ → ℕ) (s : Scopes) (h : Here) where
   component_token j k n l h = cc
 
   entry_of : (agree : ScopesAgree systems s h) (k r : ℕ) (t : Ty) (i y : Name) → OfSystem k t → member_at (systems k) y s ≡ Some (Some (meaning.Routine r)) → IsCalled r i (Some (scopes.permanent_variable t)) (Some y)
-  entry_of agree k r (named.component_of n) i y o e = record { is = refl; result = agree.entries n r y (subst (λ j. member_at (systems j) y s ≡ Some (Some (meaning.Routine r))) (sym o) e) }
-  entry_of agree k r (named.array_over q (named.component_of n)) i y o e = record { is = refl; result = agree.entries n r y (subst (λ j. member_at (systems j) y s ≡ Some (Some (meaning.Routine r))) (sym o) e) }
+  entry_of agree k r (named.component_of n) i y o e = record { is = refl; heading = agree.entries n r y (subst (λ j. member_at (systems j) y s ≡ Some (Some (meaning.Routine r))) (sym o) e) }
+  entry_of agree k r (named.array_over q (named.component_of n)) i y o e = record { is = refl; heading = agree.entries n r y (subst (λ j. member_at (systems j) y s ≡ Some (Some (meaning.Routine r))) (sym o) e) }
   entry_of agree k r (named.array_over q (named.ordinal z)) i y o e = absurd o
   entry_of agree k r (named.array_over q named.queue_type) i y o e = absurd o
   entry_of agree k r (named.array_over q (named.set_over z)) i y o e = absurd o

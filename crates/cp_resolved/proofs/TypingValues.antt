@@ -36,7 +36,7 @@ use Rattle.cp_meaning.specs.Expressions.{routine_meant, result_called}
 use Rattle.cp_meaning.specs.Places.{result_type}
 use Rattle.cp_resolved.specs.Layouts.{Here}
 use Rattle.cp_resolved.specs.Compiled.{as_ordinal, as_place, Formed, Designated, a_variable, some_components, a_component, then_form, integer_form, applied_ordinal, applied_form, constant_form, call_form, named_form, valued_form, loaded_form}
-use Rattle.cp_resolved.specs.Typed.{Written, BaseIs, RangeIs, TypeIs, is_plain, IsOrdinalResult, ResultIs, ConstantIs, RoutineIs, StandardIs, predeclared_of, FormIs, Expressed, HasForm}
+use Rattle.cp_resolved.specs.Typed.{Written, BaseIs, RangeIs, TypeIs, is_plain, IsOrdinalResult, ResultIs, HeadingIs, ConstantIs, RoutineIs, StandardIs, predeclared_of, FormIs, Expressed, HasForm}
 use Rattle.cp_resolved.proofs.Typing.{formed, OrdinalForm, QueueForm, ordinal_found, queue_found, an_integer, a_truth, a_character, then_one}
 use Rattle.cp_resolved.proofs.TypingOperations.{integer_found, ok_if}
 use Rattle.cp_resolved.proofs.TypingNames.{IsPlainMeaning, IsComponentMeaning, Holds, written, IsCalled, NamedIs, HasDesignated}
@@ -142,9 +142,10 @@ module _ (systems : ℕ → ℕ) (s : Scopes) (h : Here) (w : Context) where
   function_typed at name_at b n os u (Some v) (Some r) i = result_typed at v (calls.called s w at name_at b n os u) r.result i
   function_typed at name_at b n os u (Some v) None i = absurd i
 
-  pub call_typed : (at name_at : ℕ) (b : Bool) (n : ℕ) (os : List Operand) (u : Use) (r : Option RoutineMeaning) → ResultIs (heading_at n s).result r → HasForm (written systems s h) (calls.function_value s w at name_at b n os u) (call_form h at (result_called r))
+  pub call_typed : (at name_at : ℕ) (b : Bool) (n : ℕ) (os : List Operand) (u : Use) (r : Option RoutineMeaning) → HeadingIs (written systems s h) (heading_at n s) r → HasForm (written systems s h) (calls.function_value s w at name_at b n os u) (call_form h at (result_called r))
   unfolding calls.function_value
-  call_typed at name_at b n os u r i = function_typed at name_at b n os u (heading_at n s).result r i
+  call_typed at name_at b n os u (Some r) i = function_typed at name_at b n os u (heading_at n s).result (Some r) i.0
+  call_typed at name_at b n os u None i = absurd i
 
   -- ---- standard functions
 
@@ -252,8 +253,8 @@ module _ (systems : ℕ → ℕ) (s : Scopes) (h : Here) (w : Context) where
   number_typed at d b z None x o f i = absurd i
 
   -- a routine's own name, with the selectors after it
-  own_called : (i : Name) (n : ℕ) (m : Option scopes.Meaning) (x : Option Name) → RoutineIs (heading_at n s).result i h.scope m → IsCalled systems s h n i m x
-  own_called i n (Some (scopes.routine_meaning r)) x e = record { is = refl; result = e }
+  own_called : (i : Name) (n : ℕ) (m : Option scopes.Meaning) (x : Option Name) → RoutineIs (written systems s h) (heading_at n s) i h.scope m → IsCalled systems s h n i m x
+  own_called i n (Some (scopes.routine_meaning r)) x e = record { is = refl; heading = e }
   own_called i n (Some (scopes.constant_meaning b z)) x e = absurd e
   own_called i n (Some (scopes.standard_meaning q)) x e = absurd e
   own_called i n (Some (scopes.type_meaning t)) x e = absurd e
@@ -265,7 +266,7 @@ module _ (systems : ℕ → ℕ) (s : Scopes) (h : Here) (w : Context) where
       HasForm W (calls.function_value s w at name_at b n os u) (named_form h at (designator i ss) (is_call_meant (find i.name h.scope) (last_field ss)) (find i.name h.scope) o f)
   called_typed at name_at b i ss n os u o f c =
       subst (λ (t : Bool). HasForm W (calls.function_value s w at name_at b n os u) (named_form h at (designator i ss) t (find i.name h.scope) o f)) (sym c.is)
-      (call_typed at name_at b n os u (routine_meant h.program h.scope i.name (find i.name h.scope) (last_field ss)) c.result)
+      (call_typed at name_at b n os u (routine_meant h.program h.scope i.name (find i.name h.scope) (last_field ss)) c.heading)
 
   value_typed : (at : ℕ) (i : Identifier) (ss : Selectors) (d : check_designated.Designated) (n : Named) (os : List Operand) (o : Option Designated) (f : Option Formed) →
       NamedIs systems s h i.name (find i.name h.scope) (last_field ss) n o → ArgumentIs os f →

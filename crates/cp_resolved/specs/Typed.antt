@@ -11,20 +11,22 @@ use Rattle.cp_scope.specs.declared.types.Meaning.{Meaning}
 use Rattle.cp_scope.specs.declared.types.Meaning.TheVariants as meaning
 use Rattle.cp_scope.specs.declared.types.Predeclared.{Predeclared}
 use Rattle.cp_scope.specs.declared.types.Predeclared.TheVariants as predeclared
+use Rattle.cp_scope.specs.declared.types.Parameter as check_parameter
 use Rattle.cp_scope.specs.declared.shape.ArrayShape.{ArrayShape}
 use Rattle.cp_scope.specs.Judged.{Judged}
-use Rattle.cp_scope.specs.Scopes.{Names, Scope, record_shape, Shapes, shape_in, as_array, Scopes, look, member_at, heading_at}
+use Rattle.cp_scope.specs.Scopes.{Heading, Names, Scope, record_shape, Shapes, shape_in, as_array, Scopes, look, member_at, heading_at}
 use Rattle.cp_check.specs.declared.operand.Operand.{Operand}
 use Rattle.cp_meaning.specs.Names.{Name}
 use Rattle.cp_meaning.specs.Types as named
 use Rattle.cp_meaning.specs.Types.{Ty, FieldTypes, is_within}
 use Rattle.cp_meaning.specs.Scopes as scopes
 use Rattle.cp_meaning.specs.Scopes.{Standard, find, since}
-use Rattle.cp_meaning.specs.Declarations.{RoutineMeaning, routine_in}
+use Rattle.cp_meaning.specs.Declarations.{Parameter, RoutineMeaning, routine_in}
 use Rattle.cp_meaning.specs.Operations.{range_of_base}
 use Rattle.cp_meaning.specs.Expressions.{routine_of_type}
 use Rattle.cp_slots.specs.Code as code
 use Rattle.cp_resolved.specs.Layouts.{Here}
+use Rattle.cp_resolved.specs.Standing.{is_free}
 use Rattle.cp_resolved.specs.Compiled.{Form, as_ordinal, as_set, as_place, as_component, Formed}
 
 -- ---- types
@@ -139,6 +141,28 @@ ResultIs None o = Unit {0}
 ResultIs (Some v) (Some r) = IsOrdinalResult v r.result
 ResultIs (Some v) None = ⊥
 
+-- what a parameter may be: without queues and components, or a component, which is handed over as a value
+abbrev pub IsHanded : Bool → Ty → Type 0
+IsHanded false (named.component_of n) = Unit {0}
+IsHanded b t = is_free t ≡ true
+
+pub record ParameterIs (w : Written) (a : check_parameter.Parameter) (q : Parameter) : Type 0 where
+  pub passed : a.is_var ≡ q.is_var
+  pub belongs : TypeIs w q.ty a.value_type
+  pub handed : IsHanded q.is_var q.ty
+
+-- one after the other
+abbrev pub AreParameters : Written → List check_parameter.Parameter → List Parameter → Type 0
+AreParameters w [] [] = Unit {0}
+AreParameters w (a ∷ as') (q ∷ qs) = ParameterIs w a q × AreParameters w as' qs
+AreParameters w [] (q ∷ qs) = ⊥
+AreParameters w (a ∷ as') [] = ⊥
+
+-- what is written as the heading of a routine
+abbrev pub HeadingIs : Written → Heading → Option RoutineMeaning → Type 0
+HeadingIs w d None = ⊥
+HeadingIs w d (Some r) = ResultIs d.result (Some r) × AreParameters w d.parameters r.parameters
+
 abbrev pub VariableIs : Written → ValueType → Option scopes.Meaning → Type 0
 VariableIs w v (Some (scopes.local_variable t)) = TypeIs w t v × (is_plain t ≡ true)
 VariableIs w v (Some (scopes.permanent_variable t)) = TypeIs w t v × MayStand t
@@ -152,9 +176,9 @@ abbrev pub KindIs : Written → ValueType → Option scopes.Meaning → Type 0
 KindIs w v (Some (scopes.type_meaning t)) = TypeIs w t v
 KindIs w v o = ⊥
 
-abbrev pub RoutineIs : Option ValueType → Name → scopes.Scope → Option scopes.Meaning → Type 0
-RoutineIs v x scope (Some (scopes.routine_meaning r)) = ResultIs v (Some (routine_in (since x scope) r))
-RoutineIs v x scope o = ⊥
+abbrev pub RoutineIs : Written → Heading → Name → scopes.Scope → Option scopes.Meaning → Type 0
+RoutineIs w d x scope (Some (scopes.routine_meaning r)) = HeadingIs w d (Some (routine_in (since x scope) r))
+RoutineIs w d x scope o = ⊥
 
 abbrev pub StandardIs : Predeclared → Option scopes.Meaning → Type 0
 StandardIs q (Some (scopes.standard_meaning f)) = predeclared_of f ≡ q
@@ -167,13 +191,13 @@ MeaningIs w s x scope (meaning.Kind v) o = KindIs w v o
 MeaningIs w s x scope (meaning.Variable v) o = VariableIs w v o
 MeaningIs w s x scope (meaning.Parameter v) o = VariableIs w v o
 MeaningIs w s x scope (meaning.Reference v) o = VariableIs w v o
-MeaningIs w s x scope (meaning.Routine n) o = RoutineIs (heading_at n s).result x scope o
+MeaningIs w s x scope (meaning.Routine n) o = RoutineIs w (heading_at n s) x scope o
 MeaningIs w s x scope (meaning.Predeclared q) o = StandardIs q o
 
 -- The checker's scopes and the place of a statement: each visible name stands for the same, and so do the routines of components.
 pub record ScopesAgree (systems : ℕ → ℕ) (s : Scopes) (h : Here) : Type 0 where
   pub names : (x : Name) (m : Meaning) → look x s ≡ Some (Some m) → MeaningIs (record { shapes = s.shapes; systems = systems }) s x h.scope m (find x h.scope)
-  pub entries : (k n : ℕ) (y : Name) → member_at (systems k) y s ≡ Some (Some (meaning.Routine n)) → ResultIs (heading_at n s).result (routine_of_type h.program (named.component_of k) y)
+  pub entries : (k n : ℕ) (y : Name) → member_at (systems k) y s ≡ Some (Some (meaning.Routine n)) → HeadingIs (record { shapes = s.shapes; systems = systems }) (heading_at n s) (routine_of_type h.program (named.component_of k) y)
 
 -- ---- operands and forms
 
