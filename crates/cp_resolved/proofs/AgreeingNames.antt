@@ -21,7 +21,7 @@ use Rattle.cp_meaning.specs.Declarations.{Parameter, RoutineMeaning, routine_in,
 use Rattle.cp_meaning.specs.Expressions.{routine_of_type}
 use Rattle.cp_resolved.specs.Standing.{IsFit, is_standing}
 use Rattle.cp_resolved.specs.Tokens.{AreDifferent}
-use Rattle.cp_resolved.specs.Typed.{Written, TypeIs, FieldsAre, AreParameters, HeadingIs, VariableIs, KindIs, RoutineIs, MeaningIs}
+use Rattle.cp_resolved.specs.Typed.{Tokens, Written, TypeIs, FieldsAre, AreParameters, HeadingIs, VariableIs, KindIs, RoutineIs, MeaningIs}
 use Rattle.cp_resolved.proofs.Agreeing.{itself, is_itself, unknown, find_last, new_names, inner_look, look_is, More, with_more, with_there, with_other, AreFree, free_others}
 
 -- the heading of a routine is written
@@ -48,18 +48,9 @@ array_is (Some (system_shape m e c u)) a h = absurd (let bad : None ≡ Some a =
 array_is (Some (heading_shape e n)) a h = absurd (let bad : None ≡ Some a = h in cc)
 array_is (Some (body_shape u)) a h = absurd (let bad : None ≡ Some a = h in cc)
 
--- an enumeration has the constants that it has where it is written
-abbrev pub IsListed : (ℕ → List Name) → named.Base → Type 0
-IsListed constants_at (named.enumerated at xs) = xs ≡ constants_at at
-IsListed constants_at b = Unit {0}
-
-abbrev pub IsGiven : (ℕ → List Name) → Option scopes.Meaning → Type 0
-IsGiven constants_at (Some (scopes.constant_meaning b z)) = IsListed constants_at b
-IsGiven constants_at o = Unit {0}
-
-module _ (systems : ℕ → ℕ) (constants_at : ℕ → List Name) where
+module _ (tokens : Tokens) where
   abbrev pub W : Shapes → Written
-  W ss = record { shapes = ss; systems = systems }
+  W ss = record { shapes = ss; tokens = tokens }
 
   mutual
     pub type_more : (ss ts : Shapes) → More ss ts → (t : Ty) (v : ValueType) → TypeIs (W ss) t v → TypeIs (W ts) t v
@@ -145,7 +136,6 @@ module _ (systems : ℕ → ℕ) (constants_at : ℕ → List Name) where
     pub means : MeaningIs (W s.shapes) s x m c (find x m)
     pub there : IsThere s.shapes c
     pub fit : IsFit (find x m)
-    pub given : IsGiven constants_at (find x m)
 
   pub known_moved : (s t : Scopes) (m k : scopes.Scope) (x : Name) (c : Meaning) → More s.shapes t.shapes → find x m ≡ find x k → since x m ≡ since x k → Known s m x c → Known t k x c
   known_moved s t m k x c more f e h =
@@ -153,7 +143,6 @@ module _ (systems : ℕ → ℕ) (constants_at : ℕ → List Name) where
         means = subst (MeaningIs (W t.shapes) t x k c) f (meaning_moved s t x m k c (find x m) more e h.there h.means);
         there = there_more s.shapes t.shapes more c h.there;
         fit = subst IsFit f h.fit;
-        given = subst (IsGiven constants_at) f h.given;
       }
 
   abbrev pub IsKnown : Scopes → scopes.Scope → Name → Option (Option Meaning) → Type 0
@@ -196,7 +185,6 @@ module _ (systems : ℕ → ℕ) (constants_at : ℕ → List Name) where
     pub means : (k : scopes.Scope) → MeaningIs (W t.shapes) t n ((n, d) ∷ k) c (Some d)
     pub there : IsThere t.shapes c
     pub fit : IsFit (Some d)
-    pub given : IsGiven constants_at (Some d)
 
   pub find_first : (n : Name) (d : scopes.Meaning) (m : scopes.Scope) → Some d ≡ find n ((n, d) ∷ m)
   find_first n d m = ap (λ (b : Bool). if b then Some d else find n m) (sym (itself n))
@@ -216,7 +204,7 @@ module _ (systems : ℕ → ℕ) (constants_at : ℕ → List Name) where
   type_other x n (scopes.standard_meaning q) m h = refl
 
   pub new_known : (t : Scopes) (m : scopes.Scope) (n : Name) (c : Meaning) (d : scopes.Meaning) → New t n c d → Known t ((n, d) ∷ m) n c
-  new_known t m n c d h = record { means = subst (MeaningIs (W t.shapes) t n ((n, d) ∷ m) c) (find_first n d m) (h.means m); there = h.there; fit = subst IsFit (find_first n d m) h.fit; given = subst (IsGiven constants_at) (find_first n d m) h.given }
+  new_known t m n c d h = record { means = subst (MeaningIs (W t.shapes) t n ((n, d) ∷ m) c) (find_first n d m) (h.means m); there = h.there; fit = subst IsFit (find_first n d m) h.fit }
 
   stacked_other : (s t : Scopes) (m below : scopes.Scope) (x n : Name) (d : scopes.Meaning) (o : Option (Option Meaning)) → More s.shapes t.shapes → bytes_eq x n ≡ false → IsStacked s m below x o → IsStacked t ((n, d) ∷ m) below x o
   stacked_other s t m below x n d None more e h = record { found = h.found ∙ find_other x n d m e; rest = h.rest ∙ since_other x n d m e; latest = h.latest ∙ type_other x n d m e }
@@ -270,7 +258,7 @@ module _ (systems : ℕ → ℕ) (constants_at : ℕ → List Name) where
 
   module _ (p : Program) where
     abbrev pub AreEntries : Scopes → Type 0
-    AreEntries s = (k n : ℕ) (y : Name) → member_at (systems k) y s ≡ Some (Some (meaning.Routine n)) → HeadingIs (W s.shapes) (heading_at n s) (routine_of_type p (named.component_of k) y) × HeadingThere n s.shapes
+    AreEntries s = (k n : ℕ) (y : Name) → member_at (tokens.systems k) y s ≡ Some (Some (meaning.Routine n)) → HeadingIs (W s.shapes) (heading_at n s) (routine_of_type p (named.component_of k) y) × HeadingThere n s.shapes
 
     -- `inside`: in the program, what its system types see agrees too. `but`: in a heading the name of its routine is not visible yet.
     pub record Agree (inside : Bool) (but : Option Name) (s : Scopes) (m below : scopes.Scope) (ks : List ℕ) : Type 0 where
@@ -303,7 +291,7 @@ module _ (systems : ℕ → ℕ) (constants_at : ℕ → List Name) where
 
     -- ---- from one state of the scopes to another
 
-    pub entries_more : (s t : Scopes) → More s.shapes t.shapes → ((k n : ℕ) (y : Name) → member_at (systems k) y t ≡ Some (Some (meaning.Routine n)) → member_at (systems k) y s ≡ Some (Some (meaning.Routine n))) → AreEntries s → AreEntries t
+    pub entries_more : (s t : Scopes) → More s.shapes t.shapes → ((k n : ℕ) (y : Name) → member_at (tokens.systems k) y t ≡ Some (Some (meaning.Routine n)) → member_at (tokens.systems k) y s ≡ Some (Some (meaning.Routine n))) → AreEntries s → AreEntries t
     entries_more s t more back h k n y e =
         let r = h k n y (back k n y e) in
         (subst (λ (d : Heading). HeadingIs (W t.shapes) d (routine_of_type p (named.component_of k) y)) (sym (heading_kept n s.shapes t.shapes more r.1)) (heading_is_more s.shapes t.shapes more (heading_at n s) (routine_of_type p (named.component_of k) y) r.0), heading_more n s.shapes t.shapes more r.1)
@@ -320,7 +308,7 @@ module _ (systems : ℕ → ℕ) (constants_at : ℕ → List Name) where
           base = h.base;
           free = subst (λ (ss : Shapes). AreFree ss ks) (sym e) h.free;
           different = h.different;
-          entries = entries_more s t more (λ k j y g. ap (λ (ss : Shapes). as_member y (shape_in (systems k) ss)) (sym e) ∙ g) h.entries;
+          entries = entries_more s t more (λ k j y g. ap (λ (ss : Shapes). as_member y (shape_in (tokens.systems k) ss)) (sym e) ∙ g) h.entries;
         }
 
     pending_names : (c : Scope) (n : List ℕ) → (with_pending c n).names ≡ c.names
@@ -378,7 +366,7 @@ module _ (systems : ℕ → ℕ) (constants_at : ℕ → List Name) where
     unfolding keep
     agree_kept b but s m below k ks d none h =
         agree_written b but s m below k ks d h
-        (entries_more s (keep s k d) (with_more s.shapes k d h.free.0) (λ j n y e. back k (systems j) y s.shapes d (Some (meaning.Routine n)) h.free.0 (none y) e) h.entries)
+        (entries_more s (keep s k d) (with_more s.shapes k d h.free.0) (λ j n y e. back k (tokens.systems j) y s.shapes d (Some (meaning.Routine n)) h.free.0 (none y) e) h.entries)
 
     -- ---- one name more
 

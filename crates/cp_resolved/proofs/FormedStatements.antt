@@ -51,7 +51,7 @@ use Rattle.cp_resolved.specs.Compiled.{Form, as_place, Formed, Designated, a_var
 use Rattle.cp_resolved.specs.Formed.{HasTest, HasOrdinal, HasQueue, HasValueFor, IsAssigned, IsCounter, Counts, IsPerformed, IsInvoked, IsStarted, IsFormed, AreFormed, AreArmsFormed, IsArmFormed}
 use Rattle.cp_resolved.specs.Small.{Each}
 use Rattle.cp_resolved.specs.SmallStatements.{IsSmallStart, IsSmallStatement, AreSmallStatements, AreSmallArms, IsSmallArm}
-use Rattle.cp_resolved.specs.Typed.{Written, TypeIs, IsOrdinalResult, ResultIs, RoutineIs, predeclared_of, ScopesAgree, FormIs, Expressed, HasForm, IsSmallExpression, AreSmallExpressions, IsSmallDesignator}
+use Rattle.cp_resolved.specs.Typed.{Tokens, Written, TypeIs, IsOrdinalResult, ResultIs, RoutineIs, predeclared_of, ScopesAgree, FormIs, Expressed, HasForm, IsSmallExpression, AreSmallExpressions, IsSmallDesignator}
 use Rattle.cp_resolved.proofs.Typing.{formed, OrdinalForm, ordinal_found, SetForm, set_found, QueueForm, queue_found}
 use Rattle.cp_resolved.proofs.TypingOperations.{boolean_found}
 use Rattle.cp_resolved.proofs.TypingNames.{Holds, NamedIs, HasDesignated, written, begun_typed}
@@ -123,7 +123,7 @@ agree_record n (types.Set q) h = absurd (let bad : false ≡ true = h in cc)
 agree_record n (types.Array m) h = absurd (let bad : false ≡ true = h in cc)
 agree_record n (types.Component k m) h = absurd (let bad : false ≡ true = h in cc)
 
-module _ (tokens : ℕ → ℕ) (s : Scopes) (h : Here) (w : Context) (agrees : ScopesAgree tokens s h) (heard : Heard s) where
+module _ (tokens : Tokens) (s : Scopes) (h : Here) (w : Context) (agrees : ScopesAgree tokens s h) (heard : Heard s) where
   abbrev W : Written
   W = written tokens s h
 
@@ -184,7 +184,7 @@ module _ (tokens : ℕ → ℕ) (s : Scopes) (h : Here) (w : Context) (agrees : 
   ordinal_formed : (e : Expression) (v : ValueType) → Expressed W v (expression_form h e) → is_ordinal v ≡ true → HasOrdinal h e
   ordinal_formed e v x i =
       let r = ordinal_is v i in
-      let f : OrdinalForm r.0 (expression_form h e) = ordinal_found W r.0 (expression_form h e) (subst (λ u. Expressed W u (expression_form h e)) r.1 x) in
+      let f : OrdinalForm tokens r.0 (expression_form h e) = ordinal_found W r.0 (expression_form h e) (subst (λ u. Expressed W u (expression_form h e)) r.1 x) in
       record { range = f.range; code = f.code; formed = f.is }
 
   test_formed : (at : ℕ) (e : Expression) (f : Found e) (u : Use) → faults (statements.tested at f.operand u) ≡ [] → HasTest h e
@@ -240,7 +240,7 @@ module _ (tokens : ℕ → ℕ) (s : Scopes) (h : Here) (w : Context) (agrees : 
   assigned_by d e (Some (scopes.standard_meaning f)) x v q i same k = subst (λ o. HasValueFor h o e) (sym same) k
   assigned_by d e None x v q i same k = subst (λ o. HasValueFor h o e) (sym same) k
 
-  result_ordinal : (v : ValueType) (o : Option Ty) → IsOrdinalResult v o → (r : Range) × (v ≡ types.Ordinal r)
+  result_ordinal : (v : ValueType) (o : Option Ty) → IsOrdinalResult tokens v o → (r : Range) × (v ≡ types.Ordinal r)
   result_ordinal v (Some (named.ordinal q)) i = (i.range, i.is)
   result_ordinal v (Some named.queue_type) i = absurd i
   result_ordinal v (Some (named.set_over q)) i = absurd i
@@ -255,7 +255,7 @@ module _ (tokens : ℕ → ℕ) (s : Scopes) (h : Here) (w : Context) (agrees : 
     where
       go : (b : Bool) → Takes (if b then target.Assignable v else target.Fixed None) o → HasOrdinal h e
       go true a =
-          let p = result_ordinal v (routine_in (since i h.scope) r).result (subst (λ (z : Option ValueType). ResultIs z (Some (routine_in (since i h.scope) r))) (sym is) k.0) in
+          let p = result_ordinal v (routine_in (since i h.scope) r).result (subst (λ (z : Option ValueType). ResultIs tokens z (Some (routine_in (since i h.scope) r))) (sym is) k.0) in
           let q = agree_ordinal p.0 o.value_type (subst (λ z. agree z o.value_type ≡ true) p.1 a) in
           ordinal_formed e o.value_type x (ap is_ordinal q.1)
       go false a = absurd a
