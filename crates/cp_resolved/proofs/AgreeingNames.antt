@@ -61,7 +61,8 @@ module _ (tokens : Tokens) where
         record { token = h.token; is = h.is; shape = h.shape; there = ap as_array (m h.token (array_shape h.shape) (array_is (shape_in h.token ss) h.shape h.there)); range = h.range; belongs = type_more ss ts m t h.shape.element h.belongs }
     type_more ss ts m (named.record_with us) v h =
         record { token = h.token; is = h.is; fields = h.fields; cells = h.cells; there = m h.token (record_shape h.fields h.cells) h.there; visible = h.visible; each = fields_more ss ts m us h.fields.names h.each }
-    type_more ss ts m (named.component_of n) v h = h
+    type_more ss ts m (named.component_of n) v h =
+        record { kind = h.kind; is = h.is; only = h.only; there = record { names = h.there.names; heading = h.there.heading; census = h.there.census; need = h.there.need; there = m (tokens.systems n) (system_shape h.there.names h.there.heading h.there.census h.there.need) h.there.there } }
 
     pub fields_more : (ss ts : Shapes) → More ss ts → (us : FieldTypes) (ds : Names) → FieldsAre (W ss) us ds → FieldsAre (W ts) us ds
     fields_more ss ts m named.no_field_types ds h = h

@@ -35,7 +35,7 @@ use Rattle.cp_resolved.specs.Openings.{Opening, definition_openings, definitions
 use Rattle.cp_resolved.specs.Small.{Each, IsSmallDefinition, IsSmallProgramPart, IsSmallProgram}
 use Rattle.cp_resolved.specs.Standing.{IsFit, IsStandingVariable, IsStandingParameter}
 use Rattle.cp_resolved.specs.Tokens.{AreDifferent, all_tokens, routine_tokens, definition_tokens, program_part_tokens, program_tokens}
-use Rattle.cp_resolved.specs.Typed.{Tokens, RangeIs, TypeIs, predeclared_of, MeaningIs}
+use Rattle.cp_resolved.specs.Typed.{Tokens, SystemThere, RangeIs, TypeIs, predeclared_of, MeaningIs}
 use Rattle.cp_resolved.proofs.Agreeing.{none_left, none_right, none_first, AreFree}
 use Rattle.cp_resolved.proofs.AgreeingNames.{W, IsThere, IsKnown, Agree}
 use Rattle.cp_resolved.proofs.AgreeingTypes.{IsFew, standing_at}
@@ -97,7 +97,7 @@ module _ (tokens : Tokens) (p : Program) where
       let w = system_agrees tokens p a d.scope below ks c y number e small few r.agree in
       record {
         places = w.places;
-        step = kind_declared tokens p true s n.name t d.scope below ks (named.component_of c) (types.Component y.kind y.at) w.is (record { kind = y.kind; is = ap (types.Component y.kind) (sym number.token) }) refl
+        step = kind_declared tokens p true s n.name t d.scope below ks (named.component_of c) (types.Component y.kind y.at) w.is (record { kind = y.kind; is = ap (types.Component y.kind) (sym number.token); only = λ k i. number.only k (i ∙ number.token); there = subst (λ (k : ℕ). SystemThere k t.scopes.shapes) (sym number.token) w.closed.there }) refl
             (ap (λ (ds : Names). is_some (checker.find n.name.name ds)) w.closed.names ∙ r.reserved.pends n.name.name r.reserved.all.0) (w.closed.outer ∙ r.outer) (λ k f i. w.closed.more k f (ap (shape_in k) r.shapes ∙ i)) w.closed.agree;
         types = λ h. each_last d.systems (system_in (seen_inside d.scope) y) h (w.variables, w.parameters);
         variables = λ h. h;

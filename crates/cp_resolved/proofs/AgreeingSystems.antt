@@ -41,7 +41,7 @@ use Rattle.cp_resolved.specs.Openings.{Opening, parts_scope, routine_openings, i
 use Rattle.cp_resolved.specs.Small.{Each, IsSmallSystem}
 use Rattle.cp_resolved.specs.Standing.{is_standing, IsStandingVariable, IsStandingParameter}
 use Rattle.cp_resolved.specs.Tokens.{all_tokens, routine_tokens, system_tokens}
-use Rattle.cp_resolved.specs.Typed.{Tokens, TypeIs, HeadingIs, RoutineIs}
+use Rattle.cp_resolved.specs.Typed.{Tokens, SystemThere, TypeIs, HeadingIs, RoutineIs}
 use Rattle.cp_resolved.proofs.Agreeing.{Good, good_then, good_sound, none_left, none_right, none_first, look_entered, inner_look, More, more_same, more_trans, with_more, with_there, with_other, free_others}
 use Rattle.cp_resolved.proofs.AgreeingNames.{W, HeadingThere, heading_kept, heading_more, heading_is_more, New, Known, IsKnown, is_known_moved, IsStacked, AreEntries, Agree, sees, sees_of, fit_of, agree_returned}
 use Rattle.cp_resolved.proofs.AgreeingTypes.{IsFew, KindOf, type_named}
@@ -249,14 +249,15 @@ module _ (tokens : Tokens) (p : Program) where
           other_entry : nat_eq (tokens.systems k) y.at ≡ false → member_at (tokens.systems k) x s ≡ Some (Some (meaning.Routine n))
           other_entry at = ap (as_member x) (sym (with_other s.shapes y.at (tokens.systems k) d h.free.0 (λ j. (let bad : true ≡ false = sym ((Decides-eqb (tokens.systems k) y.at).1 j) ∙ at in absurd cc)))) ∙ there
 
-  pub record ClosedResult (s t : Scopes) (m below : scopes.Scope) (ks : List ℕ) : Type 0 where
+  pub record ClosedResult (s t : Scopes) (m below : scopes.Scope) (ks : List ℕ) (y : System) : Type 0 where
     pub agree : Agree tokens p true None t m below ks
     pub outer : t.outer ≡ s.outer
     pub names : t.inner.names ≡ s.inner.names
     pub more : More s.shapes t.shapes
+    pub there : SystemThere y.at t.shapes
 
   closed_agrees : (s u : Scopes) (m below : scopes.Scope) (js ks : List ℕ) (c : ℕ) (y : System) (w : Use) → IsNumbered c (seen_inside m) y → Agree tokens p true None s m below js → Agree tokens p false None u (system_in (seen_inside m) y).scope (seen_inside m) (y.at ∷ ks) → u.outer ≡ (enter true s).outer → More s.shapes u.shapes →
-      ClosedResult s (systems_of.closed u y.at w) m below ks
+      ClosedResult s (systems_of.closed u y.at w) m below ks y
   unfolding systems_of.closed keep leave enter
   closed_agrees s u m below js ks c y w i before h outer more =
       let d : Shape = system_shape u.inner (system_heading u) (census u.inner.names u.shapes) (need_of w) in
@@ -269,6 +270,7 @@ module _ (tokens : Tokens) (p : Program) where
         outer = ap (λ (b : Around). b.outer) last;
         names = ap (λ (b : Around). b.inner.names) last;
         more = all;
+        there = record { names = u.inner; heading = system_heading u; census = census u.inner.names u.shapes; need = need_of w; there = with_there u.shapes y.at d h.free.0 };
       }
 
   -- ---- a system type
@@ -278,7 +280,7 @@ module _ (tokens : Tokens) (p : Program) where
     pub variables : Each IsStandingVariable (system_in (seen_inside m) y).variables
     pub parameters : Each IsStandingParameter (system_in (seen_inside m) y).parameters
     pub is : t.type ≡ Ok (types.Component y.kind y.at)
-    pub closed : ClosedResult s t.scopes m below ks
+    pub closed : ClosedResult s t.scopes m below ks y
 
   pub system_agrees : (s : Scopes) (m below : scopes.Scope) (ks : List ℕ) (n : ℕ) (y : System) → IsNumbered n (seen_inside m) y → faults (systems_of.system_typed s y).type ≡ [] → IsSmallSystem y → Each (IsFew tokens) (in_system y) → Agree tokens p true None s m below (system_tokens y ks) →
       SystemResult s m below ks n y (systems_of.system_typed s y)

@@ -68,6 +68,7 @@ pub mod PlainInside
 pub mod Reserving
 pub mod ResultKnown
 pub mod Rooms
+pub mod SameTypes
 pub mod ScopesOfTrees
 pub mod Selecting
 pub mod Settled

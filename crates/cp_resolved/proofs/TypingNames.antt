@@ -94,7 +94,7 @@ IsComponentMeaning k o = ⊥
 abbrev pub Holds : Written → Option scopes.Meaning → Option Name → ValueType → Option Designated → Type 0
 Holds w m x v (Some (a_variable p t)) = TypeIs w t v × (is_plain t ≡ true) × IsPlainMeaning m
 Holds w m x v (Some (some_components first q k)) = TypeIs w (named.array_over q (named.component_of k)) v × IsComponentMeaning k m × (x ≡ None)
-Holds w m x v (Some (a_component c k)) = ComponentIs (w.tokens.systems k) v × IsComponentMeaning k m × (x ≡ None)
+Holds w m x v (Some (a_component c k)) = ComponentIs w k v × IsComponentMeaning k m × (x ≡ None)
 Holds w m x v None = ⊥
 
 module _ (tokens : Tokens) (s : Scopes) (h : Here) where
@@ -122,7 +122,7 @@ module _ (tokens : Tokens) (s : Scopes) (h : Here) where
 
   -- ---- a name alone
 
-  parameter_or_part : (x : Name) (k : ℕ) (v : ValueType) (m : Option scopes.Meaning) (b : Bool) → ComponentIs (tokens.systems k) v → IsComponentMeaning k m → Holds written m None v (Some (component_begun h x k b))
+  parameter_or_part : (x : Name) (k : ℕ) (v : ValueType) (m : Option scopes.Meaning) (b : Bool) → ComponentIs written k v → IsComponentMeaning k m → Holds written m None v (Some (component_begun h x k b))
   parameter_or_part x k v m true c i = (c, i, refl)
   parameter_or_part x k v m false c i = (c, i, refl)
 
@@ -255,11 +255,11 @@ module _ (tokens : Tokens) (s : Scopes) (h : Here) where
   array_element token (named.record_with ts) a m p c i plain k e = absurd (let bad : types.Array token ≡ types.Record i.token = i.is in cc)
   array_element token (named.component_of n) a m p c i plain k e = absurd (let bad : types.Array token ≡ types.Component i.kind (tokens.systems n) = i.is in cc)
 
-  component_element : (token k : ℕ) (q : named.Range) (a : ArrayShape) → TypeIs written (named.array_over q (named.component_of k)) (types.Array token) → array_at token s ≡ Some a → ComponentIs (tokens.systems k) a.element
+  component_element : (token k : ℕ) (q : named.Range) (a : ArrayShape) → TypeIs written (named.array_over q (named.component_of k)) (types.Array token) → array_at token s ≡ Some a → ComponentIs written k a.element
   component_element token k q a i e =
       let same : token ≡ i.token = array_token token i.token i.is in
       let shape : i.shape ≡ a = one_shape i.shape a (sym i.there ∙ (ap (λ n. array_at n s) (sym same) ∙ e)) in
-      subst (λ (b : ArrayShape). ComponentIs (tokens.systems k) b.element) shape i.belongs
+      subst (λ (b : ArrayShape). ComponentIs written k b.element) shape i.belongs
     where
       array_token : (n k : ℕ) → types.Array n ≡ types.Array k → n ≡ k
       array_token n k h = cc

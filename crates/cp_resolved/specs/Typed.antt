@@ -13,8 +13,9 @@ use Rattle.cp_scope.specs.declared.types.Predeclared.{Predeclared}
 use Rattle.cp_scope.specs.declared.types.Predeclared.TheVariants as predeclared
 use Rattle.cp_scope.specs.declared.types.Parameter as check_parameter
 use Rattle.cp_scope.specs.declared.shape.ArrayShape.{ArrayShape}
+use Rattle.cp_scope.specs.declared.shape.Census.{Census}
 use Rattle.cp_scope.specs.Judged.{Judged}
-use Rattle.cp_scope.specs.Scopes.{Heading, Names, Scope, record_shape, Shapes, shape_in, as_array, Scopes, look, member_at, heading_at}
+use Rattle.cp_scope.specs.Scopes.{Heading, Names, Scope, record_shape, system_shape, Shapes, shape_in, as_array, Scopes, look, member_at, heading_at}
 use Rattle.cp_check.specs.declared.operand.Operand.{Operand}
 use Rattle.cp_meaning.specs.Names.{Name}
 use Rattle.cp_meaning.specs.Types as named
@@ -80,9 +81,20 @@ pub record RecordIs (Fields : Names → Type 0) (w : Written) (v : ValueType) : 
   pub visible : fields.is_sealed ≡ false
   pub each : Fields fields.names
 
-pub record ComponentIs (token : ℕ) (v : ValueType) : Type 0 where
+-- a system type is written
+pub record SystemThere (token : ℕ) (ss : Shapes) : Type 0 where
+  pub names : Scope
+  pub heading : Heading
+  pub census : Census
+  pub need : ℕ
+  pub there : shape_in token ss ≡ Some (system_shape names heading census need)
+
+-- the system type of this number alone is written at its token
+pub record ComponentIs (w : Written) (n : ℕ) (v : ValueType) : Type 0 where
   pub kind : SystemKind
-  pub is : v ≡ types.Component kind token
+  pub is : v ≡ types.Component kind (w.tokens.systems n)
+  pub only : (k : ℕ) → w.tokens.systems k ≡ w.tokens.systems n → k ≡ n
+  pub there : SystemThere (w.tokens.systems n) w.shapes
 
 -- the first field, before others
 pub record FieldIs (Is : ValueType → Type 0) (Rest : Names → Type 0) (x : List ℕ) (ds : Names) : Type 0 where
@@ -99,7 +111,7 @@ abbrev mutual
   TypeIs w (named.set_over q) v = SetIs w.tokens q v
   TypeIs w (named.array_over q t) v = ArrayIs (TypeIs w t) w q v
   TypeIs w (named.record_with ts) v = RecordIs (FieldsAre w ts) w v
-  TypeIs w (named.component_of n) v = ComponentIs (w.tokens.systems n) v
+  TypeIs w (named.component_of n) v = ComponentIs w n v
 
   pub FieldsAre : Written → FieldTypes → Names → Type 0
   FieldsAre w named.no_field_types ds = ds ≡ []
@@ -213,7 +225,7 @@ IsSet v = (o : Option Range) × (v ≡ types.Set o)
 abbrev pub FormIs : Written → ValueType → Ty → Form → Type 0
 FormIs w v (named.ordinal q) f = (c : code.Expression) × (f ≡ as_ordinal c) × OrdinalIs w.tokens q v
 FormIs w v (named.set_over q) f = (c : code.SetExpression) × (f ≡ as_set c) × IsSet v
-FormIs w v (named.component_of n) f = (c : code.ComponentPlace) × (f ≡ as_component c) × ComponentIs (w.tokens.systems n) v
+FormIs w v (named.component_of n) f = (c : code.ComponentPlace) × (f ≡ as_component c) × ComponentIs w n v
 FormIs w v t f = (p : code.Place) × (f ≡ as_place p) × TypeIs w t v
 
 -- a whole array of components, which has no form
