@@ -102,5 +102,7 @@ pub mod TypingExpressions
 pub mod TypingNames
 pub mod TypingOperations
 pub mod TypingValues
+pub mod UsedNames
 pub mod Walked
 pub mod Whole
+pub mod WithoutFaults

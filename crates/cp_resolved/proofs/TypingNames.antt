@@ -327,7 +327,7 @@ module _ (tokens : Tokens) (s : Scopes) (h : Here) where
 
     -- ---- an index
 
-    index_ordinal : (r : Range) (v : ValueType) (f : Option Formed) → agree (types.Ordinal r) v ≡ true → Expressed written v f → (q : named.Range) × (c : code.Expression) × (f ≡ Some (formed (named.ordinal q) (as_ordinal c)))
+    pub index_ordinal : (r : Range) (v : ValueType) (f : Option Formed) → agree (types.Ordinal r) v ≡ true → Expressed written v f → (q : named.Range) × (c : code.Expression) × (f ≡ Some (formed (named.ordinal q) (as_ordinal c)))
     index_ordinal r (types.Ordinal y) f e d = (let g : OrdinalForm tokens y f = ordinal_found written y f d in (g.range, g.code, g.is))
     index_ordinal r types.Queue f e d = absurd (cc)
     index_ordinal r (types.Set y) f e d = absurd (cc)

@@ -9,9 +9,10 @@ use Rattle.cp_scope.specs.declared.types.ValueType.TheVariants as types
 use Rattle.cp_scope.specs.declared.types.Meaning.{Meaning}
 use Rattle.cp_scope.specs.declared.types.Meaning.TheVariants as meaning
 use Rattle.cp_scope.specs.declared.shape.ArrayShape.{ArrayShape}
+use Rattle.cp_scope.specs.Counts.{no_use, both_uses}
 use Rattle.cp_scope.specs.Types.{agree}
 use Rattle.cp_scope.specs.Judged.{Judged, both, ◌>>=◌}
-use Rattle.cp_scope.specs.Scopes.{Scopes, shape_in, as_array, array_at, member_at}
+use Rattle.cp_scope.specs.Scopes.{Scopes, look, array_at, member_at}
 use Rattle.cp_check.specs.declared.operand.Context.{Context}
 use Rattle.cp_check.specs.declared.operand.Operand.{Operand}
 use Rattle.cp_check.specs.declared.operand.Designated as check_designated
@@ -24,9 +25,9 @@ use Rattle.cp_meaning.specs.Names.{Name}
 use Rattle.cp_meaning.specs.Types as named
 use Rattle.cp_meaning.specs.Scopes as scopes
 use Rattle.cp_meaning.specs.Scopes.{find}
-use Rattle.cp_meaning.specs.Lifting.{last_field}
+use Rattle.cp_meaning.specs.Lifting.{last_field, is_call_meant}
 use Rattle.cp_resolved.specs.Layouts.{Here}
-use Rattle.cp_resolved.specs.Compiled.{Formed, Designated, some_components, a_component, then_form, with_index_form, begun_form, expression_form, selected_form, designator_form}
+use Rattle.cp_resolved.specs.Compiled.{Formed, Designated, a_variable, some_components, a_component, then_form, with_index_form, begun_form, expression_form, selected_form, designator_form}
 use Rattle.cp_resolved.specs.Typed.{Tokens, TypeIs, ComponentIs, ScopesAgree, Expressed, HasForm, AreSmallSelectors}
 use Rattle.cp_resolved.specs.Used.{AreEntry, IsBare}
 use Rattle.cp_resolved.proofs.TypingNames.{IsPlainMeaning, OfSystem, IsComponentMeaning, Holds, written, NamedIs, HasDesignated, begun_typed, index_ordinal}
@@ -152,7 +153,7 @@ component_variable k None h = absurd h
 
 module _ (tokens : Tokens) (s : Scopes) (h : Here) (w : Context) (agrees : ScopesAgree tokens s h) where
   holds_variable : (m : Option scopes.Meaning) (x : Option Name) (v : ValueType) (o : Option Designated) → Holds (written tokens s h) m x v o → IsVariableMeaning m
-  holds_variable m x v (Some (code_variable p t)) i = plain_variable m i.2
+  holds_variable m x v (Some (a_variable p t)) i = plain_variable m i.2
   holds_variable m x v (Some (some_components first q k)) i = component_variable k m i.1
   holds_variable m x v (Some (a_component c k)) i = component_variable k m i.1
   holds_variable m x v None i = absurd i
@@ -239,3 +240,132 @@ module _ (tokens : Tokens) (s : Scopes) (h : Here) (w : Context) (agrees : Scope
       found (Some (Some (meaning.Parameter v))) m y = bad _ y
       found (Some (Some (meaning.Reference v))) m y = bad _ y
       found (Some (Some (meaning.Predeclared q))) m y = bad _ y
+
+  part_type : (n : Named) (v u : ValueType) → names.type_of n ≡ Some v → names.type_of (names.part_of n u) ≡ Some u
+  part_type (name.Variable y) v u e = refl
+  part_type (name.Parameter y) v u e = refl
+  part_type name.Nothing v u e = absurd (cc)
+  part_type (name.Constant b) v u e = absurd (cc)
+  part_type name.Kind v u e = absurd (cc)
+  part_type (name.Routine n) v u e = absurd (cc)
+  part_type (name.Entry n) v u e = absurd (cc)
+  part_type (name.Predeclared q) v u e = absurd (cc)
+
+  -- of one of an array
+  many_entry : (at : ℕ) (ss : Selectors) (c d : check_designated.Designated) (first : ℕ) (q : named.Range) (k r : ℕ) (v : ValueType) → AreSmallSelectors ss → names.type_of c.named ≡ Some v → TypeIs (written tokens s h) (named.array_over q (named.component_of k)) v → d.named ≡ name.Entry r → (selectors s w (Ok c) ss >>= names.known at) ≡ Ok d → EntryFound ss (Some (some_components first q k)) r k
+  unfolding expression
+  many_entry at no_selectors c d first q k r v small t a e g = absurd (entry_type c d r v (known_is s w at c d g) e t)
+  many_entry at (more_selectors (field i) ss) c d first q k r v small t a e g =
+      absurd (nothing_known s w at (selectors s w (names.selected s i c) ss) d (nothing_stays s w ss (names.selected s i c) (go (names.type_of c.named) (t ∙ ap (λ (y : ValueType). Some y) a.is))) g)
+    where
+      go : (o : Option ValueType) → o ≡ Some (types.Array a.token) → IsNothing (names.selected_of s i c o)
+      go (Some (types.Array n)) z = refl
+      go (Some (types.Ordinal y)) z = absurd (cc)
+      go (Some types.Queue) z = absurd (cc)
+      go (Some (types.Set y)) z = absurd (cc)
+      go (Some (types.Component j n)) z = absurd (cc)
+      go (Some (types.Record y)) z = absurd (cc)
+      go None z = absurd (cc)
+  many_entry at (more_selectors (index x) ss) c d first q k r v small t a e g = judged (expression s w false x) refl g
+    where
+      typed : Option ValueType → Operand → check_designated.Designated
+      typed o y = names.designated c.name_at (both_uses c.uses y.uses) (names.indexed_of s c y o)
+
+      chosen : (y : Operand) (b : Bool) → agree (types.Ordinal a.shape.index) y.value_type ≡ b → HasForm (written tokens s h) (Ok y) (expression_form h x) → (selectors s w (Ok (names.designated c.name_at (both_uses c.uses y.uses) (if b then names.part_of c.named a.shape.element else name.Nothing))) ss >>= names.known at) ≡ Ok d →
+          EntryFound (more_selectors (index x) ss) (Some (some_components first q k)) r k
+      chosen y true i f z =
+          let o = index_ordinal tokens s h agrees [] None a.shape.index y.value_type (expression_form h x) i f in
+          let part : code.ComponentPlace = code.element first q.low q.high (h.layouts.systems k).count o.1 in
+          let one : EntryFound ss (Some (a_component part k)) r k =
+          single_entry at ss (names.designated c.name_at (both_uses c.uses y.uses) (names.part_of c.named a.shape.element)) d part k r a.belongs.kind (part_type c.named v a.shape.element t ∙ ap (λ (u : ValueType). Some u) a.belongs.is) e z in
+          record {
+            entry = one.entry;
+            part = one.part;
+            name = one.name;
+            last = last_after x ss one.entry ∙ one.last;
+            formed = ap (λ (p : Option Formed). then_form (then_form p (with_index_form h (some_components first q k))) (selected_form h ss)) o.2 ∙ one.formed;
+            member = one.member;
+          }
+      chosen y false i f z = absurd (nothing_known s w at (selectors s w (Ok (names.designated c.name_at (both_uses c.uses y.uses) name.Nothing)) ss) d (nothing_stays s w ss (Ok (names.designated c.name_at (both_uses c.uses y.uses) name.Nothing)) refl) z)
+
+      judged : (j : Judged Operand) → expression s w false x ≡ j → (selectors s w (both (Ok c) j >>= at_index s) ss >>= names.known at) ≡ Ok d → EntryFound (more_selectors (index x) ss) (Some (some_components first q k)) r k
+      judged (Ok y) is z =
+          let there : array_at a.token s ≡ Some a.shape = a.there in
+          let f : HasForm (written tokens s h) (Ok y) (expression_form h x) = subst (λ (j : Judged Operand). HasForm (written tokens s h) j (expression_form h x)) is (expression_typed tokens s h w agrees x small.0) in
+          chosen y (agree (types.Ordinal a.shape.index) y.value_type) refl f
+          (subst (λ (o : Option ArrayShape). (selectors s w (Ok (names.designated c.name_at (both_uses c.uses y.uses) (names.element_of c y o))) ss >>= names.known at) ≡ Ok d) there
+          (subst (λ (o : Option ValueType). (selectors s w (Ok (typed o y)) ss >>= names.known at) ≡ Ok d) (t ∙ ap (λ (u : ValueType). Some u) a.is) z))
+      judged (Err fs) is z = absurd (nothing_known s w at (selectors s w (Err fs) ss) d (nothing_stays s w ss (Err fs) tt) z)
+
+  -- ---- a designator that is an entry
+
+  begun_entry : (i : Identifier) (c : check_designated.Designated) (r : ℕ) → names.begun s i ≡ Ok c → c.named ≡ name.Entry r → ⊥
+  unfolding names.begun names.visible
+  begun_entry i c r is e = go (look i.name s) is
+    where
+      no_entry : (m : Meaning) → names.named_of m ≡ name.Entry r → ⊥
+      no_entry (meaning.Constant b z) g = cc
+      no_entry (meaning.Kind v) g = cc
+      no_entry (meaning.Variable v) g = cc
+      no_entry (meaning.Parameter v) g = cc
+      no_entry (meaning.Reference v) g = cc
+      no_entry (meaning.Routine n) g = cc
+      no_entry (meaning.Predeclared q) g = cc
+
+      go : (o : Option (Option Meaning)) → (names.found i.at o >>= names.unselected i.at) ≡ Ok c → ⊥
+      go None k = cc
+      go (Some None) k = cc
+      go (Some (Some m)) k = no_entry m (ap (λ (d : check_designated.Designated). d.named) (ok_same (names.designated i.at no_use (names.named_of m)) c k) ∙ e)
+
+  bare_entry : (i : Identifier) (c d : check_designated.Designated) (r : ℕ) → names.begun s i ≡ Ok c → d.named ≡ name.Entry r → (selectors s w (Ok c) no_selectors >>= names.known i.at) ≡ Ok d → ⊥
+  unfolding expression
+  bare_entry i c d r b e g = begun_entry i c r b (ap (λ (x : check_designated.Designated). x.named) (known_is s w i.at c d g) ∙ e)
+
+  untyped_entry : (i : Identifier) (ss : Selectors) (c d : check_designated.Designated) (r : ℕ) → names.begun s i ≡ Ok c → IsUntyped c.named → d.named ≡ name.Entry r → (selectors s w (Ok c) ss >>= names.known i.at) ≡ Ok d → ⊥
+  untyped_entry i ss c d r b n e g =
+      let none : ss ≡ no_selectors = untyped_bare s w i.at ss c d n g in
+      bare_entry i c d r b e (subst (λ (cs : Selectors). (selectors s w (Ok c) cs >>= names.known i.at) ≡ Ok d) none g)
+
+  pub record EntryUsed (i : Identifier) (ss : Selectors) (r : ℕ) : Type 0 where
+    pub system : ℕ
+    pub of : IsComponentMeaning system (find i.name h.scope)
+    pub found : EntryFound ss (begun_form h i.name (find i.name h.scope)) r system
+
+  plain_call : (m : Option scopes.Meaning) (x : Option Name) → IsPlainMeaning m → is_call_meant m x ≡ true → ⊥
+  plain_call (Some (scopes.local_variable t)) x p e = cc
+  plain_call (Some (scopes.permanent_variable t)) None p e = cc
+  plain_call (Some (scopes.permanent_variable t)) (Some y) p e = (let bad : false ≡ true = sym p ∙ e in cc)
+  plain_call (Some (scopes.constant_meaning b z)) x p e = p
+  plain_call (Some (scopes.type_meaning t)) x p e = p
+  plain_call (Some (scopes.routine_meaning r)) x p e = p
+  plain_call (Some (scopes.standard_meaning q)) x p e = p
+  plain_call None x p e = p
+
+  held_entry : (i : Identifier) (ss : Selectors) (c d : check_designated.Designated) (r : ℕ) (v : ValueType) (o : Option Designated) → begun_form h i.name (find i.name h.scope) ≡ o → AreSmallSelectors ss → names.type_of c.named ≡ Some v → Holds (written tokens s h) (find i.name h.scope) None v o → is_call_meant (find i.name h.scope) (last_field ss) ≡ true →
+      d.named ≡ name.Entry r → (selectors s w (Ok c) ss >>= names.known i.at) ≡ Ok d → EntryUsed i ss r
+  held_entry i ss c d r v (Some (a_variable p t)) is small y k call e g = absurd (plain_call (find i.name h.scope) (last_field ss) k.2 call)
+  held_entry i ss c d r v (Some (some_components first q n)) is small y k call e g =
+      record { system = n; of = k.1; found = subst (λ (o : Option Designated). EntryFound ss o r n) (sym is) (many_entry i.at ss c d first q n r v small y k.0 e g) }
+  held_entry i ss c d r v (Some (a_component part n)) is small y k call e g =
+      record { system = n; of = k.1; found = subst (λ (o : Option Designated). EntryFound ss o r n) (sym is) (single_entry i.at ss c d part n r k.0.kind (y ∙ ap (λ (u : ValueType). Some u) k.0.is) e g) }
+  held_entry i ss c d r v None is small y k call e g = absurd k
+
+  named_entry : (i : Identifier) (ss : Selectors) (c d : check_designated.Designated) (r : ℕ) (n : Named) → c.named ≡ n → names.begun s i ≡ Ok c → AreSmallSelectors ss → NamedIs tokens s h i.name (find i.name h.scope) None n (begun_form h i.name (find i.name h.scope)) → is_call_meant (find i.name h.scope) (last_field ss) ≡ true →
+      d.named ≡ name.Entry r → (selectors s w (Ok c) ss >>= names.known i.at) ≡ Ok d → EntryUsed i ss r
+  named_entry i ss c d r (name.Variable v) is b small k call e g = held_entry i ss c d r v (begun_form h i.name (find i.name h.scope)) refl small (ap names.type_of is) k call e g
+  named_entry i ss c d r (name.Parameter v) is b small k call e g = held_entry i ss c d r v (begun_form h i.name (find i.name h.scope)) refl small (ap names.type_of is) k call e g
+  named_entry i ss c d r name.Nothing is b small k call e g = absurd (untyped_entry i ss c d r b (subst IsUntyped (sym is) tt) e g)
+  named_entry i ss c d r (name.Constant z) is b small k call e g = absurd (untyped_entry i ss c d r b (subst IsUntyped (sym is) tt) e g)
+  named_entry i ss c d r name.Kind is b small k call e g = absurd (untyped_entry i ss c d r b (subst IsUntyped (sym is) tt) e g)
+  named_entry i ss c d r (name.Routine n) is b small k call e g = absurd (untyped_entry i ss c d r b (subst IsUntyped (sym is) tt) e g)
+  named_entry i ss c d r (name.Entry n) is b small k call e g = absurd (begun_entry i c n b is)
+  named_entry i ss c d r (name.Predeclared q) is b small k call e g = absurd (untyped_entry i ss c d r b (subst IsUntyped (sym is) tt) e g)
+
+  begun_is : (i : Identifier) (ss : Selectors) (j : Judged check_designated.Designated) (d : check_designated.Designated) (r : ℕ) → names.begun s i ≡ j → AreSmallSelectors ss → is_call_meant (find i.name h.scope) (last_field ss) ≡ true → d.named ≡ name.Entry r → (selectors s w j ss >>= names.known i.at) ≡ Ok d → EntryUsed i ss r
+  begun_is i ss (Ok c) d r is small call e g =
+      named_entry i ss c d r c.named refl is small (subst (λ (j : Judged check_designated.Designated). HasDesignated tokens s h i.name (find i.name h.scope) None j (begun_form h i.name (find i.name h.scope))) is (begun_typed tokens s h agrees i)) call e g
+  begun_is i ss (Err fs) d r is small call e g = absurd (nothing_known s w i.at (selectors s w (Err fs) ss) d (nothing_stays s w ss (Err fs) tt) g)
+
+  pub entry_used : (i : Identifier) (ss : Selectors) (d : check_designated.Designated) (r : ℕ) → AreSmallSelectors ss → is_call_meant (find i.name h.scope) (last_field ss) ≡ true → d.named ≡ name.Entry r → designator s w (name_with i ss) ≡ Ok d → EntryUsed i ss r
+  unfolding expression
+  entry_used i ss d r small call e g = begun_is i ss (names.begun s i) d r refl small call e g
