@@ -11,6 +11,7 @@ pub mod AgreeingTypes
 pub mod AgreeingWritten
 pub mod Alike
 pub mod Applied
+pub mod AssignableForms
 pub mod Avoiding
 pub mod BegunKnown
 pub mod BodiesStand

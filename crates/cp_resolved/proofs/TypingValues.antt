@@ -90,7 +90,7 @@ module _ (tokens : Tokens) (s : Scopes) (h : Here) (w : Context) where
   held_typed m x v None i = absurd i
 
   -- the name of a variable is no call, and no constant or standard function
-  record IsValue (m : Option scopes.Meaning) (x : Option Name) : Type 0 where
+  pub record IsValue (m : Option scopes.Meaning) (x : Option Name) : Type 0 where
     pub call : is_call_meant m x ≡ false
     pub value : (at : ℕ) (d : Designator) (o : Option Designated) (f : Option Formed) → named_form h at d false m o f ≡ then_form o valued_form
 
@@ -113,7 +113,7 @@ module _ (tokens : Tokens) (s : Scopes) (h : Here) (w : Context) where
   component_value k (Some (scopes.standard_meaning f)) x i e = absurd i
   component_value k None x i e = absurd i
 
-  held_value : (m : Option scopes.Meaning) (x : Option Name) (v : ValueType) (o : Option Designated) → Holds (written tokens s h) m x v o → IsValue m x
+  pub held_value : (m : Option scopes.Meaning) (x : Option Name) (v : ValueType) (o : Option Designated) → Holds (written tokens s h) m x v o → IsValue m x
   held_value m x v (Some (a_variable p t)) i = plain_value m x i.2
   held_value m x v (Some (some_components first q k)) i = component_value k m x i.1 i.2
   held_value m x v (Some (a_component c k)) i = component_value k m x i.1 i.2
