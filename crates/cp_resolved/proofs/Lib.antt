@@ -45,6 +45,7 @@ pub mod FormsOfTrees
 pub mod Going
 pub mod Grown
 pub mod Handed
+pub mod HandedOver
 pub mod Kept
 pub mod KeptNames
 pub mod Knowing

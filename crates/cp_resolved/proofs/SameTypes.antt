@@ -1,5 +1,6 @@
--- Types of the language that the checker has as one are one, where they have no components.
+-- Types of the language that the checker has as one are one.
 use Rattle.std.proofs.Common.{◌≡◌, Bool, true, false, ◌&&◌, List, [], ◌∷◌, Option, Some, None, ℕ, ℤ, refl, sym, ap, subst, ◌∙◌}
+use Rattle.cp_tree.specs.declared.declaration.SystemKind.{SystemKind}
 use Rattle.cp_scope.specs.declared.types.Base as check_base
 use Rattle.cp_scope.specs.declared.types.Base.TheVariants as base
 use Rattle.cp_scope.specs.declared.types.Range.{Range}
@@ -46,6 +47,9 @@ set_range r s e = cc
 array_token : (n k : ℕ) → types.Array n ≡ types.Array k → n ≡ k
 array_token n k e = cc
 
+component_token : (i j : SystemKind) (n k : ℕ) → types.Component i n ≡ types.Component j k → n ≡ k
+component_token i j n k e = cc
+
 record_token : (n k : ℕ) → types.Record n ≡ types.Record k → n ≡ k
 record_token n k e = cc
 
@@ -74,56 +78,56 @@ field_rest : (x y : Name) (v u : ValueType) (ds es : Names) → (x, Some (meanin
 field_rest x y v u ds es e = cc
 
 mutual
-  pub type_same : (w : Written) (t u : Ty) (v : ValueType) → TypeIs w t v → TypeIs w u v → is_plain t ≡ true → is_plain u ≡ true → t ≡ u
-  type_same w (named.ordinal q) (named.ordinal p) v h g m n = ap named.ordinal (range_same w.tokens q p h.range g.range (ordinal_range h.range g.range (sym h.is ∙ g.is)) h.belongs g.belongs)
-  type_same w (named.ordinal q) named.queue_type v h g m n = absurd (let bad : types.Ordinal h.range ≡ types.Queue = sym h.is ∙ g in cc)
-  type_same w (named.ordinal q) (named.set_over p) v h g m n = absurd (let bad : types.Ordinal h.range ≡ types.Set (Some g.range) = sym h.is ∙ g.is in cc)
-  type_same w (named.ordinal q) (named.array_over p u) v h g m n = absurd (let bad : types.Ordinal h.range ≡ types.Array g.token = sym h.is ∙ g.is in cc)
-  type_same w (named.ordinal q) (named.record_with us) v h g m n = absurd (let bad : types.Ordinal h.range ≡ types.Record g.token = sym h.is ∙ g.is in cc)
-  type_same w (named.ordinal q) (named.component_of k) v h g m n = absurd (cc)
-  type_same w named.queue_type (named.ordinal p) v h g m n = absurd (let bad : types.Queue ≡ types.Ordinal g.range = sym h ∙ g.is in cc)
-  type_same w named.queue_type named.queue_type v h g m n = refl
-  type_same w named.queue_type (named.set_over p) v h g m n = absurd (let bad : types.Queue ≡ types.Set (Some g.range) = sym h ∙ g.is in cc)
-  type_same w named.queue_type (named.array_over p u) v h g m n = absurd (let bad : types.Queue ≡ types.Array g.token = sym h ∙ g.is in cc)
-  type_same w named.queue_type (named.record_with us) v h g m n = absurd (let bad : types.Queue ≡ types.Record g.token = sym h ∙ g.is in cc)
-  type_same w named.queue_type (named.component_of k) v h g m n = absurd (cc)
-  type_same w (named.set_over q) (named.ordinal p) v h g m n = absurd (let bad : types.Set (Some h.range) ≡ types.Ordinal g.range = sym h.is ∙ g.is in cc)
-  type_same w (named.set_over q) named.queue_type v h g m n = absurd (let bad : types.Set (Some h.range) ≡ types.Queue = sym h.is ∙ g in cc)
-  type_same w (named.set_over q) (named.set_over p) v h g m n = ap named.set_over (range_same w.tokens q p h.range g.range (set_range h.range g.range (sym h.is ∙ g.is)) h.belongs g.belongs)
-  type_same w (named.set_over q) (named.array_over p u) v h g m n = absurd (let bad : types.Set (Some h.range) ≡ types.Array g.token = sym h.is ∙ g.is in cc)
-  type_same w (named.set_over q) (named.record_with us) v h g m n = absurd (let bad : types.Set (Some h.range) ≡ types.Record g.token = sym h.is ∙ g.is in cc)
-  type_same w (named.set_over q) (named.component_of k) v h g m n = absurd (cc)
-  type_same w (named.array_over q t) (named.ordinal p) v h g m n = absurd (let bad : types.Array h.token ≡ types.Ordinal g.range = sym h.is ∙ g.is in cc)
-  type_same w (named.array_over q t) named.queue_type v h g m n = absurd (let bad : types.Array h.token ≡ types.Queue = sym h.is ∙ g in cc)
-  type_same w (named.array_over q t) (named.set_over p) v h g m n = absurd (let bad : types.Array h.token ≡ types.Set (Some g.range) = sym h.is ∙ g.is in cc)
-  type_same w (named.array_over q t) (named.array_over p u) v h g m n =
+  pub type_same : (w : Written) (t u : Ty) (v : ValueType) → TypeIs w t v → TypeIs w u v → t ≡ u
+  type_same w (named.ordinal q) (named.ordinal p) v h g = ap named.ordinal (range_same w.tokens q p h.range g.range (ordinal_range h.range g.range (sym h.is ∙ g.is)) h.belongs g.belongs)
+  type_same w (named.ordinal q) named.queue_type v h g = absurd (let bad : types.Ordinal h.range ≡ types.Queue = sym h.is ∙ g in cc)
+  type_same w (named.ordinal q) (named.set_over p) v h g = absurd (let bad : types.Ordinal h.range ≡ types.Set (Some g.range) = sym h.is ∙ g.is in cc)
+  type_same w (named.ordinal q) (named.array_over p u) v h g = absurd (let bad : types.Ordinal h.range ≡ types.Array g.token = sym h.is ∙ g.is in cc)
+  type_same w (named.ordinal q) (named.record_with us) v h g = absurd (let bad : types.Ordinal h.range ≡ types.Record g.token = sym h.is ∙ g.is in cc)
+  type_same w (named.ordinal q) (named.component_of k) v h g = absurd (let bad : types.Ordinal h.range ≡ types.Component g.kind (w.tokens.systems k) = sym h.is ∙ g.is in cc)
+  type_same w named.queue_type (named.ordinal p) v h g = absurd (let bad : types.Queue ≡ types.Ordinal g.range = sym h ∙ g.is in cc)
+  type_same w named.queue_type named.queue_type v h g = refl
+  type_same w named.queue_type (named.set_over p) v h g = absurd (let bad : types.Queue ≡ types.Set (Some g.range) = sym h ∙ g.is in cc)
+  type_same w named.queue_type (named.array_over p u) v h g = absurd (let bad : types.Queue ≡ types.Array g.token = sym h ∙ g.is in cc)
+  type_same w named.queue_type (named.record_with us) v h g = absurd (let bad : types.Queue ≡ types.Record g.token = sym h ∙ g.is in cc)
+  type_same w named.queue_type (named.component_of k) v h g = absurd (let bad : types.Queue ≡ types.Component g.kind (w.tokens.systems k) = sym h ∙ g.is in cc)
+  type_same w (named.set_over q) (named.ordinal p) v h g = absurd (let bad : types.Set (Some h.range) ≡ types.Ordinal g.range = sym h.is ∙ g.is in cc)
+  type_same w (named.set_over q) named.queue_type v h g = absurd (let bad : types.Set (Some h.range) ≡ types.Queue = sym h.is ∙ g in cc)
+  type_same w (named.set_over q) (named.set_over p) v h g = ap named.set_over (range_same w.tokens q p h.range g.range (set_range h.range g.range (sym h.is ∙ g.is)) h.belongs g.belongs)
+  type_same w (named.set_over q) (named.array_over p u) v h g = absurd (let bad : types.Set (Some h.range) ≡ types.Array g.token = sym h.is ∙ g.is in cc)
+  type_same w (named.set_over q) (named.record_with us) v h g = absurd (let bad : types.Set (Some h.range) ≡ types.Record g.token = sym h.is ∙ g.is in cc)
+  type_same w (named.set_over q) (named.component_of k) v h g = absurd (let bad : types.Set (Some h.range) ≡ types.Component g.kind (w.tokens.systems k) = sym h.is ∙ g.is in cc)
+  type_same w (named.array_over q t) (named.ordinal p) v h g = absurd (let bad : types.Array h.token ≡ types.Ordinal g.range = sym h.is ∙ g.is in cc)
+  type_same w (named.array_over q t) named.queue_type v h g = absurd (let bad : types.Array h.token ≡ types.Queue = sym h.is ∙ g in cc)
+  type_same w (named.array_over q t) (named.set_over p) v h g = absurd (let bad : types.Array h.token ≡ types.Set (Some g.range) = sym h.is ∙ g.is in cc)
+  type_same w (named.array_over q t) (named.array_over p u) v h g =
       let one : h.shape ≡ g.shape = some_same h.shape g.shape (sym h.there ∙ ap (λ k. as_array (shape_in k w.shapes)) (array_token h.token g.token (sym h.is ∙ g.is)) ∙ g.there) in
       ap (λ r. named.array_over r t) (range_same w.tokens q p h.shape.index g.shape.index (ap (λ (a : ArrayShape). a.index) one) h.range g.range)
-      ∙ ap (named.array_over p) (type_same w t u h.shape.element h.belongs (subst (λ (a : ArrayShape). TypeIs w u a.element) (sym one) g.belongs) m n)
-  type_same w (named.array_over q t) (named.record_with us) v h g m n = absurd (let bad : types.Array h.token ≡ types.Record g.token = sym h.is ∙ g.is in cc)
-  type_same w (named.array_over q t) (named.component_of k) v h g m n = absurd (cc)
-  type_same w (named.record_with ts) (named.ordinal p) v h g m n = absurd (let bad : types.Record h.token ≡ types.Ordinal g.range = sym h.is ∙ g.is in cc)
-  type_same w (named.record_with ts) named.queue_type v h g m n = absurd (let bad : types.Record h.token ≡ types.Queue = sym h.is ∙ g in cc)
-  type_same w (named.record_with ts) (named.set_over p) v h g m n = absurd (let bad : types.Record h.token ≡ types.Set (Some g.range) = sym h.is ∙ g.is in cc)
-  type_same w (named.record_with ts) (named.array_over p u) v h g m n = absurd (let bad : types.Record h.token ≡ types.Array g.token = sym h.is ∙ g.is in cc)
-  type_same w (named.record_with ts) (named.record_with us) v h g m n =
+      ∙ ap (named.array_over p) (type_same w t u h.shape.element h.belongs (subst (λ (a : ArrayShape). TypeIs w u a.element) (sym one) g.belongs))
+  type_same w (named.array_over q t) (named.record_with us) v h g = absurd (let bad : types.Array h.token ≡ types.Record g.token = sym h.is ∙ g.is in cc)
+  type_same w (named.array_over q t) (named.component_of k) v h g = absurd (let bad : types.Array h.token ≡ types.Component g.kind (w.tokens.systems k) = sym h.is ∙ g.is in cc)
+  type_same w (named.record_with ts) (named.ordinal p) v h g = absurd (let bad : types.Record h.token ≡ types.Ordinal g.range = sym h.is ∙ g.is in cc)
+  type_same w (named.record_with ts) named.queue_type v h g = absurd (let bad : types.Record h.token ≡ types.Queue = sym h.is ∙ g in cc)
+  type_same w (named.record_with ts) (named.set_over p) v h g = absurd (let bad : types.Record h.token ≡ types.Set (Some g.range) = sym h.is ∙ g.is in cc)
+  type_same w (named.record_with ts) (named.array_over p u) v h g = absurd (let bad : types.Record h.token ≡ types.Array g.token = sym h.is ∙ g.is in cc)
+  type_same w (named.record_with ts) (named.record_with us) v h g =
       let one : h.fields ≡ g.fields = record_fields h.fields g.fields h.cells g.cells (sym h.there ∙ ap (λ k. shape_in k w.shapes) (record_token h.token g.token (sym h.is ∙ g.is)) ∙ g.there) in
-      ap named.record_with (fields_same w ts us h.fields.names h.each (subst (λ (f : Scope). FieldsAre w us f.names) (sym one) g.each) m n)
-  type_same w (named.record_with ts) (named.component_of k) v h g m n = absurd (cc)
-  type_same w (named.component_of j) (named.ordinal p) v h g m n = absurd (cc)
-  type_same w (named.component_of j) named.queue_type v h g m n = absurd (cc)
-  type_same w (named.component_of j) (named.set_over p) v h g m n = absurd (cc)
-  type_same w (named.component_of j) (named.array_over p u) v h g m n = absurd (cc)
-  type_same w (named.component_of j) (named.record_with us) v h g m n = absurd (cc)
-  type_same w (named.component_of j) (named.component_of k) v h g m n = absurd (cc)
+      ap named.record_with (fields_same w ts us h.fields.names h.each (subst (λ (f : Scope). FieldsAre w us f.names) (sym one) g.each))
+  type_same w (named.record_with ts) (named.component_of k) v h g = absurd (let bad : types.Record h.token ≡ types.Component g.kind (w.tokens.systems k) = sym h.is ∙ g.is in cc)
+  type_same w (named.component_of n) (named.ordinal p) v h g = absurd (let bad : types.Component h.kind (w.tokens.systems n) ≡ types.Ordinal g.range = sym h.is ∙ g.is in cc)
+  type_same w (named.component_of n) named.queue_type v h g = absurd (let bad : types.Component h.kind (w.tokens.systems n) ≡ types.Queue = sym h.is ∙ g in cc)
+  type_same w (named.component_of n) (named.set_over p) v h g = absurd (let bad : types.Component h.kind (w.tokens.systems n) ≡ types.Set (Some g.range) = sym h.is ∙ g.is in cc)
+  type_same w (named.component_of n) (named.array_over p u) v h g = absurd (let bad : types.Component h.kind (w.tokens.systems n) ≡ types.Array g.token = sym h.is ∙ g.is in cc)
+  type_same w (named.component_of n) (named.record_with us) v h g = absurd (let bad : types.Component h.kind (w.tokens.systems n) ≡ types.Record g.token = sym h.is ∙ g.is in cc)
+  type_same w (named.component_of n) (named.component_of j) v h g = ap named.component_of (g.only n (component_token h.kind g.kind (w.tokens.systems n) (w.tokens.systems j) (sym h.is ∙ g.is)))
 
-  fields_same : (w : Written) (ts us : FieldTypes) (ds : Names) → FieldsAre w ts ds → FieldsAre w us ds → are_plain ts ≡ true → are_plain us ≡ true → ts ≡ us
-  fields_same w named.no_field_types named.no_field_types ds h g m n = refl
-  fields_same w (named.more_field_types x t ts) (named.more_field_types y u us) ds h g m n =
+  fields_same : (w : Written) (ts us : FieldTypes) (ds : Names) → FieldsAre w ts ds → FieldsAre w us ds → ts ≡ us
+  fields_same w named.no_field_types named.no_field_types ds h g = refl
+  fields_same w (named.more_field_types x t ts) (named.more_field_types y u us) ds h g =
       let e = sym h.first ∙ g.first in
       let name : x ≡ y = field_name x y h.value_type g.value_type h.rest g.rest e in
-      let one : t ≡ u = type_same w t u h.value_type h.belongs (subst (TypeIs w u) (sym (field_type x y h.value_type g.value_type h.rest g.rest e)) g.belongs) (first_true (is_plain t) (are_plain ts) m) (first_true (is_plain u) (are_plain us) n) in
-      let rest : ts ≡ us = fields_same w ts us h.rest h.others (subst (FieldsAre w us) (sym (field_rest x y h.value_type g.value_type h.rest g.rest e)) g.others) (second_true (is_plain t) (are_plain ts) m) (second_true (is_plain u) (are_plain us) n) in
+      let one : t ≡ u = type_same w t u h.value_type h.belongs (subst (TypeIs w u) (sym (field_type x y h.value_type g.value_type h.rest g.rest e)) g.belongs) in
+      let rest : ts ≡ us = fields_same w ts us h.rest h.others (subst (FieldsAre w us) (sym (field_rest x y h.value_type g.value_type h.rest g.rest e)) g.others) in
       ap (λ z. named.more_field_types z t ts) name ∙ ap (λ z. named.more_field_types y z ts) one ∙ ap (named.more_field_types y u) rest
-  fields_same w named.no_field_types (named.more_field_types y u us) ds h g m n = absurd (let bad : [] ≡ (y, Some (meaning.Variable g.value_type)) ∷ g.rest = sym h ∙ g.first in cc)
-  fields_same w (named.more_field_types x t ts) named.no_field_types ds h g m n = absurd (let bad : (x, Some (meaning.Variable h.value_type)) ∷ h.rest ≡ [] = sym h.first ∙ g in cc)
+  fields_same w named.no_field_types (named.more_field_types y u us) ds h g = absurd (let bad : [] ≡ (y, Some (meaning.Variable g.value_type)) ∷ g.rest = sym h ∙ g.first in cc)
+  fields_same w (named.more_field_types x t ts) named.no_field_types ds h g = absurd (let bad : (x, Some (meaning.Variable h.value_type)) ∷ h.rest ≡ [] = sym h.first ∙ g in cc)
