@@ -1,3 +1,4 @@
+mod SmallestSound
 pub mod Agreeing
 pub mod AgreeingBodies
 pub mod AgreeingConstants
@@ -17,6 +18,8 @@ pub mod Calling
 pub mod CallingBodies
 pub mod CallingPlaced
 pub mod CallingProgram
+pub mod CallsOfTrees
+pub mod CallsSpread
 pub mod Cells
 pub mod Declared
 pub mod Declares
@@ -53,7 +56,10 @@ pub mod Moved
 pub mod Named
 pub mod NamesOfTrees
 pub mod Numbered
+pub mod OnceOfTrees
+pub mod OnceRoutines
 pub mod Opened
+pub mod OpeningsBodies
 pub mod Operations
 pub mod Outer
 pub mod OwnCalls
@@ -80,7 +86,6 @@ pub mod SmallStatements
 pub mod SmallTexts
 pub mod SmallTokens
 pub mod SmallestProgram
-mod SmallestSound
 pub mod SoundComponents
 pub mod SoundItems
 pub mod SoundParameters
@@ -102,3 +107,4 @@ pub mod TypingOperations
 pub mod TypingValues
 pub mod Walked
 pub mod Whole
+pub mod WordsOfTrees
