@@ -1,6 +1,7 @@
 mod SmallestSound
 pub mod Agreeing
 pub mod AgreeingBodies
+pub mod AgreeingCells
 pub mod AgreeingConstants
 pub mod AgreeingNames
 pub mod AgreeingParts
@@ -33,6 +34,7 @@ pub mod EntriesKnown
 pub mod EnumerationsRead
 pub mod Expressions
 pub mod Extends
+pub mod FewCells
 pub mod FewItems
 pub mod FewItemsOfTables
 pub mod FewReferences
