@@ -1,5 +1,5 @@
 -- What the checker counts of the cells of a type that breaks no rule is what the type takes.
-use Rattle.std.proofs.Common.{◌≡◌, ◌+◌, ◌*◌, ◌<◌, ◌≤◌, ℕ, zero, suc, ℤ, pos, negsuc, Bool, true, false, ◌&&◌, List, [], ◌∷◌, Option, Some, None, refl, sym, ap, subst, ◌∙◌, arith}
+use Rattle.std.proofs.Common.{◌≡◌, ◌+◌, ◌*◌, ◌<◌, ◌≤◌, ℕ, zero, suc, ℤ, pos, negsuc, Bool, true, false, refl, ap, subst, ◌∙◌, arith}
 use Rattle.std.specs.Prelude.{min, nat_le, nat_lt, ◌+ℤ◌, ◌-ℤ◌, int_le, unsigned_abs}
 use Rattle.std.proofs.lemmas.Bool.{leb-true, leb-false, ltb-false}
 use Rattle.cp_scope.specs.declared.types.Range.{Range}
@@ -12,7 +12,7 @@ use Rattle.cp_scope.specs.Scopes.{Names, Shapes, shape_in, shape_cells, count_of
 use Rattle.cp_meaning.specs.Types as named
 use Rattle.cp_meaning.specs.Types.{Ty, FieldTypes, natural_of, length_of_range}
 use Rattle.cp_resolved.specs.Layouts.{cells_of, cells_in}
-use Rattle.cp_resolved.specs.Standing.{is_indexed, are_few, is_free, are_free}
+use Rattle.cp_resolved.specs.Standing.{is_indexed, is_free, are_free}
 use Rattle.cp_resolved.specs.Typed.{Written, RangeIs, TypeIs, FieldsAre}
 use Rattle.cp_resolved.proofs.AgreeingNames.{array_is}
 use Rattle.cp_resolved.proofs.FewCells.{left_of, right_of, not_negative}

@@ -1,6 +1,6 @@
 -- Types that stand have few cells, and none of their arrays is without elements.
-use Rattle.std.proofs.Common.{◌≡◌, ◌+◌, ◌*◌, ◌≤◌, ℕ, ℤ, pos, negsuc, Bool, true, false, ◌&&◌, refl, sym, ap, subst, ◌∙◌, arith}
-use Rattle.std.specs.Prelude.{◌+ℤ◌, ◌-ℤ◌, neg_ℤ, int_le}
+use Rattle.std.proofs.Common.{◌≡◌, ◌*◌, ◌≤◌, ℤ, pos, negsuc, Bool, true, false, ◌&&◌, refl, arith}
+use Rattle.std.specs.Prelude.{◌+ℤ◌, ◌-ℤ◌, int_le}
 use Rattle.std.proofs.lemmas.Bool.{leb-true}
 use Rattle.cp_meaning.specs.Types.{Range, Ty, ordinal, queue_type, set_over, array_over, record_with, component_of, FieldTypes, no_field_types, more_field_types, is_within, natural_of, length_of_range}
 use Rattle.cp_meaning.specs.Operations.{range_of_base}

@@ -70,6 +70,7 @@ pub mod OwnNames
 pub mod Owning
 pub mod ParametersFit
 pub mod PermanentNames
+pub mod Placed
 pub mod Plain
 pub mod PlainInside
 pub mod Reserving
