@@ -1,5 +1,7 @@
+mod SmallestSound
 pub mod Agreeing
 pub mod AgreeingBodies
+pub mod AgreeingCells
 pub mod AgreeingConstants
 pub mod AgreeingNames
 pub mod AgreeingParameters
@@ -19,6 +21,8 @@ pub mod Calling
 pub mod CallingBodies
 pub mod CallingPlaced
 pub mod CallingProgram
+pub mod CallsOfTrees
+pub mod CallsSpread
 pub mod Cells
 pub mod Declared
 pub mod Declares
@@ -32,6 +36,7 @@ pub mod EntriesKnown
 pub mod EnumerationsRead
 pub mod Expressions
 pub mod Extends
+pub mod FewCells
 pub mod FewItems
 pub mod FewItemsOfTables
 pub mod FewReferences
@@ -56,7 +61,10 @@ pub mod Moved
 pub mod Named
 pub mod NamesOfTrees
 pub mod Numbered
+pub mod OnceOfTrees
+pub mod OnceRoutines
 pub mod Opened
+pub mod OpeningsBodies
 pub mod Operations
 pub mod Outer
 pub mod OwnCalls
@@ -65,6 +73,7 @@ pub mod OwnNames
 pub mod Owning
 pub mod ParametersFit
 pub mod PermanentNames
+pub mod Placed
 pub mod Plain
 pub mod PlainInside
 pub mod Reserving
@@ -84,7 +93,6 @@ pub mod SmallStatements
 pub mod SmallTexts
 pub mod SmallTokens
 pub mod SmallestProgram
-mod SmallestSound
 pub mod SoundComponents
 pub mod SoundItems
 pub mod SoundParameters
@@ -108,3 +116,4 @@ pub mod UsedNames
 pub mod Walked
 pub mod Whole
 pub mod WithoutFaults
+pub mod WordsOfTrees

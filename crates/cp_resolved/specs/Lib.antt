@@ -19,6 +19,7 @@ pub mod Names
 pub mod Once
 pub mod Openings
 pub mod OwnCalls
+pub mod Placed
 pub mod Read
 pub mod Resolved
 pub mod Small
