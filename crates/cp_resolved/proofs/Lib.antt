@@ -40,6 +40,10 @@ pub mod Fitting
 pub mod Foreign
 pub mod FormedStatements
 pub mod FormsOfTrees
+pub mod FrameCells
+pub mod FrameKept
+pub mod FrameSteps
+pub mod FramesBegun
 pub mod Going
 pub mod Grown
 pub mod Handed
@@ -47,6 +51,7 @@ pub mod Kept
 pub mod KeptNames
 pub mod Knowing
 pub mod KnowingSystems
+pub mod LeastCells
 pub mod Listing
 pub mod Loops
 pub mod Moved
