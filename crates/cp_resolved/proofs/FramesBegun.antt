@@ -93,7 +93,7 @@ by_false : (xs : List Name) (t : Ty) → (parameters_by false (parameters_named 
 by_false [] t = (refl, refl)
 by_false (x ∷ xs) t = let h = by_false xs t in (ap (λ vs. one_variable x t ∷ vs) h.0, h.1)
 
-named_parameters : (xs : List Name) (t : Ty) (b : Bool) → parameter_variables (parameters_named xs t b) ≡ named_variables xs t
+pub named_parameters : (xs : List Name) (t : Ty) (b : Bool) → parameter_variables (parameters_named xs t b) ≡ named_variables xs t
 named_parameters [] t b = refl
 named_parameters (x ∷ xs) t b = ap (λ vs. one_variable x t ∷ vs) (named_parameters xs t b)
 

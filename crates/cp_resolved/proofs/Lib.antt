@@ -66,12 +66,14 @@ pub mod OwnCallsOfTables
 pub mod OwnNames
 pub mod Owning
 pub mod ParametersFit
+pub mod PermanentCells
 pub mod PermanentNames
 pub mod Plain
 pub mod PlainInside
 pub mod Reserving
 pub mod ResultKnown
 pub mod Rooms
+pub mod ScopeVariables
 pub mod ScopesOfTrees
 pub mod Selecting
 pub mod Settled
@@ -107,3 +109,4 @@ pub mod TypingOperations
 pub mod TypingValues
 pub mod Walked
 pub mod Whole
+pub mod ZeroCells
