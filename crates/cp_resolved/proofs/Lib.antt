@@ -47,6 +47,10 @@ pub mod Fitting
 pub mod Foreign
 pub mod FormedStatements
 pub mod FormsOfTrees
+pub mod FrameCells
+pub mod FrameKept
+pub mod FrameSteps
+pub mod FramesBegun
 pub mod Going
 pub mod Grown
 pub mod Handed
@@ -55,6 +59,7 @@ pub mod Kept
 pub mod KeptNames
 pub mod Knowing
 pub mod KnowingSystems
+pub mod LeastCells
 pub mod Listing
 pub mod Loops
 pub mod Moved
@@ -72,6 +77,7 @@ pub mod OwnCallsOfTables
 pub mod OwnNames
 pub mod Owning
 pub mod ParametersFit
+pub mod PermanentCells
 pub mod PermanentNames
 pub mod Placed
 pub mod Plain
@@ -80,6 +86,7 @@ pub mod Reserving
 pub mod ResultKnown
 pub mod Rooms
 pub mod SameTypes
+pub mod ScopeVariables
 pub mod ScopesOfTrees
 pub mod Selecting
 pub mod Settled
@@ -117,3 +124,4 @@ pub mod Walked
 pub mod Whole
 pub mod WithoutFaults
 pub mod WordsOfTrees
+pub mod ZeroCells
