@@ -30,6 +30,8 @@ pub mod Designating
 pub mod DifferentIndexed
 pub mod DifferentTokens
 pub mod EachInStep
+pub mod EarlierTypes
+pub mod EncodedCells
 pub mod Ended
 pub mod Entries
 pub mod EntriesKnown
@@ -57,6 +59,7 @@ pub mod Handed
 pub mod HandedOver
 pub mod Kept
 pub mod KeptNames
+pub mod KeptOwned
 pub mod Knowing
 pub mod KnowingSystems
 pub mod LeastCells
@@ -75,10 +78,12 @@ pub mod Outer
 pub mod OwnCalls
 pub mod OwnCallsOfTables
 pub mod OwnNames
+pub mod OwnedParts
 pub mod Owning
 pub mod ParametersFit
 pub mod PermanentCells
 pub mod PermanentNames
+pub mod Permanents
 pub mod Placed
 pub mod Plain
 pub mod PlainInside
