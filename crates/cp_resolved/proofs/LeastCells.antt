@@ -16,7 +16,7 @@ use Rattle.cp_meaning.specs.Values.{Value, number_value, least_number, least, le
 use Rattle.cp_resolved.specs.Encoded.{encode, encode_all, encode_fields, AllHave, HasType, HaveTypes}
 use Rattle.cp_resolved.specs.InStep.{Numbering, range_on, TypeIs, FieldsAre}
 use Rattle.cp_resolved.specs.Layouts.{cells_of, cells_in}
-use Rattle.cp_resolved.specs.Standing.{is_bounded, is_free, are_free, is_element, is_standing}
+use Rattle.cp_resolved.specs.Standing.{is_bounded, is_indexed, are_few, is_free, are_free, is_element, is_standing}
 use Rattle.cp_resolved.specs.Valued.{IsFull, AreFull}
 use Rattle.cp_resolved.proofs.Cells.{capped, count_same, one_more, cells_same, fields_end}
 use Rattle.cp_resolved.proofs.Sizes.{Counted, fields_cells, cells_more}
@@ -43,8 +43,8 @@ mutual
   least_length (named.ordinal r) h = refl
   least_length named.queue_type h = refl
   least_length (named.set_over r) h = refl
-  least_length (named.array_over r t) h = copied_length (length_of_range r) (least t) ∙ ap (λ n. length_of_range r * n) (least_length t (right_true (is_bounded r) (is_free t) h))
-  least_length (named.record_with ts) h = fields_length ts h
+  least_length (named.array_over r t) h = copied_length (length_of_range r) (least t) ∙ ap (λ n. length_of_range r * n) (least_length t (right_true (is_indexed r t) (is_free t) h))
+  least_length (named.record_with ts) h = fields_length ts (right_true (are_few (cells_in ts)) (are_free ts) h)
   least_length (named.component_of n) h = absurd (let bad : false ≡ true = h in cc)
 
   fields_length : (ts : FieldTypes) → are_free ts ≡ true → length (encode_fields (least_fields ts)) ≡ cells_in ts
@@ -71,7 +71,7 @@ number_typed r h = go (int_lt r.low (negsuc 32766))
   where
     go : (b : Bool) → is_within (range_of_base r.base) (if b then pos 0 else r.low) ≡ true
     go true = zero_within r.base
-    go false = left_true (is_within (range_of_base r.base) r.low) (is_within (range_of_base r.base) r.high) h
+    go false = left_true (is_within (range_of_base r.base) r.low) (is_within (range_of_base r.base) r.high && int_le r.low r.high) h
 
 -- the result of a call begins with 0
 pub zero_typed : (r : Range) → HasType (named.ordinal r) (number_value (pos 0))
@@ -86,8 +86,8 @@ mutual
   least_typed (named.ordinal r) h = number_typed r h
   least_typed named.queue_type h = tt
   least_typed (named.set_over r) h = tt
-  least_typed (named.array_over r t) h = all_have (HasType t) (length_of_range r) (least t) (least_typed t (right_true (is_bounded r) (is_free t) h))
-  least_typed (named.record_with ts) h = fields_typed ts h
+  least_typed (named.array_over r t) h = all_have (HasType t) (length_of_range r) (least t) (least_typed t (right_true (is_indexed r t) (is_free t) h))
+  least_typed (named.record_with ts) h = fields_typed ts (right_true (are_few (cells_in ts)) (are_free ts) h)
   least_typed (named.component_of n) h = absurd (let bad : false ≡ true = h in cc)
 
   fields_typed : (ts : FieldTypes) → are_free ts ≡ true → HaveTypes ts (least_fields ts)
@@ -107,7 +107,7 @@ pub standing_typed : (t : Ty) → is_standing t ≡ true → has_components t �
 standing_typed (named.ordinal r) h w = least_typed (named.ordinal r) h
 standing_typed named.queue_type h w = tt
 standing_typed (named.set_over r) h w = tt
-standing_typed (named.array_over r t) h w = all_have (HasType t) (length_of_range r) (least t) (element_typed r t (right_true (is_bounded r) (is_element t) h) w)
+standing_typed (named.array_over r t) h w = all_have (HasType t) (length_of_range r) (least t) (element_typed r t (right_true (is_indexed r t) (is_element t) h) w)
 standing_typed (named.record_with ts) h w = least_typed (named.record_with ts) h
 standing_typed (named.component_of n) h w = absurd (let bad : true ≡ false = w in cc)
 
@@ -282,12 +282,12 @@ module _ (k : Numbering) (ts : Compounds) where
       least_same bound named.queue_type v h f few full r = absurd (let bad : false ≡ true = f in cc)
       least_same bound (named.set_over s) v h f few full r = ap (least_below ts bound) h
       least_same bound (named.array_over s t) v h f few full r =
-          let free : is_free t ≡ true = right_true (is_bounded s) (is_free t) f in
+          let free : is_free t ≡ true = right_true (is_indexed s t) (is_free t) f in
           let inner = least_same h.number t h.element h.belongs free (fewer (length_of_range s) (cells_of t) full.0 few) full.1 (element_reaches h.number s t h.element h.there h.belongs full.0 few) in
           ap (least_below ts bound) h.is ∙ array_least bound h.number s t h.element h.there f inner (subst (λ u. Reaches bound u (cells_of (named.array_over s t))) h.is r)
       least_same bound (named.record_with us) v h f few full r =
-          let inner = fields_same h.number us h.fields 0 h.cells h.each f few full (record_reaches h.number us h.fields h.cells h.there h.each few) in
-          ap (least_below ts bound) h.is ∙ record_least bound h.number us h.fields h.cells h.there f inner (subst (λ u. Reaches bound u (cells_of (named.record_with us))) h.is r)
+          let inner = fields_same h.number us h.fields 0 h.cells h.each (right_true (are_few (cells_in us)) (are_free us) f) few full (record_reaches h.number us h.fields h.cells h.there h.each few) in
+          ap (least_below ts bound) h.is ∙ record_least bound h.number us h.fields h.cells h.there (right_true (are_few (cells_in us)) (are_free us) f) inner (subst (λ u. Reaches bound u (cells_of (named.record_with us))) h.is r)
       least_same bound (named.component_of n) v h f few full r = absurd (let bad : false ≡ true = f in cc)
 
       fields_same : (n : ℕ) (us : FieldTypes) (fs : List Field) (from end : ℕ) → FieldsAre k ts us fs from end → are_free us ≡ true → cells_in us ≤ most → AreFull us → cells_in us ≤ fields_cells (take n ts) fs → fields_least (compound_below ts n) fs ≡ encode_fields (least_fields us)
