@@ -43,6 +43,7 @@ pub mod FormsOfTrees
 pub mod Going
 pub mod Grown
 pub mod Handed
+pub mod InsideViews
 pub mod Kept
 pub mod KeptNames
 pub mod Knowing
