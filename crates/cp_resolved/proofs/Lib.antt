@@ -43,6 +43,9 @@ pub mod FormsOfTrees
 pub mod Going
 pub mod Grown
 pub mod Handed
+pub mod InsideExpressions
+pub mod InsideForms
+pub mod InsidePlaces
 pub mod InsideViews
 pub mod Kept
 pub mod KeptNames
