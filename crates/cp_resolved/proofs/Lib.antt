@@ -47,6 +47,7 @@ pub mod InsideExpressions
 pub mod InsideForms
 pub mod InsidePlaces
 pub mod InsideViews
+pub mod ItemsMean
 pub mod Kept
 pub mod KeptNames
 pub mod Knowing
