@@ -16,6 +16,7 @@ pub mod ItemsStand
 pub mod Knows
 pub mod Layouts
 pub mod LayoutsKnow
+pub mod Meant
 pub mod Names
 pub mod Once
 pub mod Openings
