@@ -36,6 +36,7 @@ pub mod GivenUp
 pub mod Giving
 pub mod Handed
 pub mod Handing
+pub mod HoldsInReached
 pub mod InitialEnding
 pub mod InitialOpened
 pub mod InitialStarts
@@ -60,6 +61,10 @@ pub mod ProcessStarts
 pub mod QueueNames
 pub mod QueueParts
 pub mod QueueWriting
+pub mod ReachedCalls
+pub mod ReachedInside
+pub mod ReachedLines
+pub mod ReachedNames
 pub mod Reading
 pub mod Resumed
 pub mod Returning
