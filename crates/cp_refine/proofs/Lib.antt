@@ -36,6 +36,7 @@ pub mod GivenUp
 pub mod Giving
 pub mod Handed
 pub mod Handing
+pub mod HoldsInReached
 pub mod InitialEnding
 pub mod InitialOpened
 pub mod InitialStarts
@@ -60,7 +61,13 @@ pub mod ProcessStarts
 pub mod QueueNames
 pub mod QueueParts
 pub mod QueueWriting
+pub mod ReachedCalls
+pub mod ReachedInside
+pub mod ReachedKinds
+pub mod ReachedLines
+pub mod ReachedNames
 pub mod Reading
+pub mod ReadyInReached
 pub mod Resumed
 pub mod Returning
 pub mod Rewriting
