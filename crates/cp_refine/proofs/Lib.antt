@@ -27,13 +27,17 @@ pub mod CopyAssignments
 pub mod Counting
 pub mod Delayed
 pub mod Delaying
+pub mod DesignatedTypes
 pub mod Displaying
 pub mod Ending
+pub mod Executed
 pub mod Expressions
 pub mod FramesBelow
+pub mod FreeParts
 pub mod Gates
 pub mod GivenUp
 pub mod Giving
+pub mod Going
 pub mod Handed
 pub mod Handing
 pub mod InitialEnding
@@ -73,6 +77,8 @@ pub mod Sets
 pub mod Standards
 pub mod StartArguments
 pub mod StartNames
+pub mod StepOfStatement
+pub mod StepOfSuccessor
 pub mod Storing
 pub mod Turns
 pub mod Values

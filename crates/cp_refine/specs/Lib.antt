@@ -1,9 +1,12 @@
 pub mod Agrees
 pub mod Given
 pub mod InStep
+pub mod ItemsKnown
 pub mod Kinds
 pub mod Law
 pub mod Named
 pub mod PlainValues
+pub mod Prepared
 pub mod Remaining
 pub mod Represents
+pub mod StatesKnown
