@@ -44,6 +44,7 @@ pub mod InitialEnding
 pub mod InitialOpened
 pub mod InitialStarts
 pub mod Kept
+pub mod KindsKnown
 pub mod LeastValues
 pub mod LettingIn
 pub mod Lists
@@ -77,6 +78,7 @@ pub mod Sets
 pub mod Standards
 pub mod StartArguments
 pub mod StartNames
+pub mod StepOfEnd
 pub mod StepOfStatement
 pub mod StepOfSuccessor
 pub mod Storing

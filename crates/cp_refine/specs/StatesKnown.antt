@@ -5,7 +5,7 @@ use Rattle.cp_tree.specs.Syntax.{Program, Tree}
 use Rattle.cp_slots.specs.Tables.{Tables}
 use Rattle.cp_meaning.specs.Values.{is_member}
 use Rattle.cp_meaning.specs.Kernel.{line_of}
-use Rattle.cp_meaning.specs.State.{component_at, process_at, ready, at_gate, delayed, Call, current, Item, State, has_entry, is_entry_kind, is_inside}
+use Rattle.cp_meaning.specs.State.{component_at, process_at, ready, at_gate, delayed, Call, current, Item, State, has_entry, is_entry_kind, is_inside, has_init_end}
 use Rattle.cp_meaning.specs.Steps.{first_components}
 use Rattle.cp_machine.specs.Machine.{Machine, thread_at}
 use Rattle.cp_resolved.specs.Layouts.{Layouts, here}
@@ -29,6 +29,8 @@ pub record StateKnown (p : Program) (s : State) : Type 0 where
   pub free : (n q : ℕ) → s.pending ≡ Some n → q < length s.processes → is_inside n (process_at s.processes q) ≡ true → ⊥
   pub lines : (n q : ℕ) → is_member q (line_of s n) ≡ true → WaitsInLine s n q
   pub delayed : (n q : ℕ) → q < length s.processes → (process_at s.processes q).status ≡ delayed n → has_entry n (process_at s.processes q).calls ≡ true
+  -- an initial statement that is executed is that of a class or monitor
+  pub initial : (n q : ℕ) → q < length s.processes → has_init_end n (process_at s.processes q).items ≡ true → (component_at s.components n).kind ≡ system_kind.Process → ⊥
   -- a call is of a component whose type was declared before those of the components of the calls around it
   pub fresh : (n q : ℕ) → q < length s.processes → (process_at s.processes q).status ≡ ready → (component_at s.components n).system < (component_at s.components (current (process_at s.processes q).calls).component).system → has_entry n (process_at s.processes q).calls ≡ false
   pub once : (q : ℕ) (c : Call) (cs : List Call) → q < length s.processes → (process_at s.processes q).calls ≡ c ∷ cs → is_entry_kind c.kind ≡ true → has_entry c.component cs ≡ false
