@@ -13,7 +13,7 @@ use Rattle.cp_resolved.specs.Encoded.{Chosen, further_chosen, field_chosen, then
 use Rattle.cp_resolved.specs.Standing.{is_bounded, is_free, is_element, is_standing, IsFit, IsFreeResult}
 use Rattle.cp_resolved.proofs.StandingParts.{free_part, within_base}
 use Rattle.cp_resolved.proofs.Typing.{first_true, second_true}
-use Rattle.cp_refine.specs.Prepared.{has_good_sets, have_good_sets, HasGoodSets, NamesTyped}
+use Rattle.cp_refine.specs.GoodSets.{has_good_sets, have_good_sets, HasGoodSets}
 use Rattle.cp_refine.proofs.AnyAssignments.{RangeKnown}
 use Rattle.cp_refine.proofs.FreeParts.{free_standing, element_standing}
 
@@ -83,6 +83,13 @@ permanent_good h x (array_over r (record_with ts)) g = g
 result_good : (o : Option Ty) → IsFreeResult o → ((u : Ty) → o ≡ Some u → (r : Range) × (u ≡ ordinal r)) → IsGood (result_type o)
 result_good None free simple = (refl, refl)
 result_good (Some t) free simple = let r = simple t refl in (free_standing t free, ap has_good_sets r.1)
+
+-- the types that names have where the statements of a routine stand, and that of its result
+pub record NamesTyped (l : Layouts) (n : ℕ) : Type 0 where
+  pub fit : (x : Name) → IsFit (find x (l.meanings n).scope)
+  pub sets : (x : Name) → HasGoodSets (find x (l.meanings n).scope)
+  pub result : IsFreeResult (l.meanings n).result
+  pub simple : (u : Ty) → (l.meanings n).result ≡ Some u → (r : Range) × (u ≡ ordinal r)
 
 begun_good : (p : Program) (l : Layouts) (n : ℕ) (x : Name) → NamesTyped l n → FormGood (begun_form (here p l n) x (find x (l.meanings n).scope))
 begun_good p l n x known = go (find x (l.meanings n).scope) (known.fit x) (known.sets x)

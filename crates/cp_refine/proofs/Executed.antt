@@ -22,6 +22,7 @@ use Rattle.cp_refine.specs.Prepared.{Prepared}
 use Rattle.cp_refine.specs.Represents.{frames_of}
 use Rattle.cp_refine.proofs.Apart.{frame_apart, frames_apart, components_apart}
 use Rattle.cp_refine.proofs.BlockStores.{VariablesApart}
+use Rattle.cp_refine.proofs.DesignatedTypes.{NamesTyped}
 use Rattle.cp_refine.proofs.FreeParts.{unqueued_free}
 use Rattle.cp_refine.proofs.LocalBlocks.{CallsApart}
 use Rattle.cp_refine.proofs.Running.{Executes}
@@ -66,6 +67,11 @@ module _ (t : Tree) (r : Tables) (l : Layouts) (prepared : Prepared t r l) where
           few = record { permanents = few_permanents; cells = few_cells; references = few_references };
           numbered = λ k less. (let b = own_frame.references in let c = own_routine.references in let d = words.references in omega (arith, less, b, c, d));
         }
+
+    pub names_typed : NamesTyped l thread.frame.routine
+    names_typed =
+        let k = prepared.routines thread.frame.routine own_frame.routine in
+        record { fit = k.fit; sets = k.sets; result = k.result; simple = λ u e. prepared.results thread.frame.routine u e }
 
     -- a value of a type without queues is no part of a variable with queues
     pub variables_apart : (es : List Entry) → StackFits r thread.frame es → (u : Ty) → is_free u ≡ true → VariablesApart (ground_of t r) l m q es u

@@ -13,12 +13,14 @@ pub mod Blocks
 pub mod BlocksInCalls
 pub mod BlocksInComponents
 pub mod CallArguments
+pub mod CallFitting
 pub mod CallRuns
 pub mod CallSteps
 pub mod Calling
 pub mod Cases
 pub mod Choosing
 pub mod ComponentPlaces
+pub mod ComponentsNow
 pub mod ComponentsSeen
 pub mod ContinueSteps
 pub mod Continuing
@@ -32,6 +34,7 @@ pub mod Displaying
 pub mod Ending
 pub mod Executed
 pub mod Expressions
+pub mod Found
 pub mod FramesBelow
 pub mod FreeParts
 pub mod Gates
@@ -78,10 +81,12 @@ pub mod Sets
 pub mod Standards
 pub mod StartArguments
 pub mod StartNames
+pub mod StepOfCall
 pub mod StepOfEnd
 pub mod StepOfStatement
 pub mod StepOfSuccessor
 pub mod Storing
+pub mod SystemKinds
 pub mod Turns
 pub mod Values
 pub mod VariableExpressions

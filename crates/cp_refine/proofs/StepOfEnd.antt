@@ -57,7 +57,7 @@ module _ (t : Tree) (r : Tables) (l : Layouts) (prepared : Prepared t r l) (s : 
           fits = fits.each q k.many;
           few = few_cells t r l prepared m q fits k.many;
           routines = prepared.stands.routines;
-          simple = λ n u d. (prepared.names n).simple u d;
+          simple = prepared.results;
         }
 
     abbrev top : Call

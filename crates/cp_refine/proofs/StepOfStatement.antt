@@ -35,7 +35,7 @@ use Rattle.cp_refine.proofs.Control.{Taken, StepIs, goes, top_frame}
 use Rattle.cp_refine.proofs.Counting.{for_step, StoresIn}
 use Rattle.cp_refine.proofs.DesignatedTypes.{range_known, IsGood, designator_good, counted_good}
 use Rattle.cp_refine.proofs.Displaying.{FewConstants, display_step, own_display}
-use Rattle.cp_refine.proofs.Executed.{executes, variables_apart}
+use Rattle.cp_refine.proofs.Executed.{executes, names_typed, variables_apart}
 use Rattle.cp_refine.proofs.Expressions.{expression_ok}
 use Rattle.cp_refine.proofs.Loops.{if_else_step, while_step, until_step}
 use Rattle.cp_refine.proofs.Running.{Executes, frames_below, sees_now, test_agrees, if_runs}
@@ -91,7 +91,7 @@ module _ (t : Tree) (r : Tables) (l : Layouts) (prepared : Prepared t r l) (s : 
   assign_so token d e k known =
       assignment_runs g p l s m q at token d e mid es xs ys k ex
       (variables_apart t r l prepared m q fits many es (below_fits k.stack) k.own.ty (known k.own.place k.own.ty k.own.target))
-      (range_known k.own.ty (designator_good p l (thread_at m.threads q).frame.routine (prepared.names (thread_at m.threads q).frame.routine) d k.own.place k.own.ty k.own.target))
+      (range_known k.own.ty (designator_good p l (thread_at m.threads q).frame.routine (names_typed t r l prepared m q fits many) d k.own.place k.own.ty k.own.target))
 
   pub for_so : (token : ℕ) (i : Identifier) (e : Expression) (d : Direction) (f : Expression) (u : Statement) → Takes (statement_item (for_do token i e d f u)) → Steps token
   for_so token i e d f u k =
@@ -101,7 +101,7 @@ module _ (t : Tree) (r : Tables) (l : Layouts) (prepared : Prepared t r l) (s : 
       ((thread_at m.threads q).frame ∷ frames_below g p l s m q at (statement_item (for_do token i e d f u)) mid es xs ys k ex) (top_frame (thread_at m.threads q).frame es).1 place a there)
     where
       good : IsGood (ordinal k.own.range)
-      good = counted_good p l (thread_at m.threads q).frame.routine (prepared.names (thread_at m.threads q).frame.routine) i.name (code.place k.own.origin 0 code.no_indices) (ordinal k.own.range) k.own.variable
+      good = counted_good p l (thread_at m.threads q).frame.routine (names_typed t r l prepared m q fits many) i.name (code.place k.own.origin 0 code.no_indices) (ordinal k.own.range) k.own.variable
 
   -- ---- what is displayed
 

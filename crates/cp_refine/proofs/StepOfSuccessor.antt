@@ -24,7 +24,7 @@ use Rattle.cp_refine.specs.Represents.{StackIs, CallsHold, own_memory, frames_of
 use Rattle.cp_refine.proofs.Control.{Goes, StepIs, top_frame}
 use Rattle.cp_refine.proofs.Counting.{next_step}
 use Rattle.cp_refine.proofs.DesignatedTypes.{range_known, IsGood, counted_good}
-use Rattle.cp_refine.proofs.Executed.{executes, variables_apart}
+use Rattle.cp_refine.proofs.Executed.{executes, names_typed, variables_apart}
 use Rattle.cp_refine.proofs.Going.{Going}
 use Rattle.cp_refine.proofs.Reading.{AllLie}
 use Rattle.cp_refine.proofs.Running.{Executes, all_lie}
@@ -73,4 +73,4 @@ module _ (t : Tree) (r : Tables) (l : Layouts) (prepared : Prepared t r l) (s : 
           }
 
       good : IsGood (ordinal turn.item.range)
-      good = counted_good p l (thread_at m.threads q).frame.routine (prepared.names (thread_at m.threads q).frame.routine) turn.name.name (code.place turn.item.origin 0 code.no_indices) (ordinal turn.item.range) turn.item.variable
+      good = counted_good p l (thread_at m.threads q).frame.routine (names_typed t r l prepared m q fits k.many) turn.name.name (code.place turn.item.origin 0 code.no_indices) (ordinal turn.item.range) turn.item.variable
