@@ -43,6 +43,7 @@ pub mod Giving
 pub mod Going
 pub mod Handed
 pub mod Handing
+pub mod HoldsInReached
 pub mod InitialEnding
 pub mod InitialOpened
 pub mod InitialStarts
@@ -68,6 +69,10 @@ pub mod ProcessStarts
 pub mod QueueNames
 pub mod QueueParts
 pub mod QueueWriting
+pub mod ReachedCalls
+pub mod ReachedInside
+pub mod ReachedLines
+pub mod ReachedNames
 pub mod Reading
 pub mod Resumed
 pub mod Returning
