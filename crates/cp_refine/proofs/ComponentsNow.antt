@@ -1,5 +1,5 @@
 -- The names of components at a process that runs: they stand for the components of the tables, since its own component has begun.
-use Rattle.std.proofs.Common.{◌≡◌, ◌∙◌, ℕ, zero, suc, ◌+◌, ◌^◌, ◌<◌, ◌≤◌, Bool, true, false, if◌then◌else◌, List, [], ◌∷◌, ap, sym, refl, subst, arith, length}
+use Rattle.std.proofs.Common.{◌≡◌, ◌∙◌, ℕ, ◌+◌, ◌^◌, ◌<◌, ◌≤◌, true, false, List, ap, sym, refl, subst, arith, length}
 use Rattle.cp_tree.specs.Syntax.{Tree, Program}
 use Rattle.cp_slots.specs.declared.tables.ComponentKind.{ComponentKind}
 use Rattle.cp_slots.specs.declared.tables.ComponentKind.TheVariants as kind
@@ -11,32 +11,22 @@ use Rattle.cp_machine.specs.Machine.{Machine, thread_at, phase_at, is_uninitiali
 use Rattle.cp_machine.specs.Reach.{Reaches, FrameReaches, ExecutesAs}
 use Rattle.cp_machine.proofs.Covered.{frame_reaches}
 use Rattle.cp_machine.proofs.ExecutingSteps.{top_executes}
-use Rattle.cp_meaning.specs.Components.{Path, same_path}
 use Rattle.cp_meaning.specs.Names.{Name}
-use Rattle.cp_meaning.specs.Places.{component_with}
 use Rattle.cp_meaning.specs.State as named
-use Rattle.cp_meaning.specs.State.{unstarted, ready, uninitialised, initialising, initialised, Component, ComponentStatus, State}
-use Rattle.cp_meaning.specs.Steps.{view_of, first_components}
+use Rattle.cp_meaning.specs.State.{unstarted, ready, uninitialised, initialising, initialised, ComponentStatus, State}
+use Rattle.cp_meaning.specs.Steps.{view_of}
 use Rattle.cp_resolved.specs.Layouts.{Layouts, here}
 use Rattle.cp_resolved.specs.Stands.{Ground}
 use Rattle.cp_refine.specs.ComponentNames.{NamesKnown}
 use Rattle.cp_refine.specs.Law.{ground_of}
 use Rattle.cp_refine.specs.Prepared.{Prepared}
 use Rattle.cp_refine.specs.Represents.{PhaseIs, HasBegun, CallsHold, own_memory}
-use Rattle.cp_refine.specs.StatesKnown.{StateKnown}
 use Rattle.cp_refine.proofs.ComponentPlaces.{ComponentsKnown}
 use Rattle.cp_refine.proofs.ComponentsSeen.{components_known}
 use Rattle.cp_refine.proofs.Control.{top_frame}
 use Rattle.cp_refine.proofs.Executed.{own_frame}
 use Rattle.cp_refine.proofs.Going.{Going}
-
--- components with the same paths are found by the same paths
-tree_same : (path : Path) (cs ds : List Component) → length cs ≡ length ds → ((n : ℕ) → (named.component_at cs n).path ≡ (named.component_at ds n).path) → component_with path cs ≡ component_with path ds
-tree_same path [] [] e h = refl
-tree_same path [] (d ∷ ds) e h = absurd (omega (arith, e))
-tree_same path (c ∷ cs) [] e h = absurd (omega (arith, e))
-tree_same path (c ∷ cs) (d ∷ ds) e h =
-    ap (λ (w : Path). if same_path path w then 0 else suc (component_with path cs)) (h 0) ∙ ap (λ n. if same_path path d.path then 0 else suc n) (tree_same path cs ds (omega (arith, e)) (λ n. h (suc n)))
+use Rattle.cp_refine.proofs.HoldsInReached.{HoldsInReached}
 
 has_begun : (s : State) (m : Machine) (q component : ℕ) (c : ComponentKind) (u : ComponentStatus) (f : Phase) → (named.process_at s.processes q).status ≡ ready → PhaseIs c u f → phase_at m component ≡ f → ExecutesAs m q component c → HasBegun s c u
 has_begun s m q component (kind.Process j) u f was h e x = λ w. (let same : (named.process_at s.processes j).status ≡ ready = ap (λ n. (named.process_at s.processes n).status) x ∙ was in let bad : unstarted ≡ ready = sym w ∙ same in absurd cc)
@@ -49,7 +39,7 @@ has_begun s m q component kind.Class initialised f was h e x = tt
 has_begun s m q component kind.Class uninitialised phase.Uninitialised was h e x = absurd (let bad : true ≡ false = ap is_uninitialised (sym e) ∙ x in cc)
 has_begun s m q component kind.Class uninitialised f was h e x = absurd h
 
-module _ (t : Tree) (r : Tables) (l : Layouts) (prepared : Prepared t r l) (s : State) (known : StateKnown t.program s) (m : Machine) (fits : MachineFits r m) (reach : Reaches r m) (q : ℕ) (k : Going (ground_of t r) t.program l s m q) where
+module _ (t : Tree) (r : Tables) (l : Layouts) (prepared : Prepared t r l) (s : State) (known : HoldsInReached t.program s) (m : Machine) (fits : MachineFits r m) (reach : Reaches r m) (q : ℕ) (k : Going (ground_of t r) t.program l s m q) where
   abbrev g : Ground
   g = ground_of t r
 
@@ -89,6 +79,6 @@ module _ (t : Tree) (r : Tables) (l : Layouts) (prepared : Prepared t r l) (s : 
       components_known g p l s m k.rep (named.process_at s.processes q).calls (thread_at m.threads q).frame top.0 (own_memory (thread_at m.threads q))
       (subst (λ fs. CallsHold r l (own_memory (thread_at m.threads q)) (named.process_at s.processes q).calls fs) top.1 k.calls)
       (prepared.stands.components executed executed_there)
-      (λ path. tree_same path s.components (first_components p) known.count known.paths) (known.paths executed)
+      known.found (known.path executed)
       (let a = k.rep.component_count in let b = prepared.sound.typed.words.components in omega (arith, a, b)) slots_few begun_now
       (subst (λ n. NamesKnown p l (thread_at m.threads q).frame.routine n) (sym executed_system) (prepared.routines (thread_at m.threads q).frame.routine (own_frame t r l prepared m q fits k.many).routine).components)

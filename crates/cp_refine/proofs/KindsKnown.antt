@@ -18,7 +18,7 @@ use Rattle.cp_meaning.specs.Kernel as meaning
 use Rattle.cp_meaning.specs.Readings.{monitors_of}
 use Rattle.cp_meaning.specs.Values.{is_member}
 use Rattle.cp_meaning.specs.State as named
-use Rattle.cp_meaning.specs.State.{first_gates, ready, Status, State, callers, has_entry, is_inside, waits_at}
+use Rattle.cp_meaning.specs.State.{first_gates, ready, State, callers, current, has_entry, is_inside}
 use Rattle.cp_meaning.specs.Steps.{opening, first_components}
 use Rattle.cp_resolved.specs.Layouts.{Layouts}
 use Rattle.cp_resolved.specs.Resolved as resolved
@@ -26,9 +26,10 @@ use Rattle.cp_resolved.specs.Stands.{Ground}
 use Rattle.cp_refine.specs.Kinds.{SameKind, KindsAgree}
 use Rattle.cp_refine.specs.Law.{ground_of}
 use Rattle.cp_refine.specs.Prepared.{Prepared}
-use Rattle.cp_refine.specs.StatesKnown.{WaitsInLine, StateKnown}
 use Rattle.cp_refine.proofs.Gates.{OwnNumbers, OthersOutside}
+use Rattle.cp_refine.proofs.HoldsInReached.{HoldsInReached}
 use Rattle.cp_refine.proofs.LettingIn.{FirstWaits}
+use Rattle.cp_refine.proofs.ReachedLines.{WaitsAtGate}
 use Rattle.cp_refine.proofs.Returning.{MayLeave}
 
 -- ---- kinds
@@ -73,9 +74,9 @@ module _ (t : Tree) (r : Tables) (l : Layouts) (prepared : Prepared t r l) where
   pub monitor_inside : (n j : ℕ) → (component_at r n).kind ≡ kind.Monitor j → n < length r.components
   monitor_inside n j e = monitor_there r.components n j e
 
-  module _ (s : State) (known : StateKnown t.program s) where
+  module _ (s : State) (known : HoldsInReached t.program s) where
     pub kinds_agree : KindsAgree r s
-    kinds_agree n h = subst (λ (a : SystemKind). SameKind a (component_at r n).kind) (sym (known.kinds n)) (same_kind r t.program n (named.component_at (first_components t.program) n).kind (component_at r n).kind (prepared.stands.components n h).kind)
+    kinds_agree n h = subst (λ (a : SystemKind). SameKind a (component_at r n).kind) (sym (known.kind n)) (same_kind r t.program n (named.component_at (first_components t.program) n).kind (component_at r n).kind (prepared.stands.components n h).kind)
 
     pub monitor_named : (n j : ℕ) → (component_at r n).kind ≡ kind.Monitor j → (named.component_at s.components n).kind ≡ system_kind.Monitor
     monitor_named n j e = is_monitor (named.component_at s.components n).kind j (subst (SameKind (named.component_at s.components n).kind) e (kinds_agree n (monitor_inside n j e)))
@@ -83,29 +84,25 @@ module _ (t : Tree) (r : Tables) (l : Layouts) (prepared : Prepared t r l) where
     -- ---- a process inside a monitor
 
     pub first_waits : (n : ℕ) → FirstWaits s n (meaning.line_of s n)
-    first_waits n = go (meaning.line_of s n) (λ q h. known.lines n q h)
+    first_waits n = go (meaning.line_of s n) (λ q h. known.line n q h)
       where
-        go : (line : List ℕ) → ((q : ℕ) → is_member q line ≡ true → WaitsInLine s n q) → FirstWaits s n line
+        go : (line : List ℕ) → ((q : ℕ) → is_member q line ≡ true → WaitsAtGate s n q) → FirstWaits s n line
         go [] each = tt
-        go (q ∷ line) each = let w = each q (ap (λ b. b || is_member q line) (eq-eqb q q refl)) in (w.there, w.waits, w.called)
+        go (q ∷ line) each = let w = each q (ap (λ b. b || is_member q line) (eq-eqb q q refl)) in (w.there, w.status, w.called)
 
-    inside_now : (n q : ℕ) → (named.process_at s.processes q).status ≡ ready → has_entry n (named.process_at s.processes q).calls ≡ true → is_inside n (named.process_at s.processes q) ≡ true
-    inside_now n q was entered = ap (λ b. b && not (waits_at n (named.process_at s.processes q).status)) entered ∙ ap (λ (u : Status). not (waits_at n u)) was
+    -- no other process is inside of the monitor that a process executes in
+    pub others_outside : (n j q : ℕ) → (component_at r n).kind ≡ kind.Monitor j → q < length s.processes → (named.process_at s.processes q).status ≡ ready → (current (named.process_at s.processes q).calls).component ≡ n → OthersOutside n q s.processes
+    others_outside n j q is there was same k less other =
+        subst (λ i. is_inside i (named.process_at s.processes k) ≡ false) same
+        (known.alone q there was (subst (λ i. (named.component_at s.components i).kind ≡ system_kind.Monitor) (sym same) (monitor_named n j is)) k less other)
 
-    pub others_outside : (n j q : ℕ) → (component_at r n).kind ≡ kind.Monitor j → q < length s.processes → (named.process_at s.processes q).status ≡ ready → has_entry n (named.process_at s.processes q).calls ≡ true → OthersOutside n q s.processes
-    others_outside n j q is there was entered k less other = go (is_inside n (named.process_at s.processes k)) refl
-      where
-        go : (b : Bool) → is_inside n (named.process_at s.processes k) ≡ b → is_inside n (named.process_at s.processes k) ≡ false
-        go false e = e
-        go true e = absurd (other (known.exclusive n k q (monitor_named n j is) less there e (inside_now n q was entered)))
-
-    pub may_leave : (m : Machine) → MachineFits r m → (n j q : ℕ) → (component_at r n).kind ≡ kind.Monitor j → q < length s.processes → (named.process_at s.processes q).status ≡ ready → has_entry n (named.process_at s.processes q).calls ≡ true →
+    pub may_leave : (m : Machine) → MachineFits r m → (n j q : ℕ) → (component_at r n).kind ≡ kind.Monitor j → q < length s.processes → (named.process_at s.processes q).status ≡ ready → (current (named.process_at s.processes q).calls).component ≡ n →
         has_entry n (callers (named.process_at s.processes q).calls) ≡ false → MayLeave (ground_of t r) s m q n
-    may_leave m fits n j q is there was entered out =
+    may_leave m fits n j q is there was same out =
         record {
           own = own_numbers;
           known = λ i e. monitor_known m fits n i e;
-          exclusive = others_outside n j q is there was entered;
+          exclusive = others_outside n j q is there was same;
           once = out;
           line = first_waits n;
         }

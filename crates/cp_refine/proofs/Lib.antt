@@ -88,6 +88,7 @@ pub mod StartArguments
 pub mod StartNames
 pub mod StepOfCall
 pub mod StepOfEnd
+pub mod StepOfQueue
 pub mod StepOfStatement
 pub mod StepOfSuccessor
 pub mod Storing

@@ -1,7 +1,7 @@
 -- The step of a call, of a function or as a statement: it goes on slots as on names.
 use Rattle.std.proofs.Common.{◌≡◌, ◌∙◌, ℕ, ◌<◌, true, false, List, [], ◌∷◌, ◌++◌, Option, Some, None, ap, sym, refl, subst, length}
 use Rattle.std.specs.Global.{Global}
-use Rattle.std.specs.Prelude.{Bool, Vec, map, slice_index}
+use Rattle.std.specs.Prelude.{Bool, Result, Ok, Err, Vec, map, slice_index}
 use Rattle.cp_tree.specs.Syntax.{Tree, Program, Expression, Expressions, no_expressions, more_expressions, Designator, invoke}
 use Rattle.cp_slots.specs.Code as code
 use Rattle.cp_slots.specs.declared.item.Action.{Action}
@@ -18,12 +18,16 @@ use Rattle.cp_machine.specs.Machine.{Machine, thread_at}
 use Rattle.cp_machine.specs.Memory.{component_of}
 use Rattle.cp_machine.specs.Reach.{Reaches}
 use Rattle.cp_machine.specs.Step.{step_at}
+use Rattle.cp_store.specs.declared.error.ErrorName as slots
 use Rattle.cp_meaning.specs.Names.{Name, temporary}
+use Rattle.cp_meaning.specs.Outcome.{Outcome, ErrorName}
+use Rattle.cp_meaning.specs.Places.{Target, component_there}
+use Rattle.cp_tree.specs.declared.declaration.SystemKind.TheVariants as system_kind
 use Rattle.cp_meaning.specs.Declarations.{Parameter, RoutineMeaning}
 use Rattle.cp_meaning.specs.Expressions.{name_of, target_value}
 use Rattle.cp_meaning.specs.Scopes.{Meaning, constant_meaning, type_meaning, local_variable, permanent_variable, routine_meaning, standard_meaning, find}
 use Rattle.cp_meaning.specs.State as named
-use Rattle.cp_meaning.specs.State.{current, Item, statement_item, function_call, State, has_entry}
+use Rattle.cp_meaning.specs.State.{Place, Item, statement_item, function_call, State, has_entry}
 use Rattle.cp_meaning.specs.Steps.{view_of, step_of}
 use Rattle.cp_meaning.specs.Systems.{system_of}
 use Rattle.cp_meaning.specs.Types as types
@@ -38,23 +42,22 @@ use Rattle.cp_refine.specs.ItemsKnown.{VariablesGiven, CallIsKnown}
 use Rattle.cp_refine.specs.Law.{ground_of}
 use Rattle.cp_refine.specs.Parameters.{HaveValues}
 use Rattle.cp_refine.specs.Prepared.{Prepared}
-use Rattle.cp_refine.specs.Represents.{CallsHold, own_memory}
-use Rattle.cp_refine.specs.StatesKnown.{StateKnown}
 use Rattle.cp_refine.proofs.Arguments.{ArgumentsKnown, IsNoComponent}
 use Rattle.cp_refine.proofs.CallFitting.{can_call}
 use Rattle.cp_refine.proofs.CallRuns.{CallFits, function_runs, invoke_runs}
-use Rattle.cp_refine.proofs.CallSteps.{is_call, call_component, IsFound, EntryKnown, NoStandard, scope_name, call_item}
-use Rattle.cp_refine.proofs.ComponentsNow.{reaches_own, components_now, executed_system}
-use Rattle.cp_refine.proofs.Control.{Taken, StepIs, top_frame}
+use Rattle.cp_refine.proofs.CallSteps.{is_call, IsFound, EntryKnown, NoStandard, scope_name, call_item}
+use Rattle.cp_refine.proofs.ComponentsNow.{components_now}
+use Rattle.cp_refine.proofs.Control.{Taken, StepIs}
 use Rattle.cp_refine.proofs.DesignatedTypes.{range_known}
 use Rattle.cp_refine.proofs.Executed.{executes}
 use Rattle.cp_refine.proofs.Found.{action_fits_here, action_names, found_of}
 use Rattle.cp_refine.proofs.FreeParts.{free_standing}
 use Rattle.cp_refine.proofs.Going.{Going}
-use Rattle.cp_refine.proofs.KindsKnown.{kinds_agree, own_numbers, monitor_known, monitor_inside}
+use Rattle.cp_refine.proofs.HoldsInReached.{HoldsInReached}
+use Rattle.cp_refine.proofs.KindsKnown.{kinds_agree, own_numbers, monitor_known, monitor_named}
 use Rattle.cp_refine.proofs.Running.{Executes}
 use Rattle.cp_refine.proofs.StepOfStatement.{below_fits}
-use Rattle.cp_refine.proofs.SystemKinds.{system_same, process_type}
+use Rattle.cp_refine.proofs.SystemKinds.{process_type}
 
 no_component : (u : Ty) → is_free u ≡ true → IsNoComponent u
 no_component (types.component_of k) h = absurd (cc)
@@ -80,7 +83,7 @@ entry_named h d (Some (permanent_variable u)) part b number c e = c.0
 entry_named h d (Some (standard_meaning u)) part b number c e = c.0
 entry_named h d None part b number c e = c.0
 
-module _ (t : Tree) (r : Tables) (l : Layouts) (prepared : Prepared t r l) (s : State) (known : StateKnown t.program s) (m : Machine) (fits : MachineFits r m) (reach : Reaches r m) (q : ℕ) (going : Going (ground_of t r) t.program l s m q) (at : ℕ) (mid : Option ℕ) (es : List Entry) (xs ys : List Item) where
+module _ (t : Tree) (r : Tables) (l : Layouts) (prepared : Prepared t r l) (s : State) (known : HoldsInReached t.program s) (m : Machine) (fits : MachineFits r m) (reach : Reaches r m) (q : ℕ) (going : Going (ground_of t r) t.program l s m q) (at : ℕ) (mid : Option ℕ) (es : List Entry) (xs ys : List Item) where
   abbrev g : Ground
   g = ground_of t r
 
@@ -111,11 +114,6 @@ module _ (t : Tree) (r : Tables) (l : Layouts) (prepared : Prepared t r l) (s : 
     found_system : (n : ℕ) → IsFound g p l s m q at token i mid es xs ys k d args o ci n → (component_at r n).system ≡ l.owners ci.number
     found_system n f = (found n f).1 ∙ (prepared.stands.routines ci.number room.routine).system
 
-    current_component : (current (named.process_at s.processes q).calls).component ≡ (thread_at m.threads q).frame.component
-    current_component =
-        let top = top_frame (thread_at m.threads q).frame es in
-        call_component r l (own_memory (thread_at m.threads q)) (named.process_at s.processes q).calls (thread_at m.threads q).frame top.0 (subst (λ fs. CallsHold r l (own_memory (thread_at m.threads q)) (named.process_at s.processes q).calls fs) top.1 k.calls)
-
     entry_known : ci.is_entry ≡ true → ((place : ComponentPlace) → code.component_seen place ≡ ci.part → ComponentAgrees (view_of p s q) (target_value (view_of p s q) d) (component_of m q place)) → EntryKnown g p l s m q at token i mid es xs ys k d args o ci
     entry_known is agrees =
         let called = entry_named this d (find (name_of d) this.scope) ci.part ci.is_entry ci.number ci.called.callee is in
@@ -125,17 +123,27 @@ module _ (t : Tree) (r : Tables) (l : Layouts) (prepared : Prepared t r l) (s : 
           entries = λ n j f e. rules.entries ci.part (l.owners ci.number) called (ap (λ a. (system_of p a).kind) (sym (found_system n f)) ∙ process_type t r l prepared s known n (found n f).0 j e);
           own = own_numbers t r l prepared;
           known = λ n j e. monitor_known t r l prepared m fits n j e;
-          fresh = λ n j f e. known.fresh n q going.there going.was (earlier n f called);
+          fresh = fresh_there;
         }
       where
-        earlier : (n : ℕ) → IsFound g p l s m q at token i mid es xs ys k d args o ci n → designator_form this d ≡ Some (a_component ci.part (l.owners ci.number)) →
-            (named.component_at s.components n).system < (named.component_at s.components (current (named.process_at s.processes q).calls).component).system
-        earlier n f called =
-            let own = reaches_own t r l prepared s known m fits reach q going in
-            let mine : (named.component_at s.components (current (named.process_at s.processes q).calls).component).system ≡ l.owners (thread_at m.threads q).frame.routine =
-            ap (λ c. (named.component_at s.components c).system) current_component ∙ (system_same t r l prepared s known (thread_at m.threads q).frame.component own.component.0 ∙ executed_system t r l prepared s known m fits reach q going) in
-            let theirs : (named.component_at s.components n).system ≡ l.owners ci.number = system_same t r l prepared s known n (found n f).0 ∙ found_system n f in
-            subst (λ a. a < (named.component_at s.components (current (named.process_at s.processes q).calls).component).system) (sym theirs) (subst (λ a. l.owners ci.number < a) (sym mine) (rules.earlier ci.part (l.owners ci.number) called))
+        -- what the name leads to on names
+        led : (n : ℕ) (o : Outcome Target) (b : Result ℕ slots.ErrorName) → b ≡ Ok n → ComponentAgrees (view_of p s q) o b → (x : Place) × (component_there (view_of p s q) x ≡ n)
+        led n (Ok u) (Ok c) e h = (u.place, h ∙ (cc))
+        led n (Ok u) (Err d) e h = absurd h
+        led n (Err d) b e h = absurd (no_error n d b e h)
+          where
+            no_error : (n : ℕ) (d : ErrorName) (b : Result ℕ slots.ErrorName) → b ≡ Ok n → ComponentAgrees (view_of p s q) (Err d) b → ⊥
+            no_error n d (Ok c) e h = h
+            no_error n d (Err c) e h = cc
+
+        fresh_there : (n j : ℕ) → IsFound g p l s m q at token i mid es xs ys k d args o ci n → (component_at r n).kind ≡ kind.Monitor j → has_entry n (named.process_at s.processes q).calls ≡ false
+        fresh_there n j f e =
+            let x = led n (target_value (view_of p s q) d) (component_of m q f.0) f.2 (agrees f.0 f.1) in
+            subst (λ c. has_entry c (named.process_at s.processes q).calls ≡ false) x.1
+            (known.fresh q x.0 going.there going.was (λ b. no_process j (subst (λ c. (named.component_at s.components c).kind ≡ system_kind.Process) x.1 b)))
+          where
+            no_process : (j : ℕ) → (named.component_at s.components n).kind ≡ system_kind.Process → ⊥
+            no_process i b = let bad : system_kind.Process ≡ system_kind.Monitor = sym b ∙ monitor_named t r l prepared s known n j e in absurd cc
 
     call_fits : CallFits g p l s m q at token i mid es xs ys k ex d args o ci
     call_fits =

@@ -26,9 +26,8 @@ VariablesGiven h (q ∷ qs) (more_expressions e es) = (q.is_var ≡ true → (d 
 
 pub record CallIsKnown (h : Here) (d : Designator) (es : Expressions) : Type 0 where
   pub variables : (number : ℕ) → routine_called h.program h.scope d ≡ Some (h.layouts.meanings number) → VariablesGiven h (h.layouts.meanings number).parameters es
-  -- an entry is one of a class or monitor, of a type that was declared before
+  -- an entry is one of a class or monitor
   pub entries : (part : code.ComponentPlace) (k : ℕ) → designator_form h d ≡ Some (a_component part k) → (system_of h.program k).kind ≡ system_kind.Process → ⊥
-  pub earlier : (part : code.ComponentPlace) (k : ℕ) → designator_form h d ≡ Some (a_component part k) → k < h.system
 
 -- ---- statements
 
@@ -52,10 +51,14 @@ pub record QueueKnown (h : Here) (e : Expression) : Type 0 where
   pub permanent : find (name_of designator) h.scope ≡ Some (permanent_variable ty)
   pub monitor : (system_of h.program h.system).kind ≡ system_kind.Monitor
 
+-- `continue` stands in a procedure
+abbrev pub ContinueKnown : Here → Expression → Type 0
+ContinueKnown h e = QueueKnown h e × ((h.layouts.meanings h.routine).result ≡ None)
+
 abbrev pub InvokeKnown : Ground → Here → Option Meaning → Designator → Expressions → Type 0
 InvokeKnown g h (Some (standard_meaning display_procedure)) d (more_expressions e es) = DisplayKnown g h e
 InvokeKnown g h (Some (standard_meaning delay_procedure)) d (more_expressions e es) = QueueKnown h e
-InvokeKnown g h (Some (standard_meaning continue_procedure)) d (more_expressions e es) = QueueKnown h e
+InvokeKnown g h (Some (standard_meaning continue_procedure)) d (more_expressions e es) = ContinueKnown h e
 InvokeKnown g h w d es = CallIsKnown h d es
 
 abbrev pub StatementKnown : Ground → Here → Statement → Type 0
