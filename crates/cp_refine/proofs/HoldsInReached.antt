@@ -45,6 +45,7 @@ pub record HoldsInReached (p : Program) (s : State) : Type 0 where
   pub open_call : (q : ℕ) → q < length s.processes → ((process_at s.processes q).status ≡ unstarted → ⊥) → (c : Call) × (cs : List Call) × ((process_at s.processes q).calls ≡ c ∷ cs)
   pub once : (q : ℕ) (c : Call) (cs : List Call) → q < length s.processes → (process_at s.processes q).calls ≡ c ∷ cs → c.kind ≡ entry_routine → has_entry c.component cs ≡ false
   pub fresh : (q : ℕ) (x : Place) → q < length s.processes → (process_at s.processes q).status ≡ ready → (IsProcess s (component_there (view_of p s q) x) → ⊥) → has_entry (component_there (view_of p s q) x) (process_at s.processes q).calls ≡ false
+  pub within : (q : ℕ) (c : Call) (cs : List Call) → q < length s.processes → (process_at s.processes q).calls ≡ c ∷ cs → c.component < length s.components
   -- what is executed in a process is executed by that process, and is neither an entry nor started by another
   pub own : (q : ℕ) (c : Call) (cs : List Call) → q < length s.processes → (process_at s.processes q).calls ≡ c ∷ cs → IsProcess s c.component → c.component ≡ (process_at s.processes q).component
   pub outer : (q : ℕ) (c : Call) (cs : List Call) → q < length s.processes → (process_at s.processes q).calls ≡ c ∷ cs → IsOuterKind c.kind → IsProcess s c.component → ⊥
@@ -156,6 +157,7 @@ module _ (p : Program) (ok : IsWellFormed p) (g : Gates) (s : State) (before : I
         open_call = some_call s state;
         once = λ q c calls less e k. one_entry cs c.component calls (subst (λ w. Descends cs ((w, c.component) ∷ frames calls)) k (descends q c calls less e));
         fresh = names_fresh;
+        within = within;
         own = own_process;
         outer = no_process;
         begun = has_begun;

@@ -71,9 +71,11 @@ pub mod QueueParts
 pub mod QueueWriting
 pub mod ReachedCalls
 pub mod ReachedInside
+pub mod ReachedKinds
 pub mod ReachedLines
 pub mod ReachedNames
 pub mod Reading
+pub mod ReadyInReached
 pub mod Resumed
 pub mod Returning
 pub mod Rewriting
