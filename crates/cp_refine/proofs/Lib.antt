@@ -87,6 +87,7 @@ pub mod SetRanges
 pub mod Sets
 pub mod Standards
 pub mod StartArguments
+pub mod StartFitting
 pub mod StartNames
 pub mod StepOfCall
 pub mod StepOfEnd

@@ -1,14 +1,14 @@
 -- What the rules of the language say of an item that a process does next, in the routine in which it stands.
-use Rattle.std.specs.Prelude.{◌≡◌, ℕ, ◌+◌, ◌-◌, ◌<◌, true, false, List, [], ◌∷◌, length, Option, Some, None}
+use Rattle.std.specs.Prelude.{◌≡◌, ℕ, ◌+◌, ◌-◌, ◌<◌, ◌≤◌, true, false, List, [], ◌∷◌, length, Option, Some, None}
 use Rattle.cp_tree.specs.declared.declaration.SystemKind.TheVariants as system_kind
-use Rattle.cp_tree.specs.Syntax.{Expression, Expressions, no_expressions, more_expressions, Designator, Statement, assign, invoke}
+use Rattle.cp_tree.specs.Syntax.{Expression, Expressions, no_expressions, more_expressions, Designator, Start, Statement, assign, invoke}
 use Rattle.cp_slots.specs.Code as code
 use Rattle.cp_meaning.specs.Names.{Name}
 use Rattle.cp_meaning.specs.Types.{Base, enumerated, Range, Ty, ordinal}
 use Rattle.cp_meaning.specs.Scopes.{Meaning, standard_meaning, permanent_variable, delay_procedure, continue_procedure, display_procedure, find}
 use Rattle.cp_meaning.specs.Declarations.{Parameter}
-use Rattle.cp_meaning.specs.Systems.{system_of}
-use Rattle.cp_meaning.specs.State.{Item, statement_item, function_call}
+use Rattle.cp_meaning.specs.Systems.{system_of, program_system}
+use Rattle.cp_meaning.specs.State.{Item, statement_item, function_call, start_item}
 use Rattle.cp_meaning.specs.Lifting.{is_call}
 use Rattle.cp_meaning.specs.Expressions.{name_of, routine_called, variable_in}
 use Rattle.cp_resolved.specs.Layouts.{Here}
@@ -66,9 +66,14 @@ StatementKnown g h (assign at d e) = AssignKnown h d
 StatementKnown g h (invoke at d es) = InvokeKnown g h (find (name_of d) h.scope) d es
 StatementKnown g h t = Unit {0}
 
+-- what is started is of one of the system types
+abbrev pub StartKnown : Here → Start → Type 0
+StartKnown h t = (part : code.ComponentPlace) (k : ℕ) → designator_form h t.target ≡ Some (a_component part k) → k ≤ program_system h.program
+
 -- ---- items
 
 abbrev pub ItemKnown : Ground → Here → Item → Type 0
 ItemKnown g h (statement_item t) = StatementKnown g h t
 ItemKnown g h (function_call at d es) = CallIsKnown h d es
+ItemKnown g h (start_item t) = StartKnown h t
 ItemKnown g h i = Unit {0}
