@@ -25,12 +25,12 @@ use Rattle.cp_meaning.specs.Steps.{parameter_variables}
 use Rattle.cp_resolved.specs.Declared.{own_variables, IsVisible}
 use Rattle.cp_resolved.specs.Encoded.{encode}
 use Rattle.cp_resolved.specs.InStep.{Numbering, CellsAre, PartsAre, BoundIs}
-use Rattle.cp_resolved.specs.Layouts.{look}
+use Rattle.cp_resolved.specs.Layouts.{cells_in, look}
 use Rattle.cp_resolved.specs.Resolved.{StandsAt, first_permanent}
 use Rattle.cp_resolved.specs.Small.{Each}
-use Rattle.cp_resolved.specs.Standing.{is_free, are_free, is_standing, is_bounded, IsStandingVariable}
+use Rattle.cp_resolved.specs.Standing.{are_few, is_indexed, is_free, are_free, is_standing, IsStandingVariable}
 use Rattle.cp_resolved.specs.TreeLayouts.{slot_in, components_among}
-use Rattle.cp_resolved.proofs.LeastCells.{HoldEarlier, IsValued, AreValued, least_encoded, least_counted}
+use Rattle.cp_resolved.proofs.EncodedCells.{HoldEarlier, IsValued, AreValued, least_encoded, least_counted}
 use Rattle.cp_resolved.proofs.OwnedParts.{cells_after, SlotIs, ContentIs}
 use Rattle.cp_resolved.proofs.SystemsLaid.{PermanentIs, OwnIs}
 
@@ -113,8 +113,8 @@ mutual
   free_valued (named.ordinal r) e = tt
   free_valued named.queue_type e = tt
   free_valued (named.set_over r) e = tt
-  free_valued (named.array_over r t) e = free_valued t (both (is_bounded r) (is_free t) e).1
-  free_valued (named.record_with us) e = fields_valued us e
+  free_valued (named.array_over r t) e = free_valued t (both (is_indexed r t) (is_free t) e).1
+  free_valued (named.record_with us) e = fields_valued us (both (are_few (cells_in us)) (are_free us) e).1
   free_valued (named.component_of n) e = absurd (let w : false ≡ true = e in cc)
 
   fields_valued : (us : FieldTypes) → are_free us ≡ true → AreValued us
@@ -125,13 +125,13 @@ standing_valued : (t : Ty) → is_standing t ≡ true → has_components t ≡ f
 standing_valued (named.ordinal r) e c = tt
 standing_valued named.queue_type e c = tt
 standing_valued (named.set_over r) e c = tt
-standing_valued (named.record_with us) e c = fields_valued us e
+standing_valued (named.record_with us) e c = free_valued (named.record_with us) e
 standing_valued (named.component_of n) e c = absurd (let w : true ≡ false = c in cc)
 standing_valued (named.array_over r (named.ordinal q)) e c = tt
 standing_valued (named.array_over r named.queue_type) e c = tt
 standing_valued (named.array_over r (named.set_over q)) e c = tt
-standing_valued (named.array_over r (named.array_over q t)) e c = free_valued (named.array_over q t) (both (is_bounded r) (is_free (named.array_over q t)) e).1
-standing_valued (named.array_over r (named.record_with us)) e c = free_valued (named.record_with us) (both (is_bounded r) (is_free (named.record_with us)) e).1
+standing_valued (named.array_over r (named.array_over q t)) e c = free_valued (named.array_over q t) (both (is_indexed r (named.array_over q t)) (is_free (named.array_over q t)) e).1
+standing_valued (named.array_over r (named.record_with us)) e c = free_valued (named.record_with us) (both (is_indexed r (named.record_with us)) (is_free (named.record_with us)) e).1
 standing_valued (named.array_over r (named.component_of n)) e c = absurd (let w : true ≡ false = c in cc)
 
 -- ---- the cells of a system type

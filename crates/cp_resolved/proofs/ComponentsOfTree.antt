@@ -20,7 +20,7 @@ use Rattle.cp_resolved.proofs.ComponentOrder.{owned_in, steps, IsMeant, program_
 use Rattle.cp_resolved.proofs.ComponentsStand.{AreListed}
 use Rattle.cp_resolved.proofs.EarlierTypes.{program_earlier}
 use Rattle.cp_resolved.proofs.Entries.{past_there, not_there, still_there, last_entry, there}
-use Rattle.cp_resolved.proofs.LeastCells.{HoldEarlier}
+use Rattle.cp_resolved.proofs.EncodedCells.{HoldEarlier}
 use Rattle.cp_resolved.proofs.Opened.{opened_all}
 use Rattle.cp_resolved.proofs.OwnedParts.{all_contained, AreLow, count_after}
 use Rattle.cp_resolved.proofs.SoundComponents.{tabled, listing_of}

@@ -20,7 +20,7 @@ use Rattle.cp_resolved.specs.Small.{Each}
 use Rattle.cp_resolved.proofs.Entries.{last_or_before}
 use Rattle.cp_resolved.proofs.Extends.{Longer, routine_extends, routine_names, system_extends}
 use Rattle.cp_resolved.proofs.Grown.{statements_grew}
-use Rattle.cp_resolved.proofs.LeastCells.{IsBelow, AreBelow, HoldsBelow, HoldEarlier}
+use Rattle.cp_resolved.proofs.EncodedCells.{IsBelow, AreBelow, HoldsBelow, HoldEarlier}
 
 -- ---- names of types
 

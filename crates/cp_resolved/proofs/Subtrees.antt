@@ -13,7 +13,7 @@ use Rattle.cp_meaning.specs.Declarations.{Variable}
 use Rattle.cp_meaning.specs.Systems.{system_of}
 use Rattle.cp_meaning.specs.Components.{Path, Listed, step_down, listed_elements, listed_variable, listed_variables, listed}
 use Rattle.cp_resolved.proofs.Entries.{there}
-use Rattle.cp_resolved.proofs.LeastCells.{times_stopped}
+use Rattle.cp_resolved.proofs.EncodedCells.{times_stopped}
 use Rattle.cp_resolved.proofs.OwnedParts.{contained_of, all_contained, AreLow, count_after}
 
 either_place : {A : Type 0} (xs ys : List A) (n : ℕ) (x : A) → slice_get (xs ++ ys) n ≡ Some x → (slice_get xs n ≡ Some x) ⊎ ((m : ℕ) × (n ≡ length xs + m) × (slice_get ys m ≡ Some x))
