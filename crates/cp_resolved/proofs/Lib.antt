@@ -42,6 +42,7 @@ pub mod Fitting
 pub mod Foreign
 pub mod FormedStatements
 pub mod FormsOfTrees
+pub mod GivenArguments
 pub mod Going
 pub mod Grown
 pub mod Handed
