@@ -105,6 +105,7 @@ pub mod TypingExpressions
 pub mod TypingNames
 pub mod TypingOperations
 pub mod TypingValues
+pub mod UsedExpressions
 pub mod UsedNames
 pub mod Walked
 pub mod Whole
