@@ -692,4 +692,4 @@ module _ (tokens : Tokens) (s : Scopes) (h : Here) (w : Context) (agrees : Scope
         (arm_formed a small.0 one.1, arms_formed as' (both j (statements.labelled s w a) >>= cases.joined) small.1 none)
 
     arm_formed : (a : Arm) → IsSmallArm a → faults (statements.labelled s w a) ≡ [] → IsArmFormed h a
-    arm_formed (arm cs t) small none = statement_formed t small (none_of_both (cases.labels s cs) (statement s w t) none).1
+    arm_formed (arm cs t) small none = statement_formed t small.1 (none_of_both (cases.labels s cs) (statement s w t) none).1

@@ -98,18 +98,9 @@ fitted at as' os e = go (nat_eq (length as') (length os)) refl e
 assigned : (as' : List check_parameter.Parameter) (os : List Operand) → length as' ≡ length os → assignable_faults as' os ≡ [] → all_variable_faults as' os ≡ []
 assigned as' os many e = sym (ap (λ (b : Bool). if b then all_variable_faults as' os else []) ((Decides-eqb (length as') (length os)).1 many)) ∙ e
 
-module _ (tokens : Tokens) (s : Scopes) (h : Here) (w : Context) (agrees : ScopesAgree tokens s h) (moves : (t : Ty) (v : ValueType) → TypeIs (written tokens s h) t v → is_free t ≡ true → IsMoved t) where
+module _ (tokens : Tokens) (s : Scopes) (h : Here) (w : Context) (agrees : ScopesAgree tokens s h) (moves : (t : Ty) (v : ValueType) → TypeIs (written tokens s h) t v → IsMoved t) where
   abbrev W : Written
   W = written tokens s h
-
-  moved : (b : Bool) (t : Ty) (v : ValueType) → TypeIs W t v → IsHanded b t → IsMoved t
-  moved true t v i p = moves t v i p
-  moved false (named.component_of n) v i p = omega arith
-  moved false (named.ordinal r) v i p = moves (named.ordinal r) v i p
-  moved false named.queue_type v i p = absurd (cc)
-  moved false (named.set_over r) v i p = moves (named.set_over r) v i p
-  moved false (named.array_over r t) v i p = moves (named.array_over r t) v i p
-  moved false (named.record_with ts) v i p = moves (named.record_with ts) v i p
 
   -- ---- one argument
 
@@ -125,7 +116,7 @@ module _ (tokens : Tokens) (s : Scopes) (h : Here) (w : Context) (agrees : Scope
           formed = x.is;
           given = subst (λ (b : Bool). GivenBy b q.ty (formed x.ty (loaded_form x.place x.ty)) g) (sym is) (subst (λ (p : Option code.Place). PlaceGiven q.ty x.ty p g) (sym (loaded_place x.place x.ty)) (sym type, refl));
         };
-        moved = moved q.is_var q.ty a.value_type i.belongs i.handed;
+        moved = moves q.ty a.value_type i.belongs;
       }
 
   give_value : (a : check_parameter.Parameter) (q : Parameter) (e : Expression) (o : Operand) → ParameterIs W a q → q.is_var ≡ false → Expressed W o.value_type (expression_form h e) → agree a.value_type o.value_type ≡ true → CanGive h q e
@@ -135,7 +126,7 @@ module _ (tokens : Tokens) (s : Scopes) (h : Here) (w : Context) (agrees : Scope
       record {
         value = v.value;
         given = record { form = v.form; formed = v.is; given = subst (λ (b : Bool). GivenBy b q.ty v.form v.value) (sym is) v.given };
-        moved = moved q.is_var q.ty a.value_type i.belongs i.handed;
+        moved = moves q.ty a.value_type i.belongs;
       }
 
   -- in the place of a `var` argument only where the parameter is one

@@ -113,7 +113,7 @@ applied_one at p os u r is = go (operations.is_function p) is
     go true i = inner os i
     go false i = absurd (cc)
 
-module _ (tokens : Tokens) (s : Scopes) (h : Here) (w : Context) (agrees : ScopesAgree tokens s h) (moves : (t : Ty) (v : ValueType) → TypeIs (written tokens s h) t v → is_free t ≡ true → IsMoved t) where
+module _ (tokens : Tokens) (s : Scopes) (h : Here) (w : Context) (agrees : ScopesAgree tokens s h) (moves : (t : Ty) (v : ValueType) → TypeIs (written tokens s h) t v → IsMoved t) where
   -- ---- calls of functions
 
   pub record Called (d : Designator) (es : Expressions) : Type 0 where
