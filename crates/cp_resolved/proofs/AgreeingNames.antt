@@ -19,6 +19,7 @@ use Rattle.cp_meaning.specs.Scopes as scopes
 use Rattle.cp_meaning.specs.Scopes.{find, since, is_seen, seen_inside}
 use Rattle.cp_meaning.specs.Declarations.{Parameter, RoutineMeaning, routine_in, type_named}
 use Rattle.cp_meaning.specs.Expressions.{routine_of_type}
+use Rattle.cp_resolved.specs.Layouts.{cells_in}
 use Rattle.cp_resolved.specs.Standing.{IsFit, is_standing}
 use Rattle.cp_resolved.specs.Tokens.{AreDifferent}
 use Rattle.cp_resolved.specs.Typed.{Tokens, Written, TypeIs, FieldsAre, AreParameters, HeadingIs, VariableIs, KindIs, RoutineIs, MeaningIs}
@@ -36,7 +37,7 @@ heading_kept n ss ts m h = ap as_heading (m n (heading_shape h.heading h.body) h
 pub heading_more : (n : ℕ) (ss ts : Shapes) → More ss ts → HeadingThere n ss → HeadingThere n ts
 heading_more n ss ts m h = record { heading = h.heading; body = h.body; there = m n (heading_shape h.heading h.body) h.there }
 
-array_is : (o : Option Shape) (a : ArrayShape) → as_array o ≡ Some a → o ≡ Some (array_shape a)
+pub array_is : (o : Option Shape) (a : ArrayShape) → as_array o ≡ Some a → o ≡ Some (array_shape a)
 array_is None a h = absurd (let bad : None ≡ Some a = h in cc)
 array_is (Some (array_shape b)) a h = ap (λ (c : Option ArrayShape). go c) h
   where
@@ -58,9 +59,9 @@ module _ (tokens : Tokens) where
     type_more ss ts m named.queue_type v h = h
     type_more ss ts m (named.set_over q) v h = h
     type_more ss ts m (named.array_over q t) v h =
-        record { token = h.token; is = h.is; shape = h.shape; there = ap as_array (m h.token (array_shape h.shape) (array_is (shape_in h.token ss) h.shape h.there)); range = h.range; belongs = type_more ss ts m t h.shape.element h.belongs }
+        record { token = h.token; is = h.is; shape = h.shape; there = ap as_array (m h.token (array_shape h.shape) (array_is (shape_in h.token ss) h.shape h.there)); range = h.range; takes = h.takes; belongs = type_more ss ts m t h.shape.element h.belongs }
     type_more ss ts m (named.record_with us) v h =
-        record { token = h.token; is = h.is; fields = h.fields; cells = h.cells; there = m h.token (record_shape h.fields h.cells) h.there; visible = h.visible; each = fields_more ss ts m us h.fields.names h.each }
+        record { token = h.token; is = h.is; fields = h.fields; there = m h.token (record_shape h.fields (cells_in us)) h.there; visible = h.visible; each = fields_more ss ts m us h.fields.names h.each }
     type_more ss ts m (named.component_of n) v h =
         record { kind = h.kind; is = h.is; only = h.only; there = record { names = h.there.names; heading = h.there.heading; census = h.there.census; need = h.there.need; there = m (tokens.systems n) (system_shape h.there.names h.there.heading h.there.census h.there.need) h.there.there } }
 

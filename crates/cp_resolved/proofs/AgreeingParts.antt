@@ -27,7 +27,8 @@ use Rattle.cp_meaning.specs.Declarations as meant
 use Rattle.cp_meaning.specs.Declarations.{Block}
 use Rattle.cp_resolved.specs.Enumerations.{in_type, in_part, each_in}
 use Rattle.cp_resolved.specs.Small.{Each, IsSmallConstant, IsSmallType, IsSmallPart}
-use Rattle.cp_resolved.specs.Standing.{is_bounded, is_free, are_free, is_standing}
+use Rattle.cp_resolved.specs.Layouts.{cells_in}
+use Rattle.cp_resolved.specs.Standing.{are_few, is_indexed, is_free, are_free, is_standing}
 use Rattle.cp_resolved.specs.Tokens.{all_tokens, type_tokens, part_tokens}
 use Rattle.cp_resolved.specs.Typed.{Tokens, TypeIs, is_plain, are_plain, MayStand}
 use Rattle.cp_resolved.proofs.Agreeing.{Good, Sound, good_sound, none_left, none_right, none_first, More, more_same, more_trans}
@@ -54,8 +55,8 @@ mutual
   free_plain (named.ordinal r) h = refl
   free_plain named.queue_type h = refl
   free_plain (named.set_over r) h = refl
-  free_plain (named.array_over r t) h = free_plain t (right_true (is_bounded r) (is_free t) h)
-  free_plain (named.record_with ts) h = all_plain ts h
+  free_plain (named.array_over r t) h = free_plain t (right_true (is_indexed r t) (is_free t) h)
+  free_plain (named.record_with ts) h = all_plain ts (right_true (are_few (cells_in ts)) (are_free ts) h)
   free_plain (named.component_of n) h = h
 
   all_plain : (ts : FieldTypes) → are_free ts ≡ true → are_plain ts ≡ true
@@ -66,14 +67,14 @@ pub standing_may : (t : Ty) → is_standing t ≡ true → MayStand t
 standing_may (named.ordinal r) h = refl
 standing_may named.queue_type h = refl
 standing_may (named.set_over r) h = refl
-standing_may (named.record_with ts) h = all_plain ts h
+standing_may (named.record_with ts) h = free_plain (named.record_with ts) h
 standing_may (named.component_of n) h = tt
 standing_may (named.array_over r (named.component_of n)) h = tt
 standing_may (named.array_over r named.queue_type) h = refl
 standing_may (named.array_over r (named.ordinal q)) h = refl
 standing_may (named.array_over r (named.set_over q)) h = refl
-standing_may (named.array_over r (named.array_over q t)) h = free_plain (named.array_over q t) (right_true (is_bounded r) (is_free (named.array_over q t)) h)
-standing_may (named.array_over r (named.record_with ts)) h = all_plain ts (right_true (is_bounded r) (are_free ts) h)
+standing_may (named.array_over r (named.array_over q t)) h = free_plain (named.array_over q t) (right_true (is_indexed r (named.array_over q t)) (is_free (named.array_over q t)) h)
+standing_may (named.array_over r (named.record_with ts)) h = free_plain (named.record_with ts) (right_true (is_indexed r (named.record_with ts)) (is_free (named.record_with ts)) h)
 
 module _ (tokens : Tokens) (p : Program) where
   -- from scopes to those after declarations

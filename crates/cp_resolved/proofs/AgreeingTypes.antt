@@ -1,7 +1,7 @@
 -- Types that break no rule: the checker and the scope give them the same type, and their enumerations the same names.
-use Rattle.std.proofs.Common.{◌≡◌, ℕ, ◌≤◌, ℤ, Bool, true, false, ◌&&◌, if◌then◌else◌, List, [], ◌∷◌, length, Option, Some, None, Ok, Err, refl, sym, ap, subst, ◌∙◌}
+use Rattle.std.proofs.Common.{◌≡◌, ℕ, ◌≤◌, ℤ, Bool, true, false, ◌&&◌, if◌then◌else◌, List, [], ◌∷◌, length, Option, Some, None, Ok, Err, refl, sym, ap, subst, ◌∙◌, arith}
 use Rattle.std.specs.Str.{bytes_eq}
-use Rattle.std.specs.Prelude.{int_lt}
+use Rattle.std.specs.Prelude.{int_lt, int_le}
 use Rattle.cp_tree.specs.declared.constant.Constant.{Constant}
 use Rattle.cp_tree.specs.Syntax as syntax
 use Rattle.cp_tree.specs.Syntax.{Program}
@@ -33,7 +33,7 @@ use Rattle.cp_meaning.specs.Declarations as meant
 use Rattle.cp_meaning.specs.Operations.{range_of_base}
 use Rattle.cp_resolved.specs.Enumerations.{Enumerated}
 use Rattle.cp_resolved.specs.Small.{IsSmallSimple}
-use Rattle.cp_resolved.specs.Standing.{is_bounded, is_free, is_element, is_standing, IsFit}
+use Rattle.cp_resolved.specs.Standing.{is_bounded, is_indexed, is_free, is_element, is_standing, IsFit}
 use Rattle.cp_resolved.specs.Typed.{Tokens, Written, RangeIs, TypeIs, KindIs}
 use Rattle.cp_resolved.proofs.Agreeing.{Good, good_then, good_both, good_if, is_itself, look_is, inner_look}
 use Rattle.cp_resolved.proofs.AgreeingNames.{W, IsKnown, IsStacked, IsTypeKnown, Agree, sees}
@@ -63,7 +63,7 @@ free_standing : (t : Ty) → is_free t ≡ true → is_standing t ≡ true
 free_standing (named.ordinal r) h = h
 free_standing named.queue_type h = refl
 free_standing (named.set_over r) h = h
-free_standing (named.array_over r t) h = both_are (is_bounded r) (is_free t) (is_element t) h (free_element t)
+free_standing (named.array_over r t) h = both_are (is_indexed r t) (is_free t) (is_element t) h (free_element t)
 free_standing (named.record_with ts) h = h
 free_standing (named.component_of n) h = refl
 
@@ -78,7 +78,7 @@ element_standing : (t : Ty) → is_element t ≡ true → is_standing t ≡ true
 element_standing (named.ordinal r) h = h
 element_standing named.queue_type h = refl
 element_standing (named.set_over r) h = h
-element_standing (named.array_over r t) h = both_are (is_bounded r) (is_free t) (is_element t) h (free_element t)
+element_standing (named.array_over r t) h = both_are (is_indexed r t) (is_free t) (is_element t) h (free_element t)
 element_standing (named.record_with ts) h = h
 element_standing (named.component_of n) h = refl
 
@@ -125,11 +125,11 @@ spotted_stands at (spot.Permanent o) (holds.Component j) v t k = good_if (λ u. 
 spotted_stands at (spot.Permanent o) (holds.Components j) v t k = good_if (λ u. (u ≡ v) × (is_standing t ≡ true)) (typing.may_own o j) v (check_fault.Rule at C13) [] (λ e. (refl, k.standing))
 
 module _ (w : Written) where
-  plain_array : (r : named.Range) (t : Ty) → (is_bounded r && is_element t) ≡ true → (is_element t ≡ true → is_free t ≡ true) → Held holds.Plain (named.array_over r t)
-  plain_array r t b k = record { standing = b; free = λ e. both_are (is_bounded r) (is_element t) (is_free t) b k; element = λ e. both_are (is_bounded r) (is_element t) (is_free t) b k }
+  plain_array : (r : named.Range) (t : Ty) → (is_indexed r t && is_element t) ≡ true → (is_element t ≡ true → is_free t ≡ true) → Held holds.Plain (named.array_over r t)
+  plain_array r t b k = record { standing = b; free = λ e. both_are (is_indexed r t) (is_element t) (is_free t) b k; element = λ e. both_are (is_indexed r t) (is_element t) (is_free t) b k }
 
   -- an array, by its elements
-  pub held_array : (r : named.Range) (t : Ty) (v : ValueType) → TypeIs w t v → (is_bounded r && is_element t) ≡ true → Held (typing.holding_array v) (named.array_over r t)
+  pub held_array : (r : named.Range) (t : Ty) (v : ValueType) → TypeIs w t v → (is_indexed r t && is_element t) ≡ true → Held (typing.holding_array v) (named.array_over r t)
   held_array r (named.ordinal q) v h b = subst (λ u. Held (typing.holding_array u) (named.array_over r (named.ordinal q))) (sym h.is) (plain_array r (named.ordinal q) b (λ e. e))
   held_array r named.queue_type v h b = subst (λ u. Held (typing.holding_array u) (named.array_over r named.queue_type)) (sym h) (record { standing = b; free = λ e. absurd (cc); element = λ e. absurd e })
   held_array r (named.set_over q) v h b = subst (λ u. Held (typing.holding_array u) (named.array_over r (named.set_over q))) (sym h.is) (plain_array r (named.set_over q) b (λ e. e))
@@ -293,26 +293,32 @@ module _ (tokens : Tokens) where
 
   -- ---- subranges
 
+  in_order : (a c : ℤ) → int_lt c a ≡ false → int_le a c ≡ true
+  in_order a c h = search (arith, h)
+
   ranged_typed : (ss : Shapes) (at : ℕ) (p : Spot) (q r : named.Base × ℤ) (n k : Number) → NumberIs tokens q n → NumberIs tokens r k → Good (TypedAs ss p (named.ordinal (record { base = q.0; low = q.1; high = r.1 }))) (typing.ranged at (n, k))
   ranged_typed ss at p q r n k h g = go (same_base n.base k.base) refl
     where
       R : named.Range
       R = record { base = q.0; low = q.1; high = r.1 }
 
-      bounded : same_base n.base k.base ≡ true → is_bounded R ≡ true
-      bounded e =
-          ap (λ b. b && is_within (range_of_base q.0) r.1) h.within ∙ subst (λ (c : named.Base). is_within (range_of_base c) r.1 ≡ true) (sym (base_same tokens q.0 r.0 n.base k.base h.base g.base e)) g.within
+      high_within : same_base n.base k.base ≡ true → is_within (range_of_base q.0) r.1 ≡ true
+      high_within e = subst (λ (c : named.Base). is_within (range_of_base c) r.1 ≡ true) (sym (base_same tokens q.0 r.0 n.base k.base h.base g.base e)) g.within
 
-      inner : (b : Bool) → same_base n.base k.base ≡ true → Good (TypedAs ss p (named.ordinal R)) (if b then Err (check_fault.Rule at C18 ∷ []) else Ok (types.Ordinal (record { base = n.base; low = n.value; high = k.value })))
-      inner true e = tt
-      inner false e =
+      bounded : same_base n.base k.base ≡ true → int_lt k.value n.value ≡ false → is_bounded R ≡ true
+      bounded e f =
+          ap (λ b. b && (is_within (range_of_base q.0) r.1 && int_le q.1 r.1)) h.within ∙ ap (λ b. b && int_le q.1 r.1) (high_within e) ∙ ap (λ z. int_le z r.1) (sym h.value) ∙ ap (λ z. int_le n.value z) (sym g.value) ∙ in_order n.value k.value f
+
+      inner : (b : Bool) → int_lt k.value n.value ≡ b → same_base n.base k.base ≡ true → Good (TypedAs ss p (named.ordinal R)) (if b then Err (check_fault.Rule at C18 ∷ []) else Ok (types.Ordinal (record { base = n.base; low = n.value; high = k.value })))
+      inner true f e = tt
+      inner false f e =
           record {
             belongs = record { range = record { base = n.base; low = n.value; high = k.value }; is = refl; belongs = record { base = h.base; low = h.value; high = g.value } };
-            stands = stands_free p (named.ordinal R) (bounded e);
+            stands = stands_free p (named.ordinal R) (bounded e f);
           }
 
       go : (b : Bool) → same_base n.base k.base ≡ b → Good (TypedAs ss p (named.ordinal R)) (if b then (if int_lt k.value n.value then Err (check_fault.Rule at C18 ∷ []) else Ok (types.Ordinal (record { base = n.base; low = n.value; high = k.value }))) else Err (check_fault.Rule at C5 ∷ []))
-      go true e = inner (int_lt k.value n.value) e
+      go true e = inner (int_lt k.value n.value) refl e
       go false e = tt
 
   pub subrange_typed : (s : Scopes) (m : scopes.Scope) (p : Spot) (at : ℕ) (c d : Constant) → IsSmallSimple (syntax.subrange at c d) → ((x : Name) → IsKnown tokens s m x (look x s)) →

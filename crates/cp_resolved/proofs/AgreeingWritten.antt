@@ -1,7 +1,8 @@
 -- Written types that break no rule: what they leave agrees, and they are the types that they mean.
-use Rattle.std.proofs.Common.{◌≡◌, ℕ, suc, ◌+◌, ◌-◌, ◌<◌, ◌≤◌, pos, Bool, true, false, ◌&&◌, ◌||◌, if◌then◌else◌, List, [], ◌∷◌, ◌++◌, length, Option, Some, None, Ok, Err, is_some, refl, sym, ap, subst, ◌∙◌, arith, append_assoc}
+use Rattle.std.proofs.Common.{◌≡◌, ℕ, suc, ◌+◌, ◌-◌, ◌*◌, ◌<◌, ◌≤◌, pos, Bool, true, false, ◌&&◌, ◌||◌, if◌then◌else◌, List, [], ◌∷◌, ◌++◌, length, Option, Some, None, Ok, Err, is_some, refl, sym, ap, subst, ◌∙◌, arith, append_assoc}
 use Rattle.std.specs.Prelude.{◌-ℤ◌, int_lt, int_le, nat_lt}
 use Rattle.std.specs.Str.{bytes_eq}
+use Rattle.std.proofs.lemmas.Bool.{le-leb, ltb-false}
 use Rattle.std.proofs.lemmas.List.{length-map, append-nil}
 use Rattle.cp_tree.specs.declared.constant.Identifier.{Identifier}
 use Rattle.cp_tree.specs.Syntax as syntax
@@ -20,7 +21,7 @@ use Rattle.cp_scope.specs.declared.shape.ArrayShape.{ArrayShape}
 use Rattle.cp_scope.specs.Types.{whole}
 use Rattle.cp_scope.specs.Counts.{times}
 use Rattle.cp_scope.specs.Judged.{Judged, both, ◌>>=◌, faults}
-use Rattle.cp_scope.specs.Scopes.{Names, Scope, new_scope, Scopes, Shape, array_shape, record_shape, Shapes, shape_in, as_array, look, cells_of, count_of, is_declared, is_declared_in, is_among, with_name, with_shape, add, keep}
+use Rattle.cp_scope.specs.Scopes.{Names, Scope, new_scope, Scopes, Shape, array_shape, record_shape, Shapes, shape_in, as_array, look, count_of, is_declared, is_declared_in, is_among, with_name, with_shape, add, keep}
 use Rattle.cp_scope.specs.Scopes as checker
 use Rattle.cp_check.specs.declared.types.Spot.{Spot}
 use Rattle.cp_check.specs.declared.types.Spot.TheVariants as spot
@@ -30,18 +31,21 @@ use Rattle.cp_check.specs.Types as typing
 use Rattle.cp_check.specs.Types.{Step, nothing, Typed, typed}
 use Rattle.cp_meaning.specs.Names.{Name}
 use Rattle.cp_meaning.specs.Types as named
-use Rattle.cp_meaning.specs.Types.{Ty, FieldTypes, is_within, range_of}
+use Rattle.cp_meaning.specs.Types.{Ty, FieldTypes, is_within, range_of, length_of_range}
 use Rattle.cp_meaning.specs.Scopes as scopes
 use Rattle.cp_meaning.specs.Declarations as meant
 use Rattle.cp_meaning.specs.Operations.{range_of_base}
 use Rattle.cp_resolved.specs.Enumerations.{in_simple, in_type, in_groups}
 use Rattle.cp_resolved.specs.Small.{Each, IsSmallSimple, IsSmallType, AreSmallGroups}
-use Rattle.cp_resolved.specs.Standing.{is_bounded, is_free, are_free, is_element}
+use Rattle.cp_resolved.specs.Layouts.{cells_of, cells_in}
+use Rattle.cp_resolved.specs.Standing.{is_bounded, are_few, is_indexed, is_free, are_free, is_element}
 use Rattle.cp_resolved.specs.Tokens.{type_tokens, groups_tokens}
 use Rattle.cp_resolved.specs.Typed.{Tokens, BaseIs, RangeIs, TypeIs, FieldsAre}
 use Rattle.cp_resolved.proofs.Agreeing.{Good, good_then, Sound, good_sound, none_left, none_right, none_first, none_of_both, new_names, find_last, is_itself, More, more_same, more_trans, with_more, with_there}
+use Rattle.cp_resolved.proofs.AgreeingCells.{array_takes, record_takes}
 use Rattle.cp_resolved.proofs.AgreeingNames.{W, Agree, sees, agree_added, agree_kept, type_more, fields_more}
 use Rattle.cp_resolved.proofs.AgreeingTypes.{StandsAt, stands_free, spotted_stands, held_array, IsOrdinal, ordinal_of, IsFew, TypedAs, type_spotted, subrange_typed}
+use Rattle.cp_resolved.proofs.FewCells.{in_order, few_element}
 use Rattle.cp_resolved.proofs.Reserving.{Pends, or_left, or_right, ReservedIn, all_reserved, pending_fresh, named_all, Filled, all_filled}
 
 -- ---- lists
@@ -80,15 +84,18 @@ added_pending c n o h = ap (λ (e : Scope). e.pending) (new_names c n o h)
 index_within : (n l : ℕ) → n < l → (int_le (pos 0) (pos n) && int_le (pos n) (pos (l - 1))) ≡ true
 index_within n l h = search (arith, h)
 
+from_zero : (n : ℕ) → int_le (pos 0) (pos n) ≡ true
+from_zero n = search arith
+
 last_is : (n : ℕ) → 1 ≤ n → (pos n -ℤ pos 1) ≡ pos (n - 1)
 last_is n h = search (arith, h)
 
-limited_good : (at n : ℕ) → Good (λ (u : Unit {0}). Unit {0}) (typing.limited at n)
+limited_good : (at n : ℕ) → Good (λ (u : Unit {0}). nat_lt 8192 n ≡ false) (typing.limited at n)
 limited_good at n = go (nat_lt 8192 n)
   where
-    go : (b : Bool) → Good (λ (u : Unit {0}). Unit {0}) (if b then Err (check_fault.Rule at C20 ∷ []) else Ok tt)
+    go : (b : Bool) → Good (λ (u : Unit {0}). b ≡ false) (if b then Err (check_fault.Rule at C20 ∷ []) else Ok tt)
     go true = tt
-    go false = tt
+    go false = refl
 
 module _ (tokens : Tokens) (p : Program) where
   -- from scopes to what a written type leaves
@@ -177,7 +184,8 @@ module _ (tokens : Tokens) (p : Program) where
       let same : length (meant.names_of is) ≡ length is = length-map is (λ i. i.name) in
       let l : Lists at (meant.names_of is) (typing.base_of at is) = enumeration_lists at is h in
       let bounded : is_bounded (record { base = named.enumerated at (meant.names_of is); low = pos 0; high = pos (length is - 1) }) ≡ true =
-      ap (λ b. b && is_within (range_of_base (named.enumerated at (meant.names_of is))) (pos (length is - 1))) (index_within 0 (length (meant.names_of is)) (omega (arith, some, same))) ∙ index_within (length is - 1) (length (meant.names_of is)) (omega (arith, some, same)) in
+      ap (λ b. b && (is_within (range_of_base (named.enumerated at (meant.names_of is))) (pos (length is - 1)) && int_le (pos 0) (pos (length is - 1)))) (index_within 0 (length (meant.names_of is)) (omega (arith, some, same)))
+      ∙ ap (λ b. b && int_le (pos 0) (pos (length is - 1))) (index_within (length is - 1) (length (meant.names_of is)) (omega (arith, some, same))) ∙ from_zero (length is - 1) in
       record {
         belongs = record { range = whole (typing.base_of at is); is = refl; belongs = record { base = l.base; low = refl; high = last_is (length is) some } };
         stands = stands_free q (named.ordinal (record { base = named.enumerated at (meant.names_of is); low = pos 0; high = pos (length is - 1) })) bounded;
@@ -215,18 +223,48 @@ module _ (tokens : Tokens) (p : Program) where
   record ArrayAs (ss : checker.Shapes) (q : Spot) (i e : Ty) (a : ArrayShape) : Type 0 where
     pub range : RangeIs tokens (range_of i) a.index
     pub element : TypeIs (W tokens ss) e a.element
+    pub takes : a.cells ≡ length_of_range (range_of i) * cells_of e
     pub stands : StandsAt q (named.array_over (range_of i) e)
 
-  bounded_index : (ss : checker.Shapes) (i : Ty) (r : Range) (e : Ty) → IsOrdinal (W tokens ss) i r → is_free i ≡ true → is_element e ≡ true → (is_bounded (range_of i) && is_element e) ≡ true
-  bounded_index ss i r e o h g = ap (λ (b : Bool). b && is_element e) (subst (λ (t : Ty). is_free t ≡ true) o.is h) ∙ g
+  index_bounded : (ss : checker.Shapes) (i : Ty) (r : Range) → IsOrdinal (W tokens ss) i r → is_free i ≡ true → is_bounded (range_of i) ≡ true
+  index_bounded ss i r o h = subst (λ (t : Ty). is_free t ≡ true) o.is h
+
+  indexed : (r : named.Range) (e : Ty) → is_bounded r ≡ true → length_of_range r * cells_of e ≤ 8192 → is_element e ≡ true → (is_indexed r e && is_element e) ≡ true
+  indexed r e h few g = ap (λ (b : Bool). (b && are_few (length_of_range r * cells_of e)) && is_element e) h ∙ ap (λ (b : Bool). b && is_element e) (le-leb (length_of_range r * cells_of e) 8192 few) ∙ g
+
+  -- an array of one element
+  abbrev one_place : named.Range
+  one_place = record { base = named.booleans; low = pos 0; high = pos 0 }
 
   array_good : (s : Scopes) (q : Spot) (at : ℕ) (i e : Ty) (iv ev : ValueType) → TypedAs tokens s.shapes spot.Other i iv → TypedAs tokens s.shapes spot.Element e ev → Good (ArrayAs s.shapes q i e) (typing.array_of_range s q at iv ev)
-  array_good s q at i e (types.Ordinal r) ev h g =
-      let o : IsOrdinal (W tokens s.shapes) i r = ordinal_of (W tokens s.shapes) i r h.belongs in
-      let n : ℕ = times (count_of r) (cells_of ev s.shapes) in
-      good_then (λ u. (u ≡ types.Array at) × StandsAt q (named.array_over (range_of i) e)) (ArrayAs s.shapes q i e) (typing.spotted at q (typing.holding_array ev) (types.Array at)) (λ u. typing.limited at n >>= (λ v. Ok (record { index = r; element = ev; cells = n })))
-      (spotted_stands at q (typing.holding_array ev) (types.Array at) (named.array_over (range_of i) e) (held_array (W tokens s.shapes) (range_of i) e ev g.belongs (bounded_index s.shapes i r e o h.stands g.stands)))
-      (λ u k. good_then (λ (v : Unit {0}). Unit {0}) (ArrayAs s.shapes q i e) (typing.limited at n) (λ v. Ok (record { index = r; element = ev; cells = n })) (limited_good at n) (λ v l. record { range = o.range; element = g.belongs; stands = k.1 }))
+  array_good s q at i e (types.Ordinal r) ev h g = go (nat_lt 8192 n) refl
+    where
+      o : IsOrdinal (W tokens s.shapes) i r
+      o = ordinal_of (W tokens s.shapes) i r h.belongs
+
+      n : ℕ
+      n = times (count_of r) (checker.cells_of ev s.shapes)
+
+      bounded : is_bounded (range_of i) ≡ true
+      bounded = index_bounded s.shapes i r o h.stands
+
+      shaped : Judged (Unit {0}) → Judged ArrayShape
+      shaped j = typing.spotted at q (typing.holding_array ev) (types.Array at) >>= (λ u. j >>= (λ v. Ok (record { index = r; element = ev; cells = n })))
+
+      -- where it stands, whatever its length
+      spotted : (k : named.Range) → (is_indexed k e && is_element e) ≡ true → Good (λ u. (u ≡ types.Array at) × StandsAt q (named.array_over k e)) (typing.spotted at q (typing.holding_array ev) (types.Array at))
+      spotted k f = spotted_stands at q (typing.holding_array ev) (types.Array at) (named.array_over k e) (held_array (W tokens s.shapes) k e ev g.belongs f)
+
+      go : (b : Bool) → nat_lt 8192 n ≡ b → Good (ArrayAs s.shapes q i e) (shaped (if b then Err (check_fault.Rule at C20 ∷ []) else Ok tt))
+      go true f =
+          let few : cells_of e ≤ 8192 = few_element e g.stands in
+          let one : length_of_range one_place * cells_of e ≤ 8192 = omega (arith, few) in
+          good_then (λ u. (u ≡ types.Array at) × StandsAt q (named.array_over one_place e)) (ArrayAs s.shapes q i e) (typing.spotted at q (typing.holding_array ev) (types.Array at)) (λ u. Err (check_fault.Rule at C20 ∷ []) >>= (λ (v : Unit {0}). Ok (record { index = r; element = ev; cells = n })))
+          (spotted one_place (indexed one_place e refl one g.stands)) (λ u k. tt)
+      go false f =
+          let takes : n ≡ length_of_range (range_of i) * cells_of e = array_takes (W tokens s.shapes) (range_of i) r e ev o.range (in_order (range_of i) bounded) g.belongs f in
+          good_then (λ u. (u ≡ types.Array at) × StandsAt q (named.array_over (range_of i) e)) (ArrayAs s.shapes q i e) (typing.spotted at q (typing.holding_array ev) (types.Array at)) (λ u. Ok (record { index = r; element = ev; cells = n }))
+          (spotted (range_of i) (indexed (range_of i) e bounded (subst (λ m. m ≤ 8192) takes (ltb-false 8192 n f)) g.stands)) (λ u k. record { range = o.range; element = g.belongs; takes = takes; stands = k.1 })
   array_good s q at i e types.Queue ev h g = tt
   array_good s q at i e (types.Set r) ev h g = tt
   array_good s q at i e (types.Array n) ev h g = tt
@@ -243,7 +281,7 @@ module _ (tokens : Tokens) (p : Program) where
         value = types.Array at;
         is = refl;
         typed = record {
-          belongs = record { token = at; is = refl; shape = a.value; there = ap as_array (with_there u.shapes at (array_shape a.value) agree.free.0); range = a.holds.range; belongs = type_more tokens u.shapes (with_shape u.shapes at (array_shape a.value)) further e a.value.element a.holds.element };
+          belongs = record { token = at; is = refl; shape = a.value; there = ap as_array (with_there u.shapes at (array_shape a.value) agree.free.0); range = a.holds.range; takes = a.holds.takes; belongs = type_more tokens u.shapes (with_shape u.shapes at (array_shape a.value)) further e a.value.element a.holds.element };
           stands = a.holds.stands;
         };
         agree = agree_kept tokens p b None u m below at ks (array_shape a.value) (λ y. refl) agree;
@@ -366,20 +404,28 @@ module _ (tokens : Tokens) (p : Program) where
         more = more_trans s.shapes t.scopes.shapes w.scopes.shapes g.more r.more;
       }
 
-  shaped_good : (s : Scopes) (at : ℕ) (f : Scope) → Good (λ d. d ≡ record_shape f (typing.cells_in f s)) (typing.shaped s at f)
-  shaped_good s at f = good_then (λ (u : Unit {0}). Unit {0}) (λ d. d ≡ record_shape f (typing.cells_in f s)) (typing.limited at (typing.cells_in f s)) (λ u. Ok (record_shape f (typing.cells_in f s))) (limited_good at (typing.cells_in f s)) (λ u h. refl)
+  -- a record that is not too large
+  abbrev IsRecord : Scopes → Scope → Shape → Type 0
+  IsRecord s f d = (d ≡ record_shape f (typing.cells_in f s)) × (nat_lt 8192 (typing.cells_in f s) ≡ false)
+
+  shaped_good : (s : Scopes) (at : ℕ) (f : Scope) → Good (IsRecord s f) (typing.shaped s at f)
+  shaped_good s at f = good_then (λ (u : Unit {0}). nat_lt 8192 (typing.cells_in f s) ≡ false) (IsRecord s f) (typing.limited at (typing.cells_in f s)) (λ u. Ok (record_shape f (typing.cells_in f s))) (limited_good at (typing.cells_in f s)) (λ u h. (refl, h))
 
   sound_none : (fs : List CheckFault) (f : Scope) → faults (sound_of fs f) ≡ [] → fs ≡ []
   sound_none [] f h = refl
   sound_none (e ∷ es) f h = h
 
-  record_kept : (b : Bool) (s : Scopes) (below : scopes.Scope) (ks : List ℕ) (q : Spot) (at : ℕ) (f : Fields) (u : FieldTypes × scopes.Scope) (j : Judged Shape) → FieldsResult b s below (at ∷ ks) new_scope f u → Sound (λ d. d ≡ record_shape f.fields (typing.cells_in f.fields f.scopes)) j →
+  record_kept : (b : Bool) (s : Scopes) (below : scopes.Scope) (ks : List ℕ) (q : Spot) (at : ℕ) (f : Fields) (u : FieldTypes × scopes.Scope) (j : Judged Shape) → FieldsResult b s below (at ∷ ks) new_scope f u → Sound (IsRecord f.scopes f.fields) j →
       TypeResult b s below ks q (record { type = j >>= typing.to_record at; scopes = typing.keep_record f.scopes at j }) (named.record_with u.0, u.1)
   unfolding keep
   record_kept b s below ks q at f u j r d =
-      let n : ℕ = typing.cells_in f.fields f.scopes in
+      let n : ℕ = cells_in u.0 in
+      let fields : FieldsAre (W tokens f.scopes.shapes) u.0 f.fields.names = subst (FieldsAre (W tokens f.scopes.shapes) u.0) (sym r.is) r.each in
+      let takes : typing.cells_in f.fields f.scopes ≡ n = record_takes (W tokens f.scopes.shapes) u.0 f.fields.names r.free fields d.holds.1 in
+      let few : n ≤ 8192 = subst (λ m. m ≤ 8192) takes (ltb-false 8192 (typing.cells_in f.fields f.scopes) d.holds.1) in
+      let free : is_free (named.record_with u.0) ≡ true = ap (λ (c : Bool). c && are_free u.0) (le-leb n 8192 few) ∙ r.free in
       let further : More f.scopes.shapes (with_shape f.scopes.shapes at (record_shape f.fields n)) = with_more f.scopes.shapes at (record_shape f.fields n) r.agree.free.0 in
-      subst (λ (k : Judged Shape). TypeResult b s below ks q (record { type = k >>= typing.to_record at; scopes = typing.keep_record f.scopes at k }) (named.record_with u.0, u.1)) (sym (d.is ∙ ap Ok d.holds))
+      subst (λ (k : Judged Shape). TypeResult b s below ks q (record { type = k >>= typing.to_record at; scopes = typing.keep_record f.scopes at k }) (named.record_with u.0, u.1)) (sym (d.is ∙ ap Ok (d.holds.0 ∙ ap (record_shape f.fields) takes)))
       (record {
         value = types.Record at;
         is = refl;
@@ -388,12 +434,11 @@ module _ (tokens : Tokens) (p : Program) where
             token = at;
             is = refl;
             fields = f.fields;
-            cells = n;
             there = with_there f.scopes.shapes at (record_shape f.fields n) r.agree.free.0;
             visible = r.sealed;
-            each = fields_more tokens f.scopes.shapes (with_shape f.scopes.shapes at (record_shape f.fields n)) further u.0 f.fields.names (subst (FieldsAre (W tokens f.scopes.shapes) u.0) (sym r.is) r.each);
+            each = fields_more tokens f.scopes.shapes (with_shape f.scopes.shapes at (record_shape f.fields n)) further u.0 f.fields.names fields;
           };
-          stands = stands_free q (named.record_with u.0) r.free;
+          stands = stands_free q (named.record_with u.0) free;
         };
         agree = agree_kept tokens p b None f.scopes u.1 below at ks (record_shape f.fields n) (λ y. refl) r.agree;
         outer = r.outer;
@@ -407,8 +452,8 @@ module _ (tokens : Tokens) (p : Program) where
       let sound : faults (typing.recorded at f) ≡ [] = none_first (typing.recorded at f) (typing.to_record at) none in
       let well : f.faults ≡ [] = sound_none f.faults f.fields (none_first (sound_of f.faults f.fields) (typing.shaped f.scopes at) sound) in
       record_kept b s below ks q at f u (typing.recorded at f) r
-      (good_sound (λ d. d ≡ record_shape f.fields (typing.cells_in f.fields f.scopes)) (typing.recorded at f)
-      (subst (λ (fs : List CheckFault). Good (λ d. d ≡ record_shape f.fields (typing.cells_in f.fields f.scopes)) (sound_of fs f.fields >>= typing.shaped f.scopes at)) (sym well) (shaped_good f.scopes at f.fields)) sound)
+      (good_sound (IsRecord f.scopes f.fields) (typing.recorded at f)
+      (subst (λ (fs : List CheckFault). Good (IsRecord f.scopes f.fields) (sound_of fs f.fields >>= typing.shaped f.scopes at)) (sym well) (shaped_good f.scopes at f.fields)) sound)
 
   record_well : (at : ℕ) (f : Fields) → faults (typing.record_typed at f).type ≡ [] → f.faults ≡ []
   record_well at f none = sound_none f.faults f.fields (none_first (sound_of f.faults f.fields) (typing.shaped f.scopes at) (none_first (typing.recorded at f) (typing.to_record at) none))

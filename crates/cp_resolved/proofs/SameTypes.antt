@@ -14,6 +14,7 @@ use Rattle.cp_scope.specs.Scopes.{Names, Scope, Shape, record_shape, shape_in, a
 use Rattle.cp_meaning.specs.Names.{Name}
 use Rattle.cp_meaning.specs.Types as named
 use Rattle.cp_meaning.specs.Types.{Ty, FieldTypes}
+use Rattle.cp_resolved.specs.Layouts.{cells_in}
 use Rattle.cp_resolved.specs.Typed.{Tokens, Written, BaseIs, RangeIs, TypeIs, FieldsAre, is_plain, are_plain}
 use Rattle.cp_resolved.proofs.Agreeing.{same_number}
 use Rattle.cp_resolved.proofs.AgreeingConstants.{base_same}
@@ -111,7 +112,7 @@ mutual
   type_same w (named.record_with ts) (named.set_over p) v h g = absurd (let bad : types.Record h.token ≡ types.Set (Some g.range) = sym h.is ∙ g.is in cc)
   type_same w (named.record_with ts) (named.array_over p u) v h g = absurd (let bad : types.Record h.token ≡ types.Array g.token = sym h.is ∙ g.is in cc)
   type_same w (named.record_with ts) (named.record_with us) v h g =
-      let one : h.fields ≡ g.fields = record_fields h.fields g.fields h.cells g.cells (sym h.there ∙ ap (λ k. shape_in k w.shapes) (record_token h.token g.token (sym h.is ∙ g.is)) ∙ g.there) in
+      let one : h.fields ≡ g.fields = record_fields h.fields g.fields (cells_in ts) (cells_in us) (sym h.there ∙ ap (λ k. shape_in k w.shapes) (record_token h.token g.token (sym h.is ∙ g.is)) ∙ g.there) in
       ap named.record_with (fields_same w ts us h.fields.names h.each (subst (λ (f : Scope). FieldsAre w us f.names) (sym one) g.each))
   type_same w (named.record_with ts) (named.component_of k) v h g = absurd (let bad : types.Record h.token ≡ types.Component g.kind (w.tokens.systems k) = sym h.is ∙ g.is in cc)
   type_same w (named.component_of n) (named.ordinal p) v h g = absurd (let bad : types.Component h.kind (w.tokens.systems n) ≡ types.Ordinal g.range = sym h.is ∙ g.is in cc)

@@ -1,5 +1,5 @@
 -- When the checker and the layouts say the same: of types, of what names stand for, and of operands and their forms.
-use Rattle.std.specs.Prelude.{◌≡◌, ◌≤◌, ◌-◌, ℕ, ℤ, pos, Bool, true, false, ◌&&◌, List, [], ◌∷◌, length, Option, Some, None, Ok, Err}
+use Rattle.std.specs.Prelude.{◌≡◌, ◌≤◌, ◌-◌, ◌*◌, ℕ, ℤ, pos, Bool, true, false, ◌&&◌, List, [], ◌∷◌, length, Option, Some, None, Ok, Err}
 use Rattle.cp_tree.specs.declared.declaration.SystemKind.{SystemKind}
 use Rattle.cp_tree.specs.Syntax.{Expression, alone, related, Sum, sum, Terms, no_terms, more_terms, Term, term, Factors, no_factors, more_factors, Factor, number, character, named as factor_named, group, negated, set_of, Expressions, no_expressions, more_expressions, Designator, designator, Selectors, no_selectors, more_selectors, Selector, field, index}
 use Rattle.cp_scope.specs.declared.types.Base.{Base}
@@ -26,7 +26,7 @@ use Rattle.cp_meaning.specs.Declarations.{Parameter, RoutineMeaning, routine_in}
 use Rattle.cp_meaning.specs.Operations.{range_of_base}
 use Rattle.cp_meaning.specs.Expressions.{routine_of_type}
 use Rattle.cp_slots.specs.Code as code
-use Rattle.cp_resolved.specs.Layouts.{Here}
+use Rattle.cp_resolved.specs.Layouts.{cells_of, cells_in, Here}
 use Rattle.cp_resolved.specs.Standing.{is_free}
 use Rattle.cp_resolved.specs.Compiled.{Form, as_ordinal, as_set, as_place, as_component, Formed}
 
@@ -64,19 +64,19 @@ pub record SetIs (k : Tokens) (q : named.Range) (v : ValueType) : Type 0 where
   pub is : v ≡ types.Set (Some range)
   pub belongs : RangeIs k q range
 
-pub record ArrayIs (Element : ValueType → Type 0) (w : Written) (q : named.Range) (v : ValueType) : Type 0 where
+pub record ArrayIs (Element : ValueType → Type 0) (cells : ℕ) (w : Written) (q : named.Range) (v : ValueType) : Type 0 where
   pub token : ℕ
   pub is : v ≡ types.Array token
   pub shape : ArrayShape
   pub there : as_array (shape_in token w.shapes) ≡ Some shape
   pub range : RangeIs w.tokens q shape.index
+  pub takes : shape.cells ≡ cells
   pub belongs : Element shape.element
 
-pub record RecordIs (Fields : Names → Type 0) (w : Written) (v : ValueType) : Type 0 where
+pub record RecordIs (Fields : Names → Type 0) (cells : ℕ) (w : Written) (v : ValueType) : Type 0 where
   pub token : ℕ
   pub is : v ≡ types.Record token
   pub fields : Scope
-  pub cells : ℕ
   pub there : shape_in token w.shapes ≡ Some (record_shape fields cells)
   pub visible : fields.is_sealed ≡ false
   pub each : Fields fields.names
@@ -109,8 +109,8 @@ abbrev mutual
   TypeIs w (named.ordinal q) v = OrdinalIs w.tokens q v
   TypeIs w named.queue_type v = v ≡ types.Queue
   TypeIs w (named.set_over q) v = SetIs w.tokens q v
-  TypeIs w (named.array_over q t) v = ArrayIs (TypeIs w t) w q v
-  TypeIs w (named.record_with ts) v = RecordIs (FieldsAre w ts) w v
+  TypeIs w (named.array_over q t) v = ArrayIs (TypeIs w t) (named.length_of_range q * cells_of t) w q v
+  TypeIs w (named.record_with ts) v = RecordIs (FieldsAre w ts) (cells_in ts) w v
   TypeIs w (named.component_of n) v = ComponentIs w n v
 
   pub FieldsAre : Written → FieldTypes → Names → Type 0
