@@ -147,7 +147,7 @@ mutual
   more_arms_small (more_arms b bs) r e = (arm_small b (put_more_arms bs r) e.1, more_arms_small bs r (arm_after b (put_more_arms bs r) e.1))
 
   arm_small : (x : Arm) (r : List Kind) → AreScanned (put_arm x r) → IsSmallArm x
-  arm_small (arm cs s) r e = statement_small s r (labels_after cs (kind.Mark mark.Colon ∷ put_statement s r) e).1
+  arm_small (arm cs s) r e = let after : List Kind = kind.Mark mark.Colon ∷ put_statement s r in (labels_small cs after e, statement_small s r (labels_after cs after e).1)
 
 -- ---- routines, system types and the program, each with the tokens after it
 
