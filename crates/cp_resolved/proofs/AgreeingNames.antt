@@ -59,9 +59,9 @@ module _ (tokens : Tokens) where
     type_more ss ts m named.queue_type v h = h
     type_more ss ts m (named.set_over q) v h = h
     type_more ss ts m (named.array_over q t) v h =
-        record { token = h.token; is = h.is; shape = h.shape; there = ap as_array (m h.token (array_shape h.shape) (array_is (shape_in h.token ss) h.shape h.there)); range = h.range; takes = h.takes; belongs = type_more ss ts m t h.shape.element h.belongs }
+        record { token = h.token; is = h.is; shape = h.shape; there = ap as_array (m h.token (array_shape h.shape) (array_is (shape_in h.token ss) h.shape h.there)); range = h.range; takes = h.takes; few = h.few; belongs = type_more ss ts m t h.shape.element h.belongs }
     type_more ss ts m (named.record_with us) v h =
-        record { token = h.token; is = h.is; fields = h.fields; there = m h.token (record_shape h.fields (cells_in us)) h.there; visible = h.visible; each = fields_more ss ts m us h.fields.names h.each }
+        record { token = h.token; is = h.is; fields = h.fields; there = m h.token (record_shape h.fields (cells_in us)) h.there; visible = h.visible; each = fields_more ss ts m us h.fields.names h.each; few = h.few }
     type_more ss ts m (named.component_of n) v h =
         record { kind = h.kind; is = h.is; only = h.only; there = record { names = h.there.names; heading = h.there.heading; census = h.there.census; need = h.there.need; there = m (tokens.systems n) (system_shape h.there.names h.there.heading h.there.census h.there.need) h.there.there } }
 

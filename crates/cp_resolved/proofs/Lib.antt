@@ -71,6 +71,7 @@ pub mod LeastCells
 pub mod Listing
 pub mod Loops
 pub mod Moved
+pub mod MovedTypes
 pub mod Named
 pub mod NamesOfTrees
 pub mod Numbered

@@ -19,7 +19,7 @@ use Rattle.cp_scope.specs.Scopes.{Heading, Names, Scope, record_shape, system_sh
 use Rattle.cp_check.specs.declared.operand.Operand.{Operand}
 use Rattle.cp_meaning.specs.Names.{Name}
 use Rattle.cp_meaning.specs.Types as named
-use Rattle.cp_meaning.specs.Types.{Ty, FieldTypes, is_within}
+use Rattle.cp_meaning.specs.Types.{Ty, FieldTypes, is_within, all_characters}
 use Rattle.cp_meaning.specs.Scopes as scopes
 use Rattle.cp_meaning.specs.Scopes.{Standard, find, since}
 use Rattle.cp_meaning.specs.Declarations.{Parameter, RoutineMeaning, routine_in}
@@ -63,6 +63,9 @@ pub record SetIs (k : Tokens) (q : named.Range) (v : ValueType) : Type 0 where
   pub range : Range
   pub is : v ≡ types.Set (Some range)
   pub belongs : RangeIs k q range
+  -- rule C20: its members are codes of characters
+  pub low : is_within all_characters q.low ≡ true
+  pub high : is_within all_characters q.high ≡ true
 
 pub record ArrayIs (Element : ValueType → Type 0) (cells : ℕ) (w : Written) (q : named.Range) (v : ValueType) : Type 0 where
   pub token : ℕ
@@ -71,6 +74,7 @@ pub record ArrayIs (Element : ValueType → Type 0) (cells : ℕ) (w : Written) 
   pub there : as_array (shape_in token w.shapes) ≡ Some shape
   pub range : RangeIs w.tokens q shape.index
   pub takes : shape.cells ≡ cells
+  pub few : cells ≤ 8192
   pub belongs : Element shape.element
 
 pub record RecordIs (Fields : Names → Type 0) (cells : ℕ) (w : Written) (v : ValueType) : Type 0 where
@@ -80,6 +84,7 @@ pub record RecordIs (Fields : Names → Type 0) (cells : ℕ) (w : Written) (v :
   pub there : shape_in token w.shapes ≡ Some (record_shape fields cells)
   pub visible : fields.is_sealed ≡ false
   pub each : Fields fields.names
+  pub few : cells ≤ 8192
 
 -- a system type is written
 pub record SystemThere (token : ℕ) (ss : Shapes) : Type 0 where
