@@ -36,6 +36,7 @@ use Rattle.cp_resolved.proofs.Agreeing.{none_left, none_right}
 use Rattle.cp_resolved.proofs.AgreeingParts.{free_plain}
 use Rattle.cp_resolved.proofs.AssignableForms.{VariableForm, HasVariable, expression_held}
 use Rattle.cp_resolved.proofs.HandedOver.{types_same, Fits, PlaceFits, ComponentFits, OrdinalFits, IsWhole, fitting}
+use Rattle.cp_resolved.proofs.MovedTypes.{type_moved}
 use Rattle.cp_resolved.proofs.Typing.{formed, SetForm}
 use Rattle.cp_resolved.proofs.TypingExpressions.{expression_typed}
 use Rattle.cp_resolved.proofs.TypingNames.{written}
@@ -98,7 +99,7 @@ fitted at as' os e = go (nat_eq (length as') (length os)) refl e
 assigned : (as' : List check_parameter.Parameter) (os : List Operand) → length as' ≡ length os → assignable_faults as' os ≡ [] → all_variable_faults as' os ≡ []
 assigned as' os many e = sym (ap (λ (b : Bool). if b then all_variable_faults as' os else []) ((Decides-eqb (length as') (length os)).1 many)) ∙ e
 
-module _ (tokens : Tokens) (s : Scopes) (h : Here) (w : Context) (agrees : ScopesAgree tokens s h) (moves : (t : Ty) (v : ValueType) → TypeIs (written tokens s h) t v → IsMoved t) where
+module _ (tokens : Tokens) (s : Scopes) (h : Here) (w : Context) (agrees : ScopesAgree tokens s h) where
   abbrev W : Written
   W = written tokens s h
 
@@ -116,7 +117,7 @@ module _ (tokens : Tokens) (s : Scopes) (h : Here) (w : Context) (agrees : Scope
           formed = x.is;
           given = subst (λ (b : Bool). GivenBy b q.ty (formed x.ty (loaded_form x.place x.ty)) g) (sym is) (subst (λ (p : Option code.Place). PlaceGiven q.ty x.ty p g) (sym (loaded_place x.place x.ty)) (sym type, refl));
         };
-        moved = moves q.ty a.value_type i.belongs;
+        moved = type_moved W q.ty a.value_type i.belongs;
       }
 
   give_value : (a : check_parameter.Parameter) (q : Parameter) (e : Expression) (o : Operand) → ParameterIs W a q → q.is_var ≡ false → Expressed W o.value_type (expression_form h e) → agree a.value_type o.value_type ≡ true → CanGive h q e
@@ -126,7 +127,7 @@ module _ (tokens : Tokens) (s : Scopes) (h : Here) (w : Context) (agrees : Scope
       record {
         value = v.value;
         given = record { form = v.form; formed = v.is; given = subst (λ (b : Bool). GivenBy b q.ty v.form v.value) (sym is) v.given };
-        moved = moves q.ty a.value_type i.belongs;
+        moved = type_moved W q.ty a.value_type i.belongs;
       }
 
   -- in the place of a `var` argument only where the parameter is one

@@ -113,7 +113,7 @@ applied_one at p os u r is = go (operations.is_function p) is
     go true i = inner os i
     go false i = absurd (cc)
 
-module _ (tokens : Tokens) (s : Scopes) (h : Here) (w : Context) (agrees : ScopesAgree tokens s h) (moves : (t : Ty) (v : ValueType) → TypeIs (written tokens s h) t v → IsMoved t) where
+module _ (tokens : Tokens) (s : Scopes) (h : Here) (w : Context) (agrees : ScopesAgree tokens s h) where
   -- ---- calls of functions
 
   pub record Called (d : Designator) (es : Expressions) : Type 0 where
@@ -129,7 +129,7 @@ module _ (tokens : Tokens) (s : Scopes) (h : Here) (w : Context) (agrees : Scope
   called_function at name_at b n os u d es None p result i small a is = absurd (cc)
   called_function at name_at b n os u d es (Some v) p result i small a is =
       let t : Then (calls.called s w at name_at b n os u) (calls.with_result at v) p = then_of (calls.called s w at name_at b n os u) (calls.with_result at v) p is in
-      let c : CallFormed h d es = call_given tokens s h w agrees moves at name_at b n os u t.value d es (routine_called h.program h.scope d) refl i small (λ many. plain_arguments tokens s h w agrees moves (heading_at n s).parameters 0 es os a many) t.is in
+      let c : CallFormed h d es = call_given tokens s h w agrees at name_at b n os u t.value d es (routine_called h.program h.scope d) refl i small (λ many. plain_arguments tokens s h w agrees (heading_at n s).parameters 0 es os a many) t.is in
       record { function = result_function v (routine_called h.program h.scope d) (heading_at n s) result i; formed = arguments_formed h c.routine.parameters es c.arguments; call = c }
 
   function_called : (at name_at : ℕ) (b : Bool) (n : ℕ) (os : List Operand) (u : Use) (d : Designator) (es : Expressions) (p : Operand) → HeadingIs (written tokens s h) (heading_at n s) (routine_called h.program h.scope d) → AreSmallExpressions es → arguments s w [] 0 es ≡ Ok os → calls.function_value s w at name_at b n os u ≡ Ok p → Called d es
