@@ -87,6 +87,7 @@ pub mod OwnNames
 pub mod OwnedParts
 pub mod Owning
 pub mod ParametersFit
+pub mod ParametersRead
 pub mod PermanentCells
 pub mod PermanentNames
 pub mod Permanents
