@@ -39,6 +39,7 @@ use Rattle.cp_resolved.proofs.AgreeingNames.{Known, IsKnown, known_moved, Agree,
 use Rattle.cp_resolved.proofs.AgreeingTypes.{IsFew}
 use Rattle.cp_resolved.proofs.AgreeingWritten.{each_left, each_right}
 use Rattle.cp_resolved.proofs.AgreeingParts.{StepResult, step_then, step_same, name_result, local_kind, parts_agree, parts_stand}
+use Rattle.cp_resolved.proofs.ParametersRead.{Reads, named_read}
 use Rattle.cp_resolved.proofs.AgreeingRoutines.{none_before, none_after, heading_none, heading_agrees, Announced, announced_agrees, announcing}
 
 pub record Uses (j : Judged Use) : Type 0 where
@@ -66,7 +67,7 @@ module _ (tokens : Tokens) (p : Program) where
   place_agreed s w m below ks o is sound variables parameters result h =
       record {
         scopes = λ l k n. subst (λ (i : scopes.Scope). ScopesAgree tokens s (record { program = p; layouts = l; system = k; routine = n; scope = i })) (sym is)
-            (record { names = λ x c e. (subst (IsKnown tokens s m x) e (sees tokens p false None s m below ks h x tt)).means; entries = λ j i y e. (h.entries j i y e).0 });
+            (record { names = λ x c e. (subst (IsKnown tokens s m x) e (sees tokens p false None s m below ks h x tt)).means; entries = λ j i y e. (h.entries j i y e).0; starts = h.starts });
         sound = sound;
         known = λ x e. subst (IsKnown tokens s m x) e (sees tokens p false None s m below ks h x tt);
         fit = λ x. subst (λ (i : scopes.Scope). IsFit (find x i)) (sym is) (fits tokens p false None s m below ks h x);
@@ -85,10 +86,10 @@ module _ (tokens : Tokens) (p : Program) where
       let d : Shape = body_shape (routine_use (census t.inner.names t.shapes).cells v u) in
       let c : Option Meaning = announcing tokens p r in
       let ss : Shapes = with_shape t.shapes r.body.at d in
-      let kept : Agree tokens p false None (keep t r.body.at d) rs (with_routine m r) ks = agree_kept tokens p false None t rs (with_routine m r) r.body.at ks d (λ y. refl) h in
+      let kept : Agree tokens p false None (keep t r.body.at d) rs (with_routine m r) ks = agree_kept tokens p false None t rs (with_routine m r) r.body.at ks d tt (λ y. refl) h in
       let all : More a.shapes ss = more_trans a.shapes t.shapes ss further (with_more t.shapes r.body.at d h.free.0) in
       let w : Scopes = record { outer = s.outer; inner = s.inner; shapes = ss } in
-      let returned : Agree tokens p false None w m below ks = agree_returned tokens p false None s w m below js ks before refl refl before.unsealed (more_trans s.shapes a.shapes ss more all) kept.free kept.different kept.entries in
+      let returned : Agree tokens p false None w m below ks = agree_returned tokens p false None s w m below js ks before refl refl before.unsealed (more_trans s.shapes a.shapes ss more all) kept.free kept.different kept.entries kept.starts in
       let added : Agree tokens p false None (add w r.name.name c) (with_routine m r) below ks =
       agree_known tokens p false None w m below ks r.name.name (meaning.Routine r.name.at) (routine_meaning r) fresh (λ e. absurd (cc)) (known_moved tokens a (add w r.name.name c) (with_routine m r) (with_routine m r) r.name.name (meaning.Routine r.name.at) all refl refl known) (λ e. absurd (cc)) returned in
       let last : last_of t.outer ≡ (let b : Around = record { outer = s.outer; inner = with_name (sealed false s.inner) r.name.name c } in b) = ap last_of (same ∙ outer) ∙ last_is s.outer (with_name (sealed false s.inner) r.name.name c) in
@@ -103,6 +104,14 @@ module _ (tokens : Tokens) (p : Program) where
         more = more_trans s.shapes a.shapes ss more all;
       }
 
+  -- with the parameters that stood before it
+  closed_read : (s a t : Scopes) (r : Routine) (v : Option ValueType) (u : Use) → is_some (checker.find r.name.name s.inner.names) ≡ false → a.outer ≡ s.outer ++ with_name (sealed false s.inner) r.name.name (announcing tokens p r) ∷ [] → t.outer ≡ a.outer → Reads s (routines.closed r v u t)
+  unfolding routines.closed settle keep leave
+  closed_read s a t r v u fresh outer same =
+      let c : Option Meaning = announcing tokens p r in
+      let last : last_of t.outer ≡ (let b : Around = record { outer = s.outer; inner = with_name (sealed false s.inner) r.name.name c } in b) = ap last_of (same ∙ outer) ∙ last_is s.outer (with_name (sealed false s.inner) r.name.name c) in
+      ap (λ (b : Around). checker.parameters_in b.inner.names) last ∙ named_read (sealed false s.inner) r.name.name c refl
+
   -- ---- a routine
 
   record BodyResult (owner : Option SystemKind) (s : Scopes) (m below : scopes.Scope) (ks : List ℕ) (r : Routine) (j : Judged (Option ValueType)) (hs : Scopes) : Type 0 where
@@ -110,6 +119,7 @@ module _ (tokens : Tokens) (p : Program) where
     pub variables : Each IsFreeVariable (routine_in (with_routine m r) r).variables
     pub sound : faults (statements (part_steps spot.Other (announced_of r j hs) r.parts).scopes (routine_context owner r) (Ok no_use) r.body.statements) ≡ []
     pub step : StepResult tokens p false None s (body_step r j (routines.opened owner r (announced_of r j hs))).scopes (with_routine m r) below ks
+    pub read : Reads s (body_step r j (routines.opened owner r (announced_of r j hs))).scopes
 
   body_agrees : (owner : Option SystemKind) (s hs : Scopes) (m below : scopes.Scope) (js ks : List ℕ) (r : Routine) (v : Option ValueType) → is_some (checker.find r.name.name s.inner.names) ≡ false → Agree tokens p false None s m below js →
       Announced tokens p (announced r v hs) s r m (with_routine m r) (meant.heading_of (with_routine m r) r.kind).scope (all_tokens part_tokens r.parts (r.body.at ∷ ks)) → IsSmallRoutine r → Each (IsFew tokens) (in_routine r) → (body_step r (Ok v) (routines.opened owner r (announced_of r (Ok v) hs))).faults ≡ [] →
@@ -131,20 +141,23 @@ module _ (tokens : Tokens) (p : Program) where
         sound = sound;
         step = subst (λ (i : Judged Use). StepResult tokens p false None s (closed_of r (Ok v) i d.scopes) k below ks) (sym (same ∙ uses.is))
             (closed_agrees s a d.scopes m below (routine_in k r).scope js ks r v uses.value fresh before ann.known ann.outer ann.more parts.more parts.outer parts.agree);
+        read = subst (λ (i : Judged Use). Reads s (closed_of r (Ok v) i d.scopes)) (sym (same ∙ uses.is)) (closed_read s a d.scopes r v uses.value fresh ann.outer parts.outer);
       }
 
   pub record RoutineResult (owner : Option SystemKind) (s : Scopes) (m below : scopes.Scope) (ks : List ℕ) (n : ℕ) (r : Routine) : Type 0 where
     pub place : IsAgreed tokens p (routine_place owner s r) (record { meaning = routine_in (with_routine m r) r; owner = n; name = Some r.name.name })
     pub step : StepResult tokens p false None s (routine_step owner s r).scopes (with_routine m r) below ks
+    pub read : Reads s (routine_step owner s r).scopes
 
   -- what a routine leaves, by what its heading leaves
-  routine_result : (owner : Option SystemKind) (s a : Scopes) (m below : scopes.Scope) (js ks : List ℕ) (n : ℕ) (r : Routine) (h : Headed) (v : Option ValueType) → h.result ≡ Ok v → Each IsFreeParameter (routine_in (with_routine m r) r).parameters → IsFreeResult (routine_in (with_routine m r) r).result → BodyResult owner a m below ks r (Ok v) h.scopes → a.outer ≡ s.outer → More s.shapes a.shapes →
+  routine_result : (owner : Option SystemKind) (s a : Scopes) (m below : scopes.Scope) (js ks : List ℕ) (n : ℕ) (r : Routine) (h : Headed) (v : Option ValueType) → h.result ≡ Ok v → Each IsFreeParameter (routine_in (with_routine m r) r).parameters → IsFreeResult (routine_in (with_routine m r) r).result → BodyResult owner a m below ks r (Ok v) h.scopes → a.outer ≡ s.outer → More s.shapes a.shapes → Reads s a →
       IsAgreed tokens p (record { scopes = (part_steps spot.Other (announced_of r h.result h.scopes) r.parts).scopes; context = routine_context owner r }) (record { meaning = routine_in (with_routine m r) r; owner = n; name = Some r.name.name })
-      × StepResult tokens p false None s (routines.headed_step owner r h).scopes (with_routine m r) below ks
-  routine_result owner s a m below js ks n r h v is parameters result b outer more =
+      × StepResult tokens p false None s (routines.headed_step owner r h).scopes (with_routine m r) below ks × Reads s (routines.headed_step owner r h).scopes
+  routine_result owner s a m below js ks n r h v is parameters result b outer more read =
       let body : BodyResult owner a m below ks r h.result h.scopes = subst (λ (j : Judged (Option ValueType)). BodyResult owner a m below ks r j h.scopes) (sym is) b in (
         place_agreed (part_steps spot.Other (announced_of r h.result h.scopes) r.parts).scopes (routine_context owner r) (routine_in (with_routine m r) r).scope (with_routine m r) (r.body.at ∷ ks) (record { meaning = routine_in (with_routine m r) r; owner = n; name = Some r.name.name }) refl body.sound body.variables parameters result body.agree,
         record { agree = body.step.agree; outer = body.step.outer ∙ outer; settled = body.step.settled; more = more_trans s.shapes a.shapes (routines.headed_step owner r h).scopes.shapes more body.step.more },
+        body.read ∙ read,
       )
 
   pub routine_agrees : (owner : Option SystemKind) (s : Scopes) (m below : scopes.Scope) (ks : List ℕ) (n : ℕ) (r : Routine) → (routine_step owner s r).faults ≡ [] → IsSmallRoutine r → Each (IsFew tokens) (in_routine r) → s.inner.pending ≡ [] → Agree tokens p false None s m below (routine_tokens r ks) → RoutineResult owner s m below ks n r
@@ -160,23 +173,24 @@ module _ (tokens : Tokens) (p : Program) where
       let ann = announced_agrees tokens p a hd.scopes m below (with_routine m r) (meant.heading_of (with_routine m r) r.kind).scope (routine_tokens r ks) (all_tokens part_tokens r.parts (r.body.at ∷ ks)) r head.value refl fresh named.agree head.step.agree head.step.outer head.step.settled head.step.more (head.result, head.read) in
       let body = body_agrees owner a hd.scopes m below (routine_tokens r ks) ks r head.value fresh named.agree ann small few
       (subst (λ (j : Judged (Option ValueType)). faults (routines.opened owner r (announced_of r j hd.scopes)).uses ≡ []) head.is (none_right (faults hd.result) (faults (routines.opened owner r (announced_of r hd.result hd.scopes)).uses) e)) in
-      let all = routine_result owner s a m below (routine_tokens r ks) ks n r hd head.value head.is head.parameters head.free body named.outer (λ k d i. ap (shape_in k) named.shapes ∙ i) in
-      record { place = all.0; step = all.1 }
+      let all = routine_result owner s a m below (routine_tokens r ks) ks n r hd head.value head.is head.parameters head.free body named.outer (λ k d i. ap (shape_in k) named.shapes ∙ i) (ap checker.parameters_in named.reserved.names) in
+      record { place = all.0; step = all.1; read = all.2 }
 
   -- ---- the routines of a system type
 
   pub record RoutinesResult (owner : Option SystemKind) (s : Scopes) (m below : scopes.Scope) (ks : List ℕ) (n : ℕ) (rs : List Routine) : Type 0 where
     pub places : AreAgreed tokens p (routine_places owner s rs) (routine_openings n m rs)
     pub step : StepResult tokens p false None s (routine_steps owner s rs).scopes (with_routines m rs) below ks
+    pub read : Reads s (routine_steps owner s rs).scopes
 
   pub routines_agree : (owner : Option SystemKind) (s : Scopes) (m below : scopes.Scope) (ks : List ℕ) (n : ℕ) (rs : List Routine) → (routine_steps owner s rs).faults ≡ [] → Each IsSmallRoutine rs → Each (IsFew tokens) (each_in in_routine rs) → s.inner.pending ≡ [] → Agree tokens p false None s m below (all_tokens routine_tokens rs ks) →
       RoutinesResult owner s m below ks n rs
   unfolding routine_steps
-  routines_agree owner s m below ks n [] e small few empty h = record { places = tt; step = step_same tokens p false None s m below ks empty h }
+  routines_agree owner s m below ks n [] e small few empty h = record { places = tt; step = step_same tokens p false None s m below ks empty h; read = refl }
   routines_agree owner s m below ks n (r ∷ rs) e small few empty h =
       let t : Scopes = (routine_step owner s r).scopes in
       let js : List ℕ = all_tokens routine_tokens rs ks in
       let k : scopes.Scope = with_routine m r in
       let first : RoutineResult owner s m below js n r = routine_agrees owner s m below js n r (none_left (routine_step owner s r).faults (routine_steps owner t rs).faults e) small.0 (each_left (IsFew tokens) (in_routine r) (each_in in_routine rs) few) empty h in
       let rest : RoutinesResult owner t k below ks n rs = routines_agree owner t k below ks n rs (none_right (routine_step owner s r).faults (routine_steps owner t rs).faults e) small.1 (each_right (IsFew tokens) (in_routine r) (each_in in_routine rs) few) first.step.settled first.step.agree in
-      record { places = (first.place, rest.places); step = step_then tokens p false None s t (routine_steps owner t rs).scopes k (with_routines k rs) below js ks first.step rest.step }
+      record { places = (first.place, rest.places); step = step_then tokens p false None s t (routine_steps owner t rs).scopes k (with_routines k rs) below js ks first.step rest.step; read = rest.read ∙ first.read }

@@ -296,12 +296,13 @@ module _ (tokens : Tokens) (p : Program) where
         free = all_free ks;
         different = different;
         entries = λ k n y e. absurd (let bad : None ≡ Some (Some (meaning.Routine n)) = e in cc);
+        starts = λ k d. absurd (let bad : None ≡ Some (checker.system_shape d.names d.heading d.census d.need) = d.there in cc);
       }
 
   -- ---- the program
 
   agree_plain : (s : Scopes) (m below : scopes.Scope) (ks : List ℕ) → Agree tokens p true None s m below ks → Agree tokens p false None s m below ks
-  agree_plain s m below ks h = record { unsealed = h.unsealed; names = h.names; seen = h.names; outer = h.outer; own = tt; base = h.base; free = h.free; different = h.different; entries = h.entries }
+  agree_plain s m below ks h = record { unsealed = h.unsealed; names = h.names; seen = h.names; outer = h.outer; own = tt; base = h.base; free = h.free; different = h.different; entries = h.entries; starts = h.starts }
 
   uses_sound : (at : ℕ) (s : Scopes) (j : Judged Use) → limit_faults at s j ≡ [] → faults j ≡ []
   uses_sound at s (Ok u) k = refl

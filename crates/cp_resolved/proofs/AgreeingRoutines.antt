@@ -339,6 +339,7 @@ module _ (tokens : Tokens) (p : Program) where
         free = h.free;
         different = h.different;
         entries = h.entries;
+        starts = h.starts;
       }
     where
       fit_routine : (x : Name) (b : Bool) → IsFit (find x m) → IsFit (if b then Some (routine_meaning r) else find x m)
@@ -399,7 +400,7 @@ module _ (tokens : Tokens) (p : Program) where
       let d : Shape = heading_shape (headings.as_heading r v hs) r.body.at in
       let t : Scopes = keep hs r.name.at d in
       let a : Scopes = announced r v hs in
-      let kept : Agree tokens p false (Some r.name.name) t rs k ks = agree_kept tokens p false (Some r.name.name) hs rs k r.name.at ks d (λ y. refl) h in
+      let kept : Agree tokens p false (Some r.name.name) t rs k ks = agree_kept tokens p false (Some r.name.name) hs rs k r.name.at ks d tt (λ y. refl) h in
       let there : shape_in r.name.at t.shapes ≡ Some d = with_there hs.shapes r.name.at d h.free.0 in
       let further : More s.shapes a.shapes = more_trans s.shapes hs.shapes a.shapes more (with_more hs.shapes r.name.at d h.free.0) in
       let c : Scope = with_name (sealed false s.inner) r.name.name (announcing r) in
@@ -418,6 +419,7 @@ module _ (tokens : Tokens) (p : Program) where
           free = kept.free;
           different = kept.different;
           entries = kept.entries;
+          starts = kept.starts;
         };
         known = known;
         outer = is;

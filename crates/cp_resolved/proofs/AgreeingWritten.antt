@@ -285,7 +285,7 @@ module _ (tokens : Tokens) (p : Program) where
           belongs = record { token = at; is = refl; shape = a.value; there = ap as_array (with_there u.shapes at (array_shape a.value) agree.free.0); range = a.holds.range; takes = a.holds.takes; few = a.holds.few; belongs = type_more tokens u.shapes (with_shape u.shapes at (array_shape a.value)) further e a.value.element a.holds.element };
           stands = a.holds.stands;
         };
-        agree = agree_kept tokens p b None u m below at ks (array_shape a.value) (λ y. refl) agree;
+        agree = agree_kept tokens p b None u m below at ks (array_shape a.value) tt (λ y. refl) agree;
         outer = outer;
         pending = pending;
         pends = pends;
@@ -448,7 +448,7 @@ module _ (tokens : Tokens) (p : Program) where
           };
           stands = stands_free q (named.record_with u.0) free;
         };
-        agree = agree_kept tokens p b None f.scopes u.1 below at ks (record_shape f.fields n) (λ y. refl) r.agree;
+        agree = agree_kept tokens p b None f.scopes u.1 below at ks (record_shape f.fields n) tt (λ y. refl) r.agree;
         outer = r.outer;
         pending = r.pending;
         pends = r.pends;

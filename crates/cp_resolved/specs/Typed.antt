@@ -24,6 +24,7 @@ use Rattle.cp_meaning.specs.Scopes as scopes
 use Rattle.cp_meaning.specs.Scopes.{Standard, find, since}
 use Rattle.cp_meaning.specs.Declarations.{Parameter, RoutineMeaning, routine_in}
 use Rattle.cp_meaning.specs.Operations.{range_of_base}
+use Rattle.cp_meaning.specs.Systems.{system_of}
 use Rattle.cp_meaning.specs.Expressions.{routine_of_type}
 use Rattle.cp_slots.specs.Code as code
 use Rattle.cp_resolved.specs.Layouts.{cells_of, cells_in, Here}
@@ -216,10 +217,11 @@ MeaningIs w s x scope (meaning.Reference v) o = VariableIs w v o
 MeaningIs w s x scope (meaning.Routine n) o = RoutineIs w (heading_at n s) x scope o
 MeaningIs w s x scope (meaning.Predeclared q) o = StandardIs q o
 
--- The checker's scopes and the place of a statement: each visible name stands for the same, and so do the routines of components.
+-- The checker's scopes and the place of a statement: each visible name stands for the same, and so do the routines of components and the parameters of system types.
 pub record ScopesAgree (tokens : Tokens) (s : Scopes) (h : Here) : Type 0 where
   pub names : (x : Name) (m : Meaning) → look x s ≡ Some (Some m) → MeaningIs (record { shapes = s.shapes; tokens = tokens }) s x h.scope m (find x h.scope)
   pub entries : (k n : ℕ) (y : Name) → member_at (tokens.systems k) y s ≡ Some (Some (meaning.Routine n)) → HeadingIs (record { shapes = s.shapes; tokens = tokens }) (heading_at n s) (routine_of_type h.program (named.component_of k) y)
+  pub starts : (k : ℕ) (d : SystemThere (tokens.systems k) s.shapes) → AreParameters (record { shapes = s.shapes; tokens = tokens }) d.heading.parameters (system_of h.program k).parameters
 
 -- ---- operands and forms
 
