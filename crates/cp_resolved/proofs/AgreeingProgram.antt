@@ -335,7 +335,7 @@ module _ (tokens : Tokens) (p : Program) where
       record {
         places = agreed_append tokens p (parts_places start p.parts) (routine_places None a.scopes p.routines ++ place ∷ []) (parts_openings nothing_declared p.parts) (routine_openings (program_system p) k p.routines ++ last ∷ []) parts.places
             (agreed_append tokens p (routine_places None a.scopes p.routines) (place ∷ []) (routine_openings (program_system p) k p.routines) (last ∷ []) routines.places
-            (place_agreed tokens p d.scopes program_context (with_routines k p.routines) predeclared (p.period ∷ []) last refl (ap faults (sym (none_after d.faults j none)) ∙ none) tt tt tt routines.step.agree, tt));
+            (place_agreed tokens p d.scopes program_context (with_routines k p.routines) predeclared (p.period ∷ []) last refl (ap faults (sym (none_after d.faults j none)) ∙ none) tt tt tt (λ z i. absurd (cc)) routines.step.agree, tt));
         types = parts.types tt;
         variables = parts.variables tt;
       }

@@ -49,7 +49,7 @@ use Rattle.cp_resolved.proofs.AgreeingNames.{W, HeadingThere, heading_kept, head
 use Rattle.cp_resolved.proofs.AgreeingTypes.{Held, held_named, IsFew, KindOf, type_named}
 use Rattle.cp_resolved.proofs.AgreeingWritten.{each_left, each_right}
 use Rattle.cp_resolved.proofs.AgreeingParameters.{free_handed, copies, parameters_both, copies_are, names_read, shapes_added}
-use Rattle.cp_resolved.proofs.ParametersRead.{parts_read}
+use Rattle.cp_resolved.proofs.ParametersRead.{parts_read, longer_read}
 use Rattle.cp_resolved.proofs.AgreeingParts.{standing_may, StepResult, step_then, step_same, names_result, all_declared, permanent_kind, parts_agree, parts_stand}
 use Rattle.cp_resolved.proofs.AgreeingRoutines.{none_before, none_after, AreRead}
 use Rattle.cp_resolved.proofs.AgreeingBodies.{Uses, loud_uses, all_heard, place_agreed, RoutinesResult, routines_agree}
@@ -264,12 +264,12 @@ module _ (tokens : Tokens) (p : Program) where
       let uses : Uses j = loud_uses j (statements_loud d.scopes (initial_context y.kind) (all_heard tokens p false d.scopes (system_in m y).scope m (y.at ∷ ks) step.agree) y.body.statements (Ok no_use) tt) sound in
       record {
         places = agreed_append tokens p (routine_places (Some y.kind) b.scopes y.routines) (initial_place s y ∷ []) (routine_openings n ps y.routines) (initial_opening n (system_in m y) ∷ []) all.places
-            (place_agreed tokens p d.scopes (initial_context y.kind) (system_in m y).scope m (y.at ∷ ks) (initial_opening n (system_in m y)) refl sound tt tt tt step.agree, tt);
+            (place_agreed tokens p d.scopes (initial_context y.kind) (system_in m y).scope m (y.at ∷ ks) (initial_opening n (system_in m y)) refl sound tt tt tt (λ z i. absurd (cc)) step.agree, tt);
         step = step;
         parameters = groups_stand y.kind s (record { parameters = []; scope = m }) m (system_tokens y ks) y.parameters (none_left a.faults (b.faults ++ c.faults) none) empty h tt;
         read =
             (let before = groups_read y.kind s (record { parameters = []; scope = m }) m (system_tokens y ks) y.parameters (none_left a.faults (b.faults ++ c.faults) none) empty h first_read in
-            subst (λ (as' : List check_parameter.Parameter). AreParameters (W tokens c.scopes.shapes) as' (system_in m y).parameters) (sym (all.read ∙ parts_read (spot.Permanent (Some y.kind)) a.scopes y.parts))
+            subst (λ (as' : List check_parameter.Parameter). AreParameters (W tokens c.scopes.shapes) as' (system_in m y).parameters) (sym (all.read ∙ longer_read a.scopes.inner b.scopes.inner (parts_read (spot.Permanent (Some y.kind)) a.scopes y.parts)))
             (parameters_more tokens a.scopes.shapes c.scopes.shapes (more_trans a.scopes.shapes b.scopes.shapes c.scopes.shapes parts.more all.step.more) (parameters_in a.scopes.inner.names) (system_in m y).parameters before));
         variables = parts_stand tokens p false (spot.Permanent (Some y.kind)) scopes.permanent_variable (permanent_kind tokens p false (Some y.kind)) a.scopes o m rs y.parts (none_left b.faults c.faults (none_right a.faults (b.faults ++ c.faults) none)) small.0 (each_left (IsFew tokens) (each_in in_part y.parts) (each_in in_routine y.routines) few) first.settled first.agree tt;
         uses = record { value = uses.value; is = subst (λ (i : Judged Use). i ≡ Ok uses.value) (sym same) uses.is };
