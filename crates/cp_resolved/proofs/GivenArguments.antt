@@ -77,7 +77,7 @@ loaded_place p (named.component_of n) = refl
 
 -- ---- faults
 
-passed : {A : Type 0} (fs : List CheckFault) (x r : A) → unless fs x ≡ Ok r → fs ≡ []
+pub passed : {A : Type 0} (fs : List CheckFault) (x r : A) → unless fs x ≡ Ok r → fs ≡ []
 passed [] x r e = refl
 passed (f ∷ fs) x r e = absurd (cc)
 

@@ -47,6 +47,7 @@ pub mod FittedStatements
 pub mod Fitting
 pub mod Foreign
 pub mod FormedStatements
+pub mod FormedTargets
 pub mod FormsOfTrees
 pub mod FrameCells
 pub mod FrameKept
