@@ -237,11 +237,11 @@ module _ (tokens : Tokens) (s : Scopes) (h : Here) (w : Context) (agrees : Scope
 
   -- ---- calls
 
-  record Passed (n : ℕ) (os : List Operand) : Type 0 where
+  pub record Passed (n : ℕ) (os : List Operand) : Type 0 where
     pub fit : Fitted (heading_at n s).parameters os
     pub variables : all_variable_faults (heading_at n s).parameters os ≡ []
 
-  called_passed : (at name_at : ℕ) (b : Bool) (n : ℕ) (os : List Operand) (u r : Use) → calls.called s w at name_at b n os u ≡ Ok r → Passed n os
+  pub called_passed : (at name_at : ℕ) (b : Bool) (n : ℕ) (os : List Operand) (u r : Use) → calls.called s w at name_at b n os u ≡ Ok r → Passed n os
   unfolding calls.called
   called_passed at name_at b n os u r is =
       let none : calls.call_faults s w at name_at b n os ≡ [] = passed (calls.call_faults s w at name_at b n os) (both_uses (calls.total_use u os) (calls.call_use b (body_at n s))) r is in

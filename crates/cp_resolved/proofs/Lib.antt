@@ -119,6 +119,7 @@ pub mod SoundItems
 pub mod SoundParameters
 pub mod SoundTables
 pub mod StandingParts
+pub mod StatementsFormed
 pub mod StatementsStand
 pub mod Steps
 pub mod StepsOfParts
