@@ -21,9 +21,10 @@ use Rattle.cp_meaning.specs.Declarations.{Parameter, RoutineMeaning, routine_in,
 use Rattle.cp_meaning.specs.Systems.{system_of}
 use Rattle.cp_meaning.specs.Expressions.{routine_of_type}
 use Rattle.cp_resolved.specs.Layouts.{cells_in}
+use Rattle.cp_resolved.specs.Small.{Each}
 use Rattle.cp_resolved.specs.Standing.{IsFit, is_standing}
 use Rattle.cp_resolved.specs.Tokens.{AreDifferent}
-use Rattle.cp_resolved.specs.Typed.{Tokens, SystemThere, Written, TypeIs, FieldsAre, AreParameters, HeadingIs, VariableIs, KindIs, RoutineIs, MeaningIs}
+use Rattle.cp_resolved.specs.Typed.{Tokens, SystemThere, IsValueParameter, Written, TypeIs, FieldsAre, AreParameters, HeadingIs, VariableIs, KindIs, RoutineIs, MeaningIs}
 use Rattle.cp_resolved.proofs.Agreeing.{itself, is_itself, unknown, find_last, new_names, inner_look, look_is, More, with_more, with_there, with_other, AreFree, free_others}
 
 -- the heading of a routine is written
@@ -265,7 +266,7 @@ module _ (tokens : Tokens) where
 
     -- the parameters of each system type that is written
     abbrev pub AreStarts : Scopes → Type 0
-    AreStarts s = (k : ℕ) (d : SystemThere (tokens.systems k) s.shapes) → AreParameters (W s.shapes) d.heading.parameters (system_of p k).parameters
+    AreStarts s = (k : ℕ) (d : SystemThere (tokens.systems k) s.shapes) → AreParameters (W s.shapes) d.heading.parameters (system_of p k).parameters × Each IsValueParameter (system_of p k).parameters
 
     -- `inside`: in the program, what its system types see agrees too. `but`: in a heading the name of its routine is not visible yet.
     pub record Agree (inside : Bool) (but : Option Name) (s : Scopes) (m below : scopes.Scope) (ks : List ℕ) : Type 0 where
@@ -301,8 +302,8 @@ module _ (tokens : Tokens) where
 
     pub starts_more : (s t : Scopes) → More s.shapes t.shapes → ((k : ℕ) → SystemThere (tokens.systems k) t.shapes → shape_in (tokens.systems k) t.shapes ≡ shape_in (tokens.systems k) s.shapes) → AreStarts s → AreStarts t
     starts_more s t more back h k d =
-        parameters_more s.shapes t.shapes more d.heading.parameters (system_of p k).parameters
-        (h k (record { names = d.names; heading = d.heading; census = d.census; need = d.need; there = sym (back k d) ∙ d.there }))
+        let before = h k (record { names = d.names; heading = d.heading; census = d.census; need = d.need; there = sym (back k d) ∙ d.there }) in
+        (parameters_more s.shapes t.shapes more d.heading.parameters (system_of p k).parameters before.0, before.1)
 
     pub entries_more : (s t : Scopes) → More s.shapes t.shapes → ((k n : ℕ) (y : Name) → member_at (tokens.systems k) y t ≡ Some (Some (meaning.Routine n)) → member_at (tokens.systems k) y s ≡ Some (Some (meaning.Routine n))) → AreEntries s → AreEntries t
     entries_more s t more back h k n y e =

@@ -43,7 +43,7 @@ use Rattle.cp_resolved.specs.Openings.{Opening, parts_scope, routine_openings, i
 use Rattle.cp_resolved.specs.Small.{Each, IsSmallSystem}
 use Rattle.cp_resolved.specs.Standing.{is_element, is_standing, IsStandingVariable, IsStandingParameter}
 use Rattle.cp_resolved.specs.Tokens.{all_tokens, routine_tokens, system_tokens}
-use Rattle.cp_resolved.specs.Typed.{Tokens, SystemThere, TypeIs, IsHanded, AreParameters, HeadingIs, RoutineIs}
+use Rattle.cp_resolved.specs.Typed.{Tokens, SystemThere, IsValueParameter, TypeIs, IsHanded, AreParameters, HeadingIs, RoutineIs}
 use Rattle.cp_resolved.proofs.Agreeing.{Good, good_then, good_sound, none_left, none_right, none_first, look_entered, inner_look, More, more_same, more_trans, with_more, with_there, with_other, free_others}
 use Rattle.cp_resolved.proofs.AgreeingNames.{W, HeadingThere, heading_kept, heading_more, heading_is_more, parameters_more, AreStarts, New, Known, IsKnown, is_known_moved, IsStacked, AreEntries, Agree, sees, sees_of, fit_of, agree_returned}
 use Rattle.cp_resolved.proofs.AgreeingTypes.{Held, held_named, IsFew, KindOf, type_named}
@@ -323,6 +323,20 @@ module _ (tokens : Tokens) (p : Program) where
           other_entry : nat_eq (tokens.systems k) y.at ≡ false → member_at (tokens.systems k) x s ≡ Some (Some (meaning.Routine n))
           other_entry at = ap (as_member x) (sym (with_other s.shapes y.at (tokens.systems k) d h.free.0 (λ j. (let bad : true ≡ false = sym ((Decides-eqb (tokens.systems k) y.at).1 j) ∙ at in absurd cc)))) ∙ there
 
+  values_named : (xs : List Name) (t : Ty) → Each IsValueParameter (meant.parameters_named xs t false)
+  values_named [] t = tt
+  values_named (x ∷ xs) t = (refl, values_named xs t)
+
+  values_both : (qs rs : List meant.Parameter) → Each IsValueParameter qs → Each IsValueParameter rs → Each IsValueParameter (qs ++ rs)
+  values_both [] rs h g = g
+  values_both (q ∷ qs) rs h g = (h.0, values_both qs rs h.1 g)
+
+  groups_values : (h : meant.Heading) (gs : List Group) → Each IsValueParameter h.parameters → Each IsValueParameter (meant.with_groups scopes.permanent_variable h gs).parameters
+  groups_values h [] qs = qs
+  groups_values h (g ∷ gs) qs =
+      let t : Ty = meant.type_named h.scope g.type_name.name in
+      groups_values (meant.with_group scopes.permanent_variable false h g) gs (values_both h.parameters (meant.parameters_named (meant.names_of g.names) t false) qs (values_named (meant.names_of g.names) t))
+
   closed_starts : (s t : Scopes) (c : ℕ) (around : scopes.Scope) (y : System) (m : Scope) (census' : Census) (need : ℕ) → IsNumbered c around y → shape_in y.at s.shapes ≡ None → t.shapes ≡ with_shape s.shapes y.at (system_shape m (system_heading s) census' need) → AreRead tokens p s (system_in around y).parameters → AreStarts tokens p s → AreStarts tokens p t
   closed_starts s t c around y m census' need i free is read h k e = go (nat_eq (tokens.systems k) y.at) refl
     where
@@ -335,19 +349,22 @@ module _ (tokens : Tokens) (p : Program) where
       heading_same : (a b : Scope) (x z : checker.Heading) (u v : Census) (n l : ℕ) → Some (system_shape a x u n) ≡ Some (system_shape b z v l) → x ≡ z
       heading_same a b x z u v n l q = cc
 
-      go : (b : Bool) → nat_eq (tokens.systems k) y.at ≡ b → AreParameters (W tokens t.shapes) e.heading.parameters (system_of p k).parameters
+      go : (b : Bool) → nat_eq (tokens.systems k) y.at ≡ b → AreParameters (W tokens t.shapes) e.heading.parameters (system_of p k).parameters × Each IsValueParameter (system_of p k).parameters
       go true at =
           let token : tokens.systems k ≡ y.at = (Decides-eqb (tokens.systems k) y.at).0 at in
           let there : shape_in (tokens.systems k) t.shapes ≡ Some d = ap (λ j. shape_in j t.shapes) token ∙ ap (shape_in y.at) is ∙ with_there s.shapes y.at d free in
           let one : e.heading ≡ system_heading s = heading_same e.names m e.heading (system_heading s) e.census census' e.need need (sym e.there ∙ there) in
           let meaning : system_of p k ≡ system_in around y = ap (system_of p) (i.only k token) ∙ i.meaning in
-          subst (λ (z : checker.Heading). AreParameters (W tokens t.shapes) z.parameters (system_of p k).parameters) (sym one)
-          (subst (λ (z : SystemMeaning). AreParameters (W tokens t.shapes) (parameters_in s.inner.names) z.parameters) (sym meaning)
-          (parameters_more tokens s.shapes t.shapes more (parameters_in s.inner.names) (system_in around y).parameters read))
+          (
+            subst (λ (z : checker.Heading). AreParameters (W tokens t.shapes) z.parameters (system_of p k).parameters) (sym one)
+            (subst (λ (z : SystemMeaning). AreParameters (W tokens t.shapes) (parameters_in s.inner.names) z.parameters) (sym meaning)
+            (parameters_more tokens s.shapes t.shapes more (parameters_in s.inner.names) (system_in around y).parameters read)),
+            subst (λ (z : SystemMeaning). Each IsValueParameter z.parameters) (sym meaning) (groups_values (record { parameters = []; scope = around }) y.parameters tt),
+          )
       go false at =
           let other : shape_in (tokens.systems k) t.shapes ≡ shape_in (tokens.systems k) s.shapes = ap (shape_in (tokens.systems k)) is ∙ with_other s.shapes y.at (tokens.systems k) d free (λ j. (let bad : true ≡ false = sym ((Decides-eqb (tokens.systems k) y.at).1 j) ∙ at in absurd cc)) in
-          parameters_more tokens s.shapes t.shapes more e.heading.parameters (system_of p k).parameters
-          (h k (record { names = e.names; heading = e.heading; census = e.census; need = e.need; there = sym other ∙ e.there }))
+          let before = h k (record { names = e.names; heading = e.heading; census = e.census; need = e.need; there = sym other ∙ e.there }) in
+          (parameters_more tokens s.shapes t.shapes more e.heading.parameters (system_of p k).parameters before.0, before.1)
 
   pub record ClosedResult (s t : Scopes) (m below : scopes.Scope) (ks : List ℕ) (y : System) : Type 0 where
     pub agree : Agree tokens p true None t m below ks

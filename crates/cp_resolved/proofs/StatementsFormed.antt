@@ -16,6 +16,7 @@ use Rattle.cp_scope.specs.Counts.{no_use, both_uses}
 use Rattle.cp_scope.specs.Types.{agree, is_of, is_ordinal}
 use Rattle.cp_scope.specs.Judged.{Judged, both, ◌>>=◌, faults}
 use Rattle.cp_scope.specs.Scopes.{Scopes, heading_at}
+use Rattle.cp_scope.specs.Scopes as checker
 use Rattle.cp_check.specs.declared.operand.Context.{Context}
 use Rattle.cp_check.specs.declared.operand.Operand.{Operand}
 use Rattle.cp_check.specs.declared.operand.Designated as check_designated
@@ -42,6 +43,7 @@ use Rattle.cp_meaning.specs.Types.{Ty}
 use Rattle.cp_meaning.specs.Scopes as scopes
 use Rattle.cp_meaning.specs.Scopes.{find}
 use Rattle.cp_meaning.specs.Lifting.{last_field, is_call_meant, expression_calls, expressions_calls, selectors_calls}
+use Rattle.cp_meaning.specs.Declarations as meant
 use Rattle.cp_meaning.specs.Expressions.{routine_called}
 use Rattle.cp_meaning.specs.Systems.{system_of}
 use Rattle.cp_resolved.specs.BodiesStand.{CallsFormed}
@@ -54,7 +56,7 @@ use Rattle.cp_resolved.specs.Layouts.{Here}
 use Rattle.cp_resolved.specs.Small.{Each}
 use Rattle.cp_resolved.specs.SmallStatements.{IsSmallStart, IsSmallStatement, AreSmallStatements, AreSmallArms, IsSmallArm}
 use Rattle.cp_resolved.specs.Stands.{first_of}
-use Rattle.cp_resolved.specs.Typed.{Tokens, ComponentIs, AreParameters, HeadingIs, RoutineIs, StandardIs, predeclared_of, ScopesAgree, Expressed, HasForm, IsSmallExpression, AreSmallExpressions, AreSmallSelectors}
+use Rattle.cp_resolved.specs.Typed.{Tokens, ComponentIs, IsValueParameter, AreParameters, HeadingIs, RoutineIs, StandardIs, predeclared_of, ScopesAgree, Expressed, HasForm, IsSmallExpression, AreSmallExpressions, AreSmallSelectors}
 use Rattle.cp_resolved.specs.Used.{IsBare, IsOne, IsUsed, AreUsed, SelectorsUsed}
 use Rattle.cp_resolved.proofs.Agreeing.{none_left, none_right}
 use Rattle.cp_resolved.proofs.FormedStatements.{ordinal_formed, performed_formed, selector_ordinal, ordinal_is, agree_ordinal}
@@ -309,3 +311,68 @@ module _ (tokens : Tokens) (s : Scopes) (h : Here) (w : Context) (agrees : Scope
   none_var [] os e = refl
   none_var (a ∷ as') [] e = refl
   none_var (a ∷ as') (o ∷ os) e = ap (λ (b : Bool). (if b && not (is_assignable o.place) then calls.fault o.at C6 else []) ++ all_variable_faults as' os) e.0 ∙ none_var as' os e.1
+
+  value_parameters : (as' : List check_parameter.Parameter) (qs : List meant.Parameter) → AreParameters (written tokens s h) as' qs → Each IsValueParameter qs → Each (λ (a : check_parameter.Parameter). a.is_var ≡ false) as'
+  value_parameters [] [] i e = tt
+  value_parameters (a ∷ as') (q ∷ qs) i e = (i.0.passed ∙ e.0, value_parameters as' qs i.1 e.1)
+  value_parameters [] (q ∷ qs) i e = absurd i
+  value_parameters (a ∷ as') [] i e = absurd i
+
+  component_started : (at : ℕ) (i : Identifier) (ss : Selectors) (es : Expressions) (x : Option Name) (k : SystemKind) (n : ℕ) (o : Option Designated) (os : List Operand) (u r : Use) → x ≡ last_field ss → Holds (written tokens s h) (find i.name h.scope) x (types.Component k n) o → AreSmallExpressions es → arguments s w [] 0 es ≡ Ok os → calls.unless (calls.fit_faults at (heading_at n s).parameters os) u ≡ Ok r → Started i ss es o
+  component_started at i ss es x k n (Some (a_component c j)) os u r same e small a is =
+      let token : n ≡ tokens.systems j = component_token k e.0.kind n (tokens.systems j) e.0.is in
+      let f : Fitted (heading_at n s).parameters os = fitted at (heading_at n s).parameters os (passed (calls.fit_faults at (heading_at n s).parameters os) u r is) in
+      let heading : (heading_at n s) ≡ e.0.there.heading = ap (λ z. heading_at z s) token ∙ ap checker.as_heading e.0.there.there in
+      let known = agrees.starts j e.0.there in
+      let qs : List meant.Parameter = (system_of h.program j).parameters in
+      let ps : AreParameters (written tokens s h) (heading_at n s).parameters qs = subst (λ (z : checker.Heading). AreParameters (written tokens s h) z.parameters qs) (sym heading) known.0 in
+      let y = arguments_used tokens s h w agrees 0 es small os a in
+      record {
+        part = c;
+        system = j;
+        is = refl;
+        named = component_not_routine j (find i.name h.scope) e.1;
+        whole = sym same ∙ e.2;
+        arguments = all_given tokens s h w agrees (heading_at n s).parameters qs es os ps small (plain_arguments tokens s h w agrees (heading_at n s).parameters 0 es os a f.many) f.fit (none_var (heading_at n s).parameters os (value_parameters (heading_at n s).parameters qs ps known.1));
+        used = y.0;
+        calls = y.1;
+      }
+  component_started at i ss es x k n (Some (some_components first q j)) os u r same e small a is = absurd (let bad : types.Component k n ≡ types.Array e.0.token = e.0.is in cc)
+  component_started at i ss es x k n (Some (a_variable p (named.component_of j))) os u r same e small a is = absurd (let bad : false ≡ true = e.1 in cc)
+  component_started at i ss es x k n (Some (a_variable p (named.ordinal q))) os u r same e small a is = absurd (let bad : types.Component k n ≡ types.Ordinal e.0.range = e.0.is in cc)
+  component_started at i ss es x k n (Some (a_variable p named.queue_type)) os u r same e small a is = absurd (let bad : types.Component k n ≡ types.Queue = e.0 in cc)
+  component_started at i ss es x k n (Some (a_variable p (named.set_over q))) os u r same e small a is = absurd (let bad : types.Component k n ≡ types.Set (Some e.0.range) = e.0.is in cc)
+  component_started at i ss es x k n (Some (a_variable p (named.array_over q y))) os u r same e small a is = absurd (let bad : types.Component k n ≡ types.Array e.0.token = e.0.is in cc)
+  component_started at i ss es x k n (Some (a_variable p (named.record_with ts))) os u r same e small a is = absurd (let bad : types.Component k n ≡ types.Record e.0.token = e.0.is in cc)
+  component_started at i ss es x k n None os u r same e small a is = absurd e
+
+  variable_started : (at : ℕ) (i : Identifier) (ss : Selectors) (es : Expressions) (d : check_designated.Designated) (v : ValueType) (o : Option Designated) (os : List Operand) (r : Use) → Holds (written tokens s h) (find i.name h.scope) (last_field ss) v o → AreSmallExpressions es → arguments s w [] 0 es ≡ Ok os → statements.started_named s at d os (name.Variable v) ≡ Ok r → Started i ss es o
+  variable_started at i ss es d (types.Component k n) o os r e small a is = component_started at i ss es (last_field ss) k n o os _ r refl e small a is
+  variable_started at i ss es d (types.Ordinal q) o os r e small a is = absurd (cc)
+  variable_started at i ss es d types.Queue o os r e small a is = absurd (cc)
+  variable_started at i ss es d (types.Set q) o os r e small a is = absurd (cc)
+  variable_started at i ss es d (types.Array q) o os r e small a is = absurd (cc)
+  variable_started at i ss es d (types.Record q) o os r e small a is = absurd (cc)
+
+  named_started : (at : ℕ) (i : Identifier) (ss : Selectors) (es : Expressions) (d : check_designated.Designated) (n : Named) (o : Option Designated) (os : List Operand) (r : Use) → NamedIs tokens s h i.name (find i.name h.scope) (last_field ss) n o → AreSmallExpressions es → arguments s w [] 0 es ≡ Ok os → statements.started_named s at d os n ≡ Ok r → Started i ss es o
+  named_started at i ss es d (name.Variable v) o os r e small a is = variable_started at i ss es d v o os r e small a is
+  named_started at i ss es d (name.Parameter v) o os r e small a is = absurd (cc)
+  named_started at i ss es d (name.Constant b) o os r e small a is = absurd (cc)
+  named_started at i ss es d (name.Routine n) o os r e small a is = absurd (cc)
+  named_started at i ss es d (name.Entry n) o os r e small a is = absurd (cc)
+  named_started at i ss es d (name.Predeclared p) o os r e small a is = absurd (cc)
+  named_started at i ss es d name.Kind o os r e small a is = absurd (cc)
+  named_started at i ss es d name.Nothing o os r e small a is = absurd (cc)
+
+  start_formed_of : (i : Identifier) (ss : Selectors) (es : Expressions) → AreSmallSelectors ss → AreSmallExpressions es → (r : Use) → statements.start s w (record { target = name_with i ss; arguments = es }) ≡ Ok r → StartFormed h (record { target = name_with i ss; arguments = es }) × CallsFormed h (selectors_calls h.scope ss ++ expressions_calls h.scope es)
+  unfolding statements.start statements.started
+  start_formed_of i ss es small less r is =
+      let d : Designator = name_with i ss in
+      let t : Then (both (designator s w d) (arguments s w [] 0 es)) (statements.started s i.at) r = then_of (both (designator s w d) (arguments s w [] 0 es)) (statements.started s i.at) r is in
+      let b = both_of (designator s w d) (arguments s w [] 0 es) t.value t.is in
+      let p : Pointed i ss t.value.0 = pointed i ss t.value.0 small b.first in
+      let x : Started i ss es (designator_form h d) = named_started i.at i ss es t.value.0 t.value.0.named (designator_form h d) t.value.1 r p.holds less b.second t.rest in
+      (
+        record { part = x.part; system = x.system; target = x.is; named = x.named; whole = x.whole; chosen = p.chosen; used = x.used; arguments = x.arguments },
+        calls_both h (selectors_calls h.scope ss) (expressions_calls h.scope es) p.calls x.calls,
+      )

@@ -28,6 +28,7 @@ use Rattle.cp_meaning.specs.Systems.{system_of}
 use Rattle.cp_meaning.specs.Expressions.{routine_of_type}
 use Rattle.cp_slots.specs.Code as code
 use Rattle.cp_resolved.specs.Layouts.{cells_of, cells_in, Here}
+use Rattle.cp_resolved.specs.Small.{Each}
 use Rattle.cp_resolved.specs.Standing.{is_free}
 use Rattle.cp_resolved.specs.Compiled.{Form, as_ordinal, as_set, as_place, as_component, Formed}
 
@@ -181,6 +182,9 @@ AreParameters w (a ∷ as') (q ∷ qs) = ParameterIs w a q × AreParameters w as
 AreParameters w [] (q ∷ qs) = ⊥
 AreParameters w (a ∷ as') [] = ⊥
 
+abbrev pub IsValueParameter : Parameter → Type 0
+IsValueParameter q = q.is_var ≡ false
+
 -- what is written as the heading of a routine
 abbrev pub HeadingIs : Written → Heading → Option RoutineMeaning → Type 0
 HeadingIs w d None = ⊥
@@ -221,7 +225,7 @@ MeaningIs w s x scope (meaning.Predeclared q) o = StandardIs q o
 pub record ScopesAgree (tokens : Tokens) (s : Scopes) (h : Here) : Type 0 where
   pub names : (x : Name) (m : Meaning) → look x s ≡ Some (Some m) → MeaningIs (record { shapes = s.shapes; tokens = tokens }) s x h.scope m (find x h.scope)
   pub entries : (k n : ℕ) (y : Name) → member_at (tokens.systems k) y s ≡ Some (Some (meaning.Routine n)) → HeadingIs (record { shapes = s.shapes; tokens = tokens }) (heading_at n s) (routine_of_type h.program (named.component_of k) y)
-  pub starts : (k : ℕ) (d : SystemThere (tokens.systems k) s.shapes) → AreParameters (record { shapes = s.shapes; tokens = tokens }) d.heading.parameters (system_of h.program k).parameters
+  pub starts : (k : ℕ) (d : SystemThere (tokens.systems k) s.shapes) → AreParameters (record { shapes = s.shapes; tokens = tokens }) d.heading.parameters (system_of h.program k).parameters × Each IsValueParameter (system_of h.program k).parameters
 
 -- ---- operands and forms
 
