@@ -60,11 +60,11 @@ use Rattle.cp_resolved.proofs.Agreeing.{none_first, none_of_both, none_left}
 
 -- ---- what has no fault
 
-record Right {A : Type 0} (j : Judged A) : Type 0 where
+pub record Right {A : Type 0} (j : Judged A) : Type 0 where
   pub value : A
   pub is : j ≡ Ok value
 
-right_of : {A : Type 0} (j : Judged A) → Loud j → faults j ≡ [] → Right j
+pub right_of : {A : Type 0} (j : Judged A) → Loud j → faults j ≡ [] → Right j
 right_of (Ok x) h e = record { value = x; is = refl }
 right_of (Err []) h e = absurd h
 right_of (Err (f ∷ fs)) h e = absurd (let bad : f ∷ fs ≡ [] = e in cc)

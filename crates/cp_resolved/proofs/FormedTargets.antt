@@ -127,9 +127,9 @@ module _ (tokens : Tokens) (s : Scopes) (h : Here) (w : Context) (agrees : Scope
   abbrev W : Written
   W = written tokens s h
 
-  -- of the routine in which the statement stands
+  -- of the routine in which the statement stands; if it is a function, its name is that of its result
   pub record OwnRoutine (n : ℕ) : Type 0 where
-    pub named : (y : Name) → look y s ≡ Some (Some (meaning.Routine n)) → is_own h y ≡ true
+    pub named : (y : Name) → look y s ≡ Some (Some (meaning.Routine n)) → HasResult (h.layouts.meanings h.routine).result → is_own h y ≡ true
     pub heading : HeadingIs W (heading_at n s) (Some (h.layouts.meanings h.routine))
 
   -- a name with selectors that may be assigned to
@@ -200,7 +200,7 @@ module _ (tokens : Tokens) (s : Scopes) (h : Here) (w : Context) (agrees : Scope
       record {
         place = code.place ((frame_here h).origins result_name) 0 code.no_indices;
         ty = named.ordinal o.0;
-        is = routine_begun (find i.name h.scope) i.name n k ∙ ap (result_begun h) (own.named i.name there) ∙ ap (λ z. Some (a_variable (code.place ((frame_here h).origins result_name) 0 code.no_indices) (result_type z))) o.1;
+        is = routine_begun (find i.name h.scope) i.name n k ∙ ap (result_begun h) (own.named i.name there (subst HasResult (sym o.1) tt)) ∙ ap (λ z. Some (a_variable (code.place ((frame_here h).origins result_name) 0 code.no_indices) (result_type z))) o.1;
         belongs = o.2;
         whole = refl;
         taken = tt;

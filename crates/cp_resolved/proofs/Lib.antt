@@ -46,6 +46,7 @@ pub mod Fitted
 pub mod FittedStatements
 pub mod Fitting
 pub mod Foreign
+pub mod FormedOfTrees
 pub mod FormedStatements
 pub mod FormedTargets
 pub mod FormsOfTrees

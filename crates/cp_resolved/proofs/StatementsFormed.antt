@@ -36,13 +36,14 @@ use Rattle.cp_check.specs.Expressions.{expression, designator, arguments, select
 use Rattle.cp_check.specs.Statements as statements
 use Rattle.cp_check.specs.Statements.{statement, target_of}
 use Rattle.cp_lawful.proofs.Loud.{Heard}
+use Rattle.cp_slots.specs.declared.place.Origin.{Origin}
 use Rattle.cp_slots.specs.Code as code
 use Rattle.cp_meaning.specs.Names.{Name}
 use Rattle.cp_meaning.specs.Types as named
 use Rattle.cp_meaning.specs.Types.{Ty}
 use Rattle.cp_meaning.specs.Scopes as scopes
 use Rattle.cp_meaning.specs.Scopes.{find}
-use Rattle.cp_meaning.specs.Lifting.{last_field, is_call_meant, expression_calls, expressions_calls, selectors_calls}
+use Rattle.cp_meaning.specs.Lifting.{last_field, is_call_meant, expression_calls, expressions_calls, designator_calls, selectors_calls}
 use Rattle.cp_meaning.specs.Declarations as meant
 use Rattle.cp_meaning.specs.Expressions.{routine_called}
 use Rattle.cp_meaning.specs.Systems.{system_of}
@@ -51,12 +52,12 @@ use Rattle.cp_resolved.specs.Calls.{starts_calls, calls_laid, all_calls_laid, ar
 use Rattle.cp_resolved.specs.Compiled.{Designated, a_variable, some_components, a_component, begun_form, designator_form, expression_form}
 use Rattle.cp_resolved.specs.Formed.{HasOrdinal, HasQueue, IsPerformed}
 use Rattle.cp_resolved.specs.FormedParts.{CanGiveAll, CallFormed}
-use Rattle.cp_resolved.specs.FormedStatements.{TestFormed, OrdinalFormed, AssignFormed, QueueFormed, DisplayFormed, PerformFormed, EntryFormed, InvokeFormed, IsNotRoutine, ForFormed, StartFormed, StatementFormed, AllFormed, ArmsFormed, ArmFormed}
+use Rattle.cp_resolved.specs.FormedStatements.{TestFormed, OrdinalFormed, AssignFormed, QueueFormed, DisplayFormed, PerformFormed, EntryFormed, InvokeFormed, IsTarget, IsNotRoutine, ForFormed, StartFormed, StatementFormed, AllFormed, ArmsFormed, ArmFormed}
 use Rattle.cp_resolved.specs.Layouts.{Here}
 use Rattle.cp_resolved.specs.Small.{Each}
 use Rattle.cp_resolved.specs.SmallStatements.{IsSmallStart, IsSmallStatement, AreSmallStatements, AreSmallArms, IsSmallArm}
 use Rattle.cp_resolved.specs.Stands.{first_of}
-use Rattle.cp_resolved.specs.Typed.{Tokens, ComponentIs, IsValueParameter, AreParameters, HeadingIs, RoutineIs, StandardIs, predeclared_of, ScopesAgree, Expressed, HasForm, IsSmallExpression, AreSmallExpressions, AreSmallSelectors}
+use Rattle.cp_resolved.specs.Typed.{Tokens, TypeIs, ComponentIs, IsValueParameter, AreParameters, HeadingIs, RoutineIs, StandardIs, predeclared_of, ScopesAgree, Expressed, HasForm, IsSmallExpression, AreSmallExpressions, AreSmallSelectors}
 use Rattle.cp_resolved.specs.Used.{IsBare, IsOne, IsUsed, AreUsed, SelectorsUsed}
 use Rattle.cp_resolved.proofs.Agreeing.{none_left, none_right}
 use Rattle.cp_resolved.proofs.FormedStatements.{ordinal_formed, performed_formed, selector_ordinal, ordinal_is, agree_ordinal}
@@ -376,3 +377,179 @@ module _ (tokens : Tokens) (s : Scopes) (h : Here) (w : Context) (agrees : Scope
         record { part = x.part; system = x.system; target = x.is; named = x.named; whole = x.whole; chosen = p.chosen; used = x.used; arguments = x.arguments },
         calls_both h (selectors_calls h.scope ss) (expressions_calls h.scope es) p.calls x.calls,
       )
+
+  start_by : (t : Start) (d : Designator) → t.target ≡ d → IsSmallStart t → (r : Use) → statements.start s w t ≡ Ok r → StartFormed h t × CallsFormed h (designator_calls h.scope t.target ++ expressions_calls h.scope t.arguments)
+  start_by t (name_with i ss) same small r is =
+      let one : t ≡ (let z : Start = record { target = name_with i ss; arguments = t.arguments } in z) = ap (λ (d : Designator). (let z : Start = record { target = d; arguments = t.arguments } in z)) same in
+      let less : IsSmallStart (record { target = name_with i ss; arguments = t.arguments }) = subst IsSmallStart one small in
+      subst (λ (z : Start). StartFormed h z × CallsFormed h (designator_calls h.scope z.target ++ expressions_calls h.scope z.arguments)) (sym one)
+      (start_formed_of i ss t.arguments less.0 less.1 r (subst (λ (z : Start). statements.start s w z ≡ Ok r) one is))
+
+  start_formed : (t : Start) → IsSmallStart t → (r : Use) → statements.start s w t ≡ Ok r → StartFormed h t × CallsFormed h (designator_calls h.scope t.target ++ expressions_calls h.scope t.arguments)
+  start_formed t small r is = start_by t t.target refl small r is
+
+  -- ---- counts
+
+  record Counts (t : Target) (a b : Operand) : Type 0 where
+    pub value_type : ValueType
+    pub is : t ≡ target.Assignable value_type
+    pub ordinal : is_ordinal value_type ≡ true
+    pub first : agree value_type a.value_type ≡ true
+    pub last : agree value_type b.value_type ≡ true
+
+  counts : (at n : ℕ) (t : Target) (a b : Operand) (u r : Use) → statements.counted at n t a b u ≡ Ok r → Counts t a b
+  counts at n (target.Assignable v) a b u r e =
+      let all : (is_ordinal v && agree v a.value_type && agree v b.value_type) ≡ true = (if_of (statements.counts v a b) u r _ [] e).0 in
+      let before : (is_ordinal v && agree v a.value_type) ≡ true = first_true (is_ordinal v && agree v a.value_type) (agree v b.value_type) all in
+      record {
+        value_type = v;
+        is = refl;
+        ordinal = first_true (is_ordinal v) (agree v a.value_type) before;
+        first = second_true (is_ordinal v) (agree v a.value_type) before;
+        last = second_true (is_ordinal v && agree v a.value_type) (agree v b.value_type) all;
+      }
+  counts at n (target.Fixed None) a b u r e = absurd (either_refused Use (statements.counts a.value_type a b) _ _ r e)
+  counts at n (target.Fixed (Some v)) a b u r e = absurd (either_refused Use (statements.counts v a b) _ _ r e)
+  counts at n target.Kind a b u r e = absurd (cc)
+
+  record Counter (i : Identifier) : Type 0 where
+    pub origin : Origin
+    pub range : named.Range
+    pub variable : begun_form h i.name (find i.name h.scope) ≡ Some (a_variable (code.place origin 0 code.no_indices) (named.ordinal range))
+    pub named : IsTarget h (find i.name h.scope) (name_with i no_selectors)
+
+  counter_of : (i : Identifier) (v : ValueType) (t : Ty) (p : code.Place) → begun_form h i.name (find i.name h.scope) ≡ Some (a_variable p t) → TypeIs (written tokens s h) t v → is_ordinal v ≡ true → IsTarget h (find i.name h.scope) (name_with i no_selectors) → Counter i
+  counter_of i v (named.ordinal q) p e k o n =
+      let f = begun_first h i.name (find i.name h.scope) p q e in
+      record { origin = f.origin; range = q; variable = e ∙ ap (λ z. Some (a_variable z (named.ordinal q))) f.is; named = n }
+  counter_of i v named.queue_type p e k o n = absurd (let bad : false ≡ true = sym (ap is_ordinal k) ∙ o in cc)
+  counter_of i v (named.set_over q) p e k o n = absurd (let bad : false ≡ true = sym (ap is_ordinal k.is) ∙ o in cc)
+  counter_of i v (named.array_over q t) p e k o n = absurd (let bad : false ≡ true = sym (ap is_ordinal k.is) ∙ o in cc)
+  counter_of i v (named.record_with ts) p e k o n = absurd (let bad : false ≡ true = sym (ap is_ordinal k.is) ∙ o in cc)
+  counter_of i v (named.component_of j) p e k o n = absurd (let bad : false ≡ true = sym (ap is_ordinal k.is) ∙ o in cc)
+
+  agreeing_ordinal : (v u : ValueType) → is_ordinal v ≡ true → agree v u ≡ true → is_ordinal u ≡ true
+  agreeing_ordinal v u o a =
+      let r = ordinal_is v o in
+      let q = agree_ordinal r.0 u (subst (λ z. agree z u ≡ true) r.1 a) in
+      ap is_ordinal q.1
+
+  for_formed : (at : ℕ) (i : Identifier) (a b : Expression) (k : Judged Use) → IsSmallExpression a → IsSmallExpression b → (r : Use) → (both (both (both (names.begun s i) (expression s w false a)) (expression s w false b)) k >>= statements.count_over s w at i.at) ≡ Ok r → ForFormed h i a b × CallsFormed h (expression_calls h.scope a ++ expression_calls h.scope b)
+  for_formed at i a b k m n r is =
+      let ja = expression s w false a in
+      let jb = expression s w false b in
+      let t : Then (both (both (both (names.begun s i) ja) jb) k) (statements.count_over s w at i.at) r = then_of (both (both (both (names.begun s i) ja) jb) k) (statements.count_over s w at i.at) r is in
+      let p = both_of (both (both (names.begun s i) ja) jb) k t.value t.is in
+      let q = both_of (both (names.begun s i) ja) jb t.value.0 p.first in
+      let o = both_of (names.begun s i) ja t.value.0.0 q.first in
+      let c : Counts (target_of s w t.value.0.0.0.named) t.value.0.0.1 t.value.0.1 = counts at i.at (target_of s w t.value.0.0.0.named) t.value.0.0.1 t.value.0.1 _ r t.rest in
+      let x : Judgement a t.value.0.0.1 = judged a m t.value.0.0.1 o.second in
+      let y : Judgement b t.value.0.1 = judged b n t.value.0.1 q.second in
+      let held : NamedIs tokens s h i.name (find i.name h.scope) None t.value.0.0.0.named (begun_form h i.name (find i.name h.scope)) = subst (λ (j : Judged check_designated.Designated). HasDesignated tokens s h i.name (find i.name h.scope) None j (begun_form h i.name (find i.name h.scope))) o.first (begun_typed tokens s h agrees i) in
+      let f : TargetFormed tokens s h w agrees i no_selectors c.value_type (begun_form h i.name (find i.name h.scope)) = begun_target tokens s h w agrees own i t.value.0.0.0 t.value.0.0.0.named c.value_type refl o.first held c.is in
+      let z : Counter i = counter_of i c.value_type f.ty f.place f.is f.belongs c.ordinal f.named in
+      (
+        record { origin = z.origin; range = z.range; variable = z.variable; named = z.named; first = ordinal_of a t.value.0.0.1 x (agreeing_ordinal c.value_type t.value.0.0.1.value_type c.ordinal c.first); last = ordinal_of b t.value.0.1 y (agreeing_ordinal c.value_type t.value.0.1.value_type c.ordinal c.last) },
+        calls_both h (expression_calls h.scope a) (expression_calls h.scope b) x.calls y.calls,
+      )
+
+  -- ---- statements
+
+  pub record Inside (j : Judged Use) (U : Type 0) : Type 0 where
+    pub value : Use
+    pub is : j ≡ Ok value
+    pub rest : U
+
+  tested_then : (at : ℕ) (e : Expression) (k : Judged Use) → IsSmallExpression e → (r : Use) → (both (expression s w false e) k >>= statements.test_then at) ≡ Ok r → Inside k (TestFormed h e × CallsFormed h (expression_calls h.scope e))
+  tested_then at e k m r is =
+      let t : Then (both (expression s w false e) k) (statements.test_then at) r = then_of (both (expression s w false e) k) (statements.test_then at) r is in
+      let b = both_of (expression s w false e) k t.value t.is in
+      let x : Judgement e t.value.0 = judged e m t.value.0 b.first in
+      record { value = t.value.1; is = b.second; rest = (test_of at e t.value.0 (both_uses t.value.0.uses t.value.1) r x t.rest, x.calls) }
+
+  starts_formed : (ts : List Start) → Each IsSmallStart ts → (j : Judged Use) (r : Use) → statements.starts s w j ts ≡ Ok r → Inside j (Each (StartFormed h) ts × CallsFormed h (starts_calls h.scope ts))
+  unfolding statements.starts
+  starts_formed [] m j r is = record { value = r; is = is; rest = (tt, tt) }
+  starts_formed (t ∷ ts) m j r is =
+      let x = starts_formed ts m.1 (both j (statements.start s w t) >>= statements.together) r is in
+      let k : Then (both j (statements.start s w t)) statements.together x.value = then_of (both j (statements.start s w t)) statements.together x.value x.is in
+      let b = both_of j (statements.start s w t) k.value k.is in
+      let y = start_formed t m.0 k.value.1 b.second in
+      record { value = k.value.0; is = b.first; rest = ((y.0, x.rest.0), calls_both h (starts_calls h.scope ts) (designator_calls h.scope t.target ++ expressions_calls h.scope t.arguments) x.rest.1 y.1) }
+
+  pub record InsideArms (j : Judged (List Label × Use)) (U : Type 0) : Type 0 where
+    pub value : List Label × Use
+    pub is : j ≡ Ok value
+    pub rest : U
+
+  mutual
+    unfolding statement
+
+    pub statement_formed : (t : Statement) → IsSmallStatement t → (r : Use) → statement s w t ≡ Ok r → StatementFormed h t × CallsFormed h (calls_laid h.scope t)
+    statement_formed (empty at) m r is = (tt, tt)
+    statement_formed (assign at (name_with i ss) e) m r is = assign_formed at i ss e m.0 m.1 r is
+    statement_formed (invoke at (name_with i ss) es) m r is = invoke_formed at i ss es m.0 m.1 r is
+    statement_formed (block at ts) m r is = (let x = all_formed ts m (Ok no_use) r is in x.rest)
+    statement_formed (cycle at ts) m r is = (let x = all_formed ts m (Ok no_use) r is in x.rest)
+    statement_formed (if_then at e t) m r is =
+        let x = tested_then at e (statement s w t) m.0 r is in
+        let y = statement_formed t m.1 x.value x.is in
+        ((x.rest.0, y.0), calls_both h (calls_laid h.scope t) (expression_calls h.scope e) y.1 x.rest.1)
+    statement_formed (if_else at e t u) m r is =
+        let x = tested_then at e (both (statement s w t) (statement s w u) >>= statements.together) m.0 r is in
+        let k : Then (both (statement s w t) (statement s w u)) statements.together x.value = then_of (both (statement s w t) (statement s w u)) statements.together x.value x.is in
+        let b = both_of (statement s w t) (statement s w u) k.value k.is in
+        let y = statement_formed t m.1 k.value.0 b.first in
+        let z = statement_formed u m.2 k.value.1 b.second in
+        ((x.rest.0, y.0, z.0), calls_both h (calls_laid h.scope t) (calls_laid h.scope u ++ expression_calls h.scope e) y.1 (calls_both h (calls_laid h.scope u) (expression_calls h.scope e) z.1 x.rest.1))
+    statement_formed (while_do at e t) m r is =
+        let x = tested_then at e (statement s w t) m.0 r is in
+        let y = statement_formed t m.1 x.value x.is in
+        ((x.rest.0, y.0), calls_both h (calls_laid h.scope t) (expression_calls h.scope e) y.1 x.rest.1)
+    statement_formed (repeat_until at ts e) m r is =
+        let j : Judged Use = statements.statements s w (Ok no_use) ts in
+        let k : Then (both j (expression s w false e)) (statements.test_last at) r = then_of (both j (expression s w false e)) (statements.test_last at) r is in
+        let b = both_of j (expression s w false e) k.value k.is in
+        let x : Judgement e k.value.1 = judged e m.1 k.value.1 b.second in
+        let y = all_formed ts m.0 (Ok no_use) k.value.0 b.first in
+        ((y.rest.0, test_of at e k.value.1 (both_uses k.value.0 k.value.1.uses) r x k.rest), calls_both h (all_calls_laid h.scope ts) (expression_calls h.scope e) y.rest.1 x.calls)
+    statement_formed (for_do at i a d b t) m r is =
+        let x = for_formed at i a b (statement s w t) m.0 m.1 r is in
+        let k : Then (both (both (both (names.begun s i) (expression s w false a)) (expression s w false b)) (statement s w t)) (statements.count_over s w at i.at) r = then_of (both (both (both (names.begun s i) (expression s w false a)) (expression s w false b)) (statement s w t)) (statements.count_over s w at i.at) r is in
+        let y = statement_formed t m.2 k.value.1 (both_of (both (both (names.begun s i) (expression s w false a)) (expression s w false b)) (statement s w t) k.value k.is).second in
+        ((x.0, y.0), calls_both h (calls_laid h.scope t) (expression_calls h.scope a ++ expression_calls h.scope b) y.1 x.1)
+    statement_formed (init at ts) m r is =
+        let k : Then (statements.starts s w (Ok no_use) ts) (statements.initial at w) r = then_of (statements.starts s w (Ok no_use) ts) (statements.initial at w) r is in
+        (let x = starts_formed ts m (Ok no_use) k.value k.is in x.rest)
+    statement_formed (case_of at e as' b) m r is =
+        let j : Judged (List Label × Use) = statements.arms s w (Ok ([], no_use)) as' in
+        let k : Then (both (expression s w false e) j) (cases.chosen at) r = then_of (both (expression s w false e) j) (cases.chosen at) r is in
+        let p = both_of (expression s w false e) j k.value k.is in
+        let x : Judgement e k.value.0 = judged e m.0 k.value.0 p.first in
+        let ruled : cases.case_faults at k.value.0 k.value.1.0 ≡ [] = passed (cases.case_faults at k.value.0 k.value.1.0) (both_uses k.value.0.uses k.value.1.1) r k.rest in
+        let y = arms_formed as' m.1 (Ok ([], no_use)) k.value.1 p.second in
+        ((ordinal_of e k.value.0 x (selector_ordinal tokens s h w agrees heard at k.value.0.value_type k.value.1.0 (none_left (cases.label_faults at k.value.0.value_type k.value.1.0) (cases.twice_faults [] k.value.1.0) ruled)), y.rest.0), calls_both h (arms_calls_laid h.scope as') (expression_calls h.scope e) y.rest.1 x.calls)
+
+    pub all_formed : (ts : Statements) → AreSmallStatements ts → (j : Judged Use) (r : Use) → statements.statements s w j ts ≡ Ok r → Inside j (AllFormed h ts × CallsFormed h (all_calls_laid h.scope ts))
+    all_formed no_statements m j r is = record { value = r; is = is; rest = (tt, tt) }
+    all_formed (more_statements t ts) m j r is =
+        let x = all_formed ts m.1 (both j (statement s w t) >>= statements.together) r is in
+        let k : Then (both j (statement s w t)) statements.together x.value = then_of (both j (statement s w t)) statements.together x.value x.is in
+        let b = both_of j (statement s w t) k.value k.is in
+        let y = statement_formed t m.0 k.value.1 b.second in
+        record { value = k.value.0; is = b.first; rest = ((y.0, x.rest.0), calls_both h (all_calls_laid h.scope ts) (calls_laid h.scope t) x.rest.1 y.1) }
+
+    arms_formed : (as' : Arms) → AreSmallArms as' → (j : Judged (List Label × Use)) (r : List Label × Use) → statements.arms s w j as' ≡ Ok r → InsideArms j (ArmsFormed h as' × CallsFormed h (arms_calls_laid h.scope as'))
+    arms_formed no_arms m j r is = record { value = r; is = is; rest = (tt, tt) }
+    arms_formed (more_arms a as') m j r is =
+        let x = arms_formed as' m.1 (both j (statements.labelled s w a) >>= cases.joined) r is in
+        let k : Then (both j (statements.labelled s w a)) cases.joined x.value = then_of (both j (statements.labelled s w a)) cases.joined x.value x.is in
+        let b = both_of j (statements.labelled s w a) k.value k.is in
+        let y = arm_formed a m.0 k.value.1 b.second in
+        record { value = k.value.0; is = b.first; rest = ((y.0, x.rest.0), calls_both h (arm_calls_laid h.scope a) (arms_calls_laid h.scope as') y.1 x.rest.1) }
+
+    arm_formed : (a : Arm) → IsSmallArm a → (r : List Label × Use) → statements.labelled s w a ≡ Ok r → ArmFormed h a × CallsFormed h (arm_calls_laid h.scope a)
+    arm_formed (arm cs t) m r is =
+        let b = both_of (cases.labels s cs) (statement s w t) r is in
+        let y = statement_formed t m.1 r.1 b.second in
+        ((m.0, y.0), y.1)
