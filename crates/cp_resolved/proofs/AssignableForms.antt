@@ -8,10 +8,9 @@ use Rattle.cp_tree.specs.declared.expression.Addition.TheVariants as addition
 use Rattle.cp_tree.specs.declared.expression.Multiplication.{Multiplication}
 use Rattle.cp_tree.specs.declared.expression.Multiplication.TheVariants as multiplication
 use Rattle.cp_tree.specs.declared.expression.Relation.{Relation}
-use Rattle.cp_tree.specs.Syntax.{Expression, alone, related, Sum, sum, Terms, no_terms, more_terms as terms_more, Term, term, Factors, no_factors, more_factors as factors_more, Factor, number, character, named as factor_named, group, negated, set_of, Expressions, no_expressions, more_expressions, designator as name_with, Selectors}
+use Rattle.cp_tree.specs.Syntax.{Expression, alone, related, Sum, sum, Terms, no_terms, more_terms as terms_more, Term, term, Factors, no_factors, more_factors as factors_more, Factor, number, character, named as factor_named, group, negated, set_of, designator as name_with, Selectors}
 use Rattle.cp_scope.specs.declared.fault.Rule.TheVariants.{C5}
 use Rattle.cp_scope.specs.declared.types.Base.TheVariants as base
-use Rattle.cp_scope.specs.declared.types.Range.{Range}
 use Rattle.cp_scope.specs.declared.types.ValueType.{ValueType}
 use Rattle.cp_scope.specs.declared.types.ValueType.TheVariants as types
 use Rattle.cp_scope.specs.declared.types.Predeclared.{Predeclared}
@@ -23,7 +22,6 @@ use Rattle.cp_scope.specs.Judged.{Judged, broken, both, ◌>>=◌}
 use Rattle.cp_scope.specs.Scopes.{Scopes, heading_at}
 use Rattle.cp_check.specs.declared.operand.Context.{Context}
 use Rattle.cp_check.specs.declared.operand.Operand.{Operand}
-use Rattle.cp_check.specs.declared.operand.Place.{Place}
 use Rattle.cp_check.specs.declared.operand.Place.TheVariants as place
 use Rattle.cp_check.specs.declared.operand.Designated as check_designated
 use Rattle.cp_check.specs.declared.operand.Named.{Named}
@@ -41,8 +39,8 @@ use Rattle.cp_meaning.specs.Scopes as scopes
 use Rattle.cp_meaning.specs.Scopes.{find}
 use Rattle.cp_meaning.specs.Lifting.{last_field, is_call_meant}
 use Rattle.cp_resolved.specs.Layouts.{Here}
-use Rattle.cp_resolved.specs.Compiled.{Form, Formed, Designated, a_variable, some_components, a_component, then_form, loaded_form, valued_form, signed_form, named_form, expression_form, sum_form, term_form, factor_form, designator_form}
-use Rattle.cp_resolved.specs.Typed.{Tokens, Written, TypeIs, is_plain, ScopesAgree, AreSmallSelectors, IsSmallExpression, IsSmallSum, IsSmallTerm, IsSmallFactor}
+use Rattle.cp_resolved.specs.Compiled.{Formed, Designated, a_variable, some_components, a_component, then_form, loaded_form, valued_form, signed_form, named_form, expression_form, sum_form, term_form, factor_form, designator_form}
+use Rattle.cp_resolved.specs.Typed.{Tokens, Written, TypeIs, is_plain, ScopesAgree, IsSmallExpression, IsSmallSum, IsSmallTerm, IsSmallFactor}
 use Rattle.cp_resolved.proofs.Typing.{formed}
 use Rattle.cp_resolved.proofs.TypingNames.{Holds, written, NamedIs, HasDesignated}
 use Rattle.cp_resolved.proofs.TypingValues.{IsValue, held_value}

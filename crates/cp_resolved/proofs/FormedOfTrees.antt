@@ -1,21 +1,19 @@
 -- All statements of a tree that was read and breaks no rule have the forms that their items want.
-use Rattle.std.proofs.Common.{◌≡◌, ◌<◌, ℕ, zero, suc, true, List, [], ◌∷◌, length, Option, Some, None, Ok, slice_get, refl, sym, ap, subst, ◌∙◌, arith}
-use Rattle.cp_scope.specs.declared.types.Meaning.TheVariants as meaning
+use Rattle.std.proofs.Common.{◌≡◌, ◌<◌, ℕ, zero, suc, List, [], ◌∷◌, length, Option, Some, None, Ok, slice_get, refl, sym, ap, subst, ◌∙◌, arith}
 use Rattle.cp_scope.specs.declared.count.Use.{Use}
 use Rattle.cp_scope.specs.Counts.{no_use}
 use Rattle.cp_scope.specs.Judged.{Judged}
-use Rattle.cp_scope.specs.Scopes.{look, heading_at}
+use Rattle.cp_scope.specs.Scopes.{heading_at}
 use Rattle.cp_check.specs.Statements.{statements}
 use Rattle.cp_lawful.proofs.Loud.{Heard, statements_loud}
 use Rattle.cp_tree.specs.Syntax.{Program, Tree}
 use Rattle.cp_meaning.specs.Names.{Name}
 use Rattle.cp_meaning.specs.Types.{Ty}
-use Rattle.cp_meaning.specs.Scopes as scopes
 use Rattle.cp_meaning.specs.Declarations.{RoutineMeaning}
 use Rattle.cp_meaning.specs.Systems.{declared, own_meaning}
 use Rattle.cp_resolved.specs.FormedBodies.{IsFormedAt, FormedLaw}
 use Rattle.cp_resolved.specs.Judging.{Place, IsOwn, IsAgreed, AreAgreed, places_of, tokens_of}
-use Rattle.cp_resolved.specs.Layouts.{Here, is_named, is_own}
+use Rattle.cp_resolved.specs.Layouts.{Here, is_named}
 use Rattle.cp_resolved.specs.LayoutsKnow.{place_of}
 use Rattle.cp_resolved.specs.Openings.{Opening, openings_of, meaning_in, meaning_at}
 use Rattle.cp_resolved.specs.Resolved.{initial_meaning}

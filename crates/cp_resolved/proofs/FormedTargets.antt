@@ -1,16 +1,12 @@
 -- What is assigned to, and what an assigned value is, where no rule is broken.
-use Rattle.std.proofs.Common.{◌≡◌, ℕ, Bool, true, false, ◌&&◌, if◌then◌else◌, List, [], ◌∷◌, Option, Some, None, Ok, Err, refl, sym, ap, subst, ◌∙◌}
-use Rattle.std.specs.Prelude.{nat_eq}
+use Rattle.std.proofs.Common.{◌≡◌, ℕ, Bool, true, false, if◌then◌else◌, Option, Some, None, Ok, refl, sym, ap, subst, ◌∙◌}
 use Rattle.std.proofs.lemmas.Bool.Decides.{Decides-eqb}
 use Rattle.cp_tree.specs.declared.constant.Identifier.{Identifier}
-use Rattle.cp_tree.specs.Syntax.{Expression, Designator, designator as name_with, Selectors, no_selectors, more_selectors}
-use Rattle.cp_scope.specs.declared.fault.CheckFault.{CheckFault}
+use Rattle.cp_tree.specs.Syntax.{Designator, designator as name_with, Selectors, no_selectors, more_selectors}
 use Rattle.cp_scope.specs.declared.types.ValueType.{ValueType}
-use Rattle.cp_scope.specs.declared.types.ValueType.TheVariants as types
 use Rattle.cp_scope.specs.declared.types.Meaning.{Meaning}
 use Rattle.cp_scope.specs.declared.types.Meaning.TheVariants as meaning
-use Rattle.cp_scope.specs.Types.{agree}
-use Rattle.cp_scope.specs.Judged.{Judged, ◌>>=◌}
+use Rattle.cp_scope.specs.Judged.{◌>>=◌}
 use Rattle.cp_scope.specs.Scopes.{Scopes, look, heading_at}
 use Rattle.cp_check.specs.declared.operand.Context.{Context}
 use Rattle.cp_check.specs.declared.operand.Place.{Place}
@@ -19,7 +15,6 @@ use Rattle.cp_scope.specs.declared.types.Predeclared.{Predeclared}
 use Rattle.cp_check.specs.declared.operand.Designated as check_designated
 use Rattle.cp_check.specs.declared.operand.Named.{Named}
 use Rattle.cp_check.specs.declared.operand.Named.TheVariants as name
-use Rattle.cp_check.specs.declared.statement.Target.{Target}
 use Rattle.cp_check.specs.declared.statement.Target.TheVariants as target
 use Rattle.cp_check.specs.Operands.{is_assignable}
 use Rattle.cp_check.specs.Operations as operations
@@ -38,15 +33,15 @@ use Rattle.cp_meaning.specs.Scopes as scopes
 use Rattle.cp_meaning.specs.Scopes.{find}
 use Rattle.cp_meaning.specs.Lifting.{last_field}
 use Rattle.cp_meaning.specs.Places.{result_type}
-use Rattle.cp_resolved.specs.Compiled.{Form, as_ordinal, as_set, as_place, Formed, Designated, a_variable, some_components, a_component, then_form, result_begun, component_begun, permanent_begun, begun_form, selected_form, designator_form}
+use Rattle.cp_resolved.specs.Compiled.{as_ordinal, as_set, as_place, Formed, Designated, a_variable, some_components, a_component, then_form, result_begun, component_begun, permanent_begun, begun_form, designator_form}
 use Rattle.cp_resolved.specs.FormedStatements.{IsTarget}
 use Rattle.cp_resolved.specs.Layouts.{Here, frame_here, system_here, cells_of, is_own, is_parameter}
 use Rattle.cp_resolved.specs.Stands.{AssignedBy}
-use Rattle.cp_resolved.specs.Typed.{Tokens, Written, OrdinalIs, TypeIs, is_plain, IsOrdinalResult, ResultIs, RoutineIs, HeadingIs, ScopesAgree, Expressed}
+use Rattle.cp_resolved.specs.Typed.{Tokens, Written, OrdinalIs, TypeIs, is_plain, IsOrdinalResult, ResultIs, RoutineIs, HeadingIs, ScopesAgree}
 use Rattle.cp_resolved.specs.Used.{IsBare, HasResult}
 use Rattle.cp_resolved.proofs.AssignableForms.{free_place, components_fixed}
-use Rattle.cp_resolved.proofs.HandedOver.{Fits, PlaceFits, OrdinalFits, IsWhole, fitting}
-use Rattle.cp_resolved.proofs.Typing.{formed, SetForm}
+use Rattle.cp_resolved.proofs.HandedOver.{Fits, IsWhole}
+use Rattle.cp_resolved.proofs.Typing.{formed}
 use Rattle.cp_resolved.proofs.TypingNames.{IsPlainMeaning, Holds, written, NamedIs}
 use Rattle.cp_resolved.proofs.UsedNames.{IsVariableMeaning, known_is, other_bare}
 use Rattle.cp_resolved.proofs.WithoutFaults.{ok_same, Then, then_of}

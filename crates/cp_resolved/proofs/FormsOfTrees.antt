@@ -12,7 +12,6 @@ use Rattle.cp_resolved.specs.Judging.{Place, IsAgreed, AreAgreed, tokens_of, pla
 use Rattle.cp_resolved.specs.Layouts.{Layouts}
 use Rattle.cp_resolved.specs.Openings.{Opening, openings_of}
 use Rattle.cp_resolved.specs.Small.{Each}
-use Rattle.cp_resolved.specs.Tokens.{token_of_type}
 use Rattle.cp_resolved.proofs.FormedStatements.{statements_formed}
 use Rattle.cp_resolved.proofs.ScopesOfTrees.{scopes_law}
 use Rattle.cp_resolved.proofs.SmallBodies.{IsSmallOpening, read_opens}

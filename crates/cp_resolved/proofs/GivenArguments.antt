@@ -1,17 +1,16 @@
 -- Arguments that break no rule can be handed over to the parameters of what is called or started.
-use Rattle.std.proofs.Common.{◌≡◌, ◌≤◌, ℕ, suc, ◌+◌, Bool, true, false, ◌&&◌, if◌then◌else◌, List, [], ◌∷◌, ◌++◌, length, Option, Some, None, Ok, Err, slice_get, refl, sym, ap, subst, ◌∙◌, arith}
+use Rattle.std.proofs.Common.{◌≡◌, ℕ, suc, ◌+◌, Bool, true, false, ◌&&◌, if◌then◌else◌, List, [], ◌∷◌, ◌++◌, length, Option, Some, None, Ok, slice_get, refl, sym, ap, subst, ◌∙◌, arith}
 use Rattle.std.specs.Prelude.{nat_eq, not}
 use Rattle.std.proofs.lemmas.Bool.Decides.{Decides-eqb}
 use Rattle.cp_tree.specs.Syntax.{Expression, Expressions, no_expressions, more_expressions, Designator}
 use Rattle.cp_scope.specs.declared.fault.CheckFault.{CheckFault}
 use Rattle.cp_scope.specs.declared.fault.Rule.TheVariants.{C5, C6, C7}
-use Rattle.cp_scope.specs.declared.types.ValueType.{ValueType}
 use Rattle.cp_scope.specs.declared.types.Parameter as check_parameter
 use Rattle.cp_scope.specs.declared.count.Use.{Use}
 use Rattle.cp_scope.specs.Counts.{both_uses}
 use Rattle.cp_scope.specs.Types.{agree, same}
 use Rattle.cp_scope.specs.Judged.{Judged, both, ◌>>=◌}
-use Rattle.cp_scope.specs.Scopes.{Heading, Scopes, heading_at, body_at}
+use Rattle.cp_scope.specs.Scopes.{Scopes, heading_at, body_at}
 use Rattle.cp_check.specs.declared.operand.Context.{Context}
 use Rattle.cp_check.specs.declared.operand.Operand.{Operand}
 use Rattle.cp_check.specs.declared.operand.Place.{Place}
@@ -27,17 +26,17 @@ use Rattle.cp_meaning.specs.Types.{Ty, natural_of}
 use Rattle.cp_meaning.specs.Declarations.{Parameter, RoutineMeaning}
 use Rattle.cp_meaning.specs.Expressions.{routine_called}
 use Rattle.cp_resolved.specs.Layouts.{Here, cells_of}
-use Rattle.cp_resolved.specs.Compiled.{Form, as_ordinal, as_set, as_place, as_component, Formed, place_form, loaded_form, expression_form}
-use Rattle.cp_resolved.specs.FormedParts.{IsMoved, CanGive, CanGiveAll, CallFormed}
+use Rattle.cp_resolved.specs.Compiled.{as_ordinal, as_set, as_place, as_component, Formed, place_form, loaded_form, expression_form}
+use Rattle.cp_resolved.specs.FormedParts.{CanGive, CanGiveAll, CallFormed}
 use Rattle.cp_resolved.specs.Standing.{is_free}
-use Rattle.cp_resolved.specs.Stands.{ValueGiven, PlaceGiven, GivenBy, IsGiven}
-use Rattle.cp_resolved.specs.Typed.{Tokens, Written, TypeIs, is_plain, IsHanded, ParameterIs, AreParameters, HeadingIs, ScopesAgree, Expressed, HasForm, IsSmallExpression, AreSmallExpressions}
+use Rattle.cp_resolved.specs.Stands.{ValueGiven, PlaceGiven, GivenBy}
+use Rattle.cp_resolved.specs.Typed.{Tokens, Written, IsHanded, ParameterIs, AreParameters, HeadingIs, ScopesAgree, Expressed, HasForm, IsSmallExpression, AreSmallExpressions}
 use Rattle.cp_resolved.proofs.Agreeing.{none_left, none_right}
 use Rattle.cp_resolved.proofs.AgreeingParts.{free_plain}
 use Rattle.cp_resolved.proofs.AssignableForms.{VariableForm, HasVariable, expression_held}
-use Rattle.cp_resolved.proofs.HandedOver.{types_same, Fits, PlaceFits, ComponentFits, OrdinalFits, IsWhole, fitting}
+use Rattle.cp_resolved.proofs.HandedOver.{types_same, Fits, IsWhole, fitting}
 use Rattle.cp_resolved.proofs.MovedTypes.{type_moved}
-use Rattle.cp_resolved.proofs.Typing.{formed, SetForm}
+use Rattle.cp_resolved.proofs.Typing.{formed}
 use Rattle.cp_resolved.proofs.TypingExpressions.{expression_typed}
 use Rattle.cp_resolved.proofs.TypingNames.{written}
 use Rattle.cp_resolved.proofs.WithoutFaults.{ok_same, Then, then_of, Both, both_of}

@@ -1,48 +1,21 @@
 -- What fits a parameter, or agrees with a variable, has the form that its type wants.
-use Rattle.std.proofs.Common.{◌≡◌, ◌≤◌, ℕ, suc, ◌+◌, ℤ, Bool, true, false, ◌&&◌, if◌then◌else◌, List, [], ◌∷◌, ◌++◌, length, Option, Some, None, Ok, Err, slice_get, refl, sym, ap, subst, ◌∙◌, arith}
-use Rattle.std.specs.Prelude.{nat_eq, not}
+use Rattle.std.proofs.Common.{◌≡◌, ℕ, ℤ, true, false, ◌&&◌, Option, Some, None, refl, sym, ap, subst, ◌∙◌}
 use Rattle.std.specs.Ordering.{int_eq}
 use Rattle.std.proofs.lemmas.Bool.Decides.{Decides-eqb, Decides-int_eq}
 use Rattle.cp_tree.specs.declared.declaration.SystemKind.{SystemKind}
-use Rattle.cp_tree.specs.Syntax.{Expression, Expressions, no_expressions, more_expressions, Designator}
-use Rattle.cp_scope.specs.declared.fault.CheckFault.{CheckFault}
-use Rattle.cp_scope.specs.declared.fault.Rule.TheVariants.{C5, C6, C7}
 use Rattle.cp_scope.specs.declared.types.Range.{Range}
 use Rattle.cp_scope.specs.declared.types.ValueType.{ValueType}
 use Rattle.cp_scope.specs.declared.types.ValueType.TheVariants as types
-use Rattle.cp_scope.specs.declared.types.Parameter as check_parameter
 use Rattle.cp_scope.specs.Types.{agree, same, same_base, same_range}
-use Rattle.cp_scope.specs.Judged.{Judged, both, ◌>>=◌}
-use Rattle.cp_scope.specs.Scopes.{Heading, Scopes, heading_at}
-use Rattle.cp_check.specs.declared.operand.Context.{Context}
-use Rattle.cp_check.specs.declared.operand.Operand.{Operand}
-use Rattle.cp_check.specs.declared.operand.Place.{Place}
-use Rattle.cp_check.specs.declared.operand.Place.TheVariants as place
-use Rattle.cp_check.specs.Operands.{is_assignable, is_function}
-use Rattle.cp_check.specs.Calls as calls
-use Rattle.cp_check.specs.Calls.{fits, all_fit, fit_faults, fault, variable_faults, all_variable_faults, assignable_faults}
-use Rattle.cp_check.specs.Expressions as expressions
-use Rattle.cp_check.specs.Expressions.{expression, arguments, is_var_at}
 use Rattle.cp_slots.specs.Code as code
 use Rattle.cp_meaning.specs.Types as named
 use Rattle.cp_meaning.specs.Types.{Ty, natural_of, range_of}
-use Rattle.cp_meaning.specs.Declarations.{Parameter, RoutineMeaning}
-use Rattle.cp_meaning.specs.Expressions.{routine_called}
-use Rattle.cp_resolved.specs.Layouts.{Here, cells_of}
-use Rattle.cp_resolved.specs.Compiled.{Form, as_ordinal, as_set, as_place, as_component, Formed, place_form, loaded_form, expression_form}
-use Rattle.cp_resolved.specs.FormedParts.{IsMoved, CanGive, CanGiveAll, CallFormed}
-use Rattle.cp_resolved.specs.Standing.{is_free}
-use Rattle.cp_resolved.specs.Stands.{GivenBy}
-use Rattle.cp_resolved.specs.Typed.{Tokens, Written, RangeIs, TypeIs, ComponentIs, is_plain, IsHanded, ParameterIs, AreParameters, HeadingIs, ScopesAgree, FormIs, Expressed, HasForm, IsSmallExpression, AreSmallExpressions}
+use Rattle.cp_resolved.specs.Compiled.{Form, as_ordinal, as_place, as_component, Formed}
+use Rattle.cp_resolved.specs.Typed.{Written, RangeIs, TypeIs, is_plain, FormIs, Expressed}
 use Rattle.cp_resolved.proofs.AgreeingConstants.{base_same}
-use Rattle.cp_resolved.proofs.AgreeingParts.{free_plain}
 use Rattle.cp_resolved.proofs.AgreeingTypes.{IsOrdinal, ordinal_of}
-use Rattle.cp_resolved.proofs.AssignableForms.{VariableForm, HasVariable, expression_held}
 use Rattle.cp_resolved.proofs.SameTypes.{type_same}
-use Rattle.cp_resolved.proofs.Typing.{formed, OrdinalForm, ordinal_found, SetForm, set_found, QueueForm, queue_found, first_true, second_true}
-use Rattle.cp_resolved.proofs.TypingExpressions.{expression_typed}
-use Rattle.cp_resolved.proofs.TypingNames.{written}
-use Rattle.cp_resolved.proofs.WithoutFaults.{ok_same, Then, then_of, Both, both_of}
+use Rattle.cp_resolved.proofs.Typing.{formed, OrdinalForm, ordinal_found, SetForm, set_found, first_true, second_true}
 
 -- ---- types that agree
 

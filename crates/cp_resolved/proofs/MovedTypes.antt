@@ -1,5 +1,5 @@
 -- What is assigned or handed over has few cells, and sets have members of a byte.
-use Rattle.std.proofs.Common.{◌≡◌, ◌≤◌, ℤ, pos, negsuc, Bool, true, false, arith}
+use Rattle.std.proofs.Common.{◌≡◌, ℤ, pos, negsuc, true, arith}
 use Rattle.cp_scope.specs.declared.types.ValueType.{ValueType}
 use Rattle.cp_meaning.specs.Types as named
 use Rattle.cp_meaning.specs.Types.{Ty, is_within, all_characters}

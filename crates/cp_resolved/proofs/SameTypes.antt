@@ -1,5 +1,5 @@
 -- Types of the language that the checker has as one are one.
-use Rattle.std.proofs.Common.{◌≡◌, Bool, true, false, ◌&&◌, List, [], ◌∷◌, Option, Some, None, ℕ, ℤ, refl, sym, ap, subst, ◌∙◌}
+use Rattle.std.proofs.Common.{◌≡◌, true, [], ◌∷◌, Option, Some, ℕ, ℤ, refl, sym, ap, subst, ◌∙◌}
 use Rattle.cp_tree.specs.declared.declaration.SystemKind.{SystemKind}
 use Rattle.cp_scope.specs.declared.types.Base as check_base
 use Rattle.cp_scope.specs.declared.types.Base.TheVariants as base
@@ -10,15 +10,14 @@ use Rattle.cp_scope.specs.declared.types.Meaning.{Meaning}
 use Rattle.cp_scope.specs.declared.types.Meaning.TheVariants as meaning
 use Rattle.cp_scope.specs.declared.shape.ArrayShape.{ArrayShape}
 use Rattle.cp_scope.specs.Types.{same_base}
-use Rattle.cp_scope.specs.Scopes.{Names, Scope, Shape, record_shape, shape_in, as_array}
+use Rattle.cp_scope.specs.Scopes.{Names, Scope, record_shape, shape_in, as_array}
 use Rattle.cp_meaning.specs.Names.{Name}
 use Rattle.cp_meaning.specs.Types as named
 use Rattle.cp_meaning.specs.Types.{Ty, FieldTypes}
 use Rattle.cp_resolved.specs.Layouts.{cells_in}
-use Rattle.cp_resolved.specs.Typed.{Tokens, Written, BaseIs, RangeIs, TypeIs, FieldsAre, is_plain, are_plain}
+use Rattle.cp_resolved.specs.Typed.{Tokens, Written, BaseIs, RangeIs, TypeIs, FieldsAre}
 use Rattle.cp_resolved.proofs.Agreeing.{same_number}
 use Rattle.cp_resolved.proofs.AgreeingConstants.{base_same}
-use Rattle.cp_resolved.proofs.Typing.{first_true, second_true}
 
 itself : (b : check_base.Base) → same_base b b ≡ true
 itself base.Integer = refl

@@ -2,13 +2,12 @@
 use Rattle.std.proofs.Common.{◌≡◌, ℕ, zero, suc, List, [], ◌∷◌, slice_get, refl}
 use Rattle.cp_tree.specs.Syntax.{Program, Tree}
 use Rattle.cp_check.specs.Faults.{faults_of}
-use Rattle.cp_meaning.specs.Names.{Name}
 use Rattle.cp_meaning.specs.Systems.{SystemMeaning, declared, own_meaning, or_own}
 use Rattle.cp_resolved.specs.Enumerations.{enumerations_of}
 use Rattle.cp_resolved.specs.Judging.{tokens_of, ScopesAre, ScopesLaw}
 use Rattle.cp_resolved.specs.Small.{Each, IsSmallProgram}
 use Rattle.cp_resolved.specs.Standing.{IsStandingVariable, IsStandingParameter}
-use Rattle.cp_resolved.specs.Tokens.{AreDifferent, program_tokens, token_of_type, tokens_of_enumerations, HasFew, constants_among}
+use Rattle.cp_resolved.specs.Tokens.{AreDifferent, program_tokens, token_of_type, tokens_of_enumerations, HasFew}
 use Rattle.cp_resolved.proofs.AgreeingProgram.{ProgramResult, program_agrees}
 use Rattle.cp_resolved.proofs.DifferentIndexed.{tokens_different}
 use Rattle.cp_resolved.proofs.DifferentTokens.{all_numbered, all_few}

@@ -50,19 +50,19 @@ use Rattle.cp_meaning.specs.Systems.{system_of}
 use Rattle.cp_resolved.specs.BodiesStand.{CallsFormed}
 use Rattle.cp_resolved.specs.Calls.{starts_calls, calls_laid, all_calls_laid, arms_calls_laid, arm_calls_laid}
 use Rattle.cp_resolved.specs.Compiled.{Designated, a_variable, some_components, a_component, begun_form, designator_form, expression_form}
-use Rattle.cp_resolved.specs.Formed.{HasOrdinal, HasQueue, IsPerformed}
+use Rattle.cp_resolved.specs.Formed.{HasOrdinal, IsPerformed}
 use Rattle.cp_resolved.specs.FormedParts.{CanGiveAll, CallFormed}
-use Rattle.cp_resolved.specs.FormedStatements.{TestFormed, OrdinalFormed, AssignFormed, QueueFormed, DisplayFormed, PerformFormed, EntryFormed, InvokeFormed, IsTarget, IsNotRoutine, ForFormed, StartFormed, StatementFormed, AllFormed, ArmsFormed, ArmFormed}
+use Rattle.cp_resolved.specs.FormedStatements.{TestFormed, OrdinalFormed, AssignFormed, PerformFormed, InvokeFormed, IsTarget, IsNotRoutine, ForFormed, StartFormed, StatementFormed, AllFormed, ArmsFormed, ArmFormed}
 use Rattle.cp_resolved.specs.Layouts.{Here}
 use Rattle.cp_resolved.specs.Small.{Each}
 use Rattle.cp_resolved.specs.SmallStatements.{IsSmallStart, IsSmallStatement, AreSmallStatements, AreSmallArms, IsSmallArm}
 use Rattle.cp_resolved.specs.Stands.{first_of}
-use Rattle.cp_resolved.specs.Typed.{Tokens, TypeIs, ComponentIs, IsValueParameter, AreParameters, HeadingIs, RoutineIs, StandardIs, predeclared_of, ScopesAgree, Expressed, HasForm, IsSmallExpression, AreSmallExpressions, AreSmallSelectors}
+use Rattle.cp_resolved.specs.Typed.{Tokens, TypeIs, IsValueParameter, AreParameters, HeadingIs, RoutineIs, StandardIs, ScopesAgree, Expressed, HasForm, IsSmallExpression, AreSmallExpressions, AreSmallSelectors}
 use Rattle.cp_resolved.specs.Used.{IsBare, IsOne, IsUsed, AreUsed, SelectorsUsed}
 use Rattle.cp_resolved.proofs.Agreeing.{none_left, none_right}
 use Rattle.cp_resolved.proofs.FormedStatements.{ordinal_formed, performed_formed, selector_ordinal, ordinal_is, agree_ordinal}
 use Rattle.cp_resolved.proofs.FormedTargets.{OwnRoutine, Taken, taken, TargetFormed, begun_first, begun_target, designated_target}
-use Rattle.cp_resolved.proofs.GivenArguments.{Argument, AreArguments, Fitted, fitted, passed, plain_arguments, var_arguments, all_given, call_given, called_passed, Passed}
+use Rattle.cp_resolved.proofs.GivenArguments.{AreArguments, Fitted, fitted, passed, plain_arguments, var_arguments, all_given, call_given, called_passed, Passed}
 use Rattle.cp_resolved.proofs.HandedOver.{fitting}
 use Rattle.cp_resolved.proofs.MovedTypes.{type_moved}
 use Rattle.cp_resolved.proofs.Typing.{first_true, second_true}
@@ -72,7 +72,7 @@ use Rattle.cp_resolved.proofs.TypingOperations.{boolean_found}
 use Rattle.cp_resolved.proofs.TypingValues.{own_called}
 use Rattle.cp_resolved.proofs.UsedExpressions.{calls_both, expression_used, arguments_used, selectors_used}
 use Rattle.cp_resolved.proofs.UsedNames.{IsVariableMeaning, other_bare, EntryUsed, entry_used}
-use Rattle.cp_resolved.proofs.WithoutFaults.{ok_same, Then, then_of, Both, both_of, if_of}
+use Rattle.cp_resolved.proofs.WithoutFaults.{ok_same, Then, then_of, both_of, if_of}
 
 module _ (tokens : Tokens) (s : Scopes) (h : Here) (w : Context) (agrees : ScopesAgree tokens s h) (heard : Heard s) (own : (n : ℕ) → w.routine ≡ Some n → OwnRoutine tokens s h w agrees n) where
   -- ---- expressions

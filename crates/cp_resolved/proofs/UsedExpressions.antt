@@ -3,7 +3,7 @@ use Rattle.std.proofs.Common.{◌≡◌, ℕ, ◌+◌, ℤ, Bool, true, false, �
 use Rattle.cp_tree.specs.declared.constant.Identifier.{Identifier}
 use Rattle.cp_tree.specs.declared.constant.Sign.{Sign}
 use Rattle.cp_tree.specs.Syntax.{Expression, alone, related, Sum, sum, Terms, no_terms, more_terms as terms_more, Term, term, Factors, no_factors, more_factors as factors_more, Factor, number, character, named as factor_named, group, negated, set_of, Expressions, no_expressions, more_expressions, Designator, designator as name_with, Selectors, no_selectors, more_selectors, field, index}
-use Rattle.cp_scope.specs.declared.fault.Rule.TheVariants.{C5, C7}
+use Rattle.cp_scope.specs.declared.fault.Rule.TheVariants.{C5}
 use Rattle.cp_scope.specs.declared.types.Base as check_base
 use Rattle.cp_scope.specs.declared.types.ValueType.{ValueType}
 use Rattle.cp_scope.specs.declared.types.ValueType.TheVariants as types
@@ -35,19 +35,18 @@ use Rattle.cp_meaning.specs.Expressions.{routine_called}
 use Rattle.cp_meaning.specs.State.{Item, statement_item, function_call, start_item, until, successor, return, init_end, end}
 use Rattle.cp_meaning.specs.Lifting.{last_field, is_call_meant, own_call, expression_calls, sum_calls, terms_calls, term_calls, factors_calls, factor_calls, expressions_calls, selectors_calls}
 use Rattle.cp_resolved.specs.BodiesStand.{CallsFormed}
-use Rattle.cp_resolved.specs.Compiled.{Designated, a_variable, some_components, a_component, begun_form, designator_form, expression_form}
-use Rattle.cp_resolved.specs.FormedParts.{IsMoved, CanGiveAll, CallFormed}
+use Rattle.cp_resolved.specs.Compiled.{Designated, a_variable, some_components, a_component, designator_form}
+use Rattle.cp_resolved.specs.FormedParts.{CanGiveAll, CallFormed}
 use Rattle.cp_resolved.specs.Layouts.{Here}
-use Rattle.cp_resolved.specs.Standing.{is_free}
-use Rattle.cp_resolved.specs.Typed.{Tokens, TypeIs, IsOrdinalResult, HeadingIs, ResultIs, RoutineIs, ConstantIs, StandardIs, ScopesAgree, IsSmallExpression, IsSmallSum, AreSmallTerms, IsSmallTerm, AreSmallFactors, IsSmallFactor, AreSmallExpressions, AreSmallSelectors}
+use Rattle.cp_resolved.specs.Typed.{Tokens, IsOrdinalResult, HeadingIs, ResultIs, RoutineIs, ConstantIs, StandardIs, ScopesAgree, IsSmallExpression, IsSmallSum, AreSmallTerms, IsSmallTerm, AreSmallFactors, IsSmallFactor, AreSmallExpressions, AreSmallSelectors}
 use Rattle.cp_resolved.specs.Used.{IsBare, AreNone, IsOne, IsFunction, HasResult, AreFormed, UsedAs, IsUsed, SumUsed, TermsUsed, TermUsed, FactorsUsed, FactorUsed, AreUsed, SelectorsUsed}
-use Rattle.cp_resolved.proofs.GivenArguments.{AreArguments, plain_arguments, call_given}
+use Rattle.cp_resolved.proofs.GivenArguments.{plain_arguments, call_given}
 use Rattle.cp_resolved.proofs.Typing.{second_true}
 use Rattle.cp_resolved.proofs.TypingNames.{Holds, written, IsCalled, NamedIs, HasDesignated}
 use Rattle.cp_resolved.proofs.TypingValues.{IsValue, held_value, own_called}
 use Rattle.cp_resolved.proofs.TypingExpressions.{designator_typed}
 use Rattle.cp_resolved.proofs.UsedNames.{IsVariableMeaning, other_bare, EntryUsed, entry_used}
-use Rattle.cp_resolved.proofs.WithoutFaults.{ok_same, Then, then_of, Both, both_of}
+use Rattle.cp_resolved.proofs.WithoutFaults.{ok_same, Then, then_of, both_of}
 
 -- ---- what is called
 

@@ -1,5 +1,5 @@
 -- How names are used where they break no rule: what is no variable stands bare, and an entry stands after indices.
-use Rattle.std.proofs.Common.{◌≡◌, ℕ, Bool, true, false, if◌then◌else◌, List, [], ◌∷◌, Option, Some, None, Ok, Err, refl, sym, ap, subst, ◌∙◌}
+use Rattle.std.proofs.Common.{◌≡◌, ℕ, Bool, true, false, if◌then◌else◌, List, [], Option, Some, None, Ok, Err, refl, sym, ap, subst, ◌∙◌}
 use Rattle.cp_tree.specs.declared.constant.Identifier.{Identifier}
 use Rattle.cp_tree.specs.declared.declaration.SystemKind.{SystemKind}
 use Rattle.cp_tree.specs.Syntax.{Expression, designator as name_with, Selectors, no_selectors, more_selectors, Selector, field, index}
@@ -27,12 +27,12 @@ use Rattle.cp_meaning.specs.Scopes as scopes
 use Rattle.cp_meaning.specs.Scopes.{find}
 use Rattle.cp_meaning.specs.Lifting.{last_field, is_call_meant}
 use Rattle.cp_resolved.specs.Layouts.{Here}
-use Rattle.cp_resolved.specs.Compiled.{Formed, Designated, a_variable, some_components, a_component, then_form, with_index_form, begun_form, expression_form, selected_form, designator_form}
-use Rattle.cp_resolved.specs.Typed.{Tokens, TypeIs, ComponentIs, ScopesAgree, Expressed, HasForm, AreSmallSelectors}
+use Rattle.cp_resolved.specs.Compiled.{Formed, Designated, a_variable, some_components, a_component, then_form, with_index_form, begun_form, expression_form, selected_form}
+use Rattle.cp_resolved.specs.Typed.{Tokens, TypeIs, ScopesAgree, HasForm, AreSmallSelectors}
 use Rattle.cp_resolved.specs.Used.{AreEntry, IsBare}
-use Rattle.cp_resolved.proofs.TypingNames.{IsPlainMeaning, OfSystem, IsComponentMeaning, Holds, written, NamedIs, HasDesignated, begun_typed, index_ordinal}
+use Rattle.cp_resolved.proofs.TypingNames.{IsPlainMeaning, IsComponentMeaning, Holds, written, NamedIs, HasDesignated, begun_typed, index_ordinal}
 use Rattle.cp_resolved.proofs.TypingExpressions.{expression_typed}
-use Rattle.cp_resolved.proofs.WithoutFaults.{ok_same, Then, then_of, Both, both_of}
+use Rattle.cp_resolved.proofs.WithoutFaults.{ok_same}
 
 -- ---- what has no type, after which nothing is selected
 

@@ -1,7 +1,7 @@
 -- Where something is judged without a fault, so are its parts.
-use Rattle.std.proofs.Common.{◌≡◌, Bool, true, false, if◌then◌else◌, List, [], ◌∷◌, Ok, Err, refl, sym, ap, ◌∙◌}
+use Rattle.std.proofs.Common.{◌≡◌, Bool, true, false, if◌then◌else◌, List, ◌∷◌, Ok, Err, refl, ap}
 use Rattle.cp_scope.specs.declared.fault.CheckFault.{CheckFault}
-use Rattle.cp_scope.specs.Judged.{Judged, both, ◌>>=◌, faults}
+use Rattle.cp_scope.specs.Judged.{Judged, both, ◌>>=◌}
 
 pub ok_same : {A : Type 0} (x y : A) → (let j : Judged A = Ok x in j) ≡ Ok y → x ≡ y
 ok_same x y e = cc
