@@ -160,9 +160,9 @@ module _ (tokens : Tokens) (p : Program) where
         step = subst (λ (i : Judged Use). StepResult tokens p false None s (closed_of r (Ok v) i d.scopes) k below ks) (sym (same ∙ uses.is))
             (closed_agrees s a d.scopes m below (routine_in k r).scope js ks r v uses.value fresh before ann.known ann.outer ann.more parts.more parts.outer parts.agree);
         own = λ n i. record {
-            named = λ x g. subst (λ (z : ℕ). look x d.scopes ≡ Some (Some (meaning.Routine z)) → bytes_eq x r.name.name ≡ true) (same_token r.name.at n i) (λ f. ann.alone x (own_found a d.scopes x r.name.at (parts_read spot.Other a r.parts) parts.outer parts.agree.unsealed f)) g;
-            heading = subst (λ (z : ℕ). HeadingIs (W tokens d.scopes.shapes) (heading_at z d.scopes) (Some (routine_in k r))) (same_token r.name.at n i)
-                (subst (λ (z : checker.Heading). HeadingIs (W tokens d.scopes.shapes) z (Some (routine_in k r))) (sym (heading_kept r.name.at a.shapes d.scopes.shapes parts.more ann.known.there)) (heading_is_more tokens a.shapes d.scopes.shapes parts.more (heading_at r.name.at a) (Some (routine_in k r)) ann.heading));
+          named = λ x g. subst (λ (z : ℕ). look x d.scopes ≡ Some (Some (meaning.Routine z)) → bytes_eq x r.name.name ≡ true) (same_token r.name.at n i) (λ f. ann.alone x (own_found a d.scopes x r.name.at (parts_read spot.Other a r.parts) parts.outer parts.agree.unsealed f)) g;
+          heading = subst (λ (z : ℕ). HeadingIs (W tokens d.scopes.shapes) (heading_at z d.scopes) (Some (routine_in k r))) (same_token r.name.at n i)
+              (subst (λ (z : checker.Heading). HeadingIs (W tokens d.scopes.shapes) z (Some (routine_in k r))) (sym (heading_kept r.name.at a.shapes d.scopes.shapes parts.more ann.known.there)) (heading_is_more tokens a.shapes d.scopes.shapes parts.more (heading_at r.name.at a) (Some (routine_in k r)) ann.heading));
         };
         read = subst (λ (i : Judged Use). ReadsAs s (closed_of r (Ok v) i d.scopes)) (sym (same ∙ uses.is)) (closed_read s a d.scopes r v uses.value fresh ann.outer parts.outer);
       }

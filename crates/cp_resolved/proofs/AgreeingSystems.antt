@@ -354,11 +354,10 @@ module _ (tokens : Tokens) (p : Program) where
           let token : tokens.systems k ≡ y.at = (Decides-eqb (tokens.systems k) y.at).0 at in
           let there : shape_in (tokens.systems k) t.shapes ≡ Some d = ap (λ j. shape_in j t.shapes) token ∙ ap (shape_in y.at) is ∙ with_there s.shapes y.at d free in
           let one : e.heading ≡ system_heading s = heading_same e.names m e.heading (system_heading s) e.census census' e.need need (sym e.there ∙ there) in
-          let meaning : system_of p k ≡ system_in around y = ap (system_of p) (i.only k token) ∙ i.meaning in
-          (
+          let meaning : system_of p k ≡ system_in around y = ap (system_of p) (i.only k token) ∙ i.meaning in (
             subst (λ (z : checker.Heading). AreParameters (W tokens t.shapes) z.parameters (system_of p k).parameters) (sym one)
-            (subst (λ (z : SystemMeaning). AreParameters (W tokens t.shapes) (parameters_in s.inner.names) z.parameters) (sym meaning)
-            (parameters_more tokens s.shapes t.shapes more (parameters_in s.inner.names) (system_in around y).parameters read)),
+                (subst (λ (z : SystemMeaning). AreParameters (W tokens t.shapes) (parameters_in s.inner.names) z.parameters) (sym meaning)
+                (parameters_more tokens s.shapes t.shapes more (parameters_in s.inner.names) (system_in around y).parameters read)),
             subst (λ (z : SystemMeaning). Each IsValueParameter z.parameters) (sym meaning) (groups_values (record { parameters = []; scope = around }) y.parameters tt),
           )
       go false at =

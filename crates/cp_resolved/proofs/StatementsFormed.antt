@@ -146,8 +146,7 @@ module _ (tokens : Tokens) (s : Scopes) (h : Here) (w : Context) (agrees : Scope
       let p : Pointed i ss c = pointed i ss c m k.is in
       let x : Judgement e t.value.1 = judged e n t.value.1 b.second in
       let f : TargetFormed tokens s h w agrees i ss y.value_type (designator_form h d) = designated_target tokens s h w agrees own i ss c c.named y.value_type refl k.is p.holds (aim ∙ y.is) in
-      let v : Taken f.ty f.place (expression_form h e) = taken (written tokens s h) f.ty f.place (expression_form h e) f.taken (fitting (written tokens s h) f.ty y.value_type t.value.1.value_type (expression_form h e) f.belongs f.whole y.fits x.typed) in
-      (
+      let v : Taken f.ty f.place (expression_form h e) = taken (written tokens s h) f.ty f.place (expression_form h e) f.taken (fitting (written tokens s h) f.ty y.value_type t.value.1.value_type (expression_form h e) f.belongs f.whole y.fits x.typed) in (
         record { place = f.place; ty = f.ty; value = v.value; act = v.act; target = f.is; formed = v.is; assigned = v.assigned; moved = type_moved (written tokens s h) f.ty y.value_type f.belongs; named = f.named; chosen = p.chosen; used = x.used },
         calls_both h (selectors_calls h.scope ss) (expression_calls h.scope e) p.calls x.calls,
       )
@@ -372,8 +371,7 @@ module _ (tokens : Tokens) (s : Scopes) (h : Here) (w : Context) (agrees : Scope
       let t : Then (both (designator s w d) (arguments s w [] 0 es)) (statements.started s i.at) r = then_of (both (designator s w d) (arguments s w [] 0 es)) (statements.started s i.at) r is in
       let b = both_of (designator s w d) (arguments s w [] 0 es) t.value t.is in
       let p : Pointed i ss t.value.0 = pointed i ss t.value.0 small b.first in
-      let x : Started i ss es (designator_form h d) = named_started i.at i ss es t.value.0 t.value.0.named (designator_form h d) t.value.1 r p.holds less b.second t.rest in
-      (
+      let x : Started i ss es (designator_form h d) = named_started i.at i ss es t.value.0 t.value.0.named (designator_form h d) t.value.1 r p.holds less b.second t.rest in (
         record { part = x.part; system = x.system; target = x.is; named = x.named; whole = x.whole; chosen = p.chosen; used = x.used; arguments = x.arguments },
         calls_both h (selectors_calls h.scope ss) (expressions_calls h.scope es) p.calls x.calls,
       )
@@ -447,8 +445,7 @@ module _ (tokens : Tokens) (s : Scopes) (h : Here) (w : Context) (agrees : Scope
       let y : Judgement b t.value.0.1 = judged b n t.value.0.1 q.second in
       let held : NamedIs tokens s h i.name (find i.name h.scope) None t.value.0.0.0.named (begun_form h i.name (find i.name h.scope)) = subst (λ (j : Judged check_designated.Designated). HasDesignated tokens s h i.name (find i.name h.scope) None j (begun_form h i.name (find i.name h.scope))) o.first (begun_typed tokens s h agrees i) in
       let f : TargetFormed tokens s h w agrees i no_selectors c.value_type (begun_form h i.name (find i.name h.scope)) = begun_target tokens s h w agrees own i t.value.0.0.0 t.value.0.0.0.named c.value_type refl o.first held c.is in
-      let z : Counter i = counter_of i c.value_type f.ty f.place f.is f.belongs c.ordinal f.named in
-      (
+      let z : Counter i = counter_of i c.value_type f.ty f.place f.is f.belongs c.ordinal f.named in (
         record { origin = z.origin; range = z.range; variable = z.variable; named = z.named; first = ordinal_of a t.value.0.0.1 x (agreeing_ordinal c.value_type t.value.0.0.1.value_type c.ordinal c.first); last = ordinal_of b t.value.0.1 y (agreeing_ordinal c.value_type t.value.0.1.value_type c.ordinal c.last) },
         calls_both h (expression_calls h.scope a) (expression_calls h.scope b) x.calls y.calls,
       )
