@@ -1,5 +1,6 @@
 -- Bodies of routines that break no rule, and the routines of a system type one after the other.
-use Rattle.std.proofs.Common.{◌≡◌, ℕ, Bool, false, List, [], ◌∷◌, ◌++◌, Option, Some, None, Ok, Err, is_some, refl, sym, ap, subst, ◌∙◌}
+use Rattle.std.proofs.Common.{◌≡◌, ℕ, Bool, true, false, List, [], ◌∷◌, ◌++◌, Option, Some, None, Ok, Err, is_some, refl, sym, ap, subst, ◌∙◌}
+use Rattle.std.specs.Str.{bytes_eq}
 use Rattle.cp_tree.specs.declared.declaration.SystemKind.{SystemKind}
 use Rattle.cp_tree.specs.Syntax.{Program, Routine}
 use Rattle.cp_scope.specs.declared.types.ValueType.{ValueType}
@@ -8,7 +9,7 @@ use Rattle.cp_scope.specs.declared.types.Meaning.TheVariants as meaning
 use Rattle.cp_scope.specs.declared.count.Use.{Use}
 use Rattle.cp_scope.specs.Counts.{no_use}
 use Rattle.cp_scope.specs.Judged.{Judged, faults}
-use Rattle.cp_scope.specs.Scopes.{Scope, Scopes, Shapes, Shape, body_shape, shape_in, look, with_shape, with_name, sealed, add, enter, Around, last_of, leave, keep, settle, census}
+use Rattle.cp_scope.specs.Scopes.{Scope, Scopes, Shapes, Shape, body_shape, shape_in, or_else, look_outer, heading_at, look, with_shape, with_name, sealed, add, enter, Around, last_of, leave, keep, settle, census}
 use Rattle.cp_scope.specs.Scopes as checker
 use Rattle.cp_check.specs.declared.operand.Context.{Context}
 use Rattle.cp_check.specs.declared.types.Spot.TheVariants as spot
@@ -27,17 +28,18 @@ use Rattle.cp_meaning.specs.Declarations as meant
 use Rattle.cp_meaning.specs.Declarations.{routine_in}
 use Rattle.cp_meaning.specs.Systems.{with_routines}
 use Rattle.cp_resolved.specs.Enumerations.{each_in, in_routine}
-use Rattle.cp_resolved.specs.Judging.{routine_place, routine_places, IsAgreed, AreAgreed}
+use Rattle.cp_resolved.specs.Judging.{routine_place, routine_places, IsOwn, IsAgreed, AreAgreed}
 use Rattle.cp_resolved.specs.Openings.{Opening, with_routine, routine_openings}
 use Rattle.cp_resolved.specs.Small.{Each, IsSmallRoutine}
 use Rattle.cp_resolved.specs.Standing.{IsFit, IsFreeVariable, IsFreeParameter, IsFreeResult}
 use Rattle.cp_resolved.specs.Tokens.{all_tokens, part_tokens, routine_tokens}
-use Rattle.cp_resolved.specs.Typed.{Tokens, ScopesAgree}
-use Rattle.cp_resolved.proofs.Agreeing.{none_left, none_right, new_names, More, more_trans, with_more}
-use Rattle.cp_resolved.proofs.AgreeingNames.{Known, IsKnown, known_moved, Agree, sees, fits, agree_same, agree_kept, agree_known, agree_returned}
+use Rattle.cp_resolved.specs.Typed.{Tokens, HeadingIs, ScopesAgree}
+use Rattle.cp_resolved.proofs.Agreeing.{look_is, none_left, none_right, new_names, More, more_trans, with_more}
+use Rattle.cp_resolved.proofs.AgreeingNames.{W, heading_kept, heading_is_more, Known, IsKnown, known_moved, Agree, sees, fits, agree_same, agree_kept, agree_known, agree_returned}
 use Rattle.cp_resolved.proofs.AgreeingTypes.{IsFew}
 use Rattle.cp_resolved.proofs.AgreeingWritten.{each_left, each_right}
 use Rattle.cp_resolved.proofs.AgreeingParts.{StepResult, step_then, step_same, name_result, local_kind, parts_agree, parts_stand}
+use Rattle.cp_resolved.proofs.ParametersRead.{Reads, name_read, parts_read, longer_routine}
 use Rattle.cp_resolved.proofs.AgreeingRoutines.{none_before, none_after, heading_none, heading_agrees, Announced, announced_agrees, announcing}
 
 pub record Uses (j : Judged Use) : Type 0 where
@@ -48,6 +50,10 @@ pub loud_uses : (j : Judged Use) → Loud j → faults j ≡ [] → Uses j
 loud_uses (Ok u) h e = record { value = u; is = refl }
 loud_uses (Err []) h e = absurd h
 loud_uses (Err (f ∷ fs)) h e = absurd (let bad : f ∷ fs ≡ [] = e in cc)
+
+-- t has the parameters that s has
+abbrev pub ReadsAs : Scopes → Scopes → Type 0
+ReadsAs s t = checker.parameters_in t.inner.names ≡ checker.parameters_in s.inner.names
 
 module _ (tokens : Tokens) (p : Program) where
   -- ---- statements
@@ -61,17 +67,18 @@ module _ (tokens : Tokens) (p : Program) where
       go (Some None) k = k
       go (Some (Some c)) k = tt
 
-  pub place_agreed : (s : Scopes) (w : Context) (m below : scopes.Scope) (ks : List ℕ) (o : Opening) → o.meaning.scope ≡ m → faults (statements s w (Ok no_use) o.meaning.body) ≡ [] → Each IsFreeVariable o.meaning.variables → Each IsFreeParameter o.meaning.parameters → IsFreeResult o.meaning.result → Agree tokens p false None s m below ks → IsAgreed tokens p (record { scopes = s; context = w }) o
-  place_agreed s w m below ks o is sound variables parameters result h =
+  pub place_agreed : (s : Scopes) (w : Context) (m below : scopes.Scope) (ks : List ℕ) (o : Opening) → o.meaning.scope ≡ m → faults (statements s w (Ok no_use) o.meaning.body) ≡ [] → Each IsFreeVariable o.meaning.variables → Each IsFreeParameter o.meaning.parameters → IsFreeResult o.meaning.result → ((n : ℕ) → w.routine ≡ Some n → IsOwn tokens (record { scopes = s; context = w }) o n) → Agree tokens p false None s m below ks → IsAgreed tokens p (record { scopes = s; context = w }) o
+  place_agreed s w m below ks o is sound variables parameters result own h =
       record {
         scopes = λ l k n. subst (λ (i : scopes.Scope). ScopesAgree tokens s (record { program = p; layouts = l; system = k; routine = n; scope = i })) (sym is)
-            (record { names = λ x c e. (subst (IsKnown tokens s m x) e (sees tokens p false None s m below ks h x tt)).means; entries = λ j i y e. (h.entries j i y e).0 });
+            (record { names = λ x c e. (subst (IsKnown tokens s m x) e (sees tokens p false None s m below ks h x tt)).means; entries = λ j i y e. (h.entries j i y e).0; starts = h.starts });
         sound = sound;
         known = λ x e. subst (IsKnown tokens s m x) e (sees tokens p false None s m below ks h x tt);
         fit = λ x. subst (λ (i : scopes.Scope). IsFit (find x i)) (sym is) (fits tokens p false None s m below ks h x);
         variables = variables;
         parameters = parameters;
         result = result;
+        own = own;
       }
 
   -- ---- out of a routine
@@ -84,10 +91,10 @@ module _ (tokens : Tokens) (p : Program) where
       let d : Shape = body_shape (routine_use (census t.inner.names t.shapes).cells v u) in
       let c : Option Meaning = announcing tokens p r in
       let ss : Shapes = with_shape t.shapes r.body.at d in
-      let kept : Agree tokens p false None (keep t r.body.at d) rs (with_routine m r) ks = agree_kept tokens p false None t rs (with_routine m r) r.body.at ks d (λ y. refl) h in
+      let kept : Agree tokens p false None (keep t r.body.at d) rs (with_routine m r) ks = agree_kept tokens p false None t rs (with_routine m r) r.body.at ks d tt (λ y. refl) h in
       let all : More a.shapes ss = more_trans a.shapes t.shapes ss further (with_more t.shapes r.body.at d h.free.0) in
       let w : Scopes = record { outer = s.outer; inner = s.inner; shapes = ss } in
-      let returned : Agree tokens p false None w m below ks = agree_returned tokens p false None s w m below js ks before refl refl before.unsealed (more_trans s.shapes a.shapes ss more all) kept.free kept.different kept.entries in
+      let returned : Agree tokens p false None w m below ks = agree_returned tokens p false None s w m below js ks before refl refl before.unsealed (more_trans s.shapes a.shapes ss more all) kept.free kept.different kept.entries kept.starts in
       let added : Agree tokens p false None (add w r.name.name c) (with_routine m r) below ks =
       agree_known tokens p false None w m below ks r.name.name (meaning.Routine r.name.at) (routine_meaning r) fresh (λ e. absurd (cc)) (known_moved tokens a (add w r.name.name c) (with_routine m r) (with_routine m r) r.name.name (meaning.Routine r.name.at) all refl refl known) (λ e. absurd (cc)) returned in
       let last : last_of t.outer ≡ (let b : Around = record { outer = s.outer; inner = with_name (sealed false s.inner) r.name.name c } in b) = ap last_of (same ∙ outer) ∙ last_is s.outer (with_name (sealed false s.inner) r.name.name c) in
@@ -102,13 +109,34 @@ module _ (tokens : Tokens) (p : Program) where
         more = more_trans s.shapes a.shapes ss more all;
       }
 
+  -- with the parameters that stood before it
+  closed_read : (s a t : Scopes) (r : Routine) (v : Option ValueType) (u : Use) → is_some (checker.find r.name.name s.inner.names) ≡ false → a.outer ≡ s.outer ++ with_name (sealed false s.inner) r.name.name (announcing tokens p r) ∷ [] → t.outer ≡ a.outer → ReadsAs s (routines.closed r v u t)
+  unfolding routines.closed settle keep leave
+  closed_read s a t r v u fresh outer same =
+      let c : Option Meaning = announcing tokens p r in
+      let last : last_of t.outer ≡ (let b : Around = record { outer = s.outer; inner = with_name (sealed false s.inner) r.name.name c } in b) = ap last_of (same ∙ outer) ∙ last_is s.outer (with_name (sealed false s.inner) r.name.name c) in
+      ap (λ (b : Around). checker.parameters_in b.inner.names) last ∙ name_read (sealed false s.inner) r.name.name c refl
+
   -- ---- a routine
+
+  abbrev opening_of : scopes.Scope → Routine → ℕ → Opening
+  opening_of m r k = record { meaning = routine_in (with_routine m r) r; owner = k; name = Some r.name.name }
 
   record BodyResult (owner : Option SystemKind) (s : Scopes) (m below : scopes.Scope) (ks : List ℕ) (r : Routine) (j : Judged (Option ValueType)) (hs : Scopes) : Type 0 where
     pub agree : Agree tokens p false None (part_steps spot.Other (announced_of r j hs) r.parts).scopes (routine_in (with_routine m r) r).scope (with_routine m r) (r.body.at ∷ ks)
     pub variables : Each IsFreeVariable (routine_in (with_routine m r) r).variables
     pub sound : faults (statements (part_steps spot.Other (announced_of r j hs) r.parts).scopes (routine_context owner r) (Ok no_use) r.body.statements) ≡ []
     pub step : StepResult tokens p false None s (body_step r j (routines.opened owner r (announced_of r j hs))).scopes (with_routine m r) below ks
+    pub own : (n : ℕ) → Some r.name.at ≡ Some n → IsOwn tokens (record { scopes = (part_steps spot.Other (announced_of r j hs) r.parts).scopes; context = routine_context owner r }) (opening_of m r 0) n
+    pub read : ReadsAs s (body_step r j (routines.opened owner r (announced_of r j hs))).scopes
+
+  same_token : (n k : ℕ) → Some n ≡ Some k → n ≡ k
+  same_token n k e = cc
+
+  own_found : (a t : Scopes) (x : Name) (n : ℕ) → Reads a t → t.outer ≡ a.outer → t.inner.is_sealed ≡ false → look x t ≡ Some (Some (meaning.Routine n)) → or_else (checker.find x a.inner.names) (look_outer x a.outer) ≡ Some (Some (meaning.Routine n))
+  own_found a t x n read outer open_ e =
+      subst (λ (cs : List Scope). or_else (checker.find x a.inner.names) (look_outer x cs) ≡ Some (Some (meaning.Routine n))) outer
+      (longer_routine a.inner t.inner x (look_outer x t.outer) n read (sym (look_is x t open_) ∙ e))
 
   body_agrees : (owner : Option SystemKind) (s hs : Scopes) (m below : scopes.Scope) (js ks : List ℕ) (r : Routine) (v : Option ValueType) → is_some (checker.find r.name.name s.inner.names) ≡ false → Agree tokens p false None s m below js →
       Announced tokens p (announced r v hs) s r m (with_routine m r) (meant.heading_of (with_routine m r) r.kind).scope (all_tokens part_tokens r.parts (r.body.at ∷ ks)) → IsSmallRoutine r → Each (IsFew tokens) (in_routine r) → (body_step r (Ok v) (routines.opened owner r (announced_of r (Ok v) hs))).faults ≡ [] →
@@ -130,20 +158,28 @@ module _ (tokens : Tokens) (p : Program) where
         sound = sound;
         step = subst (λ (i : Judged Use). StepResult tokens p false None s (closed_of r (Ok v) i d.scopes) k below ks) (sym (same ∙ uses.is))
             (closed_agrees s a d.scopes m below (routine_in k r).scope js ks r v uses.value fresh before ann.known ann.outer ann.more parts.more parts.outer parts.agree);
+        own = λ n i. record {
+          named = λ x g. subst (λ (z : ℕ). look x d.scopes ≡ Some (Some (meaning.Routine z)) → bytes_eq x r.name.name ≡ true) (same_token r.name.at n i) (λ f. ann.alone x (own_found a d.scopes x r.name.at (parts_read spot.Other a r.parts) parts.outer parts.agree.unsealed f)) g;
+          heading = subst (λ (z : ℕ). HeadingIs (W tokens d.scopes.shapes) (heading_at z d.scopes) (Some (routine_in k r))) (same_token r.name.at n i)
+              (subst (λ (z : checker.Heading). HeadingIs (W tokens d.scopes.shapes) z (Some (routine_in k r))) (sym (heading_kept r.name.at a.shapes d.scopes.shapes parts.more ann.known.there)) (heading_is_more tokens a.shapes d.scopes.shapes parts.more (heading_at r.name.at a) (Some (routine_in k r)) ann.heading));
+        };
+        read = subst (λ (i : Judged Use). ReadsAs s (closed_of r (Ok v) i d.scopes)) (sym (same ∙ uses.is)) (closed_read s a d.scopes r v uses.value fresh ann.outer parts.outer);
       }
 
   pub record RoutineResult (owner : Option SystemKind) (s : Scopes) (m below : scopes.Scope) (ks : List ℕ) (n : ℕ) (r : Routine) : Type 0 where
     pub place : IsAgreed tokens p (routine_place owner s r) (record { meaning = routine_in (with_routine m r) r; owner = n; name = Some r.name.name })
     pub step : StepResult tokens p false None s (routine_step owner s r).scopes (with_routine m r) below ks
+    pub read : ReadsAs s (routine_step owner s r).scopes
 
   -- what a routine leaves, by what its heading leaves
-  routine_result : (owner : Option SystemKind) (s a : Scopes) (m below : scopes.Scope) (js ks : List ℕ) (n : ℕ) (r : Routine) (h : Headed) (v : Option ValueType) → h.result ≡ Ok v → Each IsFreeParameter (routine_in (with_routine m r) r).parameters → IsFreeResult (routine_in (with_routine m r) r).result → BodyResult owner a m below ks r (Ok v) h.scopes → a.outer ≡ s.outer → More s.shapes a.shapes →
+  routine_result : (owner : Option SystemKind) (s a : Scopes) (m below : scopes.Scope) (js ks : List ℕ) (n : ℕ) (r : Routine) (h : Headed) (v : Option ValueType) → h.result ≡ Ok v → Each IsFreeParameter (routine_in (with_routine m r) r).parameters → IsFreeResult (routine_in (with_routine m r) r).result → BodyResult owner a m below ks r (Ok v) h.scopes → a.outer ≡ s.outer → More s.shapes a.shapes → ReadsAs s a →
       IsAgreed tokens p (record { scopes = (part_steps spot.Other (announced_of r h.result h.scopes) r.parts).scopes; context = routine_context owner r }) (record { meaning = routine_in (with_routine m r) r; owner = n; name = Some r.name.name })
-      × StepResult tokens p false None s (routines.headed_step owner r h).scopes (with_routine m r) below ks
-  routine_result owner s a m below js ks n r h v is parameters result b outer more =
+      × StepResult tokens p false None s (routines.headed_step owner r h).scopes (with_routine m r) below ks × ReadsAs s (routines.headed_step owner r h).scopes
+  routine_result owner s a m below js ks n r h v is parameters result b outer more read =
       let body : BodyResult owner a m below ks r h.result h.scopes = subst (λ (j : Judged (Option ValueType)). BodyResult owner a m below ks r j h.scopes) (sym is) b in (
-        place_agreed (part_steps spot.Other (announced_of r h.result h.scopes) r.parts).scopes (routine_context owner r) (routine_in (with_routine m r) r).scope (with_routine m r) (r.body.at ∷ ks) (record { meaning = routine_in (with_routine m r) r; owner = n; name = Some r.name.name }) refl body.sound body.variables parameters result body.agree,
+        place_agreed (part_steps spot.Other (announced_of r h.result h.scopes) r.parts).scopes (routine_context owner r) (routine_in (with_routine m r) r).scope (with_routine m r) (r.body.at ∷ ks) (record { meaning = routine_in (with_routine m r) r; owner = n; name = Some r.name.name }) refl body.sound body.variables parameters result (λ z i. (let o = body.own z i in record { named = o.named; heading = o.heading })) body.agree,
         record { agree = body.step.agree; outer = body.step.outer ∙ outer; settled = body.step.settled; more = more_trans s.shapes a.shapes (routines.headed_step owner r h).scopes.shapes more body.step.more },
+        body.read ∙ read,
       )
 
   pub routine_agrees : (owner : Option SystemKind) (s : Scopes) (m below : scopes.Scope) (ks : List ℕ) (n : ℕ) (r : Routine) → (routine_step owner s r).faults ≡ [] → IsSmallRoutine r → Each (IsFew tokens) (in_routine r) → s.inner.pending ≡ [] → Agree tokens p false None s m below (routine_tokens r ks) → RoutineResult owner s m below ks n r
@@ -159,23 +195,24 @@ module _ (tokens : Tokens) (p : Program) where
       let ann = announced_agrees tokens p a hd.scopes m below (with_routine m r) (meant.heading_of (with_routine m r) r.kind).scope (routine_tokens r ks) (all_tokens part_tokens r.parts (r.body.at ∷ ks)) r head.value refl fresh named.agree head.step.agree head.step.outer head.step.settled head.step.more (head.result, head.read) in
       let body = body_agrees owner a hd.scopes m below (routine_tokens r ks) ks r head.value fresh named.agree ann small few
       (subst (λ (j : Judged (Option ValueType)). faults (routines.opened owner r (announced_of r j hd.scopes)).uses ≡ []) head.is (none_right (faults hd.result) (faults (routines.opened owner r (announced_of r hd.result hd.scopes)).uses) e)) in
-      let all = routine_result owner s a m below (routine_tokens r ks) ks n r hd head.value head.is head.parameters head.free body named.outer (λ k d i. ap (shape_in k) named.shapes ∙ i) in
-      record { place = all.0; step = all.1 }
+      let all = routine_result owner s a m below (routine_tokens r ks) ks n r hd head.value head.is head.parameters head.free body named.outer (λ k d i. ap (shape_in k) named.shapes ∙ i) (ap checker.parameters_in named.reserved.names) in
+      record { place = all.0; step = all.1; read = all.2 }
 
   -- ---- the routines of a system type
 
   pub record RoutinesResult (owner : Option SystemKind) (s : Scopes) (m below : scopes.Scope) (ks : List ℕ) (n : ℕ) (rs : List Routine) : Type 0 where
     pub places : AreAgreed tokens p (routine_places owner s rs) (routine_openings n m rs)
     pub step : StepResult tokens p false None s (routine_steps owner s rs).scopes (with_routines m rs) below ks
+    pub read : ReadsAs s (routine_steps owner s rs).scopes
 
   pub routines_agree : (owner : Option SystemKind) (s : Scopes) (m below : scopes.Scope) (ks : List ℕ) (n : ℕ) (rs : List Routine) → (routine_steps owner s rs).faults ≡ [] → Each IsSmallRoutine rs → Each (IsFew tokens) (each_in in_routine rs) → s.inner.pending ≡ [] → Agree tokens p false None s m below (all_tokens routine_tokens rs ks) →
       RoutinesResult owner s m below ks n rs
   unfolding routine_steps
-  routines_agree owner s m below ks n [] e small few empty h = record { places = tt; step = step_same tokens p false None s m below ks empty h }
+  routines_agree owner s m below ks n [] e small few empty h = record { places = tt; step = step_same tokens p false None s m below ks empty h; read = refl }
   routines_agree owner s m below ks n (r ∷ rs) e small few empty h =
       let t : Scopes = (routine_step owner s r).scopes in
       let js : List ℕ = all_tokens routine_tokens rs ks in
       let k : scopes.Scope = with_routine m r in
       let first : RoutineResult owner s m below js n r = routine_agrees owner s m below js n r (none_left (routine_step owner s r).faults (routine_steps owner t rs).faults e) small.0 (each_left (IsFew tokens) (in_routine r) (each_in in_routine rs) few) empty h in
       let rest : RoutinesResult owner t k below ks n rs = routines_agree owner t k below ks n rs (none_right (routine_step owner s r).faults (routine_steps owner t rs).faults e) small.1 (each_right (IsFew tokens) (in_routine r) (each_in in_routine rs) few) first.step.settled first.step.agree in
-      record { places = (first.place, rest.places); step = step_then tokens p false None s t (routine_steps owner t rs).scopes k (with_routines k rs) below js ks first.step rest.step }
+      record { places = (first.place, rest.places); step = step_then tokens p false None s t (routine_steps owner t rs).scopes k (with_routines k rs) below js ks first.step rest.step; read = rest.read ∙ first.read }

@@ -18,11 +18,13 @@ use Rattle.cp_meaning.specs.Types.{Ty, FieldTypes}
 use Rattle.cp_meaning.specs.Scopes as scopes
 use Rattle.cp_meaning.specs.Scopes.{find, since, is_seen, seen_inside}
 use Rattle.cp_meaning.specs.Declarations.{Parameter, RoutineMeaning, routine_in, type_named}
+use Rattle.cp_meaning.specs.Systems.{system_of}
 use Rattle.cp_meaning.specs.Expressions.{routine_of_type}
 use Rattle.cp_resolved.specs.Layouts.{cells_in}
+use Rattle.cp_resolved.specs.Small.{Each}
 use Rattle.cp_resolved.specs.Standing.{IsFit, is_standing}
 use Rattle.cp_resolved.specs.Tokens.{AreDifferent}
-use Rattle.cp_resolved.specs.Typed.{Tokens, Written, TypeIs, FieldsAre, AreParameters, HeadingIs, VariableIs, KindIs, RoutineIs, MeaningIs}
+use Rattle.cp_resolved.specs.Typed.{Tokens, SystemThere, IsValueParameter, Written, TypeIs, FieldsAre, AreParameters, HeadingIs, VariableIs, KindIs, RoutineIs, MeaningIs}
 use Rattle.cp_resolved.proofs.Agreeing.{itself, is_itself, unknown, find_last, new_names, inner_look, look_is, More, with_more, with_there, with_other, AreFree, free_others}
 
 -- the heading of a routine is written
@@ -59,9 +61,9 @@ module _ (tokens : Tokens) where
     type_more ss ts m named.queue_type v h = h
     type_more ss ts m (named.set_over q) v h = h
     type_more ss ts m (named.array_over q t) v h =
-        record { token = h.token; is = h.is; shape = h.shape; there = ap as_array (m h.token (array_shape h.shape) (array_is (shape_in h.token ss) h.shape h.there)); range = h.range; takes = h.takes; belongs = type_more ss ts m t h.shape.element h.belongs }
+        record { token = h.token; is = h.is; shape = h.shape; there = ap as_array (m h.token (array_shape h.shape) (array_is (shape_in h.token ss) h.shape h.there)); range = h.range; takes = h.takes; few = h.few; belongs = type_more ss ts m t h.shape.element h.belongs }
     type_more ss ts m (named.record_with us) v h =
-        record { token = h.token; is = h.is; fields = h.fields; there = m h.token (record_shape h.fields (cells_in us)) h.there; visible = h.visible; each = fields_more ss ts m us h.fields.names h.each }
+        record { token = h.token; is = h.is; fields = h.fields; there = m h.token (record_shape h.fields (cells_in us)) h.there; visible = h.visible; each = fields_more ss ts m us h.fields.names h.each; few = h.few }
     type_more ss ts m (named.component_of n) v h =
         record { kind = h.kind; is = h.is; only = h.only; there = record { names = h.there.names; heading = h.there.heading; census = h.there.census; need = h.there.need; there = m (tokens.systems n) (system_shape h.there.names h.there.heading h.there.census h.there.need) h.there.there } }
 
@@ -262,6 +264,10 @@ module _ (tokens : Tokens) where
     abbrev pub AreEntries : Scopes → Type 0
     AreEntries s = (k n : ℕ) (y : Name) → member_at (tokens.systems k) y s ≡ Some (Some (meaning.Routine n)) → HeadingIs (W s.shapes) (heading_at n s) (routine_of_type p (named.component_of k) y) × HeadingThere n s.shapes
 
+    -- the parameters of each system type that is written
+    abbrev pub AreStarts : Scopes → Type 0
+    AreStarts s = (k : ℕ) (d : SystemThere (tokens.systems k) s.shapes) → AreParameters (W s.shapes) d.heading.parameters (system_of p k).parameters × Each IsValueParameter (system_of p k).parameters
+
     -- `inside`: in the program, what its system types see agrees too. `but`: in a heading the name of its routine is not visible yet.
     pub record Agree (inside : Bool) (but : Option Name) (s : Scopes) (m below : scopes.Scope) (ks : List ℕ) : Type 0 where
       pub unsealed : s.inner.is_sealed ≡ false
@@ -273,6 +279,7 @@ module _ (tokens : Tokens) where
       pub free : AreFree s.shapes ks
       pub different : AreDifferent ks
       pub entries : AreEntries s
+      pub starts : AreStarts s
 
     pub sees_of : (s : Scopes) (m below : scopes.Scope) (x : Name) (o q : Option (Option Meaning)) → IsStacked s m below x o → IsKnown s below x q → IsKnown s m x (or_else o q)
     sees_of s m below x None q h g = is_known_moved s s below m x q (λ n d e. e) h.found h.rest g
@@ -293,6 +300,11 @@ module _ (tokens : Tokens) where
 
     -- ---- from one state of the scopes to another
 
+    pub starts_more : (s t : Scopes) → More s.shapes t.shapes → ((k : ℕ) → SystemThere (tokens.systems k) t.shapes → shape_in (tokens.systems k) t.shapes ≡ shape_in (tokens.systems k) s.shapes) → AreStarts s → AreStarts t
+    starts_more s t more back h k d =
+        let before = h k (record { names = d.names; heading = d.heading; census = d.census; need = d.need; there = sym (back k d) ∙ d.there }) in
+        (parameters_more s.shapes t.shapes more d.heading.parameters (system_of p k).parameters before.0, before.1)
+
     pub entries_more : (s t : Scopes) → More s.shapes t.shapes → ((k n : ℕ) (y : Name) → member_at (tokens.systems k) y t ≡ Some (Some (meaning.Routine n)) → member_at (tokens.systems k) y s ≡ Some (Some (meaning.Routine n))) → AreEntries s → AreEntries t
     entries_more s t more back h k n y e =
         let r = h k n y (back k n y e) in
@@ -311,6 +323,7 @@ module _ (tokens : Tokens) where
           free = subst (λ (ss : Shapes). AreFree ss ks) (sym e) h.free;
           different = h.different;
           entries = entries_more s t more (λ k j y g. ap (λ (ss : Shapes). as_member y (shape_in (tokens.systems k) ss)) (sym e) ∙ g) h.entries;
+          starts = starts_more s t more (λ k d. ap (shape_in (tokens.systems k)) e) h.starts;
         }
 
     pending_names : (c : Scope) (n : List ℕ) → (with_pending c n).names ≡ c.names
@@ -338,9 +351,9 @@ module _ (tokens : Tokens) where
     -- ---- what is written at one more token
 
     -- with what it says of entries
-    pub agree_written : (b : Bool) (but : Option Name) (s : Scopes) (m below : scopes.Scope) (k : ℕ) (ks : List ℕ) (d : Shape) → Agree b but s m below (k ∷ ks) → AreEntries (keep s k d) → Agree b but (keep s k d) m below ks
+    pub agree_written : (b : Bool) (but : Option Name) (s : Scopes) (m below : scopes.Scope) (k : ℕ) (ks : List ℕ) (d : Shape) → Agree b but s m below (k ∷ ks) → AreEntries (keep s k d) → AreStarts (keep s k d) → Agree b but (keep s k d) m below ks
     unfolding keep
-    agree_written b but s m below k ks d h e =
+    agree_written b but s m below k ks d h e g =
         let more : More s.shapes (with_shape s.shapes k d) = with_more s.shapes k d h.free.0 in
         record {
           unsealed = h.unsealed;
@@ -352,6 +365,7 @@ module _ (tokens : Tokens) where
           free = free_others s.shapes k d ks h.free.0 h.different.0 h.free.1;
           different = h.different.1;
           entries = e;
+          starts = g;
         }
 
     pub back : (k j : ℕ) (y : Name) (ss : Shapes) (d : Shape) (c : Option Meaning) → shape_in k ss ≡ None → as_member y (Some d) ≡ None → as_member y (shape_in j (with_shape ss k d)) ≡ Some c → as_member y (shape_in j ss) ≡ Some c
@@ -364,11 +378,30 @@ module _ (tokens : Tokens) where
         go false other = ap (as_member y) (sym (with_other ss k j d free (λ i. (let bad : true ≡ false = sym ((Decides-eqb j k).1 i) ∙ other in absurd cc)))) ∙ e
 
     -- what is no system type
-    pub agree_kept : (b : Bool) (but : Option Name) (s : Scopes) (m below : scopes.Scope) (k : ℕ) (ks : List ℕ) (d : Shape) → ((y : Name) → as_member y (Some d) ≡ None) → Agree b but s m below (k ∷ ks) → Agree b but (keep s k d) m below ks
+    abbrev pub IsNoSystem : Shape → Type 0
+    IsNoSystem (system_shape m h c u) = ⊥
+    IsNoSystem d = Unit {0}
+
+    other_shape : (ss : Shapes) (k j : ℕ) (d : Shape) → IsNoSystem d → shape_in k ss ≡ None → SystemThere j (with_shape ss k d) → shape_in j (with_shape ss k d) ≡ shape_in j ss
+    other_shape ss k j d plain free t = go (nat_eq j k) refl
+      where
+        wrong : (e : Shape) → IsNoSystem e → Some e ≡ Some (system_shape t.names t.heading t.census t.need) → ⊥
+        wrong (system_shape m h c u) n e = n
+        wrong (array_shape a) n e = cc
+        wrong (record_shape f c) n e = cc
+        wrong (heading_shape h b) n e = cc
+        wrong (body_shape u) n e = cc
+
+        go : (b : Bool) → nat_eq j k ≡ b → shape_in j (with_shape ss k d) ≡ shape_in j ss
+        go true same = absurd (wrong d plain (sym (with_there ss k d free) ∙ ap (λ i. shape_in i (with_shape ss k d)) (sym ((Decides-eqb j k).0 same)) ∙ t.there))
+        go false other = with_other ss k j d free (λ i. (let bad : true ≡ false = sym ((Decides-eqb j k).1 i) ∙ other in absurd cc))
+
+    pub agree_kept : (b : Bool) (but : Option Name) (s : Scopes) (m below : scopes.Scope) (k : ℕ) (ks : List ℕ) (d : Shape) → IsNoSystem d → ((y : Name) → as_member y (Some d) ≡ None) → Agree b but s m below (k ∷ ks) → Agree b but (keep s k d) m below ks
     unfolding keep
-    agree_kept b but s m below k ks d none h =
+    agree_kept b but s m below k ks d plain none h =
         agree_written b but s m below k ks d h
         (entries_more s (keep s k d) (with_more s.shapes k d h.free.0) (λ j n y e. back k (tokens.systems j) y s.shapes d (Some (meaning.Routine n)) h.free.0 (none y) e) h.entries)
+        (starts_more s (keep s k d) (with_more s.shapes k d h.free.0) (λ j t. other_shape s.shapes k (tokens.systems j) d plain h.free.0 t) h.starts)
 
     -- ---- one name more
 
@@ -432,6 +465,7 @@ module _ (tokens : Tokens) where
           free = h.free;
           different = h.different;
           entries = h.entries;
+          starts = h.starts;
         }
       where
         all : Stacked (inner_look false (add s n (Some c))) (add s n (Some c)) ((n, d) ∷ m) below
@@ -447,8 +481,8 @@ module _ (tokens : Tokens) where
 
     -- ---- back out of a scope inside
 
-    pub agree_returned : (b : Bool) (but : Option Name) (s t : Scopes) (m below : scopes.Scope) (js ks : List ℕ) → Agree b but s m below js → t.outer ≡ s.outer → t.inner.names ≡ s.inner.names → t.inner.is_sealed ≡ false → More s.shapes t.shapes → AreFree t.shapes ks → AreDifferent ks → AreEntries t → Agree b but t m below ks
-    agree_returned b but s t m below js ks h o n i more free different entries =
+    pub agree_returned : (b : Bool) (but : Option Name) (s t : Scopes) (m below : scopes.Scope) (js ks : List ℕ) → Agree b but s m below js → t.outer ≡ s.outer → t.inner.names ≡ s.inner.names → t.inner.is_sealed ≡ false → More s.shapes t.shapes → AreFree t.shapes ks → AreDifferent ks → AreEntries t → AreStarts t → Agree b but t m below ks
+    agree_returned b but s t m below js ks h o n i more free different entries starts =
         record {
           unsealed = i;
           names = stacked_more (inner_look false s) (inner_look false t) s t m below more (λ x. ap (checker.find x) n) h.names;
@@ -459,4 +493,5 @@ module _ (tokens : Tokens) where
           free = free;
           different = different;
           entries = entries;
+          starts = starts;
         }

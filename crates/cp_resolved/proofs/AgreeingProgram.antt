@@ -296,12 +296,13 @@ module _ (tokens : Tokens) (p : Program) where
         free = all_free ks;
         different = different;
         entries = λ k n y e. absurd (let bad : None ≡ Some (Some (meaning.Routine n)) = e in cc);
+        starts = λ k d. absurd (let bad : None ≡ Some (checker.system_shape d.names d.heading d.census d.need) = d.there in cc);
       }
 
   -- ---- the program
 
   agree_plain : (s : Scopes) (m below : scopes.Scope) (ks : List ℕ) → Agree tokens p true None s m below ks → Agree tokens p false None s m below ks
-  agree_plain s m below ks h = record { unsealed = h.unsealed; names = h.names; seen = h.names; outer = h.outer; own = tt; base = h.base; free = h.free; different = h.different; entries = h.entries }
+  agree_plain s m below ks h = record { unsealed = h.unsealed; names = h.names; seen = h.names; outer = h.outer; own = tt; base = h.base; free = h.free; different = h.different; entries = h.entries; starts = h.starts }
 
   uses_sound : (at : ℕ) (s : Scopes) (j : Judged Use) → limit_faults at s j ≡ [] → faults j ≡ []
   uses_sound at s (Ok u) k = refl
@@ -334,7 +335,7 @@ module _ (tokens : Tokens) (p : Program) where
       record {
         places = agreed_append tokens p (parts_places start p.parts) (routine_places None a.scopes p.routines ++ place ∷ []) (parts_openings nothing_declared p.parts) (routine_openings (program_system p) k p.routines ++ last ∷ []) parts.places
             (agreed_append tokens p (routine_places None a.scopes p.routines) (place ∷ []) (routine_openings (program_system p) k p.routines) (last ∷ []) routines.places
-            (place_agreed tokens p d.scopes program_context (with_routines k p.routines) predeclared (p.period ∷ []) last refl (ap faults (sym (none_after d.faults j none)) ∙ none) tt tt tt routines.step.agree, tt));
+            (place_agreed tokens p d.scopes program_context (with_routines k p.routines) predeclared (p.period ∷ []) last refl (ap faults (sym (none_after d.faults j none)) ∙ none) tt tt tt (λ z i. absurd (cc)) routines.step.agree, tt));
         types = parts.types tt;
         variables = parts.variables tt;
       }

@@ -37,7 +37,7 @@ use Rattle.cp_resolved.specs.Small.{Each}
 use Rattle.cp_resolved.specs.Standing.{is_free, IsFit, IsFreeParameter, IsFreeResult}
 use Rattle.cp_resolved.specs.Typed.{Tokens, TypeIs, IsOrdinalResult, ResultIs, AreParameters, HeadingIs, RoutineIs}
 use Rattle.cp_resolved.proofs.Agreeing.{Good, good_then, good_sound, none_left, none_right, none_first, itself, is_itself, new_names, look_last, look_is, look_entered, find_last, inner_look, More, more_same, more_trans, with_more, with_there}
-use Rattle.cp_resolved.proofs.AgreeingNames.{W, heading_is_more, IsTypeKnown, New, Known, IsKnown, is_known_moved, stacked_more, find_first, find_other, since_other, last_or, Agree, sees, fits, agree_kept}
+use Rattle.cp_resolved.proofs.AgreeingNames.{W, heading_is_more, IsTypeKnown, IsStacked, New, Known, IsKnown, is_known_moved, stacked_more, find_first, find_other, since_other, last_or, Agree, sees, fits, agree_kept}
 use Rattle.cp_resolved.proofs.AgreeingTypes.{Held, held_named, KindOf, IsOrdinal, ordinal_of, type_seen, known_type}
 use Rattle.cp_resolved.proofs.AgreeingParameters.{free_handed, copies, parameters_both, copies_are, names_read, shapes_added}
 use Rattle.cp_resolved.proofs.AgreeingParts.{free_plain, StepResult, step_then, step_same, names_result, all_declared}
@@ -339,6 +339,7 @@ module _ (tokens : Tokens) (p : Program) where
         free = h.free;
         different = h.different;
         entries = h.entries;
+        starts = h.starts;
       }
     where
       fit_routine : (x : Name) (b : Bool) → IsFit (find x m) → IsFit (if b then Some (routine_meaning r) else find x m)
@@ -373,6 +374,8 @@ module _ (tokens : Tokens) (p : Program) where
     pub outer : a.outer ≡ s.outer ++ with_name (sealed false s.inner) r.name.name (announcing r) ∷ []
     pub more : More s.shapes a.shapes
     pub settled : a.inner.pending ≡ []
+    pub alone : (x : Name) → or_else (checker.find x a.inner.names) (look_outer x a.outer) ≡ Some (Some (meaning.Routine r.name.at)) → bytes_eq x r.name.name ≡ true
+    pub heading : HeadingIs (W tokens a.shapes) (checker.heading_at r.name.at a) (Some (routine_in k r))
 
   since_first : (n : Name) (d : scopes.Meaning) (m : scopes.Scope) → since n ((n, d) ∷ m) ≡ (n, d) ∷ m
   since_first n d m = ap (λ (b : Bool). if b then (n, d) ∷ m else since n m) (itself n)
@@ -388,9 +391,52 @@ module _ (tokens : Tokens) (p : Program) where
         fit = subst IsFit (find_first tokens r.name.name (routine_meaning r) m) tt;
       }
 
+  -- a name that stands for the routine at a token where nothing was written is not visible
+  unwritten : (s : Scopes) (m : scopes.Scope) (x : Name) (n : ℕ) (o : Option (Option Meaning)) → shape_in n s.shapes ≡ None → IsKnown tokens s m x o → o ≡ Some (Some (meaning.Routine n)) → ⊥
+  unwritten s m x n o free k e =
+      let known : Known tokens s m x (meaning.Routine n) = subst (IsKnown tokens s m x) e k in
+      (let bad : None ≡ Some (heading_shape known.there.heading known.there.body) = sym free ∙ known.there.there in cc)
+
+  unwritten_inner : (s : Scopes) (m below : scopes.Scope) (x : Name) (n : ℕ) (o : Option (Option Meaning)) → shape_in n s.shapes ≡ None → IsStacked tokens s m below x o → o ≡ Some (Some (meaning.Routine n)) → ⊥
+  unwritten_inner s m below x n o free k e =
+      let known : Known tokens s m x (meaning.Routine n) = subst (IsStacked tokens s m below x) e k in
+      (let bad : None ≡ Some (heading_shape known.there.heading known.there.body) = sym free ∙ known.there.there in cc)
+
+  not_before : (n : ℕ) (ss ts : Shapes) → More ss ts → shape_in n ts ≡ None → shape_in n ss ≡ None
+  not_before n ss ts more e = go (shape_in n ss) refl
+    where
+      go : (o : Option Shape) → shape_in n ss ≡ o → o ≡ None
+      go None i = refl
+      go (Some d) i = absurd (let bad : None ≡ Some d = sym e ∙ more n d i in cc)
+
   -- the names of a scope with a routine more
   routine_last : (x : Name) (c : Scope) (n : Name) (o : Option Meaning) → is_some (checker.find n c.names) ≡ false → look_in x (with_name (sealed false c) n o) ≡ (if bytes_eq x n then Some o else checker.find x c.names)
   routine_last x c n o h = ap (look_in x) (new_names (sealed false c) n o h) ∙ find_last x n c.names o ∙ last_or tokens p x n c.names o h
+
+  either_is : (a b : Option (Option Meaning)) (n : ℕ) → (a ≡ Some (Some (meaning.Routine n)) → ⊥) → or_else a b ≡ Some (Some (meaning.Routine n)) → b ≡ Some (Some (meaning.Routine n))
+  either_is None b n other e = e
+  either_is (Some c) b n other e = absurd (other e)
+
+  -- from its heading on the routine's name alone stands for it
+  announced_own : (s hs : Scopes) (m below k rs : scopes.Scope) (js ks : List ℕ) (r : Routine) (v : Option ValueType) → is_some (checker.find r.name.name s.inner.names) ≡ false → Agree tokens p false None s m below js → Agree tokens p false (Some r.name.name) hs rs k (r.name.at ∷ ks) → hs.outer ≡ s.outer ++ sealed false s.inner ∷ [] → More s.shapes hs.shapes →
+      (x : Name) → or_else (checker.find x (announced r v hs).inner.names) (look_outer x (announced r v hs).outer) ≡ Some (Some (meaning.Routine r.name.at)) → bytes_eq x r.name.name ≡ true
+  unfolding announced add_around keep
+  announced_own s hs m below k rs js ks r v fresh before h outer more x e =
+      let last : last_of hs.outer ≡ (let b : Around = record { outer = s.outer; inner = sealed false s.inner } in b) = ap last_of outer ∙ last_is s.outer (sealed false s.inner) in
+      let c : Scope = with_name (sealed false s.inner) r.name.name (announcing r) in
+      let is : (announced r v hs).outer ≡ s.outer ++ c ∷ [] = ap (λ (b : Around). b.outer ++ with_name b.inner r.name.name (announcing r) ∷ []) last in
+      let around : look_outer x (announced r v hs).outer ≡ Some (Some (meaning.Routine r.name.at)) =
+      either_is (checker.find x hs.inner.names) (look_outer x (announced r v hs).outer) r.name.at (unwritten_inner hs rs k x r.name.at (checker.find x hs.inner.names) h.free.0 (h.names x)) e in
+      let both : or_else (if bytes_eq x r.name.name then Some (announcing r) else checker.find x s.inner.names) (look_outer x s.outer) ≡ Some (Some (meaning.Routine r.name.at)) =
+      sym (ap (look_outer x) is ∙ look_last x s.outer c ∙ ap (λ o. or_else o (look_outer x s.outer)) (routine_last x s.inner r.name.name (announcing r) fresh)) ∙ around in
+      go (bytes_eq x r.name.name) both
+    where
+      free : shape_in r.name.at s.shapes ≡ None
+      free = not_before r.name.at s.shapes hs.shapes more h.free.0
+
+      go : (b : Bool) → or_else (if b then Some (announcing r) else checker.find x s.inner.names) (look_outer x s.outer) ≡ Some (Some (meaning.Routine r.name.at)) → b ≡ true
+      go true i = refl
+      go false i = absurd (unwritten s m x r.name.at (look x s) free (sees tokens p false None s m below js before x tt) (look_is x s before.unsealed ∙ i))
 
   pub announced_agrees : (s hs : Scopes) (m below k rs : scopes.Scope) (js ks : List ℕ) (r : Routine) (v : Option ValueType) → k ≡ with_routine m r → is_some (checker.find r.name.name s.inner.names) ≡ false → Agree tokens p false None s m below js → Agree tokens p false (Some r.name.name) hs rs k (r.name.at ∷ ks) → hs.outer ≡ s.outer ++ sealed false s.inner ∷ [] → hs.inner.pending ≡ [] → More s.shapes hs.shapes →
       HeadingIs (W tokens hs.shapes) (headings.as_heading r v hs) (Some (routine_in (with_routine m r) r)) → Announced (announced r v hs) s r m k rs ks
@@ -399,7 +445,7 @@ module _ (tokens : Tokens) (p : Program) where
       let d : Shape = heading_shape (headings.as_heading r v hs) r.body.at in
       let t : Scopes = keep hs r.name.at d in
       let a : Scopes = announced r v hs in
-      let kept : Agree tokens p false (Some r.name.name) t rs k ks = agree_kept tokens p false (Some r.name.name) hs rs k r.name.at ks d (λ y. refl) h in
+      let kept : Agree tokens p false (Some r.name.name) t rs k ks = agree_kept tokens p false (Some r.name.name) hs rs k r.name.at ks d tt (λ y. refl) h in
       let there : shape_in r.name.at t.shapes ≡ Some d = with_there hs.shapes r.name.at d h.free.0 in
       let further : More s.shapes a.shapes = more_trans s.shapes hs.shapes a.shapes more (with_more hs.shapes r.name.at d h.free.0) in
       let c : Scope = with_name (sealed false s.inner) r.name.name (announcing r) in
@@ -418,11 +464,16 @@ module _ (tokens : Tokens) (p : Program) where
           free = kept.free;
           different = kept.different;
           entries = kept.entries;
+          starts = kept.starts;
         };
         known = known;
         outer = is;
         more = further;
         settled = settled;
+        alone = announced_own s hs m below k rs js ks r v fresh before h outer more;
+        heading = subst (λ (i : scopes.Scope). HeadingIs (W tokens a.shapes) (checker.heading_at r.name.at a) (Some (routine_in i r))) (sym same)
+            (subst (λ (z : checker.Heading). HeadingIs (W tokens a.shapes) z (Some (routine_in (with_routine m r) r))) (sym (ap checker.as_heading there))
+            (heading_is_more tokens hs.shapes a.shapes (with_more hs.shapes r.name.at d h.free.0) (headings.as_heading r v hs) (Some (routine_in (with_routine m r) r)) is_heading));
       }
     where
       around : (a : Scopes) → More s.shapes a.shapes → Known tokens a k r.name.name (meaning.Routine r.name.at) → (x : Name) (b : Bool) → bytes_eq x r.name.name ≡ b → IsKnown tokens a k x (or_else (if b then Some (announcing r) else checker.find x s.inner.names) (look_outer x s.outer))

@@ -8,17 +8,19 @@ use Rattle.cp_tree.specs.Syntax.{Program, Group, System}
 use Rattle.cp_scope.specs.declared.types.ValueType.{ValueType}
 use Rattle.cp_scope.specs.declared.types.ValueType.TheVariants as types
 use Rattle.cp_scope.specs.declared.types.Meaning.TheVariants as meaning
+use Rattle.cp_scope.specs.declared.types.Parameter as check_parameter
+use Rattle.cp_scope.specs.declared.shape.Census.{Census}
 use Rattle.cp_scope.specs.declared.count.Use.{Use}
 use Rattle.cp_scope.specs.Counts.{no_use}
 use Rattle.cp_scope.specs.Judged.{Judged, ◌>>=◌, faults}
-use Rattle.cp_scope.specs.Scopes.{Scope, Scopes, Shapes, Shape, system_shape, shape_in, as_member, member_at, heading_at, look_in, or_else, look_outer, look, with_shape, sealed, enter, Around, last_of, leave, keep, census}
+use Rattle.cp_scope.specs.Scopes.{Names, parameters_in, settle, Scope, Scopes, Shapes, Shape, system_shape, shape_in, as_member, member_at, heading_at, look_in, or_else, look_outer, look, with_shape, sealed, enter, Around, last_of, leave, keep, census}
 use Rattle.cp_scope.specs.Scopes as checker
 use Rattle.cp_check.specs.declared.types.Spot.TheVariants as spot
 use Rattle.cp_check.specs.declared.types.Holding.{Holding}
 use Rattle.cp_check.specs.declared.types.Holding.TheVariants as holds
 use Rattle.cp_check.specs.Types as typing
 use Rattle.cp_check.specs.Types.{Step, Typed}
-use Rattle.cp_check.specs.Declarations.{as_declared, reserve_names, add_all, part_steps}
+use Rattle.cp_check.specs.Declarations.{as_declared, reserve_names, add_names, add_all, part_steps}
 use Rattle.cp_check.specs.Headings.{after_faults}
 use Rattle.cp_check.specs.Routines.{Opened, need_of, routine_steps}
 use Rattle.cp_check.specs.Statements.{statements}
@@ -33,23 +35,25 @@ use Rattle.cp_meaning.specs.Scopes as scopes
 use Rattle.cp_meaning.specs.Scopes.{find, since, seen_inside}
 use Rattle.cp_meaning.specs.Declarations as meant
 use Rattle.cp_meaning.specs.Declarations.{Block}
-use Rattle.cp_meaning.specs.Systems.{with_routines, system_in, system_of}
+use Rattle.cp_meaning.specs.Systems.{SystemMeaning, with_routines, system_in, system_of}
 use Rattle.cp_meaning.specs.Expressions.{routine_of_system, routine_of_type}
 use Rattle.cp_resolved.specs.Enumerations.{each_in, in_part, in_routine, in_system}
 use Rattle.cp_resolved.specs.Judging.{Place, initial_place, routine_places, system_places, AreAgreed}
 use Rattle.cp_resolved.specs.Openings.{Opening, parts_scope, routine_openings, initial_opening, system_openings}
 use Rattle.cp_resolved.specs.Small.{Each, IsSmallSystem}
-use Rattle.cp_resolved.specs.Standing.{is_standing, IsStandingVariable, IsStandingParameter}
+use Rattle.cp_resolved.specs.Standing.{is_element, is_standing, IsStandingVariable, IsStandingParameter}
 use Rattle.cp_resolved.specs.Tokens.{all_tokens, routine_tokens, system_tokens}
-use Rattle.cp_resolved.specs.Typed.{Tokens, SystemThere, TypeIs, HeadingIs, RoutineIs}
+use Rattle.cp_resolved.specs.Typed.{Tokens, SystemThere, IsValueParameter, TypeIs, IsHanded, AreParameters, HeadingIs, RoutineIs}
 use Rattle.cp_resolved.proofs.Agreeing.{Good, good_then, good_sound, none_left, none_right, none_first, look_entered, inner_look, More, more_same, more_trans, with_more, with_there, with_other, free_others}
-use Rattle.cp_resolved.proofs.AgreeingNames.{W, HeadingThere, heading_kept, heading_more, heading_is_more, New, Known, IsKnown, is_known_moved, IsStacked, AreEntries, Agree, sees, sees_of, fit_of, agree_returned}
-use Rattle.cp_resolved.proofs.AgreeingTypes.{IsFew, KindOf, type_named}
+use Rattle.cp_resolved.proofs.AgreeingNames.{W, HeadingThere, heading_kept, heading_more, heading_is_more, parameters_more, AreStarts, New, Known, IsKnown, is_known_moved, IsStacked, AreEntries, Agree, sees, sees_of, fit_of, agree_returned}
+use Rattle.cp_resolved.proofs.AgreeingTypes.{Held, held_named, IsFew, KindOf, type_named}
 use Rattle.cp_resolved.proofs.AgreeingWritten.{each_left, each_right}
+use Rattle.cp_resolved.proofs.AgreeingParameters.{free_handed, copies, parameters_both, copies_are, names_read, shapes_added}
+use Rattle.cp_resolved.proofs.ParametersRead.{parts_read, longer_read}
 use Rattle.cp_resolved.proofs.AgreeingParts.{standing_may, StepResult, step_then, step_same, names_result, all_declared, permanent_kind, parts_agree, parts_stand}
-use Rattle.cp_resolved.proofs.AgreeingRoutines.{none_before, none_after}
+use Rattle.cp_resolved.proofs.AgreeingRoutines.{none_before, none_after, AreRead}
 use Rattle.cp_resolved.proofs.AgreeingBodies.{Uses, loud_uses, all_heard, place_agreed, RoutinesResult, routines_agree}
-use Rattle.cp_resolved.proofs.Reserving.{pending_fresh}
+use Rattle.cp_resolved.proofs.Reserving.{AreFresh, pending_fresh}
 
 pub agreed_append : (tokens : Tokens) (p : Program) (xs ys : List Place) (os qs : List Opening) → AreAgreed tokens p xs os → AreAgreed tokens p ys qs → AreAgreed tokens p (xs ++ ys) (os ++ qs)
 agreed_append tokens p [] ys [] qs h g = g
@@ -83,6 +87,38 @@ module _ (tokens : Tokens) (p : Program) where
   parameter_good o s m g h =
       let K : ValueType → Type 0 = KindOf tokens s.shapes (meant.type_named m g.type_name.name) in
       good_then K K (typing.type_named s g.type_name.at g.type_name.name) (systems_of.admitted_in s g.type_name.at o) (type_named tokens s m g.type_name.at g.type_name.name h) (λ v k. admitted_good g.type_name.at o (typing.holding s v) K v k)
+
+  -- a type that a parameter may have
+  record HandedType (ss : Shapes) (t : Ty) (v : ValueType) : Type 0 where
+    pub belongs : TypeIs (W tokens ss) t v
+    pub handed : IsHanded false t
+
+  element_handed : (t : Ty) → is_element t ≡ true → (t ≡ named.queue_type → ⊥) → IsHanded false t
+  element_handed (named.ordinal r) h q = h
+  element_handed named.queue_type h q = absurd (q refl)
+  element_handed (named.set_over r) h q = h
+  element_handed (named.array_over r t) h q = h
+  element_handed (named.record_with ts) h q = h
+  element_handed (named.component_of n) h q = tt
+
+  no_queue : (s : Scopes) (t : Ty) (v : ValueType) (j : SystemKind) → TypeIs (W tokens s.shapes) t v → typing.holding s v ≡ holds.Component j → t ≡ named.queue_type → ⊥
+  no_queue s t v j i e q =
+      let queue : v ≡ types.Queue = subst (λ (u : Ty). TypeIs (W tokens s.shapes) u v) q i in
+      (let bad : holds.Queue ≡ holds.Component j = sym (ap (typing.holding s) queue) ∙ e in cc)
+
+  admitted_handed : (at : ℕ) (o : SystemKind) (s : Scopes) (t : Ty) (v : ValueType) (h : Holding) → typing.holding s v ≡ h → TypeIs (W tokens s.shapes) t v → Held h t → Good (HandedType s.shapes t) (systems_of.admitted at o h v)
+  admitted_handed at o s t v holds.Plain e i k = record { belongs = i; handed = free_handed false t (k.free refl) }
+  admitted_handed at o s t v holds.Queue e i k = tt
+  admitted_handed at o s t v holds.Queues e i k = tt
+  admitted_handed at o s t v (holds.Component j) e i k = component_good at o j (HandedType s.shapes t) v (record { belongs = i; handed = element_handed t (k.element tt) (no_queue s t v j i e) })
+  admitted_handed at o s t v (holds.Components j) e i k = tt
+
+  parameter_handed : (o : SystemKind) (s : Scopes) (m : scopes.Scope) (g : Group) → IsKnown tokens s m g.type_name.name (look g.type_name.name s) → Good (HandedType s.shapes (meant.type_named m g.type_name.name)) (systems_of.parameter_type o s g)
+  unfolding systems_of.parameter_type
+  parameter_handed o s m g h =
+      let t : Ty = meant.type_named m g.type_name.name in
+      good_then (KindOf tokens s.shapes t) (HandedType s.shapes t) (typing.type_named s g.type_name.at g.type_name.name) (systems_of.admitted_in s g.type_name.at o) (type_named tokens s m g.type_name.at g.type_name.name h)
+      (λ v k. admitted_handed g.type_name.at o s t v (typing.holding s v) refl k.belongs (held_named (W tokens s.shapes) s t v refl k.belongs k.standing))
 
   parameter_new : (ss : Shapes) (u : Scopes) (n : Name) (t : Ty) (v : ValueType) → u.shapes ≡ ss → KindOf tokens ss t v → New tokens u n (meaning.Parameter v) (scopes.permanent_variable t)
   parameter_new ss u n t v e h = record { means = λ r. (subst (λ us. TypeIs (W tokens us) t v) (sym e) h.belongs, standing_may t h.standing); there = tt; fit = h.standing }
@@ -143,6 +179,38 @@ module _ (tokens : Tokens) (p : Program) where
       groups_stand o t k below ks gs (none_right (systems_of.group_step o s g).faults (systems_of.group_steps o t gs).faults e) r.settled r.agree
       (stand_both h.parameters (meant.parameters_named (meant.names_of g.names) u false) qs (named_stand (meant.names_of g.names) u false (group_stands o s h.scope below ks g none empty agree)))
 
+  -- ---- parameters as the checker keeps them
+
+  group_read : (o : SystemKind) (s : Scopes) (m below : scopes.Scope) (ks : List ℕ) (g : Group) (qs : List meant.Parameter) → (systems_of.group_step o s g).faults ≡ [] → s.inner.pending ≡ [] → Agree tokens p false None s m below ks → AreRead tokens p s qs →
+      AreRead tokens p (systems_of.group_step o s g).scopes (qs ++ meant.parameters_named (meant.names_of g.names) (meant.type_named m g.type_name.name) false)
+  unfolding systems_of.group_step add_all settle
+  group_read o s m below ks g qs e empty h read =
+      let a : Scopes = (reserve_names s g.names).scopes in
+      let j : Judged ValueType = systems_of.parameter_type o a g in
+      let t : Ty = meant.type_named m g.type_name.name in
+      let r = names_result tokens p false None s g.names m below ks (none_left (reserve_names s g.names).faults (faults (j >>= systems_of.to_parameter)) e) empty h in
+      let v = good_sound (HandedType a.shapes t) j (parameter_handed o a m g (sees tokens p false None a m below ks r.agree g.type_name.name tt)) (none_first j systems_of.to_parameter (none_right (reserve_names s g.names).faults (faults (j >>= systems_of.to_parameter)) e)) in
+      let b : check_parameter.Parameter = record { is_var = false; value_type = v.value } in
+      let before : AreParameters (W tokens a.shapes) (parameters_in a.inner.names) qs =
+      subst (λ (ns : Names). AreParameters (W tokens a.shapes) (parameters_in ns) qs) (sym r.reserved.names) (subst (λ (ss : Shapes). AreParameters (W tokens ss) (parameters_in s.inner.names) qs) (sym r.shapes) read) in
+      let fresh : AreFresh g.names a.inner.names = pending_fresh a.inner g.names a.inner.pending r.reserved.pends r.reserved.all in
+      let all : AreParameters (W tokens a.shapes) (parameters_in (add_names a g.names (Some (meaning.Parameter v.value))).inner.names) (qs ++ meant.parameters_named (meant.names_of g.names) t false) =
+      subst (λ (as' : List check_parameter.Parameter). AreParameters (W tokens a.shapes) as' (qs ++ meant.parameters_named (meant.names_of g.names) t false)) (sym (names_read a g.names (meaning.Parameter v.value) b refl fresh r.reserved.others))
+      (parameters_both (W tokens a.shapes) (parameters_in a.inner.names) (copies b g.names) qs (meant.parameters_named (meant.names_of g.names) t false) before (copies_are (W tokens a.shapes) b t false g.names refl v.holds.belongs v.holds.handed)) in
+      subst (λ (i : Judged ValueType). AreRead tokens p (add_all a g.names (as_declared (i >>= systems_of.to_parameter))) (qs ++ meant.parameters_named (meant.names_of g.names) t false)) (sym v.is)
+      (subst (λ (ss : Shapes). AreParameters (W tokens ss) (parameters_in (add_names a g.names (Some (meaning.Parameter v.value))).inner.names) (qs ++ meant.parameters_named (meant.names_of g.names) t false)) (sym (shapes_added a g.names (Some (meaning.Parameter v.value)))) all)
+
+  groups_read : (o : SystemKind) (s : Scopes) (h : meant.Heading) (below : scopes.Scope) (ks : List ℕ) (gs : List Group) → (systems_of.group_steps o s gs).faults ≡ [] → s.inner.pending ≡ [] → Agree tokens p false None s h.scope below ks → AreRead tokens p s h.parameters →
+      AreRead tokens p (systems_of.group_steps o s gs).scopes (meant.with_groups scopes.permanent_variable h gs).parameters
+  unfolding systems_of.group_steps
+  groups_read o s h below ks [] e empty agree read = read
+  groups_read o s h below ks (g ∷ gs) e empty agree read =
+      let t : Scopes = (systems_of.group_step o s g).scopes in
+      let k : meant.Heading = meant.with_group scopes.permanent_variable false h g in
+      let none : (systems_of.group_step o s g).faults ≡ [] = none_left (systems_of.group_step o s g).faults (systems_of.group_steps o t gs).faults e in
+      let r = group_agrees o s h.scope below ks g none empty agree in
+      groups_read o t k below ks gs (none_right (systems_of.group_step o s g).faults (systems_of.group_steps o t gs).faults e) r.settled r.agree (group_read o s h.scope below ks g h.parameters none empty agree read)
+
   -- ---- into a system type
 
   pub entered_agrees : (s : Scopes) (m below : scopes.Scope) (ks : List ℕ) → Agree tokens p true None s m below ks → Agree tokens p false None (enter true s) (seen_inside m) (seen_inside m) ks
@@ -160,6 +228,7 @@ module _ (tokens : Tokens) (p : Program) where
         free = h.free;
         different = h.different;
         entries = h.entries;
+        starts = h.starts;
       }
 
   -- ---- the declarations inside
@@ -169,11 +238,12 @@ module _ (tokens : Tokens) (p : Program) where
     pub step : StepResult tokens p false None s (inside s y).scopes (system_in m y).scope m (y.at ∷ ks)
     pub variables : Each IsStandingVariable (system_in m y).variables
     pub parameters : Each IsStandingParameter (system_in m y).parameters
+    pub read : AreRead tokens p (inside s y).scopes (system_in m y).parameters
     pub uses : Uses (systems_of.opened s y).uses
 
-  inside_agrees : (s : Scopes) (m : scopes.Scope) (ks : List ℕ) (n : ℕ) (y : System) → faults (systems_of.opened s y).uses ≡ [] → IsSmallSystem y → Each (IsFew tokens) (in_system y) → s.inner.pending ≡ [] → Agree tokens p false None s m m (system_tokens y ks) → InsideResult s m ks n y
+  inside_agrees : (s : Scopes) (m : scopes.Scope) (ks : List ℕ) (n : ℕ) (y : System) → faults (systems_of.opened s y).uses ≡ [] → IsSmallSystem y → Each (IsFew tokens) (in_system y) → s.inner.pending ≡ [] → Agree tokens p false None s m m (system_tokens y ks) → AreRead tokens p s [] → InsideResult s m ks n y
   unfolding systems_of.opened inside
-  inside_agrees s m ks n y e small few empty h =
+  inside_agrees s m ks n y e small few empty h first_read =
       let d : Step = inside s y in
       let j : Judged Use = statements d.scopes (initial_context y.kind) (Ok no_use) y.body.statements in
       let none : d.faults ≡ [] = none_before d.faults j e in
@@ -194,9 +264,13 @@ module _ (tokens : Tokens) (p : Program) where
       let uses : Uses j = loud_uses j (statements_loud d.scopes (initial_context y.kind) (all_heard tokens p false d.scopes (system_in m y).scope m (y.at ∷ ks) step.agree) y.body.statements (Ok no_use) tt) sound in
       record {
         places = agreed_append tokens p (routine_places (Some y.kind) b.scopes y.routines) (initial_place s y ∷ []) (routine_openings n ps y.routines) (initial_opening n (system_in m y) ∷ []) all.places
-            (place_agreed tokens p d.scopes (initial_context y.kind) (system_in m y).scope m (y.at ∷ ks) (initial_opening n (system_in m y)) refl sound tt tt tt step.agree, tt);
+            (place_agreed tokens p d.scopes (initial_context y.kind) (system_in m y).scope m (y.at ∷ ks) (initial_opening n (system_in m y)) refl sound tt tt tt (λ z i. absurd (cc)) step.agree, tt);
         step = step;
         parameters = groups_stand y.kind s (record { parameters = []; scope = m }) m (system_tokens y ks) y.parameters (none_left a.faults (b.faults ++ c.faults) none) empty h tt;
+        read =
+            (let before = groups_read y.kind s (record { parameters = []; scope = m }) m (system_tokens y ks) y.parameters (none_left a.faults (b.faults ++ c.faults) none) empty h first_read in
+            subst (λ (as' : List check_parameter.Parameter). AreParameters (W tokens c.scopes.shapes) as' (system_in m y).parameters) (sym (all.read ∙ longer_read a.scopes.inner b.scopes.inner (parts_read (spot.Permanent (Some y.kind)) a.scopes y.parts)))
+            (parameters_more tokens a.scopes.shapes c.scopes.shapes (more_trans a.scopes.shapes b.scopes.shapes c.scopes.shapes parts.more all.step.more) (parameters_in a.scopes.inner.names) (system_in m y).parameters before));
         variables = parts_stand tokens p false (spot.Permanent (Some y.kind)) scopes.permanent_variable (permanent_kind tokens p false (Some y.kind)) a.scopes o m rs y.parts (none_left b.faults c.faults (none_right a.faults (b.faults ++ c.faults) none)) small.0 (each_left (IsFew tokens) (each_in in_part y.parts) (each_in in_routine y.routines) few) first.settled first.agree tt;
         uses = record { value = uses.value; is = subst (λ (i : Judged Use). i ≡ Ok uses.value) (sym same) uses.is };
       }
@@ -249,6 +323,48 @@ module _ (tokens : Tokens) (p : Program) where
           other_entry : nat_eq (tokens.systems k) y.at ≡ false → member_at (tokens.systems k) x s ≡ Some (Some (meaning.Routine n))
           other_entry at = ap (as_member x) (sym (with_other s.shapes y.at (tokens.systems k) d h.free.0 (λ j. (let bad : true ≡ false = sym ((Decides-eqb (tokens.systems k) y.at).1 j) ∙ at in absurd cc)))) ∙ there
 
+  values_named : (xs : List Name) (t : Ty) → Each IsValueParameter (meant.parameters_named xs t false)
+  values_named [] t = tt
+  values_named (x ∷ xs) t = (refl, values_named xs t)
+
+  values_both : (qs rs : List meant.Parameter) → Each IsValueParameter qs → Each IsValueParameter rs → Each IsValueParameter (qs ++ rs)
+  values_both [] rs h g = g
+  values_both (q ∷ qs) rs h g = (h.0, values_both qs rs h.1 g)
+
+  groups_values : (h : meant.Heading) (gs : List Group) → Each IsValueParameter h.parameters → Each IsValueParameter (meant.with_groups scopes.permanent_variable h gs).parameters
+  groups_values h [] qs = qs
+  groups_values h (g ∷ gs) qs =
+      let t : Ty = meant.type_named h.scope g.type_name.name in
+      groups_values (meant.with_group scopes.permanent_variable false h g) gs (values_both h.parameters (meant.parameters_named (meant.names_of g.names) t false) qs (values_named (meant.names_of g.names) t))
+
+  closed_starts : (s t : Scopes) (c : ℕ) (around : scopes.Scope) (y : System) (m : Scope) (census' : Census) (need : ℕ) → IsNumbered c around y → shape_in y.at s.shapes ≡ None → t.shapes ≡ with_shape s.shapes y.at (system_shape m (system_heading s) census' need) → AreRead tokens p s (system_in around y).parameters → AreStarts tokens p s → AreStarts tokens p t
+  closed_starts s t c around y m census' need i free is read h k e = go (nat_eq (tokens.systems k) y.at) refl
+    where
+      d : Shape
+      d = system_shape m (system_heading s) census' need
+
+      more : More s.shapes t.shapes
+      more = λ j f g. ap (shape_in j) is ∙ with_more s.shapes y.at d free j f g
+
+      heading_same : (a b : Scope) (x z : checker.Heading) (u v : Census) (n l : ℕ) → Some (system_shape a x u n) ≡ Some (system_shape b z v l) → x ≡ z
+      heading_same a b x z u v n l q = cc
+
+      go : (b : Bool) → nat_eq (tokens.systems k) y.at ≡ b → AreParameters (W tokens t.shapes) e.heading.parameters (system_of p k).parameters × Each IsValueParameter (system_of p k).parameters
+      go true at =
+          let token : tokens.systems k ≡ y.at = (Decides-eqb (tokens.systems k) y.at).0 at in
+          let there : shape_in (tokens.systems k) t.shapes ≡ Some d = ap (λ j. shape_in j t.shapes) token ∙ ap (shape_in y.at) is ∙ with_there s.shapes y.at d free in
+          let one : e.heading ≡ system_heading s = heading_same e.names m e.heading (system_heading s) e.census census' e.need need (sym e.there ∙ there) in
+          let meaning : system_of p k ≡ system_in around y = ap (system_of p) (i.only k token) ∙ i.meaning in (
+            subst (λ (z : checker.Heading). AreParameters (W tokens t.shapes) z.parameters (system_of p k).parameters) (sym one)
+                (subst (λ (z : SystemMeaning). AreParameters (W tokens t.shapes) (parameters_in s.inner.names) z.parameters) (sym meaning)
+                (parameters_more tokens s.shapes t.shapes more (parameters_in s.inner.names) (system_in around y).parameters read)),
+            subst (λ (z : SystemMeaning). Each IsValueParameter z.parameters) (sym meaning) (groups_values (record { parameters = []; scope = around }) y.parameters tt),
+          )
+      go false at =
+          let other : shape_in (tokens.systems k) t.shapes ≡ shape_in (tokens.systems k) s.shapes = ap (shape_in (tokens.systems k)) is ∙ with_other s.shapes y.at (tokens.systems k) d free (λ j. (let bad : true ≡ false = sym ((Decides-eqb (tokens.systems k) y.at).1 j) ∙ at in absurd cc)) in
+          let before = h k (record { names = e.names; heading = e.heading; census = e.census; need = e.need; there = sym other ∙ e.there }) in
+          (parameters_more tokens s.shapes t.shapes more e.heading.parameters (system_of p k).parameters before.0, before.1)
+
   pub record ClosedResult (s t : Scopes) (m below : scopes.Scope) (ks : List ℕ) (y : System) : Type 0 where
     pub agree : Agree tokens p true None t m below ks
     pub outer : t.outer ≡ s.outer
@@ -256,17 +372,17 @@ module _ (tokens : Tokens) (p : Program) where
     pub more : More s.shapes t.shapes
     pub there : SystemThere y.at t.shapes
 
-  closed_agrees : (s u : Scopes) (m below : scopes.Scope) (js ks : List ℕ) (c : ℕ) (y : System) (w : Use) → IsNumbered c (seen_inside m) y → Agree tokens p true None s m below js → Agree tokens p false None u (system_in (seen_inside m) y).scope (seen_inside m) (y.at ∷ ks) → u.outer ≡ (enter true s).outer → More s.shapes u.shapes →
+  closed_agrees : (s u : Scopes) (m below : scopes.Scope) (js ks : List ℕ) (c : ℕ) (y : System) (w : Use) → IsNumbered c (seen_inside m) y → Agree tokens p true None s m below js → Agree tokens p false None u (system_in (seen_inside m) y).scope (seen_inside m) (y.at ∷ ks) → u.outer ≡ (enter true s).outer → More s.shapes u.shapes → AreRead tokens p u (system_in (seen_inside m) y).parameters →
       ClosedResult s (systems_of.closed u y.at w) m below ks y
   unfolding systems_of.closed keep leave enter
-  closed_agrees s u m below js ks c y w i before h outer more =
+  closed_agrees s u m below js ks c y w i before h outer more read =
       let d : Shape = system_shape u.inner (system_heading u) (census u.inner.names u.shapes) (need_of w) in
       let t : Scopes = systems_of.closed u y.at w in
       let last : last_of u.outer ≡ (let b : Around = record { outer = s.outer; inner = sealed true s.inner } in b) = ap last_of outer ∙ last_is s.outer (sealed true s.inner) in
       let all : More s.shapes t.shapes = more_trans s.shapes u.shapes t.shapes more (with_more u.shapes y.at d h.free.0) in
       record {
         agree = agree_returned tokens p true None s t m below js ks before (ap (λ (b : Around). b.outer) last) (ap (λ (b : Around). b.inner.names) last) refl all
-            (free_others u.shapes y.at d ks h.free.0 h.different.0 h.free.1) h.different.1 (closed_entries u t (system_in (seen_inside m) y).scope (seen_inside m) ks c (seen_inside m) y d i refl h (λ x. refl) refl);
+            (free_others u.shapes y.at d ks h.free.0 h.different.0 h.free.1) h.different.1 (closed_entries u t (system_in (seen_inside m) y).scope (seen_inside m) ks c (seen_inside m) y d i refl h (λ x. refl) refl) (closed_starts u t c (seen_inside m) y u.inner (census u.inner.names u.shapes) (need_of w) i h.free.0 refl read h.starts);
         outer = ap (λ (b : Around). b.outer) last;
         names = ap (λ (b : Around). b.inner.names) last;
         more = all;
@@ -284,15 +400,15 @@ module _ (tokens : Tokens) (p : Program) where
 
   pub system_agrees : (s : Scopes) (m below : scopes.Scope) (ks : List ℕ) (n : ℕ) (y : System) → IsNumbered n (seen_inside m) y → faults (systems_of.system_typed s y).type ≡ [] → IsSmallSystem y → Each (IsFew tokens) (in_system y) → Agree tokens p true None s m below (system_tokens y ks) →
       SystemResult s m below ks n y (systems_of.system_typed s y)
-  unfolding systems_of.system_typed systems_of.opened enter
+  unfolding systems_of.system_typed systems_of.opened enter parameters_in
   system_agrees s m below ks n y i e small few h =
       let a : Scopes = enter true s in
       let o : Opened = systems_of.opened a y in
-      let r : InsideResult a (seen_inside m) ks n y = inside_agrees a (seen_inside m) ks n y (none_first o.uses (systems_of.to_component y.kind y.at) e) small few refl (entered_agrees s m below (system_tokens y ks) h) in
+      let r : InsideResult a (seen_inside m) ks n y = inside_agrees a (seen_inside m) ks n y (none_first o.uses (systems_of.to_component y.kind y.at) e) small few refl (entered_agrees s m below (system_tokens y ks) h) tt in
       record {
         places = r.places;
         variables = r.variables;
         parameters = r.parameters;
         is = ap (λ (j : Judged Use). j >>= systems_of.to_component y.kind y.at) r.uses.is;
-        closed = closed_agrees s o.scopes m below (system_tokens y ks) ks n y (systems_of.use_of o.uses) i h r.step.agree r.step.outer r.step.more;
+        closed = closed_agrees s o.scopes m below (system_tokens y ks) ks n y (systems_of.use_of o.uses) i h r.step.agree r.step.outer r.step.more r.read;
       }

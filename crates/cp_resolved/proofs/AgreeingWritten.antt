@@ -31,21 +31,21 @@ use Rattle.cp_check.specs.Types as typing
 use Rattle.cp_check.specs.Types.{Step, nothing, Typed, typed}
 use Rattle.cp_meaning.specs.Names.{Name}
 use Rattle.cp_meaning.specs.Types as named
-use Rattle.cp_meaning.specs.Types.{Ty, FieldTypes, is_within, range_of, length_of_range}
+use Rattle.cp_meaning.specs.Types.{all_characters, Ty, FieldTypes, is_within, range_of, length_of_range}
 use Rattle.cp_meaning.specs.Scopes as scopes
 use Rattle.cp_meaning.specs.Declarations as meant
 use Rattle.cp_meaning.specs.Operations.{range_of_base}
 use Rattle.cp_resolved.specs.Enumerations.{in_simple, in_type, in_groups}
 use Rattle.cp_resolved.specs.Small.{Each, IsSmallSimple, IsSmallType, AreSmallGroups}
 use Rattle.cp_resolved.specs.Layouts.{cells_of, cells_in}
-use Rattle.cp_resolved.specs.Standing.{is_bounded, are_few, is_indexed, is_free, are_free, is_element}
+use Rattle.cp_resolved.specs.Standing.{is_bounded, are_few, is_indexed, is_free, are_free, is_element, is_standing}
 use Rattle.cp_resolved.specs.Tokens.{type_tokens, groups_tokens}
 use Rattle.cp_resolved.specs.Typed.{Tokens, BaseIs, RangeIs, TypeIs, FieldsAre}
 use Rattle.cp_resolved.proofs.Agreeing.{Good, good_then, Sound, good_sound, none_left, none_right, none_first, none_of_both, new_names, find_last, is_itself, More, more_same, more_trans, with_more, with_there}
 use Rattle.cp_resolved.proofs.AgreeingCells.{array_takes, record_takes}
 use Rattle.cp_resolved.proofs.AgreeingNames.{W, Agree, sees, agree_added, agree_kept, type_more, fields_more}
 use Rattle.cp_resolved.proofs.AgreeingTypes.{StandsAt, stands_free, spotted_stands, held_array, IsOrdinal, ordinal_of, IsFew, TypedAs, type_spotted, subrange_typed}
-use Rattle.cp_resolved.proofs.FewCells.{in_order, few_element}
+use Rattle.cp_resolved.proofs.FewCells.{in_order, few_element, characters_within}
 use Rattle.cp_resolved.proofs.Reserving.{Pends, or_left, or_right, ReservedIn, all_reserved, pending_fresh, named_all, Filled, all_filled}
 
 -- ---- lists
@@ -224,6 +224,7 @@ module _ (tokens : Tokens) (p : Program) where
     pub range : RangeIs tokens (range_of i) a.index
     pub element : TypeIs (W tokens ss) e a.element
     pub takes : a.cells ≡ length_of_range (range_of i) * cells_of e
+    pub few : length_of_range (range_of i) * cells_of e ≤ 8192
     pub stands : StandsAt q (named.array_over (range_of i) e)
 
   index_bounded : (ss : checker.Shapes) (i : Ty) (r : Range) → IsOrdinal (W tokens ss) i r → is_free i ≡ true → is_bounded (range_of i) ≡ true
@@ -264,7 +265,7 @@ module _ (tokens : Tokens) (p : Program) where
       go false f =
           let takes : n ≡ length_of_range (range_of i) * cells_of e = array_takes (W tokens s.shapes) (range_of i) r e ev o.range (in_order (range_of i) bounded) g.belongs f in
           good_then (λ u. (u ≡ types.Array at) × StandsAt q (named.array_over (range_of i) e)) (ArrayAs s.shapes q i e) (typing.spotted at q (typing.holding_array ev) (types.Array at)) (λ u. Ok (record { index = r; element = ev; cells = n }))
-          (spotted (range_of i) (indexed (range_of i) e bounded (subst (λ m. m ≤ 8192) takes (ltb-false 8192 n f)) g.stands)) (λ u k. record { range = o.range; element = g.belongs; takes = takes; stands = k.1 })
+          (spotted (range_of i) (indexed (range_of i) e bounded (subst (λ m. m ≤ 8192) takes (ltb-false 8192 n f)) g.stands)) (λ u k. record { range = o.range; element = g.belongs; takes = takes; few = subst (λ m. m ≤ 8192) takes (ltb-false 8192 n f); stands = k.1 })
   array_good s q at i e types.Queue ev h g = tt
   array_good s q at i e (types.Set r) ev h g = tt
   array_good s q at i e (types.Array n) ev h g = tt
@@ -281,10 +282,10 @@ module _ (tokens : Tokens) (p : Program) where
         value = types.Array at;
         is = refl;
         typed = record {
-          belongs = record { token = at; is = refl; shape = a.value; there = ap as_array (with_there u.shapes at (array_shape a.value) agree.free.0); range = a.holds.range; takes = a.holds.takes; belongs = type_more tokens u.shapes (with_shape u.shapes at (array_shape a.value)) further e a.value.element a.holds.element };
+          belongs = record { token = at; is = refl; shape = a.value; there = ap as_array (with_there u.shapes at (array_shape a.value) agree.free.0); range = a.holds.range; takes = a.holds.takes; few = a.holds.few; belongs = type_more tokens u.shapes (with_shape u.shapes at (array_shape a.value)) further e a.value.element a.holds.element };
           stands = a.holds.stands;
         };
-        agree = agree_kept tokens p b None u m below at ks (array_shape a.value) (λ y. refl) agree;
+        agree = agree_kept tokens p b None u m below at ks (array_shape a.value) tt (λ y. refl) agree;
         outer = outer;
         pending = pending;
         pends = pends;
@@ -306,14 +307,20 @@ module _ (tokens : Tokens) (p : Program) where
   -- ---- sets
 
   set_good : (ss : checker.Shapes) (q : Spot) (at base_at : ℕ) (t : Ty) (v : ValueType) → TypedAs tokens ss spot.Base t v → Good (TypedAs tokens ss q (named.set_over (range_of t))) (typing.set_of at base_at v)
-  set_good ss q at base_at t (types.Ordinal r) h = go (int_lt r.low (pos 0) || int_lt (pos 127) r.high)
+  set_good ss q at base_at t (types.Ordinal r) h = go (int_lt r.low (pos 0) || int_lt (pos 127) r.high) refl
     where
       o : IsOrdinal (W tokens ss) t r
       o = ordinal_of (W tokens ss) t r h.belongs
 
-      go : (b : Bool) → Good (TypedAs tokens ss q (named.set_over (range_of t))) (if b then Err (check_fault.Rule at C20 ∷ []) else Ok (types.Set (Some r)))
-      go true = tt
-      go false = record { belongs = record { range = r; is = refl; belongs = o.range }; stands = stands_free q (named.set_over (range_of t)) (subst (λ (u : Ty). StandsAt spot.Base u) o.is h.stands) }
+      ordered : int_le (range_of t).low (range_of t).high ≡ true
+      ordered = in_order (range_of t) (subst (λ (u : Ty). is_standing u ≡ true) o.is h.stands)
+
+      members : (int_lt r.low (pos 0) || int_lt (pos 127) r.high) ≡ false → (is_within all_characters (range_of t).low ≡ true) × (is_within all_characters (range_of t).high ≡ true)
+      members e = characters_within (range_of t).low (range_of t).high (subst (λ z. (int_lt z (pos 0) || int_lt (pos 127) (range_of t).high) ≡ false) o.range.low (subst (λ z. (int_lt r.low (pos 0) || int_lt (pos 127) z) ≡ false) o.range.high e)) ordered
+
+      go : (b : Bool) → (int_lt r.low (pos 0) || int_lt (pos 127) r.high) ≡ b → Good (TypedAs tokens ss q (named.set_over (range_of t))) (if b then Err (check_fault.Rule at C20 ∷ []) else Ok (types.Set (Some r)))
+      go true e = tt
+      go false e = record { belongs = record { range = r; is = refl; belongs = o.range; low = (members e).0; high = (members e).1 }; stands = stands_free q (named.set_over (range_of t)) (subst (λ (u : Ty). StandsAt spot.Base u) o.is h.stands) }
   set_good ss q at base_at t types.Queue h = tt
   set_good ss q at base_at t (types.Set r) h = tt
   set_good ss q at base_at t (types.Array n) h = tt
@@ -435,12 +442,13 @@ module _ (tokens : Tokens) (p : Program) where
             is = refl;
             fields = f.fields;
             there = with_there f.scopes.shapes at (record_shape f.fields n) r.agree.free.0;
+            few = few;
             visible = r.sealed;
             each = fields_more tokens f.scopes.shapes (with_shape f.scopes.shapes at (record_shape f.fields n)) further u.0 f.fields.names fields;
           };
           stands = stands_free q (named.record_with u.0) free;
         };
-        agree = agree_kept tokens p b None f.scopes u.1 below at ks (record_shape f.fields n) (λ y. refl) r.agree;
+        agree = agree_kept tokens p b None f.scopes u.1 below at ks (record_shape f.fields n) tt (λ y. refl) r.agree;
         outer = r.outer;
         pending = r.pending;
         pends = r.pends;

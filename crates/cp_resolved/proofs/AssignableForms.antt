@@ -267,10 +267,10 @@ module _ (tokens : Tokens) (s : Scopes) (h : Here) (w : Context) (agrees : Scope
   made (Ok o) f e = (λ i. (let bad : false ≡ true = sym e ∙ i in absurd cc))
   made (Err fs) f e = tt
 
-  components_fixed : (v : ValueType) (q : named.Range) (k : ℕ) → TypeIs W (named.array_over q (named.component_of k)) v → calls.is_fixed s v ≡ true
+  pub components_fixed : (v : ValueType) (q : named.Range) (k : ℕ) → TypeIs W (named.array_over q (named.component_of k)) v → calls.is_fixed s v ≡ true
   components_fixed v q k e = ap (calls.is_fixed s) e.is ∙ ap calls.is_fixed_array e.there ∙ ap calls.is_fixed_element e.belongs.is
 
-  free_place : (v : ValueType) → is_assignable (calls.place_of s v) ≡ true → calls.is_fixed s v ≡ false
+  pub free_place : (v : ValueType) → is_assignable (calls.place_of s v) ≡ true → calls.is_fixed s v ≡ false
   free_place v e = go (calls.is_fixed s v) e
     where
       go : (b : Bool) → is_assignable (if b then place.Fixed else place.Assignable) ≡ true → b ≡ false

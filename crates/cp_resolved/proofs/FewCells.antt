@@ -1,12 +1,13 @@
 -- Types that stand have few cells, and none of their arrays is without elements.
 use Rattle.std.proofs.Common.{◌≡◌, ◌*◌, ◌≤◌, ℤ, pos, negsuc, Bool, true, false, ◌&&◌, refl, arith}
-use Rattle.std.specs.Prelude.{◌+ℤ◌, ◌-ℤ◌, int_le}
+use Rattle.std.specs.Prelude.{◌+ℤ◌, ◌-ℤ◌, int_le, int_lt, ◌||◌}
 use Rattle.std.proofs.lemmas.Bool.{leb-true}
-use Rattle.cp_meaning.specs.Types.{Range, Ty, ordinal, queue_type, set_over, array_over, record_with, component_of, FieldTypes, no_field_types, more_field_types, is_within, natural_of, length_of_range}
+use Rattle.cp_meaning.specs.Types.{Range, Ty, ordinal, queue_type, set_over, array_over, record_with, component_of, FieldTypes, no_field_types, more_field_types, is_within, all_characters, natural_of, length_of_range}
 use Rattle.cp_meaning.specs.Operations.{range_of_base}
 use Rattle.cp_resolved.specs.Layouts.{cells_of, cells_in}
 use Rattle.cp_resolved.specs.Standing.{is_bounded, are_few, is_indexed, is_free, are_free, is_element, is_standing}
 use Rattle.cp_resolved.specs.Valued.{IsFull, AreFull}
+use Rattle.cp_resolved.proofs.Reserving.{or_left, or_right}
 
 pub left_of : (a b : Bool) → (a && b) ≡ true → a ≡ true
 left_of true b h = refl
@@ -31,6 +32,19 @@ one_more (negsuc n) h = absurd (let bad : false ≡ true = h in cc)
 
 some_values : (r : Range) → is_bounded r ≡ true → 1 ≤ length_of_range r
 some_values r h = one_more (r.high -ℤ r.low) (not_negative r.low r.high (in_order r h))
+
+-- the first is not below 0 and the last not above 127
+pub characters_within : (a b : ℤ) → (int_lt a (pos 0) || int_lt (pos 127) b) ≡ false → int_le a b ≡ true → (is_within all_characters a ≡ true) × (is_within all_characters b ≡ true)
+characters_within a b e h =
+    let low : int_lt a (pos 0) ≡ false = or_left (int_lt a (pos 0)) (int_lt (pos 127) b) e in
+    let high : int_lt (pos 127) b ≡ false = or_right (int_lt a (pos 0)) (int_lt (pos 127) b) e in
+    (one a b low high h, other a b low high h)
+  where
+    one : (a b : ℤ) → int_lt a (pos 0) ≡ false → int_lt (pos 127) b ≡ false → int_le a b ≡ true → is_within all_characters a ≡ true
+    one a b l u h = search (arith, l, u, h)
+
+    other : (a b : ℤ) → int_lt a (pos 0) ≡ false → int_lt (pos 127) b ≡ false → int_le a b ≡ true → is_within all_characters b ≡ true
+    other a b l u h = search (arith, l, u, h)
 
 -- ---- cells
 

@@ -60,11 +60,11 @@ use Rattle.cp_resolved.proofs.Agreeing.{none_first, none_of_both, none_left}
 
 -- ---- what has no fault
 
-record Right {A : Type 0} (j : Judged A) : Type 0 where
+pub record Right {A : Type 0} (j : Judged A) : Type 0 where
   pub value : A
   pub is : j ≡ Ok value
 
-right_of : {A : Type 0} (j : Judged A) → Loud j → faults j ≡ [] → Right j
+pub right_of : {A : Type 0} (j : Judged A) → Loud j → faults j ≡ [] → Right j
 right_of (Ok x) h e = record { value = x; is = refl }
 right_of (Err []) h e = absurd h
 right_of (Err (f ∷ fs)) h e = absurd (let bad : f ∷ fs ≡ [] = e in cc)
@@ -83,7 +83,7 @@ either_fault A false f g h = cc
 
 -- ---- types that agree
 
-ordinal_is : (v : ValueType) → is_ordinal v ≡ true → (r : Range) × (v ≡ types.Ordinal r)
+pub ordinal_is : (v : ValueType) → is_ordinal v ≡ true → (r : Range) × (v ≡ types.Ordinal r)
 ordinal_is (types.Ordinal r) h = (r, refl)
 ordinal_is types.Queue h = absurd (let bad : false ≡ true = h in cc)
 ordinal_is (types.Set r) h = absurd (let bad : false ≡ true = h in cc)
@@ -91,7 +91,7 @@ ordinal_is (types.Array n) h = absurd (let bad : false ≡ true = h in cc)
 ordinal_is (types.Record n) h = absurd (let bad : false ≡ true = h in cc)
 ordinal_is (types.Component k n) h = absurd (let bad : false ≡ true = h in cc)
 
-agree_ordinal : (r : Range) (v : ValueType) → agree (types.Ordinal r) v ≡ true → (q : Range) × (v ≡ types.Ordinal q)
+pub agree_ordinal : (r : Range) (v : ValueType) → agree (types.Ordinal r) v ≡ true → (q : Range) × (v ≡ types.Ordinal q)
 agree_ordinal r (types.Ordinal q) h = (q, refl)
 agree_ordinal r types.Queue h = absurd (let bad : false ≡ true = h in cc)
 agree_ordinal r (types.Set q) h = absurd (let bad : false ≡ true = h in cc)
@@ -181,7 +181,7 @@ module _ (tokens : Tokens) (s : Scopes) (h : Here) (w : Context) (agrees : Scope
   abbrev right_found : (e : Expression) → Found e → Right (expression s w false e)
   right_found e f = record { value = f.operand; is = f.is }
 
-  ordinal_formed : (e : Expression) (v : ValueType) → Expressed W v (expression_form h e) → is_ordinal v ≡ true → HasOrdinal h e
+  pub ordinal_formed : (e : Expression) (v : ValueType) → Expressed W v (expression_form h e) → is_ordinal v ≡ true → HasOrdinal h e
   ordinal_formed e v x i =
       let r = ordinal_is v i in
       let f : OrdinalForm tokens r.0 (expression_form h e) = ordinal_found W r.0 (expression_form h e) (subst (λ u. Expressed W u (expression_form h e)) r.1 x) in
@@ -412,7 +412,7 @@ module _ (tokens : Tokens) (s : Scopes) (h : Here) (w : Context) (agrees : Scope
   rules_none [] x e = refl
   rules_none (f ∷ fs) x e = e
 
-  selector_ordinal : (at : ℕ) (v : ValueType) (ls : List Label) → cases.label_faults at v ls ≡ [] → is_ordinal v ≡ true
+  pub selector_ordinal : (at : ℕ) (v : ValueType) (ls : List Label) → cases.label_faults at v ls ≡ [] → is_ordinal v ≡ true
   selector_ordinal at (types.Ordinal r) ls e = refl
   selector_ordinal at types.Queue ls e = absurd (cc)
   selector_ordinal at (types.Set r) ls e = absurd (cc)
@@ -493,7 +493,7 @@ module _ (tokens : Tokens) (s : Scopes) (h : Here) (w : Context) (agrees : Scope
       let q = first_of g (expression s w false g) (arguments s w [] 2 es) r.others refl r.after in
       absurd (let bad : q.operand ∷ q.others ≡ [] = sym q.all ∙ same.1 in cc)
 
-  performed_formed : (at : ℕ) (q : scopes.Standard) (es : Expressions) (os : List Operand) (u : Use) → AreSmallExpressions es → arguments s w [] 0 es ≡ Ok os → faults (statements.performed s w at (predeclared_of q) os u) ≡ [] → IsPerformed h q es
+  pub performed_formed : (at : ℕ) (q : scopes.Standard) (es : Expressions) (os : List Operand) (u : Use) → AreSmallExpressions es → arguments s w [] 0 es ≡ Ok os → faults (statements.performed s w at (predeclared_of q) os u) ≡ [] → IsPerformed h q es
   performed_formed at scopes.display_procedure es os u small i none =
       let o = shown_one at os (rules_none (statements.display_faults at os) u none) in
       one_argument (HasOrdinal h) (IsPerformed h scopes.display_procedure) o.0 es os i o.1.0 small (λ e x. ordinal_formed e o.0.value_type x o.1.1) (λ e p. p)
@@ -692,4 +692,4 @@ module _ (tokens : Tokens) (s : Scopes) (h : Here) (w : Context) (agrees : Scope
         (arm_formed a small.0 one.1, arms_formed as' (both j (statements.labelled s w a) >>= cases.joined) small.1 none)
 
     arm_formed : (a : Arm) → IsSmallArm a → faults (statements.labelled s w a) ≡ [] → IsArmFormed h a
-    arm_formed (arm cs t) small none = statement_formed t small (none_of_both (cases.labels s cs) (statement s w t) none).1
+    arm_formed (arm cs t) small none = statement_formed t small.1 (none_of_both (cases.labels s cs) (statement s w t) none).1

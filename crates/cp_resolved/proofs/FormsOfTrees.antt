@@ -16,7 +16,7 @@ use Rattle.cp_resolved.proofs.FormedStatements.{statements_formed}
 use Rattle.cp_resolved.proofs.ScopesOfTrees.{scopes_law}
 use Rattle.cp_resolved.proofs.SmallBodies.{IsSmallOpening, read_opens}
 
-all_heard : (s : Scopes) → ((y : Name) → look y s ≡ Some None → ⊥) → Heard s
+pub all_heard : (s : Scopes) → ((y : Name) → look y s ≡ Some None → ⊥) → Heard s
 unfolding names.visible
 all_heard s h at x = go (look x s) (h x)
   where

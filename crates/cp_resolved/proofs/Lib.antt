@@ -52,12 +52,15 @@ pub mod Fitted
 pub mod FittedStatements
 pub mod Fitting
 pub mod Foreign
+pub mod FormedOfTrees
 pub mod FormedStatements
+pub mod FormedTargets
 pub mod FormsOfTrees
 pub mod FrameCells
 pub mod FrameKept
 pub mod FrameSteps
 pub mod FramesBegun
+pub mod GivenArguments
 pub mod Going
 pub mod Grown
 pub mod Handed
@@ -76,6 +79,7 @@ pub mod LeastCells
 pub mod Listing
 pub mod Loops
 pub mod Moved
+pub mod MovedTypes
 pub mod Named
 pub mod NamesOfTrees
 pub mod Numbered
@@ -91,6 +95,7 @@ pub mod OwnNames
 pub mod OwnedParts
 pub mod Owning
 pub mod ParametersFit
+pub mod ParametersRead
 pub mod PermanentCells
 pub mod PermanentNames
 pub mod Permanents
@@ -121,6 +126,7 @@ pub mod SoundItems
 pub mod SoundParameters
 pub mod SoundTables
 pub mod StandingParts
+pub mod StatementsFormed
 pub mod StatementsStand
 pub mod Steps
 pub mod StepsOfParts
@@ -137,6 +143,7 @@ pub mod TypingExpressions
 pub mod TypingNames
 pub mod TypingOperations
 pub mod TypingValues
+pub mod UsedExpressions
 pub mod UsedNames
 pub mod Walked
 pub mod Whole

@@ -3,16 +3,17 @@ use Rattle.std.proofs.Common.{List, [], ◌∷◌}
 use Rattle.cp_text.specs.declared.token.Kind.{Kind}
 use Rattle.cp_text.specs.declared.token.Kind.TheVariants as kind
 use Rattle.cp_text.specs.declared.token.Mark.TheVariants as mark
+use Rattle.cp_tree.specs.declared.constant.Constant.{Constant}
 use Rattle.cp_tree.specs.Syntax.{Expression, alone, related, Sum, sum, Terms, no_terms, more_terms, Term, term, Factors, no_factors, more_factors, Factor, number, character, named, group, negated, set_of, Expressions, no_expressions, more_expressions, Designator, designator, Selectors, no_selectors, more_selectors, Selector, field, index, Start, Statement, empty, assign, invoke, block, if_then, if_else, case_of, while_do, repeat_until, for_do, cycle, init, Statements, no_statements, more_statements, Arms, no_arms, more_arms, Arm, arm, Body, Routine, System, Definition, type_definition, system_definition, SystemDefinition, ProgramPart, program_constants, program_types, program_variables, Program}
-use Rattle.cp_tree.specs.Spelling.{put_optional, put_behind, put_all, put_separated, put_identifier, put_expression, put_sum, put_terms, put_term, put_factors, put_factor, put_arguments, put_expressions, put_more_expressions, put_designator, put_selectors, put_selector, put_start, put_statement, put_statements, put_more_statements, put_arms, put_more_arms, put_arm, put_part, put_group, put_body, put_routine_kind, put_routine, put_system, put_definition, put_system_definition, put_program_part, relation_mark, direction_mark, spell}
+use Rattle.cp_tree.specs.Spelling.{put_constant, put_optional, put_behind, put_all, put_separated, put_identifier, put_expression, put_sum, put_terms, put_term, put_factors, put_factor, put_arguments, put_expressions, put_more_expressions, put_designator, put_selectors, put_selector, put_start, put_statement, put_statements, put_more_statements, put_arms, put_more_arms, put_arm, put_part, put_group, put_body, put_routine_kind, put_routine, put_system, put_definition, put_system_definition, put_program_part, relation_mark, direction_mark, spell}
 use Rattle.cp_resolved.specs.Openings.{Opening, openings_of}
 use Rattle.cp_resolved.specs.Read.{IsRead}
-use Rattle.cp_resolved.specs.Small.{Each, IsSmallPart}
+use Rattle.cp_resolved.specs.Small.{Each, IsSmallConstant, IsSmallPart}
 use Rattle.cp_resolved.specs.SmallStatements.{IsSmallStart, IsSmallStatement, AreSmallStatements, AreSmallArms, IsSmallArm}
 use Rattle.cp_resolved.specs.Typed.{IsSmallExpression, IsSmallSum, AreSmallTerms, IsSmallTerm, AreSmallFactors, IsSmallFactor, AreSmallExpressions, IsSmallDesignator, AreSmallSelectors, IsSmallSelector}
 use Rattle.cp_resolved.proofs.OpeningsBodies as openings
 use Rattle.cp_resolved.proofs.OpeningsBodies.{OfRoutine, OfSystem, OfDefinition, OfPart}
-use Rattle.cp_resolved.proofs.SmallTokens.{AreScanned, optional_small, constants_small, type_small, variables_small, part_small}
+use Rattle.cp_resolved.proofs.SmallTokens.{AreScanned, constant_small, optional_small, constants_small, type_small, variables_small, part_small}
 use Rattle.cp_resolved.proofs.SmallStatements.{sign_after, expression_after, sum_after, term_after, factor_after, designator_after, selector_after, start_after, labels_after, statement_after, statements_after, arm_after}
 use Rattle.cp_resolved.proofs.SmallPrograms.{parameters_after, each_small, group_after, kind_after, body_after}
 use Rattle.cp_resolved.proofs.SmallTexts.{read_scanned}
@@ -82,6 +83,18 @@ starts_small : (ts : List Start) (r : List Kind) → AreScanned (put_separated m
 starts_small [] r e = tt
 starts_small (t ∷ ts) r e = let after : List Kind = put_all (put_behind mark.Comma put_start) ts r in (start_small t after e, more_starts_small ts r (start_after t after e))
 
+more_labels_small : (cs : List Constant) (r : List Kind) → AreScanned (put_all (put_behind mark.Comma put_constant) cs r) → Each (λ c. IsSmallConstant c.kind) cs
+more_labels_small [] r e = tt
+more_labels_small (c ∷ cs) r e =
+    let x = constant_small c.kind (put_all (put_behind mark.Comma put_constant) cs r) e.1 in
+    (x.0, more_labels_small cs r x.1)
+
+labels_small : (cs : List Constant) (r : List Kind) → AreScanned (put_separated mark.Comma put_constant cs r) → Each (λ c. IsSmallConstant c.kind) cs
+labels_small [] r e = tt
+labels_small (c ∷ cs) r e =
+    let x = constant_small c.kind (put_all (put_behind mark.Comma put_constant) cs r) e in
+    (x.0, more_labels_small cs r x.1)
+
 mutual
   statement_small : (x : Statement) (r : List Kind) → AreScanned (put_statement x r) → IsSmallStatement x
   statement_small (empty at) r e = tt
@@ -134,7 +147,7 @@ mutual
   more_arms_small (more_arms b bs) r e = (arm_small b (put_more_arms bs r) e.1, more_arms_small bs r (arm_after b (put_more_arms bs r) e.1))
 
   arm_small : (x : Arm) (r : List Kind) → AreScanned (put_arm x r) → IsSmallArm x
-  arm_small (arm cs s) r e = statement_small s r (labels_after cs (kind.Mark mark.Colon ∷ put_statement s r) e).1
+  arm_small (arm cs s) r e = let after : List Kind = kind.Mark mark.Colon ∷ put_statement s r in (labels_small cs after e, statement_small s r (labels_after cs after e).1)
 
 -- ---- routines, system types and the program, each with the tokens after it
 

@@ -483,7 +483,7 @@ module _ (k : Numbering) (h : Here) (g : Ground) (few : length g.tables.items �
   for_does : (l : Layer) (at : ℕ) (i : Identifier) (e : syntax.Expression) (d : Direction) (f : syntax.Expression) (body : Option ℕ) (next : Option ℕ) (w : World l) → l.pending ≡ [] → (x : ForFormed h i e f) → AreReady h (cells l) (expression_calls h.scope e ++ expression_calls h.scope f) →
       Does l (settled (for_item l at i.name e d f body) next).1 (expression_calls h.scope e ++ expression_calls h.scope f)
       (Led g h (settled (for_item l at i.name e d f body) next).0 (expression_calls h.scope e ++ expression_calls h.scope f) at (code.for_do x.origin x.range.low x.range.high x.first.cell x.last.cell (is_down d) body) next)
-  unfolding for_item
+  unfolding for_item designator selectors
   for_does l at i e d f body next w none x n =
       let is : List Item = expression_calls h.scope e in
       let js : List Item = expression_calls h.scope f in
@@ -498,11 +498,11 @@ module _ (k : Numbering) (h : Here) (g : Ground) (few : length g.tables.items �
       let v = known.expression_is k h l w.names w.calls m f _ kept x.last.used (ready_next h (cells m) js rest) x.last.formed in
       let to : ordinal_of (expression m f).0 ≡ x.last.cell = known.ordinal_is k h l w.names w.calls x.last.ty (as_ordinal x.last.cell) (expression m f).0 x.last.cell v.value refl in
       let from : ordinal_of (expression l e).0 ≡ x.first.cell = cell_is l e x.first.ty x.first.cell w x.first.formed x.first.used first in
-      let begins : PlaceIs k l.types (code.place x.origin 0 code.no_indices) (named.ordinal x.range) (begun l i.name) = begun_same k h l w.names i.name (a_variable (code.place x.origin 0 code.no_indices) (named.ordinal x.range)) (not_routine (scopes.find i.name h.scope) x.named) x.variable in
       let t : Target = target_of l (begun l i.name) in
-      let target : t ≡ (let z : Target = record { place = code.place x.origin 0 code.no_indices; value_type = begins.value_type } in z) = ap (target_of l) begins.is in
-      let ty : t.value_type ≡ types.Ordinal (range_on k x.range) = ap (λ (z : Target). z.value_type) target ∙ begins.belongs in
-      let place : origin_of t.place ≡ x.origin = ap (λ (z : Target). origin_of z.place) target in
+      let counts : TargetIs l (code.place x.origin 0 code.no_indices) (named.ordinal x.range) t =
+      own_target l i syntax.no_selectors (code.place x.origin 0 code.no_indices) (named.ordinal x.range) (scopes.find i.name h.scope) w refl x.named tt tt (ap (λ q. then_form q (selected_form h syntax.no_selectors)) x.variable) in
+      let ty : t.value_type ≡ types.Ordinal (range_on k x.range) = counts.belongs in
+      let place : origin_of t.place ≡ x.origin = ap origin_of counts.place_is in
       let need : ℕ = need_inside o.items body in
       let act : code.Action = code.for_do (origin_of t.place) (low_of t.value_type) (high_of t.value_type) (ordinal_of (expression l e).0) (ordinal_of (expression m f).0) (laid.is_down d) body in
       let same : act ≡ code.for_do x.origin x.range.low x.range.high x.first.cell x.last.cell (is_down d) body =

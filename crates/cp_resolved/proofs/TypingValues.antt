@@ -253,7 +253,7 @@ module _ (tokens : Tokens) (s : Scopes) (h : Here) (w : Context) where
   number_typed at d b z None x o f i = absurd i
 
   -- a routine's own name, with the selectors after it
-  own_called : (i : Name) (n : ℕ) (m : Option scopes.Meaning) (x : Option Name) → RoutineIs (written tokens s h) (heading_at n s) i h.scope m → IsCalled tokens s h n i m x
+  pub own_called : (i : Name) (n : ℕ) (m : Option scopes.Meaning) (x : Option Name) → RoutineIs (written tokens s h) (heading_at n s) i h.scope m → IsCalled tokens s h n i m x
   own_called i n (Some (scopes.routine_meaning r)) x e = record { is = refl; heading = e }
   own_called i n (Some (scopes.constant_meaning b z)) x e = absurd e
   own_called i n (Some (scopes.standard_meaning q)) x e = absurd e

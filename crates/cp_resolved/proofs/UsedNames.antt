@@ -113,7 +113,7 @@ module _ (s : Scopes) (w : Context) where
   untyped_bare at no_selectors c d h k = refl
   untyped_bare at (more_selectors x ss) c d h k = absurd (nothing_known at (selectors s w (selector s w (Ok c) x) ss) d (nothing_stays ss (selector s w (Ok c) x) (untyped_selected c x (untyped_type c.named h))) k)
 
-  known_is : (at : ℕ) (c d : check_designated.Designated) → names.known at c ≡ Ok d → c ≡ d
+  pub known_is : (at : ℕ) (c d : check_designated.Designated) → names.known at c ≡ Ok d → c ≡ d
   known_is at c d k = go c.named k
     where
       go : (n : Named) → names.known_named at c n ≡ Ok d → c ≡ d

@@ -1,7 +1,7 @@
 -- The forms of accepted statements on slots: each expression has the form that its statement wants, and names are used as the rules want it.
 use Rattle.std.specs.Prelude.{◌≡◌, ℕ, true, Option, Some, None, slice_get}
 use Rattle.cp_tree.specs.declared.constant.Identifier.{Identifier}
-use Rattle.cp_tree.specs.Syntax.{Expression, Expressions, Designator, Start, Routine, Statement, empty, assign, invoke, block, if_then, if_else, case_of, while_do, repeat_until, for_do, cycle, init, Statements, no_statements, more_statements, Arms, no_arms, more_arms, Arm, arm}
+use Rattle.cp_tree.specs.Syntax.{Expression, Expressions, Designator, designator, no_selectors, Start, Routine, Statement, empty, assign, invoke, block, if_then, if_else, case_of, while_do, repeat_until, for_do, cycle, init, Statements, no_statements, more_statements, Arms, no_arms, more_arms, Arm, arm}
 use Rattle.cp_slots.specs.declared.place.Origin.{Origin}
 use Rattle.cp_slots.specs.declared.place.Origin.TheVariants.{Local}
 use Rattle.cp_slots.specs.declared.lay_out.layer.FunctionResult.{FunctionResult}
@@ -115,7 +115,7 @@ pub record ForFormed (h : Here) (i : Identifier) (e f : Expression) : Type 0 whe
   pub origin : Origin
   pub range : Range
   pub variable : begun_form h i.name (find i.name h.scope) ≡ Some (a_variable (code.place origin 0 code.no_indices) (ordinal range))
-  pub named : IsNotRoutine (find i.name h.scope)
+  pub named : IsTarget h (find i.name h.scope) (designator i no_selectors)
   pub first : OrdinalFormed h e
   pub last : OrdinalFormed h f
 

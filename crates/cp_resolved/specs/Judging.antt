@@ -2,9 +2,10 @@
 use Rattle.std.specs.Prelude.{◌≡◌, ℕ, true, List, [], ◌∷◌, ◌++◌, Option, Some, None, Ok}
 use Rattle.cp_tree.specs.declared.declaration.SystemKind.{SystemKind}
 use Rattle.cp_tree.specs.Syntax.{Routine, System, Definition, type_definition, system_definition, SystemDefinition, ProgramPart, program_constants, program_types, program_variables, Program, Tree}
+use Rattle.cp_scope.specs.declared.types.Meaning.TheVariants as meaning
 use Rattle.cp_scope.specs.Counts.{no_use}
 use Rattle.cp_scope.specs.Judged.{faults}
-use Rattle.cp_scope.specs.Scopes.{Scopes, look, enter, start}
+use Rattle.cp_scope.specs.Scopes.{Scopes, look, heading_at, enter, start}
 use Rattle.cp_check.specs.declared.operand.Context.{Context}
 use Rattle.cp_check.specs.declared.types.Spot.TheVariants.{Other, Permanent}
 use Rattle.cp_check.specs.Declarations.{reserve_name, part_steps}
@@ -18,13 +19,13 @@ use Rattle.cp_meaning.specs.Names.{Name}
 use Rattle.cp_meaning.specs.Scopes.{find}
 use Rattle.cp_meaning.specs.Systems.{system_of}
 use Rattle.cp_resolved.specs.Enumerations.{enumerations_of}
-use Rattle.cp_resolved.specs.Layouts.{Layouts}
+use Rattle.cp_resolved.specs.Layouts.{Layouts, is_named}
 use Rattle.cp_resolved.specs.Openings.{Opening, openings_of}
 use Rattle.cp_resolved.specs.Read.{IsRead}
 use Rattle.cp_resolved.specs.Small.{Each}
 use Rattle.cp_resolved.specs.Standing.{IsFit, IsFreeVariable, IsStandingVariable, IsFreeParameter, IsStandingParameter, IsFreeResult}
 use Rattle.cp_resolved.specs.Tokens.{token_of_type, constants_among}
-use Rattle.cp_resolved.specs.Typed.{Tokens, ScopesAgree}
+use Rattle.cp_resolved.specs.Typed.{Tokens, HeadingIs, ScopesAgree}
 
 pub record Place : Type 0 where
   pub scopes : Scopes
@@ -79,6 +80,11 @@ places_of p =
 
 -- ---- the law
 
+-- Of a routine: its name alone stands for it, and its heading is written.
+pub record IsOwn (tokens : Tokens) (x : Place) (o : Opening) (n : ℕ) : Type 0 where
+  pub named : (y : Name) → look y x.scopes ≡ Some (Some (meaning.Routine n)) → is_named y o.name ≡ true
+  pub heading : HeadingIs (record { shapes = x.scopes.shapes; tokens = tokens }) (heading_at n x.scopes) (Some o.meaning)
+
 -- The checker's scopes at a place agree with the scope of what is opened there, where each system type is written at a token; and its statements break no rule.
 pub record IsAgreed (tokens : Tokens) (p : Program) (x : Place) (o : Opening) : Type 0 where
   pub scopes : (l : Layouts) (k n : ℕ) → ScopesAgree tokens x.scopes (record { program = p; layouts = l; system = k; routine = n; scope = o.meaning.scope })
@@ -90,6 +96,7 @@ pub record IsAgreed (tokens : Tokens) (p : Program) (x : Place) (o : Opening) : 
   pub variables : Each IsFreeVariable o.meaning.variables
   pub parameters : Each IsFreeParameter o.meaning.parameters
   pub result : IsFreeResult o.meaning.result
+  pub own : (n : ℕ) → x.context.routine ≡ Some n → IsOwn tokens x o n
 
 abbrev pub AreAgreed : Tokens → Program → List Place → List Opening → Type 0
 AreAgreed tokens p [] [] = Unit {0}

@@ -8,13 +8,14 @@ pub mod Encoded
 pub mod Enumerations
 pub mod Fit
 pub mod Formed
+pub mod FormedBodies
 pub mod FormedParts
+pub mod FormedStatements
 pub mod Framed
 pub mod Held
 pub mod InStep
-pub mod Judging
-pub mod FormedStatements
 pub mod ItemsStand
+pub mod Judging
 pub mod Knows
 pub mod Layouts
 pub mod LayoutsKnow
@@ -33,6 +34,6 @@ pub mod Standing
 pub mod Stands
 pub mod Tokens
 pub mod TreeLayouts
-pub mod Used
 pub mod Typed
+pub mod Used
 pub mod Valued

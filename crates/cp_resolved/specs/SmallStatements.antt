@@ -1,6 +1,6 @@
 -- Statements whose expressions have small numbers.
 use Rattle.cp_tree.specs.Syntax.{Start, Statement, empty, assign, invoke, block, if_then, if_else, case_of, while_do, repeat_until, for_do, cycle, init, Statements, no_statements, more_statements, Arms, no_arms, more_arms, Arm, arm}
-use Rattle.cp_resolved.specs.Small.{Each}
+use Rattle.cp_resolved.specs.Small.{Each, IsSmallConstant}
 use Rattle.cp_resolved.specs.Typed.{IsSmallExpression, AreSmallExpressions, IsSmallDesignator}
 
 abbrev pub IsSmallStart : Start → Type 0
@@ -30,4 +30,4 @@ abbrev mutual
   AreSmallArms (more_arms a as') = IsSmallArm a × AreSmallArms as'
 
   pub IsSmallArm : Arm → Type 0
-  IsSmallArm (arm cs t) = IsSmallStatement t
+  IsSmallArm (arm cs t) = Each (λ c. IsSmallConstant c.kind) cs × IsSmallStatement t

@@ -19,14 +19,16 @@ use Rattle.cp_scope.specs.Scopes.{Heading, Names, Scope, record_shape, system_sh
 use Rattle.cp_check.specs.declared.operand.Operand.{Operand}
 use Rattle.cp_meaning.specs.Names.{Name}
 use Rattle.cp_meaning.specs.Types as named
-use Rattle.cp_meaning.specs.Types.{Ty, FieldTypes, is_within}
+use Rattle.cp_meaning.specs.Types.{Ty, FieldTypes, is_within, all_characters}
 use Rattle.cp_meaning.specs.Scopes as scopes
 use Rattle.cp_meaning.specs.Scopes.{Standard, find, since}
 use Rattle.cp_meaning.specs.Declarations.{Parameter, RoutineMeaning, routine_in}
 use Rattle.cp_meaning.specs.Operations.{range_of_base}
+use Rattle.cp_meaning.specs.Systems.{system_of}
 use Rattle.cp_meaning.specs.Expressions.{routine_of_type}
 use Rattle.cp_slots.specs.Code as code
 use Rattle.cp_resolved.specs.Layouts.{cells_of, cells_in, Here}
+use Rattle.cp_resolved.specs.Small.{Each}
 use Rattle.cp_resolved.specs.Standing.{is_free}
 use Rattle.cp_resolved.specs.Compiled.{Form, as_ordinal, as_set, as_place, as_component, Formed}
 
@@ -63,6 +65,9 @@ pub record SetIs (k : Tokens) (q : named.Range) (v : ValueType) : Type 0 where
   pub range : Range
   pub is : v ≡ types.Set (Some range)
   pub belongs : RangeIs k q range
+  -- rule C20: its members are codes of characters
+  pub low : is_within all_characters q.low ≡ true
+  pub high : is_within all_characters q.high ≡ true
 
 pub record ArrayIs (Element : ValueType → Type 0) (cells : ℕ) (w : Written) (q : named.Range) (v : ValueType) : Type 0 where
   pub token : ℕ
@@ -71,6 +76,7 @@ pub record ArrayIs (Element : ValueType → Type 0) (cells : ℕ) (w : Written) 
   pub there : as_array (shape_in token w.shapes) ≡ Some shape
   pub range : RangeIs w.tokens q shape.index
   pub takes : shape.cells ≡ cells
+  pub few : cells ≤ 8192
   pub belongs : Element shape.element
 
 pub record RecordIs (Fields : Names → Type 0) (cells : ℕ) (w : Written) (v : ValueType) : Type 0 where
@@ -80,6 +86,7 @@ pub record RecordIs (Fields : Names → Type 0) (cells : ℕ) (w : Written) (v :
   pub there : shape_in token w.shapes ≡ Some (record_shape fields cells)
   pub visible : fields.is_sealed ≡ false
   pub each : Fields fields.names
+  pub few : cells ≤ 8192
 
 -- a system type is written
 pub record SystemThere (token : ℕ) (ss : Shapes) : Type 0 where
@@ -175,6 +182,9 @@ AreParameters w (a ∷ as') (q ∷ qs) = ParameterIs w a q × AreParameters w as
 AreParameters w [] (q ∷ qs) = ⊥
 AreParameters w (a ∷ as') [] = ⊥
 
+abbrev pub IsValueParameter : Parameter → Type 0
+IsValueParameter q = q.is_var ≡ false
+
 -- what is written as the heading of a routine
 abbrev pub HeadingIs : Written → Heading → Option RoutineMeaning → Type 0
 HeadingIs w d None = ⊥
@@ -211,10 +221,11 @@ MeaningIs w s x scope (meaning.Reference v) o = VariableIs w v o
 MeaningIs w s x scope (meaning.Routine n) o = RoutineIs w (heading_at n s) x scope o
 MeaningIs w s x scope (meaning.Predeclared q) o = StandardIs q o
 
--- The checker's scopes and the place of a statement: each visible name stands for the same, and so do the routines of components.
+-- The checker's scopes and the place of a statement: each visible name stands for the same, and so do the routines of components and the parameters of system types.
 pub record ScopesAgree (tokens : Tokens) (s : Scopes) (h : Here) : Type 0 where
   pub names : (x : Name) (m : Meaning) → look x s ≡ Some (Some m) → MeaningIs (record { shapes = s.shapes; tokens = tokens }) s x h.scope m (find x h.scope)
   pub entries : (k n : ℕ) (y : Name) → member_at (tokens.systems k) y s ≡ Some (Some (meaning.Routine n)) → HeadingIs (record { shapes = s.shapes; tokens = tokens }) (heading_at n s) (routine_of_type h.program (named.component_of k) y)
+  pub starts : (k : ℕ) (d : SystemThere (tokens.systems k) s.shapes) → AreParameters (record { shapes = s.shapes; tokens = tokens }) d.heading.parameters (system_of h.program k).parameters × Each IsValueParameter (system_of h.program k).parameters
 
 -- ---- operands and forms
 

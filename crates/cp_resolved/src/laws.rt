@@ -1,6 +1,7 @@
 //! Laws over the definitions alone.
 
 ghost use Rattle.cp_resolved.specs.Formed.{FormsLaw};
+ghost use Rattle.cp_resolved.specs.FormedBodies.{FormedLaw};
 ghost use Rattle.cp_resolved.specs.Judging.{ScopesLaw};
 ghost use Rattle.cp_resolved.specs.Held.{FewItemsLaw, FewReferencesLaw};
 ghost use Rattle.cp_resolved.specs.BodiesStand.{BodiesLaw};
@@ -41,6 +42,11 @@ pub fn law_scopes()
 /// So the tests, bounds and values of its statements have forms of the right kind on slots, by any layouts.
 pub fn law_forms()
     ensures { FormsLaw }
+{}
+
+/// By the layouts of the tree all its statements have the forms that `law_bodies` wants, with their targets, arguments and names.
+pub fn law_formed()
+    ensures { FormedLaw }
 {}
 
 /// No routine of an accepted program calls itself, as `law_sound` wants it.

@@ -1,0 +1,19 @@
+-- What is assigned or handed over has few cells, and sets have members of a byte.
+use Rattle.std.proofs.Common.{◌≡◌, ℤ, pos, negsuc, true, arith}
+use Rattle.cp_scope.specs.declared.types.ValueType.{ValueType}
+use Rattle.cp_meaning.specs.Types as named
+use Rattle.cp_meaning.specs.Types.{Ty, is_within, all_characters}
+use Rattle.cp_resolved.specs.FormedParts.{IsByte, IsMoved}
+use Rattle.cp_resolved.specs.Typed.{Written, TypeIs}
+
+character_byte : (z : ℤ) → is_within all_characters z ≡ true → IsByte z
+character_byte (pos n) h = search (arith, h)
+character_byte (negsuc n) h = absurd (cc)
+
+pub type_moved : (w : Written) (t : Ty) (v : ValueType) → TypeIs w t v → IsMoved t
+type_moved w (named.ordinal r) v h = omega arith
+type_moved w named.queue_type v h = omega arith
+type_moved w (named.set_over r) v h = (character_byte r.low h.low, character_byte r.high h.high)
+type_moved w (named.array_over r t) v h = omega (arith, h.few)
+type_moved w (named.record_with ts) v h = omega (arith, h.few)
+type_moved w (named.component_of n) v h = omega arith
