@@ -22,6 +22,7 @@ use Rattle.cp_check.specs.Routines.{routine_context, routine_step, routine_steps
 use Rattle.cp_check.specs.Statements.{statements}
 use Rattle.cp_lawful.proofs.Kept.{last_is}
 use Rattle.cp_lawful.proofs.Loud.{Loud, Heard, statements_loud}
+use Rattle.cp_meaning.specs.Names.{Name}
 use Rattle.cp_meaning.specs.Scopes as scopes
 use Rattle.cp_meaning.specs.Scopes.{find, routine_meaning}
 use Rattle.cp_meaning.specs.Declarations as meant
