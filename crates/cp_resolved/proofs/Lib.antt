@@ -44,8 +44,10 @@ pub mod FormsOfTrees
 pub mod Going
 pub mod Grown
 pub mod Handed
+pub mod InsideArguments
 pub mod InsideExpressions
 pub mod InsideForms
+pub mod InsideItems
 pub mod InsidePlaces
 pub mod InsideViews
 pub mod ItemsMean
@@ -69,6 +71,7 @@ pub mod Owning
 pub mod ParametersFit
 pub mod PermanentNames
 pub mod Plain
+pub mod PlainActions
 pub mod PlainInside
 pub mod Reserving
 pub mod ResultKnown

@@ -7,6 +7,7 @@ pub mod Enumerations
 pub mod Fit
 pub mod Formed
 pub mod FormedParts
+pub mod Headed
 pub mod Held
 pub mod InStep
 pub mod Judging
