@@ -48,6 +48,7 @@ pub mod InsideArguments
 pub mod InsideExpressions
 pub mod InsideForms
 pub mod InsideItems
+pub mod InsideOfTables
 pub mod InsidePlaces
 pub mod InsideViews
 pub mod ItemsMean
@@ -66,6 +67,7 @@ pub mod Operations
 pub mod Outer
 pub mod OwnCalls
 pub mod OwnCallsOfTables
+pub mod OwnCells
 pub mod OwnNames
 pub mod Owning
 pub mod ParametersFit

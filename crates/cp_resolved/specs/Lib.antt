@@ -10,6 +10,7 @@ pub mod FormedParts
 pub mod Headed
 pub mod Held
 pub mod InStep
+pub mod ItemsInside
 pub mod Judging
 pub mod FormedStatements
 pub mod ItemsStand

@@ -4,6 +4,7 @@ ghost use Rattle.cp_resolved.specs.Formed.{FormsLaw};
 ghost use Rattle.cp_resolved.specs.Judging.{ScopesLaw};
 ghost use Rattle.cp_resolved.specs.Held.{FewItemsLaw, FewReferencesLaw};
 ghost use Rattle.cp_resolved.specs.BodiesStand.{BodiesLaw};
+ghost use Rattle.cp_resolved.specs.ItemsInside.{InsideLaw};
 ghost use Rattle.cp_resolved.specs.ItemsStand.{StatementsLaw};
 ghost use Rattle.cp_resolved.specs.LayoutsKnow.{LayoutsLaw};
 ghost use Rattle.cp_resolved.specs.Names.{NamesLaw};
@@ -69,4 +70,9 @@ pub fn law_statements()
 /// The items of each routine and of each initial statement of a tree stand for its statements.
 pub fn law_bodies()
     ensures { BodiesLaw }
+{}
+
+/// In tables that stand for a tree each item is inside what it names, and names components of the types that it wants.
+pub fn law_inside()
+    ensures { InsideLaw }
 {}
