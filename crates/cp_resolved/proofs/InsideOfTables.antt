@@ -27,6 +27,7 @@ use Rattle.cp_resolved.specs.ItemsInside.{CanHold, ItemsInside, InsideLaw}
 use Rattle.cp_resolved.specs.Layouts.{cells_of, FrameLayout, SystemLayout, Here, frame_here, system_here, is_parameter, cell_named, look}
 use Rattle.cp_resolved.specs.LayoutsKnow.{place_of}
 use Rattle.cp_resolved.specs.Meant.{Means}
+use Rattle.cp_resolved.specs.Once.{IsSizedMeaning}
 use Rattle.cp_resolved.specs.Openings.{Opening, openings_of, meaning_in, meaning_at, numbering_of}
 use Rattle.cp_resolved.specs.Resolved.{FrameIs, ParameterIs, ParametersAre, ResultIs, SystemParameterIs, SystemParametersAre, RoutineIs, SystemIs, Stands}
 use Rattle.cp_resolved.specs.Small.{Each}
@@ -49,7 +50,6 @@ use Rattle.cp_resolved.proofs.PlainInside.{expression_in, behind_some}
 use Rattle.cp_resolved.proofs.SoundComponents.{Tabled, tabled, layer_of, listing_of, room_of, system_own, program_own}
 use Rattle.cp_resolved.proofs.SoundItems.{item_there, routine_there, routines_length}
 use Rattle.cp_resolved.proofs.StatementsStand.{statements_mean}
-use Rattle.cp_resolved.proofs.TreeKnown.{local_sized, permanent_sized}
 use Rattle.cp_resolved.proofs.Whole.{Whole, HasRoom, program_laid}
 
 extent_there : (es : List ℕ) (n : ℕ) → n < length es → extent_at es n ≡ Some (slice_index_or es n 0)
@@ -209,7 +209,7 @@ module _ (t : Tree) (r : Tables) (same : plain r ≡ laid t) (few : length r.ite
     permanent_fits : (x : Name) (u : Ty) → scopes.find x h.scope ≡ Some (scopes.permanent_variable u) → has_components u ≡ false → PlaceFits rv (code.place (origin.Permanent ((system_here h).slots x)) 0 code.no_indices) u
     permanent_fits x u e none =
         let le : (system_here h).slots x + cells_of u ≤ (system_at r h.system).own = (s.systems h.system is.owner).cells x u (is.permanents x u e none) in
-        whole_fits rv (origin.Permanent ((system_here h).slots x)) u (permanent_cells rv ((system_here h).slots x) (cells_of u) (let k = own_here in omega (arith, le, k))) (permanent_sized x u h.scope (c.placed.sized n) e).1
+        whole_fits rv (origin.Permanent ((system_here h).slots x)) u (permanent_cells rv ((system_here h).slots x) (cells_of u) (let k = own_here in omega (arith, le, k))) (subst IsSizedMeaning e (c.placed.sized n x)).1
 
     one_leads : (x : Name) (k : ℕ) (b : Bool) → scopes.find x h.scope ≡ Some (scopes.permanent_variable (named.component_of k)) → is_parameter x (system_of h.program h.system).parameters ≡ b → DesignatedFits C h rv (component_begun h x k b)
     one_leads x k true e i = (refl, (c.components n lt).bound x k e i, (c.components n lt).one x k e)
@@ -220,14 +220,14 @@ module _ (t : Tree) (r : Tables) (same : plain r ≡ laid t) (few : length r.ite
       where
         below : (j : ℕ) → j ≤ unsigned_abs (q.high -ℤ q.low) → j < length_of_range q
         below j le =
-            let z : length_of_range q ≡ suc (unsigned_abs (q.high -ℤ q.low)) = one_longer (q.high -ℤ q.low) (permanent_sized x (named.array_over q (named.component_of k)) h.scope (c.placed.sized n) f).1.0 in
+            let z : length_of_range q ≡ suc (unsigned_abs (q.high -ℤ q.low)) = one_longer (q.high -ℤ q.low) (subst IsSizedMeaning f (c.placed.sized n x)).1.0 in
             omega (arith, z, le)
 
     variables : VariablesFit C h rv
     variables =
         record {
           frame = frame_cells;
-          local = λ x u e. whole_fits rv ((frame_here h).origins x) u (any_cells x u (is.frame.locals x u e)) (local_sized x u h.scope (c.placed.sized n) e).1;
+          local = λ x u e. whole_fits rv ((frame_here h).origins x) u (any_cells x u (is.frame.locals x u e)) (subst IsSizedMeaning e (c.placed.sized n x)).1;
           permanent = permanent_fits;
           result = λ x y e o. whole_fits rv ((frame_here h).origins result_name) (result_type (h.layouts.meanings n).result) (frame_cells result_name (result_type (h.layouts.meanings n).result) (is.own_result x o)) (result_full (h.layouts.meanings n).result (c.headings n lt).result);
           component = λ x k e. one_leads x k (is_parameter x (system_of h.program h.system).parameters) e refl;
