@@ -18,12 +18,12 @@ use Rattle.cp_meaning.specs.Declarations.{Variable, RoutineMeaning}
 use Rattle.cp_meaning.specs.State.{Item, function_call, statement_item, start_item, until, successor, return, init_end, end}
 use Rattle.cp_meaning.specs.Expressions.{result_called, routine_called}
 use Rattle.cp_resolved.specs.Begun.{all_begun}
-use Rattle.cp_resolved.specs.BodiesStand.{ground_of, CallsFormed, BodiesLaw}
+use Rattle.cp_resolved.specs.BodiesStand.{ground_of, CallsFormed, BodyFormed, BodiesLaw}
 use Rattle.cp_resolved.specs.Calls.{all_calls_laid, IsAmong, IsApart, AreApart}
 use Rattle.cp_resolved.specs.FormedParts.{AreReady}
-use Rattle.cp_resolved.specs.ItemsStand.{AreItems, CanStand, AreLaid}
+use Rattle.cp_resolved.specs.ItemsStand.{AreItems, Surroundings, CanStand, AreLaid}
 use Rattle.cp_resolved.specs.Layouts.{Here, frame_here, look}
-use Rattle.cp_resolved.specs.LayoutsKnow.{place_of, KnowsAt}
+use Rattle.cp_resolved.specs.LayoutsKnow.{IsPlaced, place_of, KnowsAt}
 use Rattle.cp_resolved.specs.Openings.{Opening, openings_of, meaning_in, meaning_at, numbering_of}
 use Rattle.cp_resolved.specs.Stands.{OwnAll}
 use Rattle.cp_resolved.specs.TreeLayouts.{call_variables, result_variables, parameters_by, whole_laid}
@@ -113,11 +113,11 @@ items_are r t is more e n i f =
       line = ap (λ (x : code_item.Item). x.line) there_it_is ∙ ap (λ (x : code.Item). x.line) w.2;
     }
 
-laid_items : (t : syntax.Tree) → (laid t).items ≡ (whole_laid t).items
+pub laid_items : (t : syntax.Tree) → (laid t).items ≡ (whole_laid t).items
 unfolding laid tables_laid
 laid_items t = refl
 
-laid_routines : (t : syntax.Tree) → (laid t).routines ≡ (whole_laid t).routines
+pub laid_routines : (t : syntax.Tree) → (laid t).routines ≡ (whole_laid t).routines
 unfolding laid tables_laid
 laid_routines t = refl
 
@@ -146,36 +146,55 @@ ends_at t m (x ∷ ls) (o ∷ os) (suc n) l h e =
     let z : suc m + n ≡ m + suc n = omega arith in
     record { opening = w.opening; there = w.there; ends = subst (λ j. Ends (whole_laid t) j l w.opening) z w.ends }
 
-pub bodies_law : BodiesLaw
-bodies_law t r same few place n l e f =
+-- what is known where the statements of routine n begin
+pub record BegunAt (t : syntax.Tree) (r : Tables) (n : ℕ) (l : Layer) : Type 0 where
+  pub opening : Opening
+  pub opened : slice_get (openings_of t.program) n ≡ Some opening
+  pub ends : Ends (whole_laid t) n l opening
+  pub around : Surroundings (numbering_of t.program) (place_of t n) (ground_of r t) l
+  pub can : CanStand (place_of t n) l (meaning_at t.program n).body
+
+pub begun_at : (t : syntax.Tree) (r : Tables) → IsPlaced t → (n : ℕ) (l : Layer) → slice_get (all_begun t) n ≡ Some l → BodyFormed t n l → BegunAt t r n l
+begun_at t r place n l e f =
     let k = numbering_of t.program in
-    let h : Here = place_of t n in
     let m : RoutineMeaning = meaning_at t.program n in
     let calls : List Item = all_calls_laid m.scope m.body in
     let known : KnowsAt t n l = layouts_law t place n l e in
     let w : EndsAt t (openings_of t.program) 0 n l = ends_at t 0 (all_begun t) (openings_of t.program) n l (all_end k t) e in
     let zero_more : 0 + n ≡ n = omega arith in
     let ends : Ends (whole_laid t) n l w.opening = subst (λ j. Ends (whole_laid t) j l w.opening) zero_more w.ends in
-    let opened : m ≡ w.opening.meaning = ap (meaning_in _) w.there in
+    let rest : List Variable = result_variables m.result ++ (parameters_by false m.parameters ++ m.variables) in
+    record {
+      opening = w.opening;
+      opened = w.there;
+      ends = ends;
+      around = record {
+        names = known.names;
+        calls = known.calls;
+        headings = f.headings;
+        result = result_known t place n l e ends.number;
+        starts = f.starts;
+        lines = ends.lines ∙ whole_lines t;
+      };
+      can = record {
+        pending = ends.pending;
+        formed = f.formed;
+        calls = ready (place_of t n) rest (length l.frame.image) calls (place.apart n) known.next f.calls (λ at i. refl);
+      };
+    }
+
+pub bodies_law : BodiesLaw
+bodies_law t r same few place n l e f =
+    let k = numbering_of t.program in
+    let h : Here = place_of t n in
+    let m : RoutineMeaning = meaning_at t.program n in
+    let w : BegunAt t r n l = begun_at t r place n l e f in
+    let opened : m ≡ w.opening.meaning = ap (meaning_in _) w.opened in
     let x : Option ℕ × Layer = statements l m.body in
-    let items : Longer x.1.items (whole_laid t).items = subst (λ (q : RoutineMeaning). Longer (statements l q.body).1.items (whole_laid t).items) (sym opened) ends.items in
-    let routine : slice_get (whole_laid t).routines n ≡ Some (routine_of x.1 x.0) = subst (λ (q : RoutineMeaning). slice_get (whole_laid t).routines n ≡ Some (routine_of (statements l q.body).1 (statements l q.body).0)) (sym opened) ends.there in
+    let items : Longer x.1.items (whole_laid t).items = subst (λ (q : RoutineMeaning). Longer (statements l q.body).1.items (whole_laid t).items) (sym opened) w.ends.items in
+    let routine : slice_get (whole_laid t).routines n ≡ Some (routine_of x.1 x.0) = subst (λ (q : RoutineMeaning). slice_get (whole_laid t).routines n ≡ Some (routine_of (statements l q.body).1 (statements l q.body).0)) (sym opened) w.ends.there in
     let all_items : map code.item_seen r.items ≡ x.1.items ++ items.0 = ap (λ (q : PlainTables). q.items) same ∙ laid_items t ∙ items.1 in
     let all_routines : r.routines ≡ (whole_laid t).routines = ap (λ (q : PlainTables). q.routines) same ∙ laid_routines t in
     let there_it_is : routine_at r n ≡ routine_of x.1 x.0 = entry_at r.routines n no_routine (routine_of x.1 x.0) (ap (λ rs. slice_get rs n) all_routines ∙ routine) in
-    let rest : List Variable = result_variables m.result ++ (parameters_by false m.parameters ++ m.variables) in
-    let can : CanStand h l m.body = record {
-      pending = ends.pending;
-      formed = f.formed;
-      calls = ready h rest (length l.frame.image) calls (place.apart n) known.next f.calls (λ at i. refl);
-    } in
-    let lines : l.lines ≡ t.lines = ends.lines ∙ whole_lines t in
-    let there_all : AreLaid k h (ground_of r t) l m.body = statements_law k h (ground_of r t) l m.body few (λ at. refl) (record {
-      names = known.names;
-      calls = known.calls;
-      headings = f.headings;
-      result = result_known t place n l e ends.number;
-      starts = f.starts;
-      lines = lines;
-    }) can in
+    let there_all : AreLaid k h (ground_of r t) l m.body = statements_law k h (ground_of r t) l m.body few (λ at. refl) w.around w.can in
     subst (λ (v : RoutineView). OwnAll (ground_of r t) h m.body v.body None) (sym there_it_is) (there_all.stand (items_are r t x.1.items items.0 all_items))

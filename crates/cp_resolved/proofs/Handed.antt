@@ -75,7 +75,7 @@ local_part_owned l (syntax.constants at ds) = constants_owned l ds
 local_part_owned l (syntax.types at ds) = definitions_owned l ds
 local_part_owned l (syntax.variables at gs) = local_variables_owned l gs
 
-local_parts_owned : (l : Layer) (ps : List Part) → (local_parts l ps).owned ≡ l.owned
+pub local_parts_owned : (l : Layer) (ps : List Part) → (local_parts l ps).owned ≡ l.owned
 unfolding local_parts
 local_parts_owned l [] = refl
 local_parts_owned l (p ∷ ps) = local_parts_owned (local_part l p) ps ∙ local_part_owned l p
@@ -107,7 +107,7 @@ unfolding parameter_groups
 parameter_groups_owned l ps [] = refl
 parameter_groups_owned l ps (g ∷ gs) = parameter_groups_owned (parameter_group l ps g).1 (parameter_group l ps g).0 gs ∙ parameter_group_owned l ps g
 
-heading_owned : (l : Layer) (x : List ℕ) (k : RoutineKind) → (heading l x k).1.owned ≡ l.owned
+pub heading_owned : (l : Layer) (x : List ℕ) (k : RoutineKind) → (heading l x k).1.owned ≡ l.owned
 unfolding heading
 heading_owned l x (syntax.procedure gs) = parameter_groups_owned l [] gs
 heading_owned l x (syntax.function gs i) = constant_groups_owned l [] gs

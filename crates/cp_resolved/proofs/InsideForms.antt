@@ -1,5 +1,5 @@
 -- Operations on forms that are inside give forms that are inside.
-use Rattle.std.proofs.Common.{◌≡◌, ℤ, Bool, true, false, ◌&&◌, if◌then◌else◌, Option, Some, None, refl, ap, subst, ◌∙◌, arith}
+use Rattle.std.proofs.Common.{◌≡◌, ℕ, ℤ, Bool, true, false, ◌&&◌, if◌then◌else◌, Option, Some, None, refl, ap, subst, ◌∙◌, arith}
 use Rattle.cp_tree.specs.declared.constant.Sign.{Sign}
 use Rattle.cp_tree.specs.declared.constant.Sign.TheVariants as sign
 use Rattle.cp_tree.specs.declared.expression.Relation.{Relation}
@@ -16,33 +16,31 @@ use Rattle.cp_meaning.specs.Scopes as scopes
 use Rattle.cp_meaning.specs.Scopes.{Standard}
 use Rattle.cp_meaning.specs.Operations.{range_of_base}
 use Rattle.cp_resolved.specs.Compiled.{Form, as_ordinal, as_set, as_place, as_component, Formed, integer_form, is_integer, is_boolean, loaded_form, Designated, a_variable, some_components, a_component, valued_form, constant_form, compared_forms, added_ordinals, added_forms, multiplied_ordinals, multiplied_forms, signed_ordinal, signed_form, not_form_of, not_form, applied_ordinal, applied_place, applied_form_of, applied_form, with_member_form}
-use Rattle.cp_resolved.specs.Layouts.{cells_of}
+use Rattle.cp_resolved.specs.Layouts.{cells_of, Here}
 use Rattle.cp_resolved.proofs.Alike.{same_inside}
 use Rattle.cp_resolved.proofs.InsidePlaces.{PlaceFits, has_place}
 use Rattle.cp_resolved.proofs.PlainInside.{expression_in, set_in}
 
--- the index of a component in an array
-abbrev pub component_in : RoutineView → code.ComponentPlace → Bool
-component_in r (code.element first low high stride e) = expression_in r e
-component_in r code.own = true
-component_in r (code.contained n) = true
-component_in r (code.parameter slot) = true
+-- by what holds of a component of a system type
+module _ (C : code.ComponentPlace → ℕ → Type 0) (here : Here) (r : RoutineView) where
+  abbrev pub PartFits : Ty → code.ComponentPlace → Type 0
+  PartFits (named.component_of k) c = C c k
+  PartFits t c = ⊥
 
-module _ (r : RoutineView) where
   -- what a form reads is inside, and so are the cells of a variable
   abbrev pub FormFits : Ty → Form → Type 0
   FormFits t (as_ordinal c) = (expression_in r c ≡ true) × (cells_of t ≡ 1)
   FormFits t (as_set b) = (set_in r b ≡ true) × (cells_of t ≡ 8)
   FormFits t (as_place p) = PlaceFits r p t
-  FormFits t (as_component c) = component_in r c ≡ true
+  FormFits t (as_component c) = PartFits t c
 
   abbrev pub ValueFits : Formed → Type 0
   ValueFits f = FormFits f.ty f.form
 
   abbrev pub DesignatedFits : Designated → Type 0
   DesignatedFits (a_variable p t) = PlaceFits r p t
-  DesignatedFits (some_components first q k) = Unit {0}
-  DesignatedFits (a_component c k) = component_in r c ≡ true
+  DesignatedFits (some_components first q k) = (c : code.Expression) → expression_in r c ≡ true → C (code.element first q.low q.high (here.layouts.systems k).count c) k
+  DesignatedFits (a_component c k) = C c k
 
   pub fits_as : (x z : Formed) → Some x ≡ Some z → ValueFits x → ValueFits z
   fits_as x z e h = subst ValueFits (same_inside x z e) h

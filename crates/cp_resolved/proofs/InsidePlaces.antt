@@ -89,7 +89,7 @@ read_with : (r : RoutineView) (is : code.Indices) (c : code.Expression) (q : Ran
 read_with r code.no_indices c q n h e = (e, tt)
 read_with r (code.more_indices (code.index d low high m) is) c q n h e = (h.0, read_with r is c q n h.1 e)
 
-one_longer : (z : ℤ) → 1 ≤ natural_of (z +ℤ pos 1) → natural_of (z +ℤ pos 1) ≡ suc (unsigned_abs z)
+pub one_longer : (z : ℤ) → 1 ≤ natural_of (z +ℤ pos 1) → natural_of (z +ℤ pos 1) ≡ suc (unsigned_abs z)
 one_longer (pos n) h = let e : n + 1 ≡ suc n = omega arith in e
 one_longer (negsuc zero) h = absurd (omega (arith, h))
 one_longer (negsuc (suc n)) h = absurd (let e : negsuc (suc n) +ℤ pos 1 ≡ negsuc n = search rules in let g : 1 ≤ natural_of (negsuc n) = subst (λ z. 1 ≤ natural_of z) e h in omega (arith, g))

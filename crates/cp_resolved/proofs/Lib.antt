@@ -1,3 +1,4 @@
+mod SmallestSound
 pub mod Agreeing
 pub mod AgreeingBodies
 pub mod AgreeingCells
@@ -29,6 +30,7 @@ pub mod ComponentsLaw
 pub mod ComponentsOfTree
 pub mod ComponentsStand
 pub mod Contained
+pub mod Covered
 pub mod Declared
 pub mod Declares
 pub mod Designating
@@ -65,8 +67,11 @@ pub mod Going
 pub mod Grown
 pub mod Handed
 pub mod HandedOver
+pub mod InsideArguments
 pub mod InsideExpressions
 pub mod InsideForms
+pub mod InsideItems
+pub mod InsideOfTables
 pub mod InsidePlaces
 pub mod InsideViews
 pub mod ItemsMean
@@ -91,6 +96,7 @@ pub mod Operations
 pub mod Outer
 pub mod OwnCalls
 pub mod OwnCallsOfTables
+pub mod OwnCells
 pub mod OwnNames
 pub mod OwnedParts
 pub mod Owning
@@ -101,6 +107,7 @@ pub mod PermanentNames
 pub mod Permanents
 pub mod Placed
 pub mod Plain
+pub mod PlainActions
 pub mod PlainInside
 pub mod Reserving
 pub mod ResultKnown
@@ -120,7 +127,6 @@ pub mod SmallStatements
 pub mod SmallTexts
 pub mod SmallTokens
 pub mod SmallestProgram
-mod SmallestSound
 pub mod SoundComponents
 pub mod SoundItems
 pub mod SoundParameters

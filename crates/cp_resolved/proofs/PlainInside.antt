@@ -48,14 +48,14 @@ abbrev pub AreIn : RoutineView → Indices → Type 0
 AreIn r no_indices = Unit {0}
 AreIn r (more_indices (index e low high size) is) = (expression_in r e ≡ true) × AreIn r is
 
-behind_some : (first cells : ℕ) → first ≤ cells → behind first cells ≡ Some (cells - first)
+pub behind_some : (first cells : ℕ) → first ≤ cells → behind first cells ≡ Some (cells - first)
 behind_some first cells le = go (nat_le first cells) refl
   where
     go : (b : Bool) → nat_le first cells ≡ b → (if b then Some (cells - first) else None) ≡ Some (cells - first)
     go true e = refl
     go false e = absurd (let bad : cells + 1 ≤ first = search (rules, e) in omega (arith, bad, le))
 
-has_more : (n left : ℕ) → n ≤ left → has n (Some left) ≡ true
+pub has_more : (n left : ℕ) → n ≤ left → has n (Some left) ≡ true
 has_more n left le = search (rules, le)
 
 indices_left : (r : RoutineView) (is : Indices) (left n : ℕ) → AreIn r is → span is + n ≤ left → has n (indices_in r is left) ≡ true

@@ -110,10 +110,10 @@ module _ (l : Layer) where
   systems_count : length (system_types l.systems l.owned) ≡ length l.systems + 1
   systems_count = length-append (types_of l.systems) (system_type l.owned ∷ []) ∙ ap (λ k. k + 1) (types_count l.systems)
 
-  system_own : (k : ℕ) (s : System) → slice_get l.systems k ≡ Some s → own_at l k ≡ s.owned.cells
+  pub system_own : (k : ℕ) (s : System) → slice_get l.systems k ≡ Some s → own_at l k ≡ s.owned.cells
   system_own k s e = ap (λ (v : SystemView). v.own) (entry_at (system_types l.systems l.owned) k no_system (system_type s.owned) (system_there k s e))
 
-  program_own : own_at l (length l.systems) ≡ l.owned.cells
+  pub program_own : own_at l (length l.systems) ≡ l.owned.cells
   program_own = ap (λ (v : SystemView). v.own) (entry_at (system_types l.systems l.owned) (length l.systems) no_system (system_type l.owned) program_there)
 
   past_initial : (o : Option System) → slice_get l.systems (length l.systems) ≡ o → initial_in (length l.routines - 1) o ≡ length l.routines - 1

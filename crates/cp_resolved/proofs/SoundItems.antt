@@ -47,16 +47,16 @@ view_there (r ∷ rs) zero v e = same_Some r v e
 view_there (r ∷ rs) (suc n) v e = view_there rs n v e
 
 module _ (t : Tables) (l : Layer) (s : Shows t l) (w : Whole l) where
-  item_there : (at : ℕ) → at < length t.items → slice_get l.items at ≡ Some (item_seen (item_at t at))
+  pub item_there : (at : ℕ) → at < length t.items → slice_get l.items at ≡ Some (item_seen (item_at t at))
   item_there at lt = ap (λ (is : List Item). slice_get is at) (sym s.items) ∙ seen_there t.items at lt
 
   pub items_length : length l.items ≡ length t.items
   items_length = ap (λ (is : List Item). length is) (sym s.items) ∙ seen_length t.items
 
-  routine_there : (n : ℕ) (v : RoutineView) → slice_get l.routines n ≡ Some v → routine_at t n ≡ v
+  pub routine_there : (n : ℕ) (v : RoutineView) → slice_get l.routines n ≡ Some v → routine_at t n ≡ v
   routine_there n v e = ap (λ (rs : List RoutineView). slice_index_or rs n no_routine) s.routines ∙ view_there l.routines n v e
 
-  routines_length : length t.routines ≡ length l.routines
+  pub routines_length : length t.routines ≡ length l.routines
   routines_length = ap (λ (rs : List RoutineView). length rs) s.routines
 
   nests : (r n at : ℕ) → Nests l.items r n at → fits.Nests t r n at

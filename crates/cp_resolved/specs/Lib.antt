@@ -12,8 +12,10 @@ pub mod FormedBodies
 pub mod FormedParts
 pub mod FormedStatements
 pub mod Framed
+pub mod Headed
 pub mod Held
 pub mod InStep
+pub mod ItemsInside
 pub mod ItemsStand
 pub mod Judging
 pub mod Knows

@@ -6,6 +6,7 @@ ghost use Rattle.cp_resolved.specs.Judging.{ScopesLaw};
 ghost use Rattle.cp_resolved.specs.Held.{FewItemsLaw, FewReferencesLaw};
 ghost use Rattle.cp_resolved.specs.BodiesStand.{BodiesLaw};
 ghost use Rattle.cp_resolved.specs.ComponentsAre.{ComponentsLaw};
+ghost use Rattle.cp_resolved.specs.ItemsInside.{InsideLaw};
 ghost use Rattle.cp_resolved.specs.ItemsStand.{StatementsLaw};
 ghost use Rattle.cp_resolved.specs.LayoutsKnow.{LayoutsLaw};
 ghost use Rattle.cp_resolved.specs.Names.{NamesLaw};
@@ -87,4 +88,7 @@ pub fn law_bodies()
 /// The components of the tables stand for those of the tree, and the processes for its processes, where no count of them has stopped.
 pub fn law_components()
     ensures { ComponentsLaw }
+/// In tables that stand for a tree each item is inside what it names, and names components of the types that it wants.
+pub fn law_inside()
+    ensures { InsideLaw }
 {}
