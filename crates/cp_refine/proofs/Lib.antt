@@ -92,6 +92,7 @@ pub mod StartNames
 pub mod StepOfCall
 pub mod StepOfEnd
 pub mod StepOfQueue
+pub mod StepOfStart
 pub mod StepOfStatement
 pub mod StepOfSuccessor
 pub mod Storing
