@@ -91,6 +91,8 @@ pub mod StartFitting
 pub mod StartNames
 pub mod StepOfCall
 pub mod StepOfEnd
+pub mod StepOfItem
+pub mod StepOfProcess
 pub mod StepOfQueue
 pub mod StepOfStart
 pub mod StepOfStatement
