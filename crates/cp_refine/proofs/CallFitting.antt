@@ -29,7 +29,7 @@ module _ (t : Tree) (r : Tables) (l : Layouts) (prepared : Prepared t r l) (m : 
   can_open n =
       let thread = thread_fits t r l prepared m q fits many in
       let words = prepared.sound.typed.words in
-      let known = prepared.routines number call.routine in
+      let known = prepared.program.routines number call.routine in
       record {
         routine = prepared.stands.routines number call.routine;
         base = refl;

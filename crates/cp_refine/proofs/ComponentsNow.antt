@@ -68,7 +68,7 @@ module _ (t : Tree) (r : Tables) (l : Layouts) (prepared : Prepared t r l) (s : 
   slots_few : (x : Name) → (thread_at m.threads q).frame.own + (l.systems (component_at r executed).system).slots x < 2 ^ 64
   slots_few x =
       let a = reaches_own.own in
-      let b = prepared.systems.slots (component_at r executed).system x in
+      let b = prepared.program.systems.slots (component_at r executed).system x in
       let c = (prepared.sound.typed.components executed executed_there).cells in
       let d = prepared.sound.typed.words.permanents in
       omega (arith, a, b, c, d)
@@ -81,4 +81,4 @@ module _ (t : Tree) (r : Tables) (l : Layouts) (prepared : Prepared t r l) (s : 
       (prepared.stands.components executed executed_there)
       known.found (known.path executed)
       (let a = k.rep.component_count in let b = prepared.sound.typed.words.components in omega (arith, a, b)) slots_few begun_now
-      (subst (λ n. NamesKnown p l (thread_at m.threads q).frame.routine n) (sym executed_system) (prepared.routines (thread_at m.threads q).frame.routine (own_frame t r l prepared m q fits k.many).routine).components)
+      (subst (λ n. NamesKnown p l (thread_at m.threads q).frame.routine n) (sym executed_system) (prepared.program.routines (thread_at m.threads q).frame.routine (own_frame t r l prepared m q fits k.many).routine).components)

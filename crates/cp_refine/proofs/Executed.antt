@@ -30,7 +30,7 @@ use Rattle.cp_refine.proofs.Writing.{ComponentsApart}
 
 module _ (t : Tree) (r : Tables) (l : Layouts) (prepared : Prepared t r l) where
   pub systems_stand : (n : ℕ) → n < length r.components → SystemIs (ground_of t r) t.program l (component_at r n).system
-  systems_stand n h = prepared.stands.systems (component_at r n).system (prepared.below n h)
+  systems_stand n h = prepared.stands.systems (component_at r n).system (prepared.program.below n h)
 
   pub variables_of_components : ComponentsApart r l
   variables_of_components = components_apart (ground_of t r) t.program l prepared.sound.typed systems_stand
@@ -70,8 +70,8 @@ module _ (t : Tree) (r : Tables) (l : Layouts) (prepared : Prepared t r l) where
 
     pub names_typed : NamesTyped l thread.frame.routine
     names_typed =
-        let k = prepared.routines thread.frame.routine own_frame.routine in
-        record { fit = k.fit; sets = k.sets; result = k.result; simple = λ u e. prepared.results thread.frame.routine u e }
+        let k = prepared.program.routines thread.frame.routine own_frame.routine in
+        record { fit = k.fit; sets = k.sets; result = k.result; simple = λ u e. prepared.program.results thread.frame.routine u e }
 
     -- a value of a type without queues is no part of a variable with queues
     pub variables_apart : (es : List Entry) → StackFits r thread.frame es → (u : Ty) → is_free u ≡ true → VariablesApart (ground_of t r) l m q es u
@@ -84,7 +84,7 @@ module _ (t : Tree) (r : Tables) (l : Layouts) (prepared : Prepared t r l) where
           };
           permanents = record {
             apart = variables_of_components;
-            parts_apart = prepared.systems.apart;
-            unqueued = λ n x v cs ds o j known e g. unqueued_free v cs ds o j u (prepared.systems.standing n x v known) free e g;
+            parts_apart = prepared.program.systems.apart;
+            unqueued = λ n x v cs ds o j known e g. unqueued_free v cs ds o j u (prepared.program.systems.standing n x v known) free e g;
           };
         }

@@ -55,6 +55,7 @@ pub mod Lists
 pub mod LocalBlocks
 pub mod Loops
 pub mod Members
+pub mod MonitorNumbers
 pub mod Moving
 pub mod NewFrame
 pub mod Numbers

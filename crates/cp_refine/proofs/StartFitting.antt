@@ -47,17 +47,17 @@ can_start t r l prepared s m q fits many d there =
       hand = record {
         cells = own.cells;
         apart = own.apart;
-        inside = prepared.systems.parts k;
-        different = prepared.systems.parts_apart k;
+        inside = prepared.program.systems.parts k;
+        different = prepared.program.systems.parts_apart k;
         few = record { permanents = few_permanents t r l prepared m q fits many; cells = few_cells t r l prepared m q fits many; references = few_references t r l prepared m q fits many };
         room = (let a = owns.cells in let b = fits.permanents in omega (arith, a, b));
         numbers = (let a = owns.cells in let b = fits.bindings in omega (arith, a, b));
       };
-      cells = prepared.systems.cells;
-      inside = prepared.systems.parts;
+      cells = prepared.program.systems.cells;
+      inside = prepared.program.systems.parts;
       parameters = own.parameters;
-      distinct = prepared.systems.different k;
-      not_both = λ x u v e f. (let bad : true ≡ false = sym (itself x) ∙ prepared.systems.apart k x x u v e f in cc);
-      closed = prepared.systems.closed k;
-      unqueued = λ x u v cs o e f h. (let free = prepared.systems.free k x u v e f in let bad : false ≡ true = free_part u cs (o, queue_type) free h in cc);
+      distinct = prepared.program.systems.different k;
+      not_both = λ x u v e f. (let bad : true ≡ false = sym (itself x) ∙ prepared.program.systems.apart k x x u v e f in cc);
+      closed = prepared.program.systems.closed k;
+      unqueued = λ x u v cs o e f h. (let free = prepared.program.systems.free k x u v e f in let bad : false ≡ true = free_part u cs (o, queue_type) free h in cc);
     }

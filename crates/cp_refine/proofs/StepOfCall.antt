@@ -149,7 +149,7 @@ module _ (t : Tree) (r : Tables) (l : Layouts) (prepared : Prepared t r l) (s : 
     call_fits =
         record {
           can = λ n f. can_call t r l prepared m q fits going.many (item_at r at).need ci.number act_is.1.items room es (below_fits t r l prepared s m q at fits going.many mid es xs ys k.stack) n (found n f);
-          arguments = arguments_known this (l.meanings ci.number).parameters args (prepared.routines ci.number room.routine).parameters (rules.variables ci.number (ci.called.called ∙ ap (λ (w : RoutineMeaning). Some w) ci.called.same));
+          arguments = arguments_known this (l.meanings ci.number).parameters args (prepared.program.routines ci.number room.routine).parameters (rules.variables ci.number (ci.called.called ∙ ap (λ (w : RoutineMeaning). Some w) ci.called.same));
           components = components_now t r l prepared s known m fits reach q going;
           entry = entry_known;
         }

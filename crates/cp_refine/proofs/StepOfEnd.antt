@@ -56,7 +56,7 @@ module _ (t : Tree) (r : Tables) (l : Layouts) (prepared : Prepared t r l) (s : 
           fits = fits.each q k.many;
           few = few_cells t r l prepared m q fits k.many;
           routines = prepared.stands.routines;
-          simple = prepared.results;
+          simple = prepared.program.results;
         }
 
     abbrev top : Call

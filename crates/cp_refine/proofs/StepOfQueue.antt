@@ -106,7 +106,7 @@ module _ (t : Tree) (r : Tables) (l : Layouts) (prepared : Prepared t r l) (s : 
   may_delay =
       record {
         apart = variables_of_components t r l prepared;
-        parts_apart = prepared.systems.apart;
+        parts_apart = prepared.program.systems.apart;
         own = own_numbers t r l prepared;
         is = monitor.1;
         known = monitor_known t r l prepared m fits n monitor.0 monitor.1;
@@ -135,7 +135,7 @@ module _ (t : Tree) (r : Tables) (l : Layouts) (prepared : Prepared t r l) (s : 
     may_continue =
         record {
           apart = variables_of_components t r l prepared;
-          parts_apart = prepared.systems.apart;
+          parts_apart = prepared.program.systems.apart;
           there = there;
           is = monitor.1;
           leave = may_leave t r l prepared s known m fits n monitor.0 q monitor.1 going.there going.was refl
@@ -144,7 +144,7 @@ module _ (t : Tree) (r : Tables) (l : Layouts) (prepared : Prepared t r l) (s : 
           fits_below = below_fits t r l prepared s m q at fits going.many mid es xs ys k.stack;
           few = few_cells t r l prepared m q fits going.many;
           routines = prepared.stands.routines;
-          simple = prepared.results;
+          simple = prepared.program.results;
           called = delayed_inside;
         }
 

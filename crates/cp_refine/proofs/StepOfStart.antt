@@ -137,7 +137,7 @@ module _ (t : Tree) (r : Tables) (l : Layouts) (prepared : Prepared t r l) (s : 
   handed d f as' seen =
       start_arguments g p l s m q at x mid es xs ys k ex names_here d f (found_system d f)
       (start_arguments_known r l ((thread_at m.threads q).frame ∷ (top_frame (thread_at m.threads q).frame es).0) (view_of p s q) (component_at r d).base (system_at r (component_at r d).system).own (parameters_of g p l s m q at x mid es xs ys k d) x.arguments
-      (prepared.systems.typed (component_at r d).system)
+      (prepared.program.systems.typed (component_at r d).system)
       (subst (λ fs. AreHandedSo r l fs (view_of p s q) (component_at r d).base (system_at r (component_at r d).system).own (system_of p (component_at r d).system).parameters x.arguments) (top_frame (thread_at m.threads q).frame es).1 (handed_so d f)))
       as' seen
 
