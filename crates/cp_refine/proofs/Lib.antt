@@ -5,6 +5,7 @@ pub mod Apart
 pub mod Arguments
 pub mod Assigning
 pub mod Assignments
+pub mod Beginning
 pub mod Begun
 pub mod BegunProcess
 pub mod Binding
@@ -41,6 +42,7 @@ pub mod Gates
 pub mod GivenUp
 pub mod Giving
 pub mod Going
+pub mod GoingInStep
 pub mod Handed
 pub mod Handing
 pub mod HoldsInReached

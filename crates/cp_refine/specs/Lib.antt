@@ -13,3 +13,4 @@ pub mod Prepared
 pub mod Remaining
 pub mod Represents
 pub mod StatesKnown
+pub mod WholeLaw
