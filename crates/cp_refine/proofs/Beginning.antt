@@ -1,5 +1,5 @@
 -- The opening states are related, and what is read of related states is the same.
-use Rattle.std.proofs.Common.{◌≡◌, ◌∙◌, ℕ, zero, suc, ◌+◌, ◌<◌, true, false, List, [], ◌∷◌, Option, Some, None, ap, sym, refl, subst, arith, length}
+use Rattle.std.proofs.Common.{◌≡◌, ◌∙◌, ℕ, ◌+◌, ◌<◌, List, [], ◌∷◌, Option, Some, None, ap, sym, refl, subst, arith, length}
 use Rattle.std.specs.Prelude.{slice_get, slice_index_or}
 use Rattle.cp_tree.specs.declared.declaration.SystemKind.{SystemKind}
 use Rattle.cp_tree.specs.declared.declaration.SystemKind.TheVariants as system_kind
@@ -34,10 +34,10 @@ use Rattle.cp_refine.specs.Named as own
 use Rattle.cp_refine.specs.Named.{gates_of, monitor_number}
 use Rattle.cp_refine.specs.Prepared.{Prepared}
 use Rattle.cp_refine.specs.Represents.{PendingIs}
-use Rattle.cp_refine.proofs.KindsKnown.{monitor_inside}
 use Rattle.cp_refine.proofs.MonitorNumbers.{is_a_monitor, one_number}
 use Rattle.cp_refine.proofs.Observed.{is_ready_alike, waits_alike, pending_alike, output_alike, holder_alike, in_line_alike}
 use Rattle.cp_refine.proofs.OpeningState.{processes_are, opens}
+use Rattle.cp_refine.proofs.ReachedKinds.{monitor_there}
 
 past : {A : Type 0} (xs : List A) → slice_get xs (length xs) ≡ None
 past [] = refl
@@ -112,7 +112,7 @@ module _ (t : Tree) (r : Tables) (l : Layouts) (g : Gates) (prepared : Prepared 
       where
         go : (w : Option ℕ) → PendingIs ground (Some n) w → n < length s.components
         go None h = absurd h
-        go (Some j) h = let a = monitor_inside t r l prepared n j h in let b = sim.represents.component_count in omega (arith, a, b)
+        go (Some j) h = let a = monitor_there t r l prepared.stands n j h in let b = sim.represents.component_count in omega (arith, a, b)
 
     -- the monitor of a number is on names the component that has the number in the tables
     holder_same : (k : ℕ) → k < length (monitors_of (opening p g)) → readings.holder_of s (monitor_number p g k) ≡ (on_slots.holder m k)

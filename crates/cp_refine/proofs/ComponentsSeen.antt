@@ -8,7 +8,7 @@ use Rattle.cp_store.specs.Memory.{Memory, onward}
 use Rattle.cp_machine.specs.Machine.{Machine}
 use Rattle.cp_meaning.specs.Components.{Path, step_down}
 use Rattle.cp_meaning.specs.Names.{Name}
-use Rattle.cp_meaning.specs.Types.{Ty, Range, component_of, array_over, has_components}
+use Rattle.cp_meaning.specs.Types.{component_of, array_over}
 use Rattle.cp_meaning.specs.Scopes.{permanent_variable, find}
 use Rattle.cp_meaning.specs.State as named
 use Rattle.cp_meaning.specs.State.{Call, current, knows, State}

@@ -1,5 +1,5 @@
 -- The meaning of a program and the slot machine of its tables go in step.
-use Rattle.std.proofs.Common.{◌≡◌, ◌∙◌, ℕ, ◌<◌, Bool, true, false, Option, Some, None, ap, sym, refl, subst, arith, length}
+use Rattle.std.proofs.Common.{◌≡◌, ◌∙◌, ℕ, ◌<◌, true, false, Option, Some, None, ap, sym, refl, arith, length}
 use Rattle.cp_tree.specs.Syntax.{Tree, Program}
 use Rattle.cp_slots.specs.Fits.{IsSound}
 use Rattle.cp_slots.specs.Tables.{Tables}
@@ -18,20 +18,16 @@ use Rattle.cp_machine.proofs.StepLines.{step_lines}
 use Rattle.cp_run.specs.Slots.{slots}
 use Rattle.cp_run.specs.System.{System}
 use Rattle.cp_meaning.specs.Kernel.{line_of}
-use Rattle.cp_meaning.specs.Readings as readings
-use Rattle.cp_meaning.specs.State as named
 use Rattle.cp_meaning.specs.State.{Gates, State}
 use Rattle.cp_meaning.specs.Steps.{step_of, line_at, by_step, by_admission, admitted, admitted_to}
 use Rattle.cp_meaning.specs.Values.{is_member}
 use Rattle.cp_resolved.specs.Layouts.{Layouts}
 use Rattle.cp_resolved.specs.Resolved.{Stands}
-use Rattle.cp_resolved.specs.Stands.{Ground}
 use Rattle.cp_refine.specs.InStep.{CanGo, CanEnter, GoInStep}
 use Rattle.cp_refine.specs.Law.{ground_of, Simulates}
 use Rattle.cp_refine.specs.Named as own
 use Rattle.cp_refine.specs.Named.{gates_of, is_some, in_line_of}
 use Rattle.cp_refine.specs.Prepared.{Prepared}
-use Rattle.cp_refine.specs.StatesKnown.{StateKnown}
 use Rattle.cp_refine.specs.WholeLaw.{StillOpen}
 use Rattle.cp_refine.proofs.Admitting.{admits}
 use Rattle.cp_refine.proofs.Beginning.{opening_simulates, process_count, first_goes, same_count, looks_alike}

@@ -50,7 +50,6 @@ pub mod InitialEnding
 pub mod InitialOpened
 pub mod InitialStarts
 pub mod Kept
-pub mod KindsKnown
 pub mod LeastValues
 pub mod LettingIn
 pub mod Lists

@@ -1,5 +1,5 @@
 -- The monitors of a program by their numbers: the number of a monitor is its place among the components that are monitors.
-use Rattle.std.proofs.Common.{◌≡◌, ◌∙◌, ℕ, zero, suc, ◌+◌, ◌<◌, ◌≤◌, List, [], ◌∷◌, ap, sym, refl, subst, arith, length}
+use Rattle.std.proofs.Common.{◌≡◌, ◌∙◌, ℕ, zero, suc, ◌+◌, ◌<◌, List, [], ◌∷◌, ap, refl, arith, length}
 use Rattle.std.specs.Prelude.{slice_index_or}
 use Rattle.cp_tree.specs.declared.declaration.SystemKind.{SystemKind}
 use Rattle.cp_tree.specs.declared.declaration.SystemKind.TheVariants as system_kind

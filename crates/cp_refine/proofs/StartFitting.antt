@@ -1,11 +1,11 @@
 -- A component that is started can be handed its parameters: they lie in its own cells, apart from all others.
-use Rattle.std.proofs.Common.{◌≡◌, ◌∙◌, ℕ, ◌+◌, ◌^◌, ◌<◌, ◌≤◌, true, false, List, [], ◌∷◌, Some, ap, sym, refl, subst, arith, length}
+use Rattle.std.proofs.Common.{◌≡◌, ◌∙◌, ℕ, ◌<◌, true, false, List, [], ◌∷◌, sym, refl, arith, length}
 use Rattle.std.proofs.lemmas.Slice.Eq.{bytes_eq-Decides}
-use Rattle.cp_tree.specs.Syntax.{Tree, Program, Expressions, no_expressions, more_expressions}
-use Rattle.cp_slots.specs.Tables.{Tables, component_at, system_at}
+use Rattle.cp_tree.specs.Syntax.{Tree, Expressions, no_expressions, more_expressions}
+use Rattle.cp_slots.specs.Tables.{Tables, component_at}
 use Rattle.cp_store.specs.declared.memory.Frame.{Frame}
 use Rattle.cp_machine.specs.Fits.{MachineFits}
-use Rattle.cp_machine.specs.Machine.{Machine, thread_at}
+use Rattle.cp_machine.specs.Machine.{Machine}
 use Rattle.cp_machine.specs.Memory.{memory_at}
 use Rattle.cp_meaning.specs.Declarations.{Parameter}
 use Rattle.cp_meaning.specs.Names.{Name, same_name}
@@ -14,7 +14,6 @@ use Rattle.cp_meaning.specs.State.{State}
 use Rattle.cp_meaning.specs.Systems.{system_of}
 use Rattle.cp_meaning.specs.Types.{queue_type}
 use Rattle.cp_resolved.specs.Layouts.{Layouts}
-use Rattle.cp_resolved.specs.Resolved.{SystemIs}
 use Rattle.cp_resolved.proofs.StandingParts.{free_part}
 use Rattle.cp_refine.specs.Law.{ground_of}
 use Rattle.cp_refine.specs.Parameters.{HaveTypes}

@@ -1,5 +1,5 @@
 -- The step of a process whose control stack begins with an item, of whatever kind the item is.
-use Rattle.std.proofs.Common.{◌≡◌, ◌∙◌, ℕ, ◌<◌, List, [], ◌∷◌, ◌++◌, Option, Some, None, ap, sym, refl, subst, length}
+use Rattle.std.proofs.Common.{◌≡◌, ◌∙◌, ℕ, List, ◌∷◌, ◌++◌, Option, Some, None, ap, sym, refl}
 use Rattle.std.specs.Prelude.{slice_index}
 use Rattle.cp_tree.specs.Syntax.{Tree, Program, Expressions, no_expressions, more_expressions, Designator, Statement, empty, assign, invoke, block, if_then, if_else, case_of, while_do, repeat_until, for_do, cycle, init}
 use Rattle.cp_slots.specs.Tables.{Tables}
@@ -53,9 +53,9 @@ module _ (t : Tree) (r : Tables) (l : Layouts) (prepared : Prepared t r l) (s : 
 
     standard_so : (f : Standard) (es' : Expressions) → IsInvoked (standard_meaning f) es'
     standard_so display_procedure (more_expressions e more) k is rules own = display_so t r l prepared s m q at fits going.many mid es xs ys token d e more k is rules
-    standard_so delay_procedure (more_expressions e more) k is rules own = delay_so t r l prepared s known m fits reach q going at mid es xs ys token d e more k rules is
+    standard_so delay_procedure (more_expressions e more) k is rules own = delay_so t r l prepared s known m ready fits reach q going at mid es xs ys token d e more k rules is
     standard_so continue_procedure (more_expressions e more) k is rules own =
-        continue_so t r l prepared s known m fits reach q going at mid es xs ys token d e more k rules.0
+        continue_so t r l prepared s known m ready fits reach q going at mid es xs ys token d e more k rules.0
         (states.continues q (record { there = going.there; ready_now = going.was; token = token; name = d; arguments = more_expressions e more; items = xs ++ ys; next = k.items; standard = ap (find (name_of d)) (scope_is g p l s m q at (statement_item (invoke token d (more_expressions e more))) mid es xs ys k) ∙ is }))
         (λ i h w. states.delayed (this_component (view_of p s q)) i h w) is rules.1
     standard_so display_procedure no_expressions k is rules own = absurd own
@@ -70,12 +70,12 @@ module _ (t : Tree) (r : Tables) (l : Layouts) (prepared : Prepared t r l) (s : 
 
     invoked_so : (w : Option Meaning) (es' : Expressions) → Takes (statement_item (invoke token d es')) → find (name_of d) this.scope ≡ w → InvokeKnown g this w d es' → InvokedBy g this at token w d es' mid → Steps token
     invoked_so (Some (standard_meaning f)) es' k is rules own = standard_so f es' k is rules own
-    invoked_so None es' k is rules own = invoke_so t r l prepared s known m fits reach q going at mid es xs ys token d es' k (λ f e. (let w : None ≡ Some (standard_meaning f) = sym is ∙ e in cc)) rules
-    invoked_so (Some (constant_meaning b z)) es' k is rules own = invoke_so t r l prepared s known m fits reach q going at mid es xs ys token d es' k (λ f e. (let w : Some (constant_meaning b z) ≡ Some (standard_meaning f) = sym is ∙ e in cc)) rules
-    invoked_so (Some (type_meaning u)) es' k is rules own = invoke_so t r l prepared s known m fits reach q going at mid es xs ys token d es' k (λ f e. (let w : Some (type_meaning u) ≡ Some (standard_meaning f) = sym is ∙ e in cc)) rules
-    invoked_so (Some (local_variable u)) es' k is rules own = invoke_so t r l prepared s known m fits reach q going at mid es xs ys token d es' k (λ f e. (let w : Some (local_variable u) ≡ Some (standard_meaning f) = sym is ∙ e in cc)) rules
-    invoked_so (Some (permanent_variable u)) es' k is rules own = invoke_so t r l prepared s known m fits reach q going at mid es xs ys token d es' k (λ f e. (let w : Some (permanent_variable u) ≡ Some (standard_meaning f) = sym is ∙ e in cc)) rules
-    invoked_so (Some (routine_meaning y)) es' k is rules own = invoke_so t r l prepared s known m fits reach q going at mid es xs ys token d es' k (λ f e. (let w : Some (routine_meaning y) ≡ Some (standard_meaning f) = sym is ∙ e in cc)) rules
+    invoked_so None es' k is rules own = invoke_so t r l prepared s known m ready fits reach q going at mid es xs ys token d es' k (λ f e. (let w : None ≡ Some (standard_meaning f) = sym is ∙ e in cc)) rules
+    invoked_so (Some (constant_meaning b z)) es' k is rules own = invoke_so t r l prepared s known m ready fits reach q going at mid es xs ys token d es' k (λ f e. (let w : Some (constant_meaning b z) ≡ Some (standard_meaning f) = sym is ∙ e in cc)) rules
+    invoked_so (Some (type_meaning u)) es' k is rules own = invoke_so t r l prepared s known m ready fits reach q going at mid es xs ys token d es' k (λ f e. (let w : Some (type_meaning u) ≡ Some (standard_meaning f) = sym is ∙ e in cc)) rules
+    invoked_so (Some (local_variable u)) es' k is rules own = invoke_so t r l prepared s known m ready fits reach q going at mid es xs ys token d es' k (λ f e. (let w : Some (local_variable u) ≡ Some (standard_meaning f) = sym is ∙ e in cc)) rules
+    invoked_so (Some (permanent_variable u)) es' k is rules own = invoke_so t r l prepared s known m ready fits reach q going at mid es xs ys token d es' k (λ f e. (let w : Some (permanent_variable u) ≡ Some (standard_meaning f) = sym is ∙ e in cc)) rules
+    invoked_so (Some (routine_meaning y)) es' k is rules own = invoke_so t r l prepared s known m ready fits reach q going at mid es xs ys token d es' k (λ f e. (let w : Some (routine_meaning y) ≡ Some (standard_meaning f) = sym is ∙ e in cc)) rules
 
   -- ---- each statement
 
@@ -97,7 +97,7 @@ module _ (t : Tree) (r : Tables) (l : Layouts) (prepared : Prepared t r l) (s : 
 
   pub item_so : (i : Item) → Takes i → ItemKnown g this i → Steps (at_item i)
   item_so (statement_item u) k rules = statement_so u k rules
-  item_so (function_call token d args) k rules = function_so t r l prepared s known m fits reach q going at mid es xs ys token d args k rules
+  item_so (function_call token d args) k rules = function_so t r l prepared s known m ready fits reach q going at mid es xs ys token d args k rules
   item_so (start_item x) k rules = start_so t r l prepared s known m ready fits reach states q going at mid es xs ys x k rules
   item_so (until ss e) k rules = until_so t r l prepared s m q at fits going.many mid es xs ys ss e k
   item_so (successor token i z d b u) k rules = absurd k.own

@@ -1,5 +1,5 @@
 -- The step of a ready process goes on slots as on names: what it does next is said by its control stack.
-use Rattle.std.proofs.Common.{◌≡◌, ◌∙◌, ℕ, ◌<◌, List, [], ◌∷◌, ◌++◌, ap, sym, refl, subst, length}
+use Rattle.std.proofs.Common.{◌≡◌, ℕ, List, [], ◌∷◌, ◌++◌, ap, sym, refl, subst}
 use Rattle.std.specs.Prelude.{slice_index}
 use Rattle.cp_tree.specs.Syntax.{Tree, Program}
 use Rattle.cp_slots.specs.Tables.{Tables}
@@ -38,7 +38,7 @@ module _ (t : Tree) (r : Tables) (l : Layouts) (prepared : Prepared t r l) (s : 
   at_line i items e h = subst (λ n. StepIs g p l q (slice_index t.lines n) (step_of p s q) (step_at r m q)) (sym (ap at_items e)) h
 
   by_stack : (es : List Entry) → (thread_at m.threads q).stack ≡ es → StackIs g p l (thread_at m.threads q).frame (named.process_at s.processes q).calls (named.process_at s.processes q).items es → StepIs g p l q (line_at t s q) (step_of p s q) (step_at r m q)
-  by_stack [] e is = end_so t r l prepared s known m fits q going (line_at t s q) e
+  by_stack [] e is = end_so t r l prepared s m ready fits q going (line_at t s q) e
   by_stack (Rest at ∷ es) e is =
       let one = takes_one g p l s m q going at es e in
       at_line one.item (one.xs ++ one.ys) one.taken.items
@@ -46,8 +46,8 @@ module _ (t : Tree) (r : Tables) (l : Layouts) (prepared : Prepared t r l) (s : 
   by_stack (Successor at z last ∷ es) e is =
       at_line is.0 (is.1 ++ is.2) is.3
       (subst (λ (i : Item). StepIs g p l q (slice_index t.lines (at_item i)) (step_of p s q) (step_at r m q)) (sym is.4.same) (next_so t r l prepared s m q fits going at z last es e is.0 is.1 is.2 is.3 is.4 is.5))
-  by_stack (Return caller slot monitor ∷ es) e is = return_so t r l prepared s known m fits q going caller slot monitor es e (line_at t s q)
-  by_stack (InitEnd caller n ∷ es) e is = initial_end_so t r l prepared s known m fits q going reach caller n es e (line_at t s q)
+  by_stack (Return caller slot monitor ∷ es) e is = return_so t r l prepared s m ready fits q going caller slot monitor es e (line_at t s q)
+  by_stack (InitEnd caller n ∷ es) e is = initial_end_so t r l prepared s m ready fits q going caller n es e (line_at t s q)
 
   pub process_so : StepIs g p l q (line_at t s q) (step_of p s q) (step_at r m q)
   process_so = by_stack (thread_at m.threads q).stack refl going.stack

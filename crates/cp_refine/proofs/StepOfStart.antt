@@ -1,5 +1,5 @@
 -- The step of a start, of a process or of a class or monitor: it goes on slots as on names.
-use Rattle.std.proofs.Common.{◌≡◌, ◌∙◌, ℕ, ◌<◌, ◌≤◌, Bool, true, false, List, [], ◌∷◌, ◌++◌, Option, Some, None, ap, sym, refl, subst, arith, length}
+use Rattle.std.proofs.Common.{◌≡◌, ◌∙◌, ℕ, ◌<◌, List, ◌∷◌, ◌++◌, Option, Some, ap, sym, refl, subst, arith, length}
 use Rattle.std.specs.Global.{Global}
 use Rattle.std.specs.Prelude.{Result, Ok, Err, Vec, map, slice_index}
 use Rattle.cp_tree.specs.declared.declaration.SystemKind.{SystemKind}
@@ -16,11 +16,10 @@ use Rattle.cp_slots.specs.Systems.{ActionNames, StartNames, IsOf}
 use Rattle.cp_slots.specs.Tables.{Tables, item_at, component_at, process_at, routine_at, system_at}
 use Rattle.cp_store.specs.declared.argument.Bound.{Bound}
 use Rattle.cp_store.specs.declared.error.ErrorName as slots
-use Rattle.cp_store.specs.declared.memory.Frame.{Frame}
 use Rattle.cp_machine.specs.declared.process.Entry.{Entry}
 use Rattle.cp_machine.specs.Fits.{MachineFits}
 use Rattle.cp_machine.specs.Machine.{Machine, thread_at}
-use Rattle.cp_machine.specs.Memory.{memory_at, component_of, arguments_of}
+use Rattle.cp_machine.specs.Memory.{component_of, arguments_of}
 use Rattle.cp_machine.specs.Reach.{Reaches}
 use Rattle.cp_machine.specs.Step.{step_at}
 use Rattle.cp_meaning.specs.Calls.{bound}
@@ -31,7 +30,7 @@ use Rattle.cp_meaning.specs.Places.{Target, component_there}
 use Rattle.cp_meaning.specs.State as named
 use Rattle.cp_meaning.specs.State.{Environment, Item, start_item, State}
 use Rattle.cp_meaning.specs.Steps.{view_of, step_of, at_designator}
-use Rattle.cp_meaning.specs.Systems.{system_of, program_system}
+use Rattle.cp_meaning.specs.Systems.{system_of}
 use Rattle.cp_resolved.specs.Layouts.{Layouts, Here, here}
 use Rattle.cp_resolved.specs.Resolved.{SystemIs, initial_meaning}
 use Rattle.cp_resolved.specs.Stands.{Ground}
@@ -41,7 +40,7 @@ use Rattle.cp_refine.specs.Kinds.{SameKind}
 use Rattle.cp_refine.specs.Law.{ground_of}
 use Rattle.cp_refine.specs.Prepared.{Prepared}
 use Rattle.cp_refine.specs.Represents.{frames_of}
-use Rattle.cp_refine.specs.StatesKnown.{AreHandedSo, IsStarting, StateKnown}
+use Rattle.cp_refine.specs.StatesKnown.{AreHandedSo, StateKnown}
 use Rattle.cp_refine.proofs.Begun.{CanBegin}
 use Rattle.cp_refine.proofs.CallFitting.{can_call}
 use Rattle.cp_refine.proofs.ComponentPlaces.{ComponentsKnown}
@@ -52,14 +51,13 @@ use Rattle.cp_refine.proofs.Found.{action_fits_here, action_names, found_of}
 use Rattle.cp_refine.proofs.Going.{Going}
 use Rattle.cp_refine.proofs.HoldsInReached.{HoldsInReached}
 use Rattle.cp_refine.proofs.InitialStarts.{start_initial_step}
-use Rattle.cp_refine.proofs.KindsKnown.{kinds_agree}
 use Rattle.cp_refine.proofs.ProcessStarts.{IsFound, AreGivenTo, parameters_of, is_start, start_process_step}
 use Rattle.cp_refine.proofs.ReadyInReached.{ReadyInReached}
 use Rattle.cp_refine.proofs.Running.{Executes}
 use Rattle.cp_refine.proofs.StartFitting.{start_arguments_known, can_start}
 use Rattle.cp_refine.proofs.StartNames.{start_component, start_arguments}
 use Rattle.cp_refine.proofs.StepOfStatement.{below_fits}
-use Rattle.cp_refine.proofs.SystemKinds.{system_same, kind_is, process_type}
+use Rattle.cp_refine.proofs.SystemKinds.{kind_is, process_type}
 
 abbrev number_of : ComponentKind → ℕ
 number_of (kind.Process j) = j
@@ -101,7 +99,7 @@ module _ (t : Tree) (r : Tables) (l : Layouts) (prepared : Prepared t r l) (s : 
   ex = executes t r l prepared m q fits going.many
 
   names_here : ComponentsKnown (view_of p s q) (thread_at m.threads q).frame this m.bindings
-  names_here = components_now t r l prepared s known m fits reach q going
+  names_here = components_now t r l prepared s known m ready fits reach q going
 
   -- the system type of what is started
   system_is : SystemIs g p l k.own.system
@@ -146,8 +144,8 @@ module _ (t : Tree) (r : Tables) (l : Layouts) (prepared : Prepared t r l) (s : 
   module _ (is_process : (system_of p k.own.system).kind ≡ system_kind.Process) where
     process_found : (d : ℕ) → IsFound g p l s m q at x mid es xs ys k d → (component_at r d).kind ≡ kind.Process (number_of (component_at r d).kind)
     process_found d f =
-        process_number (named.component_at s.components d).kind (component_at r d).kind (kinds_agree t r l prepared s known d (found d f).0)
-        (kind_is t r l prepared s known d (found d f).0 ∙ (ap (λ a. (system_of p a).kind) (found_system d f) ∙ is_process))
+        process_number (named.component_at s.components d).kind (component_at r d).kind (ready.kinds d (found d f).0)
+        (kind_is t r l prepared s known m ready d (found d f).0 ∙ (ap (λ a. (system_of p a).kind) (found_system d f) ∙ is_process))
 
     numbered : (d : ℕ) → IsFound g p l s m q at x mid es xs ys k d → (number_of (component_at r d).kind < length s.processes) × (process_of d s.processes ≡ Some (number_of (component_at r d).kind)) × ((process_at r (number_of (component_at r d).kind)).component ≡ d)
     numbered d f = ready.number d (number_of (component_at r d).kind) (found d f).0 (process_found d f)
@@ -173,9 +171,9 @@ module _ (t : Tree) (r : Tables) (l : Layouts) (prepared : Prepared t r l) (s : 
         (record {
           component = leads;
           arguments = handed;
-          kinds = kinds_agree t r l prepared s known;
+          kinds = ready.kinds;
           can = λ d f. can_start t r l prepared s m q fits going.many d (found d f).0;
-          system = λ d f. system_same t r l prepared s known d (found d f).0;
+          system = λ d f. ready.systems d (found d f).0;
           number = λ d. number_of (component_at r d).kind;
           process = process_found;
           known = λ d f. (numbered d f).0;
@@ -191,12 +189,12 @@ module _ (t : Tree) (r : Tables) (l : Layouts) (prepared : Prepared t r l) (s : 
       (record {
         component = leads;
         arguments = handed;
-        kinds = kinds_agree t r l prepared s known;
+        kinds = ready.kinds;
         can = λ d f. can_start t r l prepared s m q fits going.many d (found d f).0;
         call = λ d f. can_call t r l prepared m q fits going.many (item_at r at).need routine act_is.1.items room es (below_fits t r l prepared s m q at fits going.many mid es xs ys k.stack) d (found d f);
-        system = λ d f. system_same t r l prepared s known d (found d f).0;
+        system = λ d f. ready.systems d (found d f).0;
         statement = λ d f. system_is.statement ∙ ap (λ a. initial_meaning (system_of p a)) (sym (found_system d f));
-        no_process = λ d j f e. never (ap (λ a. (system_of p a).kind) (sym (found_system d f)) ∙ process_type t r l prepared s known d (found d f).0 j e);
+        no_process = λ d j f e. never (ap (λ a. (system_of p a).kind) (sym (found_system d f)) ∙ process_type t r l prepared s known m ready d (found d f).0 j e);
         phases = λ d f. (let a = fits.phases in let b = (found d f).0 in omega (arith, a, b));
       })
 

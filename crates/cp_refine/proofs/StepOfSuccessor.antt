@@ -1,5 +1,5 @@
 -- The step of the successor of a value in a `for`, and what a process sees whose next item is none of a list.
-use Rattle.std.proofs.Common.{◌≡◌, ◌∙◌, ℕ, ◌<◌, true, List, [], ◌∷◌, ◌++◌, ap, sym, refl, subst, length}
+use Rattle.std.proofs.Common.{◌≡◌, ℕ, List, [], ◌∷◌, ◌++◌, subst}
 use Rattle.std.specs.Prelude.{ℤ, slice_index}
 use Rattle.cp_tree.specs.Syntax.{Tree, Program}
 use Rattle.cp_store.specs.declared.memory.Frame.{Frame}
