@@ -10,7 +10,7 @@ use Rattle.cp_meaning.specs.Scopes.{Meaning, constant_meaning, type_meaning, loc
 use Rattle.cp_resolved.specs.Layouts.{cells_of, Here, here, Layouts, is_own, is_parameter}
 use Rattle.cp_resolved.specs.Compiled.{then_form, Designated, a_variable, some_components, a_component, part_of_form, component_begun, permanent_begun, result_begun, begun_form, with_field_form, with_element_form, with_index_form, ordinal_form, chosen_form, selected_form, designator_form, expression_form}
 use Rattle.cp_resolved.specs.Encoded.{Chosen, further_chosen, field_chosen, then_chosen}
-use Rattle.cp_resolved.specs.Standing.{is_bounded, is_element, is_standing, IsFit, IsFreeResult}
+use Rattle.cp_resolved.specs.Standing.{is_indexed, is_element, is_standing, IsFit, IsFreeResult}
 use Rattle.cp_resolved.proofs.StandingParts.{free_part, within_base}
 use Rattle.cp_resolved.proofs.Typing.{first_true, second_true}
 use Rattle.cp_refine.specs.GoodSets.{has_good_sets, have_good_sets, HasGoodSets}
@@ -128,7 +128,7 @@ with_field_good (a_variable p (component_of k)) x g = tt
 with_element_good : (h : Here) (d : Designated) (c : code.Expression) → DesignatedGood d → FormGood (with_element_form h d c)
 with_element_good h (a_component b k) c g = tt
 with_element_good h (some_components first r k) c g = tt
-with_element_good h (a_variable (code.place o n is) (array_over r t)) c g = (element_standing t (second_true (is_bounded r) (is_element t) g.0), g.1)
+with_element_good h (a_variable (code.place o n is) (array_over r t)) c g = (element_standing t (second_true (is_indexed r t) (is_element t) g.0), g.1)
 with_element_good h (a_variable p (ordinal r)) c g = tt
 with_element_good h (a_variable p queue_type) c g = tt
 with_element_good h (a_variable p (set_over r)) c g = tt

@@ -5,7 +5,7 @@ use Rattle.cp_meaning.specs.Types.{Range, Ty, ordinal, queue_type, set_over, arr
 use Rattle.cp_meaning.specs.Values.{Choice, the_field, the_element}
 use Rattle.cp_resolved.specs.Encoded.{Chosen, further_chosen, one_chosen, then_chosen, chosen_at}
 use Rattle.cp_resolved.specs.Layouts.{cells_of}
-use Rattle.cp_resolved.specs.Standing.{is_bounded, is_free, is_element, is_standing}
+use Rattle.cp_resolved.specs.Standing.{is_indexed, is_free, is_element, is_standing}
 use Rattle.cp_resolved.proofs.StandingParts.{free_part}
 use Rattle.cp_resolved.proofs.Typing.{first_true, second_true}
 
@@ -48,7 +48,7 @@ array_alone : (r : Range) (t : Ty) → is_free t ≡ false → NoFree t → NoFr
 array_alone r t bound none [] o v h free =
     let same : array_over r t ≡ v = ap (λ (d : Chosen). d.1) (some_same (0, array_over r t) (o, v) h) in
     let whole : is_free (array_over r t) ≡ true = ap is_free same ∙ free in
-    let bad : false ≡ true = sym bound ∙ second_true (is_bounded r) (is_free t) whole in absurd cc
+    let bad : false ≡ true = sym bound ∙ second_true (is_indexed r t) (is_free t) whole in absurd cc
 array_alone r t bound none (the_field x ∷ cs) o v h free = no_part (o, v) h
 array_alone r t bound none (the_element n ∷ cs) o v h free = go (one_chosen (array_over r t) (the_element n)) refl h
   where
@@ -97,7 +97,7 @@ pub free_standing : (t : Ty) → is_free t ≡ true → is_standing t ≡ true
 free_standing (ordinal r) h = h
 free_standing queue_type h = refl
 free_standing (set_over r) h = h
-free_standing (array_over r t) h = both_true (is_bounded r) (is_element t) (first_true (is_bounded r) (is_free t) h) (free_element t (second_true (is_bounded r) (is_free t) h))
+free_standing (array_over r t) h = both_true (is_indexed r t) (is_element t) (first_true (is_indexed r t) (is_free t) h) (free_element t (second_true (is_indexed r t) (is_free t) h))
 free_standing (record_with ts) h = h
 free_standing (component_of n) h = refl
 
