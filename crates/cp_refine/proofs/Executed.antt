@@ -64,7 +64,7 @@ module _ (t : Tree) (r : Tables) (l : Layouts) (prepared : Prepared t r l) where
     pub names_typed : NamesTyped l thread.frame.routine
     names_typed =
         let k = prepared.program.routines thread.frame.routine own_frame.routine in
-        record { fit = k.fit; sets = k.sets; result = k.result; simple = λ u e. prepared.program.results thread.frame.routine u e }
+        record { fit = k.fit; result = k.result }
 
     -- a value of a type without queues is no part of a variable with queues
     pub variables_apart : (es : List Entry) → StackFits r thread.frame es → (u : Ty) → is_free u ≡ true → VariablesApart (ground_of t r) l m q es u

@@ -28,7 +28,7 @@ pub start_arguments_known : (r : Tables) (l : Layouts) (fs : List Frame) (v : Vi
 start_arguments_known r l fs v base own [] es typed h = tt
 start_arguments_known r l fs v base own (q ∷ qs) no_expressions typed h = tt
 start_arguments_known r l fs v base own (q ∷ qs) (more_expressions e es) typed h =
-    (record { plain = typed.0; range = range_known q.ty (typed.1, typed.2); component = h.0.component; outside = h.0.outside }, start_arguments_known r l fs v base own qs es typed.3 h.1)
+    (record { plain = typed.0; range = range_known q.ty typed.1; component = h.0.component; outside = h.0.outside }, start_arguments_known r l fs v base own qs es typed.2 h.1)
 
 itself : (x : Name) → same_name x x ≡ true
 itself x = (bytes_eq-Decides x x).1 refl

@@ -68,7 +68,7 @@ arguments_known : (h : Here) (qs : List Parameter) (es : Expressions) → HaveVa
 arguments_known h [] es v k = tt
 arguments_known h (q ∷ qs) no_expressions v k = tt
 arguments_known h (q ∷ qs) (more_expressions e es) v k =
-    (record { variable = k.0; range = λ plain. (range_known q.ty (free_standing q.ty v.0, v.1), no_component q.ty v.0) }, arguments_known h qs es v.2 k.1)
+    (record { variable = k.0; range = λ plain. (range_known q.ty (free_standing q.ty v.0), no_component q.ty v.0) }, arguments_known h qs es v.1 k.1)
 
 -- an entry is named by its component
 entry_named : (h : Here) (d : Designator) (w : Option Meaning) (part : code.ComponentPlace) (b : Bool) (number : ℕ) → CalleeIs h d w part b number → b ≡ true → designator_form h d ≡ Some (a_component part (h.layouts.owners number))

@@ -92,7 +92,7 @@ module _ (t : Tree) (r : Tables) (l : Layouts) (prepared : Prepared t r l) (s : 
   for_so token i e d f u k =
       for_step g p l s m q at token i e d f u mid es xs ys k ex
       (λ place a there. stores_known g p l s m q (slice_index t.lines token) es (goes g p l s m q at (statement_item (for_do token i e d f u)) mid es xs ys k) k.own.range
-      (variables_apart t r l prepared m q fits many es (below_fits k.stack) (ordinal k.own.range) good.0) (range_known (ordinal k.own.range) good)
+      (variables_apart t r l prepared m q fits many es (below_fits k.stack) (ordinal k.own.range) good) (range_known (ordinal k.own.range) good)
       ((thread_at m.threads q).frame ∷ frames_below g p l s m q at (statement_item (for_do token i e d f u)) mid es xs ys k ex) (top_frame (thread_at m.threads q).frame es).1 place a there)
     where
       good : IsGood (ordinal k.own.range)

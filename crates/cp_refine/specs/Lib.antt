@@ -1,7 +1,6 @@
 pub mod Agrees
 pub mod ComponentNames
 pub mod Given
-pub mod GoodSets
 pub mod InStep
 pub mod ItemsKnown
 pub mod Kinds

@@ -13,14 +13,12 @@ use Rattle.cp_resolved.specs.Layouts.{cells_of, Layouts, look}
 use Rattle.cp_resolved.specs.Standing.{is_free, is_standing, IsFit, IsFreeResult}
 use Rattle.cp_resolved.specs.Resolved.{Stands}
 use Rattle.cp_refine.specs.ComponentNames.{NamesKnown}
-use Rattle.cp_refine.specs.GoodSets.{HasGoodSets}
 use Rattle.cp_refine.specs.Law.{ground_of}
 use Rattle.cp_refine.specs.Parameters.{AreDifferent, HaveValues, HaveTypes}
 
 -- Of a routine or an initial statement: the types that names have where its statements stand, and what its parameters are.
 pub record RoutineKnown (t : Tree) (l : Layouts) (n : ℕ) : Type 0 where
   pub fit : (x : Name) → IsFit (find x (l.meanings n).scope)
-  pub sets : (x : Name) → HasGoodSets (find x (l.meanings n).scope)
   pub result : IsFreeResult (l.meanings n).result
   pub parameters : HaveValues (l.meanings n).parameters
   pub different : AreDifferent (l.meanings n).parameters
