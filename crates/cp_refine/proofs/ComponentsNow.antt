@@ -1,5 +1,5 @@
 -- The names of components at a process that runs: they stand for the components of the tables, since its own component has begun.
-use Rattle.std.proofs.Common.{◌≡◌, ◌∙◌, ℕ, ◌+◌, ◌^◌, ◌<◌, sym, subst, arith, length}
+use Rattle.std.proofs.Common.{◌≡◌, Some, ◌∙◌, ℕ, ◌+◌, ◌^◌, ◌<◌, sym, subst, arith, length}
 use Rattle.cp_tree.specs.Syntax.{Tree, Program}
 use Rattle.cp_slots.specs.Tables.{Tables, component_at}
 use Rattle.cp_machine.specs.Fits.{MachineFits}
@@ -10,7 +10,8 @@ use Rattle.cp_meaning.specs.Names.{Name}
 use Rattle.cp_meaning.specs.State as named
 use Rattle.cp_meaning.specs.State.{current, State}
 use Rattle.cp_meaning.specs.Steps.{view_of}
-use Rattle.cp_resolved.specs.Layouts.{Layouts, here}
+use Rattle.cp_meaning.specs.Types.{Ty}
+use Rattle.cp_resolved.specs.Layouts.{Layouts, here, look}
 use Rattle.cp_resolved.specs.Stands.{Ground}
 use Rattle.cp_refine.specs.ComponentNames.{NamesKnown}
 use Rattle.cp_refine.specs.Law.{ground_of}
@@ -54,10 +55,10 @@ module _ (t : Tree) (r : Tables) (l : Layouts) (prepared : Prepared t r l) (s : 
   begun_now : HasBegun s (component_at r executed).kind (named.component_at s.components executed).status
   begun_now = subst (λ n. HasBegun s (component_at r n).kind (named.component_at s.components n).status) current_component (ready.begun q k.there k.was)
 
-  slots_few : (x : Name) → (thread_at m.threads q).frame.own + (l.systems (component_at r executed).system).slots x < 2 ^ 64
-  slots_few x =
+  slots_few : (x : Name) (u : Ty) → look x (l.systems (component_at r executed).system).parts ≡ Some u → (thread_at m.threads q).frame.own + (l.systems (component_at r executed).system).slots x < 2 ^ 64
+  slots_few x u e =
       let a = reaches_own.own in
-      let b = prepared.program.systems.slots (component_at r executed).system x in
+      let b = prepared.program.systems.parts (component_at r executed).system x u (prepared.program.below executed executed_there) e in
       let c = (prepared.sound.typed.components executed executed_there).cells in
       let d = prepared.sound.typed.words.permanents in
       omega (arith, a, b, c, d)

@@ -101,6 +101,7 @@ pub mod StepOfStatement
 pub mod StepOfSuccessor
 pub mod Storing
 pub mod SystemKinds
+pub mod SystemsOfTree
 pub mod Turns
 pub mod Values
 pub mod VariableExpressions

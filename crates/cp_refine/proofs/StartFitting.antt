@@ -46,14 +46,14 @@ can_start t r l prepared s m q fits many d there =
       hand = record {
         cells = own.cells;
         apart = own.apart;
-        inside = prepared.program.systems.parts k;
+        inside = λ x u e. prepared.program.systems.parts k x u (prepared.program.below d there) e;
         different = prepared.program.systems.parts_apart k;
         few = record { permanents = few_permanents t r l prepared m q fits many; cells = few_cells t r l prepared m q fits many; references = few_references t r l prepared m q fits many };
         room = (let a = owns.cells in let b = fits.permanents in omega (arith, a, b));
         numbers = (let a = owns.cells in let b = fits.bindings in omega (arith, a, b));
       };
-      cells = prepared.program.systems.cells;
-      inside = prepared.program.systems.parts;
+      cells = λ i less. (systems_stand t r l prepared i less).cells;
+      inside = λ i less x u e. prepared.program.systems.parts (component_at r i).system x u (prepared.program.below i less) e;
       parameters = own.parameters;
       distinct = prepared.program.systems.different k;
       not_both = λ x u v e f. (let bad : true ≡ false = sym (itself x) ∙ prepared.program.systems.apart k x x u v e f in cc);

@@ -1,5 +1,5 @@
 -- What is asked of a program, its tables and its layouts, so that each step on slots stands for one on names.
-use Rattle.std.specs.Prelude.{◌≡◌, ℕ, ◌+◌, ◌<◌, ◌≤◌, true, false, length, Some, None}
+use Rattle.std.specs.Prelude.{◌≡◌, ℕ, ◌<◌, ◌≤◌, true, false, length, Some, None}
 use Rattle.cp_tree.specs.Syntax.{Tree}
 use Rattle.cp_slots.specs.Fits.{IsSound}
 use Rattle.cp_slots.specs.Tables.{Tables, component_at, system_at}
@@ -9,7 +9,7 @@ use Rattle.cp_meaning.specs.Places.{content_of}
 use Rattle.cp_meaning.specs.Scopes.{find}
 use Rattle.cp_meaning.specs.Steps.{parameter_variables, first_environment}
 use Rattle.cp_meaning.specs.Systems.{system_of, program_system}
-use Rattle.cp_resolved.specs.Layouts.{cells_of, Layouts, look}
+use Rattle.cp_resolved.specs.Layouts.{Layouts, look}
 use Rattle.cp_resolved.specs.Standing.{is_free, is_standing, IsFit, IsFreeResult}
 use Rattle.cp_resolved.specs.Resolved.{Stands}
 use Rattle.cp_refine.specs.ComponentNames.{NamesKnown}
@@ -29,10 +29,8 @@ pub record RoutineKnown (t : Tree) (l : Layouts) (n : ℕ) : Type 0 where
 -- what layouts of system types are beside what `Stands` says
 pub record SystemsLaid (t : Tree) (r : Tables) (l : Layouts) : Type 0 where
   pub standing : (k : ℕ) (x : Name) (u : Ty) → look x (l.systems k).variables ≡ Some u → is_standing u ≡ true
-  -- no slot is beyond the cells of the type, and what has one lies inside of them
-  pub slots : (k : ℕ) (x : Name) → (l.systems k).slots x ≤ (system_at r k).own
-  pub cells : (k : ℕ) (x : Name) (u : Ty) → look x (l.systems k).variables ≡ Some u → (l.systems k).slots x + cells_of u ≤ (system_at r k).own
-  pub parts : (k : ℕ) (x : Name) (u : Ty) → look x (l.systems k).parts ≡ Some u → (l.systems k).slots x < (system_at r k).own
+  -- a parameter that is a component lies in the cells of the type
+  pub parts : (k : ℕ) (x : Name) (u : Ty) → k ≤ program_system t.program → look x (l.systems k).parts ≡ Some u → (l.systems k).slots x < (system_at r k).own
   -- a name is a variable, or a parameter that is a component; and these parameters have different slots
   pub apart : (k : ℕ) (x w : Name) (v u : Ty) → look x (l.systems k).parts ≡ Some v → look w (l.systems k).variables ≡ Some u → same_name x w ≡ false
   pub parts_apart : (k : ℕ) (x y : Name) (u v : Ty) → same_name x y ≡ false → look x (l.systems k).parts ≡ Some u → look y (l.systems k).parts ≡ Some v → (l.systems k).slots x ≡ (l.systems k).slots y → ⊥
