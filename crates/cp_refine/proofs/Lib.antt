@@ -81,6 +81,7 @@ pub mod ReadyInReached
 pub mod Resumed
 pub mod Returning
 pub mod Rewriting
+pub mod RoutinesOfTree
 pub mod Running
 pub mod Seeing
 pub mod SetAssignments
