@@ -68,6 +68,7 @@ pub mod PermanentBlocks
 pub mod Phases
 pub mod PlacesApart
 pub mod ProcessStarts
+pub mod ProgramOfTree
 pub mod QueueNames
 pub mod QueueParts
 pub mod QueueWriting
