@@ -7,6 +7,7 @@ pub mod Assigning
 pub mod Assignments
 pub mod Begun
 pub mod BegunProcess
+pub mod BodyItems
 pub mod Binding
 pub mod BlockStores
 pub mod Blocks

@@ -1,4 +1,5 @@
 pub mod Agrees
+pub mod Bodies
 pub mod Given
 pub mod InStep
 pub mod Kinds
