@@ -7,12 +7,13 @@ pub mod Assigning
 pub mod Assignments
 pub mod Begun
 pub mod BegunProcess
-pub mod BodyItems
 pub mod Binding
 pub mod BlockStores
 pub mod Blocks
 pub mod BlocksInCalls
 pub mod BlocksInComponents
+pub mod BodiesKept
+pub mod BodyItems
 pub mod CallArguments
 pub mod CallRuns
 pub mod CallSteps

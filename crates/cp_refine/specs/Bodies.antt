@@ -1,8 +1,8 @@
 -- Which statements and items stand in the body of a routine or of an initial statement.
 use Rattle.std.specs.Prelude.{◌≡◌, ℕ, ◌⊎◌, List, [], ◌∷◌}
-use Rattle.cp_tree.specs.Syntax.{Expression, Start, Statement, empty, assign, invoke, block, if_then, if_else, case_of, while_do, repeat_until, for_do, cycle, init, Statements, no_statements, more_statements, Arms, no_arms, more_arms, arm}
+use Rattle.cp_tree.specs.Syntax.{Expression, Start, Statement, block, if_then, if_else, case_of, while_do, repeat_until, for_do, cycle, init, Statements, no_statements, more_statements, Arms, no_arms, more_arms, arm}
 use Rattle.cp_meaning.specs.Scopes.{Scope}
-use Rattle.cp_meaning.specs.State.{Item, statement_item, function_call, start_item, until, successor, return, init_end, end}
+use Rattle.cp_meaning.specs.State.{Item, statement_item, function_call, start_item, until, successor}
 use Rattle.cp_refine.specs.Remaining.{calls_before}
 
 -- ---- statements

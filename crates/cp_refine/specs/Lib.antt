@@ -8,3 +8,4 @@ pub mod Named
 pub mod PlainValues
 pub mod Remaining
 pub mod Represents
+pub mod RoutinesKnown
