@@ -1,5 +1,6 @@
 -- What one item does keeps that all that is still to be done stands in the bodies of the open calls' routines.
-use Rattle.std.proofs.Common.{◌≡◌, ◌∙◌, ◌⊎◌, inl, inr, ℕ, ◌<◌, ◌≤◌, ◌==◌, ℤ, Bool, true, false, if◌then◌else◌, List, [], ◌∷◌, ◌++◌, length, get_or, set, slice_set, Option, Some, None, Ok, Err, ap, sym, refl, subst}
+use Rattle.std.proofs.Common.{◌≡◌, ◌∙◌, ◌⊎◌, inl, inr, ℕ, ◌<◌, ◌≤◌, ◌==◌, ℤ, Bool, true, false, if◌then◌else◌, List, [], ◌∷◌, ◌++◌, length, get_or, set, slice_set, Option, Some, None, Ok, Err, ap, sym, refl, subst, eq-eqb}
+use Rattle.std.specs.Prelude.{◌&&◌, ◌||◌}
 use Rattle.cp_tree.specs.declared.constant.Identifier.{Identifier}
 use Rattle.cp_tree.specs.declared.statement.Direction.{Direction}
 use Rattle.cp_tree.specs.declared.declaration.SystemKind.{SystemKind}
@@ -11,7 +12,7 @@ use Rattle.cp_meaning.specs.Values.{Value, number_value, queue_value, number_of,
 use Rattle.cp_meaning.specs.Scopes.{Meaning, constant_meaning, type_meaning, local_variable, permanent_variable, routine_meaning, standard_meaning, delay_procedure, continue_procedure, display_procedure, Scope, find}
 use Rattle.cp_meaning.specs.Declarations.{RoutineMeaning}
 use Rattle.cp_meaning.specs.Systems.{system_of}
-use Rattle.cp_meaning.specs.State.{Holder, in_call, in_component, Place, Environment, Component, component_at, no_component, CallKind, own_statement, initial_statement, local_routine, entry_routine, Call, current, callers, Item, statement_item, function_call, start_item, until, successor, return, init_end, end}
+use Rattle.cp_meaning.specs.State.{Holder, in_call, in_component, Place, Environment, Component, component_at, no_component, CallKind, own_statement, initial_statement, local_routine, entry_routine, Call, current, callers, is_entry_kind, has_entry, Item, statement_item, function_call, start_item, until, successor, return, init_end, end}
 use Rattle.cp_meaning.specs.Steps.{first_components}
 use Rattle.cp_meaning.specs.Places.{View, Target, target_named, value_at, stored, this_call, this_component, plain_place, component_there, with_environment, with_call_environment, with_environment_of}
 use Rattle.cp_meaning.specs.Operations.{same_integer, is_true, checked}
@@ -20,11 +21,13 @@ use Rattle.cp_meaning.specs.Lifting.{items_of, items_of_all, until_items}
 use Rattle.cp_meaning.specs.Move.{Move, enters, stays, delays, starts, ends, Doing}
 use Rattle.cp_meaning.specs.Calls.{bound, opened, is_initialised, is_uninitialised, entered_as, with_move, with_items, entered, called_as, called, initial, initialised_in, started_as, started}
 use Rattle.cp_meaning.specs.LocalRules.{scope_here, becomes, assigned, arm_for, has_label, is_beyond, goes_on_with, queue_free, delayed_in, after_return, continued_from, in_place_of, argument_of, invoked, does, outer, with_result, leaving_move, return_move, returned, finished, takes}
-use Rattle.cp_meaning.proofs.Frames.{at_set, Frame, frames, ItemsFit as FramesFit}
+use Rattle.cp_meaning.proofs.Frames.{at_set, Frame, frames, Descends, ItemsFit as FramesFit}
+use Rattle.cp_meaning.proofs.Good.{or_right}
 use Rattle.cp_resolved.specs.Layouts.{Layouts}
 use Rattle.cp_resolved.specs.Resolved.{initial_meaning}
 use Rattle.cp_refine.specs.Bodies.{IsAmong, IsAmongArms, IsWithin, inside, ItemStands, AllStand}
 use Rattle.cp_refine.specs.RoutinesKnown.{Traits, scope_of, body_of, CalledAs, RoutinesKnown, KindFits, QuietAbove, CallsFit, ItemsFit, StandsInBodies}
+use Rattle.cp_refine.proofs.Assigning.{entries_kept}
 use Rattle.cp_refine.proofs.BodyItems.{statement_stands, all_stand, body_stands, until_stands, stand_append}
 
 -- ---- lists of items
@@ -82,15 +85,15 @@ systems_stored p v q w k = systems_holder p v q.holder _ k
 
 -- ---- an item of a process whose innermost call executes the routine n
 
--- who delays does so in a routine that is not quiet
-abbrev pub MoveFits : Program → Layouts → Traits → List Call → Move → Type 0
-MoveFits p l f calls (delays m) = (n : ℕ) × (ns : List ℕ) × CallsFit p l f calls (n ∷ ns) × ((current calls).component ≡ m) × (f.quiet n ≡ false)
-MoveFits p l f calls move = Unit {0}
+-- who waits in a queue of a monitor has an open entry call of it
+abbrev pub MoveFits : Program → List Call → Move → Type 0
+MoveFits p calls (delays m) = (component_at (first_components p) m).kind ≡ system_kind.Monitor → has_entry m calls ≡ true
+MoveFits p calls move = Unit {0}
 
 pub record DoingFits (p : Program) (l : Layouts) (f : Traits) (d : Doing) : Type 0 where
   pub stands : StandsInBodies p l f d.calls d.items
   pub systems : SystemsKept p d.components
-  pub moves : MoveFits p l f d.calls d.move
+  pub moves : MoveFits p d.calls d.move
 
 abbrev pub OutcomeFits : Program → Layouts → Traits → Outcome Doing → Type 0
 OutcomeFits p l f (Ok d) = DoingFits p l f d
@@ -104,8 +107,39 @@ outcome_if : (p : Program) (l : Layouts) (f : Traits) (b : Bool) (x y : Outcome 
 outcome_if p l f true x y h k = h
 outcome_if p l f false x y h k = k
 
+module _ (p : Program) (l : Layouts) (f : Traits) (cs : List Component) (kinds : (m : ℕ) → (component_at cs m).kind ≡ (component_at (first_components p) m).kind) where
+  -- what is to be shown of the calls below
+  abbrev LoudBelow : List Call → List ℕ → Type 0
+  LoudBelow (d ∷ calls) (m ∷ ns) = CallsFit p l f (d ∷ calls) (m ∷ ns) → Descends cs (frames (d ∷ calls)) → f.quiet m ≡ false → (component_at cs d.component).kind ≡ system_kind.Monitor → has_entry d.component (d ∷ calls) ≡ true
+  LoudBelow calls ns = Unit {0}
+
+  -- a routine of a monitor that is not quiet is executed below an open entry call of it
+  loud_kind : (c : Call) (calls : List Call) (n : ℕ) (ns : List ℕ) (k : CallKind) → c.kind ≡ k → CallsFit p l f (c ∷ calls) (n ∷ ns) → Descends cs ((k, c.component) ∷ frames calls) → f.quiet n ≡ false → (component_at cs c.component).kind ≡ system_kind.Monitor →
+      LoudBelow calls ns → has_entry c.component (c ∷ calls) ≡ true
+  loud_kind c calls n ns entry_routine e fits order loud mon below = ap (λ (k : CallKind). (is_entry_kind k && c.component == c.component) || has_entry c.component calls) e ∙ ap (λ (b : Bool). b || has_entry c.component calls) (eq-eqb c.component c.component refl)
+  loud_kind c calls n ns initial_statement e fits order loud mon below =
+      let quiet = (subst (λ k. KindFits p f k c.component n) e fits.0.kind).1 (sym (kinds c.component) ∙ mon) in
+      absurd (let bad : true ≡ false = sym quiet ∙ loud in cc)
+  loud_kind c [] n ns own_statement e fits order loud mon below = absurd (let bad : system_kind.Process ≡ system_kind.Monitor = sym order ∙ mon in cc)
+  loud_kind c (d ∷ calls) n ns own_statement e fits order loud mon below = absurd order.0
+  loud_kind c [] n ns local_routine e fits order loud mon below = absurd order
+  loud_kind c (d ∷ calls) n [] local_routine e fits order loud mon below = absurd fits.2
+  loud_kind c (d ∷ calls) n (m ∷ ns) local_routine e fits order loud mon below =
+      let here = below fits.2 order.1 (not_quiet (f.quiet m) refl) (subst (λ j. (component_at cs j).kind ≡ system_kind.Monitor) order.0 mon) in
+      or_right (is_entry_kind c.kind && c.component == c.component) (has_entry c.component (d ∷ calls)) (subst (λ j. has_entry j (d ∷ calls) ≡ true) (sym order.0) here)
+    where
+      not_quiet : (b : Bool) → f.quiet m ≡ b → f.quiet m ≡ false
+      not_quiet false h = h
+      not_quiet true h = absurd (let bad : true ≡ false = sym (subst (λ k. QuietAbove f k n (m ∷ ns)) e fits.1 h) ∙ loud in cc)
+
+  pub loud_entry : (c : Call) (calls : List Call) (n : ℕ) (ns : List ℕ) → CallsFit p l f (c ∷ calls) (n ∷ ns) → Descends cs (frames (c ∷ calls)) → f.quiet n ≡ false → (component_at cs c.component).kind ≡ system_kind.Monitor → has_entry c.component (c ∷ calls) ≡ true
+  loud_entry c [] n ns fits order loud mon = loud_kind c [] n ns c.kind refl fits order loud mon tt
+  loud_entry c (d ∷ calls) n [] fits order loud mon = absurd fits.2
+  loud_entry c (d ∷ calls) n (m ∷ ns) fits order loud mon = loud_kind c (d ∷ calls) n (m ∷ ns) c.kind refl fits order loud mon (loud_entry d calls m ns)
+
 module _ (p : Program) (l : Layouts) (f : Traits) (known : RoutinesKnown p l f) (c : Call) (calls : List Call) (cs : List Component) (pid n : ℕ) (ns : List ℕ)
-    (fits : CallsFit p l f (c ∷ calls) (n ∷ ns)) (systems : SystemsKept p cs) where
+    (fits : CallsFit p l f (c ∷ calls) (n ∷ ns)) (systems : SystemsKept p cs)
+    (order : Descends cs (frames (c ∷ calls))) (kinds : (m : ℕ) → (component_at cs m).kind ≡ (component_at (first_components p) m).kind) where
   abbrev v : View
   v = record { program = p; calls = c ∷ calls; components = cs }
 
@@ -132,7 +166,7 @@ module _ (p : Program) (l : Layouts) (f : Traits) (known : RoutinesKnown p l f) 
   alike_stored : (u : View) (q : Place) (w : Value) → Alike u → Alike (stored u q w)
   alike_stored u q w a = record { still_fits = fit_stored p l f u (n ∷ ns) q w a.still_fits; still_systems = systems_stored p u q w a.still_systems }
 
-  items_fit : (u : View) (items : List Item) (move : Move) → Alike u → ItemsFit l (n ∷ ns) items → MoveFits p l f u.calls move → DoingFits p l f (with_move (with_items u items) move)
+  items_fit : (u : View) (items : List Item) (move : Move) → Alike u → ItemsFit l (n ∷ ns) items → MoveFits p u.calls move → DoingFits p l f (with_move (with_items u items) move)
   items_fit u items move a k moves = record { stands = record { numbers = n ∷ ns; executes = a.still_fits; remains = k }; systems = a.still_systems; moves = moves }
 
   becomes_fit : (u : View) (items : List Item) → Alike u → ItemsFit l (n ∷ ns) items → Fits (becomes u items)
@@ -169,7 +203,7 @@ module _ (p : Program) (l : Layouts) (f : Traits) (known : RoutinesKnown p l f) 
 
   -- ---- calls
 
-  above : (d : ℕ) (kind : CallKind) (r : RoutineMeaning) (k : ℕ) (o : Option Name) (items : List Item) (e : Environment) → r ≡ l.meanings k → KindFits p f kind d k → QuietAbove f kind k (n ∷ ns) → (r.result ≡ None → o ≡ None) → ItemsFit l (n ∷ ns) items → (move : Move) → MoveFits p l f (opened v d kind r o items e).calls move →
+  above : (d : ℕ) (kind : CallKind) (r : RoutineMeaning) (k : ℕ) (o : Option Name) (items : List Item) (e : Environment) → r ≡ l.meanings k → KindFits p f kind d k → QuietAbove f kind k (n ∷ ns) → (r.result ≡ None → o ≡ None) → ItemsFit l (n ∷ ns) items → (move : Move) → MoveFits p (opened v d kind r o items e).calls move →
       DoingFits p l f (with_move (opened v d kind r o items e) move)
   above d kind r k o items e same fit quiet gives rest move moves =
       record {
@@ -248,7 +282,7 @@ module _ (p : Program) (l : Layouts) (f : Traits) (known : RoutinesKnown p l f) 
 
   -- ---- ends of calls
 
-  ended_fits : (u : View) (items : List Item) (move : Move) → CallsFit p l f u.calls ns → SystemsKept p u.components → ItemsFit l ns items → MoveFits p l f u.calls move → DoingFits p l f (with_move (with_items u items) move)
+  ended_fits : (u : View) (items : List Item) (move : Move) → CallsFit p l f u.calls ns → SystemsKept p u.components → ItemsFit l ns items → MoveFits p u.calls move → DoingFits p l f (with_move (with_items u items) move)
   ended_fits u items move a k rest moves = record { stands = record { numbers = ns; executes = a; remains = rest }; systems = k; moves = moves }
 
   result_fits : (o : Option Name) → CallsFit p l f (with_result v o).calls ns × SystemsKept p (with_result v o).components
@@ -258,12 +292,12 @@ module _ (p : Program) (l : Layouts) (f : Traits) (known : RoutinesKnown p l f) 
       let w = value_at v (plain_place (this_call v) result_name) in
       (fit_stored p l f (outer v) ns there w fits.2, systems_stored p (outer v) there w systems)
 
-  leaving_fits : (k : SystemKind) (m : ℕ) (xs : List Call) → MoveFits p l f xs (leaving_move k m)
+  leaving_fits : (k : SystemKind) (m : ℕ) (xs : List Call) → MoveFits p xs (leaving_move k m)
   leaving_fits system_kind.Monitor m xs = tt
   leaving_fits system_kind.Class m xs = tt
   leaving_fits system_kind.Process m xs = tt
 
-  return_fits : (b : Bool) (k : SystemKind) (m : ℕ) (xs : List Call) → MoveFits p l f xs (if b then leaving_move k m else stays)
+  return_fits : (b : Bool) (k : SystemKind) (m : ℕ) (xs : List Call) → MoveFits p xs (if b then leaving_move k m else stays)
   return_fits true k m xs = leaving_fits k m xs
   return_fits false k m xs = tt
 
@@ -320,19 +354,11 @@ module _ (p : Program) (l : Layouts) (f : Traits) (known : RoutinesKnown p l f) 
   delayed_fits : (o : Option ℕ) (items : List Item) (q : Place) → f.quiet n ≡ false → ItemsFit l (n ∷ ns) items → Fits (queue_free o >>= λ x. Ok (with_move (with_items (stored v q (queue_value (Some pid))) items) (delays c.component)))
   delayed_fits None items q loud rest =
       let a = alike_stored v q (queue_value (Some pid)) alike in
-      items_fit (stored v q (queue_value (Some pid))) items (delays c.component) a rest (n, ns, a.still_fits, top_stored q (queue_value (Some pid)), loud)
+      items_fit (stored v q (queue_value (Some pid))) items (delays c.component) a rest (λ mon. entries_same c.component q.holder _ ∙ loud_entry p l f cs kinds c calls n ns fits order loud (kinds c.component ∙ mon))
     where
-      -- the innermost call is one of the same component
-      top_if : (b : Bool) (e : Environment) (below : ℕ) → (current (if b then with_environment c e ∷ calls else c ∷ with_call_environment calls below e)).component ≡ c.component
-      top_if true e below = refl
-      top_if false e below = refl
-
-      top_holder : (h : Holder) (e : Environment) → (current (with_environment_of v h e).calls).component ≡ c.component
-      top_holder (in_call below) e = top_if (length calls == below) e below
-      top_holder (in_component m) e = refl
-
-      top_stored : (q : Place) (w : Value) → (current (stored v q w).calls).component ≡ c.component
-      top_stored q w = top_holder q.holder _
+      entries_same : (m : ℕ) (h : Holder) (e : Environment) → has_entry m (with_environment_of v h e).calls ≡ has_entry m (c ∷ calls)
+      entries_same m (in_call below) e = entries_kept m below e (c ∷ calls)
+      entries_same m (in_component k) e = refl
   delayed_fits (Some r) items q loud rest = tt
 
   place_fits : (d : Option Designator) (go : Place → Outcome Doing) (items : List Item) → ItemsFit l (n ∷ ns) items → ((q : Place) → Fits (go q)) → Fits (in_place_of v d go items)
