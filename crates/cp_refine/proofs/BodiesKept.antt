@@ -12,7 +12,7 @@ use Rattle.cp_meaning.specs.Values.{Value, number_value, queue_value, number_of,
 use Rattle.cp_meaning.specs.Scopes.{Meaning, constant_meaning, type_meaning, local_variable, permanent_variable, routine_meaning, standard_meaning, delay_procedure, continue_procedure, display_procedure, Scope, find}
 use Rattle.cp_meaning.specs.Declarations.{RoutineMeaning}
 use Rattle.cp_meaning.specs.Systems.{system_of}
-use Rattle.cp_meaning.specs.State.{Holder, in_call, in_component, Place, Environment, Component, component_at, no_component, CallKind, own_statement, initial_statement, local_routine, entry_routine, Call, current, callers, is_entry_kind, has_entry, Item, statement_item, function_call, start_item, until, successor, return, init_end, end}
+use Rattle.cp_meaning.specs.State.{Holder, in_call, in_component, Place, Environment, Component, component_at, no_component, CallKind, own_statement, initial_statement, local_routine, entry_routine, Call, callers, is_entry_kind, has_entry, Item, statement_item, function_call, start_item, until, successor, return, init_end, end}
 use Rattle.cp_meaning.specs.Steps.{first_components}
 use Rattle.cp_meaning.specs.Places.{View, Target, target_named, value_at, stored, this_call, this_component, plain_place, component_there, with_environment, with_call_environment, with_environment_of}
 use Rattle.cp_meaning.specs.Operations.{same_integer, is_true, checked}
