@@ -13,6 +13,9 @@ pub mod BlockStores
 pub mod Blocks
 pub mod BlocksInCalls
 pub mod BlocksInComponents
+pub mod BodiesInReached
+pub mod BodiesKept
+pub mod BodyItems
 pub mod CallArguments
 pub mod CallFitting
 pub mod CallRuns

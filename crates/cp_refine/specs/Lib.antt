@@ -1,4 +1,5 @@
 pub mod Agrees
+pub mod Bodies
 pub mod ComponentNames
 pub mod Given
 pub mod InStep
@@ -11,5 +12,6 @@ pub mod PlainValues
 pub mod Prepared
 pub mod Remaining
 pub mod Represents
+pub mod RoutinesKnown
 pub mod StatesKnown
 pub mod WholeLaw
