@@ -1,14 +1,13 @@
 -- A call of a component that is found fits: there is room for the frame, and the routine is one of the component's system type.
-use Rattle.std.proofs.Common.{◌≡◌, ◌∙◌, ℕ, ◌+◌, ◌^◌, ◌<◌, ◌≤◌, List, ◌∷◌, Option, ap, sym, refl, subst, arith, length}
-use Rattle.cp_tree.specs.Syntax.{Tree, Program}
-use Rattle.cp_slots.specs.Code as code
+use Rattle.std.proofs.Common.{◌∙◌, ℕ, ◌<◌, List, ◌∷◌, sym, refl, arith, length}
+use Rattle.cp_tree.specs.Syntax.{Tree}
 use Rattle.cp_slots.specs.declared.place.Argument.{Argument}
 use Rattle.cp_slots.specs.Fits.{CallFits, RoutineFits}
 use Rattle.cp_slots.specs.Systems.{IsOf}
-use Rattle.cp_slots.specs.Tables.{Tables, component_at, routine_at}
+use Rattle.cp_slots.specs.Tables.{Tables, routine_at}
 use Rattle.cp_machine.specs.declared.process.Entry.{Entry}
 use Rattle.cp_machine.specs.Calls.{frame_behind}
-use Rattle.cp_machine.specs.Fits.{FrameFits, StackFits, MachineFits, size_of}
+use Rattle.cp_machine.specs.Fits.{FrameFits, StackFits, MachineFits}
 use Rattle.cp_machine.specs.Machine.{Machine, thread_at}
 use Rattle.cp_machine.specs.Memory.{memory_at}
 use Rattle.cp_resolved.specs.Layouts.{Layouts}
@@ -29,7 +28,7 @@ module _ (t : Tree) (r : Tables) (l : Layouts) (prepared : Prepared t r l) (m : 
   can_open n =
       let thread = thread_fits t r l prepared m q fits many in
       let words = prepared.sound.typed.words in
-      let known = prepared.routines number call.routine in
+      let known = prepared.program.routines number call.routine in
       record {
         routine = prepared.stands.routines number call.routine;
         base = refl;

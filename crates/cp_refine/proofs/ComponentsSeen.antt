@@ -8,7 +8,7 @@ use Rattle.cp_store.specs.Memory.{Memory, onward}
 use Rattle.cp_machine.specs.Machine.{Machine}
 use Rattle.cp_meaning.specs.Components.{Path, step_down}
 use Rattle.cp_meaning.specs.Names.{Name}
-use Rattle.cp_meaning.specs.Types.{Ty, Range, component_of, array_over, has_components}
+use Rattle.cp_meaning.specs.Types.{Ty, component_of, array_over}
 use Rattle.cp_meaning.specs.Scopes.{permanent_variable, find}
 use Rattle.cp_meaning.specs.State as named
 use Rattle.cp_meaning.specs.State.{Call, current, knows, State}
@@ -31,7 +31,7 @@ module _ (g : Ground) (p : Program) (l : Layouts) (s : State) (m : Machine) (rep
     (stands : resolved.ComponentIs g p l f.component)
     -- no step changes the tree of components
     (tree : (path : Path) → component_with path s.components ≡ component_with path (first_components p)) (same_path : (named.component_at s.components f.component).path ≡ (named.component_at (first_components p) f.component).path)
-    (few : length s.components < 2 ^ 64) (few_slots : (x : Name) → f.own + (l.systems (component_at g.tables f.component).system).slots x < 2 ^ 64)
+    (few : length s.components < 2 ^ 64) (few_slots : (x : Name) (u : Ty) → look x (l.systems (component_at g.tables f.component).system).parts ≡ Some u → f.own + (l.systems (component_at g.tables f.component).system).slots x < 2 ^ 64)
     (begun : HasBegun s (component_at g.tables f.component).kind (named.component_at s.components f.component).status)
     (names : NamesKnown p l f.routine (component_at g.tables f.component).system) where
   abbrev view : View
@@ -55,7 +55,7 @@ module _ (g : Ground) (p : Program) (l : Layouts) (s : State) (m : Machine) (rep
 
   parameter_known : (x : Name) (k : ℕ) → find x (l.meanings f.routine).scope ≡ Some (permanent_variable (component_of k)) → is_parameter x (system_of p system).parameters ≡ true → content_of x (own_component view).environment ≡ Some (knows (slice_index_or m.bindings (onward f.own ((l.systems system).slots x)) 0))
   parameter_known x k e d =
-      let at : onward f.own ((l.systems system).slots x) ≡ (component_at g.tables f.component).base + (l.systems system).slots x = (let less = few_slots x in let same : f.own + (l.systems system).slots x ≡ (component_at g.tables f.component).base + (l.systems system).slots x = ap (λ n. n + (l.systems system).slots x) call.own in omega (arith, less, same)) in
+      let at : onward f.own ((l.systems system).slots x) ≡ (component_at g.tables f.component).base + (l.systems system).slots x = (let less = few_slots x (component_of k) (names.parameter x k e d) in let same : f.own + (l.systems system).slots x ≡ (component_at g.tables f.component).base + (l.systems system).slots x = ap (λ n. n + (l.systems system).slots x) call.own in omega (arith, less, same)) in
       ap (λ c. content_of x (named.component_at s.components c).environment) own_is ∙ ((rep.components f.component there).parts x (component_of k) (names.parameter x k e d) begun ∙ ap (λ n. Some (knows (slice_index_or m.bindings n 0))) (sym at))
 
   no_content : (x : Name) → (look x (l.systems system).variables ≡ None) × (look x (l.systems system).parts ≡ None) → content_of x (own_component view).environment ≡ None

@@ -1,36 +1,29 @@
 -- What prepared tables, and a machine inside them, say of a process: its routine stands, its memory is few, and variables are apart.
-use Rattle.std.proofs.Common.{◌≡◌, ℕ, ◌+◌, ◌^◌, ◌<◌, ◌≤◌, true, List, Some, subst, arith, length}
+use Rattle.std.proofs.Common.{◌≡◌, ℕ, ◌^◌, ◌<◌, true, List, arith, length}
 use Rattle.cp_tree.specs.Syntax.{Tree}
 use Rattle.cp_slots.specs.Fits.{RoutineFits}
 use Rattle.cp_slots.specs.Systems.{AreWords}
 use Rattle.cp_slots.specs.Tables.{Tables, component_at, routine_at}
-use Rattle.cp_store.specs.declared.memory.Frame.{Frame}
 use Rattle.cp_machine.specs.declared.process.Entry.{Entry}
 use Rattle.cp_machine.specs.Fits.{FrameFits, StackFits, ThreadFits, MachineFits, size_of}
 use Rattle.cp_machine.specs.Machine.{Machine, Thread, thread_at}
 use Rattle.cp_machine.proofs.Keeping.{frame_fits}
-use Rattle.cp_meaning.specs.Names.{Name}
-use Rattle.cp_meaning.specs.Types.{Ty, queue_type}
-use Rattle.cp_meaning.specs.Values.{Choice}
-use Rattle.cp_resolved.specs.Encoded.{chosen_at}
-use Rattle.cp_resolved.specs.Layouts.{Layouts, look}
-use Rattle.cp_resolved.specs.Resolved.{RoutineIs, SystemIs}
+use Rattle.cp_meaning.specs.Types.{Ty}
+use Rattle.cp_resolved.specs.Layouts.{Layouts}
+use Rattle.cp_resolved.specs.Resolved.{SystemIs}
 use Rattle.cp_resolved.specs.Standing.{is_free}
-use Rattle.cp_refine.specs.Agrees.{Few}
 use Rattle.cp_refine.specs.Law.{ground_of}
 use Rattle.cp_refine.specs.Prepared.{Prepared}
-use Rattle.cp_refine.specs.Represents.{frames_of}
 use Rattle.cp_refine.proofs.Apart.{frame_apart, frames_apart, components_apart}
 use Rattle.cp_refine.proofs.BlockStores.{VariablesApart}
 use Rattle.cp_refine.proofs.DesignatedTypes.{NamesTyped}
 use Rattle.cp_refine.proofs.FreeParts.{unqueued_free}
-use Rattle.cp_refine.proofs.LocalBlocks.{CallsApart}
 use Rattle.cp_refine.proofs.Running.{Executes}
 use Rattle.cp_refine.proofs.Writing.{ComponentsApart}
 
 module _ (t : Tree) (r : Tables) (l : Layouts) (prepared : Prepared t r l) where
   pub systems_stand : (n : ℕ) → n < length r.components → SystemIs (ground_of t r) t.program l (component_at r n).system
-  systems_stand n h = prepared.stands.systems (component_at r n).system (prepared.below n h)
+  systems_stand n h = prepared.stands.systems (component_at r n).system (prepared.program.below n h)
 
   pub variables_of_components : ComponentsApart r l
   variables_of_components = components_apart (ground_of t r) t.program l prepared.sound.typed systems_stand
@@ -70,8 +63,8 @@ module _ (t : Tree) (r : Tables) (l : Layouts) (prepared : Prepared t r l) where
 
     pub names_typed : NamesTyped l thread.frame.routine
     names_typed =
-        let k = prepared.routines thread.frame.routine own_frame.routine in
-        record { fit = k.fit; sets = k.sets; result = k.result; simple = λ u e. prepared.results thread.frame.routine u e }
+        let k = prepared.program.routines thread.frame.routine own_frame.routine in
+        record { fit = k.fit; result = k.result }
 
     -- a value of a type without queues is no part of a variable with queues
     pub variables_apart : (es : List Entry) → StackFits r thread.frame es → (u : Ty) → is_free u ≡ true → VariablesApart (ground_of t r) l m q es u
@@ -84,7 +77,7 @@ module _ (t : Tree) (r : Tables) (l : Layouts) (prepared : Prepared t r l) where
           };
           permanents = record {
             apart = variables_of_components;
-            parts_apart = prepared.systems.apart;
-            unqueued = λ n x v cs ds o j known e g. unqueued_free v cs ds o j u (prepared.systems.standing n x v known) free e g;
+            parts_apart = prepared.program.systems.apart;
+            unqueued = λ n x v cs ds o j known e g. unqueued_free v cs ds o j u (prepared.program.systems.standing n x v known) free e g;
           };
         }

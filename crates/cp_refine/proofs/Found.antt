@@ -1,8 +1,7 @@
 -- The component that the place of an item leads to is one of the system type that the item wants.
-use Rattle.std.proofs.Common.{◌≡◌, ◌∙◌, ℕ, ◌<◌, true, List, ◌∷◌, ap, sym, refl, subst, length}
+use Rattle.std.proofs.Common.{◌≡◌, ℕ, ◌<◌, List, ◌∷◌, ap, subst, length}
 use Rattle.std.specs.Prelude.{Ok}
 use Rattle.cp_slots.specs.Code as code
-use Rattle.cp_slots.specs.declared.item.Action.{Action}
 use Rattle.cp_slots.specs.declared.place.ComponentPlace.{ComponentPlace}
 use Rattle.cp_slots.specs.declared.place.ComponentPlace.TheVariants.{Own, Contained, Element, Parameter}
 use Rattle.cp_slots.specs.Fits.{IsSound, ActionFits}
@@ -10,7 +9,6 @@ use Rattle.cp_slots.specs.Systems.{Names, IsOf, ActionNames}
 use Rattle.cp_slots.specs.Tables.{Tables, item_at, routine_at}
 use Rattle.cp_machine.specs.declared.process.Entry.{Entry}
 use Rattle.cp_machine.specs.declared.process.Entry.TheVariants.{Rest}
-use Rattle.cp_machine.specs.declared.process.Status.{Status}
 use Rattle.cp_machine.specs.declared.process.Status.TheVariants as status
 use Rattle.cp_machine.specs.Fits.{EntryFits, StackFits, MachineFits}
 use Rattle.cp_machine.specs.Machine.{Machine, thread_at, is_ready_status}

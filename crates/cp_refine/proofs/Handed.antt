@@ -35,8 +35,9 @@ pub record CanStart (g : Ground) (l : Layouts) (s : State) (m : Machine) (mem : 
   pub permanents : mem.permanents ≡ m.permanents
   pub typed : IsTyped g.tables
   pub hand : CanHand (l.systems (component_at g.tables d).system) mem m.bindings (component_at g.tables d).base (system_at g.tables (component_at g.tables d).system).own
-  pub cells : (k : ℕ) (x : Name) (t : Ty) → look x (l.systems k).variables ≡ Some t → (l.systems k).slots x + cells_of t ≤ (system_at g.tables k).own
-  pub inside : (k : ℕ) (x : Name) (t : Ty) → look x (l.systems k).parts ≡ Some t → (l.systems k).slots x < (system_at g.tables k).own
+  -- what components have lies in their own cells
+  pub cells : (i : ℕ) → i < length g.tables.components → (x : Name) (t : Ty) → look x (l.systems (component_at g.tables i).system).variables ≡ Some t → (l.systems (component_at g.tables i).system).slots x + cells_of t ≤ (system_at g.tables (component_at g.tables i).system).own
+  pub inside : (i : ℕ) → i < length g.tables.components → (x : Name) (t : Ty) → look x (l.systems (component_at g.tables i).system).parts ≡ Some t → (l.systems (component_at g.tables i).system).slots x < (system_at g.tables (component_at g.tables i).system).own
   pub parameters : SystemParametersAre (l.systems (component_at g.tables d).system) qs
   pub distinct : AreDifferent qs
   pub not_both : (x : Name) (t u : Ty) → look x (l.systems (component_at g.tables d).system).parts ≡ Some t → look x (l.systems (component_at g.tables d).system).variables ≡ Some u → ⊥
@@ -164,7 +165,7 @@ module _ (g : Ground) (p : Program) (l : Layouts) (s : State) (m : Machine) (rep
                 typed = lies.typed;
                 cells = (let a = (lies_first t _ _ lies).cells in let b = hands.many in omega (arith, a, b));
                 block = λ j small.
-                    (let room = can.cells (component_at g.tables i).system x t k in
+                    (let room = can.cells i less x t k in
                     let at : (component_at g.tables i).base + ((l.systems (component_at g.tables i).system).slots x + j) ≡ (component_at g.tables i).base + (l.systems (component_at g.tables i).system).slots x + j = omega arith in
                     hands.outside ((component_at g.tables i).base + (l.systems (component_at g.tables i).system).slots x + j)
                     (subst (λ a. (a < base) ⊎ (base + own ≤ a)) at (away i ((l.systems (component_at g.tables i).system).slots x + j) less f (omega (arith, room, small, len))))
@@ -172,7 +173,7 @@ module _ (g : Ground) (p : Program) (l : Layouts) (s : State) (m : Machine) (rep
               }));
           parts = λ x t k b. ap (λ (c : Component). content_of x c.environment) all ∙ (before.parts x t k (subst (λ w. HasBegun s (component_at g.tables i).kind w) (ap (λ (c : Component). c.status) all) (begun i less f (named.component_at s2.components i).status b))
               ∙ ap (λ a. Some (knows a)) (sym (ap (λ ns. slice_index_or ns ((component_at g.tables i).base + (l.systems (component_at g.tables i).system).slots x) 0) bindings_are
-              ∙ hands.others ((component_at g.tables i).base + (l.systems (component_at g.tables i).system).slots x) (away i ((l.systems (component_at g.tables i).system).slots x) less f (can.inside (component_at g.tables i).system x t k)))));
+              ∙ hands.others ((component_at g.tables i).base + (l.systems (component_at g.tables i).system).slots x) (away i ((l.systems (component_at g.tables i).system).slots x) less f (can.inside i less x t k)))));
           others = λ x a b. ap (λ (c : Component). content_of x c.environment) all ∙ before.others x a b;
         }
 

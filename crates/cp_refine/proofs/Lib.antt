@@ -5,6 +5,7 @@ pub mod Apart
 pub mod Arguments
 pub mod Assigning
 pub mod Assignments
+pub mod Beginning
 pub mod Begun
 pub mod BegunProcess
 pub mod Binding
@@ -12,6 +13,9 @@ pub mod BlockStores
 pub mod Blocks
 pub mod BlocksInCalls
 pub mod BlocksInComponents
+pub mod BodiesInReached
+pub mod BodiesKept
+pub mod BodyItems
 pub mod CallArguments
 pub mod CallFitting
 pub mod CallRuns
@@ -41,6 +45,7 @@ pub mod Gates
 pub mod GivenUp
 pub mod Giving
 pub mod Going
+pub mod GoingInStep
 pub mod Handed
 pub mod Handing
 pub mod HoldsInReached
@@ -48,13 +53,13 @@ pub mod InitialEnding
 pub mod InitialOpened
 pub mod InitialStarts
 pub mod Kept
-pub mod KindsKnown
 pub mod LeastValues
 pub mod LettingIn
 pub mod Lists
 pub mod LocalBlocks
 pub mod Loops
 pub mod Members
+pub mod MonitorNumbers
 pub mod Moving
 pub mod NewFrame
 pub mod Numbers
@@ -66,6 +71,7 @@ pub mod PermanentBlocks
 pub mod Phases
 pub mod PlacesApart
 pub mod ProcessStarts
+pub mod ProgramOfTree
 pub mod QueueNames
 pub mod QueueParts
 pub mod QueueWriting
@@ -79,6 +85,7 @@ pub mod ReadyInReached
 pub mod Resumed
 pub mod Returning
 pub mod Rewriting
+pub mod RoutinesOfTree
 pub mod Running
 pub mod Seeing
 pub mod SetAssignments
@@ -91,11 +98,15 @@ pub mod StartFitting
 pub mod StartNames
 pub mod StepOfCall
 pub mod StepOfEnd
+pub mod StepOfItem
+pub mod StepOfProcess
 pub mod StepOfQueue
+pub mod StepOfStart
 pub mod StepOfStatement
 pub mod StepOfSuccessor
 pub mod Storing
 pub mod SystemKinds
+pub mod SystemsOfTree
 pub mod Turns
 pub mod Values
 pub mod VariableExpressions

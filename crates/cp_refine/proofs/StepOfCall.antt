@@ -1,10 +1,9 @@
 -- The step of a call, of a function or as a statement: it goes on slots as on names.
-use Rattle.std.proofs.Common.{◌≡◌, ◌∙◌, ℕ, ◌<◌, true, false, List, [], ◌∷◌, ◌++◌, Option, Some, None, ap, sym, refl, subst, length}
+use Rattle.std.proofs.Common.{◌≡◌, ◌∙◌, ℕ, true, false, List, [], ◌∷◌, Option, Some, None, ap, sym, subst}
 use Rattle.std.specs.Global.{Global}
 use Rattle.std.specs.Prelude.{Bool, Result, Ok, Err, Vec, map, slice_index}
-use Rattle.cp_tree.specs.Syntax.{Tree, Program, Expression, Expressions, no_expressions, more_expressions, Designator, invoke}
+use Rattle.cp_tree.specs.Syntax.{Tree, Program, Expressions, no_expressions, more_expressions, Designator, invoke}
 use Rattle.cp_slots.specs.Code as code
-use Rattle.cp_slots.specs.declared.item.Action.{Action}
 use Rattle.cp_slots.specs.declared.item.Action.TheVariants as action
 use Rattle.cp_slots.specs.declared.place.Argument.{Argument}
 use Rattle.cp_slots.specs.declared.place.ComponentPlace.{ComponentPlace}
@@ -22,7 +21,6 @@ use Rattle.cp_store.specs.declared.error.ErrorName as slots
 use Rattle.cp_meaning.specs.Names.{Name, temporary}
 use Rattle.cp_meaning.specs.Outcome.{Outcome, ErrorName}
 use Rattle.cp_meaning.specs.Places.{Target, component_there}
-use Rattle.cp_tree.specs.declared.declaration.SystemKind.TheVariants as system_kind
 use Rattle.cp_meaning.specs.Declarations.{Parameter, RoutineMeaning}
 use Rattle.cp_meaning.specs.Expressions.{name_of, target_value}
 use Rattle.cp_meaning.specs.Scopes.{Meaning, constant_meaning, type_meaning, local_variable, permanent_variable, routine_meaning, standard_meaning, find}
@@ -37,7 +35,6 @@ use Rattle.cp_resolved.specs.Layouts.{Layouts, Here, here}
 use Rattle.cp_resolved.specs.Stands.{Ground, CallItem, CalleeIs, result_cell}
 use Rattle.cp_resolved.specs.Standing.{is_free}
 use Rattle.cp_refine.specs.Given.{ComponentAgrees}
-use Rattle.cp_refine.specs.GoodSets.{has_good_sets}
 use Rattle.cp_refine.specs.ItemsKnown.{VariablesGiven, CallIsKnown}
 use Rattle.cp_refine.specs.Law.{ground_of}
 use Rattle.cp_refine.specs.Parameters.{HaveValues}
@@ -54,7 +51,7 @@ use Rattle.cp_refine.proofs.Found.{action_fits_here, action_names, found_of}
 use Rattle.cp_refine.proofs.FreeParts.{free_standing}
 use Rattle.cp_refine.proofs.Going.{Going}
 use Rattle.cp_refine.proofs.HoldsInReached.{HoldsInReached}
-use Rattle.cp_refine.proofs.KindsKnown.{kinds_agree, own_numbers, monitor_known, monitor_named}
+use Rattle.cp_refine.proofs.ReadyInReached.{ReadyInReached}
 use Rattle.cp_refine.proofs.Running.{Executes}
 use Rattle.cp_refine.proofs.StepOfStatement.{below_fits}
 use Rattle.cp_refine.proofs.SystemKinds.{process_type}
@@ -71,7 +68,7 @@ arguments_known : (h : Here) (qs : List Parameter) (es : Expressions) → HaveVa
 arguments_known h [] es v k = tt
 arguments_known h (q ∷ qs) no_expressions v k = tt
 arguments_known h (q ∷ qs) (more_expressions e es) v k =
-    (record { variable = k.0; range = λ plain. (range_known q.ty (free_standing q.ty v.0, v.1), no_component q.ty v.0) }, arguments_known h qs es v.2 k.1)
+    (record { variable = k.0; range = λ plain. (range_known q.ty (free_standing q.ty v.0), no_component q.ty v.0) }, arguments_known h qs es v.1 k.1)
 
 -- an entry is named by its component
 entry_named : (h : Here) (d : Designator) (w : Option Meaning) (part : code.ComponentPlace) (b : Bool) (number : ℕ) → CalleeIs h d w part b number → b ≡ true → designator_form h d ≡ Some (a_component part (h.layouts.owners number))
@@ -83,7 +80,7 @@ entry_named h d (Some (permanent_variable u)) part b number c e = c.0
 entry_named h d (Some (standard_meaning u)) part b number c e = c.0
 entry_named h d None part b number c e = c.0
 
-module _ (t : Tree) (r : Tables) (l : Layouts) (prepared : Prepared t r l) (s : State) (known : HoldsInReached t.program s) (m : Machine) (fits : MachineFits r m) (reach : Reaches r m) (q : ℕ) (going : Going (ground_of t r) t.program l s m q) (at : ℕ) (mid : Option ℕ) (es : List Entry) (xs ys : List Item) where
+module _ (t : Tree) (r : Tables) (l : Layouts) (prepared : Prepared t r l) (s : State) (known : HoldsInReached t.program s) (m : Machine) (ready : ReadyInReached (ground_of t r) t.program s m) (fits : MachineFits r m) (reach : Reaches r m) (q : ℕ) (going : Going (ground_of t r) t.program l s m q) (at : ℕ) (mid : Option ℕ) (es : List Entry) (xs ys : List Item) where
   abbrev g : Ground
   g = ground_of t r
 
@@ -119,10 +116,10 @@ module _ (t : Tree) (r : Tables) (l : Layouts) (prepared : Prepared t r l) (s : 
         let called = entry_named this d (find (name_of d) this.scope) ci.part ci.is_entry ci.number ci.called.callee is in
         record {
           component = agrees;
-          kinds = kinds_agree t r l prepared s known;
-          entries = λ n j f e. rules.entries ci.part (l.owners ci.number) called (ap (λ a. (system_of p a).kind) (sym (found_system n f)) ∙ process_type t r l prepared s known n (found n f).0 j e);
-          own = own_numbers t r l prepared;
-          known = λ n j e. monitor_known t r l prepared m fits n j e;
+          kinds = ready.kinds;
+          entries = λ n j f e. rules.entries ci.part (l.owners ci.number) called (ap (λ a. (system_of p a).kind) (sym (found_system n f)) ∙ process_type t r l prepared s known m ready n (found n f).0 j e);
+          own = ready.own;
+          known = ready.monitors;
           fresh = fresh_there;
         }
       where
@@ -140,17 +137,14 @@ module _ (t : Tree) (r : Tables) (l : Layouts) (prepared : Prepared t r l) (s : 
         fresh_there n j f e =
             let x = led n (target_value (view_of p s q) d) (component_of m q f.0) f.2 (agrees f.0 f.1) in
             subst (λ c. has_entry c (named.process_at s.processes q).calls ≡ false) x.1
-            (known.fresh q x.0 going.there going.was (λ b. no_process j (subst (λ c. (named.component_at s.components c).kind ≡ system_kind.Process) x.1 b)))
-          where
-            no_process : (j : ℕ) → (named.component_at s.components n).kind ≡ system_kind.Process → ⊥
-            no_process i b = let bad : system_kind.Process ≡ system_kind.Monitor = sym b ∙ monitor_named t r l prepared s known n j e in absurd cc
+            (ready.fresh q x.0 j going.there going.was (ap (λ c. (component_at r c).kind) x.1 ∙ e))
 
     call_fits : CallFits g p l s m q at token i mid es xs ys k ex d args o ci
     call_fits =
         record {
           can = λ n f. can_call t r l prepared m q fits going.many (item_at r at).need ci.number act_is.1.items room es (below_fits t r l prepared s m q at fits going.many mid es xs ys k.stack) n (found n f);
-          arguments = arguments_known this (l.meanings ci.number).parameters args (prepared.routines ci.number room.routine).parameters (rules.variables ci.number (ci.called.called ∙ ap (λ (w : RoutineMeaning). Some w) ci.called.same));
-          components = components_now t r l prepared s known m fits reach q going;
+          arguments = arguments_known this (l.meanings ci.number).parameters args (prepared.program.routines ci.number room.routine).parameters (rules.variables ci.number (ci.called.called ∙ ap (λ (w : RoutineMeaning). Some w) ci.called.same));
+          components = components_now t r l prepared s known m ready fits reach q going;
           entry = entry_known;
         }
 

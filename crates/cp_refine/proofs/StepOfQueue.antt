@@ -1,5 +1,5 @@
 -- The steps of `delay` and `continue`: they go on slots as on names.
-use Rattle.std.proofs.Common.{◌≡◌, ◌∙◌, ℕ, ◌^◌, ◌<◌, true, false, List, ◌∷◌, ◌++◌, Option, Some, None, ap, sym, refl, subst, length}
+use Rattle.std.proofs.Common.{◌≡◌, ◌∙◌, ℕ, ◌<◌, true, List, ◌∷◌, ◌++◌, Option, Some, None, ap, sym, refl, subst, length}
 use Rattle.std.specs.Prelude.{slice_index}
 use Rattle.cp_tree.specs.declared.declaration.SystemKind.{SystemKind}
 use Rattle.cp_tree.specs.declared.declaration.SystemKind.TheVariants as system_kind
@@ -16,9 +16,9 @@ use Rattle.cp_meaning.specs.Names.{Name}
 use Rattle.cp_meaning.specs.Expressions.{name_of}
 use Rattle.cp_meaning.specs.Lifting.{expression_calls, expressions_calls, designator_calls}
 use Rattle.cp_meaning.specs.Places.{this_component}
-use Rattle.cp_meaning.specs.Scopes.{standard_meaning, permanent_variable, delay_procedure, continue_procedure, find}
+use Rattle.cp_meaning.specs.Scopes.{standard_meaning, delay_procedure, continue_procedure, find}
 use Rattle.cp_meaning.specs.State as named
-use Rattle.cp_meaning.specs.State.{delayed, entry_routine, Call, callers, current, Item, statement_item, State, has_entry}
+use Rattle.cp_meaning.specs.State.{delayed, entry_routine, Call, current, Item, statement_item, State, has_entry}
 use Rattle.cp_meaning.specs.Steps.{view_of, step_of}
 use Rattle.cp_meaning.specs.Systems.{system_of}
 use Rattle.cp_meaning.specs.Types.{Ty, queue_type}
@@ -30,20 +30,19 @@ use Rattle.cp_refine.specs.ItemsKnown.{QueueKnown}
 use Rattle.cp_refine.specs.Kinds.{SameKind}
 use Rattle.cp_refine.specs.Law.{ground_of}
 use Rattle.cp_refine.specs.Prepared.{Prepared}
-use Rattle.cp_refine.specs.Represents.{CallsHold, own_memory}
-use Rattle.cp_refine.proofs.CallSteps.{call_component}
-use Rattle.cp_refine.proofs.ComponentsNow.{executed_there, executed_system}
+use Rattle.cp_refine.proofs.ComponentsNow.{executed_there, executed_system, current_component}
 use Rattle.cp_refine.proofs.Continuing.{MayContinue}
 use Rattle.cp_refine.proofs.ContinueSteps.{Ends, own_continue, continue_step}
-use Rattle.cp_refine.proofs.Control.{Taken, StepIs, scope_is, top_frame}
+use Rattle.cp_refine.proofs.Control.{Taken, StepIs, scope_is}
 use Rattle.cp_refine.proofs.Delayed.{MayDelay}
 use Rattle.cp_refine.proofs.Delaying.{QueueNamed, own_delay, delay_step}
 use Rattle.cp_refine.proofs.Executed.{executes, few_cells, variables_of_components}
 use Rattle.cp_refine.proofs.Going.{Going}
 use Rattle.cp_refine.proofs.HoldsInReached.{HoldsInReached}
 use Rattle.cp_refine.proofs.Kept.{kept_left, kept_right}
-use Rattle.cp_refine.proofs.KindsKnown.{own_numbers, monitor_known, kinds_agree, first_waits, others_outside, may_leave}
 use Rattle.cp_refine.proofs.QueueNames.{queue_named}
+use Rattle.cp_refine.proofs.ReadyInReached.{ReadyInReached}
+use Rattle.cp_refine.proofs.Returning.{MayLeave}
 use Rattle.cp_refine.proofs.Running.{Executes}
 use Rattle.cp_refine.proofs.StepOfStatement.{below_fits}
 use Rattle.cp_refine.proofs.SystemKinds.{kind_is}
@@ -60,7 +59,7 @@ no_result h None c e w = refl
 no_result h (Some x) None e w = absurd w
 no_result h (Some x) (Some u) e w = absurd (cc)
 
-module _ (t : Tree) (r : Tables) (l : Layouts) (prepared : Prepared t r l) (s : State) (known : HoldsInReached t.program s) (m : Machine) (fits : MachineFits r m) (reach : Reaches r m) (q : ℕ) (going : Going (ground_of t r) t.program l s m q) (at : ℕ) (mid : Option ℕ) (es : List Entry) (xs ys : List Item)
+module _ (t : Tree) (r : Tables) (l : Layouts) (prepared : Prepared t r l) (s : State) (known : HoldsInReached t.program s) (m : Machine) (ready : ReadyInReached (ground_of t r) t.program s m) (fits : MachineFits r m) (reach : Reaches r m) (q : ℕ) (going : Going (ground_of t r) t.program l s m q) (at : ℕ) (mid : Option ℕ) (es : List Entry) (xs ys : List Item)
     (token : ℕ) (d : Designator) (e : Expression) (more : Expressions) (k : Taken (ground_of t r) t.program l s m q at (statement_item (invoke token d (more_expressions e more))) mid es xs ys) (rules : QueueKnown (here t.program l (thread_at m.threads q).frame.routine) e) where
   abbrev g : Ground
   g = ground_of t r
@@ -82,17 +81,15 @@ module _ (t : Tree) (r : Tables) (l : Layouts) (prepared : Prepared t r l) (s : 
   ex = executes t r l prepared m q fits going.many
 
   this_is : n ≡ (thread_at m.threads q).frame.component
-  this_is =
-      let top = top_frame (thread_at m.threads q).frame es in
-      call_component r l (own_memory (thread_at m.threads q)) (named.process_at s.processes q).calls (thread_at m.threads q).frame top.0 (subst (λ fs. CallsHold r l (own_memory (thread_at m.threads q)) (named.process_at s.processes q).calls fs) top.1 k.calls)
+  this_is = current_component t r l prepared s known m ready fits reach q going
 
   there : n < length r.components
-  there = subst (λ c. c < length r.components) (sym this_is) (executed_there t r l prepared s known m fits reach q going)
+  there = subst (λ c. c < length r.components) (sym this_is) (executed_there t r l prepared s known m ready fits reach q going)
 
   monitor : (j : ℕ) × ((component_at r n).kind ≡ kind.Monitor j)
   monitor =
-      monitor_number (named.component_at s.components n).kind (component_at r n).kind (kinds_agree t r l prepared s known n there)
-      (kind_is t r l prepared s known n there ∙ (ap (λ c. (system_of p (component_at r c).system).kind) this_is ∙ (ap (λ a. (system_of p a).kind) (executed_system t r l prepared s known m fits reach q going) ∙ rules.monitor)))
+      monitor_number (named.component_at s.components n).kind (component_at r n).kind (ready.kinds n there)
+      (kind_is t r l prepared s known m ready n there ∙ (ap (λ c. (system_of p (component_at r c).system).kind) this_is ∙ (ap (λ a. (system_of p a).kind) (executed_system t r l prepared s known m ready fits reach q going) ∙ rules.monitor)))
 
   queue_is : (spot : code.Place) → expression_form this e ≡ Some (record { ty = queue_type; form = as_place spot }) → QueueNamed g p l s m q es e spot
   queue_is spot formed =
@@ -106,12 +103,12 @@ module _ (t : Tree) (r : Tables) (l : Layouts) (prepared : Prepared t r l) (s : 
   may_delay =
       record {
         apart = variables_of_components t r l prepared;
-        parts_apart = prepared.systems.apart;
-        own = own_numbers t r l prepared;
+        parts_apart = prepared.program.systems.apart;
+        own = ready.own;
         is = monitor.1;
-        known = monitor_known t r l prepared m fits n monitor.0 monitor.1;
-        exclusive = others_outside t r l prepared s known n monitor.0 q monitor.1 going.there going.was refl;
-        line = first_waits t r l prepared s known n;
+        known = ready.monitors n monitor.0 monitor.1;
+        exclusive = ready.alone q monitor.0 going.there going.was monitor.1;
+        line = ready.waits n;
       }
 
   pub delay_so : find (name_of d) this.scope ≡ Some (standard_meaning delay_procedure) → StepIs g p l q (slice_index t.lines token) (step_of p s q) (step_at r m q)
@@ -135,16 +132,15 @@ module _ (t : Tree) (r : Tables) (l : Layouts) (prepared : Prepared t r l) (s : 
     may_continue =
         record {
           apart = variables_of_components t r l prepared;
-          parts_apart = prepared.systems.apart;
+          parts_apart = prepared.program.systems.apart;
           there = there;
           is = monitor.1;
-          leave = may_leave t r l prepared s known m fits n monitor.0 q monitor.1 going.there going.was refl
-              (ap (λ cs. has_entry n (callers cs)) open_now.2 ∙ subst (λ c. has_entry c open_now.1 ≡ false) top_component (known.once q open_now.0 open_now.1 going.there open_now.2 top_entry));
+          leave = subst (MayLeave g s m q) top_component (ready.leave q open_now.0 open_now.1 monitor.0 going.there going.was open_now.2 top_entry (ap (λ c. (component_at r c).kind) top_component ∙ monitor.1));
           fits = fits.each q going.many;
           fits_below = below_fits t r l prepared s m q at fits going.many mid es xs ys k.stack;
           few = few_cells t r l prepared m q fits going.many;
           routines = prepared.stands.routines;
-          simple = prepared.results;
+          simple = prepared.program.results;
           called = delayed_inside;
         }
 

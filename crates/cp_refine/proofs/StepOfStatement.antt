@@ -1,5 +1,5 @@
 -- The step of each statement that is no call: it goes on slots as on names.
-use Rattle.std.proofs.Common.{◌≡◌, ◌∙◌, ℕ, ◌<◌, true, List, [], ◌∷◌, ◌++◌, Option, Some, None, ap, sym, refl, subst, length}
+use Rattle.std.proofs.Common.{◌≡◌, ℕ, ◌<◌, List, ◌∷◌, Option, Some, subst, length}
 use Rattle.std.specs.Prelude.{slice_index}
 use Rattle.cp_tree.specs.declared.constant.Identifier.{Identifier}
 use Rattle.cp_tree.specs.declared.statement.Direction.{Direction}
@@ -7,20 +7,16 @@ use Rattle.cp_tree.specs.Syntax.{Tree, Program, Expression, Expressions, more_ex
 use Rattle.std.specs.Prelude.{Bool}
 use Rattle.cp_slots.specs.Code as code
 use Rattle.cp_slots.specs.Tables.{Tables}
-use Rattle.cp_store.specs.declared.memory.Address.{Address}
-use Rattle.cp_store.specs.declared.memory.Frame.{Frame}
 use Rattle.cp_machine.specs.declared.process.Entry.{Entry}
 use Rattle.cp_machine.specs.declared.process.Entry.TheVariants.{Rest}
 use Rattle.cp_machine.specs.Fits.{StackFits, MachineFits}
 use Rattle.cp_machine.specs.Machine.{Machine, thread_at}
 use Rattle.cp_machine.specs.Memory.{memory_at}
 use Rattle.cp_machine.specs.Step.{step_at}
-use Rattle.cp_meaning.specs.Names.{Name}
-use Rattle.cp_meaning.specs.Types.{Base, integers, booleans, characters, enumerated, Range, Ty, ordinal}
-use Rattle.cp_meaning.specs.Scopes.{Meaning, standard_meaning, display_procedure, find}
+use Rattle.cp_meaning.specs.Types.{Base, integers, booleans, characters, enumerated, ordinal}
+use Rattle.cp_meaning.specs.Scopes.{standard_meaning, display_procedure, find}
 use Rattle.cp_meaning.specs.Expressions.{name_of}
-use Rattle.cp_meaning.specs.State as named
-use Rattle.cp_meaning.specs.State.{Place, Item, statement_item, until, State}
+use Rattle.cp_meaning.specs.State.{Item, statement_item, until, State}
 use Rattle.cp_meaning.specs.Steps.{view_of, step_of, at_expression}
 use Rattle.cp_resolved.specs.Layouts.{Layouts, Here, here}
 use Rattle.cp_resolved.specs.Compiled.{as_ordinal}
@@ -28,11 +24,10 @@ use Rattle.cp_resolved.specs.Stands.{Ground}
 use Rattle.cp_refine.specs.ItemsKnown.{AssignKnown, DisplayKnown, HasFewConstants}
 use Rattle.cp_refine.specs.Law.{ground_of}
 use Rattle.cp_refine.specs.Prepared.{Prepared}
-use Rattle.cp_refine.specs.Represents.{PlaceAt}
-use Rattle.cp_refine.proofs.AnyAssignments.{assignment_runs, RangeKnown}
+use Rattle.cp_refine.proofs.AnyAssignments.{assignment_runs}
 use Rattle.cp_refine.proofs.Cases.{case_step}
 use Rattle.cp_refine.proofs.Control.{Taken, StepIs, goes, top_frame}
-use Rattle.cp_refine.proofs.Counting.{for_step, StoresIn}
+use Rattle.cp_refine.proofs.Counting.{for_step}
 use Rattle.cp_refine.proofs.DesignatedTypes.{range_known, IsGood, designator_good, counted_good}
 use Rattle.cp_refine.proofs.Displaying.{FewConstants, display_step, own_display}
 use Rattle.cp_refine.proofs.Executed.{executes, names_typed, variables_apart}
@@ -97,7 +92,7 @@ module _ (t : Tree) (r : Tables) (l : Layouts) (prepared : Prepared t r l) (s : 
   for_so token i e d f u k =
       for_step g p l s m q at token i e d f u mid es xs ys k ex
       (λ place a there. stores_known g p l s m q (slice_index t.lines token) es (goes g p l s m q at (statement_item (for_do token i e d f u)) mid es xs ys k) k.own.range
-      (variables_apart t r l prepared m q fits many es (below_fits k.stack) (ordinal k.own.range) good.0) (range_known (ordinal k.own.range) good)
+      (variables_apart t r l prepared m q fits many es (below_fits k.stack) (ordinal k.own.range) good) (range_known (ordinal k.own.range) good)
       ((thread_at m.threads q).frame ∷ frames_below g p l s m q at (statement_item (for_do token i e d f u)) mid es xs ys k ex) (top_frame (thread_at m.threads q).frame es).1 place a there)
     where
       good : IsGood (ordinal k.own.range)

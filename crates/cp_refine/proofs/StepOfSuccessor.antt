@@ -1,5 +1,5 @@
 -- The step of the successor of a value in a `for`, and what a process sees whose next item is none of a list.
-use Rattle.std.proofs.Common.{◌≡◌, ◌∙◌, ℕ, ◌<◌, true, List, [], ◌∷◌, ◌++◌, ap, sym, refl, subst, length}
+use Rattle.std.proofs.Common.{◌≡◌, ℕ, List, [], ◌∷◌, ◌++◌, subst}
 use Rattle.std.specs.Prelude.{ℤ, slice_index}
 use Rattle.cp_tree.specs.Syntax.{Tree, Program}
 use Rattle.cp_store.specs.declared.memory.Frame.{Frame}
@@ -59,7 +59,7 @@ module _ (t : Tree) (r : Tables) (l : Layouts) (prepared : Prepared t r l) (s : 
   next_so at z last es e first xs ys is turn below =
       next_step g p l s m q at z last first es xs ys goes_now e is turn below ((thread_at m.threads q).frame ∷ lower_frames m q es) (sees_going g p l s m q es goes_now (executes t r l prepared m q fits k.many))
       (λ place a there. stores_known g p l s m q (slice_index t.lines turn.token) es goes_now turn.item.range
-      (variables_apart t r l prepared m q fits k.many es (subst (λ us. StackFits r (thread_at m.threads q).frame us) e (fits.each q k.many).stack).1 (ordinal turn.item.range) good.0) (range_known (ordinal turn.item.range) good)
+      (variables_apart t r l prepared m q fits k.many es (subst (λ us. StackFits r (thread_at m.threads q).frame us) e (fits.each q k.many).stack).1 (ordinal turn.item.range) good) (range_known (ordinal turn.item.range) good)
       ((thread_at m.threads q).frame ∷ lower_frames m q es) (top_frame (thread_at m.threads q).frame es).1 place a there)
     where
       goes_now : Goes g p l s m q es

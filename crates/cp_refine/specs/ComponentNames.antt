@@ -1,5 +1,5 @@
 -- What names of components stand for in a routine, and what the layout of its system type says of them.
-use Rattle.std.specs.Prelude.{◌≡◌, ℕ, true, false, Option, Some, None}
+use Rattle.std.specs.Prelude.{◌≡◌, ℕ, true, false, Some, None}
 use Rattle.cp_tree.specs.Syntax.{Program}
 use Rattle.cp_meaning.specs.Names.{Name}
 use Rattle.cp_meaning.specs.Types.{Ty, Range, component_of, array_over, has_components}

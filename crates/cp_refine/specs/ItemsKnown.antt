@@ -3,7 +3,6 @@ use Rattle.std.specs.Prelude.{◌≡◌, ℕ, ◌+◌, ◌-◌, ◌<◌, ◌≤�
 use Rattle.cp_tree.specs.declared.declaration.SystemKind.TheVariants as system_kind
 use Rattle.cp_tree.specs.Syntax.{Expression, Expressions, no_expressions, more_expressions, Designator, Start, Statement, assign, invoke}
 use Rattle.cp_slots.specs.Code as code
-use Rattle.cp_meaning.specs.Names.{Name}
 use Rattle.cp_meaning.specs.Types.{Base, enumerated, Range, Ty, ordinal}
 use Rattle.cp_meaning.specs.Scopes.{Meaning, standard_meaning, permanent_variable, delay_procedure, continue_procedure, display_procedure, find}
 use Rattle.cp_meaning.specs.Declarations.{Parameter}

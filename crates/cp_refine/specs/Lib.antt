@@ -1,7 +1,7 @@
 pub mod Agrees
+pub mod Bodies
 pub mod ComponentNames
 pub mod Given
-pub mod GoodSets
 pub mod InStep
 pub mod ItemsKnown
 pub mod Kinds
@@ -12,4 +12,6 @@ pub mod PlainValues
 pub mod Prepared
 pub mod Remaining
 pub mod Represents
+pub mod RoutinesKnown
 pub mod StatesKnown
+pub mod WholeLaw

@@ -3,4 +3,4 @@
 
 pub mod laws;
 
-pub use laws::law_same_runs;
+pub use laws::{law_in_step, law_same_runs, law_tree, law_whole};

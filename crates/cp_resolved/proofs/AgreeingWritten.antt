@@ -1,6 +1,6 @@
 -- Written types that break no rule: what they leave agrees, and they are the types that they mean.
 use Rattle.std.proofs.Common.{◌≡◌, ℕ, suc, ◌+◌, ◌-◌, ◌*◌, ◌<◌, ◌≤◌, pos, Bool, true, false, ◌&&◌, ◌||◌, if◌then◌else◌, List, [], ◌∷◌, ◌++◌, length, Option, Some, None, Ok, Err, is_some, refl, sym, ap, subst, ◌∙◌, arith, append_assoc}
-use Rattle.std.specs.Prelude.{◌-ℤ◌, int_lt, int_le, nat_lt}
+use Rattle.std.specs.Prelude.{ℤ, ◌-ℤ◌, int_lt, int_le, nat_lt}
 use Rattle.std.specs.Str.{bytes_eq}
 use Rattle.std.proofs.lemmas.Bool.{le-leb, ltb-false}
 use Rattle.std.proofs.lemmas.List.{length-map, append-nil}
@@ -38,7 +38,7 @@ use Rattle.cp_meaning.specs.Operations.{range_of_base}
 use Rattle.cp_resolved.specs.Enumerations.{in_simple, in_type, in_groups}
 use Rattle.cp_resolved.specs.Small.{Each, IsSmallSimple, IsSmallType, AreSmallGroups}
 use Rattle.cp_resolved.specs.Layouts.{cells_of, cells_in}
-use Rattle.cp_resolved.specs.Standing.{is_bounded, are_few, is_indexed, is_free, are_free, is_element, is_standing}
+use Rattle.cp_resolved.specs.Standing.{is_bounded, is_based, are_few, is_indexed, is_free, are_free, is_element, is_standing}
 use Rattle.cp_resolved.specs.Tokens.{type_tokens, groups_tokens}
 use Rattle.cp_resolved.specs.Typed.{Tokens, BaseIs, RangeIs, TypeIs, FieldsAre}
 use Rattle.cp_resolved.proofs.Agreeing.{Good, good_then, Sound, good_sound, none_left, none_right, none_first, none_of_both, new_names, find_last, is_itself, More, more_same, more_trans, with_more, with_there}
@@ -96,6 +96,16 @@ limited_good at n = go (nat_lt 8192 n)
     go : (b : Bool) → Good (λ (u : Unit {0}). b ≡ false) (if b then Err (check_fault.Rule at C20 ∷ []) else Ok tt)
     go true = tt
     go false = refl
+
+-- a range of numbers from 0 to 127, as a set has it
+not_below : (a b : ℤ) → int_lt a b ≡ false → int_le b a ≡ true
+not_below a b h = search (arith, h)
+
+within_set : (q : named.Range) (low high : ℤ) → low ≡ q.low → high ≡ q.high → is_bounded q ≡ true → (int_lt low (pos 0) || int_lt (pos 127) high) ≡ false → is_based q ≡ true
+within_set q low high a b bounded e =
+    ap (λ c. c && (int_le (pos 0) q.low && int_le q.high (pos 127))) bounded
+    ∙ (ap (λ c. c && int_le q.high (pos 127)) (ap (int_le (pos 0)) (sym a) ∙ not_below low (pos 0) (or_left (int_lt low (pos 0)) (int_lt (pos 127) high) e))
+    ∙ (ap (λ z. int_le z (pos 127)) (sym b) ∙ not_below (pos 127) high (or_right (int_lt low (pos 0)) (int_lt (pos 127) high) e)))
 
 module _ (tokens : Tokens) (p : Program) where
   -- from scopes to what a written type leaves
@@ -318,9 +328,12 @@ module _ (tokens : Tokens) (p : Program) where
       members : (int_lt r.low (pos 0) || int_lt (pos 127) r.high) ≡ false → (is_within all_characters (range_of t).low ≡ true) × (is_within all_characters (range_of t).high ≡ true)
       members e = characters_within (range_of t).low (range_of t).high (subst (λ z. (int_lt z (pos 0) || int_lt (pos 127) (range_of t).high) ≡ false) o.range.low (subst (λ z. (int_lt r.low (pos 0) || int_lt (pos 127) z) ≡ false) o.range.high e)) ordered
 
+      based : (int_lt r.low (pos 0) || int_lt (pos 127) r.high) ≡ false → is_based (range_of t) ≡ true
+      based e = within_set (range_of t) r.low r.high o.range.low o.range.high (subst (λ (u : Ty). StandsAt spot.Base u) o.is h.stands) e
+
       go : (b : Bool) → (int_lt r.low (pos 0) || int_lt (pos 127) r.high) ≡ b → Good (TypedAs tokens ss q (named.set_over (range_of t))) (if b then Err (check_fault.Rule at C20 ∷ []) else Ok (types.Set (Some r)))
       go true e = tt
-      go false e = record { belongs = record { range = r; is = refl; belongs = o.range; low = (members e).0; high = (members e).1 }; stands = stands_free q (named.set_over (range_of t)) (subst (λ (u : Ty). StandsAt spot.Base u) o.is h.stands) }
+      go false e = record { belongs = record { range = r; is = refl; belongs = o.range; low = (members e).0; high = (members e).1 }; stands = stands_free q (named.set_over (range_of t)) (based e) }
   set_good ss q at base_at t types.Queue h = tt
   set_good ss q at base_at t (types.Set r) h = tt
   set_good ss q at base_at t (types.Array n) h = tt

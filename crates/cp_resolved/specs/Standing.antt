@@ -1,5 +1,5 @@
 -- What types the variables of an accepted program have: ranges have values, arrays and records few cells, and queues and components stand alone or in an array.
-use Rattle.std.specs.Prelude.{◌≡◌, ℕ, ◌*◌, nat_le, int_le, Bool, true, false, ◌&&◌, Option, Some, None}
+use Rattle.std.specs.Prelude.{◌≡◌, ℕ, ◌*◌, nat_le, pos, int_le, Bool, true, false, ◌&&◌, Option, Some, None}
 use Rattle.cp_meaning.specs.Types.{Range, Ty, ordinal, queue_type, set_over, array_over, record_with, component_of, FieldTypes, no_field_types, more_field_types, is_within, length_of_range}
 use Rattle.cp_meaning.specs.Operations.{range_of_base}
 use Rattle.cp_meaning.specs.Scopes.{Meaning, constant_meaning, type_meaning, local_variable, permanent_variable}
@@ -10,6 +10,10 @@ use Rattle.cp_resolved.specs.Layouts.{cells_of, cells_in}
 -- the bounds are values of the base, and the first is not above the last
 abbrev pub is_bounded : Range → Bool
 is_bounded r = is_within (range_of_base r.base) r.low && (is_within (range_of_base r.base) r.high && int_le r.low r.high)
+
+-- the base of a set: numbers from 0 to 127 (rule C20)
+abbrev pub is_based : Range → Bool
+is_based r = is_bounded r && (int_le (pos 0) r.low && int_le r.high (pos 127))
 
 -- rule C20
 abbrev pub are_few : ℕ → Bool
@@ -24,7 +28,7 @@ abbrev mutual
   pub is_free : Ty → Bool
   is_free (ordinal r) = is_bounded r
   is_free queue_type = false
-  is_free (set_over r) = is_bounded r
+  is_free (set_over r) = is_based r
   is_free (array_over r t) = is_indexed r t && is_free t
   is_free (record_with ts) = are_few (cells_in ts) && are_free ts
   is_free (component_of n) = false

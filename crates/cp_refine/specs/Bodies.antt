@@ -1,0 +1,60 @@
+-- Which statements and items stand in the body of a routine or of an initial statement.
+use Rattle.std.specs.Prelude.{◌≡◌, ℕ, ◌⊎◌, List, [], ◌∷◌}
+use Rattle.cp_tree.specs.Syntax.{Expression, Start, Statement, block, if_then, if_else, case_of, while_do, repeat_until, for_do, cycle, init, Statements, no_statements, more_statements, Arms, no_arms, more_arms, arm}
+use Rattle.cp_meaning.specs.Scopes.{Scope}
+use Rattle.cp_meaning.specs.State.{Item, statement_item, function_call, start_item, until, successor}
+use Rattle.cp_refine.specs.Remaining.{calls_before}
+
+-- ---- statements
+
+abbrev pub IsAmong : Statement → Statements → Type 0
+IsAmong t no_statements = ⊥
+IsAmong t (more_statements u us) = (t ≡ u) ⊎ IsAmong t us
+
+abbrev pub IsAmongArms : Statement → Arms → Type 0
+IsAmongArms t no_arms = ⊥
+IsAmongArms t (more_arms (arm cs u) as') = (t ≡ u) ⊎ IsAmongArms t as'
+
+-- the first statement stands directly inside the second one
+abbrev pub IsPartOf : Statement → Statement → Type 0
+IsPartOf t (block at ss) = IsAmong t ss
+IsPartOf t (if_then at e u) = t ≡ u
+IsPartOf t (if_else at e u w) = (t ≡ u) ⊎ (t ≡ w)
+IsPartOf t (case_of at e as' b) = IsAmongArms t as'
+IsPartOf t (while_do at e u) = t ≡ u
+IsPartOf t (repeat_until at ss e) = IsAmong t ss
+IsPartOf t (for_do at i e d f u) = t ≡ u
+IsPartOf t (cycle at ss) = IsAmong t ss
+IsPartOf t u = ⊥
+
+-- the statement stands in the body, at any depth
+pub data IsWithin (body : Statements) : Statement → Type 0 where
+  listed : (t : Statement) → IsAmong t body → IsWithin body t
+  inside : (t u : Statement) → IsPartOf t u → IsWithin body u → IsWithin body t
+
+-- ---- items
+
+abbrev pub IsAmongItems : Item → List Item → Type 0
+IsAmongItems i [] = ⊥
+IsAmongItems i (j ∷ items) = (i ≡ j) ⊎ IsAmongItems i items
+
+abbrev pub IsAmongStarts : Start → List Start → Type 0
+IsAmongStarts t [] = ⊥
+IsAmongStarts t (u ∷ us) = (t ≡ u) ⊎ IsAmongStarts t us
+
+-- the item of a statement of the body, or what is left of one
+abbrev pub OwnStands : Statements → Item → Type 0
+OwnStands body (statement_item t) = IsWithin body t
+OwnStands body (start_item t) = (at : ℕ) × (ts : List Start) × IsWithin body (init at ts) × IsAmongStarts t ts
+OwnStands body (until ss e) = (at : ℕ) × IsWithin body (repeat_until at ss e)
+OwnStands body (successor at i z d b t) = (e : Expression) × (f : Expression) × IsWithin body (for_do at i e d f t)
+OwnStands body i = ⊥
+
+-- a function call is one of those before such an item
+abbrev pub ItemStands : Scope → Statements → Item → Type 0
+ItemStands s body (function_call at d es) = (i : Item) × OwnStands body i × IsAmongItems (function_call at d es) (calls_before s i)
+ItemStands s body i = OwnStands body i
+
+abbrev pub AllStand : Scope → Statements → List Item → Type 0
+AllStand s body [] = Unit {0}
+AllStand s body (i ∷ items) = ItemStands s body i × AllStand s body items
