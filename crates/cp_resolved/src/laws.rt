@@ -88,6 +88,8 @@ pub fn law_bodies()
 /// The components of the tables stand for those of the tree, and the processes for its processes, where no count of them has stopped.
 pub fn law_components()
     ensures { ComponentsLaw }
+{}
+
 /// In tables that stand for a tree each item is inside what it names, and names components of the types that it wants.
 pub fn law_inside()
     ensures { InsideLaw }
