@@ -64,6 +64,7 @@ pub mod Outer
 pub mod OwnCalls
 pub mod OwnCallsOfTables
 pub mod OwnNames
+pub mod OwnedKept
 pub mod Owning
 pub mod ParametersFit
 pub mod PermanentCells
@@ -75,6 +76,9 @@ pub mod ResultKnown
 pub mod Rooms
 pub mod ScopeVariables
 pub mod ScopesOfTrees
+pub mod Seats
+pub mod SeatsOfProgram
+pub mod SeatsOfSystems
 pub mod Selecting
 pub mod Settled
 pub mod SettledItems
