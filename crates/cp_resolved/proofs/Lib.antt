@@ -103,6 +103,7 @@ pub mod StepsOfParts
 pub mod StepsOfProgram
 pub mod StepsOfRoutines
 pub mod StepsOfTypes
+pub mod SystemKnown
 pub mod Temporaries
 pub mod TreeKnown
 pub mod Typing

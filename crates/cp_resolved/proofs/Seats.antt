@@ -11,7 +11,7 @@ use Rattle.cp_slots.specs.Kinds.{Compounds}
 use Rattle.cp_slots.specs.Laid.{system_types}
 use Rattle.cp_slots.specs.Layers as layers
 use Rattle.cp_slots.specs.Layers.{Layer, System}
-use Rattle.cp_slots.specs.LaidDeclarations.{Parameters, routine, routines}
+use Rattle.cp_slots.specs.LaidDeclarations.{Parameters, heading_with, routine, routines}
 use Rattle.cp_slots.specs.Tables.{no_system}
 use Rattle.cp_meaning.specs.Names.{Name}
 use Rattle.cp_meaning.specs.Scopes as scopes
@@ -30,7 +30,8 @@ use Rattle.cp_resolved.specs.Small.{Each, IsSmallRoutine, AreNumbered, IsParamet
 use Rattle.cp_resolved.specs.TreeLayouts.{initial_or, components_among, parameters_by}
 use Rattle.cp_resolved.proofs.Extends.{Longer, longer_trans, routines_extend}
 use Rattle.cp_resolved.proofs.FrameSteps.{AreLying, Lies, Frames}
-use Rattle.cp_resolved.proofs.FramesBegun.{RoutineFits, all_locals, routine_framed}
+use Rattle.cp_resolved.proofs.FramesBegun.{RoutineFits, SlotIs, all_locals, routine_framed, routine_slot}
+use Rattle.cp_resolved.proofs.EntriesKnown.{heading_of, begun_headings}
 use Rattle.cp_resolved.proofs.Grown.{statements_grew}
 use Rattle.cp_resolved.proofs.Knowing.{begun_same}
 use Rattle.cp_resolved.proofs.PermanentCells.{Holds, AreHolding, Owns, Follow, Firsts}
@@ -120,6 +121,11 @@ parameters_fit h (g ∷ gs) p a = parameters_fit (with_group permanent_variable 
 module _ (k : Numbering) (p : syntax.Program) (end : Layer) (counted : Counted end.types) where
   pub record Seated (l : Layer) (o : Opening) : Type 0 where
     pub framed : RoutineFits k end.types counted o.meaning → Frames l (all_locals k end.types counted o.meaning) (parameters_by true o.meaning.parameters)
+    -- its own heading is the last
+    pub before : List layers.Heading
+    pub heading : layers.Heading
+    pub headings : l.headings ≡ before ++ heading ∷ []
+    pub slot : RoutineFits k end.types counted o.meaning → SlotIs k end.types counted (parameters_by false o.meaning.parameters) o.meaning.result heading.result
     pub system : length l.systems ≡ o.owner
     pub visible : AreOf (routine_variables o.meaning) (system_variables (system_of p o.owner)) o.meaning.scope
 
@@ -177,6 +183,10 @@ module _ (k : Numbering) (p : syntax.Program) (end : Layer) (counted : Counted e
       let named : InStep k l.types ((r.name.name, meaning.Routine (length l.routines)) ∷ l.names) t = (refl, (length l.routines, refl, o.0), i) in (
         record {
           framed = λ f. routine_framed k end.types counted l s r h.0 e o.0 i begun f (nothing_lies k l.types ps ((r.name.name, meaning.Routine (length l.routines)) ∷ l.names) t named (tt, v));
+          before = l.headings;
+          heading = heading_of l r;
+          headings = begun_headings l r;
+          slot = λ f. routine_slot k end.types counted l s r o.0 i begun f (nothing_lies k l.types ps ((r.name.name, meaning.Routine (length l.routines)) ∷ l.names) t named (tt, v));
           system = ap (λ (ss : List System). length ss) (begun_same l r) ∙ len;
           visible = routine_of ps s r v;
         },
@@ -188,6 +198,10 @@ module _ (k : Numbering) (p : syntax.Program) (end : Layer) (counted : Counted e
   initial_seated l ps owner m i len v =
       record {
         framed = λ f. record { free = tt; image = refl; extents = refl; lying = nothing_lies k l.types (system_variables (system_of p owner)) l.names m.scope i v };
+        before = l.headings;
+        heading = heading_with [] ps None;
+        headings = refl;
+        slot = λ f. tt;
         system = len;
         visible = v;
       }
