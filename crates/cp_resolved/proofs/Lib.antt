@@ -42,6 +42,7 @@ pub mod FormedStatements
 pub mod FormsOfTrees
 pub mod FrameCells
 pub mod FrameKept
+pub mod FrameKnown
 pub mod FrameSteps
 pub mod FramesBegun
 pub mod Going
@@ -74,6 +75,7 @@ pub mod PlainInside
 pub mod Reserving
 pub mod ResultKnown
 pub mod Rooms
+pub mod RoutinesCounted
 pub mod ScopeVariables
 pub mod ScopesOfTrees
 pub mod Seats
@@ -104,6 +106,7 @@ pub mod StepsOfProgram
 pub mod StepsOfRoutines
 pub mod StepsOfTypes
 pub mod SystemKnown
+pub mod SystemsStand
 pub mod Temporaries
 pub mod TreeKnown
 pub mod Typing

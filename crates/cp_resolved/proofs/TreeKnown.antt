@@ -44,7 +44,7 @@ use Rattle.cp_resolved.proofs.Temporaries.{temporaries_next}
 
 -- ---- what is found in a scope
 
-local_sized : (x : Name) (t : Ty) (s : Scope) → AreSized s → scopes.find x s ≡ Some (scopes.local_variable t) → IsSized t
+pub local_sized : (x : Name) (t : Ty) (s : Scope) → AreSized s → scopes.find x s ≡ Some (scopes.local_variable t) → IsSized t
 local_sized x t [] h e = absurd (none-some _ e)
 local_sized x t (d ∷ ds) h e = go (same_name x d.0) (local_sized x t ds h.1) e
   where
@@ -52,7 +52,7 @@ local_sized x t (d ∷ ds) h e = go (same_name x d.0) (local_sized x t ds h.1) e
     go true rest f = subst IsSizedMeaning (same_Some d.1 (scopes.local_variable t) f) h.0
     go false rest f = rest f
 
-permanent_sized : (x : Name) (t : Ty) (s : Scope) → AreSized s → scopes.find x s ≡ Some (scopes.permanent_variable t) → IsSized t
+pub permanent_sized : (x : Name) (t : Ty) (s : Scope) → AreSized s → scopes.find x s ≡ Some (scopes.permanent_variable t) → IsSized t
 permanent_sized x t [] h e = absurd (none-some _ e)
 permanent_sized x t (d ∷ ds) h e = go (same_name x d.0) (permanent_sized x t ds h.1) e
   where
