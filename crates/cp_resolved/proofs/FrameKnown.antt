@@ -1,46 +1,28 @@
 -- In the frame of a routine each variable has its cells, with its first value, and no two have any in common.
-use Rattle.std.proofs.Common.{◌≡◌, ◌+◌, ◌<◌, ◌≤◌, ◌==◌, ◌⊎◌, inl, inr, ℕ, zero, suc, ℤ, pos, Bool, true, false, if◌then◌else◌, List, [], ◌∷◌, ◌++◌, length, Option, Some, None, slice_index_or, refl, sym, ap, subst, ◌∙◌, arith, append_assoc, append-nil, length-append}
+use Rattle.std.proofs.Common.{◌≡◌, ◌+◌, ◌<◌, ◌==◌, ◌⊎◌, inl, inr, ℕ, zero, suc, ℤ, pos, Bool, true, false, if◌then◌else◌, List, [], ◌∷◌, ◌++◌, length, Option, Some, None, slice_index_or, refl, sym, subst, ◌∙◌, arith}
 use Rattle.std.proofs.Math.Dec.{T, eqb_refl}
 use Rattle.std.proofs.lemmas.Bool.{eqb-true}
 use Rattle.std.proofs.lemmas.Option.{none-some, same_Some}
 use Rattle.cp_tree.specs.Syntax as syntax
-use Rattle.cp_slots.specs.declared.place.Origin.{Origin}
-use Rattle.cp_slots.specs.declared.place.Origin.TheVariants as origin
-use Rattle.cp_slots.specs.declared.lay_out.names.Meaning.{Meaning}
-use Rattle.cp_slots.specs.declared.lay_out.names.Meaning.TheVariants as meaning
-use Rattle.cp_slots.specs.Layers as layers
-use Rattle.cp_slots.specs.Layers.{Layer, own_result}
-use Rattle.cp_slots.specs.Tables.{RoutineView}
-use Rattle.cp_meaning.specs.Names.{Name, same_name, temporary, result_name}
-use Rattle.cp_meaning.specs.Types as named
-use Rattle.cp_meaning.specs.Types.{Ty, has_components}
-use Rattle.cp_meaning.specs.Values.{number_value, least}
+use Rattle.cp_meaning.specs.Names.{Name, same_name, temporary}
+use Rattle.cp_meaning.specs.Types.{Ty}
 use Rattle.cp_meaning.specs.Scopes as scopes
 use Rattle.cp_meaning.specs.Scopes.{Scope, local_variable, find}
-use Rattle.cp_meaning.specs.Declarations.{Variable, Parameter, RoutineMeaning}
-use Rattle.cp_meaning.specs.State.{Item, statement_item, function_call, start_item, until, successor, return, init_end, end, holds}
-use Rattle.cp_meaning.specs.Places.{content_of, value_held}
-use Rattle.cp_meaning.specs.Calls.{least_of, least_result}
+use Rattle.cp_meaning.specs.Declarations.{Variable, Parameter}
+use Rattle.cp_meaning.specs.State.{Item, statement_item, function_call, start_item, until, successor, return, init_end, end}
+use Rattle.cp_meaning.specs.Expressions.{result_called, routine_called}
 use Rattle.cp_meaning.specs.Steps.{parameter_variables}
 use Rattle.cp_resolved.specs.Calls as calls
 use Rattle.cp_resolved.specs.Calls.{all_calls_laid, calls_before, IsAmong}
-use Rattle.cp_resolved.specs.Encoded.{encode, HasType}
-use Rattle.cp_resolved.specs.Framed.{AreDifferent, AreDeclared, routine_variables, IsOrdinal}
-use Rattle.cp_resolved.specs.InStep.{Numbering, InStep, FoundIs}
-use Rattle.cp_resolved.specs.Layouts.{cells_of, look, FrameLayout, cell_named, slot_of}
+use Rattle.cp_resolved.specs.Framed.{AreDifferent, IsOrdinal}
+use Rattle.cp_resolved.specs.Layouts.{look}
 use Rattle.cp_resolved.specs.Once.{IsWord, AreWords}
-use Rattle.cp_resolved.specs.Resolved.{StandsAt, AreApart, first_values, first_value, ParameterIs, ParametersAre, ResultIs}
+use Rattle.cp_resolved.specs.Resolved.{StandsAt}
 use Rattle.cp_resolved.specs.Small.{Each}
-use Rattle.cp_resolved.specs.Standing.{is_free, is_bounded, IsFreeVariable}
-use Rattle.cp_resolved.specs.TreeLayouts.{call_variables, result_variables, parameters_by, frame_layout, hidden_origin, origin_in, components_among}
-use Rattle.cp_resolved.proofs.FrameCells.{itself, same_is, look_left, look_right, look_either, look_each, none_left, none_right, none_both, images, total, cells_before, images_length, before_inside, before_apart, before_stands, stands_after, stands_left, extents, number_among, number_inside, number_different}
-use Rattle.cp_resolved.proofs.FrameSteps.{Lies, AreLying, Frames}
-use Rattle.cp_resolved.proofs.FramesBegun.{no_parameter}
-use Rattle.cp_resolved.proofs.LeastCells.{zero_typed, least_typed}
-use Rattle.cp_resolved.proofs.ScopeVariables.{Among, among_left, among_right, look_among, never_missing, among_look, AreOf, of_local}
-use Rattle.cp_resolved.proofs.Steps.{found_in}
-use Rattle.cp_resolved.proofs.SystemKnown.{found_among, among_either, content_right}
-use Rattle.cp_resolved.proofs.TreeKnown.{undeclared_name}
+use Rattle.cp_resolved.specs.TreeLayouts.{call_variables, parameters_by}
+use Rattle.cp_resolved.proofs.FrameCells.{same_is, look_each}
+use Rattle.cp_resolved.proofs.ScopeVariables.{Among, among_left, among_right, never_missing}
+use Rattle.cp_resolved.proofs.SystemKnown.{among_either}
 use Rattle.cp_resolved.proofs.ZeroCells.{AreZeros}
 
 -- ---- names that are no words
@@ -53,11 +35,11 @@ word_found x m (d ∷ s) h e = go (same_name x d.0) refl e (word_found x m s h.1
     go true w f rest = subst IsWord (sym (same_is x d.0 w)) h.0
     go false w f rest = rest f
 
-abbrev Visible : Scope → List Variable → Type 0
+abbrev pub Visible : Scope → List Variable → Type 0
 Visible s vs = Each (λ v. find v.name s ≡ Some (local_variable v.ty)) vs
 
 -- a name that is no word is none of those that are visible
-no_word : (x : Name) (s : Scope) (vs : List Variable) → (IsWord x → ⊥) → AreWords s → Visible s vs → look x vs ≡ None
+pub no_word : (x : Name) (s : Scope) (vs : List Variable) → (IsWord x → ⊥) → AreWords s → Visible s vs → look x vs ≡ None
 no_word x s vs bad w h = go (look x vs) refl
   where
     go : (o : Option Ty) → look x vs ≡ o → look x vs ≡ None
@@ -66,7 +48,7 @@ no_word x s vs bad w h = go (look x vs) refl
 
 -- ---- value parameters and `var` parameters
 
-by_all : (b : Bool) (x : Name) (t : Ty) (qs : List Parameter) → Among x t (parameters_by b qs) → Among x t (parameter_variables qs)
+pub by_all : (b : Bool) (x : Name) (t : Ty) (qs : List Parameter) → Among x t (parameters_by b qs) → Among x t (parameter_variables qs)
 by_all true x t [] h = absurd h
 by_all false x t [] h = absurd h
 by_all true x t (q ∷ qs) h = go q.is_var h (by_all true x t qs)
@@ -82,7 +64,7 @@ by_all false x t (q ∷ qs) h = go q.is_var h (by_all false x t qs)
     go false (inl e) rest = inl e
     go false (inr e) rest = inr (rest e)
 
-either_by : (x : Name) (t : Ty) (qs : List Parameter) → Among x t (parameter_variables qs) → Among x t (parameters_by false qs) ⊎ Among x t (parameters_by true qs)
+pub either_by : (x : Name) (t : Ty) (qs : List Parameter) → Among x t (parameter_variables qs) → Among x t (parameters_by false qs) ⊎ Among x t (parameters_by true qs)
 either_by x t [] h = absurd h
 either_by x t (q ∷ qs) (inl e) = go q.is_var
   where
@@ -97,7 +79,7 @@ either_by x t (q ∷ qs) (inr h) = go q.is_var (either_by x t qs h)
     go false (inl e) = inl (inr e)
     go false (inr e) = inr e
 
-missing_all : (x : Name) (t : Ty) (qs : List Parameter) (vs : List Variable) → Among x t (parameters_by false qs ++ vs) → Among x t (parameter_variables qs ++ vs)
+pub missing_all : (x : Name) (t : Ty) (qs : List Parameter) (vs : List Variable) → Among x t (parameters_by false qs ++ vs) → Among x t (parameter_variables qs ++ vs)
 missing_all x t qs vs h = go (among_either x t (parameters_by false qs) vs h)
   where
     go : Among x t (parameters_by false qs) ⊎ Among x t vs → Among x t (parameter_variables qs ++ vs)
@@ -105,7 +87,7 @@ missing_all x t qs vs h = go (among_either x t (parameters_by false qs) vs h)
     go (inr i) = among_right x t (parameter_variables qs) vs i
 
 -- no name has cells of the frame and is a `var` parameter
-never_both : (x : Name) (t u : Ty) (qs : List Parameter) (vs : List Variable) → AreDifferent (parameter_variables qs ++ vs) → Among x t (parameters_by false qs ++ vs) → Among x u (parameters_by true qs) → ⊥
+pub never_both : (x : Name) (t u : Ty) (qs : List Parameter) (vs : List Variable) → AreDifferent (parameter_variables qs ++ vs) → Among x t (parameters_by false qs ++ vs) → Among x u (parameters_by true qs) → ⊥
 never_both x t u [] vs d h i = i
 never_both x t u (q ∷ qs) vs d h i = go q.is_var h i (never_both x t u qs vs d.1)
   where
@@ -125,19 +107,19 @@ holds_true : (b : Bool) → T b → b ≡ true
 holds_true true t = refl
 holds_true false t = absurd t
 
-pub record IsTemporary (x : Name) (t : Ty) (is : List Item) : Type 0 where
+pub record IsTemporary (x : Name) (t : Ty) (items : List Item) : Type 0 where
   pub at : ℕ
   pub is : x ≡ temporary at
-  pub among : IsAmong at is
+  pub among : IsAmong at items
   pub ordinal : IsOrdinal t
 
 module _ (p : syntax.Program) (s : Scope) where
-  temporary_of : (x : Name) (t : Ty) (is : List Item) → calls.AreApart is → Each (λ v. IsOrdinal v.ty) (call_variables p s is) → look x (call_variables p s is) ≡ Some t → IsTemporary x t is
+  pub temporary_of : (x : Name) (t : Ty) (is : List Item) → calls.AreApart is → Each (λ v. IsOrdinal v.ty) (call_variables p s is) → look x (call_variables p s is) ≡ Some t → IsTemporary x t is
   temporary_of x t [] a o e = absurd (none-some t e)
   temporary_of x t (function_call at d es ∷ is) a o e = go (same_name x (temporary at)) refl e (temporary_of x t is a.1 o.1)
     where
-      go : (b : Bool) → same_name x (temporary at) ≡ b → (if b then Some _ else look x (call_variables p s is)) ≡ Some t → (look x (call_variables p s is) ≡ Some t → IsTemporary x t is) → IsTemporary x t (function_call at d es ∷ is)
-      go true w f rest = record { at = at; is = same_is x (temporary at) w; among = inl (holds_true (at == at) (eqb_refl at)); ordinal = subst IsOrdinal (same_Some _ t f) o.0 }
+      go : (b : Bool) → same_name x (temporary at) ≡ b → (if b then Some (result_called (routine_called p s d)) else look x (call_variables p s is)) ≡ Some t → (look x (call_variables p s is) ≡ Some t → IsTemporary x t is) → IsTemporary x t (function_call at d es ∷ is)
+      go true w f rest = record { at = at; is = same_is x (temporary at) w; among = inl (holds_true (at == at) (eqb_refl at)); ordinal = subst IsOrdinal (same_Some (result_called (routine_called p s d)) t f) o.0 }
       go false w f rest = let r = rest f in record { at = r.at; is = r.is; among = inr r.among; ordinal = r.ordinal }
   temporary_of x t (statement_item q ∷ is) a o e = absurd a.0
   temporary_of x t (start_item q ∷ is) a o e = absurd a.0
@@ -148,7 +130,7 @@ module _ (p : syntax.Program) (s : Scope) where
   temporary_of x t (end ∷ is) a o e = absurd a.0
 
 -- fewer calls than all stand before one of them, and not as many before another
-before_all : (at : ℕ) (is : List Item) → IsAmong at is → calls_before at is < length is
+pub before_all : (at : ℕ) (is : List Item) → IsAmong at is → calls_before at is < length is
 before_all at [] h = absurd h
 before_all at (i ∷ is) h = go (calls.is_at at i) h (before_all at is)
   where
@@ -157,7 +139,7 @@ before_all at (i ∷ is) h = go (calls.is_at at i) h (before_all at is)
     go false (inl e) rest = absurd (let bad : false ≡ true = e in cc)
     go false (inr e) rest = let r = rest e in omega (arith, r)
 
-before_other : (m n : ℕ) (is : List Item) → calls.AreApart is → IsAmong m is → IsAmong n is → calls_before m is ≡ calls_before n is → m ≡ n
+pub before_other : (m n : ℕ) (is : List Item) → calls.AreApart is → IsAmong m is → IsAmong n is → calls_before m is ≡ calls_before n is → m ≡ n
 before_other m n [] a h i e = absurd h
 before_other m n (function_call at d es ∷ is) a h i e = go (at == m) (at == n) refl refl h i e (before_other m n is a.1)
   where

@@ -43,6 +43,7 @@ pub mod FormsOfTrees
 pub mod FrameCells
 pub mod FrameKept
 pub mod FrameKnown
+pub mod FrameStands
 pub mod FrameSteps
 pub mod FramesBegun
 pub mod Going
