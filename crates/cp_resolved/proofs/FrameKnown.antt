@@ -27,7 +27,7 @@ use Rattle.cp_resolved.proofs.ZeroCells.{AreZeros}
 
 -- ---- names that are no words
 
-word_found : (x : Name) (m : scopes.Meaning) (s : Scope) → AreWords s → find x s ≡ Some m → IsWord x
+pub word_found : (x : Name) (m : scopes.Meaning) (s : Scope) → AreWords s → find x s ≡ Some m → IsWord x
 word_found x m [] h e = absurd (none-some m e)
 word_found x m (d ∷ s) h e = go (same_name x d.0) refl e (word_found x m s h.1)
   where

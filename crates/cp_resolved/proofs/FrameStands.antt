@@ -54,7 +54,7 @@ one_cell (named.array_over r t) h = absurd h
 one_cell (named.record_with us) h = absurd h
 one_cell (named.component_of n) h = absurd h
 
-zero_has : (t : Ty) → IsOrdinal t → HasType t (number_value (pos 0))
+pub zero_has : (t : Ty) → IsOrdinal t → HasType t (number_value (pos 0))
 zero_has (named.ordinal r) h = zero_typed r
 zero_has named.queue_type h = absurd h
 zero_has (named.set_over r) h = absurd h
@@ -62,7 +62,7 @@ zero_has (named.array_over r t) h = absurd h
 zero_has (named.record_with us) h = absurd h
 zero_has (named.component_of n) h = absurd h
 
-is_result : (x : Name) (t : Ty) (o : Option Ty) → look x (result_variables o) ≡ Some t → x ≡ result_name
+pub is_result : (x : Name) (t : Ty) (o : Option Ty) → look x (result_variables o) ≡ Some t → x ≡ result_name
 is_result x t None e = absurd (none-some t e)
 is_result x t (Some u) e = go (same_name x result_name) refl e
   where

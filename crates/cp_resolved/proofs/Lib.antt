@@ -45,6 +45,7 @@ pub mod FrameKept
 pub mod FrameKnown
 pub mod FrameStands
 pub mod FrameSteps
+pub mod FrameValues
 pub mod FramesBegun
 pub mod Going
 pub mod Grown

@@ -36,7 +36,7 @@ use Rattle.cp_resolved.proofs.Steps.{found_in}
 
 -- ---- what a variable has at first
 
-content_left : (x : Name) (c : Content) (es fs : Environment) → content_of x es ≡ Some c → content_of x (es ++ fs) ≡ Some c
+pub content_left : (x : Name) (c : Content) (es fs : Environment) → content_of x es ≡ Some c → content_of x (es ++ fs) ≡ Some c
 content_left x c [] fs h = absurd (none-some c h)
 content_left x c (e ∷ es) fs h = go (same_name x e.0) h (content_left x c es fs)
   where
