@@ -35,23 +35,23 @@ seam (x ∷ xs) y ys = seam xs y ys
 
 -- ---- as many states as system types
 
-definition_many : (l : Layer) (d : Declared) (n : syntax.SystemDefinition) (v : syntax.Definition) → length d.systems + length (definition_parts l v) ≡ length (definition_in d n v).systems
+pub definition_many : (l : Layer) (d : Declared) (n : syntax.SystemDefinition) (v : syntax.Definition) → length d.systems + length (definition_parts l v) ≡ length (definition_in d n v).systems
 definition_many l d n (syntax.type_definition t) = omega arith
 definition_many l d n (syntax.system_definition s) = sym (length-append d.systems (system_in (seen_inside d.scope) s ∷ []))
 
-definitions_many : (l : Layer) (d : Declared) (ns : List syntax.SystemDefinition) → length d.systems + length (definitions_parts l ns) ≡ length (definitions_in d ns).systems
+pub definitions_many : (l : Layer) (d : Declared) (ns : List syntax.SystemDefinition) → length d.systems + length (definitions_parts l ns) ≡ length (definitions_in d ns).systems
 definitions_many l d [] = omega arith
 definitions_many l d (n ∷ ns) =
     let a = definition_many l d n n.value in
     let b = definitions_many (system_definition l n) (definition_in d n n.value) ns in
     omega (arith, a, b, length-append (definition_parts l n.value) (definitions_parts (system_definition l n) ns))
 
-part_many : (l : Layer) (d : Declared) (q : syntax.ProgramPart) → length d.systems + length (part_parts l q) ≡ length (program_part_in d q).systems
+pub part_many : (l : Layer) (d : Declared) (q : syntax.ProgramPart) → length d.systems + length (part_parts l q) ≡ length (program_part_in d q).systems
 part_many l d (syntax.program_constants at ds) = omega arith
 part_many l d (syntax.program_types at ns) = definitions_many l d ns
 part_many l d (syntax.program_variables at gs) = omega arith
 
-parts_many : (l : Layer) (d : Declared) (qs : List syntax.ProgramPart) → length d.systems + length (program_parts_parts l qs) ≡ length (program_parts_in d qs).systems
+pub parts_many : (l : Layer) (d : Declared) (qs : List syntax.ProgramPart) → length d.systems + length (program_parts_parts l qs) ≡ length (program_parts_in d qs).systems
 parts_many l d [] = omega arith
 parts_many l d (q ∷ qs) =
     let a = part_many l d q in

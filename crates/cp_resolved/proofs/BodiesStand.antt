@@ -130,12 +130,12 @@ whole_lines t =
 
 -- ---- routines by their numbers
 
-record EndsAt (t : syntax.Tree) (os : List Opening) (m n : ℕ) (l : Layer) : Type 0 where
-  opening : Opening
-  there : slice_get os n ≡ Some opening
-  ends : Ends (whole_laid t) (m + n) l opening
+pub record EndsAt (t : syntax.Tree) (os : List Opening) (m n : ℕ) (l : Layer) : Type 0 where
+  pub opening : Opening
+  pub there : slice_get os n ≡ Some opening
+  pub ends : Ends (whole_laid t) (m + n) l opening
 
-ends_at : (t : syntax.Tree) (m : ℕ) (ls : List Layer) (os : List Opening) (n : ℕ) (l : Layer) → AreEnded (whole_laid t) m ls os → slice_get ls n ≡ Some l → EndsAt t os m n l
+pub ends_at : (t : syntax.Tree) (m : ℕ) (ls : List Layer) (os : List Opening) (n : ℕ) (l : Layer) → AreEnded (whole_laid t) m ls os → slice_get ls n ≡ Some l → EndsAt t os m n l
 ends_at t m [] os n l h e = absurd (none-some l e)
 ends_at t m (x ∷ ls) [] n l h e = absurd h
 ends_at t m (x ∷ ls) (o ∷ os) zero l h e =

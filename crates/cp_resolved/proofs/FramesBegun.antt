@@ -3,6 +3,7 @@ use Rattle.std.proofs.Common.{◌≡◌, Bool, true, false, if◌then◌else◌,
 use Rattle.cp_tree.specs.declared.constant.Identifier.{Identifier}
 use Rattle.cp_tree.specs.Syntax as syntax
 use Rattle.cp_slots.specs.declared.lay_out.kinds.ValueType.{ValueType}
+use Rattle.cp_slots.specs.declared.lay_out.layer.FunctionResult.{FunctionResult}
 use Rattle.cp_slots.specs.Kinds.{Compounds}
 use Rattle.cp_slots.specs.Layers.{Layer}
 use Rattle.cp_slots.specs.Layers as layers
@@ -25,7 +26,7 @@ use Rattle.cp_resolved.specs.Small.{Each, IsSmallType, IsSmallPart, IsSmallRouti
 use Rattle.cp_resolved.specs.TreeLayouts.{parameters_by, result_variables}
 use Rattle.cp_resolved.proofs.Declares.{Declares, locals_of_declare, locals_declare, local_parts_declare, constant_groups_declare, parameter_groups_declare, either_group_declares}
 use Rattle.cp_resolved.proofs.Extends.{Longer, longer_trans, declared_extends}
-use Rattle.cp_resolved.proofs.FrameCells.{none_left, none_right, none_both}
+use Rattle.cp_resolved.proofs.FrameCells.{none_left, none_right, none_both, total, images_length}
 use Rattle.cp_resolved.proofs.FrameSteps.{counted_first, HasCells, Fits, fits_left, fits_right, fits_fewer, AreLying, Frames, constants_framed, definitions_framed, type_framed, one_variable, result_framed, local_framed, reference_framed}
 use Rattle.cp_resolved.proofs.Sizes.{Counted}
 use Rattle.cp_resolved.proofs.StepsOfParts.{Reached, reached_then, written_reached, locals_of_reached, local_part_reached, constant_groups_reached, either_group_reached, heading_reached}
@@ -254,6 +255,20 @@ module _ (k : Numbering) (all : Compounds) (counted : Counted all) where
       (let e = result_framed k p.1 result_name t (laid.named_type p.1 j.name) (parameters_by false c.parameters) (parameters_by true c.parameters) (named_type_same k p.1 c.scope j.name a.names) (counted_first p.1.types all y counted) has b in record { free = e.free; image = e.image; extents = e.extents; lying = e.lying }) in
       d
 
+  -- the cell of a function's result is the one after its parameters
+  abbrev pub SlotIs : List Variable → Option Ty → Option FunctionResult → Type 0
+  SlotIs vs None o = Unit {0}
+  SlotIs vs (Some t) (Some r) = r.slot ≡ total vs
+  SlotIs vs (Some t) None = ⊥
+
+  heading_slot : (l : Layer) (s : Scope) (x : Name) (r : syntax.RoutineKind) → InStep k l.types l.names s → Longer (heading l x r).1.types all → ParametersFit (meant.heading_of s r).parameters → Headed l [] →
+      SlotIs (parameters_by false (meant.heading_of s r).parameters) (meant.result_of (meant.heading_of s r).scope r) (heading l x r).0.result
+  unfolding heading
+  heading_slot l s x (syntax.procedure gs) i y f h = tt
+  heading_slot l s x (syntax.function gs j) i y f h =
+      let b : Headed (constant_groups l [] gs).1 (meant.with_groups local_variable (record { parameters = []; scope = s }) gs).parameters = constant_groups_framed l (record { parameters = []; scope = s }) [] gs i y f h in
+      ap (λ zs. length zs) b.image ∙ images_length (parameters_by false (meant.with_groups local_variable (record { parameters = []; scope = s }) gs).parameters) b.free
+
   -- ---- a routine
 
   pub record RoutineFits (m : meant.RoutineMeaning) : Type 0 where
@@ -282,3 +297,13 @@ module _ (k : Numbering) (all : Compounds) (counted : Counted all) where
       let rs : List Variable = parameters_by true m.parameters in
       let d : Frames j (pre ++ []) rs = subst (λ us. Frames j us rs) (sym (append-nil pre)) (record { free = b.free; image = b.image; extents = b.extents; lying = b.lying }) in
       parts_framed j (record { variables = []; scope = (meant.heading_of t r.kind).scope }) r.parts pre rs small (subst (λ cs. AreNumbered k.firsts (length cs) (in_routine r)) (sym c) n) a.names x f.variables d
+
+  -- the last heading is its own
+  pub routine_slot : (l : Layer) (s : Scope) (r : syntax.Routine) → k.routines (length l.routines) ≡ routine_in (with_routine s r) r → InStep k l.types l.names s →
+      Longer (routine_begun l r).types all → RoutineFits (routine_in (with_routine s r) r) → AreLying [] [] (opened l r.name.name).1.names →
+      SlotIs (parameters_by false (routine_in (with_routine s r) r).parameters) (routine_in (with_routine s r) r).result (heading (opened l r.name.name).1 r.name.name r.kind).0.result
+  routine_slot l s r e i x f none =
+      let o : Layer = (opened l r.name.name).1 in
+      let y : layers.Heading × Layer = heading o r.name.name r.kind in
+      let j : Layer = with_heading y.1 y.0 in
+      heading_slot o (with_routine s r) r.name.name r.kind (refl, (length l.routines, refl, e), i) (among j (routine_begun l r) (local_parts_declare j r.parts) x) f.parameters (record { free = tt; image = refl; extents = refl; lying = none })

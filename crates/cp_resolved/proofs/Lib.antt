@@ -60,7 +60,10 @@ pub mod FormedTargets
 pub mod FormsOfTrees
 pub mod FrameCells
 pub mod FrameKept
+pub mod FrameKnown
+pub mod FrameStands
 pub mod FrameSteps
+pub mod FrameValues
 pub mod FramesBegun
 pub mod GivenArguments
 pub mod Going
@@ -98,6 +101,7 @@ pub mod OwnCalls
 pub mod OwnCallsOfTables
 pub mod OwnCells
 pub mod OwnNames
+pub mod OwnedKept
 pub mod OwnedParts
 pub mod Owning
 pub mod ParametersFit
@@ -112,9 +116,13 @@ pub mod PlainInside
 pub mod Reserving
 pub mod ResultKnown
 pub mod Rooms
+pub mod RoutinesCounted
 pub mod SameTypes
 pub mod ScopeVariables
 pub mod ScopesOfTrees
+pub mod Seats
+pub mod SeatsOfProgram
+pub mod SeatsOfSystems
 pub mod Selecting
 pub mod Settled
 pub mod SettledItems
@@ -140,7 +148,9 @@ pub mod StepsOfProgram
 pub mod StepsOfRoutines
 pub mod StepsOfTypes
 pub mod Subtrees
+pub mod SystemKnown
 pub mod SystemsLaid
+pub mod SystemsStand
 pub mod Temporaries
 pub mod TreeKnown
 pub mod Typing

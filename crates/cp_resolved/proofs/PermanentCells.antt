@@ -145,7 +145,7 @@ unheld_holds ws x (meaning.Bound n k) h = tt
 unheld_holds ws x (meaning.Routine n) h = tt
 unheld_holds ws x (meaning.Predeclared p) h = tt
 
-holding_added : (ws : List Variable) (x : Name) (m : Meaning) (ns : Names) → IsUnheld m → AreHolding ws ns → AreHolding ws ((x, m) ∷ ns)
+pub holding_added : (ws : List Variable) (x : Name) (m : Meaning) (ns : Names) → IsUnheld m → AreHolding ws ns → AreHolding ws ((x, m) ∷ ns)
 holding_added ws x m ns i h y n e = go (found_cases (x, m) ns y n e)
   where
     go : ((bytes_eq x y ≡ true) × (m ≡ n)) ⊎ (find y ns ≡ Some n) → Holds ws y n

@@ -39,7 +39,7 @@ look_among x t (v ∷ vs) h = go (same_name x v.name) refl h (look_among x t vs)
     go false e f rest = inr (rest f)
 
 -- one that is among others is not missing
-never_missing : (x : Name) (t : Ty) (vs : List Variable) → Among x t vs → look x vs ≡ None → ⊥
+pub never_missing : (x : Name) (t : Ty) (vs : List Variable) → Among x t vs → look x vs ≡ None → ⊥
 never_missing x t [] h e = h
 never_missing x t (v ∷ vs) h e = go (same_name x v.name) refl e h (never_missing x t vs)
   where

@@ -30,7 +30,7 @@ use Rattle.cp_resolved.specs.InStep.{Numbering, CellsAre, PartsAre, BoundIs, InS
 use Rattle.cp_resolved.specs.Knows.{Knows}
 use Rattle.cp_resolved.specs.Layouts.{Here, frame_here, is_parameter}
 use Rattle.cp_resolved.specs.LayoutsKnow.{IsPlaced, place_of, KnowsAt, LayoutsLaw}
-use Rattle.cp_resolved.specs.Once.{IsOnce, IsWord, AreWords, IsSizedMeaning}
+use Rattle.cp_resolved.specs.Once.{IsOnce, IsWord, AreWords, AreSized, IsSized, IsSizedMeaning}
 use Rattle.cp_resolved.specs.Openings.{Opening, openings_of, meaning_in, meaning_at, numbering_of}
 use Rattle.cp_resolved.specs.TreeLayouts.{all_parts, layer_or, parts_at, begun_at, whole_laid, origin_in, hidden_origin, slot_in, first_in, owner_in}
 use Rattle.cp_resolved.specs.Used.{ResultsAre, system_type, EntryIs, KnowsCalls}
@@ -43,6 +43,12 @@ use Rattle.cp_resolved.proofs.Steps.{found_in}
 use Rattle.cp_resolved.proofs.Temporaries.{temporaries_next}
 
 -- ---- what is found in a scope
+
+pub local_sized : (x : Name) (t : Ty) (s : Scope) → AreSized s → scopes.find x s ≡ Some (scopes.local_variable t) → IsSized t
+local_sized x t s h e = subst IsSizedMeaning e (h x)
+
+pub permanent_sized : (x : Name) (t : Ty) (s : Scope) → AreSized s → scopes.find x s ≡ Some (scopes.permanent_variable t) → IsSized t
+permanent_sized x t s h e = subst IsSizedMeaning e (h x)
 
 -- no name that is no word is declared
 pub undeclared_name : (x : Name) (s : Scope) → (IsWord x → ⊥) → AreWords s → scopes.find x s ≡ None

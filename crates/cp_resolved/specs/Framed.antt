@@ -1,22 +1,20 @@
--- What is wanted of the declarations of a tree, so that variables lie where the layouts say, and the laws of routines and system types.
-use Rattle.std.specs.Prelude.{◌≡◌, ◌<◌, ◌≤◌, ℕ, true, List, [], ◌∷◌, ◌++◌, length, Option, Some, None, slice_get}
+-- What is wanted of the declarations of a tree, so that variables lie where the layouts say, and the law of system types.
+use Rattle.std.specs.Prelude.{◌≡◌, ◌<◌, ◌≤◌, ℕ, true, List, [], ◌∷◌, ◌++◌, Option, Some, None}
 use Rattle.cp_tree.specs.Syntax.{Tree}
 use Rattle.cp_slots.specs.Kinds.{most}
 use Rattle.cp_slots.specs.Laid.{plain, laid}
-use Rattle.cp_slots.specs.Layers.{Layer}
 use Rattle.cp_slots.specs.Tables.{Tables, system_at}
 use Rattle.cp_meaning.specs.Types.{Ty, ordinal}
 use Rattle.cp_meaning.specs.Scopes.{Meaning, local_variable, permanent_variable, Scope, find}
 use Rattle.cp_meaning.specs.Declarations.{Variable, RoutineMeaning}
 use Rattle.cp_meaning.specs.Steps.{parameter_variables}
 use Rattle.cp_meaning.specs.Systems.{SystemMeaning, program_system, system_of}
-use Rattle.cp_resolved.specs.Begun.{all_begun}
-use Rattle.cp_resolved.specs.BodiesStand.{ground_of, BodyFormed}
+use Rattle.cp_resolved.specs.BodiesStand.{ground_of}
 use Rattle.cp_resolved.specs.Calls.{all_calls_laid}
 use Rattle.cp_resolved.specs.Layouts.{look}
 use Rattle.cp_resolved.specs.LayoutsKnow.{IsPlaced}
 use Rattle.cp_resolved.specs.Openings.{meaning_at}
-use Rattle.cp_resolved.specs.Resolved.{RoutineIs, SystemIs}
+use Rattle.cp_resolved.specs.Resolved.{SystemIs}
 use Rattle.cp_resolved.specs.Small.{Each}
 use Rattle.cp_resolved.specs.Standing.{is_bounded, IsFreeVariable, IsStandingVariable}
 use Rattle.cp_resolved.specs.TreeLayouts.{call_variables, layouts_of}
@@ -62,13 +60,7 @@ pub record IsFramed (t : Tree) : Type 0 where
   pub permanents : (k : ℕ) → AreDeclared permanent_variable (system_of t.program k).scope (system_variables (system_of t.program k))
   pub standing : (k : ℕ) → Each IsStandingVariable (system_variables (system_of t.program k))
 
--- ---- the laws
-
--- of the routines and initial statements
-abbrev pub RoutinesLaw : Type 0
-RoutinesLaw =
-    (t : Tree) (r : Tables) → plain r ≡ laid t → length r.items ≤ most → IsPlaced t → IsFramed t →
-    ((n : ℕ) (l : Layer) → slice_get (all_begun t) n ≡ Some l → BodyFormed t n l) → (n : ℕ) → n < length r.routines → RoutineIs (ground_of r t) t.program (layouts_of t) n
+-- ---- the law
 
 -- of the system types, where no count of cells has stopped at the greatest word
 abbrev pub SystemsLaw : Type 0
