@@ -48,6 +48,7 @@ pub mod FormsOfTrees
 pub mod Going
 pub mod Grown
 pub mod Handed
+pub mod HeadingsFound
 pub mod Kept
 pub mod KeptNames
 pub mod Knowing
@@ -56,6 +57,7 @@ pub mod Listing
 pub mod Loops
 pub mod Moved
 pub mod Named
+pub mod NamesBeside
 pub mod NamesOfTrees
 pub mod Numbered
 pub mod OnceOfTrees

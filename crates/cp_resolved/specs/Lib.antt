@@ -2,6 +2,7 @@ pub mod Begun
 pub mod BodiesStand
 pub mod Calls
 pub mod Compiled
+pub mod Distinct
 pub mod Encoded
 pub mod Enumerations
 pub mod Fit
