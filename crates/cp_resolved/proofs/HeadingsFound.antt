@@ -134,7 +134,7 @@ module _ (k : Numbering) where
   others_past [] n m ns h = tt
   others_past (q ∷ qs) n m ns h = (find_past q.name n m ns h.0, others_past qs n m ns h.1)
 
-  find_itself : (n : Name) (m : Meaning) (ns : Names) → find n ((n, m) ∷ ns) ≡ Some m
+  pub find_itself : (n : Name) (m : Meaning) (ns : Names) → find n ((n, m) ∷ ns) ≡ Some m
   find_itself n m ns = ap (λ (b : Bool). if b then Some m else find n ns) (itself n)
 
   -- one parameter more
@@ -265,7 +265,7 @@ module _ (k : Numbering) where
   named_others P [] t b h = tt
   named_others P (x ∷ xs) t b h = (h.0, named_others P xs t b h.1)
 
-  groups_others : (P : Name → Type 0) (m : Ty → scopes.Meaning) (h : Heading) (gs : List syntax.Group) → Each (λ (q : Parameter). P q.name) h.parameters → Each P (all_names (λ g. names_of g.names) gs) → Each (λ (q : Parameter). P q.name) (with_groups m h gs).parameters
+  pub groups_others : (P : Name → Type 0) (m : Ty → scopes.Meaning) (h : Heading) (gs : List syntax.Group) → Each (λ (q : Parameter). P q.name) h.parameters → Each P (all_names (λ g. names_of g.names) gs) → Each (λ (q : Parameter). P q.name) (with_groups m h gs).parameters
   groups_others P m h [] f e = f
   groups_others P m h (g ∷ gs) f e =
       let t : Ty = type_named h.scope g.type_name.name in
@@ -284,7 +284,7 @@ module _ (k : Numbering) where
   kind_others P s (syntax.procedure gs) e = var_groups_others P (record { parameters = []; scope = s }) gs tt e
   kind_others P s (syntax.function gs i) e = groups_others P local_variable (record { parameters = []; scope = s }) gs tt e
 
-  same_after : (l m : Layer) (xs : List Name) (qs : List Parameter) → ((x : Name) → IsOther x xs → find x m.names ≡ find x l.names) → AreBeside qs xs → Each (λ (q : Parameter). find q.name m.names ≡ find q.name l.names) qs
+  pub same_after : (l m : Layer) (xs : List Name) (qs : List Parameter) → ((x : Name) → IsOther x xs → find x m.names ≡ find x l.names) → AreBeside qs xs → Each (λ (q : Parameter). find q.name m.names ≡ find q.name l.names) qs
   same_after l m xs [] h e = tt
   same_after l m xs (q ∷ qs) h e = (h q.name e.0, same_after l m xs qs h e.1)
 

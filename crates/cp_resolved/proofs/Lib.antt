@@ -102,6 +102,7 @@ pub mod StepsOfParts
 pub mod StepsOfProgram
 pub mod StepsOfRoutines
 pub mod StepsOfTypes
+pub mod SystemsFound
 pub mod Temporaries
 pub mod TreeKnown
 pub mod Typing
