@@ -22,6 +22,7 @@ pub mod CallingProgram
 pub mod CallsOfTrees
 pub mod CallsSpread
 pub mod Cells
+pub mod Chained
 pub mod Declared
 pub mod Declares
 pub mod Designating
