@@ -29,36 +29,36 @@ use Rattle.cp_resolved.proofs.StepsOfProgram.{Standing, Stood, definition_stood,
 use Rattle.cp_resolved.proofs.StepsOfRoutines.{body_systems, routine_count, routine_systems, routines_systems, routines_count, openings_count, opened_left, opened_right, begun_reached, routine_reached, parts_begun_reached, parts_opened, system_begun_reached, groups_systems}
 use Rattle.cp_resolved.proofs.StepsOfTypes.{numbered_left, numbered_after}
 
-seam : {A : Type 0} (xs : List A) (y : A) (ys : List A) → slice_get (xs ++ y ∷ ys) (length xs) ≡ Some y
+pub seam : {A : Type 0} (xs : List A) (y : A) (ys : List A) → slice_get (xs ++ y ∷ ys) (length xs) ≡ Some y
 seam [] y ys = refl
 seam (x ∷ xs) y ys = seam xs y ys
 
 -- ---- as many states as system types
 
-definition_many : (l : Layer) (d : Declared) (n : syntax.SystemDefinition) (v : syntax.Definition) → length d.systems + length (definition_parts l v) ≡ length (definition_in d n v).systems
+pub definition_many : (l : Layer) (d : Declared) (n : syntax.SystemDefinition) (v : syntax.Definition) → length d.systems + length (definition_parts l v) ≡ length (definition_in d n v).systems
 definition_many l d n (syntax.type_definition t) = omega arith
 definition_many l d n (syntax.system_definition s) = sym (length-append d.systems (system_in (seen_inside d.scope) s ∷ []))
 
-definitions_many : (l : Layer) (d : Declared) (ns : List syntax.SystemDefinition) → length d.systems + length (definitions_parts l ns) ≡ length (definitions_in d ns).systems
+pub definitions_many : (l : Layer) (d : Declared) (ns : List syntax.SystemDefinition) → length d.systems + length (definitions_parts l ns) ≡ length (definitions_in d ns).systems
 definitions_many l d [] = omega arith
 definitions_many l d (n ∷ ns) =
     let a = definition_many l d n n.value in
     let b = definitions_many (system_definition l n) (definition_in d n n.value) ns in
     omega (arith, a, b, length-append (definition_parts l n.value) (definitions_parts (system_definition l n) ns))
 
-part_many : (l : Layer) (d : Declared) (q : syntax.ProgramPart) → length d.systems + length (part_parts l q) ≡ length (program_part_in d q).systems
+pub part_many : (l : Layer) (d : Declared) (q : syntax.ProgramPart) → length d.systems + length (part_parts l q) ≡ length (program_part_in d q).systems
 part_many l d (syntax.program_constants at ds) = omega arith
 part_many l d (syntax.program_types at ns) = definitions_many l d ns
 part_many l d (syntax.program_variables at gs) = omega arith
 
-parts_many : (l : Layer) (d : Declared) (qs : List syntax.ProgramPart) → length d.systems + length (program_parts_parts l qs) ≡ length (program_parts_in d qs).systems
+pub parts_many : (l : Layer) (d : Declared) (qs : List syntax.ProgramPart) → length d.systems + length (program_parts_parts l qs) ≡ length (program_parts_in d qs).systems
 parts_many l d [] = omega arith
 parts_many l d (q ∷ qs) =
     let a = part_many l d q in
     let b = parts_many (program_part l q) (program_part_in d q) qs in
     omega (arith, a, b, length-append (part_parts l q) (program_parts_parts (program_part l q) qs))
 
-further : {A : Type 0} (all before xs ys rest : List A) → all ≡ before ++ ((xs ++ ys) ++ rest) → all ≡ (before ++ xs) ++ (ys ++ rest)
+pub further : {A : Type 0} (all before xs ys rest : List A) → all ≡ before ++ ((xs ++ ys) ++ rest) → all ≡ (before ++ xs) ++ (ys ++ rest)
 further all before xs ys rest e = e ∙ ap (λ zs. before ++ zs) (append_assoc xs ys rest) ∙ sym (append_assoc before xs (ys ++ rest))
 
 module _ (k : Numbering) (p : syntax.Program) (once : IsOnce p) (all : List Layer) (end : Layer) where

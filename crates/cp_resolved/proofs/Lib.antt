@@ -49,6 +49,7 @@ pub mod FormsOfTrees
 pub mod Going
 pub mod Grown
 pub mod Handed
+pub mod Headed
 pub mod HeadingsFound
 pub mod Kept
 pub mod KeptNames

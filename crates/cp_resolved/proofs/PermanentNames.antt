@@ -127,7 +127,7 @@ own_number l r x same =
 
 -- ---- what a system type sees of the names around it
 
-open_found : (x : List ℕ) (m : Meaning) (ns : Names) → find x (seen_inside ns) ≡ Some m → is_open m ≡ true
+pub open_found : (x : List ℕ) (m : Meaning) (ns : Names) → find x (seen_inside ns) ≡ Some m → is_open m ≡ true
 open_found x m [] e = absurd (no_name x m e)
 open_found x m (d ∷ ds) e = go (is_open d.1) refl (open_found x m ds) e
   where
