@@ -10,9 +10,9 @@ use Rattle.cp_slots.specs.declared.lay_out.kinds.ValueType.TheVariants as types
 use Rattle.cp_slots.specs.declared.lay_out.names.Meaning.{Meaning}
 use Rattle.cp_slots.specs.declared.lay_out.names.Meaning.TheVariants as meaning
 use Rattle.cp_slots.specs.Layers as layers
-use Rattle.cp_slots.specs.Layers.{Names, Layer, Heading, System, is_open, seen_inside}
+use Rattle.cp_slots.specs.Layers.{Names, Layer, Heading, System, is_open, seen_inside, outermost, nothing_laid}
 use Rattle.cp_slots.specs.LaidTypes.{named_type}
-use Rattle.cp_slots.specs.LaidDeclarations.{Parameters, heading, heading_with, with_heading, opened, routine, routines, entered, system_parameter, system_parameters_of, system_group, system_groups, initial_statement, system}
+use Rattle.cp_slots.specs.LaidDeclarations.{Parameters, heading, heading_with, with_heading, opened, routine, routines, entered, system_parameter, system_parameters_of, system_group, system_groups, program_parts}
 use Rattle.cp_meaning.specs.Names.{Name}
 use Rattle.cp_meaning.specs.Scopes as scopes
 use Rattle.cp_meaning.specs.Scopes.{Scope}
@@ -159,9 +159,19 @@ module _ (k : Numbering) (p : syntax.Program) (os : List Opening) (all : List La
   groups_owned w l ps [] h = h
   groups_owned w l ps (g ∷ gs) h = groups_owned w (system_group l ps g).1 (system_group l ps g).0 gs (parameters_owned w l ps (named_type l g.type_name.name) g.names h)
 
-  parts_owned : (w : ℕ) (l : Layer) (s : syntax.System) → AreOwned w (parts_begun l s).names
+  pub parts_owned : (w : ℕ) (l : Layer) (s : syntax.System) → AreOwned w (parts_begun l s).names
   parts_owned w l s =
       kept.permanent_parts_keep (AreOwned w) IsNoRoutine (owned_added w) (λ b z. tt) (λ v. tt) (λ n v. tt) (λ n v. tt) (system_groups (entered l).1 [] s.parameters).1 s.parts (groups_owned w (entered l).1 [] s.parameters (inside_owned w l.names))
+
+  -- nor is there one among the declarations of the program
+  outer_owned : (w : ℕ) (ns : Names) → Each (λ d. IsNoRoutine d.1) ns → AreOwned w ns
+  outer_owned w [] h = tt
+  outer_owned w (d ∷ ds) h = (plain_owned w d.1 h.0, outer_owned w ds h.1)
+
+  pub program_owned : (w : ℕ) (lines : List ℕ) (ps : List syntax.ProgramPart) → AreOwned w (program_parts (nothing_laid lines) ps).names
+  program_owned w lines ps =
+      kept.program_parts_keep (AreOwned w) IsNoRoutine (owned_added w) (λ b z. tt) (λ v. tt) (λ n v. tt) (λ n v. tt) (nothing_laid lines) ps
+      (outer_owned w outermost (tt, (tt, (tt, (tt, (tt, (tt, (tt, (tt, (tt, (tt, (tt, (tt, (tt, (tt, (tt, tt))))))))))))))))
 
   pub found_owned : (w : ℕ) (x : Name) (i : ℕ) (ns : Names) → AreOwned w ns → layers.find x ns ≡ Some (meaning.Routine i) → OwnedBy w i
   found_owned w x i [] h e = absurd (none-some _ e)

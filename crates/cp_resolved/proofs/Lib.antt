@@ -50,6 +50,7 @@ pub mod Going
 pub mod Grown
 pub mod Handed
 pub mod Headed
+pub mod HeadedPrograms
 pub mod HeadingsFound
 pub mod Kept
 pub mod KeptNames
