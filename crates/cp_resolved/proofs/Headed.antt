@@ -1,7 +1,6 @@
 -- Where the statements of each routine begin, its heading has its parameters, and the routines that are visible belong to its system type.
-use Rattle.std.proofs.Common.{◌≡◌, ◌+◌, ◌<◌, ◌≤◌, ℕ, zero, suc, Bool, true, false, if◌then◌else◌, nat_le, List, [], ◌∷◌, ◌++◌, length, Option, Some, None, slice_get, refl, sym, ap, subst, ◌∙◌, arith, append_assoc, length-append}
+use Rattle.std.proofs.Common.{◌≡◌, ◌+◌, ℕ, suc, Bool, true, false, if◌then◌else◌, List, [], ◌∷◌, ◌++◌, length, Option, Some, None, slice_get, refl, sym, ap, subst, ◌∙◌, arith}
 use Rattle.std.specs.Str.{bytes_eq}
-use Rattle.std.proofs.lemmas.Bool.{leb-true, leb-false}
 use Rattle.std.proofs.lemmas.Option.{none-some, same_Some}
 use Rattle.cp_tree.specs.declared.constant.Identifier.{Identifier}
 use Rattle.cp_tree.specs.Syntax as syntax
@@ -12,32 +11,28 @@ use Rattle.cp_slots.specs.declared.lay_out.names.Meaning.TheVariants as meaning
 use Rattle.cp_slots.specs.Layers as layers
 use Rattle.cp_slots.specs.Layers.{Names, Layer, Heading, System, is_open, seen_inside, outermost, nothing_laid}
 use Rattle.cp_slots.specs.LaidTypes.{named_type}
-use Rattle.cp_slots.specs.LaidDeclarations.{Parameters, heading, heading_with, with_heading, opened, routine, routines, entered, system_parameter, system_parameters_of, system_group, system_groups, program_parts}
+use Rattle.cp_slots.specs.LaidDeclarations.{Parameters, heading, with_heading, opened, routine, routines, entered, system_parameter, system_parameters_of, system_group, system_groups, program_parts}
 use Rattle.cp_meaning.specs.Names.{Name}
-use Rattle.cp_meaning.specs.Scopes as scopes
 use Rattle.cp_meaning.specs.Scopes.{Scope}
 use Rattle.cp_meaning.specs.Declarations.{routine_in}
-use Rattle.cp_meaning.specs.Systems.{SystemMeaning, system_in, Declared, system_of}
-use Rattle.cp_resolved.specs.Begun.{routine_begun, routines_begun, initial_begun, parameters_of, parts_begun, system_begun, definition_begun}
-use Rattle.cp_resolved.specs.Distinct.{IsDistinctRoutine, IsDistinctSystem, AreValues}
-use Rattle.cp_resolved.specs.Enumerations.{Enumerated, each_in, in_part, in_routine, in_system}
-use Rattle.cp_resolved.specs.Fit.{IsFitDefinition}
+use Rattle.cp_meaning.specs.Systems.{system_of}
+use Rattle.cp_resolved.specs.Begun.{routine_begun, routines_begun, parts_begun}
+use Rattle.cp_resolved.specs.Distinct.{IsDistinctRoutine, AreValues}
+use Rattle.cp_resolved.specs.Enumerations.{each_in, in_routine}
 use Rattle.cp_resolved.specs.FormedParts.{ParametersAre}
 use Rattle.cp_resolved.specs.InStep.{Numbering, InStep}
-use Rattle.cp_resolved.specs.Openings.{Opening, with_routine, routine_openings, parts_scope, initial_opening, system_openings, AreOpened}
-use Rattle.cp_resolved.specs.Small.{Each, IsSmallRoutine, IsSmallSystem, AreNumbered}
+use Rattle.cp_resolved.specs.Openings.{Opening, with_routine, routine_openings, AreOpened}
+use Rattle.cp_resolved.specs.Small.{Each, IsSmallRoutine, AreNumbered}
 use Rattle.cp_resolved.proofs.Entries.{last_entry}
 use Rattle.cp_resolved.proofs.EntriesKnown.{heading_of, begun_headings}
 use Rattle.cp_resolved.proofs.Extends.{routine_names}
 use Rattle.cp_resolved.proofs.HeadingsFound.{AreFound, begun_found}
 use Rattle.cp_resolved.proofs.KeptNames as kept
-use Rattle.cp_resolved.proofs.Knowing.{begun_routines, routine_even, routines_even, parts_even}
-use Rattle.cp_resolved.proofs.KnowingSystems.{begun_many}
+use Rattle.cp_resolved.proofs.Knowing.{begun_routines, routine_even}
 use Rattle.cp_resolved.proofs.StepsOfParts.{Reached}
-use Rattle.cp_resolved.proofs.StepsOfProgram.{Standing}
-use Rattle.cp_resolved.proofs.StepsOfRoutines.{body_systems, routine_count, routines_systems, openings_count, opened_left, opened_right, routine_reached, parts_begun_reached, parts_opened, groups_routines, groups_systems}
+use Rattle.cp_resolved.proofs.StepsOfRoutines.{routine_count, routine_reached}
 use Rattle.cp_resolved.proofs.StepsOfTypes.{numbered_left, numbered_after}
-use Rattle.cp_resolved.proofs.SystemsFound.{slots_in, parts_found}
+use Rattle.cp_resolved.proofs.SystemsFound.{slots_in}
 
 -- ---- openings by their numbers
 

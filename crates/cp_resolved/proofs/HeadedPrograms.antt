@@ -1,14 +1,12 @@
 -- The same of all routines and initial statements of a program; and the routines and the initial statement of each system type have the numbers between its own.
-use Rattle.std.proofs.Common.{◌≡◌, ◌+◌, ◌<◌, ◌≤◌, ℕ, zero, suc, Bool, true, false, nat_le, List, [], ◌∷◌, ◌++◌, length, Option, Some, None, slice_get, refl, sym, ap, subst, ◌∙◌, arith, append_assoc, append-nil, length-append}
+use Rattle.std.proofs.Common.{◌≡◌, ◌+◌, ◌<◌, ◌≤◌, ℕ, zero, suc, Bool, true, false, nat_le, List, [], ◌∷◌, ◌++◌, length, Some, None, slice_get, refl, sym, ap, subst, ◌∙◌, arith, append_assoc, append-nil, length-append}
 use Rattle.std.proofs.lemmas.Bool.{leb-true, leb-false}
 use Rattle.std.proofs.lemmas.Option.{none-some, same_Some}
 use Rattle.cp_tree.specs.Syntax as syntax
-use Rattle.cp_slots.specs.declared.lay_out.names.Meaning.{Meaning}
-use Rattle.cp_slots.specs.Layers.{Names, Layer, Heading, System, nothing_laid, outermost}
+use Rattle.cp_slots.specs.Layers.{Layer, Heading, System, nothing_laid}
 use Rattle.cp_slots.specs.LaidTypes.{written_type}
 use Rattle.cp_slots.specs.LaidDeclarations as laid
 use Rattle.cp_slots.specs.LaidDeclarations.{Parameters, heading_with, with_new_frame, with_heading, routines, initial_statement, system, type_named, definition, system_definition, system_definitions, program_part, program_parts, constants, variables, program}
-use Rattle.cp_meaning.specs.Names.{Name}
 use Rattle.cp_meaning.specs.Scopes.{Scope, seen_inside}
 use Rattle.cp_meaning.specs.Systems.{SystemMeaning, system_in, Declared, definition_in, definitions_in, program_part_in, program_parts_in, declared, program_system, own_meaning, or_own, system_of}
 use Rattle.cp_resolved.specs.Begun.{routines_begun, initial_begun, parameters_of, parts_begun, system_begun, definition_begun, definitions_begun, part_begun, program_parts_begun, all_begun}
@@ -20,17 +18,17 @@ use Rattle.cp_resolved.specs.InStep.{Numbering}
 use Rattle.cp_resolved.specs.Openings.{Opening, routine_openings, parts_scope, initial_opening, definition_openings, definitions_openings, part_openings, parts_openings, openings_of, AreOpened}
 use Rattle.cp_resolved.specs.Small.{Each, IsSmallSystem, IsSmallDefinition, IsSmallProgramPart, IsSmallProgram, AreNumbered}
 use Rattle.cp_resolved.specs.TreeLayouts.{definition_parts, definitions_parts, part_parts, program_parts_parts, all_parts, whole_laid}
-use Rattle.cp_resolved.proofs.BegunKnown.{seam, definition_many, definitions_many, part_many, parts_many, further}
+use Rattle.cp_resolved.proofs.BegunKnown.{seam, definition_many, part_many, parts_many, further}
 use Rattle.cp_resolved.proofs.Declares.{type_declares, constants_declare, variables_declare, Declares}
 use Rattle.cp_resolved.proofs.Entries.{last_entry, past_there}
-use Rattle.cp_resolved.proofs.Extends.{Longer, routines_extend}
-use Rattle.cp_resolved.proofs.Headed.{AreAt, at_left, at_right, at_after, OwnedBy, AreOwned, Headed, AreHeaded, headed_both, RoutinesHeaded, routines_headed, parts_owned, program_owned}
+use Rattle.cp_resolved.proofs.Extends.{routines_extend}
+use Rattle.cp_resolved.proofs.Headed.{AreAt, at_left, at_right, at_after, OwnedBy, Headed, AreHeaded, headed_both, RoutinesHeaded, routines_headed, parts_owned, program_owned}
 use Rattle.cp_resolved.proofs.Knowing.{routines_even, parts_even}
 use Rattle.cp_resolved.proofs.KnowingSystems.{begun_many, system_even, definitions_longer, parts_longer, IsFirst, first_before, first_is}
 use Rattle.cp_resolved.proofs.Steps.{outermost_in}
 use Rattle.cp_resolved.proofs.StepsOfParts.{Reached}
 use Rattle.cp_resolved.proofs.StepsOfProgram.{Standing, Stood, definition_stood, part_stood, parts_stood, opened_after, all_outer}
-use Rattle.cp_resolved.proofs.StepsOfRoutines.{body_systems, routines_systems, routines_count, openings_count, opened_left, opened_right, parts_begun_reached, parts_opened, groups_routines, groups_systems}
+use Rattle.cp_resolved.proofs.StepsOfRoutines.{body_systems, routines_systems, routines_count, openings_count, opened_left, parts_begun_reached, parts_opened, groups_routines, groups_systems}
 use Rattle.cp_resolved.proofs.StepsOfTypes.{numbered_left, numbered_after}
 use Rattle.cp_resolved.proofs.SystemsFound.{slots_in, parts_found, parameters_grown}
 

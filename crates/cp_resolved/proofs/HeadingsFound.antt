@@ -1,5 +1,5 @@
 -- Where the statements of a routine begin, each of its parameters is visible, at the slot that its heading has.
-use Rattle.std.proofs.Common.{◌≡◌, ◌+◌, ℕ, Bool, true, false, if◌then◌else◌, List, [], ◌∷◌, ◌++◌, length, Option, Some, None, refl, sym, ap, subst, ◌∙◌, append_assoc}
+use Rattle.std.proofs.Common.{◌≡◌, ℕ, Bool, true, false, if◌then◌else◌, List, [], ◌∷◌, ◌++◌, length, Some, refl, sym, ap, subst, ◌∙◌, append_assoc}
 use Rattle.std.proofs.lemmas.List.{append-nil}
 use Rattle.cp_tree.specs.declared.constant.Identifier.{Identifier}
 use Rattle.cp_tree.specs.Syntax as syntax
@@ -14,7 +14,7 @@ use Rattle.cp_slots.specs.declared.lay_out.names.Meaning.TheVariants as meaning
 use Rattle.cp_slots.specs.Kinds.{Compounds}
 use Rattle.cp_slots.specs.Layers.{Names, Layer, find}
 use Rattle.cp_slots.specs.LaidTypes.{named_type}
-use Rattle.cp_slots.specs.LaidDeclarations.{Parameters, value_parameter, constant_parameter, constant_parameters_of, constant_group, constant_groups, reference_parameter, var_parameter, var_parameters_of, var_group, parameter_group, parameter_groups, heading, with_heading, opened, local_parts}
+use Rattle.cp_slots.specs.LaidDeclarations.{Parameters, value_parameter, constant_parameter, constant_parameters_of, constant_group, constant_groups, reference_parameter, var_parameter, var_parameters_of, var_group, parameter_group, parameter_groups, heading, with_heading, opened}
 use Rattle.cp_meaning.specs.Names.{Name, same_name}
 use Rattle.cp_meaning.specs.Types as named
 use Rattle.cp_meaning.specs.Types.{Ty}

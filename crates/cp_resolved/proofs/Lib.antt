@@ -52,6 +52,7 @@ pub mod Handed
 pub mod Headed
 pub mod HeadedPrograms
 pub mod HeadingsFound
+pub mod HeadingsKnown
 pub mod Kept
 pub mod KeptNames
 pub mod Knowing

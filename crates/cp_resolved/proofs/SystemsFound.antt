@@ -1,5 +1,5 @@
 -- Where the routines of a system type begin, each of its parameters has the slot that the heading of its initial statement has.
-use Rattle.std.proofs.Common.{◌≡◌, ℕ, Bool, true, false, if◌then◌else◌, List, [], ◌∷◌, ◌++◌, Option, Some, None, refl, sym, ap, subst, ◌∙◌, append_assoc}
+use Rattle.std.proofs.Common.{◌≡◌, ℕ, false, List, [], ◌∷◌, ◌++◌, Some, refl, sym, ap, subst, ◌∙◌, append_assoc}
 use Rattle.std.proofs.lemmas.List.{append-nil}
 use Rattle.cp_tree.specs.declared.constant.Identifier.{Identifier}
 use Rattle.cp_tree.specs.Syntax as syntax
@@ -12,7 +12,7 @@ use Rattle.cp_slots.specs.declared.lay_out.names.Meaning.TheVariants as meaning
 use Rattle.cp_slots.specs.Kinds.{Compounds}
 use Rattle.cp_slots.specs.Layers.{Names, Layer, find}
 use Rattle.cp_slots.specs.LaidTypes.{named_type}
-use Rattle.cp_slots.specs.LaidDeclarations.{Parameters, value_parameter, cell_parameter, component_parameter, passed_component, system_parameter, system_parameters_of, system_group, system_groups, entered, permanent_parts}
+use Rattle.cp_slots.specs.LaidDeclarations.{Parameters, value_parameter, cell_parameter, passed_component, system_parameter, system_parameters_of, system_group, system_groups, entered, permanent_parts}
 use Rattle.cp_meaning.specs.Names.{Name, same_name}
 use Rattle.cp_meaning.specs.Types as named
 use Rattle.cp_meaning.specs.Types.{Ty}
@@ -25,7 +25,6 @@ use Rattle.cp_resolved.specs.FormedParts.{PassedBy, ParametersAre}
 use Rattle.cp_resolved.specs.InStep.{Numbering, range_on, TypeIs, InStep, AreOuter}
 use Rattle.cp_resolved.specs.Small.{Each, AreParameters}
 use Rattle.cp_resolved.specs.TreeLayouts.{slot_in}
-use Rattle.cp_resolved.proofs.AgreeingWritten.{each_left, each_right}
 use Rattle.cp_resolved.proofs.Declares.{permanent_parts_declare}
 use Rattle.cp_resolved.proofs.HeadingsFound.{each_both, AreBeside, beside_left, beside_right, beside_first, beside_others, distinct_left, distinct_right, named_beside, passed_value, passed_grown, find_itself, groups_others, same_after}
 use Rattle.cp_resolved.proofs.NamesBeside.{find_past, permanent_parts_beside}

@@ -8,6 +8,7 @@ pub mod Enumerations
 pub mod Fit
 pub mod Formed
 pub mod FormedParts
+pub mod HeadingsKnow
 pub mod Held
 pub mod InStep
 pub mod Judging
