@@ -13,7 +13,7 @@ use Rattle.cp_meaning.specs.Types as named
 use Rattle.cp_meaning.specs.Types.{Ty, FieldTypes, natural_of, length_of_range}
 use Rattle.cp_resolved.specs.Layouts.{cells_of, cells_in}
 use Rattle.cp_resolved.specs.Standing.{is_indexed, is_free, are_free}
-use Rattle.cp_resolved.specs.Typed.{Written, RangeIs, TypeIs, FieldsAre}
+use Rattle.cp_resolved.specs.Typed.{Tokens, Written, RangeIs, TypeIs, FieldsAre}
 use Rattle.cp_resolved.proofs.AgreeingNames.{array_is}
 use Rattle.cp_resolved.proofs.FewCells.{left_of, right_of, not_negative}
 
@@ -46,8 +46,8 @@ one_more (pos n) h = refl
 one_more (negsuc n) h = absurd (let bad : false ≡ true = h in cc)
 
 -- how many values
-values_are : (q : named.Range) (r : Range) → RangeIs q r → int_le q.low q.high ≡ true → count_of r ≡ min (length_of_range q) 8193
-values_are q r h o =
+values_are : (k : Tokens) (q : named.Range) (r : Range) → RangeIs k q r → int_le q.low q.high ≡ true → count_of r ≡ min (length_of_range q) 8193
+values_are k q r h o =
     ap (λ z. min (unsigned_abs (z -ℤ r.low) + 1) 8193) h.high ∙ ap (λ z. min (unsigned_abs (q.high -ℤ z) + 1) 8193) h.low
     ∙ ap (λ n. min n 8193) (one_more (q.high -ℤ q.low) (not_negative q.low q.high o))
 
@@ -64,9 +64,9 @@ module _ (w : Written) where
   cells_are (named.component_of n) v h = ap counted h.is
 
   -- an array that is not too large
-  pub array_takes : (q : named.Range) (r : Range) (t : Ty) (v : ValueType) → RangeIs q r → int_le q.low q.high ≡ true → TypeIs w t v → nat_lt 8192 (times (count_of r) (counted v)) ≡ false → times (count_of r) (counted v) ≡ length_of_range q * cells_of t
+  pub array_takes : (q : named.Range) (r : Range) (t : Ty) (v : ValueType) → RangeIs w.tokens q r → int_le q.low q.high ≡ true → TypeIs w t v → nat_lt 8192 (times (count_of r) (counted v)) ≡ false → times (count_of r) (counted v) ≡ length_of_range q * cells_of t
   array_takes q r t v h o g few =
-      let same : times (count_of r) (counted v) ≡ times (min (length_of_range q) 8193) (cells_of t) = ap (λ n. times n (counted v)) (values_are q r h o) ∙ ap (times (min (length_of_range q) 8193)) (cells_are t v g) in
+      let same : times (count_of r) (counted v) ≡ times (min (length_of_range q) 8193) (cells_of t) = ap (λ n. times n (counted v)) (values_are w.tokens q r h o) ∙ ap (times (min (length_of_range q) 8193)) (cells_are t v g) in
       same ∙ few_times (length_of_range q) (cells_of t) (subst (λ n. n ≤ 8192) same (ltb-false 8192 (times (count_of r) (counted v)) few))
 
   -- ---- records

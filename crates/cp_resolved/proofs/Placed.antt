@@ -5,7 +5,7 @@ use Rattle.cp_slots.specs.Kinds.{most}
 use Rattle.cp_meaning.specs.Scopes.{Meaning, constant_meaning, type_meaning, local_variable, permanent_variable, routine_meaning, standard_meaning, find}
 use Rattle.cp_meaning.specs.Systems.{declared, own_meaning, program_system}
 use Rattle.cp_resolved.specs.Fit.{nothing_declared}
-use Rattle.cp_resolved.specs.Judging.{Place, places_of, AreAgreed, ScopesAre}
+use Rattle.cp_resolved.specs.Judging.{Place, places_of, AreAgreed, tokens_of, ScopesAre}
 use Rattle.cp_resolved.specs.Layouts.{cells_of}
 use Rattle.cp_resolved.specs.Once.{IsSizedMeaning, AreSized}
 use Rattle.cp_resolved.specs.Openings.{Opening, routine_openings, initial_opening, parts_openings, openings_of, meaning_in, meaning_at}
@@ -13,7 +13,7 @@ use Rattle.cp_resolved.specs.Placed.{PlacedLaw}
 use Rattle.cp_resolved.specs.Resolved.{initial_meaning}
 use Rattle.cp_resolved.specs.Small.{Each}
 use Rattle.cp_resolved.specs.Standing.{IsFit}
-use Rattle.cp_resolved.specs.Tokens.{token_of_type}
+use Rattle.cp_resolved.specs.Typed.{Tokens}
 use Rattle.cp_resolved.proofs.CallsOfTrees.{indexed_apart}
 use Rattle.cp_resolved.proofs.FewCells.{few_free, few_standing, full_free, full_standing}
 use Rattle.cp_resolved.proofs.OnceOfTrees.{accepted_once}
@@ -38,7 +38,7 @@ fit_sized None h = tt
 abbrev AreSizedAt : Opening → Type 0
 AreSizedAt o = AreSized o.meaning.scope
 
-all_sized : (tokens : ℕ → ℕ) (p : Program) (xs : List Place) (os : List Opening) → AreAgreed tokens p xs os → Each AreSizedAt os
+all_sized : (tokens : Tokens) (p : Program) (xs : List Place) (os : List Opening) → AreAgreed tokens p xs os → Each AreSizedAt os
 all_sized tokens p [] [] h = tt
 all_sized tokens p [] (o ∷ os) h = absurd h
 all_sized tokens p (x ∷ xs) [] h = absurd h
@@ -60,7 +60,7 @@ sized_at p (o ∷ os) (suc n) h own = sized_at p os n h.1 own
 
 agreed_sized : (p : Program) → ScopesAre p → (n : ℕ) → AreSized (meaning_at p n).scope
 agreed_sized p h n =
-    let all : Each AreSizedAt (openings_of p) = all_sized (token_of_type p) p (places_of p) (openings_of p) h.places in
+    let all : Each AreSizedAt (openings_of p) = all_sized (tokens_of p) p (places_of p) (openings_of p) h.places in
     let rs : List Opening = routine_openings (program_system p) (declared p).scope p.routines in
     let own : Opening = initial_opening (program_system p) (own_meaning (declared p) p) in
     sized_at p (openings_of p) n all (last_sized rs own (right_sized (parts_openings nothing_declared p.parts) (rs ++ own ∷ []) all))

@@ -8,6 +8,7 @@ pub mod Enumerations
 pub mod Fit
 pub mod Formed
 pub mod FormedParts
+pub mod Framed
 pub mod HeadingsKnow
 pub mod Held
 pub mod InStep
@@ -17,6 +18,7 @@ pub mod ItemsStand
 pub mod Knows
 pub mod Layouts
 pub mod LayoutsKnow
+pub mod Meant
 pub mod Names
 pub mod Once
 pub mod Openings
