@@ -29,7 +29,7 @@ use Rattle.cp_resolved.proofs.StepsOfProgram.{Standing, Stood, definition_stood,
 use Rattle.cp_resolved.proofs.StepsOfRoutines.{body_systems, routine_count, routine_systems, routines_systems, routines_count, openings_count, opened_left, opened_right, begun_reached, routine_reached, parts_begun_reached, parts_opened, system_begun_reached, groups_systems}
 use Rattle.cp_resolved.proofs.StepsOfTypes.{numbered_left, numbered_after}
 
-seam : {A : Type 0} (xs : List A) (y : A) (ys : List A) → slice_get (xs ++ y ∷ ys) (length xs) ≡ Some y
+pub seam : {A : Type 0} (xs : List A) (y : A) (ys : List A) → slice_get (xs ++ y ∷ ys) (length xs) ≡ Some y
 seam [] y ys = refl
 seam (x ∷ xs) y ys = seam xs y ys
 
@@ -58,7 +58,7 @@ parts_many l d (q ∷ qs) =
     let b = parts_many (program_part l q) (program_part_in d q) qs in
     omega (arith, a, b, length-append (part_parts l q) (program_parts_parts (program_part l q) qs))
 
-further : {A : Type 0} (all before xs ys rest : List A) → all ≡ before ++ ((xs ++ ys) ++ rest) → all ≡ (before ++ xs) ++ (ys ++ rest)
+pub further : {A : Type 0} (all before xs ys rest : List A) → all ≡ before ++ ((xs ++ ys) ++ rest) → all ≡ (before ++ xs) ++ (ys ++ rest)
 further all before xs ys rest e = e ∙ ap (λ zs. before ++ zs) (append_assoc xs ys rest) ∙ sym (append_assoc before xs (ys ++ rest))
 
 module _ (k : Numbering) (p : syntax.Program) (once : IsOnce p) (all : List Layer) (end : Layer) where

@@ -83,7 +83,7 @@ grew_extends l m h =
 
 -- ---- a body
 
-heading_extends : (l : Layer) (h : Heading) → Extends l (with_heading l h)
+pub heading_extends : (l : Layer) (h : Heading) → Extends l (with_heading l h)
 heading_extends l h =
     record {
       lines = refl;
@@ -123,7 +123,7 @@ initial_extends l ps b =
 
 -- ---- routines
 
-begun_extends : (l : Layer) (r : syntax.Routine) → Extends l (routine_begun l r)
+pub begun_extends : (l : Layer) (r : syntax.Routine) → Extends l (routine_begun l r)
 begun_extends l r =
     let x : Layer = (opened l r.name.name).1 in
     let h : Heading × Layer = heading x r.name.name r.kind in

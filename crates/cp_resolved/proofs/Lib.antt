@@ -24,6 +24,7 @@ pub mod CallingProgram
 pub mod CallsOfTrees
 pub mod CallsSpread
 pub mod Cells
+pub mod Chained
 pub mod ComponentImages
 pub mod ComponentOrder
 pub mod ComponentsLaw
@@ -70,6 +71,10 @@ pub mod Going
 pub mod Grown
 pub mod Handed
 pub mod HandedOver
+pub mod Headed
+pub mod HeadedPrograms
+pub mod HeadingsFound
+pub mod HeadingsKnown
 pub mod InsideArguments
 pub mod InsideExpressions
 pub mod InsideForms
@@ -89,6 +94,7 @@ pub mod Loops
 pub mod Moved
 pub mod MovedTypes
 pub mod Named
+pub mod NamesBeside
 pub mod NamesOfTrees
 pub mod Numbered
 pub mod OnceOfTrees
@@ -149,6 +155,7 @@ pub mod StepsOfRoutines
 pub mod StepsOfTypes
 pub mod Subtrees
 pub mod SystemKnown
+pub mod SystemsFound
 pub mod SystemsLaid
 pub mod SystemsStand
 pub mod Temporaries

@@ -67,13 +67,13 @@ module _ (t : syntax.Tree) (place : IsPlaced t) (n : ℕ) (l : Layer) (o : Openi
   abbrev h : Here
   h = place_of t n
 
-  begun_is : begun_at t n ≡ l
+  pub begun_is : begun_at t n ≡ l
   begun_is = ap (layer_or (layers.nothing_laid t.lines)) at
 
   meaning_is : meaning_at t.program n ≡ o.meaning
   meaning_is = ap (meaning_in _) opening
 
-  owner_is : h.system ≡ o.owner
+  pub owner_is : h.system ≡ o.owner
   owner_is = ap (owner_in _) opening
 
   parts_is : parts_at t h.system ≡ b.around
@@ -121,7 +121,7 @@ module _ (t : syntax.Tree) (place : IsPlaced t) (n : ℕ) (l : Layer) (o : Openi
       let g : (g : Heading) × (slice_get l.headings number ≡ Some g) = there l.headings number low in
       subst (λ q. ResultsAre k l.types (k.routines number).result (result_in q)) (sym g.1) (b.knowing.headings number g.0 g.1)
 
-  found_known : (x : Name) (m : Meaning) → layers.find x l.names ≡ Some m → IsMeaning (length l.systems) (length l.routines) m
+  pub found_known : (x : Name) (m : Meaning) → layers.find x l.names ≡ Some m → IsMeaning (length l.systems) (length l.routines) m
   found_known x m e = subst (IsFound (length l.systems) (length l.routines)) e (found (length l.systems) (length l.routines) x l.names b.knowing.named.names)
 
   own_known : (x : Name) (number : ℕ) → layers.find x l.names ≡ Some (meaning.Routine number) → ResultsAre k l.types (k.routines number).result (result_of l number)
@@ -144,7 +144,7 @@ module _ (t : syntax.Tree) (place : IsPlaced t) (n : ℕ) (l : Layer) (o : Openi
   array_low r j m (inr (inl v)) = subst (IsType (length l.systems)) v.belongs.belongs (b.knowing.named.types v.belongs.number _ v.belongs.there)
   array_low r j m (inr (inr v)) = absurd (let w : named.array_over r (named.component_of j) ≡ named.component_of v.system = v.component in cc)
 
-  abbrev LowBy : Ty → Type 0
+  abbrev pub LowBy : Ty → Type 0
   LowBy u = (j : ℕ) → (u ≡ named.component_of j) ⊎ ((r : named.Range) × (u ≡ named.array_over r (named.component_of j))) → j < length l.systems
 
   part_low : (u : Ty) (m : Meaning) → IsMeaning (length l.systems) (length l.routines) m → IsPart u m → LowBy u
@@ -155,7 +155,7 @@ module _ (t : syntax.Tree) (place : IsPlaced t) (n : ℕ) (l : Layer) (o : Openi
   found_low x u None s e f = absurd f
   found_low x u (Some m) s e f = part_low u m (found_known x m e) f
 
-  variable_low : (x : Name) (u : Ty) → scopes.find x h.scope ≡ Some (scopes.permanent_variable u) → LowBy u
+  pub variable_low : (x : Name) (u : Ty) → scopes.find x h.scope ≡ Some (scopes.permanent_variable u) → LowBy u
   variable_low x u e =
       found_low x u (layers.find x l.names) (scopes.since x h.scope) refl (subst (λ q. FoundIs k l.types (layers.find x l.names) q (scopes.since x h.scope)) e (found_in k l.types x l.names h.scope knows.names))
 

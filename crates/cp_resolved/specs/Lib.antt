@@ -4,6 +4,7 @@ pub mod Calls
 pub mod Compiled
 pub mod ComponentsAre
 pub mod Declared
+pub mod Distinct
 pub mod Encoded
 pub mod Enumerations
 pub mod Fit
@@ -13,6 +14,7 @@ pub mod FormedParts
 pub mod FormedStatements
 pub mod Framed
 pub mod Headed
+pub mod HeadingsKnow
 pub mod Held
 pub mod InStep
 pub mod ItemsInside

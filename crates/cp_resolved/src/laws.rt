@@ -3,6 +3,7 @@
 ghost use Rattle.cp_resolved.specs.Formed.{FormsLaw};
 ghost use Rattle.cp_resolved.specs.FormedBodies.{FormedLaw};
 ghost use Rattle.cp_resolved.specs.Judging.{ScopesLaw};
+ghost use Rattle.cp_resolved.specs.HeadingsKnow.{HeadingsLaw};
 ghost use Rattle.cp_resolved.specs.Held.{FewItemsLaw, FewReferencesLaw};
 ghost use Rattle.cp_resolved.specs.BodiesStand.{BodiesLaw};
 ghost use Rattle.cp_resolved.specs.ComponentsAre.{ComponentsLaw};
@@ -70,7 +71,12 @@ pub fn law_layouts()
     ensures { LayoutsLaw }
 {}
 
-/// What was read and breaks no rule has what this law and `law_bodies` want of a tree.
+/// They know the headings of the routines and system types that are visible there.
+pub fn law_headings()
+    ensures { HeadingsLaw }
+{}
+
+/// What was read and breaks no rule has what `law_layouts` and `law_bodies` want of a tree.
 pub fn law_placed()
     ensures { PlacedLaw }
 {}
