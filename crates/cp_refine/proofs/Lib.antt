@@ -52,6 +52,7 @@ pub mod Loops
 pub mod Members
 pub mod Moving
 pub mod NewFrame
+pub mod NextInReached
 pub mod Numbers
 pub mod Observed
 pub mod OpeningState
