@@ -1,6 +1,5 @@
 -- What a process does next in a reached state: it stands in the body of a routine, `continue` in that of an entry procedure.
 use Rattle.std.proofs.Common.{◌≡◌, ◌∙◌, ℕ, ◌<◌, true, false, List, [], ◌∷◌, ◌++◌, length, Option, Some, None, ap, sym, refl, subst}
-use Rattle.cp_tree.specs.declared.declaration.SystemKind.TheVariants as system_kind
 use Rattle.cp_tree.specs.Syntax.{Designator, Expressions, invoke, Program, Tree}
 use Rattle.cp_store.specs.declared.memory.Frame.{Frame}
 use Rattle.cp_machine.specs.declared.process.Entry.{Entry}
@@ -8,7 +7,7 @@ use Rattle.cp_machine.specs.declared.process.Entry.TheVariants.{Rest, Successor,
 use Rattle.cp_machine.specs.Stack.{from_end}
 use Rattle.cp_meaning.specs.Expressions.{name_of}
 use Rattle.cp_meaning.specs.Scopes.{standard_meaning, continue_procedure, find}
-use Rattle.cp_meaning.specs.State.{component_at, CallKind, own_statement, initial_statement, local_routine, entry_routine, Call, current, Item, statement_item, function_call, start_item, until, successor, return, init_end, end, unstarted, ready, delayed, process_at, Gates, State, has_entry, Status}
+use Rattle.cp_meaning.specs.State.{CallKind, own_statement, initial_statement, local_routine, entry_routine, Call, current, Item, statement_item, function_call, start_item, until, successor, return, init_end, end, unstarted, ready, delayed, process_at, Gates, State, has_entry, Status}
 use Rattle.cp_meaning.specs.Steps.{IsReached}
 use Rattle.cp_lawful.specs.Accepted.{IsAccepted}
 use Rattle.cp_lawful.proofs.Accepting.{well_formed}
@@ -75,16 +74,16 @@ module _ (t : Tree) (ok : IsAccepted t) (l : Layouts) (f : Traits) (known : Rout
   holds : HoldsInReached p s
   holds = reached_stands t ok g s before
 
-  -- who is delayed in a monitor has an open entry call of it
-  pub delayed_called : (q n : ℕ) → q < length s.processes → (process_at s.processes q).status ≡ delayed n → (component_at s.components n).kind ≡ system_kind.Monitor → has_entry n (process_at s.processes q).calls ≡ true
-  delayed_called q n less e mon = subst (λ (u : Status). WaitsInside p u (process_at s.processes q).calls) e (all q less).waits (sym (holds.kind n) ∙ mon)
+  -- who is delayed in a queue of a component has an open entry call of it
+  pub delayed_called : (n q : ℕ) → q < length s.processes → (process_at s.processes q).status ≡ delayed n → has_entry n (process_at s.processes q).calls ≡ true
+  delayed_called n q less e = subst (λ (u : Status). WaitsInside u (process_at s.processes q).calls) e (all q less).waits
 
   -- the routine whose body a process executes
   pub record Executed (q : ℕ) (items : List Item) : Type 0 where
     pub number : ℕ
     pub numbers : List ℕ
     pub scope : (current (process_at s.processes q).calls).scope ≡ scope_of l number
-    pub kind : KindFits p f (current (process_at s.processes q).calls).kind (current (process_at s.processes q).calls).component number
+    pub kind : KindFits f (current (process_at s.processes q).calls).kind number
     pub remains : ItemsFit l (number ∷ numbers) items
 
   pub executed : (q : ℕ) → q < length s.processes → (process_at s.processes q).status ≡ ready → Executed q (process_at s.processes q).items
@@ -92,7 +91,7 @@ module _ (t : Tree) (ok : IsAccepted t) (l : Layouts) (f : Traits) (known : Rout
       let w = holds.open_call q less (λ e. (let bad : ready ≡ unstarted = sym was ∙ e in cc)) in
       go (process_at s.processes q).calls w.0 w.1 w.2 (all q less).stands.numbers (all q less).stands.executes (all q less).stands.remains refl
     where
-      go : (calls : List Call) (c : Call) (cs : List Call) → calls ≡ c ∷ cs → (ns : List ℕ) → CallsFit p l f calls ns → ItemsFit l ns (process_at s.processes q).items → (process_at s.processes q).calls ≡ calls → Executed q (process_at s.processes q).items
+      go : (calls : List Call) (c : Call) (cs : List Call) → calls ≡ c ∷ cs → (ns : List ℕ) → CallsFit l f calls ns → ItemsFit l ns (process_at s.processes q).items → (process_at s.processes q).calls ≡ calls → Executed q (process_at s.processes q).items
       go [] c cs e ns fits rest same = absurd (let bad : [] ≡ c ∷ cs = e in cc)
       go (a ∷ calls) c cs e [] fits rest same = absurd fits
       go (a ∷ calls) c cs e (n ∷ ns) fits rest same =
@@ -100,15 +99,15 @@ module _ (t : Tree) (ok : IsAccepted t) (l : Layouts) (f : Traits) (known : Rout
             number = n;
             numbers = ns;
             scope = ap (λ (xs : List Call). (current xs).scope) same ∙ fits.0.scope;
-            kind = subst (λ (xs : List Call). KindFits p f (current xs).kind (current xs).component n) (sym same) fits.0.kind;
+            kind = subst (λ (xs : List Call). KindFits f (current xs).kind n) (sym same) fits.0.kind;
             remains = rest;
           }
 
-  entry_kind : (k : CallKind) (m n : ℕ) → KindFits p f k m n → f.entry n ≡ true → k ≡ entry_routine
-  entry_kind entry_routine m n h e = refl
-  entry_kind own_statement m n h e = absurd (let bad : true ≡ false = sym e ∙ h in cc)
-  entry_kind local_routine m n h e = absurd (let bad : true ≡ false = sym e ∙ h in cc)
-  entry_kind initial_statement m n h e = absurd (let bad : true ≡ false = sym e ∙ h.0 in cc)
+  entry_kind : (k : CallKind) (n : ℕ) → KindFits f k n → f.entry n ≡ true → k ≡ entry_routine
+  entry_kind entry_routine n h e = refl
+  entry_kind own_statement n h e = absurd (let bad : true ≡ false = sym e ∙ h.0 in cc)
+  entry_kind local_routine n h e = absurd (let bad : true ≡ false = sym e ∙ h in cc)
+  entry_kind initial_statement n h e = absurd (let bad : true ≡ false = sym e ∙ h.0 in cc)
 
   -- `continue` is executed in an entry procedure
   pub continues_in_entry : (q at : ℕ) (d : Designator) (es : Expressions) (items : List Item) → q < length s.processes → (process_at s.processes q).status ≡ ready → (process_at s.processes q).items ≡ statement_item (invoke at d es) ∷ items →
@@ -117,7 +116,7 @@ module _ (t : Tree) (ok : IsAccepted t) (l : Layouts) (f : Traits) (known : Rout
       let x = executed q less was in
       let rest = subst (λ (is : List Item). ItemsFit l (x.number ∷ x.numbers) is) e x.remains in
       let said = known.continues x.number at d es rest.0 (ap (find (name_of d)) (sym x.scope) ∙ is) in
-      let kind = entry_kind (current (process_at s.processes q).calls).kind (current (process_at s.processes q).calls).component x.number x.kind said.0 in
+      let kind = entry_kind (current (process_at s.processes q).calls).kind x.number x.kind said.0 in
       let w = holds.open_call q less (λ e. (let bad : ready ≡ unstarted = sym was ∙ e in cc)) in
       let fits = subst (λ (is : List Item). FramesFit (frames (process_at s.processes q).calls) is) e ((reached p (well_formed t ok) g s before).1.orderly.processes q less).fits in (
         kind,
