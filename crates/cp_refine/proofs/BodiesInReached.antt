@@ -1,6 +1,5 @@
 -- In each reached state all that is still to be done stands in the bodies of the open calls' routines, and who waits in a queue has an open entry call.
 use Rattle.std.proofs.Common.{◌≡◌, ◌∙◌, ◌⊎◌, inl, inr, ℕ, zero, suc, ◌<◌, ◌==◌, Bool, true, false, if◌then◌else◌, List, [], ◌∷◌, ◌++◌, length, slice_set, Option, Some, None, Ok, Err, ap, sym, refl, subst, arith}
-use Rattle.cp_tree.specs.declared.declaration.SystemKind.TheVariants as system_kind
 use Rattle.cp_tree.specs.Syntax.{Program}
 use Rattle.cp_meaning.specs.Declarations.{RoutineMeaning}
 use Rattle.cp_meaning.specs.Kernel.{output_room, line_of, moved_to, with_process_status, made_ready, first_in, one_in, let_in, is_anybody_inside, entering, is_delayed_in, continuing, process_of, begun, starting_as, starting, displaying, kernel_step}
@@ -23,14 +22,14 @@ use Rattle.cp_refine.proofs.BodyItems.{body_stands}
 use Rattle.cp_refine.proofs.HoldsInReached.{holds_in_reached}
 use Rattle.cp_refine.proofs.OpeningState.{all_unstarted}
 
--- who is delayed in a monitor has an open entry call of it
-abbrev pub WaitsInside : Program → Status → List Call → Type 0
-WaitsInside p (delayed m) calls = (component_at (first_components p) m).kind ≡ system_kind.Monitor → has_entry m calls ≡ true
-WaitsInside p status calls = Unit {0}
+-- who is delayed in a queue of a component has an open entry call of it
+abbrev pub WaitsInside : Status → List Call → Type 0
+WaitsInside (delayed m) calls = has_entry m calls ≡ true
+WaitsInside status calls = Unit {0}
 
 pub record ProcessStands (p : Program) (l : Layouts) (f : Traits) (x : Process) : Type 0 where
-  pub stands : StandsInBodies p l f x.calls x.items
-  pub waits : WaitsInside p x.status x.calls
+  pub stands : StandsInBodies l f x.calls x.items
+  pub waits : WaitsInside x.status x.calls
 
 abbrev pub AllStand : Program → Layouts → Traits → List Process → Type 0
 AllStand p l f ps = (q : ℕ) → q < length ps → ProcessStands p l f (process_at ps q)
@@ -81,7 +80,7 @@ module _ (p : Program) (l : Layouts) (f : Traits) (known : RoutinesKnown p l f) 
       record {
         stands = record {
           numbers = i.number ∷ [];
-          executes = (record { scope = ap (λ (m : RoutineMeaning). m.scope) meaning; kind = i.entry }, tt, tt);
+          executes = (record { scope = ap (λ (m : RoutineMeaning). m.scope) meaning; kind = (i.entry, i.quiet) }, tt, tt);
           remains = subst (λ (m : RoutineMeaning). ItemsFit l (i.number ∷ []) (items_of_all m.scope m.body ++ end ∷ [])) (sym meaning) (fit_append l i.number [] (items_of_all (scope_of l i.number) (body_of l i.number)) (end ∷ []) (body_stands (scope_of l i.number) (body_of l i.number)) tt);
         };
         waits = tt;
@@ -90,7 +89,7 @@ module _ (p : Program) (l : Layouts) (f : Traits) (known : RoutinesKnown p l f) 
   -- ---- kernel rules
 
   module _ (s : State) (pid : ℕ) (old : All s.processes) (d : Doing) (does : DoingFits p l f d) where
-    moved_stands : (status : Status) → WaitsInside p status d.calls → All (moved_to status s pid d).processes
+    moved_stands : (status : Status) → WaitsInside status d.calls → All (moved_to status s pid d).processes
     moved_stands status waits = all_set s.processes pid _ old (λ less. record { stands = does.stands; waits = waits })
 
     entering_stands : (b : Bool) (m : ℕ) → All (entering b s pid m d).processes
@@ -112,7 +111,7 @@ module _ (p : Program) (l : Layouts) (f : Traits) (known : RoutinesKnown p l f) 
     starting_stands None c e = moved_stands ready tt
     starting_stands (Some r) c e = starting_as_stands r (process_at (moved_to ready s pid d).processes r).status c e
 
-    kernel_stands : (move : Move) → MoveFits p d.calls move → All (kernel_step p s pid d move).state.processes
+    kernel_stands : (move : Move) → MoveFits d.calls move → All (kernel_step p s pid d move).state.processes
     kernel_stands stays h = moved_stands ready tt
     kernel_stands (enters m) h = entering_stands (is_anybody_inside m s.processes) m
     kernel_stands (leaves m) h = let_in_stands s.gates (moved_to ready s pid d) m (moved_stands ready tt)
@@ -131,8 +130,8 @@ module _ (p : Program) (l : Layouts) (f : Traits) (known : RoutinesKnown p l f) 
   unstarted_stands : (x : Process) → x.status ≡ unstarted → x.calls ≡ [] → x.items ≡ [] → ProcessStands p l f x
   unstarted_stands x e c i =
       record {
-        stands = subst (λ (cs : List Call). StandsInBodies p l f cs x.items) (sym c) (subst (λ (is : List Item). StandsInBodies p l f [] is) (sym i) (record { numbers = []; executes = tt; remains = tt }));
-        waits = subst (λ (u : Status). WaitsInside p u x.calls) (sym e) tt;
+        stands = subst (λ (cs : List Call). StandsInBodies l f cs x.items) (sym c) (subst (λ (is : List Item). StandsInBodies l f [] is) (sym i) (record { numbers = []; executes = tt; remains = tt }));
+        waits = subst (λ (u : Status). WaitsInside u x.calls) (sym e) tt;
       }
 
   all_more : (x : Process) (ps : List Process) → ProcessStands p l f x → All ps → All (x ∷ ps)
@@ -159,16 +158,16 @@ module _ (p : Program) (l : Layouts) (f : Traits) (known : RoutinesKnown p l f) 
         x : Process
         x = process_at s.processes pid
 
-        of : (c : Call) (calls : List Call) → (process_at s.processes pid).calls ≡ c ∷ calls → (ns : List ℕ) → CallsFit p l f (process_at s.processes pid).calls ns → ItemsFit l ns (process_at s.processes pid).items → OutcomeFits p l f (takes (view_of p s pid) pid (process_at s.processes pid).items)
-        of c calls e [] fits rest = absurd (subst (λ (cs : List Call). CallsFit p l f cs []) e fits)
+        of : (c : Call) (calls : List Call) → (process_at s.processes pid).calls ≡ c ∷ calls → (ns : List ℕ) → CallsFit l f (process_at s.processes pid).calls ns → ItemsFit l ns (process_at s.processes pid).items → OutcomeFits p l f (takes (view_of p s pid) pid (process_at s.processes pid).items)
+        of c calls e [] fits rest = absurd (subst (λ (cs : List Call). CallsFit l f cs []) e fits)
         of c calls e (n ∷ ns) fits rest =
             let orderly = (reached p ok g s before).1.orderly.processes pid less in
             let holds = holds_in_reached p ok g s before in
             subst (λ (cs : List Call). OutcomeFits p l f (takes (record { program = p; calls = cs; components = s.components }) pid (process_at s.processes pid).items)) (sym e)
-            (takes_fits p l f known c calls s.components pid n ns (subst (λ (cs : List Call). CallsFit p l f cs (n ∷ ns)) e fits) holds.system (subst (λ (cs : List Call). Descends s.components (frames cs)) e orderly.order) holds.kind (process_at s.processes pid).items
+            (takes_fits p l f known c calls s.components pid n ns (subst (λ (cs : List Call). CallsFit l f cs (n ∷ ns)) e fits) holds.system (subst (λ (cs : List Call). Descends s.components (frames cs)) e orderly.order) (process_at s.processes pid).items
             (subst (λ (cs : List Call). FramesFit (frames cs) (process_at s.processes pid).items) e orderly.fits) rest)
 
-        go : (calls : List Call) → (process_at s.processes pid).calls ≡ calls → StandsInBodies p l f (process_at s.processes pid).calls (process_at s.processes pid).items → (c : Call) × (cs : List Call) × ((process_at s.processes pid).calls ≡ c ∷ cs) → OutcomeFits p l f (takes (view_of p s pid) pid (process_at s.processes pid).items)
+        go : (calls : List Call) → (process_at s.processes pid).calls ≡ calls → StandsInBodies l f (process_at s.processes pid).calls (process_at s.processes pid).items → (c : Call) × (cs : List Call) × ((process_at s.processes pid).calls ≡ c ∷ cs) → OutcomeFits p l f (takes (view_of p s pid) pid (process_at s.processes pid).items)
         go calls e h w = of w.0 w.1 w.2 h.numbers h.executes h.remains
 
     admitted_stands : (s : State) (q : ℕ) (o : Option ℕ) → All s.processes → All (admitted_to o s q).processes

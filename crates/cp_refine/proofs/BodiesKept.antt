@@ -45,22 +45,22 @@ fit_append l n ns (end ∷ xs) items h k = absurd h.0
 
 -- ---- environments of calls are no part of this
 
-fit_if : (p : Program) (l : Layouts) (f : Traits) (b : Bool) (xs ys : List Call) (ns : List ℕ) → CallsFit p l f xs ns → CallsFit p l f ys ns → CallsFit p l f (if b then xs else ys) ns
+fit_if : (p : Program) (l : Layouts) (f : Traits) (b : Bool) (xs ys : List Call) (ns : List ℕ) → CallsFit l f xs ns → CallsFit l f ys ns → CallsFit l f (if b then xs else ys) ns
 fit_if p l f true xs ys ns h k = h
 fit_if p l f false xs ys ns h k = k
 
-pub fit_environment : (p : Program) (l : Layouts) (f : Traits) (cs : List Call) (ns : List ℕ) (below : ℕ) (e : Environment) → CallsFit p l f cs ns → CallsFit p l f (with_call_environment cs below e) ns
+pub fit_environment : (p : Program) (l : Layouts) (f : Traits) (cs : List Call) (ns : List ℕ) (below : ℕ) (e : Environment) → CallsFit l f cs ns → CallsFit l f (with_call_environment cs below e) ns
 fit_environment p l f [] [] below e h = tt
 fit_environment p l f [] (n ∷ ns) below e h = absurd h
 fit_environment p l f (c ∷ cs) [] below e h = absurd h
 fit_environment p l f (c ∷ cs) (n ∷ ns) below e h =
     fit_if p l f (length cs == below) (with_environment c e ∷ cs) (c ∷ with_call_environment cs below e) (n ∷ ns) (record { scope = h.0.scope; kind = h.0.kind }, h.1, h.2) (h.0, h.1, fit_environment p l f cs ns below e h.2)
 
-fit_holder : (p : Program) (l : Layouts) (f : Traits) (v : View) (ns : List ℕ) (h : Holder) (e : Environment) → CallsFit p l f v.calls ns → CallsFit p l f (with_environment_of v h e).calls ns
+fit_holder : (p : Program) (l : Layouts) (f : Traits) (v : View) (ns : List ℕ) (h : Holder) (e : Environment) → CallsFit l f v.calls ns → CallsFit l f (with_environment_of v h e).calls ns
 fit_holder p l f v ns (in_call below) e k = fit_environment p l f v.calls ns below e k
 fit_holder p l f v ns (in_component n) e k = k
 
-pub fit_stored : (p : Program) (l : Layouts) (f : Traits) (v : View) (ns : List ℕ) (q : Place) (w : Value) → CallsFit p l f v.calls ns → CallsFit p l f (stored v q w).calls ns
+pub fit_stored : (p : Program) (l : Layouts) (f : Traits) (v : View) (ns : List ℕ) (q : Place) (w : Value) → CallsFit l f v.calls ns → CallsFit l f (stored v q w).calls ns
 fit_stored p l f v ns q w k = fit_holder p l f v ns q.holder _ k
 
 -- ---- system types of components
@@ -85,15 +85,15 @@ systems_stored p v q w k = systems_holder p v q.holder _ k
 
 -- ---- an item of a process whose innermost call executes the routine n
 
--- who waits in a queue of a monitor has an open entry call of it
-abbrev pub MoveFits : Program → List Call → Move → Type 0
-MoveFits p calls (delays m) = (component_at (first_components p) m).kind ≡ system_kind.Monitor → has_entry m calls ≡ true
-MoveFits p calls move = Unit {0}
+-- who waits in a queue of a component has an open entry call of it
+abbrev pub MoveFits : List Call → Move → Type 0
+MoveFits calls (delays m) = has_entry m calls ≡ true
+MoveFits calls move = Unit {0}
 
 pub record DoingFits (p : Program) (l : Layouts) (f : Traits) (d : Doing) : Type 0 where
-  pub stands : StandsInBodies p l f d.calls d.items
+  pub stands : StandsInBodies l f d.calls d.items
   pub systems : SystemsKept p d.components
-  pub moves : MoveFits p d.calls d.move
+  pub moves : MoveFits d.calls d.move
 
 abbrev pub OutcomeFits : Program → Layouts → Traits → Outcome Doing → Type 0
 OutcomeFits p l f (Ok d) = DoingFits p l f d
@@ -107,39 +107,38 @@ outcome_if : (p : Program) (l : Layouts) (f : Traits) (b : Bool) (x y : Outcome 
 outcome_if p l f true x y h k = h
 outcome_if p l f false x y h k = k
 
-module _ (p : Program) (l : Layouts) (f : Traits) (cs : List Component) (kinds : (m : ℕ) → (component_at cs m).kind ≡ (component_at (first_components p) m).kind) where
+module _ (l : Layouts) (f : Traits) (cs : List Component) where
   -- what is to be shown of the calls below
   abbrev LoudBelow : List Call → List ℕ → Type 0
-  LoudBelow (d ∷ calls) (m ∷ ns) = CallsFit p l f (d ∷ calls) (m ∷ ns) → Descends cs (frames (d ∷ calls)) → f.quiet m ≡ false → (component_at cs d.component).kind ≡ system_kind.Monitor → has_entry d.component (d ∷ calls) ≡ true
+  LoudBelow (d ∷ calls) (m ∷ ns) = CallsFit l f (d ∷ calls) (m ∷ ns) → Descends cs (frames (d ∷ calls)) → f.quiet m ≡ false → has_entry d.component (d ∷ calls) ≡ true
   LoudBelow calls ns = Unit {0}
 
-  -- a routine of a monitor that is not quiet is executed below an open entry call of it
-  loud_kind : (c : Call) (calls : List Call) (n : ℕ) (ns : List ℕ) (k : CallKind) → c.kind ≡ k → CallsFit p l f (c ∷ calls) (n ∷ ns) → Descends cs ((k, c.component) ∷ frames calls) → f.quiet n ≡ false → (component_at cs c.component).kind ≡ system_kind.Monitor →
-      LoudBelow calls ns → has_entry c.component (c ∷ calls) ≡ true
-  loud_kind c calls n ns entry_routine e fits order loud mon below = ap (λ (k : CallKind). (is_entry_kind k && c.component == c.component) || has_entry c.component calls) e ∙ ap (λ (b : Bool). b || has_entry c.component calls) (eq-eqb c.component c.component refl)
-  loud_kind c calls n ns initial_statement e fits order loud mon below =
-      let quiet = (subst (λ k. KindFits p f k c.component n) e fits.0.kind).1 (sym (kinds c.component) ∙ mon) in
-      absurd (let bad : true ≡ false = sym quiet ∙ loud in cc)
-  loud_kind c [] n ns own_statement e fits order loud mon below = absurd (let bad : system_kind.Process ≡ system_kind.Monitor = sym order ∙ mon in cc)
-  loud_kind c (d ∷ calls) n ns own_statement e fits order loud mon below = absurd order.0
-  loud_kind c [] n ns local_routine e fits order loud mon below = absurd order
-  loud_kind c (d ∷ calls) n [] local_routine e fits order loud mon below = absurd fits.2
-  loud_kind c (d ∷ calls) n (m ∷ ns) local_routine e fits order loud mon below =
-      let here = below fits.2 order.1 (not_quiet (f.quiet m) refl) (subst (λ j. (component_at cs j).kind ≡ system_kind.Monitor) order.0 mon) in
+  never_loud : (n : ℕ) → f.quiet n ≡ true → f.quiet n ≡ false → {A : Type 0} → A
+  never_loud n quiet loud = absurd (let bad : true ≡ false = sym quiet ∙ loud in cc)
+
+  -- a routine that is not quiet is executed below an open entry call of its component
+  loud_kind : (c : Call) (calls : List Call) (n : ℕ) (ns : List ℕ) (k : CallKind) → c.kind ≡ k → CallsFit l f (c ∷ calls) (n ∷ ns) → Descends cs ((k, c.component) ∷ frames calls) → f.quiet n ≡ false → LoudBelow calls ns → has_entry c.component (c ∷ calls) ≡ true
+  loud_kind c calls n ns entry_routine e fits order loud below = ap (λ (k : CallKind). (is_entry_kind k && c.component == c.component) || has_entry c.component calls) e ∙ ap (λ (b : Bool). b || has_entry c.component calls) (eq-eqb c.component c.component refl)
+  loud_kind c calls n ns initial_statement e fits order loud below = never_loud n (subst (λ k. KindFits f k n) e fits.0.kind).1 loud
+  loud_kind c calls n ns own_statement e fits order loud below = never_loud n (subst (λ k. KindFits f k n) e fits.0.kind).1 loud
+  loud_kind c [] n ns local_routine e fits order loud below = absurd order
+  loud_kind c (d ∷ calls) n [] local_routine e fits order loud below = absurd fits.2
+  loud_kind c (d ∷ calls) n (m ∷ ns) local_routine e fits order loud below =
+      let here = below fits.2 order.1 (not_quiet (f.quiet m) refl) in
       or_right (is_entry_kind c.kind && c.component == c.component) (has_entry c.component (d ∷ calls)) (subst (λ j. has_entry j (d ∷ calls) ≡ true) (sym order.0) here)
     where
       not_quiet : (b : Bool) → f.quiet m ≡ b → f.quiet m ≡ false
       not_quiet false h = h
-      not_quiet true h = absurd (let bad : true ≡ false = sym (subst (λ k. QuietAbove f k n (m ∷ ns)) e fits.1 h) ∙ loud in cc)
+      not_quiet true h = never_loud n (subst (λ k. QuietAbove f k n (m ∷ ns)) e fits.1 h) loud
 
-  pub loud_entry : (c : Call) (calls : List Call) (n : ℕ) (ns : List ℕ) → CallsFit p l f (c ∷ calls) (n ∷ ns) → Descends cs (frames (c ∷ calls)) → f.quiet n ≡ false → (component_at cs c.component).kind ≡ system_kind.Monitor → has_entry c.component (c ∷ calls) ≡ true
-  loud_entry c [] n ns fits order loud mon = loud_kind c [] n ns c.kind refl fits order loud mon tt
-  loud_entry c (d ∷ calls) n [] fits order loud mon = absurd fits.2
-  loud_entry c (d ∷ calls) n (m ∷ ns) fits order loud mon = loud_kind c (d ∷ calls) n (m ∷ ns) c.kind refl fits order loud mon (loud_entry d calls m ns)
+  pub loud_entry : (c : Call) (calls : List Call) (n : ℕ) (ns : List ℕ) → CallsFit l f (c ∷ calls) (n ∷ ns) → Descends cs (frames (c ∷ calls)) → f.quiet n ≡ false → has_entry c.component (c ∷ calls) ≡ true
+  loud_entry c [] n ns fits order loud = loud_kind c [] n ns c.kind refl fits order loud tt
+  loud_entry c (d ∷ calls) n [] fits order loud = absurd fits.2
+  loud_entry c (d ∷ calls) n (m ∷ ns) fits order loud = loud_kind c (d ∷ calls) n (m ∷ ns) c.kind refl fits order loud (loud_entry d calls m ns)
 
 module _ (p : Program) (l : Layouts) (f : Traits) (known : RoutinesKnown p l f) (c : Call) (calls : List Call) (cs : List Component) (pid n : ℕ) (ns : List ℕ)
-    (fits : CallsFit p l f (c ∷ calls) (n ∷ ns)) (systems : SystemsKept p cs)
-    (order : Descends cs (frames (c ∷ calls))) (kinds : (m : ℕ) → (component_at cs m).kind ≡ (component_at (first_components p) m).kind) where
+    (fits : CallsFit l f (c ∷ calls) (n ∷ ns)) (systems : SystemsKept p cs)
+    (order : Descends cs (frames (c ∷ calls))) where
   abbrev v : View
   v = record { program = p; calls = c ∷ calls; components = cs }
 
@@ -157,7 +156,7 @@ module _ (p : Program) (l : Layouts) (f : Traits) (known : RoutinesKnown p l f) 
 
   -- a view of the same calls and components, with other values
   record Alike (u : View) : Type 0 where
-    still_fits : CallsFit p l f u.calls (n ∷ ns)
+    still_fits : CallsFit l f u.calls (n ∷ ns)
     still_systems : SystemsKept p u.components
 
   alike : Alike v
@@ -166,7 +165,7 @@ module _ (p : Program) (l : Layouts) (f : Traits) (known : RoutinesKnown p l f) 
   alike_stored : (u : View) (q : Place) (w : Value) → Alike u → Alike (stored u q w)
   alike_stored u q w a = record { still_fits = fit_stored p l f u (n ∷ ns) q w a.still_fits; still_systems = systems_stored p u q w a.still_systems }
 
-  items_fit : (u : View) (items : List Item) (move : Move) → Alike u → ItemsFit l (n ∷ ns) items → MoveFits p u.calls move → DoingFits p l f (with_move (with_items u items) move)
+  items_fit : (u : View) (items : List Item) (move : Move) → Alike u → ItemsFit l (n ∷ ns) items → MoveFits u.calls move → DoingFits p l f (with_move (with_items u items) move)
   items_fit u items move a k moves = record { stands = record { numbers = n ∷ ns; executes = a.still_fits; remains = k }; systems = a.still_systems; moves = moves }
 
   becomes_fit : (u : View) (items : List Item) → Alike u → ItemsFit l (n ∷ ns) items → Fits (becomes u items)
@@ -203,7 +202,7 @@ module _ (p : Program) (l : Layouts) (f : Traits) (known : RoutinesKnown p l f) 
 
   -- ---- calls
 
-  above : (d : ℕ) (kind : CallKind) (r : RoutineMeaning) (k : ℕ) (o : Option Name) (items : List Item) (e : Environment) → r ≡ l.meanings k → KindFits p f kind d k → QuietAbove f kind k (n ∷ ns) → (r.result ≡ None → o ≡ None) → ItemsFit l (n ∷ ns) items → (move : Move) → MoveFits p (opened v d kind r o items e).calls move →
+  above : (d : ℕ) (kind : CallKind) (r : RoutineMeaning) (k : ℕ) (o : Option Name) (items : List Item) (e : Environment) → r ≡ l.meanings k → KindFits f kind k → QuietAbove f kind k (n ∷ ns) → (r.result ≡ None → o ≡ None) → ItemsFit l (n ∷ ns) items → (move : Move) → MoveFits (opened v d kind r o items e).calls move →
       DoingFits p l f (with_move (opened v d kind r o items e) move)
   above d kind r k o items e same fit quiet gives rest move moves =
       record {
@@ -252,7 +251,7 @@ module _ (p : Program) (l : Layouts) (f : Traits) (known : RoutinesKnown p l f) 
 
   -- ---- starts
 
-  initial_fits : (d : ℕ) (items : List Item) (e : Environment) → KindFits p f initial_statement d (known.initials d).number → ItemsFit l (n ∷ ns) items → DoingFits p l f (initial v d (system_of p (component_at cs d).system) items e)
+  initial_fits : (d : ℕ) (items : List Item) (e : Environment) → KindFits f initial_statement (known.initials d).number → ItemsFit l (n ∷ ns) items → DoingFits p l f (initial v d (system_of p (component_at cs d).system) items e)
   initial_fits d items e fit rest =
       let k = known.initials d in
       let meaning : initial_meaning (system_of p (component_at cs d).system) ≡ l.meanings k.number = ap (λ j. initial_meaning (system_of p j)) (systems d) ∙ sym k.same in
@@ -282,22 +281,22 @@ module _ (p : Program) (l : Layouts) (f : Traits) (known : RoutinesKnown p l f) 
 
   -- ---- ends of calls
 
-  ended_fits : (u : View) (items : List Item) (move : Move) → CallsFit p l f u.calls ns → SystemsKept p u.components → ItemsFit l ns items → MoveFits p u.calls move → DoingFits p l f (with_move (with_items u items) move)
+  ended_fits : (u : View) (items : List Item) (move : Move) → CallsFit l f u.calls ns → SystemsKept p u.components → ItemsFit l ns items → MoveFits u.calls move → DoingFits p l f (with_move (with_items u items) move)
   ended_fits u items move a k rest moves = record { stands = record { numbers = ns; executes = a; remains = rest }; systems = k; moves = moves }
 
-  result_fits : (o : Option Name) → CallsFit p l f (with_result v o).calls ns × SystemsKept p (with_result v o).components
+  result_fits : (o : Option Name) → CallsFit l f (with_result v o).calls ns × SystemsKept p (with_result v o).components
   result_fits None = (fits.2, systems)
   result_fits (Some x) =
       let there = plain_place (this_call (outer v)) x in
       let w = value_at v (plain_place (this_call v) result_name) in
       (fit_stored p l f (outer v) ns there w fits.2, systems_stored p (outer v) there w systems)
 
-  leaving_fits : (k : SystemKind) (m : ℕ) (xs : List Call) → MoveFits p xs (leaving_move k m)
+  leaving_fits : (k : SystemKind) (m : ℕ) (xs : List Call) → MoveFits xs (leaving_move k m)
   leaving_fits system_kind.Monitor m xs = tt
   leaving_fits system_kind.Class m xs = tt
   leaving_fits system_kind.Process m xs = tt
 
-  return_fits : (b : Bool) (k : SystemKind) (m : ℕ) (xs : List Call) → MoveFits p xs (if b then leaving_move k m else stays)
+  return_fits : (b : Bool) (k : SystemKind) (m : ℕ) (xs : List Call) → MoveFits xs (if b then leaving_move k m else stays)
   return_fits true k m xs = leaving_fits k m xs
   return_fits false k m xs = tt
 
@@ -318,7 +317,7 @@ module _ (p : Program) (l : Layouts) (f : Traits) (known : RoutinesKnown p l f) 
   after_fits m k ks fs (until ss e ∷ items) g h = after_fits m k ks fs items g h.1
   after_fits m k ks fs (successor at i z d b t ∷ items) g h = after_fits m k ks fs items g h.1
 
-  fewer : (xs : List Call) → CallsFit p l f xs (n ∷ ns) → CallsFit p l f (callers xs) ns
+  fewer : (xs : List Call) → CallsFit l f xs (n ∷ ns) → CallsFit l f (callers xs) ns
   fewer [] h = absurd h
   fewer (x ∷ xs) h = h.2
 
@@ -354,7 +353,7 @@ module _ (p : Program) (l : Layouts) (f : Traits) (known : RoutinesKnown p l f) 
   delayed_fits : (o : Option ℕ) (items : List Item) (q : Place) → f.quiet n ≡ false → ItemsFit l (n ∷ ns) items → Fits (queue_free o >>= λ x. Ok (with_move (with_items (stored v q (queue_value (Some pid))) items) (delays c.component)))
   delayed_fits None items q loud rest =
       let a = alike_stored v q (queue_value (Some pid)) alike in
-      items_fit (stored v q (queue_value (Some pid))) items (delays c.component) a rest (λ mon. entries_same c.component q.holder _ ∙ loud_entry p l f cs kinds c calls n ns fits order loud (kinds c.component ∙ mon))
+      items_fit (stored v q (queue_value (Some pid))) items (delays c.component) a rest (entries_same c.component q.holder _ ∙ loud_entry l f cs c calls n ns fits order loud)
     where
       entries_same : (m : ℕ) (h : Holder) (e : Environment) → has_entry m (with_environment_of v h e).calls ≡ has_entry m (c ∷ calls)
       entries_same m (in_call below) e = entries_kept m below e (c ∷ calls)

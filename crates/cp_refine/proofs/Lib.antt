@@ -62,6 +62,7 @@ pub mod Members
 pub mod MonitorNumbers
 pub mod Moving
 pub mod NewFrame
+pub mod NextInReached
 pub mod Numbers
 pub mod Observed
 pub mod OpeningState

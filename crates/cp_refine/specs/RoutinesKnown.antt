@@ -1,6 +1,5 @@
 -- What the rules of the language say of calls, `delay` and `continue` in the bodies of all routines, and what that says of open calls.
 use Rattle.std.specs.Prelude.{◌≡◌, ℕ, Bool, true, false, List, [], ◌∷◌, Option, Some, None}
-use Rattle.cp_tree.specs.declared.declaration.SystemKind.TheVariants as system_kind
 use Rattle.cp_tree.specs.Syntax.{Expressions, Designator, invoke, Program, Statements}
 use Rattle.cp_meaning.specs.Declarations.{RoutineMeaning}
 use Rattle.cp_meaning.specs.Expressions.{name_of, routine_called}
@@ -41,8 +40,8 @@ pub record Initial (p : Program) (l : Layouts) (f : Traits) (d : ℕ) : Type 0 w
   pub number : ℕ
   pub same : l.meanings number ≡ initial_meaning (system_of p (component_at (first_components p) d).system)
   pub entry : f.entry number ≡ false
-  -- nobody could come into a monitor that waits in its initial statement
-  pub quiet : (component_at (first_components p) d).kind ≡ system_kind.Monitor → f.quiet number ≡ true
+  -- nobody could come into a monitor that waits in its initial statement, and only routines of monitors wait
+  pub quiet : f.quiet number ≡ true
 
 pub record RoutinesKnown (p : Program) (l : Layouts) (f : Traits) : Type 0 where
   pub functions : (n at : ℕ) (d : Designator) (es : Expressions) (r : RoutineMeaning) → ItemStands (scope_of l n) (body_of l n) (function_call at d es) → routine_called p (scope_of l n) d ≡ Some r → Callee l f n d r × (r.result ≡ None → ⊥)
@@ -54,12 +53,12 @@ pub record RoutinesKnown (p : Program) (l : Layouts) (f : Traits) : Type 0 where
 
 -- ---- open calls
 
--- what is executed of a component, by the kind of the call
-abbrev pub KindFits : Program → Traits → CallKind → (component n : ℕ) → Type 0
-KindFits p f own_statement m n = f.entry n ≡ false
-KindFits p f initial_statement m n = (f.entry n ≡ false) × ((component_at (first_components p) m).kind ≡ system_kind.Monitor → f.quiet n ≡ true)
-KindFits p f local_routine m n = f.entry n ≡ false
-KindFits p f entry_routine m n = f.entry n ≡ true
+-- what is executed, by the kind of the call
+abbrev pub KindFits : Traits → CallKind → ℕ → Type 0
+KindFits f own_statement n = (f.entry n ≡ false) × (f.quiet n ≡ true)
+KindFits f initial_statement n = (f.entry n ≡ false) × (f.quiet n ≡ true)
+KindFits f local_routine n = f.entry n ≡ false
+KindFits f entry_routine n = f.entry n ≡ true
 
 -- a routine of the component itself is quiet where its caller is
 abbrev pub QuietAbove : Traits → CallKind → ℕ → List ℕ → Type 0
@@ -67,14 +66,14 @@ QuietAbove f local_routine n (k ∷ ns) = f.quiet k ≡ true → f.quiet n ≡ t
 QuietAbove f c n ns = Unit {0}
 
 -- the call executes the routine of the number
-pub record CallFits (p : Program) (l : Layouts) (f : Traits) (c : Call) (n : ℕ) : Type 0 where
+pub record CallFits (l : Layouts) (f : Traits) (c : Call) (n : ℕ) : Type 0 where
   pub scope : c.scope ≡ scope_of l n
-  pub kind : KindFits p f c.kind c.component n
+  pub kind : KindFits f c.kind n
 
-abbrev pub CallsFit : Program → Layouts → Traits → List Call → List ℕ → Type 0
-CallsFit p l f [] [] = Unit {0}
-CallsFit p l f (c ∷ cs) (n ∷ ns) = CallFits p l f c n × QuietAbove f c.kind n ns × CallsFit p l f cs ns
-CallsFit p l f cs ns = ⊥
+abbrev pub CallsFit : Layouts → Traits → List Call → List ℕ → Type 0
+CallsFit l f [] [] = Unit {0}
+CallsFit l f (c ∷ cs) (n ∷ ns) = CallFits l f c n × QuietAbove f c.kind n ns × CallsFit l f cs ns
+CallsFit l f cs ns = ⊥
 
 -- what is still to be done stands in the bodies of the open calls' routines, and no procedure gives a result
 abbrev pub ItemsFit : Layouts → List ℕ → List Item → Type 0
@@ -86,7 +85,7 @@ ItemsFit l (n ∷ ns) (end ∷ items) = ItemsFit l (n ∷ ns) items
 ItemsFit l (n ∷ ns) (i ∷ items) = ItemStands (scope_of l n) (body_of l n) i × ItemsFit l (n ∷ ns) items
 
 -- the numbers of the open calls' routines
-pub record StandsInBodies (p : Program) (l : Layouts) (f : Traits) (calls : List Call) (items : List Item) : Type 0 where
+pub record StandsInBodies (l : Layouts) (f : Traits) (calls : List Call) (items : List Item) : Type 0 where
   pub numbers : List ℕ
-  pub executes : CallsFit p l f calls numbers
+  pub executes : CallsFit l f calls numbers
   pub remains : ItemsFit l numbers items
