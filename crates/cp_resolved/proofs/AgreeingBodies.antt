@@ -30,6 +30,7 @@ use Rattle.cp_meaning.specs.Systems.{with_routines}
 use Rattle.cp_resolved.specs.Enumerations.{each_in, in_routine}
 use Rattle.cp_resolved.specs.Judging.{routine_place, routine_places, IsAgreed, AreAgreed}
 use Rattle.cp_resolved.specs.Openings.{Opening, with_routine, routine_openings}
+use Rattle.cp_resolved.specs.Limited.{AreLimited}
 use Rattle.cp_resolved.specs.Small.{Each, IsSmallRoutine}
 use Rattle.cp_resolved.specs.Standing.{IsFit, IsFreeVariable, IsFreeParameter, IsFreeResult}
 use Rattle.cp_resolved.specs.Tokens.{all_tokens, part_tokens, routine_tokens}
@@ -70,6 +71,7 @@ module _ (systems : ℕ → ℕ) (constants_at : ℕ → List Name) (p : Program
         sound = sound;
         known = λ x e. subst (IsKnown systems constants_at s m x) e (sees systems constants_at p false None s m below ks h x tt);
         fit = λ x. subst (λ (i : scopes.Scope). IsFit (find x i)) (sym is) (fits systems constants_at p false None s m below ks h x);
+        limited = subst AreLimited (sym is) h.limited;
         variables = variables;
         parameters = parameters;
         result = result;

@@ -18,9 +18,11 @@ use Rattle.cp_meaning.specs.Scopes as scopes
 use Rattle.cp_meaning.specs.Scopes.{find, since, is_seen, seen_inside}
 use Rattle.cp_meaning.specs.Declarations.{routine_in, type_named}
 use Rattle.cp_meaning.specs.Expressions.{routine_of_type}
+use Rattle.cp_resolved.specs.Limited.{IsLimitedMeaning, AreLimited}
 use Rattle.cp_resolved.specs.Standing.{IsFit, is_standing}
 use Rattle.cp_resolved.specs.Tokens.{AreDifferent}
 use Rattle.cp_resolved.specs.Typed.{Written, TypeIs, FieldsAre, ResultIs, VariableIs, KindIs, RoutineIs, MeaningIs}
+use Rattle.cp_resolved.proofs.CheckedCells.{array_is, cells_limited}
 use Rattle.cp_resolved.proofs.Agreeing.{itself, is_itself, unknown, find_last, new_names, inner_look, look_is, More, with_more, with_there, with_other, AreFree, free_others}
 
 -- the heading of a routine is written
@@ -34,18 +36,6 @@ heading_kept n ss ts m h = ap as_heading (m n (heading_shape h.heading h.body) h
 
 pub heading_more : (n : ℕ) (ss ts : Shapes) → More ss ts → HeadingThere n ss → HeadingThere n ts
 heading_more n ss ts m h = record { heading = h.heading; body = h.body; there = m n (heading_shape h.heading h.body) h.there }
-
-array_is : (o : Option Shape) (a : ArrayShape) → as_array o ≡ Some a → o ≡ Some (array_shape a)
-array_is None a h = absurd (let bad : None ≡ Some a = h in cc)
-array_is (Some (array_shape b)) a h = ap (λ (c : Option ArrayShape). go c) h
-  where
-    go : Option ArrayShape → Option Shape
-    go None = None
-    go (Some c) = Some (array_shape c)
-array_is (Some (record_shape f n)) a h = absurd (let bad : None ≡ Some a = h in cc)
-array_is (Some (system_shape m e c u)) a h = absurd (let bad : None ≡ Some a = h in cc)
-array_is (Some (heading_shape e n)) a h = absurd (let bad : None ≡ Some a = h in cc)
-array_is (Some (body_shape u)) a h = absurd (let bad : None ≡ Some a = h in cc)
 
 -- an enumeration has the constants that it has where it is written
 abbrev pub IsListed : (ℕ → List Name) → named.Base → Type 0
@@ -66,9 +56,9 @@ module _ (systems : ℕ → ℕ) (constants_at : ℕ → List Name) where
     type_more ss ts m named.queue_type v h = h
     type_more ss ts m (named.set_over q) v h = h
     type_more ss ts m (named.array_over q t) v h =
-        record { token = h.token; is = h.is; shape = h.shape; there = ap as_array (m h.token (array_shape h.shape) (array_is (shape_in h.token ss) h.shape h.there)); range = h.range; belongs = type_more ss ts m t h.shape.element h.belongs }
+        record { token = h.token; is = h.is; shape = h.shape; there = ap as_array (m h.token (array_shape h.shape) (array_is (shape_in h.token ss) h.shape h.there)); range = h.range; belongs = type_more ss ts m t h.shape.element h.belongs; counted = h.counted; few = h.few }
     type_more ss ts m (named.record_with us) v h =
-        record { token = h.token; is = h.is; fields = h.fields; cells = h.cells; there = m h.token (record_shape h.fields h.cells) h.there; visible = h.visible; each = fields_more ss ts m us h.fields.names h.each }
+        record { token = h.token; is = h.is; fields = h.fields; cells = h.cells; there = m h.token (record_shape h.fields h.cells) h.there; visible = h.visible; each = fields_more ss ts m us h.fields.names h.each; counted = h.counted; few = h.few }
     type_more ss ts m (named.component_of n) v h = h
 
     pub fields_more : (ss ts : Shapes) → More ss ts → (us : FieldTypes) (ds : Names) → FieldsAre (W ss) us ds → FieldsAre (W ts) us ds
@@ -207,6 +197,35 @@ module _ (systems : ℕ → ℕ) (constants_at : ℕ → List Name) where
   pub new_known : (t : Scopes) (m : scopes.Scope) (n : Name) (c : Meaning) (d : scopes.Meaning) → New t n c d → Known t ((n, d) ∷ m) n c
   new_known t m n c d h = record { means = subst (MeaningIs (W t.shapes) t n ((n, d) ∷ m) c) (find_first n d m) (h.means m); there = h.there; fit = subst IsFit (find_first n d m) h.fit; given = subst (IsGiven constants_at) (find_first n d m) h.given }
 
+  means_limited : (s : Scopes) (x : Name) (m : scopes.Scope) (c : Meaning) (d : scopes.Meaning) → MeaningIs (W s.shapes) s x m c (Some d) → IsLimitedMeaning d
+  means_limited s x m c (scopes.constant_meaning b z) h = tt
+  means_limited s x m c (scopes.routine_meaning r) h = tt
+  means_limited s x m c (scopes.standard_meaning q) h = tt
+  means_limited s x m (meaning.Kind v) (scopes.type_meaning t) h = cells_limited (W s.shapes) t v h
+  means_limited s x m (meaning.Constant b z) (scopes.type_meaning t) h = absurd h
+  means_limited s x m (meaning.Variable v) (scopes.type_meaning t) h = absurd h
+  means_limited s x m (meaning.Parameter v) (scopes.type_meaning t) h = absurd h
+  means_limited s x m (meaning.Reference v) (scopes.type_meaning t) h = absurd h
+  means_limited s x m (meaning.Routine n) (scopes.type_meaning t) h = absurd h
+  means_limited s x m (meaning.Predeclared q) (scopes.type_meaning t) h = absurd h
+  means_limited s x m (meaning.Variable v) (scopes.local_variable t) h = cells_limited (W s.shapes) t v h.0
+  means_limited s x m (meaning.Parameter v) (scopes.local_variable t) h = cells_limited (W s.shapes) t v h.0
+  means_limited s x m (meaning.Reference v) (scopes.local_variable t) h = cells_limited (W s.shapes) t v h.0
+  means_limited s x m (meaning.Constant b z) (scopes.local_variable t) h = absurd h
+  means_limited s x m (meaning.Kind v) (scopes.local_variable t) h = absurd h
+  means_limited s x m (meaning.Routine n) (scopes.local_variable t) h = absurd h
+  means_limited s x m (meaning.Predeclared q) (scopes.local_variable t) h = absurd h
+  means_limited s x m (meaning.Variable v) (scopes.permanent_variable t) h = cells_limited (W s.shapes) t v h.0
+  means_limited s x m (meaning.Parameter v) (scopes.permanent_variable t) h = cells_limited (W s.shapes) t v h.0
+  means_limited s x m (meaning.Reference v) (scopes.permanent_variable t) h = cells_limited (W s.shapes) t v h.0
+  means_limited s x m (meaning.Constant b z) (scopes.permanent_variable t) h = absurd h
+  means_limited s x m (meaning.Kind v) (scopes.permanent_variable t) h = absurd h
+  means_limited s x m (meaning.Routine n) (scopes.permanent_variable t) h = absurd h
+  means_limited s x m (meaning.Predeclared q) (scopes.permanent_variable t) h = absurd h
+
+  known_limited : (s : Scopes) (m : scopes.Scope) (n : Name) (c : Meaning) (d : scopes.Meaning) → Known s ((n, d) ∷ m) n c → IsLimitedMeaning d
+  known_limited s m n c d h = means_limited s n ((n, d) ∷ m) c d (subst (MeaningIs (W s.shapes) s n ((n, d) ∷ m) c) (sym (find_first n d m)) h.means)
+
   stacked_other : (s t : Scopes) (m below : scopes.Scope) (x n : Name) (d : scopes.Meaning) (o : Option (Option Meaning)) → More s.shapes t.shapes → bytes_eq x n ≡ false → IsStacked s m below x o → IsStacked t ((n, d) ∷ m) below x o
   stacked_other s t m below x n d None more e h = record { found = h.found ∙ find_other x n d m e; rest = h.rest ∙ since_other x n d m e; latest = h.latest ∙ type_other x n d m e }
   stacked_other s t m below x n d (Some None) more e h = h
@@ -269,6 +288,7 @@ module _ (systems : ℕ → ℕ) (constants_at : ℕ → List Name) where
       pub outer : (x : Name) → IsBut but x → IsKnown s below x (look_outer x s.outer)
       pub own : OwnIs but s below
       pub base : (x : Name) → IsFit (find x below)
+      pub limited : AreLimited m
       pub free : AreFree s.shapes ks
       pub different : AreDifferent ks
       pub entries : AreEntries s
@@ -307,6 +327,7 @@ module _ (systems : ℕ → ℕ) (constants_at : ℕ → List Name) where
           outer = λ x g. is_known_moved s t below below x (look_outer x t.outer) more refl refl (subst (λ (cs : List Scope). IsKnown s below x (look_outer x cs)) (sym o) (h.outer x g));
           own = own_moved but s t below more o h.own;
           base = h.base;
+          limited = h.limited;
           free = subst (λ (ss : Shapes). AreFree ss ks) (sym e) h.free;
           different = h.different;
           entries = entries_more s t more (λ k j y g. ap (λ (ss : Shapes). as_member y (shape_in (systems k) ss)) (sym e) ∙ g) h.entries;
@@ -348,6 +369,7 @@ module _ (systems : ℕ → ℕ) (constants_at : ℕ → List Name) where
           outer = λ x g. is_known_moved s (keep s k d) below below x (look_outer x s.outer) more refl refl (h.outer x g);
           own = own_moved but s (keep s k d) below more refl h.own;
           base = h.base;
+          limited = h.limited;
           free = free_others s.shapes k d ks h.free.0 h.different.0 h.free.1;
           different = h.different.1;
           entries = e;
@@ -428,6 +450,7 @@ module _ (systems : ℕ → ℕ) (constants_at : ℕ → List Name) where
           outer = λ x g. is_known_moved s (add s n (Some c)) below below x (look_outer x s.outer) (λ i g e. e) refl refl (h.outer x g);
           own = own_moved but s (add s n (Some c)) below (λ i g e. e) refl h.own;
           base = h.base;
+          limited = (known_limited (add s n (Some c)) m n c d new, h.limited);
           free = h.free;
           different = h.different;
           entries = h.entries;
@@ -455,6 +478,7 @@ module _ (systems : ℕ → ℕ) (constants_at : ℕ → List Name) where
           outer = λ x g. is_known_moved s t below below x (look_outer x t.outer) more refl refl (subst (λ (cs : List Scope). IsKnown s below x (look_outer x cs)) (sym o) (h.outer x g));
           own = own_moved but s t below more o h.own;
           base = h.base;
+          limited = h.limited;
           free = free;
           different = different;
           entries = entries;

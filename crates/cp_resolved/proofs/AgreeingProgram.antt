@@ -294,6 +294,7 @@ module _ (systems : ℕ → ℕ) (constants_at : ℕ → List Name) (p : Program
         outer = λ x g. always_known start x (look_outer x start.outer) (always_found x (look_scope start).names predeclared predeclared_always);
         own = tt;
         base = λ x. always_fit (look_outer x start.outer) (find x predeclared) (always_found x (look_scope start).names predeclared predeclared_always);
+        limited = (omega arith, (omega arith, (omega arith, (omega arith, (tt, (tt, (tt, (tt, (tt, (tt, (tt, (tt, (tt, (tt, (tt, tt)))))))))))))));
         free = all_free ks;
         different = different;
         entries = λ k n y e. absurd (let bad : None ≡ Some (Some (meaning.Routine n)) = e in cc);
@@ -302,7 +303,7 @@ module _ (systems : ℕ → ℕ) (constants_at : ℕ → List Name) (p : Program
   -- ---- the program
 
   agree_plain : (s : Scopes) (m below : scopes.Scope) (ks : List ℕ) → Agree systems constants_at p true None s m below ks → Agree systems constants_at p false None s m below ks
-  agree_plain s m below ks h = record { unsealed = h.unsealed; names = h.names; seen = h.names; outer = h.outer; own = tt; base = h.base; free = h.free; different = h.different; entries = h.entries }
+  agree_plain s m below ks h = record { unsealed = h.unsealed; names = h.names; seen = h.names; outer = h.outer; own = tt; base = h.base; limited = h.limited; free = h.free; different = h.different; entries = h.entries }
 
   uses_sound : (at : ℕ) (s : Scopes) (j : Judged Use) → limit_faults at s j ≡ [] → faults j ≡ []
   uses_sound at s (Ok u) k = refl

@@ -277,6 +277,7 @@ module _ (systems : ℕ → ℕ) (constants_at : ℕ → List Name) (p : Program
         own = subst (IsTypeKnown systems constants_at (enter false s) k r.name.name) (sym (look_entered false r.name.name s))
             (subst (IsTypeKnown systems constants_at (enter false s) m r.name.name) (look_is r.name.name s h.unsealed) (known_type systems constants_at s (enter false s) m r.name.name (look r.name.name s) refl (sees systems constants_at p false None s m below ks h r.name.name tt)));
         base = λ x. fit_routine x (bytes_eq x r.name.name) (fits systems constants_at p false None s m below ks h x);
+        limited = (tt, h.limited);
         free = h.free;
         different = h.different;
         entries = h.entries;
@@ -357,6 +358,7 @@ module _ (systems : ℕ → ℕ) (constants_at : ℕ → List Name) (p : Program
               (subst (IsKnown systems constants_at a k x) (sym (look_last x s.outer c ∙ ap (λ o. or_else o (look_outer x s.outer)) (routine_last x s.inner r.name.name (announcing r) fresh))) (around a further known x (bytes_eq x r.name.name) refl));
           own = tt;
           base = kept.base;
+          limited = kept.limited;
           free = kept.free;
           different = kept.different;
           entries = kept.entries;

@@ -38,6 +38,7 @@ use Rattle.cp_meaning.specs.Expressions.{routine_of_system, routine_of_type}
 use Rattle.cp_resolved.specs.Enumerations.{each_in, in_part, in_routine, in_system}
 use Rattle.cp_resolved.specs.Judging.{Place, initial_place, routine_places, system_places, AreAgreed}
 use Rattle.cp_resolved.specs.Openings.{Opening, parts_scope, routine_openings, initial_opening, system_openings}
+use Rattle.cp_resolved.specs.Limited.{AreLimited}
 use Rattle.cp_resolved.specs.Small.{Each, IsSmallSystem}
 use Rattle.cp_resolved.specs.Standing.{is_standing, IsStandingVariable, IsStandingParameter}
 use Rattle.cp_resolved.specs.Tokens.{all_tokens, routine_tokens, system_tokens}
@@ -56,6 +57,14 @@ agreed_append tokens p [] ys [] qs h g = g
 agreed_append tokens p (x ∷ xs) ys (o ∷ os) qs h g = (h.0, agreed_append tokens p xs ys os qs h.1 g)
 agreed_append tokens p [] ys (o ∷ os) qs h g = absurd h
 agreed_append tokens p (x ∷ xs) ys [] qs h g = absurd h
+
+seen_limited : (m : scopes.Scope) → AreLimited m → AreLimited (seen_inside m)
+seen_limited [] h = tt
+seen_limited (d ∷ ds) h = go (scopes.is_seen d.1) (seen_limited ds h.1)
+  where
+    go : (b : Bool) → AreLimited (seen_inside ds) → AreLimited (if b then d ∷ seen_inside ds else seen_inside ds)
+    go true rest = (h.0, rest)
+    go false rest = rest
 
 module _ (systems : ℕ → ℕ) (constants_at : ℕ → List Name) (p : Program) where
   -- ---- parameters
@@ -157,6 +166,7 @@ module _ (systems : ℕ → ℕ) (constants_at : ℕ → List Name) (p : Program
             (sees_of systems constants_at p s (seen_inside m) below x (inner_look true s x) (look_outer x s.outer) (h.seen x) (h.outer x tt)));
         own = tt;
         base = λ x. fit_of systems constants_at p s (seen_inside m) below x (inner_look true s x) (h.seen x) (h.base x);
+        limited = seen_limited m h.limited;
         free = h.free;
         different = h.different;
         entries = h.entries;

@@ -35,6 +35,7 @@ use Rattle.cp_meaning.specs.Scopes as scopes
 use Rattle.cp_meaning.specs.Declarations as meant
 use Rattle.cp_meaning.specs.Operations.{range_of_base}
 use Rattle.cp_resolved.specs.Enumerations.{in_simple, in_type, in_groups}
+use Rattle.cp_resolved.specs.Layouts as layouts
 use Rattle.cp_resolved.specs.Small.{Each, IsSmallSimple, IsSmallType, AreSmallGroups}
 use Rattle.cp_resolved.specs.Standing.{is_bounded, is_free, are_free, is_element}
 use Rattle.cp_resolved.specs.Tokens.{type_tokens, groups_tokens}
@@ -42,6 +43,7 @@ use Rattle.cp_resolved.specs.Typed.{BaseIs, RangeIs, TypeIs, FieldsAre}
 use Rattle.cp_resolved.proofs.Agreeing.{Good, good_then, Sound, good_sound, none_left, none_right, none_first, none_of_both, new_names, find_last, is_itself, More, more_same, more_trans, with_more, with_there}
 use Rattle.cp_resolved.proofs.AgreeingNames.{W, Agree, sees, agree_added, agree_kept, type_more, fields_more}
 use Rattle.cp_resolved.proofs.AgreeingTypes.{StandsAt, stands_free, spotted_stands, held_array, IsOrdinal, ordinal_of, IsFew, TypedAs, type_spotted, subrange_typed}
+use Rattle.cp_resolved.proofs.CheckedCells.{array_counted, cells_counted, fields_counted}
 use Rattle.cp_resolved.proofs.Reserving.{Pends, or_left, or_right, ReservedIn, all_reserved, pending_fresh, named_all, Filled, all_filled}
 
 -- ---- lists
@@ -83,12 +85,12 @@ index_within n l h = search (arith, h)
 last_is : (n : ℕ) → 1 ≤ n → (pos n -ℤ pos 1) ≡ pos (n - 1)
 last_is n h = search (arith, h)
 
-limited_good : (at n : ℕ) → Good (λ (u : Unit {0}). Unit {0}) (typing.limited at n)
-limited_good at n = go (nat_lt 8192 n)
+limited_good : (at n : ℕ) → Good (λ (u : Unit {0}). n ≤ 8192) (typing.limited at n)
+limited_good at n = go (nat_lt 8192 n) refl
   where
-    go : (b : Bool) → Good (λ (u : Unit {0}). Unit {0}) (if b then Err (check_fault.Rule at C20 ∷ []) else Ok tt)
-    go true = tt
-    go false = tt
+    go : (b : Bool) → nat_lt 8192 n ≡ b → Good (λ (u : Unit {0}). n ≤ 8192) (if b then Err (check_fault.Rule at C20 ∷ []) else Ok tt)
+    go true e = tt
+    go false e = search (arith, e)
 
 module _ (systems : ℕ → ℕ) (constants_at : ℕ → List Name) (p : Program) where
   -- from scopes to what a written type leaves
@@ -216,6 +218,8 @@ module _ (systems : ℕ → ℕ) (constants_at : ℕ → List Name) (p : Program
     pub range : RangeIs (range_of i) a.index
     pub element : TypeIs (W systems constants_at ss) e a.element
     pub stands : StandsAt q (named.array_over (range_of i) e)
+    pub counted : layouts.cells_of (named.array_over (range_of i) e) ≤ a.cells
+    pub few : a.cells ≤ 8192
 
   bounded_index : (ss : checker.Shapes) (i : Ty) (r : Range) (e : Ty) → IsOrdinal (W systems constants_at ss) i r → is_free i ≡ true → is_element e ≡ true → (is_bounded (range_of i) && is_element e) ≡ true
   bounded_index ss i r e o h g = ap (λ (b : Bool). b && is_element e) (subst (λ (t : Ty). is_free t ≡ true) o.is h) ∙ g
@@ -226,7 +230,8 @@ module _ (systems : ℕ → ℕ) (constants_at : ℕ → List Name) (p : Program
       let n : ℕ = times (count_of r) (cells_of ev s.shapes) in
       good_then (λ u. (u ≡ types.Array at) × StandsAt q (named.array_over (range_of i) e)) (ArrayAs s.shapes q i e) (typing.spotted at q (typing.holding_array ev) (types.Array at)) (λ u. typing.limited at n >>= (λ v. Ok (record { index = r; element = ev; cells = n })))
       (spotted_stands at q (typing.holding_array ev) (types.Array at) (named.array_over (range_of i) e) (held_array (W systems constants_at s.shapes) (range_of i) e ev g.belongs (bounded_index s.shapes i r e o h.stands g.stands)))
-      (λ u k. good_then (λ (v : Unit {0}). Unit {0}) (ArrayAs s.shapes q i e) (typing.limited at n) (λ v. Ok (record { index = r; element = ev; cells = n })) (limited_good at n) (λ v l. record { range = o.range; element = g.belongs; stands = k.1 }))
+      (λ u k. good_then (λ (v : Unit {0}). n ≤ 8192) (ArrayAs s.shapes q i e) (typing.limited at n) (λ v. Ok (record { index = r; element = ev; cells = n })) (limited_good at n)
+      (λ v l. record { range = o.range; element = g.belongs; stands = k.1; counted = array_counted (range_of i) r (layouts.cells_of e) (cells_of ev s.shapes) o.range (cells_counted (W systems constants_at s.shapes) e ev g.belongs) l; few = l }))
   array_good s q at i e types.Queue ev h g = tt
   array_good s q at i e (types.Set r) ev h g = tt
   array_good s q at i e (types.Array n) ev h g = tt
@@ -243,7 +248,7 @@ module _ (systems : ℕ → ℕ) (constants_at : ℕ → List Name) (p : Program
         value = types.Array at;
         is = refl;
         typed = record {
-          belongs = record { token = at; is = refl; shape = a.value; there = ap as_array (with_there u.shapes at (array_shape a.value) agree.free.0); range = a.holds.range; belongs = type_more systems constants_at u.shapes (with_shape u.shapes at (array_shape a.value)) further e a.value.element a.holds.element };
+          belongs = record { token = at; is = refl; shape = a.value; there = ap as_array (with_there u.shapes at (array_shape a.value) agree.free.0); range = a.holds.range; belongs = type_more systems constants_at u.shapes (with_shape u.shapes at (array_shape a.value)) further e a.value.element a.holds.element; counted = a.holds.counted; few = a.holds.few };
           stands = a.holds.stands;
         };
         agree = agree_kept systems constants_at p b None u m below at ks (array_shape a.value) (λ y. refl) agree;
@@ -366,20 +371,29 @@ module _ (systems : ℕ → ℕ) (constants_at : ℕ → List Name) (p : Program
         more = more_trans s.shapes t.scopes.shapes w.scopes.shapes g.more r.more;
       }
 
-  shaped_good : (s : Scopes) (at : ℕ) (f : Scope) → Good (λ d. d ≡ record_shape f (typing.cells_in f s)) (typing.shaped s at f)
-  shaped_good s at f = good_then (λ (u : Unit {0}). Unit {0}) (λ d. d ≡ record_shape f (typing.cells_in f s)) (typing.limited at (typing.cells_in f s)) (λ u. Ok (record_shape f (typing.cells_in f s))) (limited_good at (typing.cells_in f s)) (λ u h. refl)
+  -- what is kept of a record
+  abbrev RecordAs : Scope → ℕ → Shape → Type 0
+  RecordAs f n d = (d ≡ record_shape f n) × (n ≤ 8192)
+
+  shaped_good : (s : Scopes) (at : ℕ) (f : Scope) → Good (RecordAs f (typing.cells_in f s)) (typing.shaped s at f)
+  shaped_good s at f = good_then (λ (u : Unit {0}). typing.cells_in f s ≤ 8192) (RecordAs f (typing.cells_in f s)) (typing.limited at (typing.cells_in f s)) (λ u. Ok (record_shape f (typing.cells_in f s))) (limited_good at (typing.cells_in f s)) (λ u h. (refl, h))
 
   sound_none : (fs : List CheckFault) (f : Scope) → faults (sound_of fs f) ≡ [] → fs ≡ []
   sound_none [] f h = refl
   sound_none (e ∷ es) f h = h
 
-  record_kept : (b : Bool) (s : Scopes) (below : scopes.Scope) (ks : List ℕ) (q : Spot) (at : ℕ) (f : Fields) (u : FieldTypes × scopes.Scope) (j : Judged Shape) → FieldsResult b s below (at ∷ ks) new_scope f u → Sound (λ d. d ≡ record_shape f.fields (typing.cells_in f.fields f.scopes)) j →
+  record_counted : (f : Fields) (u : FieldTypes) (ds : Names) → f.fields.names ≡ ds → FieldsAre (W systems constants_at f.scopes.shapes) u ds → typing.cells_in f.fields f.scopes ≤ 8192 → layouts.cells_in u ≤ typing.cells_in f.fields f.scopes
+  record_counted f u ds is h few =
+      let a = fields_counted (W systems constants_at f.scopes.shapes) u f.fields.names checker.no_census (subst (FieldsAre (W systems constants_at f.scopes.shapes) u) (sym is) h) in
+      omega (arith, a, few)
+
+  record_kept : (b : Bool) (s : Scopes) (below : scopes.Scope) (ks : List ℕ) (q : Spot) (at : ℕ) (f : Fields) (u : FieldTypes × scopes.Scope) (j : Judged Shape) → FieldsResult b s below (at ∷ ks) new_scope f u → Sound (RecordAs f.fields (typing.cells_in f.fields f.scopes)) j →
       TypeResult b s below ks q (record { type = j >>= typing.to_record at; scopes = typing.keep_record f.scopes at j }) (named.record_with u.0, u.1)
   unfolding keep
   record_kept b s below ks q at f u j r d =
       let n : ℕ = typing.cells_in f.fields f.scopes in
       let further : More f.scopes.shapes (with_shape f.scopes.shapes at (record_shape f.fields n)) = with_more f.scopes.shapes at (record_shape f.fields n) r.agree.free.0 in
-      subst (λ (k : Judged Shape). TypeResult b s below ks q (record { type = k >>= typing.to_record at; scopes = typing.keep_record f.scopes at k }) (named.record_with u.0, u.1)) (sym (d.is ∙ ap Ok d.holds))
+      subst (λ (k : Judged Shape). TypeResult b s below ks q (record { type = k >>= typing.to_record at; scopes = typing.keep_record f.scopes at k }) (named.record_with u.0, u.1)) (sym (d.is ∙ ap Ok d.holds.0))
       (record {
         value = types.Record at;
         is = refl;
@@ -392,6 +406,8 @@ module _ (systems : ℕ → ℕ) (constants_at : ℕ → List Name) (p : Program
             there = with_there f.scopes.shapes at (record_shape f.fields n) r.agree.free.0;
             visible = r.sealed;
             each = fields_more systems constants_at f.scopes.shapes (with_shape f.scopes.shapes at (record_shape f.fields n)) further u.0 f.fields.names (subst (FieldsAre (W systems constants_at f.scopes.shapes) u.0) (sym r.is) r.each);
+            counted = record_counted f u.0 r.names r.is r.each d.holds.1;
+            few = d.holds.1;
           };
           stands = stands_free q (named.record_with u.0) r.free;
         };
@@ -407,8 +423,8 @@ module _ (systems : ℕ → ℕ) (constants_at : ℕ → List Name) (p : Program
       let sound : faults (typing.recorded at f) ≡ [] = none_first (typing.recorded at f) (typing.to_record at) none in
       let well : f.faults ≡ [] = sound_none f.faults f.fields (none_first (sound_of f.faults f.fields) (typing.shaped f.scopes at) sound) in
       record_kept b s below ks q at f u (typing.recorded at f) r
-      (good_sound (λ d. d ≡ record_shape f.fields (typing.cells_in f.fields f.scopes)) (typing.recorded at f)
-      (subst (λ (fs : List CheckFault). Good (λ d. d ≡ record_shape f.fields (typing.cells_in f.fields f.scopes)) (sound_of fs f.fields >>= typing.shaped f.scopes at)) (sym well) (shaped_good f.scopes at f.fields)) sound)
+      (good_sound (RecordAs f.fields (typing.cells_in f.fields f.scopes)) (typing.recorded at f)
+      (subst (λ (fs : List CheckFault). Good (RecordAs f.fields (typing.cells_in f.fields f.scopes)) (sound_of fs f.fields >>= typing.shaped f.scopes at)) (sym well) (shaped_good f.scopes at f.fields)) sound)
 
   record_well : (at : ℕ) (f : Fields) → faults (typing.record_typed at f).type ≡ [] → f.faults ≡ []
   record_well at f none = sound_none f.faults f.fields (none_first (sound_of f.faults f.fields) (typing.shaped f.scopes at) (none_first (typing.recorded at f) (typing.to_record at) none))

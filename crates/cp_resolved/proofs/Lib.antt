@@ -18,6 +18,7 @@ pub mod CallingBodies
 pub mod CallingPlaced
 pub mod CallingProgram
 pub mod Cells
+pub mod CheckedCells
 pub mod Declared
 pub mod Declares
 pub mod Designating

@@ -15,6 +15,7 @@ pub mod ItemsStand
 pub mod Knows
 pub mod Layouts
 pub mod LayoutsKnow
+pub mod Limited
 pub mod Names
 pub mod Once
 pub mod Openings

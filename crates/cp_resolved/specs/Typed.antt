@@ -24,7 +24,7 @@ use Rattle.cp_meaning.specs.Declarations.{RoutineMeaning, routine_in}
 use Rattle.cp_meaning.specs.Operations.{range_of_base}
 use Rattle.cp_meaning.specs.Expressions.{routine_of_type}
 use Rattle.cp_slots.specs.Code as code
-use Rattle.cp_resolved.specs.Layouts.{Here}
+use Rattle.cp_resolved.specs.Layouts.{cells_of, cells_in, Here}
 use Rattle.cp_resolved.specs.Compiled.{Form, as_ordinal, as_set, as_place, as_component, Formed}
 
 -- ---- types
@@ -56,15 +56,18 @@ pub record SetIs (q : named.Range) (v : ValueType) : Type 0 where
   pub is : v ≡ types.Set (Some range)
   pub belongs : RangeIs q range
 
-pub record ArrayIs (Element : ValueType → Type 0) (w : Written) (q : named.Range) (v : ValueType) : Type 0 where
+-- the cells that the checker counts are no fewer, and within its limit
+pub record ArrayIs (Element : ValueType → Type 0) (cells : ℕ) (w : Written) (q : named.Range) (v : ValueType) : Type 0 where
   pub token : ℕ
   pub is : v ≡ types.Array token
   pub shape : ArrayShape
   pub there : as_array (shape_in token w.shapes) ≡ Some shape
   pub range : RangeIs q shape.index
   pub belongs : Element shape.element
+  pub counted : cells ≤ shape.cells
+  pub few : shape.cells ≤ 8192
 
-pub record RecordIs (Fields : Names → Type 0) (w : Written) (v : ValueType) : Type 0 where
+pub record RecordIs (Fields : Names → Type 0) (own : ℕ) (w : Written) (v : ValueType) : Type 0 where
   pub token : ℕ
   pub is : v ≡ types.Record token
   pub fields : Scope
@@ -72,6 +75,8 @@ pub record RecordIs (Fields : Names → Type 0) (w : Written) (v : ValueType) : 
   pub there : shape_in token w.shapes ≡ Some (record_shape fields cells)
   pub visible : fields.is_sealed ≡ false
   pub each : Fields fields.names
+  pub counted : own ≤ cells
+  pub few : cells ≤ 8192
 
 pub record ComponentIs (token : ℕ) (v : ValueType) : Type 0 where
   pub kind : SystemKind
@@ -90,8 +95,8 @@ abbrev mutual
   TypeIs w (named.ordinal q) v = OrdinalIs q v
   TypeIs w named.queue_type v = v ≡ types.Queue
   TypeIs w (named.set_over q) v = SetIs q v
-  TypeIs w (named.array_over q t) v = ArrayIs (TypeIs w t) w q v
-  TypeIs w (named.record_with ts) v = RecordIs (FieldsAre w ts) w v
+  TypeIs w (named.array_over q t) v = ArrayIs (TypeIs w t) (cells_of (named.array_over q t)) w q v
+  TypeIs w (named.record_with ts) v = RecordIs (FieldsAre w ts) (cells_in ts) w v
   TypeIs w (named.component_of n) v = ComponentIs (w.systems n) v
 
   pub FieldsAre : Written → FieldTypes → Names → Type 0
