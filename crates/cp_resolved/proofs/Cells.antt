@@ -22,7 +22,7 @@ natural_same : (z : ℤ) → not_below_zero z ≡ natural_of z
 natural_same (pos n) = rw (leb-zero n) refl
 natural_same (negsuc n) = refl
 
-count_same : (k : Numbering) (s : named.Range) → count_of (range_on k s) ≡ length_of_range s
+pub count_same : (k : Numbering) (s : named.Range) → count_of (range_on k s) ≡ length_of_range s
 count_same k s = natural_same (((range_on k s).high -ℤ (range_on k s).low) +ℤ pos 1)
 
 pub one_more : (n x : ℕ) → suc n * x ≡ x + n * x
