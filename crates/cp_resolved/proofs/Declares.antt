@@ -126,10 +126,10 @@ with_declares : (l : Layer) (x : List ℕ) (t : ValueType) (o : Option Contained
 with_declares l x t None = declares_names l (_ ∷ []) _ l.frame
 with_declares l x t (Some c) = declares_names l (_ ∷ []) _ l.frame
 
-variable_declares : (l : Layer) (x : List ℕ) (t : ValueType) → Declares l (variable l x t)
+pub variable_declares : (l : Layer) (x : List ℕ) (t : ValueType) → Declares l (variable l x t)
 variable_declares l x t = with_declares l x t (components_of l.types t)
 
-variables_of_declare : (l : Layer) (t : ValueType) (is : List Identifier) → Declares l (variables_of l t is)
+pub variables_of_declare : (l : Layer) (t : ValueType) (is : List Identifier) → Declares l (variables_of l t is)
 unfolding variables_of
 variables_of_declare l t [] = declares_none l
 variables_of_declare l t (i ∷ is) = declares_trans l (variable l i.name t) (variables_of (variable l i.name t) t is) (variable_declares l i.name t) (variables_of_declare (variable l i.name t) t is)
@@ -144,7 +144,7 @@ variables_declare l (g ∷ gs) =
 
 -- ---- local variables
 
-locals_of_declare : (l : Layer) (t : ValueType) (is : List Identifier) → Declares l (locals_of l t is)
+pub locals_of_declare : (l : Layer) (t : ValueType) (is : List Identifier) → Declares l (locals_of l t is)
 unfolding locals_of
 locals_of_declare l t [] = declares_none l
 locals_of_declare l t (i ∷ is) = declares_trans l (local l i.name t) (locals_of (local l i.name t) t is) (declares_names l (_ ∷ []) l.owned _) (locals_of_declare (local l i.name t) t is)
@@ -159,7 +159,7 @@ locals_declare l (g ∷ gs) =
 
 -- ---- parts
 
-permanent_part_declares : (l : Layer) (p : syntax.Part) → Declares l (permanent_part l p)
+pub permanent_part_declares : (l : Layer) (p : syntax.Part) → Declares l (permanent_part l p)
 permanent_part_declares l (syntax.constants at ds) = constants_declare l ds
 permanent_part_declares l (syntax.types at ds) = definitions_declare l ds
 permanent_part_declares l (syntax.variables at gs) = variables_declare l gs
@@ -169,7 +169,7 @@ unfolding permanent_parts
 permanent_parts_declare l [] = declares_none l
 permanent_parts_declare l (p ∷ ps) = declares_trans l (permanent_part l p) (permanent_parts (permanent_part l p) ps) (permanent_part_declares l p) (permanent_parts_declare (permanent_part l p) ps)
 
-local_part_declares : (l : Layer) (p : syntax.Part) → Declares l (local_part l p)
+pub local_part_declares : (l : Layer) (p : syntax.Part) → Declares l (local_part l p)
 local_part_declares l (syntax.constants at ds) = constants_declare l ds
 local_part_declares l (syntax.types at ds) = definitions_declare l ds
 local_part_declares l (syntax.variables at gs) = locals_declare l gs
@@ -181,7 +181,7 @@ local_parts_declare l (p ∷ ps) = declares_trans l (local_part l p) (local_part
 
 -- ---- headings
 
-constant_parameters_declare : (l : Layer) (ps : Parameters) (t : ValueType) (is : List Identifier) → Declares l (constant_parameters_of l ps t is).1
+pub constant_parameters_declare : (l : Layer) (ps : Parameters) (t : ValueType) (is : List Identifier) → Declares l (constant_parameters_of l ps t is).1
 unfolding constant_parameters_of
 constant_parameters_declare l ps t [] = declares_none l
 constant_parameters_declare l ps t (i ∷ is) =
@@ -195,14 +195,14 @@ constant_groups_declare l ps (g ∷ gs) =
     let x : Parameters × Layer = constant_group l ps g in
     declares_trans l x.1 (constant_groups x.1 x.0 gs).1 (constant_parameters_declare l ps (named_type l g.type_name.name) g.names) (constant_groups_declare x.1 x.0 gs)
 
-var_parameters_declare : (l : Layer) (ps : Parameters) (t : ValueType) (is : List Identifier) → Declares l (var_parameters_of l ps t is).1
+pub var_parameters_declare : (l : Layer) (ps : Parameters) (t : ValueType) (is : List Identifier) → Declares l (var_parameters_of l ps t is).1
 unfolding var_parameters_of
 var_parameters_declare l ps t [] = declares_none l
 var_parameters_declare l ps t (i ∷ is) =
     let x : Parameters × Layer = var_parameter l ps i.name t in
     declares_trans l x.1 (var_parameters_of x.1 x.0 t is).1 (declares_names l (_ ∷ []) l.owned _) (var_parameters_declare x.1 x.0 t is)
 
-either_group_declares : (b : Bool) (l : Layer) (ps : Parameters) (g : syntax.Group) → Declares l (if b then var_group l ps g else constant_group l ps g).1
+pub either_group_declares : (b : Bool) (l : Layer) (ps : Parameters) (g : syntax.Group) → Declares l (if b then var_group l ps g else constant_group l ps g).1
 either_group_declares true l ps g = var_parameters_declare l ps (named_type l g.type_name.name) g.names
 either_group_declares false l ps g = constant_parameters_declare l ps (named_type l g.type_name.name) g.names
 
@@ -222,7 +222,7 @@ heading_declares l x (syntax.function gs i) =
 
 -- ---- parameters of a system type
 
-system_parameter_declares : (l : Layer) (ps : Parameters) (x : List ℕ) (t : ValueType) → Declares l (system_parameter l ps x t).1
+pub system_parameter_declares : (l : Layer) (ps : Parameters) (x : List ℕ) (t : ValueType) → Declares l (system_parameter l ps x t).1
 system_parameter_declares l ps x (types.Ordinal r) = declares_names l (_ ∷ []) _ l.frame
 system_parameter_declares l ps x types.Queue = declares_names l (_ ∷ []) _ l.frame
 system_parameter_declares l ps x (types.Set r) = declares_names l (_ ∷ []) _ l.frame
@@ -230,7 +230,7 @@ system_parameter_declares l ps x (types.Array n) = declares_names l (_ ∷ []) _
 system_parameter_declares l ps x (types.Record n) = declares_names l (_ ∷ []) _ l.frame
 system_parameter_declares l ps x (types.System k) = declares_names l (_ ∷ []) _ l.frame
 
-system_parameters_declare : (l : Layer) (ps : Parameters) (t : ValueType) (is : List Identifier) → Declares l (system_parameters_of l ps t is).1
+pub system_parameters_declare : (l : Layer) (ps : Parameters) (t : ValueType) (is : List Identifier) → Declares l (system_parameters_of l ps t is).1
 unfolding system_parameters_of
 system_parameters_declare l ps t [] = declares_none l
 system_parameters_declare l ps t (i ∷ is) =

@@ -33,6 +33,7 @@ pub mod Expressions
 pub mod Extends
 pub mod FewItems
 pub mod FewItemsOfTables
+pub mod FewLocals
 pub mod FewReferences
 pub mod FewReferencesOfTables
 pub mod Fitted
@@ -77,6 +78,7 @@ pub mod ShapesWritten
 pub mod Sized
 pub mod Sizes
 pub mod SmallBodies
+pub mod SmallNames
 pub mod SmallPrograms
 pub mod SmallStatements
 pub mod SmallTexts
