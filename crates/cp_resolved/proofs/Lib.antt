@@ -36,6 +36,7 @@ pub mod FewItemsOfTables
 pub mod FewLocals
 pub mod FewReferences
 pub mod FewReferencesOfTables
+pub mod FewRooms
 pub mod Fitted
 pub mod FittedStatements
 pub mod Fitting
