@@ -14,7 +14,7 @@ use Rattle.cp_resolved.proofs.Declares.{Declares, heading_declares, local_parts_
 abbrev pub Longer : {A : Type 0} → List A → List A → Type 0
 Longer {A} xs ys = (more : List A) × (ys ≡ xs ++ more)
 
-longer_trans : {A : Type 0} → (xs ys zs : List A) → Longer xs ys → Longer ys zs → Longer xs zs
+pub longer_trans : {A : Type 0} → (xs ys zs : List A) → Longer xs ys → Longer ys zs → Longer xs zs
 longer_trans xs ys zs h i = (h.0 ++ i.0, i.1 ∙ ap (λ us. us ++ i.0) h.1 ∙ append_assoc xs h.0 i.0)
 
 longer_same : {A : Type 0} → (xs : List A) → Longer xs xs
@@ -123,7 +123,7 @@ initial_extends l ps b =
 
 -- ---- routines
 
-begun_extends : (l : Layer) (r : syntax.Routine) → Extends l (routine_begun l r)
+pub begun_extends : (l : Layer) (r : syntax.Routine) → Extends l (routine_begun l r)
 begun_extends l r =
     let x : Layer = (opened l r.name.name).1 in
     let h : Heading × Layer = heading x r.name.name r.kind in

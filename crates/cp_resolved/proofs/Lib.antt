@@ -12,6 +12,7 @@ pub mod Alike
 pub mod Applied
 pub mod Avoiding
 pub mod BegunKnown
+pub mod BegunWithin
 pub mod BodiesStand
 pub mod Calling
 pub mod CallingBodies
@@ -31,6 +32,7 @@ pub mod EntriesKnown
 pub mod EnumerationsRead
 pub mod Expressions
 pub mod Extends
+pub mod FewContents
 pub mod FewItems
 pub mod FewItemsOfTables
 pub mod FewLocals

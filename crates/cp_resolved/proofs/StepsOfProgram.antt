@@ -57,7 +57,7 @@ module _ (k : Numbering) where
       let e : suc (length l.routines + length s.routines) ≡ length l.routines + (length s.routines + 1) = omega arith in
       body_count (with_heading (with_new_frame (system_begun l s)) (heading_with [] (system_groups (entered l).1 [] s.parameters).0 None)) s.body ∙ ap suc (routines_count z s.routines) ∙ ap (λ rs. suc (length rs + length s.routines)) (groups_routines l s) ∙ e
 
-  initial_systems : (l : Layer) (s : syntax.System) → (initial_statement (system_begun l s) (system_groups (entered l).1 [] s.parameters).0 s.body).systems ≡ l.systems
+  pub initial_systems : (l : Layer) (s : syntax.System) → (initial_statement (system_begun l s) (system_groups (entered l).1 [] s.parameters).0 s.body).systems ≡ l.systems
   initial_systems l s =
       let z : Layer = permanent_parts (system_groups (entered l).1 [] s.parameters).1 s.parts in
       body_systems (with_heading (with_new_frame (system_begun l s)) (heading_with [] (system_groups (entered l).1 [] s.parameters).0 None)) s.body ∙ routines_systems z s.routines ∙ groups_systems l s
