@@ -32,6 +32,7 @@ pub mod EntriesKnown
 pub mod EnumerationsRead
 pub mod Expressions
 pub mod Extends
+pub mod FewCellsOfTables
 pub mod FewContents
 pub mod FewItems
 pub mod FewItemsOfTables
