@@ -53,7 +53,7 @@ pub mod Kept
 pub mod KeptNames
 pub mod Knowing
 pub mod KnowingSystems
-pub mod LeastCells
+pub mod LeastLengths
 pub mod Listing
 pub mod Loops
 pub mod Moved

@@ -16,7 +16,7 @@ use Rattle.cp_resolved.specs.Small.{Each}
 use Rattle.cp_resolved.proofs.AgreeingWritten.{each_right}
 use Rattle.cp_resolved.proofs.Declares.{Declares}
 use Rattle.cp_resolved.proofs.FewReferences.{each_weaker}
-use Rattle.cp_resolved.proofs.LeastCells.{least_cells, least_more}
+use Rattle.cp_resolved.proofs.LeastLengths.{least_cells, least_more}
 
 abbrev pub IsSmallIn : Compounds → ValueType → Type 0
 IsSmallIn ts v = length (least ts v) ≤ 8192
