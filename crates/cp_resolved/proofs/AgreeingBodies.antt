@@ -34,7 +34,7 @@ use Rattle.cp_resolved.specs.Limited.{AreLimited}
 use Rattle.cp_resolved.specs.Small.{Each, IsSmallRoutine}
 use Rattle.cp_resolved.specs.Standing.{IsFit, IsFreeVariable, IsFreeParameter, IsFreeResult}
 use Rattle.cp_resolved.specs.Tokens.{all_tokens, part_tokens, routine_tokens}
-use Rattle.cp_resolved.specs.Typed.{ScopesAgree}
+use Rattle.cp_resolved.specs.Typed.{Tokens, ScopesAgree}
 use Rattle.cp_resolved.proofs.Agreeing.{none_left, none_right, new_names, More, more_trans, with_more}
 use Rattle.cp_resolved.proofs.AgreeingNames.{Known, IsKnown, known_moved, Agree, sees, fits, agree_same, agree_kept, agree_known, agree_returned}
 use Rattle.cp_resolved.proofs.AgreeingTypes.{IsFew}
@@ -51,26 +51,26 @@ loud_uses (Ok u) h e = record { value = u; is = refl }
 loud_uses (Err []) h e = absurd h
 loud_uses (Err (f ∷ fs)) h e = absurd (let bad : f ∷ fs ≡ [] = e in cc)
 
-module _ (systems : ℕ → ℕ) (constants_at : ℕ → List Name) (p : Program) where
+module _ (tokens : Tokens) (p : Program) where
   -- ---- statements
 
-  pub all_heard : (b : Bool) (s : Scopes) (m below : scopes.Scope) (ks : List ℕ) → Agree systems constants_at p b None s m below ks → Heard s
+  pub all_heard : (b : Bool) (s : Scopes) (m below : scopes.Scope) (ks : List ℕ) → Agree tokens p b None s m below ks → Heard s
   unfolding names.visible
-  all_heard b s m below ks h at x = go (look x s) (sees systems constants_at p b None s m below ks h x tt)
+  all_heard b s m below ks h at x = go (look x s) (sees tokens p b None s m below ks h x tt)
     where
-      go : (o : Option (Option Meaning)) → IsKnown systems constants_at s m x o → Loud (names.found at o)
+      go : (o : Option (Option Meaning)) → IsKnown tokens s m x o → Loud (names.found at o)
       go None k = tt
       go (Some None) k = k
       go (Some (Some c)) k = tt
 
-  pub place_agreed : (s : Scopes) (w : Context) (m below : scopes.Scope) (ks : List ℕ) (o : Opening) → o.meaning.scope ≡ m → faults (statements s w (Ok no_use) o.meaning.body) ≡ [] → Each IsFreeVariable o.meaning.variables → Each IsFreeParameter o.meaning.parameters → IsFreeResult o.meaning.result → Agree systems constants_at p false None s m below ks → IsAgreed systems p (record { scopes = s; context = w }) o
+  pub place_agreed : (s : Scopes) (w : Context) (m below : scopes.Scope) (ks : List ℕ) (o : Opening) → o.meaning.scope ≡ m → faults (statements s w (Ok no_use) o.meaning.body) ≡ [] → Each IsFreeVariable o.meaning.variables → Each IsFreeParameter o.meaning.parameters → IsFreeResult o.meaning.result → Agree tokens p false None s m below ks → IsAgreed tokens p (record { scopes = s; context = w }) o
   place_agreed s w m below ks o is sound variables parameters result h =
       record {
-        scopes = λ l k n. subst (λ (i : scopes.Scope). ScopesAgree systems s (record { program = p; layouts = l; system = k; routine = n; scope = i })) (sym is)
-            (record { names = λ x c e. (subst (IsKnown systems constants_at s m x) e (sees systems constants_at p false None s m below ks h x tt)).means; entries = λ j i y e. (h.entries j i y e).0 });
+        scopes = λ l k n. subst (λ (i : scopes.Scope). ScopesAgree tokens s (record { program = p; layouts = l; system = k; routine = n; scope = i })) (sym is)
+            (record { names = λ x c e. (subst (IsKnown tokens s m x) e (sees tokens p false None s m below ks h x tt)).means; entries = λ j i y e. (h.entries j i y e).0 });
         sound = sound;
-        known = λ x e. subst (IsKnown systems constants_at s m x) e (sees systems constants_at p false None s m below ks h x tt);
-        fit = λ x. subst (λ (i : scopes.Scope). IsFit (find x i)) (sym is) (fits systems constants_at p false None s m below ks h x);
+        known = λ x e. subst (IsKnown tokens s m x) e (sees tokens p false None s m below ks h x tt);
+        fit = λ x. subst (λ (i : scopes.Scope). IsFit (find x i)) (sym is) (fits tokens p false None s m below ks h x);
         limited = subst AreLimited (sym is) h.limited;
         variables = variables;
         parameters = parameters;
@@ -79,23 +79,23 @@ module _ (systems : ℕ → ℕ) (constants_at : ℕ → List Name) (p : Program
 
   -- ---- out of a routine
 
-  closed_agrees : (s a t : Scopes) (m below rs : scopes.Scope) (js ks : List ℕ) (r : Routine) (v : Option ValueType) (u : Use) → is_some (checker.find r.name.name s.inner.names) ≡ false → Agree systems constants_at p false None s m below js → Known systems constants_at a (with_routine m r) r.name.name (meaning.Routine r.name.at) →
-      a.outer ≡ s.outer ++ with_name (sealed false s.inner) r.name.name (announcing systems constants_at p r) ∷ [] → More s.shapes a.shapes → More a.shapes t.shapes → t.outer ≡ a.outer → Agree systems constants_at p false None t rs (with_routine m r) (r.body.at ∷ ks) →
-      StepResult systems constants_at p false None s (routines.closed r v u t) (with_routine m r) below ks
+  closed_agrees : (s a t : Scopes) (m below rs : scopes.Scope) (js ks : List ℕ) (r : Routine) (v : Option ValueType) (u : Use) → is_some (checker.find r.name.name s.inner.names) ≡ false → Agree tokens p false None s m below js → Known tokens a (with_routine m r) r.name.name (meaning.Routine r.name.at) →
+      a.outer ≡ s.outer ++ with_name (sealed false s.inner) r.name.name (announcing tokens p r) ∷ [] → More s.shapes a.shapes → More a.shapes t.shapes → t.outer ≡ a.outer → Agree tokens p false None t rs (with_routine m r) (r.body.at ∷ ks) →
+      StepResult tokens p false None s (routines.closed r v u t) (with_routine m r) below ks
   unfolding routines.closed settle keep leave add
   closed_agrees s a t m below rs js ks r v u fresh before known outer more further same h =
       let d : Shape = body_shape (routine_use (census t.inner.names t.shapes).cells v u) in
-      let c : Option Meaning = announcing systems constants_at p r in
+      let c : Option Meaning = announcing tokens p r in
       let ss : Shapes = with_shape t.shapes r.body.at d in
-      let kept : Agree systems constants_at p false None (keep t r.body.at d) rs (with_routine m r) ks = agree_kept systems constants_at p false None t rs (with_routine m r) r.body.at ks d (λ y. refl) h in
+      let kept : Agree tokens p false None (keep t r.body.at d) rs (with_routine m r) ks = agree_kept tokens p false None t rs (with_routine m r) r.body.at ks d (λ y. refl) h in
       let all : More a.shapes ss = more_trans a.shapes t.shapes ss further (with_more t.shapes r.body.at d h.free.0) in
       let w : Scopes = record { outer = s.outer; inner = s.inner; shapes = ss } in
-      let returned : Agree systems constants_at p false None w m below ks = agree_returned systems constants_at p false None s w m below js ks before refl refl before.unsealed (more_trans s.shapes a.shapes ss more all) kept.free kept.different kept.entries in
-      let added : Agree systems constants_at p false None (add w r.name.name c) (with_routine m r) below ks =
-      agree_known systems constants_at p false None w m below ks r.name.name (meaning.Routine r.name.at) (routine_meaning r) fresh (λ e. absurd (cc)) (known_moved systems constants_at a (add w r.name.name c) (with_routine m r) (with_routine m r) r.name.name (meaning.Routine r.name.at) all refl refl known) (λ e. absurd (cc)) returned in
+      let returned : Agree tokens p false None w m below ks = agree_returned tokens p false None s w m below js ks before refl refl before.unsealed (more_trans s.shapes a.shapes ss more all) kept.free kept.different kept.entries in
+      let added : Agree tokens p false None (add w r.name.name c) (with_routine m r) below ks =
+      agree_known tokens p false None w m below ks r.name.name (meaning.Routine r.name.at) (routine_meaning r) fresh (λ e. absurd (cc)) (known_moved tokens a (add w r.name.name c) (with_routine m r) (with_routine m r) r.name.name (meaning.Routine r.name.at) all refl refl known) (λ e. absurd (cc)) returned in
       let last : last_of t.outer ≡ (let b : Around = record { outer = s.outer; inner = with_name (sealed false s.inner) r.name.name c } in b) = ap last_of (same ∙ outer) ∙ last_is s.outer (with_name (sealed false s.inner) r.name.name c) in
       record {
-        agree = agree_same systems constants_at p false None (add w r.name.name c) (routines.closed r v u t) (with_routine m r) below ks
+        agree = agree_same tokens p false None (add w r.name.name c) (routines.closed r v u t) (with_routine m r) below ks
             (ap (λ (b : Around). b.outer) last)
             (ap (λ (b : Around). b.inner.names) last ∙ ap (λ (e : Scope). e.names) (new_names (sealed false s.inner) r.name.name c fresh) ∙ sym (ap (λ (e : Scope). e.names) (new_names s.inner r.name.name c fresh)))
             (sym (ap (λ (e : Scope). e.is_sealed) (new_names s.inner r.name.name c fresh) ∙ before.unsealed))
@@ -108,13 +108,13 @@ module _ (systems : ℕ → ℕ) (constants_at : ℕ → List Name) (p : Program
   -- ---- a routine
 
   record BodyResult (owner : Option SystemKind) (s : Scopes) (m below : scopes.Scope) (ks : List ℕ) (r : Routine) (j : Judged (Option ValueType)) (hs : Scopes) : Type 0 where
-    pub agree : Agree systems constants_at p false None (part_steps spot.Other (announced_of r j hs) r.parts).scopes (routine_in (with_routine m r) r).scope (with_routine m r) (r.body.at ∷ ks)
+    pub agree : Agree tokens p false None (part_steps spot.Other (announced_of r j hs) r.parts).scopes (routine_in (with_routine m r) r).scope (with_routine m r) (r.body.at ∷ ks)
     pub variables : Each IsFreeVariable (routine_in (with_routine m r) r).variables
     pub sound : faults (statements (part_steps spot.Other (announced_of r j hs) r.parts).scopes (routine_context owner r) (Ok no_use) r.body.statements) ≡ []
-    pub step : StepResult systems constants_at p false None s (body_step r j (routines.opened owner r (announced_of r j hs))).scopes (with_routine m r) below ks
+    pub step : StepResult tokens p false None s (body_step r j (routines.opened owner r (announced_of r j hs))).scopes (with_routine m r) below ks
 
-  body_agrees : (owner : Option SystemKind) (s hs : Scopes) (m below : scopes.Scope) (js ks : List ℕ) (r : Routine) (v : Option ValueType) → is_some (checker.find r.name.name s.inner.names) ≡ false → Agree systems constants_at p false None s m below js →
-      Announced systems constants_at p (announced r v hs) s r m (with_routine m r) (meant.heading_of (with_routine m r) r.kind).scope (all_tokens part_tokens r.parts (r.body.at ∷ ks)) → IsSmallRoutine r → Each (IsFew constants_at) (in_routine r) → (body_step r (Ok v) (routines.opened owner r (announced_of r (Ok v) hs))).faults ≡ [] →
+  body_agrees : (owner : Option SystemKind) (s hs : Scopes) (m below : scopes.Scope) (js ks : List ℕ) (r : Routine) (v : Option ValueType) → is_some (checker.find r.name.name s.inner.names) ≡ false → Agree tokens p false None s m below js →
+      Announced tokens p (announced r v hs) s r m (with_routine m r) (meant.heading_of (with_routine m r) r.kind).scope (all_tokens part_tokens r.parts (r.body.at ∷ ks)) → IsSmallRoutine r → Each (IsFew tokens) (in_routine r) → (body_step r (Ok v) (routines.opened owner r (announced_of r (Ok v) hs))).faults ≡ [] →
       BodyResult owner s m below ks r (Ok v) hs
   unfolding routines.opened
   body_agrees owner s hs m below js ks r v fresh before ann small few e =
@@ -123,43 +123,43 @@ module _ (systems : ℕ → ℕ) (constants_at : ℕ → List Name) (p : Program
       let d : Step = part_steps spot.Other a r.parts in
       let j : Judged Use = statements d.scopes (routine_context owner r) (Ok no_use) r.body.statements in
       let none : d.faults ≡ [] = none_before d.faults j e in
-      let parts = parts_agree systems constants_at p false spot.Other scopes.local_variable (local_kind systems constants_at p) a (record { variables = []; scope = (meant.heading_of k r.kind).scope }) k (r.body.at ∷ ks) r.parts none small few ann.settled ann.agree in
+      let parts = parts_agree tokens p false spot.Other scopes.local_variable (local_kind tokens p) a (record { variables = []; scope = (meant.heading_of k r.kind).scope }) k (r.body.at ∷ ks) r.parts none small few ann.settled ann.agree in
       let same : after_faults d.faults j ≡ j = none_after d.faults j e in
       let sound : faults j ≡ [] = ap faults (sym same) ∙ e in
       let uses : Uses j = loud_uses j (statements_loud d.scopes (routine_context owner r) (all_heard false d.scopes (routine_in k r).scope k (r.body.at ∷ ks) parts.agree) r.body.statements (Ok no_use) tt) sound in
       record {
         agree = parts.agree;
-        variables = parts_stand systems constants_at p false spot.Other scopes.local_variable (local_kind systems constants_at p) a (record { variables = []; scope = (meant.heading_of k r.kind).scope }) k (r.body.at ∷ ks) r.parts none small few ann.settled ann.agree tt;
+        variables = parts_stand tokens p false spot.Other scopes.local_variable (local_kind tokens p) a (record { variables = []; scope = (meant.heading_of k r.kind).scope }) k (r.body.at ∷ ks) r.parts none small few ann.settled ann.agree tt;
         sound = sound;
-        step = subst (λ (i : Judged Use). StepResult systems constants_at p false None s (closed_of r (Ok v) i d.scopes) k below ks) (sym (same ∙ uses.is))
+        step = subst (λ (i : Judged Use). StepResult tokens p false None s (closed_of r (Ok v) i d.scopes) k below ks) (sym (same ∙ uses.is))
             (closed_agrees s a d.scopes m below (routine_in k r).scope js ks r v uses.value fresh before ann.known ann.outer ann.more parts.more parts.outer parts.agree);
       }
 
   pub record RoutineResult (owner : Option SystemKind) (s : Scopes) (m below : scopes.Scope) (ks : List ℕ) (n : ℕ) (r : Routine) : Type 0 where
-    pub place : IsAgreed systems p (routine_place owner s r) (record { meaning = routine_in (with_routine m r) r; owner = n; name = Some r.name.name })
-    pub step : StepResult systems constants_at p false None s (routine_step owner s r).scopes (with_routine m r) below ks
+    pub place : IsAgreed tokens p (routine_place owner s r) (record { meaning = routine_in (with_routine m r) r; owner = n; name = Some r.name.name })
+    pub step : StepResult tokens p false None s (routine_step owner s r).scopes (with_routine m r) below ks
 
   -- what a routine leaves, by what its heading leaves
   routine_result : (owner : Option SystemKind) (s a : Scopes) (m below : scopes.Scope) (js ks : List ℕ) (n : ℕ) (r : Routine) (h : Headed) (v : Option ValueType) → h.result ≡ Ok v → Each IsFreeParameter (routine_in (with_routine m r) r).parameters → IsFreeResult (routine_in (with_routine m r) r).result → BodyResult owner a m below ks r (Ok v) h.scopes → a.outer ≡ s.outer → More s.shapes a.shapes →
-      IsAgreed systems p (record { scopes = (part_steps spot.Other (announced_of r h.result h.scopes) r.parts).scopes; context = routine_context owner r }) (record { meaning = routine_in (with_routine m r) r; owner = n; name = Some r.name.name })
-      × StepResult systems constants_at p false None s (routines.headed_step owner r h).scopes (with_routine m r) below ks
+      IsAgreed tokens p (record { scopes = (part_steps spot.Other (announced_of r h.result h.scopes) r.parts).scopes; context = routine_context owner r }) (record { meaning = routine_in (with_routine m r) r; owner = n; name = Some r.name.name })
+      × StepResult tokens p false None s (routines.headed_step owner r h).scopes (with_routine m r) below ks
   routine_result owner s a m below js ks n r h v is parameters result b outer more =
       let body : BodyResult owner a m below ks r h.result h.scopes = subst (λ (j : Judged (Option ValueType)). BodyResult owner a m below ks r j h.scopes) (sym is) b in (
         place_agreed (part_steps spot.Other (announced_of r h.result h.scopes) r.parts).scopes (routine_context owner r) (routine_in (with_routine m r) r).scope (with_routine m r) (r.body.at ∷ ks) (record { meaning = routine_in (with_routine m r) r; owner = n; name = Some r.name.name }) refl body.sound body.variables parameters result body.agree,
         record { agree = body.step.agree; outer = body.step.outer ∙ outer; settled = body.step.settled; more = more_trans s.shapes a.shapes (routines.headed_step owner r h).scopes.shapes more body.step.more },
       )
 
-  pub routine_agrees : (owner : Option SystemKind) (s : Scopes) (m below : scopes.Scope) (ks : List ℕ) (n : ℕ) (r : Routine) → (routine_step owner s r).faults ≡ [] → IsSmallRoutine r → Each (IsFew constants_at) (in_routine r) → s.inner.pending ≡ [] → Agree systems constants_at p false None s m below (routine_tokens r ks) → RoutineResult owner s m below ks n r
+  pub routine_agrees : (owner : Option SystemKind) (s : Scopes) (m below : scopes.Scope) (ks : List ℕ) (n : ℕ) (r : Routine) → (routine_step owner s r).faults ≡ [] → IsSmallRoutine r → Each (IsFew tokens) (in_routine r) → s.inner.pending ≡ [] → Agree tokens p false None s m below (routine_tokens r ks) → RoutineResult owner s m below ks n r
   unfolding routine_step enter
   routine_agrees owner s m below ks n r e small few empty h =
       let a : Scopes = (reserve_name s r.name).scopes in
       let hd : Headed = heading owner r (reserve_name s r.name) in
       let none : faults hd.result ≡ [] = none_left (faults hd.result) (faults (routines.opened owner r (announced_of r hd.result hd.scopes)).uses) e in
-      let reserved : (reserve_name s r.name).faults ≡ [] = heading_none systems constants_at p owner r (reserve_name s r.name) none in
-      let named = name_result systems constants_at p false None s r.name m below (routine_tokens r ks) reserved empty h in
+      let reserved : (reserve_name s r.name).faults ≡ [] = heading_none tokens p owner r (reserve_name s r.name) none in
+      let named = name_result tokens p false None s r.name m below (routine_tokens r ks) reserved empty h in
       let fresh : is_some (checker.find r.name.name a.inner.names) ≡ false = named.reserved.pends r.name.name named.reserved.all.0 in
-      let head = heading_agrees systems constants_at p owner s m below (routine_tokens r ks) r none named.agree in
-      let ann = announced_agrees systems constants_at p a hd.scopes m below (with_routine m r) (meant.heading_of (with_routine m r) r.kind).scope (routine_tokens r ks) (all_tokens part_tokens r.parts (r.body.at ∷ ks)) r head.value refl fresh named.agree head.step.agree head.step.outer head.step.settled head.step.more head.result in
+      let head = heading_agrees tokens p owner s m below (routine_tokens r ks) r none named.agree in
+      let ann = announced_agrees tokens p a hd.scopes m below (with_routine m r) (meant.heading_of (with_routine m r) r.kind).scope (routine_tokens r ks) (all_tokens part_tokens r.parts (r.body.at ∷ ks)) r head.value refl fresh named.agree head.step.agree head.step.outer head.step.settled head.step.more (head.result, head.read) in
       let body = body_agrees owner a hd.scopes m below (routine_tokens r ks) ks r head.value fresh named.agree ann small few
       (subst (λ (j : Judged (Option ValueType)). faults (routines.opened owner r (announced_of r j hd.scopes)).uses ≡ []) head.is (none_right (faults hd.result) (faults (routines.opened owner r (announced_of r hd.result hd.scopes)).uses) e)) in
       let all = routine_result owner s a m below (routine_tokens r ks) ks n r hd head.value head.is head.parameters head.free body named.outer (λ k d i. ap (shape_in k) named.shapes ∙ i) in
@@ -168,17 +168,17 @@ module _ (systems : ℕ → ℕ) (constants_at : ℕ → List Name) (p : Program
   -- ---- the routines of a system type
 
   pub record RoutinesResult (owner : Option SystemKind) (s : Scopes) (m below : scopes.Scope) (ks : List ℕ) (n : ℕ) (rs : List Routine) : Type 0 where
-    pub places : AreAgreed systems p (routine_places owner s rs) (routine_openings n m rs)
-    pub step : StepResult systems constants_at p false None s (routine_steps owner s rs).scopes (with_routines m rs) below ks
+    pub places : AreAgreed tokens p (routine_places owner s rs) (routine_openings n m rs)
+    pub step : StepResult tokens p false None s (routine_steps owner s rs).scopes (with_routines m rs) below ks
 
-  pub routines_agree : (owner : Option SystemKind) (s : Scopes) (m below : scopes.Scope) (ks : List ℕ) (n : ℕ) (rs : List Routine) → (routine_steps owner s rs).faults ≡ [] → Each IsSmallRoutine rs → Each (IsFew constants_at) (each_in in_routine rs) → s.inner.pending ≡ [] → Agree systems constants_at p false None s m below (all_tokens routine_tokens rs ks) →
+  pub routines_agree : (owner : Option SystemKind) (s : Scopes) (m below : scopes.Scope) (ks : List ℕ) (n : ℕ) (rs : List Routine) → (routine_steps owner s rs).faults ≡ [] → Each IsSmallRoutine rs → Each (IsFew tokens) (each_in in_routine rs) → s.inner.pending ≡ [] → Agree tokens p false None s m below (all_tokens routine_tokens rs ks) →
       RoutinesResult owner s m below ks n rs
   unfolding routine_steps
-  routines_agree owner s m below ks n [] e small few empty h = record { places = tt; step = step_same systems constants_at p false None s m below ks empty h }
+  routines_agree owner s m below ks n [] e small few empty h = record { places = tt; step = step_same tokens p false None s m below ks empty h }
   routines_agree owner s m below ks n (r ∷ rs) e small few empty h =
       let t : Scopes = (routine_step owner s r).scopes in
       let js : List ℕ = all_tokens routine_tokens rs ks in
       let k : scopes.Scope = with_routine m r in
-      let first : RoutineResult owner s m below js n r = routine_agrees owner s m below js n r (none_left (routine_step owner s r).faults (routine_steps owner t rs).faults e) small.0 (each_left (IsFew constants_at) (in_routine r) (each_in in_routine rs) few) empty h in
-      let rest : RoutinesResult owner t k below ks n rs = routines_agree owner t k below ks n rs (none_right (routine_step owner s r).faults (routine_steps owner t rs).faults e) small.1 (each_right (IsFew constants_at) (in_routine r) (each_in in_routine rs) few) first.step.settled first.step.agree in
-      record { places = (first.place, rest.places); step = step_then systems constants_at p false None s t (routine_steps owner t rs).scopes k (with_routines k rs) below js ks first.step rest.step }
+      let first : RoutineResult owner s m below js n r = routine_agrees owner s m below js n r (none_left (routine_step owner s r).faults (routine_steps owner t rs).faults e) small.0 (each_left (IsFew tokens) (in_routine r) (each_in in_routine rs) few) empty h in
+      let rest : RoutinesResult owner t k below ks n rs = routines_agree owner t k below ks n rs (none_right (routine_step owner s r).faults (routine_steps owner t rs).faults e) small.1 (each_right (IsFew tokens) (in_routine r) (each_in in_routine rs) few) first.step.settled first.step.agree in
+      record { places = (first.place, rest.places); step = step_then tokens p false None s t (routine_steps owner t rs).scopes k (with_routines k rs) below js ks first.step rest.step }

@@ -6,6 +6,7 @@ use Rattle.std.proofs.lemmas.Bool.Decides.{Decides-eqb}
 use Rattle.cp_scope.specs.declared.types.ValueType.{ValueType}
 use Rattle.cp_scope.specs.declared.types.Meaning.{Meaning}
 use Rattle.cp_scope.specs.declared.types.Meaning.TheVariants as meaning
+use Rattle.cp_scope.specs.declared.types.Parameter as check_parameter
 use Rattle.cp_scope.specs.declared.shape.ArrayShape.{ArrayShape}
 use Rattle.cp_scope.specs.Types.{is_open}
 use Rattle.cp_scope.specs.Scopes.{as_member, with_pending, without_pending, reserve, settle, is_among, Names, Scope, Scopes, Heading, Shape, array_shape, record_shape, system_shape, heading_shape, body_shape, Shapes, shape_in, as_array, as_heading, heading_at, member_at, through_seal, look_in, or_else, look_outer, look, with_shape, with_name, sealed, add, enter, keep}
@@ -16,13 +17,14 @@ use Rattle.cp_meaning.specs.Types as named
 use Rattle.cp_meaning.specs.Types.{Ty, FieldTypes}
 use Rattle.cp_meaning.specs.Scopes as scopes
 use Rattle.cp_meaning.specs.Scopes.{find, since, is_seen, seen_inside}
-use Rattle.cp_meaning.specs.Declarations.{routine_in, type_named}
+use Rattle.cp_meaning.specs.Declarations.{Parameter, RoutineMeaning, routine_in, type_named}
 use Rattle.cp_meaning.specs.Expressions.{routine_of_type}
+use Rattle.cp_resolved.specs.Layouts.{cells_in}
 use Rattle.cp_resolved.specs.Limited.{IsLimitedMeaning, AreLimited}
 use Rattle.cp_resolved.specs.Standing.{IsFit, is_standing}
 use Rattle.cp_resolved.specs.Tokens.{AreDifferent}
-use Rattle.cp_resolved.specs.Typed.{Written, TypeIs, FieldsAre, ResultIs, VariableIs, KindIs, RoutineIs, MeaningIs}
-use Rattle.cp_resolved.proofs.CheckedCells.{array_is, cells_limited}
+use Rattle.cp_resolved.specs.Typed.{Tokens, Written, TypeIs, FieldsAre, AreParameters, HeadingIs, VariableIs, KindIs, RoutineIs, MeaningIs}
+use Rattle.cp_resolved.proofs.FewCells.{few_free, few_standing}
 use Rattle.cp_resolved.proofs.Agreeing.{itself, is_itself, unknown, find_last, new_names, inner_look, look_is, More, with_more, with_there, with_other, AreFree, free_others}
 
 -- the heading of a routine is written
@@ -37,18 +39,21 @@ heading_kept n ss ts m h = ap as_heading (m n (heading_shape h.heading h.body) h
 pub heading_more : (n : ℕ) (ss ts : Shapes) → More ss ts → HeadingThere n ss → HeadingThere n ts
 heading_more n ss ts m h = record { heading = h.heading; body = h.body; there = m n (heading_shape h.heading h.body) h.there }
 
--- an enumeration has the constants that it has where it is written
-abbrev pub IsListed : (ℕ → List Name) → named.Base → Type 0
-IsListed constants_at (named.enumerated at xs) = xs ≡ constants_at at
-IsListed constants_at b = Unit {0}
+pub array_is : (o : Option Shape) (a : ArrayShape) → as_array o ≡ Some a → o ≡ Some (array_shape a)
+array_is None a h = absurd (let bad : None ≡ Some a = h in cc)
+array_is (Some (array_shape b)) a h = ap (λ (c : Option ArrayShape). go c) h
+  where
+    go : Option ArrayShape → Option Shape
+    go None = None
+    go (Some c) = Some (array_shape c)
+array_is (Some (record_shape f n)) a h = absurd (let bad : None ≡ Some a = h in cc)
+array_is (Some (system_shape m e c u)) a h = absurd (let bad : None ≡ Some a = h in cc)
+array_is (Some (heading_shape e n)) a h = absurd (let bad : None ≡ Some a = h in cc)
+array_is (Some (body_shape u)) a h = absurd (let bad : None ≡ Some a = h in cc)
 
-abbrev pub IsGiven : (ℕ → List Name) → Option scopes.Meaning → Type 0
-IsGiven constants_at (Some (scopes.constant_meaning b z)) = IsListed constants_at b
-IsGiven constants_at o = Unit {0}
-
-module _ (systems : ℕ → ℕ) (constants_at : ℕ → List Name) where
+module _ (tokens : Tokens) where
   abbrev pub W : Shapes → Written
-  W ss = record { shapes = ss; systems = systems }
+  W ss = record { shapes = ss; tokens = tokens }
 
   mutual
     pub type_more : (ss ts : Shapes) → More ss ts → (t : Ty) (v : ValueType) → TypeIs (W ss) t v → TypeIs (W ts) t v
@@ -56,10 +61,11 @@ module _ (systems : ℕ → ℕ) (constants_at : ℕ → List Name) where
     type_more ss ts m named.queue_type v h = h
     type_more ss ts m (named.set_over q) v h = h
     type_more ss ts m (named.array_over q t) v h =
-        record { token = h.token; is = h.is; shape = h.shape; there = ap as_array (m h.token (array_shape h.shape) (array_is (shape_in h.token ss) h.shape h.there)); range = h.range; belongs = type_more ss ts m t h.shape.element h.belongs; counted = h.counted; few = h.few }
+        record { token = h.token; is = h.is; shape = h.shape; there = ap as_array (m h.token (array_shape h.shape) (array_is (shape_in h.token ss) h.shape h.there)); range = h.range; takes = h.takes; belongs = type_more ss ts m t h.shape.element h.belongs }
     type_more ss ts m (named.record_with us) v h =
-        record { token = h.token; is = h.is; fields = h.fields; cells = h.cells; there = m h.token (record_shape h.fields h.cells) h.there; visible = h.visible; each = fields_more ss ts m us h.fields.names h.each; counted = h.counted; few = h.few }
-    type_more ss ts m (named.component_of n) v h = h
+        record { token = h.token; is = h.is; fields = h.fields; there = m h.token (record_shape h.fields (cells_in us)) h.there; visible = h.visible; each = fields_more ss ts m us h.fields.names h.each }
+    type_more ss ts m (named.component_of n) v h =
+        record { kind = h.kind; is = h.is; only = h.only; there = record { names = h.there.names; heading = h.there.heading; census = h.there.census; need = h.there.need; there = m (tokens.systems n) (system_shape h.there.names h.there.heading h.there.census h.there.need) h.there.there } }
 
     pub fields_more : (ss ts : Shapes) → More ss ts → (us : FieldTypes) (ds : Names) → FieldsAre (W ss) us ds → FieldsAre (W ts) us ds
     fields_more ss ts m named.no_field_types ds h = h
@@ -98,14 +104,24 @@ module _ (systems : ℕ → ℕ) (constants_at : ℕ → List Name) where
   there_more ss ts m (meaning.Reference v) h = tt
   there_more ss ts m (meaning.Predeclared q) h = tt
 
-  routine_since : (v : Option ValueType) (x : Name) (m k : scopes.Scope) (o : Option scopes.Meaning) → since x m ≡ since x k → RoutineIs v x m o → RoutineIs v x k o
-  routine_since v x m k (Some (scopes.routine_meaning r)) e h = subst (λ (t : scopes.Scope). ResultIs v (Some (routine_in t r))) e h
-  routine_since v x m k (Some (scopes.type_meaning t)) e h = absurd h
-  routine_since v x m k (Some (scopes.constant_meaning b z)) e h = absurd h
-  routine_since v x m k (Some (scopes.local_variable t)) e h = absurd h
-  routine_since v x m k (Some (scopes.permanent_variable t)) e h = absurd h
-  routine_since v x m k (Some (scopes.standard_meaning f)) e h = absurd h
-  routine_since v x m k None e h = absurd h
+  pub parameters_more : (ss ts : Shapes) → More ss ts → (as' : List check_parameter.Parameter) (qs : List Parameter) → AreParameters (W ss) as' qs → AreParameters (W ts) as' qs
+  parameters_more ss ts m [] [] h = tt
+  parameters_more ss ts m (a ∷ as') (q ∷ qs) h = (record { passed = h.0.passed; belongs = type_more ss ts m q.ty a.value_type h.0.belongs; handed = h.0.handed }, parameters_more ss ts m as' qs h.1)
+  parameters_more ss ts m [] (q ∷ qs) h = absurd h
+  parameters_more ss ts m (a ∷ as') [] h = absurd h
+
+  pub heading_is_more : (ss ts : Shapes) → More ss ts → (d : Heading) (o : Option RoutineMeaning) → HeadingIs (W ss) d o → HeadingIs (W ts) d o
+  heading_is_more ss ts m d None h = h
+  heading_is_more ss ts m d (Some r) h = (h.0, parameters_more ss ts m d.parameters r.parameters h.1)
+
+  routine_since : (ss ts : Shapes) → More ss ts → (d : Heading) (x : Name) (m k : scopes.Scope) (o : Option scopes.Meaning) → since x m ≡ since x k → RoutineIs (W ss) d x m o → RoutineIs (W ts) d x k o
+  routine_since ss ts i d x m k (Some (scopes.routine_meaning r)) e h = subst (λ (t : scopes.Scope). HeadingIs (W ts) d (Some (routine_in t r))) e (heading_is_more ss ts i d (Some (routine_in (since x m) r)) h)
+  routine_since ss ts i d x m k (Some (scopes.type_meaning t)) e h = absurd h
+  routine_since ss ts i d x m k (Some (scopes.constant_meaning b z)) e h = absurd h
+  routine_since ss ts i d x m k (Some (scopes.local_variable t)) e h = absurd h
+  routine_since ss ts i d x m k (Some (scopes.permanent_variable t)) e h = absurd h
+  routine_since ss ts i d x m k (Some (scopes.standard_meaning f)) e h = absurd h
+  routine_since ss ts i d x m k None e h = absurd h
 
   -- more may be written, and the scope may be another that has the same for the name
   meaning_moved : (s t : Scopes) (x : Name) (m k : scopes.Scope) (c : Meaning) (o : Option scopes.Meaning) → More s.shapes t.shapes → since x m ≡ since x k → IsThere s.shapes c → MeaningIs (W s.shapes) s x m c o → MeaningIs (W t.shapes) t x k c o
@@ -115,7 +131,7 @@ module _ (systems : ℕ → ℕ) (constants_at : ℕ → List Name) where
   meaning_moved s t x m k (meaning.Parameter v) o more e i h = variable_more s.shapes t.shapes more v o h
   meaning_moved s t x m k (meaning.Reference v) o more e i h = variable_more s.shapes t.shapes more v o h
   meaning_moved s t x m k (meaning.Routine n) o more e i h =
-      subst (λ (d : Heading). RoutineIs d.result x k o) (sym (heading_kept n s.shapes t.shapes more i)) (routine_since (heading_at n s).result x m k o e h)
+      subst (λ (d : Heading). RoutineIs (W t.shapes) d x k o) (sym (heading_kept n s.shapes t.shapes more i)) (routine_since s.shapes t.shapes more (heading_at n s) x m k o e h)
   meaning_moved s t x m k (meaning.Predeclared q) o more e i h = h
 
   -- ---- a name that the checker has
@@ -124,7 +140,6 @@ module _ (systems : ℕ → ℕ) (constants_at : ℕ → List Name) where
     pub means : MeaningIs (W s.shapes) s x m c (find x m)
     pub there : IsThere s.shapes c
     pub fit : IsFit (find x m)
-    pub given : IsGiven constants_at (find x m)
 
   pub known_moved : (s t : Scopes) (m k : scopes.Scope) (x : Name) (c : Meaning) → More s.shapes t.shapes → find x m ≡ find x k → since x m ≡ since x k → Known s m x c → Known t k x c
   known_moved s t m k x c more f e h =
@@ -132,7 +147,6 @@ module _ (systems : ℕ → ℕ) (constants_at : ℕ → List Name) where
         means = subst (MeaningIs (W t.shapes) t x k c) f (meaning_moved s t x m k c (find x m) more e h.there h.means);
         there = there_more s.shapes t.shapes more c h.there;
         fit = subst IsFit f h.fit;
-        given = subst (IsGiven constants_at) f h.given;
       }
 
   abbrev pub IsKnown : Scopes → scopes.Scope → Name → Option (Option Meaning) → Type 0
@@ -175,7 +189,6 @@ module _ (systems : ℕ → ℕ) (constants_at : ℕ → List Name) where
     pub means : (k : scopes.Scope) → MeaningIs (W t.shapes) t n ((n, d) ∷ k) c (Some d)
     pub there : IsThere t.shapes c
     pub fit : IsFit (Some d)
-    pub given : IsGiven constants_at (Some d)
 
   pub find_first : (n : Name) (d : scopes.Meaning) (m : scopes.Scope) → Some d ≡ find n ((n, d) ∷ m)
   find_first n d m = ap (λ (b : Bool). if b then Some d else find n m) (sym (itself n))
@@ -195,36 +208,18 @@ module _ (systems : ℕ → ℕ) (constants_at : ℕ → List Name) where
   type_other x n (scopes.standard_meaning q) m h = refl
 
   pub new_known : (t : Scopes) (m : scopes.Scope) (n : Name) (c : Meaning) (d : scopes.Meaning) → New t n c d → Known t ((n, d) ∷ m) n c
-  new_known t m n c d h = record { means = subst (MeaningIs (W t.shapes) t n ((n, d) ∷ m) c) (find_first n d m) (h.means m); there = h.there; fit = subst IsFit (find_first n d m) h.fit; given = subst (IsGiven constants_at) (find_first n d m) h.given }
+  new_known t m n c d h = record { means = subst (MeaningIs (W t.shapes) t n ((n, d) ∷ m) c) (find_first n d m) (h.means m); there = h.there; fit = subst IsFit (find_first n d m) h.fit }
 
-  means_limited : (s : Scopes) (x : Name) (m : scopes.Scope) (c : Meaning) (d : scopes.Meaning) → MeaningIs (W s.shapes) s x m c (Some d) → IsLimitedMeaning d
-  means_limited s x m c (scopes.constant_meaning b z) h = tt
-  means_limited s x m c (scopes.routine_meaning r) h = tt
-  means_limited s x m c (scopes.standard_meaning q) h = tt
-  means_limited s x m (meaning.Kind v) (scopes.type_meaning t) h = cells_limited (W s.shapes) t v h
-  means_limited s x m (meaning.Constant b z) (scopes.type_meaning t) h = absurd h
-  means_limited s x m (meaning.Variable v) (scopes.type_meaning t) h = absurd h
-  means_limited s x m (meaning.Parameter v) (scopes.type_meaning t) h = absurd h
-  means_limited s x m (meaning.Reference v) (scopes.type_meaning t) h = absurd h
-  means_limited s x m (meaning.Routine n) (scopes.type_meaning t) h = absurd h
-  means_limited s x m (meaning.Predeclared q) (scopes.type_meaning t) h = absurd h
-  means_limited s x m (meaning.Variable v) (scopes.local_variable t) h = cells_limited (W s.shapes) t v h.0
-  means_limited s x m (meaning.Parameter v) (scopes.local_variable t) h = cells_limited (W s.shapes) t v h.0
-  means_limited s x m (meaning.Reference v) (scopes.local_variable t) h = cells_limited (W s.shapes) t v h.0
-  means_limited s x m (meaning.Constant b z) (scopes.local_variable t) h = absurd h
-  means_limited s x m (meaning.Kind v) (scopes.local_variable t) h = absurd h
-  means_limited s x m (meaning.Routine n) (scopes.local_variable t) h = absurd h
-  means_limited s x m (meaning.Predeclared q) (scopes.local_variable t) h = absurd h
-  means_limited s x m (meaning.Variable v) (scopes.permanent_variable t) h = cells_limited (W s.shapes) t v h.0
-  means_limited s x m (meaning.Parameter v) (scopes.permanent_variable t) h = cells_limited (W s.shapes) t v h.0
-  means_limited s x m (meaning.Reference v) (scopes.permanent_variable t) h = cells_limited (W s.shapes) t v h.0
-  means_limited s x m (meaning.Constant b z) (scopes.permanent_variable t) h = absurd h
-  means_limited s x m (meaning.Kind v) (scopes.permanent_variable t) h = absurd h
-  means_limited s x m (meaning.Routine n) (scopes.permanent_variable t) h = absurd h
-  means_limited s x m (meaning.Predeclared q) (scopes.permanent_variable t) h = absurd h
+  fit_limited : (d : scopes.Meaning) → IsFit (Some d) → IsLimitedMeaning d
+  fit_limited (scopes.type_meaning t) h = few_standing t h
+  fit_limited (scopes.local_variable t) h = few_free t h
+  fit_limited (scopes.permanent_variable t) h = few_standing t h
+  fit_limited (scopes.constant_meaning b z) h = tt
+  fit_limited (scopes.routine_meaning r) h = tt
+  fit_limited (scopes.standard_meaning q) h = tt
 
   known_limited : (s : Scopes) (m : scopes.Scope) (n : Name) (c : Meaning) (d : scopes.Meaning) → Known s ((n, d) ∷ m) n c → IsLimitedMeaning d
-  known_limited s m n c d h = means_limited s n ((n, d) ∷ m) c d (subst (MeaningIs (W s.shapes) s n ((n, d) ∷ m) c) (sym (find_first n d m)) h.means)
+  known_limited s m n c d h = fit_limited d (subst IsFit (sym (find_first n d m)) h.fit)
 
   stacked_other : (s t : Scopes) (m below : scopes.Scope) (x n : Name) (d : scopes.Meaning) (o : Option (Option Meaning)) → More s.shapes t.shapes → bytes_eq x n ≡ false → IsStacked s m below x o → IsStacked t ((n, d) ∷ m) below x o
   stacked_other s t m below x n d None more e h = record { found = h.found ∙ find_other x n d m e; rest = h.rest ∙ since_other x n d m e; latest = h.latest ∙ type_other x n d m e }
@@ -278,7 +273,7 @@ module _ (systems : ℕ → ℕ) (constants_at : ℕ → List Name) where
 
   module _ (p : Program) where
     abbrev pub AreEntries : Scopes → Type 0
-    AreEntries s = (k n : ℕ) (y : Name) → member_at (systems k) y s ≡ Some (Some (meaning.Routine n)) → ResultIs (heading_at n s).result (routine_of_type p (named.component_of k) y) × HeadingThere n s.shapes
+    AreEntries s = (k n : ℕ) (y : Name) → member_at (tokens.systems k) y s ≡ Some (Some (meaning.Routine n)) → HeadingIs (W s.shapes) (heading_at n s) (routine_of_type p (named.component_of k) y) × HeadingThere n s.shapes
 
     -- `inside`: in the program, what its system types see agrees too. `but`: in a heading the name of its routine is not visible yet.
     pub record Agree (inside : Bool) (but : Option Name) (s : Scopes) (m below : scopes.Scope) (ks : List ℕ) : Type 0 where
@@ -312,10 +307,10 @@ module _ (systems : ℕ → ℕ) (constants_at : ℕ → List Name) where
 
     -- ---- from one state of the scopes to another
 
-    pub entries_more : (s t : Scopes) → More s.shapes t.shapes → ((k n : ℕ) (y : Name) → member_at (systems k) y t ≡ Some (Some (meaning.Routine n)) → member_at (systems k) y s ≡ Some (Some (meaning.Routine n))) → AreEntries s → AreEntries t
+    pub entries_more : (s t : Scopes) → More s.shapes t.shapes → ((k n : ℕ) (y : Name) → member_at (tokens.systems k) y t ≡ Some (Some (meaning.Routine n)) → member_at (tokens.systems k) y s ≡ Some (Some (meaning.Routine n))) → AreEntries s → AreEntries t
     entries_more s t more back h k n y e =
         let r = h k n y (back k n y e) in
-        (subst (λ (d : Heading). ResultIs d.result (routine_of_type p (named.component_of k) y)) (sym (heading_kept n s.shapes t.shapes more r.1)) r.0, heading_more n s.shapes t.shapes more r.1)
+        (subst (λ (d : Heading). HeadingIs (W t.shapes) d (routine_of_type p (named.component_of k) y)) (sym (heading_kept n s.shapes t.shapes more r.1)) (heading_is_more s.shapes t.shapes more (heading_at n s) (routine_of_type p (named.component_of k) y) r.0), heading_more n s.shapes t.shapes more r.1)
 
     pub agree_same : (b : Bool) (but : Option Name) (s t : Scopes) (m below : scopes.Scope) (ks : List ℕ) → t.outer ≡ s.outer → t.inner.names ≡ s.inner.names → t.inner.is_sealed ≡ s.inner.is_sealed → t.shapes ≡ s.shapes → Agree b but s m below ks → Agree b but t m below ks
     agree_same b but s t m below ks o n i e h =
@@ -330,7 +325,7 @@ module _ (systems : ℕ → ℕ) (constants_at : ℕ → List Name) where
           limited = h.limited;
           free = subst (λ (ss : Shapes). AreFree ss ks) (sym e) h.free;
           different = h.different;
-          entries = entries_more s t more (λ k j y g. ap (λ (ss : Shapes). as_member y (shape_in (systems k) ss)) (sym e) ∙ g) h.entries;
+          entries = entries_more s t more (λ k j y g. ap (λ (ss : Shapes). as_member y (shape_in (tokens.systems k) ss)) (sym e) ∙ g) h.entries;
         }
 
     pending_names : (c : Scope) (n : List ℕ) → (with_pending c n).names ≡ c.names
@@ -389,7 +384,7 @@ module _ (systems : ℕ → ℕ) (constants_at : ℕ → List Name) where
     unfolding keep
     agree_kept b but s m below k ks d none h =
         agree_written b but s m below k ks d h
-        (entries_more s (keep s k d) (with_more s.shapes k d h.free.0) (λ j n y e. back k (systems j) y s.shapes d (Some (meaning.Routine n)) h.free.0 (none y) e) h.entries)
+        (entries_more s (keep s k d) (with_more s.shapes k d h.free.0) (λ j n y e. back k (tokens.systems j) y s.shapes d (Some (meaning.Routine n)) h.free.0 (none y) e) h.entries)
 
     -- ---- one name more
 

@@ -35,9 +35,9 @@ use Rattle.cp_resolved.specs.Openings.{Opening, definition_openings, definitions
 use Rattle.cp_resolved.specs.Small.{Each, IsSmallDefinition, IsSmallProgramPart, IsSmallProgram}
 use Rattle.cp_resolved.specs.Standing.{IsFit, IsStandingVariable, IsStandingParameter}
 use Rattle.cp_resolved.specs.Tokens.{AreDifferent, all_tokens, routine_tokens, definition_tokens, program_part_tokens, program_tokens}
-use Rattle.cp_resolved.specs.Typed.{RangeIs, TypeIs, predeclared_of, MeaningIs}
+use Rattle.cp_resolved.specs.Typed.{Tokens, SystemThere, RangeIs, TypeIs, predeclared_of, MeaningIs}
 use Rattle.cp_resolved.proofs.Agreeing.{none_left, none_right, none_first, AreFree}
-use Rattle.cp_resolved.proofs.AgreeingNames.{W, IsThere, IsGiven, IsKnown, Agree}
+use Rattle.cp_resolved.proofs.AgreeingNames.{W, IsThere, IsKnown, Agree}
 use Rattle.cp_resolved.proofs.AgreeingTypes.{IsFew, standing_at}
 use Rattle.cp_resolved.proofs.AgreeingWritten.{each_left, each_right}
 use Rattle.cp_resolved.proofs.AgreeingParts.{StepResult, step_then, step_same, NamesResult, name_result, type_reached, kind_declared, constants_agree, permanent_kind, variables_agree, variables_stand}
@@ -45,12 +45,12 @@ use Rattle.cp_resolved.proofs.AgreeingRoutines.{none_before, none_after}
 use Rattle.cp_resolved.proofs.AgreeingBodies.{place_agreed, routines_agree}
 use Rattle.cp_resolved.proofs.AgreeingSystems.{agreed_append, IsNumbered, system_agrees}
 
-module _ (systems : ℕ → ℕ) (constants_at : ℕ → List Name) (p : Program) where
+module _ (tokens : Tokens) (p : Program) where
   -- ---- system types by their numbers
 
   abbrev pub IsNumberedDefinition : Declared → Definition → Type 0
   IsNumberedDefinition d (type_definition t) = Unit {0}
-  IsNumberedDefinition d (system_definition y) = IsNumbered systems constants_at p (length d.systems) (seen_inside d.scope) y
+  IsNumberedDefinition d (system_definition y) = IsNumbered tokens p (length d.systems) (seen_inside d.scope) y
 
   abbrev pub AreNumberedDefinitions : Declared → List SystemDefinition → Type 0
   AreNumberedDefinitions d [] = Unit {0}
@@ -71,8 +71,8 @@ module _ (systems : ℕ → ℕ) (constants_at : ℕ → List Name) (p : Program
   IsStandingSystem m = Each IsStandingVariable m.variables × Each IsStandingParameter m.parameters
 
   record DefinedResult (s t : Scopes) (d k : Declared) (below : scopes.Scope) (ks : List ℕ) (xs : List Place) (os : List Opening) : Type 0 where
-    pub places : AreAgreed systems p xs os
-    pub step : StepResult systems constants_at p true None s t k.scope below ks
+    pub places : AreAgreed tokens p xs os
+    pub step : StepResult tokens p true None s t k.scope below ks
     pub types : Each IsStandingSystem d.systems → Each IsStandingSystem k.systems
     pub variables : Each IsStandingVariable d.variables → Each IsStandingVariable k.variables
 
@@ -80,33 +80,33 @@ module _ (systems : ℕ → ℕ) (constants_at : ℕ → List Name) (p : Program
   each_last [] m h g = (g, tt)
   each_last (x ∷ ms) m h g = (h.0, each_last ms m h.1 g)
 
-  defined_agrees : (s a : Scopes) (d : Declared) (below : scopes.Scope) (ks : List ℕ) (n : SystemDefinition) (v : Definition) → NamesResult systems constants_at p true None s a (n.name ∷ []) d.scope below (definition_tokens v ks) → faults (systems_of.defined a v).type ≡ [] → IsNumberedDefinition d v → IsSmallDefinition v → Each (IsFew constants_at) (in_definition v) →
+  defined_agrees : (s a : Scopes) (d : Declared) (below : scopes.Scope) (ks : List ℕ) (n : SystemDefinition) (v : Definition) → NamesResult tokens p true None s a (n.name ∷ []) d.scope below (definition_tokens v ks) → faults (systems_of.defined a v).type ≡ [] → IsNumberedDefinition d v → IsSmallDefinition v → Each (IsFew tokens) (in_definition v) →
       DefinedResult s (add_one (systems_of.defined a v).scopes n.name (as_declared ((systems_of.defined a v).type >>= to_kind))) d (definition_in d n v) below ks (definition_places a v) (definition_openings d v)
   unfolding systems_of.defined
   defined_agrees s a d below ks n (type_definition t) r e number small few =
-      let w = type_reached systems constants_at p true s a (n.name ∷ []) d.scope below ks spot.Definition t r e small few in
+      let w = type_reached tokens p true s a (n.name ∷ []) d.scope below ks spot.Definition t r e small few in
       record {
         places = tt;
-        step = kind_declared systems constants_at p true s n.name (typed a spot.Definition t) (meant.type_in d.scope t).1 below ks (meant.type_in d.scope t).0 w.value w.is w.typed.belongs (standing_at spot.Definition (meant.type_in d.scope t).0 w.typed.stands) w.fresh.0 w.outer w.more w.agree;
+        step = kind_declared tokens p true s n.name (typed a spot.Definition t) (meant.type_in d.scope t).1 below ks (meant.type_in d.scope t).0 w.value w.is w.typed.belongs (standing_at spot.Definition (meant.type_in d.scope t).0 w.typed.stands) w.fresh.0 w.outer w.more w.agree;
         types = λ h. h;
         variables = λ h. h;
       }
   defined_agrees s a d below ks n (system_definition y) r e number small few =
       let c : ℕ = length d.systems in
       let t : Typed = systems_of.system_typed a y in
-      let w = system_agrees systems constants_at p a d.scope below ks c y number e small few r.agree in
+      let w = system_agrees tokens p a d.scope below ks c y number e small few r.agree in
       record {
         places = w.places;
-        step = kind_declared systems constants_at p true s n.name t d.scope below ks (named.component_of c) (types.Component y.kind y.at) w.is (record { kind = y.kind; is = ap (types.Component y.kind) (sym number.token) }) refl
+        step = kind_declared tokens p true s n.name t d.scope below ks (named.component_of c) (types.Component y.kind y.at) w.is (record { kind = y.kind; is = ap (types.Component y.kind) (sym number.token); only = λ k i. number.only k (i ∙ number.token); there = subst (λ (k : ℕ). SystemThere k t.scopes.shapes) (sym number.token) w.closed.there }) refl
             (ap (λ (ds : Names). is_some (checker.find n.name.name ds)) w.closed.names ∙ r.reserved.pends n.name.name r.reserved.all.0) (w.closed.outer ∙ r.outer) (λ k f i. w.closed.more k f (ap (shape_in k) r.shapes ∙ i)) w.closed.agree;
         types = λ h. each_last d.systems (system_in (seen_inside d.scope) y) h (w.variables, w.parameters);
         variables = λ h. h;
       }
 
-  definitions_agree : (s : Scopes) (d : Declared) (below : scopes.Scope) (ks : List ℕ) (ns : List SystemDefinition) → (definition_steps s ns).faults ≡ [] → AreNumberedDefinitions d ns → Each (λ n. IsSmallDefinition n.value) ns → Each (IsFew constants_at) (each_in (λ n. in_definition n.value) ns) → s.inner.pending ≡ [] → Agree systems constants_at p true None s d.scope below (all_tokens (λ n. definition_tokens n.value) ns ks) →
+  definitions_agree : (s : Scopes) (d : Declared) (below : scopes.Scope) (ks : List ℕ) (ns : List SystemDefinition) → (definition_steps s ns).faults ≡ [] → AreNumberedDefinitions d ns → Each (λ n. IsSmallDefinition n.value) ns → Each (IsFew tokens) (each_in (λ n. in_definition n.value) ns) → s.inner.pending ≡ [] → Agree tokens p true None s d.scope below (all_tokens (λ n. definition_tokens n.value) ns ks) →
       DefinedResult s (definition_steps s ns).scopes d (definitions_in d ns) below ks (definitions_places s ns) (definitions_openings d ns)
   unfolding definition_steps definition_step
-  definitions_agree s d below ks [] e number small few empty h = record { places = tt; step = step_same systems constants_at p true None s d.scope below ks empty h; types = λ i. i; variables = λ i. i }
+  definitions_agree s d below ks [] e number small few empty h = record { places = tt; step = step_same tokens p true None s d.scope below ks empty h; types = λ i. i; variables = λ i. i }
   definitions_agree s d below ks (n ∷ ns) e number small few empty h =
       let a : Scopes = (reserve_name s n.name).scopes in
       let x : Typed = systems_of.defined a n.value in
@@ -114,44 +114,44 @@ module _ (systems : ℕ → ℕ) (constants_at : ℕ → List Name) (p : Program
       let js : List ℕ = all_tokens (λ (c : SystemDefinition). definition_tokens c.value) ns ks in
       let k : Declared = definition_in d n n.value in
       let first : (reserve_name s n.name).faults ++ faults (x.type >>= to_kind) ≡ [] = none_left ((reserve_name s n.name).faults ++ faults (x.type >>= to_kind)) (definition_steps t ns).faults e in
-      let r = name_result systems constants_at p true None s n.name d.scope below (definition_tokens n.value js) (none_left (reserve_name s n.name).faults (faults (x.type >>= to_kind)) first) empty h in
-      let one = defined_agrees s a d below js n n.value r (none_first x.type to_kind (none_right (reserve_name s n.name).faults (faults (x.type >>= to_kind)) first)) number.0 small.0 (each_left (IsFew constants_at) (in_definition n.value) (each_in (λ (c : SystemDefinition). in_definition c.value) ns) few) in
-      let rest = definitions_agree t k below ks ns (none_right ((reserve_name s n.name).faults ++ faults (x.type >>= to_kind)) (definition_steps t ns).faults e) number.1 small.1 (each_right (IsFew constants_at) (in_definition n.value) (each_in (λ (c : SystemDefinition). in_definition c.value) ns) few) one.step.settled one.step.agree in
+      let r = name_result tokens p true None s n.name d.scope below (definition_tokens n.value js) (none_left (reserve_name s n.name).faults (faults (x.type >>= to_kind)) first) empty h in
+      let one = defined_agrees s a d below js n n.value r (none_first x.type to_kind (none_right (reserve_name s n.name).faults (faults (x.type >>= to_kind)) first)) number.0 small.0 (each_left (IsFew tokens) (in_definition n.value) (each_in (λ (c : SystemDefinition). in_definition c.value) ns) few) in
+      let rest = definitions_agree t k below ks ns (none_right ((reserve_name s n.name).faults ++ faults (x.type >>= to_kind)) (definition_steps t ns).faults e) number.1 small.1 (each_right (IsFew tokens) (in_definition n.value) (each_in (λ (c : SystemDefinition). in_definition c.value) ns) few) one.step.settled one.step.agree in
       record {
-        places = agreed_append systems p (definition_places a n.value) (definitions_places t ns) (definition_openings d n.value) (definitions_openings k ns) one.places rest.places;
-        step = step_then systems constants_at p true None s t (definition_steps t ns).scopes k.scope (definitions_in k ns).scope below js ks one.step rest.step;
+        places = agreed_append tokens p (definition_places a n.value) (definitions_places t ns) (definition_openings d n.value) (definitions_openings k ns) one.places rest.places;
+        step = step_then tokens p true None s t (definition_steps t ns).scopes k.scope (definitions_in k ns).scope below js ks one.step rest.step;
         types = λ i. rest.types (one.types i);
         variables = λ i. rest.variables (one.variables i);
       }
 
   -- ---- parts of the program
 
-  part_agrees : (s : Scopes) (d : Declared) (below : scopes.Scope) (ks : List ℕ) (q : ProgramPart) → (program_part_step s q).faults ≡ [] → IsNumberedPart d q → IsSmallProgramPart q → Each (IsFew constants_at) (in_program_part q) → s.inner.pending ≡ [] → Agree systems constants_at p true None s d.scope below (program_part_tokens q ks) →
+  part_agrees : (s : Scopes) (d : Declared) (below : scopes.Scope) (ks : List ℕ) (q : ProgramPart) → (program_part_step s q).faults ≡ [] → IsNumberedPart d q → IsSmallProgramPart q → Each (IsFew tokens) (in_program_part q) → s.inner.pending ≡ [] → Agree tokens p true None s d.scope below (program_part_tokens q ks) →
       DefinedResult s (program_part_step s q).scopes d (program_part_in d q) below ks (part_places s q) (part_openings d q)
   unfolding program_part_step
-  part_agrees s d below ks (program_constants at ds) e number small few empty h = record { places = tt; step = constants_agree systems constants_at p true s d.scope below ks ds e small empty h; types = λ i. i; variables = λ i. i }
+  part_agrees s d below ks (program_constants at ds) e number small few empty h = record { places = tt; step = constants_agree tokens p true s d.scope below ks ds e small empty h; types = λ i. i; variables = λ i. i }
   part_agrees s d below ks (program_types at ns) e number small few empty h = definitions_agree s d below ks ns e number small few empty h
   part_agrees s d below ks (program_variables at gs) e number small few empty h =
       record {
         places = tt;
-        step = variables_agree systems constants_at p true (spot.Permanent None) scopes.permanent_variable (permanent_kind systems constants_at p true None) s (record { variables = d.variables; scope = d.scope }) below ks gs e small few empty h;
+        step = variables_agree tokens p true (spot.Permanent None) scopes.permanent_variable (permanent_kind tokens p true None) s (record { variables = d.variables; scope = d.scope }) below ks gs e small few empty h;
         types = λ i. i;
-        variables = variables_stand systems constants_at p true (spot.Permanent None) scopes.permanent_variable (permanent_kind systems constants_at p true None) s (record { variables = d.variables; scope = d.scope }) below ks gs e small few empty h;
+        variables = variables_stand tokens p true (spot.Permanent None) scopes.permanent_variable (permanent_kind tokens p true None) s (record { variables = d.variables; scope = d.scope }) below ks gs e small few empty h;
       }
 
-  parts_agree : (s : Scopes) (d : Declared) (below : scopes.Scope) (ks : List ℕ) (qs : List ProgramPart) → (program_part_steps s qs).faults ≡ [] → AreNumberedParts d qs → Each IsSmallProgramPart qs → Each (IsFew constants_at) (each_in in_program_part qs) → s.inner.pending ≡ [] → Agree systems constants_at p true None s d.scope below (all_tokens program_part_tokens qs ks) →
+  parts_agree : (s : Scopes) (d : Declared) (below : scopes.Scope) (ks : List ℕ) (qs : List ProgramPart) → (program_part_steps s qs).faults ≡ [] → AreNumberedParts d qs → Each IsSmallProgramPart qs → Each (IsFew tokens) (each_in in_program_part qs) → s.inner.pending ≡ [] → Agree tokens p true None s d.scope below (all_tokens program_part_tokens qs ks) →
       DefinedResult s (program_part_steps s qs).scopes d (program_parts_in d qs) below ks (parts_places s qs) (parts_openings d qs)
   unfolding program_part_steps
-  parts_agree s d below ks [] e number small few empty h = record { places = tt; step = step_same systems constants_at p true None s d.scope below ks empty h; types = λ i. i; variables = λ i. i }
+  parts_agree s d below ks [] e number small few empty h = record { places = tt; step = step_same tokens p true None s d.scope below ks empty h; types = λ i. i; variables = λ i. i }
   parts_agree s d below ks (q ∷ qs) e number small few empty h =
       let t : Scopes = (program_part_step s q).scopes in
       let js : List ℕ = all_tokens program_part_tokens qs ks in
       let k : Declared = program_part_in d q in
-      let one = part_agrees s d below js q (none_left (program_part_step s q).faults (program_part_steps t qs).faults e) number.0 small.0 (each_left (IsFew constants_at) (in_program_part q) (each_in in_program_part qs) few) empty h in
-      let rest = parts_agree t k below ks qs (none_right (program_part_step s q).faults (program_part_steps t qs).faults e) number.1 small.1 (each_right (IsFew constants_at) (in_program_part q) (each_in in_program_part qs) few) one.step.settled one.step.agree in
+      let one = part_agrees s d below js q (none_left (program_part_step s q).faults (program_part_steps t qs).faults e) number.0 small.0 (each_left (IsFew tokens) (in_program_part q) (each_in in_program_part qs) few) empty h in
+      let rest = parts_agree t k below ks qs (none_right (program_part_step s q).faults (program_part_steps t qs).faults e) number.1 small.1 (each_right (IsFew tokens) (in_program_part q) (each_in in_program_part qs) few) one.step.settled one.step.agree in
       record {
-        places = agreed_append systems p (part_places s q) (parts_places t qs) (part_openings d q) (parts_openings k qs) one.places rest.places;
-        step = step_then systems constants_at p true None s t (program_part_steps t qs).scopes k.scope (program_parts_in k qs).scope below js ks one.step rest.step;
+        places = agreed_append tokens p (part_places s q) (parts_places t qs) (part_openings d q) (parts_openings k qs) one.places rest.places;
+        step = step_then tokens p true None s t (program_part_steps t qs).scopes k.scope (program_parts_in k qs).scope below js ks one.step rest.step;
         types = λ i. rest.types (one.types i);
         variables = λ i. rest.variables (one.variables i);
       }
@@ -160,10 +160,9 @@ module _ (systems : ℕ → ℕ) (constants_at : ℕ → List Name) (p : Program
 
   -- a name that stands for the same wherever it is visible
   record Always (c : Meaning) (o : Option scopes.Meaning) : Type 0 where
-    pub means : (s : Scopes) (x : Name) (m : scopes.Scope) → MeaningIs (W systems constants_at s.shapes) s x m c o
-    pub there : (s : Scopes) → IsThere systems constants_at s.shapes c
+    pub means : (s : Scopes) (x : Name) (m : scopes.Scope) → MeaningIs (W tokens s.shapes) s x m c o
+    pub there : (s : Scopes) → IsThere tokens s.shapes c
     pub fit : IsFit o
-    pub given : IsGiven constants_at o
 
   abbrev AlwaysFound : Option (Option Meaning) → Option scopes.Meaning → Type 0
   AlwaysFound None o = o ≡ None
@@ -194,17 +193,17 @@ module _ (systems : ℕ → ℕ) (constants_at : ℕ → List Name) (p : Program
       go true rest = always_some d.1 e.1 h.1
       go false rest = rest
 
-  kind_always : (t : named.Ty) (v : ValueType) → ((s : Scopes) → TypeIs (W systems constants_at s.shapes) t v) → IsFit (Some (scopes.type_meaning t)) → Always (meaning.Kind v) (Some (scopes.type_meaning t))
-  kind_always t v h f = record { means = λ s x m. h s; there = λ s. tt; fit = f; given = tt }
+  kind_always : (t : named.Ty) (v : ValueType) → ((s : Scopes) → TypeIs (W tokens s.shapes) t v) → IsFit (Some (scopes.type_meaning t)) → Always (meaning.Kind v) (Some (scopes.type_meaning t))
+  kind_always t v h f = record { means = λ s x m. h s; there = λ s. tt; fit = f }
 
   standard_always : (q : scopes.Standard) → Always (meaning.Predeclared (predeclared_of q)) (Some (scopes.standard_meaning q))
-  standard_always q = record { means = λ s x m. refl; there = λ s. tt; fit = tt; given = tt }
+  standard_always q = record { means = λ s x m. refl; there = λ s. tt; fit = tt }
 
-  ordinal_always : (q : named.Range) (r : Range) → RangeIs q r → IsFit (Some (scopes.type_meaning (named.ordinal q))) → Always (meaning.Kind (types.Ordinal r)) (Some (scopes.type_meaning (named.ordinal q)))
+  ordinal_always : (q : named.Range) (r : Range) → RangeIs tokens q r → IsFit (Some (scopes.type_meaning (named.ordinal q))) → Always (meaning.Kind (types.Ordinal r)) (Some (scopes.type_meaning (named.ordinal q)))
   ordinal_always q r h f = kind_always (named.ordinal q) (types.Ordinal r) (λ s. record { range = r; is = refl; belongs = h }) f
 
   truth_always : (n : ℕ) → n ≤ 1 → Always (meaning.Constant base.Boolean (pos n)) (Some (scopes.constant_meaning named.booleans (pos n)))
-  truth_always n h = record { means = λ s x m. (refl, refl, search (arith, h)); there = λ s. tt; fit = omega (arith, h); given = tt }
+  truth_always n h = record { means = λ s x m. (refl, refl, search (arith, h)); there = λ s. tt; fit = omega (arith, h) }
 
   -- the scope around the program
   abbrev look_scope : Scopes → checker.Scope
@@ -270,10 +269,10 @@ module _ (systems : ℕ → ℕ) (constants_at : ℕ → List Name) (p : Program
     ),
   )
 
-  always_known : (s : Scopes) (x : Name) (o : Option (Option Meaning)) → AlwaysFound o (find x predeclared) → IsKnown systems constants_at s predeclared x o
+  always_known : (s : Scopes) (x : Name) (o : Option (Option Meaning)) → AlwaysFound o (find x predeclared) → IsKnown tokens s predeclared x o
   always_known s x None h = tt
   always_known s x (Some None) h = absurd h
-  always_known s x (Some (Some c)) h = record { means = h.means s x predeclared; there = h.there s; fit = h.fit; given = h.given }
+  always_known s x (Some (Some c)) h = record { means = h.means s x predeclared; there = h.there s; fit = h.fit }
 
   always_fit : (o : Option (Option Meaning)) (q : Option scopes.Meaning) → AlwaysFound o q → IsFit q
   always_fit None q h = subst IsFit (sym h) tt
@@ -284,7 +283,7 @@ module _ (systems : ℕ → ℕ) (constants_at : ℕ → List Name) (p : Program
   all_free [] = tt
   all_free (k ∷ ks) = (refl, all_free ks)
 
-  start_agrees : (ks : List ℕ) → AreDifferent ks → Agree systems constants_at p true None start predeclared predeclared ks
+  start_agrees : (ks : List ℕ) → AreDifferent ks → Agree tokens p true None start predeclared predeclared ks
   unfolding enter add
   start_agrees ks different =
       record {
@@ -302,7 +301,7 @@ module _ (systems : ℕ → ℕ) (constants_at : ℕ → List Name) (p : Program
 
   -- ---- the program
 
-  agree_plain : (s : Scopes) (m below : scopes.Scope) (ks : List ℕ) → Agree systems constants_at p true None s m below ks → Agree systems constants_at p false None s m below ks
+  agree_plain : (s : Scopes) (m below : scopes.Scope) (ks : List ℕ) → Agree tokens p true None s m below ks → Agree tokens p false None s m below ks
   agree_plain s m below ks h = record { unsealed = h.unsealed; names = h.names; seen = h.names; outer = h.outer; own = tt; base = h.base; limited = h.limited; free = h.free; different = h.different; entries = h.entries }
 
   uses_sound : (at : ℕ) (s : Scopes) (j : Judged Use) → limit_faults at s j ≡ [] → faults j ≡ []
@@ -314,11 +313,11 @@ module _ (systems : ℕ → ℕ) (constants_at : ℕ → List Name) (p : Program
   start_settled = refl
 
   pub record ProgramResult : Type 0 where
-    pub places : AreAgreed systems p (places_of p) (openings_of p)
+    pub places : AreAgreed tokens p (places_of p) (openings_of p)
     pub types : Each IsStandingSystem (declared p).systems
     pub variables : Each IsStandingVariable (declared p).variables
 
-  pub program_agrees : (t : Tree) → p ≡ t.program → faults_of t ≡ [] → AreNumberedParts nothing_declared p.parts → IsSmallProgram p → Each (IsFew constants_at) (enumerations_of p) → AreDifferent (program_tokens p) → ProgramResult
+  pub program_agrees : (t : Tree) → p ≡ t.program → faults_of t ≡ [] → AreNumberedParts nothing_declared p.parts → IsSmallProgram p → Each (IsFew tokens) (enumerations_of p) → AreDifferent (program_tokens p) → ProgramResult
   unfolding faults_of opened declarations
   program_agrees t is e number small few different =
       let none : faults (opened start p).uses ≡ [] = subst (λ (q : Program). faults (opened start q).uses ≡ []) (sym is) (uses_sound t.program.period (opened start t.program).scopes (opened start t.program).uses e) in
@@ -328,15 +327,15 @@ module _ (systems : ℕ → ℕ) (constants_at : ℕ → List Name) (p : Program
       let a : Step = program_part_steps start p.parts in
       let b : Step = routine_steps None a.scopes p.routines in
       let js : List ℕ = all_tokens routine_tokens p.routines (p.period ∷ []) in
-      let parts = parts_agree start nothing_declared predeclared js p.parts (none_left a.faults b.faults sound) number small.0 (each_left (IsFew constants_at) (each_in in_program_part p.parts) (each_in in_routine p.routines) few) start_settled (start_agrees (program_tokens p) different) in
+      let parts = parts_agree start nothing_declared predeclared js p.parts (none_left a.faults b.faults sound) number small.0 (each_left (IsFew tokens) (each_in in_program_part p.parts) (each_in in_routine p.routines) few) start_settled (start_agrees (program_tokens p) different) in
       let k : scopes.Scope = (declared p).scope in
-      let routines = routines_agree systems constants_at p None a.scopes k predeclared (p.period ∷ []) (program_system p) p.routines (none_right a.faults b.faults sound) small.1 (each_right (IsFew constants_at) (each_in in_program_part p.parts) (each_in in_routine p.routines) few) parts.step.settled (agree_plain a.scopes k predeclared js parts.step.agree) in
+      let routines = routines_agree tokens p None a.scopes k predeclared (p.period ∷ []) (program_system p) p.routines (none_right a.faults b.faults sound) small.1 (each_right (IsFew tokens) (each_in in_program_part p.parts) (each_in in_routine p.routines) few) parts.step.settled (agree_plain a.scopes k predeclared js parts.step.agree) in
       let last : Opening = initial_opening (program_system p) (own_meaning (declared p) p) in
       let place : Place = record { scopes = d.scopes; context = program_context } in
       record {
-        places = agreed_append systems p (parts_places start p.parts) (routine_places None a.scopes p.routines ++ place ∷ []) (parts_openings nothing_declared p.parts) (routine_openings (program_system p) k p.routines ++ last ∷ []) parts.places
-            (agreed_append systems p (routine_places None a.scopes p.routines) (place ∷ []) (routine_openings (program_system p) k p.routines) (last ∷ []) routines.places
-            (place_agreed systems constants_at p d.scopes program_context (with_routines k p.routines) predeclared (p.period ∷ []) last refl (ap faults (sym (none_after d.faults j none)) ∙ none) tt tt tt routines.step.agree, tt));
+        places = agreed_append tokens p (parts_places start p.parts) (routine_places None a.scopes p.routines ++ place ∷ []) (parts_openings nothing_declared p.parts) (routine_openings (program_system p) k p.routines ++ last ∷ []) parts.places
+            (agreed_append tokens p (routine_places None a.scopes p.routines) (place ∷ []) (routine_openings (program_system p) k p.routines) (last ∷ []) routines.places
+            (place_agreed tokens p d.scopes program_context (with_routines k p.routines) predeclared (p.period ∷ []) last refl (ap faults (sym (none_after d.faults j none)) ∙ none) tt tt tt routines.step.agree, tt));
         types = parts.types tt;
         variables = parts.variables tt;
       }

@@ -42,9 +42,9 @@ use Rattle.cp_resolved.specs.Limited.{AreLimited}
 use Rattle.cp_resolved.specs.Small.{Each, IsSmallSystem}
 use Rattle.cp_resolved.specs.Standing.{is_standing, IsStandingVariable, IsStandingParameter}
 use Rattle.cp_resolved.specs.Tokens.{all_tokens, routine_tokens, system_tokens}
-use Rattle.cp_resolved.specs.Typed.{TypeIs, ResultIs, RoutineIs}
+use Rattle.cp_resolved.specs.Typed.{Tokens, SystemThere, TypeIs, HeadingIs, RoutineIs}
 use Rattle.cp_resolved.proofs.Agreeing.{Good, good_then, good_sound, none_left, none_right, none_first, look_entered, inner_look, More, more_same, more_trans, with_more, with_there, with_other, free_others}
-use Rattle.cp_resolved.proofs.AgreeingNames.{W, HeadingThere, heading_kept, heading_more, New, Known, IsKnown, is_known_moved, IsStacked, AreEntries, Agree, sees, sees_of, fit_of, agree_returned}
+use Rattle.cp_resolved.proofs.AgreeingNames.{W, HeadingThere, heading_kept, heading_more, heading_is_more, New, Known, IsKnown, is_known_moved, IsStacked, AreEntries, Agree, sees, sees_of, fit_of, agree_returned}
 use Rattle.cp_resolved.proofs.AgreeingTypes.{IsFew, KindOf, type_named}
 use Rattle.cp_resolved.proofs.AgreeingWritten.{each_left, each_right}
 use Rattle.cp_resolved.proofs.AgreeingParts.{standing_may, StepResult, step_then, step_same, names_result, all_declared, permanent_kind, parts_agree, parts_stand}
@@ -52,7 +52,7 @@ use Rattle.cp_resolved.proofs.AgreeingRoutines.{none_before, none_after}
 use Rattle.cp_resolved.proofs.AgreeingBodies.{Uses, loud_uses, all_heard, place_agreed, RoutinesResult, routines_agree}
 use Rattle.cp_resolved.proofs.Reserving.{pending_fresh}
 
-pub agreed_append : (tokens : ℕ → ℕ) (p : Program) (xs ys : List Place) (os qs : List Opening) → AreAgreed tokens p xs os → AreAgreed tokens p ys qs → AreAgreed tokens p (xs ++ ys) (os ++ qs)
+pub agreed_append : (tokens : Tokens) (p : Program) (xs ys : List Place) (os qs : List Opening) → AreAgreed tokens p xs os → AreAgreed tokens p ys qs → AreAgreed tokens p (xs ++ ys) (os ++ qs)
 agreed_append tokens p [] ys [] qs h g = g
 agreed_append tokens p (x ∷ xs) ys (o ∷ os) qs h g = (h.0, agreed_append tokens p xs ys os qs h.1 g)
 agreed_append tokens p [] ys (o ∷ os) qs h g = absurd h
@@ -66,7 +66,7 @@ seen_limited (d ∷ ds) h = go (scopes.is_seen d.1) (seen_limited ds h.1)
     go true rest = (h.0, rest)
     go false rest = rest
 
-module _ (systems : ℕ → ℕ) (constants_at : ℕ → List Name) (p : Program) where
+module _ (tokens : Tokens) (p : Program) where
   -- ---- parameters
 
   component_good : (at : ℕ) (o k : SystemKind) (P : ValueType → Type 0) (v : ValueType) → P v → Good P (systems_of.component_admitted at o k v)
@@ -87,37 +87,37 @@ module _ (systems : ℕ → ℕ) (constants_at : ℕ → List Name) (p : Program
   admitted_good at o (holds.Component j) P v k = component_good at o j P v k
   admitted_good at o (holds.Components j) P v k = tt
 
-  parameter_good : (o : SystemKind) (s : Scopes) (m : scopes.Scope) (g : Group) → IsKnown systems constants_at s m g.type_name.name (look g.type_name.name s) → Good (KindOf systems constants_at s.shapes (meant.type_named m g.type_name.name)) (systems_of.parameter_type o s g)
+  parameter_good : (o : SystemKind) (s : Scopes) (m : scopes.Scope) (g : Group) → IsKnown tokens s m g.type_name.name (look g.type_name.name s) → Good (KindOf tokens s.shapes (meant.type_named m g.type_name.name)) (systems_of.parameter_type o s g)
   unfolding systems_of.parameter_type
   parameter_good o s m g h =
-      let K : ValueType → Type 0 = KindOf systems constants_at s.shapes (meant.type_named m g.type_name.name) in
-      good_then K K (typing.type_named s g.type_name.at g.type_name.name) (systems_of.admitted_in s g.type_name.at o) (type_named systems constants_at s m g.type_name.at g.type_name.name h) (λ v k. admitted_good g.type_name.at o (typing.holding s v) K v k)
+      let K : ValueType → Type 0 = KindOf tokens s.shapes (meant.type_named m g.type_name.name) in
+      good_then K K (typing.type_named s g.type_name.at g.type_name.name) (systems_of.admitted_in s g.type_name.at o) (type_named tokens s m g.type_name.at g.type_name.name h) (λ v k. admitted_good g.type_name.at o (typing.holding s v) K v k)
 
-  parameter_new : (ss : Shapes) (u : Scopes) (n : Name) (t : Ty) (v : ValueType) → u.shapes ≡ ss → KindOf systems constants_at ss t v → New systems constants_at u n (meaning.Parameter v) (scopes.permanent_variable t)
-  parameter_new ss u n t v e h = record { means = λ r. (subst (λ us. TypeIs (W systems constants_at us) t v) (sym e) h.belongs, standing_may t h.standing); there = tt; fit = h.standing; given = tt }
+  parameter_new : (ss : Shapes) (u : Scopes) (n : Name) (t : Ty) (v : ValueType) → u.shapes ≡ ss → KindOf tokens ss t v → New tokens u n (meaning.Parameter v) (scopes.permanent_variable t)
+  parameter_new ss u n t v e h = record { means = λ r. (subst (λ us. TypeIs (W tokens us) t v) (sym e) h.belongs, standing_may t h.standing); there = tt; fit = h.standing }
 
-  group_agrees : (o : SystemKind) (s : Scopes) (m below : scopes.Scope) (ks : List ℕ) (g : Group) → (systems_of.group_step o s g).faults ≡ [] → s.inner.pending ≡ [] → Agree systems constants_at p false None s m below ks →
-      StepResult systems constants_at p false None s (systems_of.group_step o s g).scopes (meant.with_names (meant.names_of g.names) (scopes.permanent_variable (meant.type_named m g.type_name.name)) m) below ks
+  group_agrees : (o : SystemKind) (s : Scopes) (m below : scopes.Scope) (ks : List ℕ) (g : Group) → (systems_of.group_step o s g).faults ≡ [] → s.inner.pending ≡ [] → Agree tokens p false None s m below ks →
+      StepResult tokens p false None s (systems_of.group_step o s g).scopes (meant.with_names (meant.names_of g.names) (scopes.permanent_variable (meant.type_named m g.type_name.name)) m) below ks
   unfolding systems_of.group_step
   group_agrees o s m below ks g e empty h =
       let a : Scopes = (reserve_names s g.names).scopes in
       let j : Judged ValueType = systems_of.parameter_type o a g in
       let t : Ty = meant.type_named m g.type_name.name in
-      let r = names_result systems constants_at p false None s g.names m below ks (none_left (reserve_names s g.names).faults (faults (j >>= systems_of.to_parameter)) e) empty h in
-      let v = good_sound (KindOf systems constants_at a.shapes t) j (parameter_good o a m g (sees systems constants_at p false None a m below ks r.agree g.type_name.name tt)) (none_first j systems_of.to_parameter (none_right (reserve_names s g.names).faults (faults (j >>= systems_of.to_parameter)) e)) in
-      subst (λ (i : Judged ValueType). StepResult systems constants_at p false None s (add_all a g.names (as_declared (i >>= systems_of.to_parameter))) (meant.with_names (meant.names_of g.names) (scopes.permanent_variable t) m) below ks) (sym v.is)
-      (all_declared systems constants_at p false None s a g.names m below ks (meaning.Parameter v.value) (scopes.permanent_variable t) (pending_fresh a.inner g.names a.inner.pending r.reserved.pends r.reserved.all) r.reserved.others (λ i. absurd (cc))
+      let r = names_result tokens p false None s g.names m below ks (none_left (reserve_names s g.names).faults (faults (j >>= systems_of.to_parameter)) e) empty h in
+      let v = good_sound (KindOf tokens a.shapes t) j (parameter_good o a m g (sees tokens p false None a m below ks r.agree g.type_name.name tt)) (none_first j systems_of.to_parameter (none_right (reserve_names s g.names).faults (faults (j >>= systems_of.to_parameter)) e)) in
+      subst (λ (i : Judged ValueType). StepResult tokens p false None s (add_all a g.names (as_declared (i >>= systems_of.to_parameter))) (meant.with_names (meant.names_of g.names) (scopes.permanent_variable t) m) below ks) (sym v.is)
+      (all_declared tokens p false None s a g.names m below ks (meaning.Parameter v.value) (scopes.permanent_variable t) (pending_fresh a.inner g.names a.inner.pending r.reserved.pends r.reserved.all) r.reserved.others (λ i. absurd (cc))
       (λ u i n. parameter_new a.shapes u n t v.value i v.holds) r.outer (λ k d i. ap (shape_in k) r.shapes ∙ i) r.agree)
 
-  groups_agree : (o : SystemKind) (s : Scopes) (h : meant.Heading) (below : scopes.Scope) (ks : List ℕ) (gs : List Group) → (systems_of.group_steps o s gs).faults ≡ [] → s.inner.pending ≡ [] → Agree systems constants_at p false None s h.scope below ks →
-      StepResult systems constants_at p false None s (systems_of.group_steps o s gs).scopes (meant.with_groups scopes.permanent_variable h gs).scope below ks
+  groups_agree : (o : SystemKind) (s : Scopes) (h : meant.Heading) (below : scopes.Scope) (ks : List ℕ) (gs : List Group) → (systems_of.group_steps o s gs).faults ≡ [] → s.inner.pending ≡ [] → Agree tokens p false None s h.scope below ks →
+      StepResult tokens p false None s (systems_of.group_steps o s gs).scopes (meant.with_groups scopes.permanent_variable h gs).scope below ks
   unfolding systems_of.group_steps
-  groups_agree o s h below ks [] e empty agree = step_same systems constants_at p false None s h.scope below ks empty agree
+  groups_agree o s h below ks [] e empty agree = step_same tokens p false None s h.scope below ks empty agree
   groups_agree o s h below ks (g ∷ gs) e empty agree =
       let t : Scopes = (systems_of.group_step o s g).scopes in
       let k : meant.Heading = meant.with_group scopes.permanent_variable false h g in
       let r = group_agrees o s h.scope below ks g (none_left (systems_of.group_step o s g).faults (systems_of.group_steps o t gs).faults e) empty agree in
-      step_then systems constants_at p false None s t (systems_of.group_steps o t gs).scopes k.scope (meant.with_groups scopes.permanent_variable k gs).scope below ks ks r
+      step_then tokens p false None s t (systems_of.group_steps o t gs).scopes k.scope (meant.with_groups scopes.permanent_variable k gs).scope below ks ks r
       (groups_agree o t k below ks gs (none_right (systems_of.group_step o s g).faults (systems_of.group_steps o t gs).faults e) r.settled r.agree)
 
   -- ---- types of parameters
@@ -130,17 +130,17 @@ module _ (systems : ℕ → ℕ) (constants_at : ℕ → List Name) (p : Program
   stand_both [] rs h g = g
   stand_both (q ∷ qs) rs h g = (h.0, stand_both qs rs h.1 g)
 
-  group_stands : (o : SystemKind) (s : Scopes) (m below : scopes.Scope) (ks : List ℕ) (g : Group) → (systems_of.group_step o s g).faults ≡ [] → s.inner.pending ≡ [] → Agree systems constants_at p false None s m below ks → is_standing (meant.type_named m g.type_name.name) ≡ true
+  group_stands : (o : SystemKind) (s : Scopes) (m below : scopes.Scope) (ks : List ℕ) (g : Group) → (systems_of.group_step o s g).faults ≡ [] → s.inner.pending ≡ [] → Agree tokens p false None s m below ks → is_standing (meant.type_named m g.type_name.name) ≡ true
   unfolding systems_of.group_step
   group_stands o s m below ks g e empty h =
       let a : Scopes = (reserve_names s g.names).scopes in
       let j : Judged ValueType = systems_of.parameter_type o a g in
       let t : Ty = meant.type_named m g.type_name.name in
-      let r = names_result systems constants_at p false None s g.names m below ks (none_left (reserve_names s g.names).faults (faults (j >>= systems_of.to_parameter)) e) empty h in
-      let v = good_sound (KindOf systems constants_at a.shapes t) j (parameter_good o a m g (sees systems constants_at p false None a m below ks r.agree g.type_name.name tt)) (none_first j systems_of.to_parameter (none_right (reserve_names s g.names).faults (faults (j >>= systems_of.to_parameter)) e)) in
+      let r = names_result tokens p false None s g.names m below ks (none_left (reserve_names s g.names).faults (faults (j >>= systems_of.to_parameter)) e) empty h in
+      let v = good_sound (KindOf tokens a.shapes t) j (parameter_good o a m g (sees tokens p false None a m below ks r.agree g.type_name.name tt)) (none_first j systems_of.to_parameter (none_right (reserve_names s g.names).faults (faults (j >>= systems_of.to_parameter)) e)) in
       v.holds.standing
 
-  groups_stand : (o : SystemKind) (s : Scopes) (h : meant.Heading) (below : scopes.Scope) (ks : List ℕ) (gs : List Group) → (systems_of.group_steps o s gs).faults ≡ [] → s.inner.pending ≡ [] → Agree systems constants_at p false None s h.scope below ks → Each IsStandingParameter h.parameters → Each IsStandingParameter (meant.with_groups scopes.permanent_variable h gs).parameters
+  groups_stand : (o : SystemKind) (s : Scopes) (h : meant.Heading) (below : scopes.Scope) (ks : List ℕ) (gs : List Group) → (systems_of.group_steps o s gs).faults ≡ [] → s.inner.pending ≡ [] → Agree tokens p false None s h.scope below ks → Each IsStandingParameter h.parameters → Each IsStandingParameter (meant.with_groups scopes.permanent_variable h gs).parameters
   unfolding systems_of.group_steps
   groups_stand o s h below ks [] e empty agree qs = qs
   groups_stand o s h below ks (g ∷ gs) e empty agree qs =
@@ -154,18 +154,18 @@ module _ (systems : ℕ → ℕ) (constants_at : ℕ → List Name) (p : Program
 
   -- ---- into a system type
 
-  pub entered_agrees : (s : Scopes) (m below : scopes.Scope) (ks : List ℕ) → Agree systems constants_at p true None s m below ks → Agree systems constants_at p false None (enter true s) (seen_inside m) (seen_inside m) ks
+  pub entered_agrees : (s : Scopes) (m below : scopes.Scope) (ks : List ℕ) → Agree tokens p true None s m below ks → Agree tokens p false None (enter true s) (seen_inside m) (seen_inside m) ks
   unfolding enter
   entered_agrees s m below ks h =
       record {
         unsealed = refl;
         names = λ x. record { found = refl; rest = refl; latest = refl };
         seen = λ x. record { found = refl; rest = refl; latest = refl };
-        outer = λ x g. subst (IsKnown systems constants_at (enter true s) (seen_inside m) x) (sym (look_entered true x s))
-            (is_known_moved systems constants_at s (enter true s) (seen_inside m) (seen_inside m) x (or_else (inner_look true s x) (look_outer x s.outer)) (more_same s.shapes) refl refl
-            (sees_of systems constants_at p s (seen_inside m) below x (inner_look true s x) (look_outer x s.outer) (h.seen x) (h.outer x tt)));
+        outer = λ x g. subst (IsKnown tokens (enter true s) (seen_inside m) x) (sym (look_entered true x s))
+            (is_known_moved tokens s (enter true s) (seen_inside m) (seen_inside m) x (or_else (inner_look true s x) (look_outer x s.outer)) (more_same s.shapes) refl refl
+            (sees_of tokens p s (seen_inside m) below x (inner_look true s x) (look_outer x s.outer) (h.seen x) (h.outer x tt)));
         own = tt;
-        base = λ x. fit_of systems constants_at p s (seen_inside m) below x (inner_look true s x) (h.seen x) (h.base x);
+        base = λ x. fit_of tokens p s (seen_inside m) below x (inner_look true s x) (h.seen x) (h.base x);
         limited = seen_limited m h.limited;
         free = h.free;
         different = h.different;
@@ -175,13 +175,13 @@ module _ (systems : ℕ → ℕ) (constants_at : ℕ → List Name) (p : Program
   -- ---- the declarations inside
 
   pub record InsideResult (s : Scopes) (m : scopes.Scope) (ks : List ℕ) (n : ℕ) (y : System) : Type 0 where
-    pub places : AreAgreed systems p (system_places s y) (system_openings n m y)
-    pub step : StepResult systems constants_at p false None s (inside s y).scopes (system_in m y).scope m (y.at ∷ ks)
+    pub places : AreAgreed tokens p (system_places s y) (system_openings n m y)
+    pub step : StepResult tokens p false None s (inside s y).scopes (system_in m y).scope m (y.at ∷ ks)
     pub variables : Each IsStandingVariable (system_in m y).variables
     pub parameters : Each IsStandingParameter (system_in m y).parameters
     pub uses : Uses (systems_of.opened s y).uses
 
-  inside_agrees : (s : Scopes) (m : scopes.Scope) (ks : List ℕ) (n : ℕ) (y : System) → faults (systems_of.opened s y).uses ≡ [] → IsSmallSystem y → Each (IsFew constants_at) (in_system y) → s.inner.pending ≡ [] → Agree systems constants_at p false None s m m (system_tokens y ks) → InsideResult s m ks n y
+  inside_agrees : (s : Scopes) (m : scopes.Scope) (ks : List ℕ) (n : ℕ) (y : System) → faults (systems_of.opened s y).uses ≡ [] → IsSmallSystem y → Each (IsFew tokens) (in_system y) → s.inner.pending ≡ [] → Agree tokens p false None s m m (system_tokens y ks) → InsideResult s m ks n y
   unfolding systems_of.opened inside
   inside_agrees s m ks n y e small few empty h =
       let d : Step = inside s y in
@@ -194,20 +194,20 @@ module _ (systems : ℕ → ℕ) (constants_at : ℕ → List Name) (p : Program
       let first = groups_agree y.kind s (record { parameters = []; scope = m }) m (system_tokens y ks) y.parameters (none_left a.faults (b.faults ++ c.faults) none) empty h in
       let hs : scopes.Scope = (meant.with_groups scopes.permanent_variable (record { parameters = []; scope = m }) y.parameters).scope in
       let o : Block = record { variables = []; scope = hs } in
-      let parts = parts_agree systems constants_at p false (spot.Permanent (Some y.kind)) scopes.permanent_variable (permanent_kind systems constants_at p false (Some y.kind)) a.scopes o m rs y.parts (none_left b.faults c.faults (none_right a.faults (b.faults ++ c.faults) none)) small.0 (each_left (IsFew constants_at) (each_in in_part y.parts) (each_in in_routine y.routines) few) first.settled first.agree in
+      let parts = parts_agree tokens p false (spot.Permanent (Some y.kind)) scopes.permanent_variable (permanent_kind tokens p false (Some y.kind)) a.scopes o m rs y.parts (none_left b.faults c.faults (none_right a.faults (b.faults ++ c.faults) none)) small.0 (each_left (IsFew tokens) (each_in in_part y.parts) (each_in in_routine y.routines) few) first.settled first.agree in
       let ps : scopes.Scope = parts_scope m y in
-      let all : RoutinesResult systems constants_at p (Some y.kind) b.scopes ps m (y.at ∷ ks) n y.routines =
-      routines_agree systems constants_at p (Some y.kind) b.scopes ps m (y.at ∷ ks) n y.routines (none_right b.faults c.faults (none_right a.faults (b.faults ++ c.faults) none)) small.1 (each_right (IsFew constants_at) (each_in in_part y.parts) (each_in in_routine y.routines) few) parts.settled parts.agree in
-      let step = step_then systems constants_at p false None s b.scopes c.scopes ps (with_routines ps y.routines) m rs (y.at ∷ ks) (step_then systems constants_at p false None s a.scopes b.scopes hs ps m (system_tokens y ks) rs first parts) all.step in
+      let all : RoutinesResult tokens p (Some y.kind) b.scopes ps m (y.at ∷ ks) n y.routines =
+      routines_agree tokens p (Some y.kind) b.scopes ps m (y.at ∷ ks) n y.routines (none_right b.faults c.faults (none_right a.faults (b.faults ++ c.faults) none)) small.1 (each_right (IsFew tokens) (each_in in_part y.parts) (each_in in_routine y.routines) few) parts.settled parts.agree in
+      let step = step_then tokens p false None s b.scopes c.scopes ps (with_routines ps y.routines) m rs (y.at ∷ ks) (step_then tokens p false None s a.scopes b.scopes hs ps m (system_tokens y ks) rs first parts) all.step in
       let same : after_faults d.faults j ≡ j = none_after d.faults j e in
       let sound : faults j ≡ [] = ap faults (sym same) ∙ e in
-      let uses : Uses j = loud_uses j (statements_loud d.scopes (initial_context y.kind) (all_heard systems constants_at p false d.scopes (system_in m y).scope m (y.at ∷ ks) step.agree) y.body.statements (Ok no_use) tt) sound in
+      let uses : Uses j = loud_uses j (statements_loud d.scopes (initial_context y.kind) (all_heard tokens p false d.scopes (system_in m y).scope m (y.at ∷ ks) step.agree) y.body.statements (Ok no_use) tt) sound in
       record {
-        places = agreed_append systems p (routine_places (Some y.kind) b.scopes y.routines) (initial_place s y ∷ []) (routine_openings n ps y.routines) (initial_opening n (system_in m y) ∷ []) all.places
-            (place_agreed systems constants_at p d.scopes (initial_context y.kind) (system_in m y).scope m (y.at ∷ ks) (initial_opening n (system_in m y)) refl sound tt tt tt step.agree, tt);
+        places = agreed_append tokens p (routine_places (Some y.kind) b.scopes y.routines) (initial_place s y ∷ []) (routine_openings n ps y.routines) (initial_opening n (system_in m y) ∷ []) all.places
+            (place_agreed tokens p d.scopes (initial_context y.kind) (system_in m y).scope m (y.at ∷ ks) (initial_opening n (system_in m y)) refl sound tt tt tt step.agree, tt);
         step = step;
         parameters = groups_stand y.kind s (record { parameters = []; scope = m }) m (system_tokens y ks) y.parameters (none_left a.faults (b.faults ++ c.faults) none) empty h tt;
-        variables = parts_stand systems constants_at p false (spot.Permanent (Some y.kind)) scopes.permanent_variable (permanent_kind systems constants_at p false (Some y.kind)) a.scopes o m rs y.parts (none_left b.faults c.faults (none_right a.faults (b.faults ++ c.faults) none)) small.0 (each_left (IsFew constants_at) (each_in in_part y.parts) (each_in in_routine y.routines) few) first.settled first.agree tt;
+        variables = parts_stand tokens p false (spot.Permanent (Some y.kind)) scopes.permanent_variable (permanent_kind tokens p false (Some y.kind)) a.scopes o m rs y.parts (none_left b.faults c.faults (none_right a.faults (b.faults ++ c.faults) none)) small.0 (each_left (IsFew tokens) (each_in in_part y.parts) (each_in in_routine y.routines) few) first.settled first.agree tt;
         uses = record { value = uses.value; is = subst (λ (i : Judged Use). i ≡ Ok uses.value) (sym same) uses.is };
       }
 
@@ -216,10 +216,10 @@ module _ (systems : ℕ → ℕ) (constants_at : ℕ → List Name) (p : Program
   -- its number and its token
   pub record IsNumbered (c : ℕ) (m : scopes.Scope) (y : System) : Type 0 where
     pub meaning : system_of p c ≡ system_in m y
-    pub token : systems c ≡ y.at
-    pub only : (k : ℕ) → systems k ≡ y.at → k ≡ c
+    pub token : tokens.systems c ≡ y.at
+    pub only : (k : ℕ) → tokens.systems k ≡ y.at → k ≡ c
 
-  routine_entry : (s : Scopes) (m : scopes.Scope) (x : Name) (n : ℕ) (o : Option scopes.Meaning) → RoutineIs (heading_at n s).result x m o → ResultIs (heading_at n s).result (routine_of_system x o m)
+  routine_entry : (s : Scopes) (m : scopes.Scope) (x : Name) (n : ℕ) (o : Option scopes.Meaning) → RoutineIs (W tokens s.shapes) (heading_at n s) x m o → HeadingIs (W tokens s.shapes) (heading_at n s) (routine_of_system x o m)
   routine_entry s m x n (Some (scopes.routine_meaning r)) h = h
   routine_entry s m x n (Some (scopes.constant_meaning b z)) h = absurd h
   routine_entry s m x n (Some (scopes.type_meaning t)) h = absurd h
@@ -229,44 +229,45 @@ module _ (systems : ℕ → ℕ) (constants_at : ℕ → List Name) (p : Program
   routine_entry s m x n None h = absurd h
 
   -- the routines of a component of the type that was closed
-  own_entry : (s : Scopes) (m below : scopes.Scope) (ks : List ℕ) (c : ℕ) (around : scopes.Scope) (y : System) (n : ℕ) (x : Name) → IsNumbered c around y → m ≡ (system_in around y).scope → Agree systems constants_at p false None s m below ks → look_in x s.inner ≡ Some (Some (meaning.Routine n)) →
-      ResultIs (heading_at n s).result (routine_of_type p (named.component_of c) x) × HeadingThere n s.shapes
+  own_entry : (s : Scopes) (m below : scopes.Scope) (ks : List ℕ) (c : ℕ) (around : scopes.Scope) (y : System) (n : ℕ) (x : Name) → IsNumbered c around y → m ≡ (system_in around y).scope → Agree tokens p false None s m below ks → look_in x s.inner ≡ Some (Some (meaning.Routine n)) →
+      HeadingIs (W tokens s.shapes) (heading_at n s) (routine_of_type p (named.component_of c) x) × HeadingThere n s.shapes
   own_entry s m below ks c around y n x i same h e =
       let found : inner_look false s x ≡ Some (Some (meaning.Routine n)) = sym (ap (λ (b : Bool). if b then checker.through_seal (checker.find x s.inner.names) else checker.find x s.inner.names) h.unsealed) ∙ e in
-      let known : Known systems constants_at s m x (meaning.Routine n) = subst (IsStacked systems constants_at s m below x) found (h.names x) in
+      let known : Known tokens s m x (meaning.Routine n) = subst (IsStacked tokens s m below x) found (h.names x) in
       let scope : m ≡ (system_of p c).scope = same ∙ sym (ap (λ (z : _). z.scope) i.meaning) in
-      (subst (λ (z : scopes.Scope). ResultIs (heading_at n s).result (routine_of_system x (find x z) z)) scope (routine_entry s m x n (find x m) known.means), known.there)
+      (subst (λ (z : scopes.Scope). HeadingIs (W tokens s.shapes) (heading_at n s) (routine_of_system x (find x z) z)) scope (routine_entry s m x n (find x m) known.means), known.there)
 
-  closed_entries : (s t : Scopes) (m below : scopes.Scope) (ks : List ℕ) (c : ℕ) (around : scopes.Scope) (y : System) (d : Shape) → IsNumbered c around y → m ≡ (system_in around y).scope → Agree systems constants_at p false None s m below (y.at ∷ ks) → ((x : Name) → as_member x (Some d) ≡ look_in x s.inner) → t.shapes ≡ with_shape s.shapes y.at d → AreEntries systems constants_at p t
-  closed_entries s t m below ks c around y d i same h members is k n x e = go (nat_eq (systems k) y.at) refl
+  closed_entries : (s t : Scopes) (m below : scopes.Scope) (ks : List ℕ) (c : ℕ) (around : scopes.Scope) (y : System) (d : Shape) → IsNumbered c around y → m ≡ (system_in around y).scope → Agree tokens p false None s m below (y.at ∷ ks) → ((x : Name) → as_member x (Some d) ≡ look_in x s.inner) → t.shapes ≡ with_shape s.shapes y.at d → AreEntries tokens p t
+  closed_entries s t m below ks c around y d i same h members is k n x e = go (nat_eq (tokens.systems k) y.at) refl
     where
       more : More s.shapes t.shapes
       more = λ j f g. ap (shape_in j) is ∙ with_more s.shapes y.at d h.free.0 j f g
 
-      moved : (q : ℕ) → ResultIs (heading_at n s).result (routine_of_type p (named.component_of q) x) × HeadingThere n s.shapes → ResultIs (heading_at n t).result (routine_of_type p (named.component_of q) x) × HeadingThere n t.shapes
-      moved q r = (subst (λ (f : checker.Heading). ResultIs f.result (routine_of_type p (named.component_of q) x)) (sym (heading_kept n s.shapes t.shapes more r.1)) r.0, heading_more n s.shapes t.shapes more r.1)
+      moved : (q : ℕ) → HeadingIs (W tokens s.shapes) (heading_at n s) (routine_of_type p (named.component_of q) x) × HeadingThere n s.shapes → HeadingIs (W tokens t.shapes) (heading_at n t) (routine_of_type p (named.component_of q) x) × HeadingThere n t.shapes
+      moved q r = (subst (λ (f : checker.Heading). HeadingIs (W tokens t.shapes) f (routine_of_type p (named.component_of q) x)) (sym (heading_kept n s.shapes t.shapes more r.1)) (heading_is_more tokens s.shapes t.shapes more (heading_at n s) (routine_of_type p (named.component_of q) x) r.0), heading_more n s.shapes t.shapes more r.1)
 
-      there : as_member x (shape_in (systems k) (with_shape s.shapes y.at d)) ≡ Some (Some (meaning.Routine n))
-      there = sym (ap (λ ss. as_member x (shape_in (systems k) ss)) is) ∙ e
+      there : as_member x (shape_in (tokens.systems k) (with_shape s.shapes y.at d)) ≡ Some (Some (meaning.Routine n))
+      there = sym (ap (λ ss. as_member x (shape_in (tokens.systems k) ss)) is) ∙ e
 
-      go : (b : Bool) → nat_eq (systems k) y.at ≡ b → ResultIs (heading_at n t).result (routine_of_type p (named.component_of k) x) × HeadingThere n t.shapes
+      go : (b : Bool) → nat_eq (tokens.systems k) y.at ≡ b → HeadingIs (W tokens t.shapes) (heading_at n t) (routine_of_type p (named.component_of k) x) × HeadingThere n t.shapes
       go true at =
-          let token : systems k ≡ y.at = (Decides-eqb (systems k) y.at).0 at in
+          let token : tokens.systems k ≡ y.at = (Decides-eqb (tokens.systems k) y.at).0 at in
           let own : look_in x s.inner ≡ Some (Some (meaning.Routine n)) = sym (members x) ∙ ap (as_member x) (sym (with_there s.shapes y.at d h.free.0)) ∙ ap (λ j. as_member x (shape_in j (with_shape s.shapes y.at d))) (sym token) ∙ there in
-          subst (λ j. ResultIs (heading_at n t).result (routine_of_type p (named.component_of j) x) × HeadingThere n t.shapes) (sym (i.only k token)) (moved c (own_entry s m below (y.at ∷ ks) c around y n x i same h own))
+          subst (λ j. HeadingIs (W tokens t.shapes) (heading_at n t) (routine_of_type p (named.component_of j) x) × HeadingThere n t.shapes) (sym (i.only k token)) (moved c (own_entry s m below (y.at ∷ ks) c around y n x i same h own))
       go false at = moved k (h.entries k n x (other_entry at))
         where
-          other_entry : nat_eq (systems k) y.at ≡ false → member_at (systems k) x s ≡ Some (Some (meaning.Routine n))
-          other_entry at = ap (as_member x) (sym (with_other s.shapes y.at (systems k) d h.free.0 (λ j. (let bad : true ≡ false = sym ((Decides-eqb (systems k) y.at).1 j) ∙ at in absurd cc)))) ∙ there
+          other_entry : nat_eq (tokens.systems k) y.at ≡ false → member_at (tokens.systems k) x s ≡ Some (Some (meaning.Routine n))
+          other_entry at = ap (as_member x) (sym (with_other s.shapes y.at (tokens.systems k) d h.free.0 (λ j. (let bad : true ≡ false = sym ((Decides-eqb (tokens.systems k) y.at).1 j) ∙ at in absurd cc)))) ∙ there
 
-  pub record ClosedResult (s t : Scopes) (m below : scopes.Scope) (ks : List ℕ) : Type 0 where
-    pub agree : Agree systems constants_at p true None t m below ks
+  pub record ClosedResult (s t : Scopes) (m below : scopes.Scope) (ks : List ℕ) (y : System) : Type 0 where
+    pub agree : Agree tokens p true None t m below ks
     pub outer : t.outer ≡ s.outer
     pub names : t.inner.names ≡ s.inner.names
     pub more : More s.shapes t.shapes
+    pub there : SystemThere y.at t.shapes
 
-  closed_agrees : (s u : Scopes) (m below : scopes.Scope) (js ks : List ℕ) (c : ℕ) (y : System) (w : Use) → IsNumbered c (seen_inside m) y → Agree systems constants_at p true None s m below js → Agree systems constants_at p false None u (system_in (seen_inside m) y).scope (seen_inside m) (y.at ∷ ks) → u.outer ≡ (enter true s).outer → More s.shapes u.shapes →
-      ClosedResult s (systems_of.closed u y.at w) m below ks
+  closed_agrees : (s u : Scopes) (m below : scopes.Scope) (js ks : List ℕ) (c : ℕ) (y : System) (w : Use) → IsNumbered c (seen_inside m) y → Agree tokens p true None s m below js → Agree tokens p false None u (system_in (seen_inside m) y).scope (seen_inside m) (y.at ∷ ks) → u.outer ≡ (enter true s).outer → More s.shapes u.shapes →
+      ClosedResult s (systems_of.closed u y.at w) m below ks y
   unfolding systems_of.closed keep leave enter
   closed_agrees s u m below js ks c y w i before h outer more =
       let d : Shape = system_shape u.inner (system_heading u) (census u.inner.names u.shapes) (need_of w) in
@@ -274,23 +275,24 @@ module _ (systems : ℕ → ℕ) (constants_at : ℕ → List Name) (p : Program
       let last : last_of u.outer ≡ (let b : Around = record { outer = s.outer; inner = sealed true s.inner } in b) = ap last_of outer ∙ last_is s.outer (sealed true s.inner) in
       let all : More s.shapes t.shapes = more_trans s.shapes u.shapes t.shapes more (with_more u.shapes y.at d h.free.0) in
       record {
-        agree = agree_returned systems constants_at p true None s t m below js ks before (ap (λ (b : Around). b.outer) last) (ap (λ (b : Around). b.inner.names) last) refl all
+        agree = agree_returned tokens p true None s t m below js ks before (ap (λ (b : Around). b.outer) last) (ap (λ (b : Around). b.inner.names) last) refl all
             (free_others u.shapes y.at d ks h.free.0 h.different.0 h.free.1) h.different.1 (closed_entries u t (system_in (seen_inside m) y).scope (seen_inside m) ks c (seen_inside m) y d i refl h (λ x. refl) refl);
         outer = ap (λ (b : Around). b.outer) last;
         names = ap (λ (b : Around). b.inner.names) last;
         more = all;
+        there = record { names = u.inner; heading = system_heading u; census = census u.inner.names u.shapes; need = need_of w; there = with_there u.shapes y.at d h.free.0 };
       }
 
   -- ---- a system type
 
   pub record SystemResult (s : Scopes) (m below : scopes.Scope) (ks : List ℕ) (n : ℕ) (y : System) (t : Typed) : Type 0 where
-    pub places : AreAgreed systems p (system_places (enter true s) y) (system_openings n (seen_inside m) y)
+    pub places : AreAgreed tokens p (system_places (enter true s) y) (system_openings n (seen_inside m) y)
     pub variables : Each IsStandingVariable (system_in (seen_inside m) y).variables
     pub parameters : Each IsStandingParameter (system_in (seen_inside m) y).parameters
     pub is : t.type ≡ Ok (types.Component y.kind y.at)
-    pub closed : ClosedResult s t.scopes m below ks
+    pub closed : ClosedResult s t.scopes m below ks y
 
-  pub system_agrees : (s : Scopes) (m below : scopes.Scope) (ks : List ℕ) (n : ℕ) (y : System) → IsNumbered n (seen_inside m) y → faults (systems_of.system_typed s y).type ≡ [] → IsSmallSystem y → Each (IsFew constants_at) (in_system y) → Agree systems constants_at p true None s m below (system_tokens y ks) →
+  pub system_agrees : (s : Scopes) (m below : scopes.Scope) (ks : List ℕ) (n : ℕ) (y : System) → IsNumbered n (seen_inside m) y → faults (systems_of.system_typed s y).type ≡ [] → IsSmallSystem y → Each (IsFew tokens) (in_system y) → Agree tokens p true None s m below (system_tokens y ks) →
       SystemResult s m below ks n y (systems_of.system_typed s y)
   unfolding systems_of.system_typed systems_of.opened enter
   system_agrees s m below ks n y i e small few h =

@@ -1,7 +1,7 @@
 -- Types that break no rule: the checker and the scope give them the same type, and their enumerations the same names.
-use Rattle.std.proofs.Common.{◌≡◌, ℕ, ◌≤◌, ℤ, Bool, true, false, ◌&&◌, if◌then◌else◌, List, [], ◌∷◌, length, Option, Some, None, Ok, Err, refl, sym, ap, subst, ◌∙◌}
+use Rattle.std.proofs.Common.{◌≡◌, ℕ, ◌≤◌, ℤ, Bool, true, false, ◌&&◌, if◌then◌else◌, List, [], ◌∷◌, length, Option, Some, None, Ok, Err, refl, sym, ap, subst, ◌∙◌, arith}
 use Rattle.std.specs.Str.{bytes_eq}
-use Rattle.std.specs.Prelude.{int_lt}
+use Rattle.std.specs.Prelude.{int_lt, int_le}
 use Rattle.cp_tree.specs.declared.constant.Constant.{Constant}
 use Rattle.cp_tree.specs.Syntax as syntax
 use Rattle.cp_tree.specs.Syntax.{Program}
@@ -33,8 +33,8 @@ use Rattle.cp_meaning.specs.Declarations as meant
 use Rattle.cp_meaning.specs.Operations.{range_of_base}
 use Rattle.cp_resolved.specs.Enumerations.{Enumerated}
 use Rattle.cp_resolved.specs.Small.{IsSmallSimple}
-use Rattle.cp_resolved.specs.Standing.{is_bounded, is_free, is_element, is_standing, IsFit}
-use Rattle.cp_resolved.specs.Typed.{Written, RangeIs, TypeIs, KindIs}
+use Rattle.cp_resolved.specs.Standing.{is_bounded, is_indexed, is_free, is_element, is_standing, IsFit}
+use Rattle.cp_resolved.specs.Typed.{Tokens, Written, RangeIs, TypeIs, KindIs}
 use Rattle.cp_resolved.proofs.Agreeing.{Good, good_then, good_both, good_if, is_itself, look_is, inner_look}
 use Rattle.cp_resolved.proofs.AgreeingNames.{W, IsKnown, IsStacked, IsTypeKnown, Agree, sees}
 use Rattle.cp_resolved.proofs.AgreeingConstants.{NumberIs, base_same, constant_number_of}
@@ -63,7 +63,7 @@ free_standing : (t : Ty) → is_free t ≡ true → is_standing t ≡ true
 free_standing (named.ordinal r) h = h
 free_standing named.queue_type h = refl
 free_standing (named.set_over r) h = h
-free_standing (named.array_over r t) h = both_are (is_bounded r) (is_free t) (is_element t) h (free_element t)
+free_standing (named.array_over r t) h = both_are (is_indexed r t) (is_free t) (is_element t) h (free_element t)
 free_standing (named.record_with ts) h = h
 free_standing (named.component_of n) h = refl
 
@@ -78,7 +78,7 @@ element_standing : (t : Ty) → is_element t ≡ true → is_standing t ≡ true
 element_standing (named.ordinal r) h = h
 element_standing named.queue_type h = refl
 element_standing (named.set_over r) h = h
-element_standing (named.array_over r t) h = both_are (is_bounded r) (is_free t) (is_element t) h (free_element t)
+element_standing (named.array_over r t) h = both_are (is_indexed r t) (is_free t) (is_element t) h (free_element t)
 element_standing (named.record_with ts) h = h
 element_standing (named.component_of n) h = refl
 
@@ -125,11 +125,11 @@ spotted_stands at (spot.Permanent o) (holds.Component j) v t k = good_if (λ u. 
 spotted_stands at (spot.Permanent o) (holds.Components j) v t k = good_if (λ u. (u ≡ v) × (is_standing t ≡ true)) (typing.may_own o j) v (check_fault.Rule at C13) [] (λ e. (refl, k.standing))
 
 module _ (w : Written) where
-  plain_array : (r : named.Range) (t : Ty) → (is_bounded r && is_element t) ≡ true → (is_element t ≡ true → is_free t ≡ true) → Held holds.Plain (named.array_over r t)
-  plain_array r t b k = record { standing = b; free = λ e. both_are (is_bounded r) (is_element t) (is_free t) b k; element = λ e. both_are (is_bounded r) (is_element t) (is_free t) b k }
+  plain_array : (r : named.Range) (t : Ty) → (is_indexed r t && is_element t) ≡ true → (is_element t ≡ true → is_free t ≡ true) → Held holds.Plain (named.array_over r t)
+  plain_array r t b k = record { standing = b; free = λ e. both_are (is_indexed r t) (is_element t) (is_free t) b k; element = λ e. both_are (is_indexed r t) (is_element t) (is_free t) b k }
 
   -- an array, by its elements
-  pub held_array : (r : named.Range) (t : Ty) (v : ValueType) → TypeIs w t v → (is_bounded r && is_element t) ≡ true → Held (typing.holding_array v) (named.array_over r t)
+  pub held_array : (r : named.Range) (t : Ty) (v : ValueType) → TypeIs w t v → (is_indexed r t && is_element t) ≡ true → Held (typing.holding_array v) (named.array_over r t)
   held_array r (named.ordinal q) v h b = subst (λ u. Held (typing.holding_array u) (named.array_over r (named.ordinal q))) (sym h.is) (plain_array r (named.ordinal q) b (λ e. e))
   held_array r named.queue_type v h b = subst (λ u. Held (typing.holding_array u) (named.array_over r named.queue_type)) (sym h) (record { standing = b; free = λ e. absurd (cc); element = λ e. absurd e })
   held_array r (named.set_over q) v h b = subst (λ u. Held (typing.holding_array u) (named.array_over r (named.set_over q))) (sym h.is) (plain_array r (named.set_over q) b (λ e. e))
@@ -155,26 +155,26 @@ module _ (w : Written) where
   -- a type whose values are ordinal
   pub record IsOrdinal (t : Ty) (r : Range) : Type 0 where
     pub is : t ≡ named.ordinal (range_of t)
-    pub range : RangeIs (range_of t) r
+    pub range : RangeIs w.tokens (range_of t) r
 
   same_range : (r q : Range) → types.Ordinal r ≡ types.Ordinal q → r ≡ q
   same_range r q h = cc
 
   pub ordinal_of : (t : Ty) (r : Range) → TypeIs w t (types.Ordinal r) → IsOrdinal t r
-  ordinal_of (named.ordinal q) r h = record { is = refl; range = subst (RangeIs q) (sym (same_range r h.range h.is)) h.belongs }
+  ordinal_of (named.ordinal q) r h = record { is = refl; range = subst (RangeIs w.tokens q) (sym (same_range r h.range h.is)) h.belongs }
   ordinal_of named.queue_type r h = absurd (let bad : types.Ordinal r ≡ types.Queue = h in cc)
   ordinal_of (named.set_over q) r h = absurd (let bad : types.Ordinal r ≡ types.Set (Some h.range) = h.is in cc)
   ordinal_of (named.array_over q t) r h = absurd (let bad : types.Ordinal r ≡ types.Array h.token = h.is in cc)
   ordinal_of (named.record_with ts) r h = absurd (let bad : types.Ordinal r ≡ types.Record h.token = h.is in cc)
-  ordinal_of (named.component_of n) r h = absurd (let bad : types.Ordinal r ≡ types.Component h.kind (w.systems n) = h.is in cc)
+  ordinal_of (named.component_of n) r h = absurd (let bad : types.Ordinal r ≡ types.Component h.kind (w.tokens.systems n) = h.is in cc)
 
 -- ---- names of types
 
 -- few constants, which are those of the token
-pub record IsFew (constants_at : ℕ → List Name) (e : Enumerated) : Type 0 where
+pub record IsFew (tokens : Tokens) (e : Enumerated) : Type 0 where
   pub some : 1 ≤ length e.names
   pub few : length e.names ≤ 32768
-  pub listed : meant.names_of e.names ≡ constants_at e.at
+  pub listed : meant.names_of e.names ≡ tokens.constants e.at
 
 abbrev is_type : Option scopes.Meaning → Bool
 is_type (Some (scopes.type_meaning t)) = true
@@ -202,12 +202,12 @@ latest_is x ((n, scopes.permanent_variable u) ∷ ds) t e = latest_is x ds t (sk
 latest_is x ((n, scopes.routine_meaning r) ∷ ds) t e = latest_is x ds t (skipped (same_name x n) (Some (scopes.routine_meaning r)) (find x ds) t refl e)
 latest_is x ((n, scopes.standard_meaning q) ∷ ds) t e = latest_is x ds t (skipped (same_name x n) (Some (scopes.standard_meaning q)) (find x ds) t refl e)
 
-module _ (systems : ℕ → ℕ) (constants_at : ℕ → List Name) where
+module _ (tokens : Tokens) where
   pub record KindOf (ss : Shapes) (t : Ty) (v : ValueType) : Type 0 where
-    pub belongs : TypeIs (W systems constants_at ss) t v
+    pub belongs : TypeIs (W tokens ss) t v
     pub standing : is_standing t ≡ true
 
-  kind_meant : (ss : Shapes) (v : ValueType) (x : Name) (m : scopes.Scope) (o : Option scopes.Meaning) → find x m ≡ o → KindIs (W systems constants_at ss) v o → IsFit o → KindOf ss (meant.type_named m x) v
+  kind_meant : (ss : Shapes) (v : ValueType) (x : Name) (m : scopes.Scope) (o : Option scopes.Meaning) → find x m ≡ o → KindIs (W tokens ss) v o → IsFit o → KindOf ss (meant.type_named m x) v
   kind_meant ss v x m (Some (scopes.type_meaning t)) e h f = subst (λ (q : Ty). KindOf ss q v) (sym (latest_is x m t e)) (record { belongs = h; standing = f })
   kind_meant ss v x m (Some (scopes.constant_meaning b z)) e h f = absurd h
   kind_meant ss v x m (Some (scopes.local_variable t)) e h f = absurd h
@@ -216,7 +216,7 @@ module _ (systems : ℕ → ℕ) (constants_at : ℕ → List Name) where
   kind_meant ss v x m (Some (scopes.standard_meaning q)) e h f = absurd h
   kind_meant ss v x m None e h f = absurd h
 
-  found_kind : (at : ℕ) (s : Scopes) (m : scopes.Scope) (x : Name) (o : Option (Option Meaning)) → IsKnown systems constants_at s m x o → Good (KindOf s.shapes (meant.type_named m x)) (names.found at o >>= typing.to_type at)
+  found_kind : (at : ℕ) (s : Scopes) (m : scopes.Scope) (x : Name) (o : Option (Option Meaning)) → IsKnown tokens s m x o → Good (KindOf s.shapes (meant.type_named m x)) (names.found at o >>= typing.to_type at)
   found_kind at s m x None h = tt
   found_kind at s m x (Some None) h = absurd h
   found_kind at s m x (Some (Some (meaning.Kind v))) h = kind_meant s.shapes v x m (find x m) refl h.means h.fit
@@ -227,11 +227,11 @@ module _ (systems : ℕ → ℕ) (constants_at : ℕ → List Name) where
   found_kind at s m x (Some (Some (meaning.Routine n))) h = tt
   found_kind at s m x (Some (Some (meaning.Predeclared q))) h = tt
 
-  pub type_named : (s : Scopes) (m : scopes.Scope) (at : ℕ) (x : Name) → IsKnown systems constants_at s m x (look x s) → Good (KindOf s.shapes (meant.type_named m x)) (typing.type_named s at x)
+  pub type_named : (s : Scopes) (m : scopes.Scope) (at : ℕ) (x : Name) → IsKnown tokens s m x (look x s) → Good (KindOf s.shapes (meant.type_named m x)) (typing.type_named s at x)
   unfolding typing.type_named names.visible
   type_named s m at x h = found_kind at s m x (look x s) h
 
-  outer_kind : (at : ℕ) (s : Scopes) (m below : scopes.Scope) (x : Name) (o : Option (Option Meaning)) → meant.type_named below x ≡ meant.type_named m x → IsTypeKnown systems constants_at s below x o → Good (KindOf s.shapes (meant.type_named m x)) (names.found at o >>= typing.to_type at)
+  outer_kind : (at : ℕ) (s : Scopes) (m below : scopes.Scope) (x : Name) (o : Option (Option Meaning)) → meant.type_named below x ≡ meant.type_named m x → IsTypeKnown tokens s below x o → Good (KindOf s.shapes (meant.type_named m x)) (names.found at o >>= typing.to_type at)
   outer_kind at s m below x None e h = tt
   outer_kind at s m below x (Some None) e h = absurd h
   outer_kind at s m below x (Some (Some (meaning.Kind v))) e h = subst (λ (t : Ty). KindOf s.shapes t v) e (record { belongs = h.0; standing = h.1 })
@@ -242,30 +242,30 @@ module _ (systems : ℕ → ℕ) (constants_at : ℕ → List Name) where
   outer_kind at s m below x (Some (Some (meaning.Routine n))) e h = tt
   outer_kind at s m below x (Some (Some (meaning.Predeclared q))) e h = tt
 
-  stacked_kind : (at : ℕ) (s : Scopes) (m below : scopes.Scope) (x : Name) (o q : Option (Option Meaning)) → IsStacked systems constants_at s m below x o → IsTypeKnown systems constants_at s below x q → Good (KindOf s.shapes (meant.type_named m x)) (names.found at (or_else o q) >>= typing.to_type at)
+  stacked_kind : (at : ℕ) (s : Scopes) (m below : scopes.Scope) (x : Name) (o q : Option (Option Meaning)) → IsStacked tokens s m below x o → IsTypeKnown tokens s below x q → Good (KindOf s.shapes (meant.type_named m x)) (names.found at (or_else o q) >>= typing.to_type at)
   stacked_kind at s m below x None q h g = outer_kind at s m below x q h.latest g
   stacked_kind at s m below x (Some None) q h g = absurd h
   stacked_kind at s m below x (Some (Some c)) q h g = found_kind at s m x (Some (Some c)) h
 
   -- in a heading too, where the name of its routine is passed over
-  pub type_seen : (p : Program) (b : Bool) (but : Option Name) (s : Scopes) (m below : scopes.Scope) (ks : List ℕ) (at : ℕ) (x : Name) → Agree systems constants_at p b but s m below ks → Good (KindOf s.shapes (meant.type_named m x)) (typing.type_named s at x)
+  pub type_seen : (p : Program) (b : Bool) (but : Option Name) (s : Scopes) (m below : scopes.Scope) (ks : List ℕ) (at : ℕ) (x : Name) → Agree tokens p b but s m below ks → Good (KindOf s.shapes (meant.type_named m x)) (typing.type_named s at x)
   unfolding typing.type_named names.visible
-  type_seen p b None s m below ks at x h = found_kind at s m x (look x s) (sees systems constants_at p b None s m below ks h x tt)
+  type_seen p b None s m below ks at x h = found_kind at s m x (look x s) (sees tokens p b None s m below ks h x tt)
   type_seen p b (Some n) s m below ks at x h = go (bytes_eq x n) refl
     where
       go : (c : Bool) → bytes_eq x n ≡ c → Good (KindOf s.shapes (meant.type_named m x)) (names.found at (look x s) >>= typing.to_type at)
-      go false e = found_kind at s m x (look x s) (sees systems constants_at p b (Some n) s m below ks h x e)
+      go false e = found_kind at s m x (look x s) (sees tokens p b (Some n) s m below ks h x e)
       go true e =
           subst (λ o. Good (KindOf s.shapes (meant.type_named m x)) (names.found at o >>= typing.to_type at)) (sym (look_is x s h.unsealed))
-          (stacked_kind at s m below x (inner_look false s x) (look_outer x s.outer) (h.names x) (subst (λ (y : Name). IsTypeKnown systems constants_at s below y (look_outer y s.outer)) (sym (is_itself x n e)) h.own))
+          (stacked_kind at s m below x (inner_look false s x) (look_outer x s.outer) (h.names x) (subst (λ (y : Name). IsTypeKnown tokens s below y (look_outer y s.outer)) (sym (is_itself x n e)) h.own))
 
   -- what a name stands for that is visible outside
-  pub known_type : (s t : Scopes) (m : scopes.Scope) (x : Name) (o : Option (Option Meaning)) → t.shapes ≡ s.shapes → IsKnown systems constants_at s m x o → IsTypeKnown systems constants_at t m x o
+  pub known_type : (s t : Scopes) (m : scopes.Scope) (x : Name) (o : Option (Option Meaning)) → t.shapes ≡ s.shapes → IsKnown tokens s m x o → IsTypeKnown tokens t m x o
   known_type s t m x None e h = tt
   known_type s t m x (Some None) e h = h
   known_type s t m x (Some (Some (meaning.Kind v))) e h =
       let k : KindOf s.shapes (meant.type_named m x) v = kind_meant s.shapes v x m (find x m) refl h.means h.fit in
-      (subst (λ ss. TypeIs (W systems constants_at ss) (meant.type_named m x) v) (sym e) k.belongs, k.standing)
+      (subst (λ ss. TypeIs (W tokens ss) (meant.type_named m x) v) (sym e) k.belongs, k.standing)
   known_type s t m x (Some (Some (meaning.Constant b z))) e h = tt
   known_type s t m x (Some (Some (meaning.Variable v))) e h = tt
   known_type s t m x (Some (Some (meaning.Parameter v))) e h = tt
@@ -275,49 +275,55 @@ module _ (systems : ℕ → ℕ) (constants_at : ℕ → List Name) where
 
   -- what it is, and what it holds
   pub record TypedAs (ss : Shapes) (p : Spot) (t : Ty) (v : ValueType) : Type 0 where
-    pub belongs : TypeIs (W systems constants_at ss) t v
+    pub belongs : TypeIs (W tokens ss) t v
     pub stands : StandsAt p t
 
   spotted_kind : (s : Scopes) (p : Spot) (at : ℕ) (t : Ty) (v : ValueType) → KindOf s.shapes t v → Good (TypedAs s.shapes p t) (typing.at_spot s p at v)
   spotted_kind s p at t v h =
-      good_of (typing.at_spot s p at v) (spotted_stands at p (typing.holding s v) v t (held_named (W systems constants_at s.shapes) s t v refl h.belongs h.standing))
+      good_of (typing.at_spot s p at v) (spotted_stands at p (typing.holding s v) v t (held_named (W tokens s.shapes) s t v refl h.belongs h.standing))
     where
       good_of : (j : Judged ValueType) → Good (λ u. (u ≡ v) × StandsAt p t) j → Good (TypedAs s.shapes p t) j
-      good_of (Ok u) g = record { belongs = subst (TypeIs (W systems constants_at s.shapes) t) (sym g.0) h.belongs; stands = g.1 }
+      good_of (Ok u) g = record { belongs = subst (TypeIs (W tokens s.shapes) t) (sym g.0) h.belongs; stands = g.1 }
       good_of (Err []) g = absurd g
       good_of (Err (f ∷ fs)) g = tt
 
-  pub type_spotted : (s : Scopes) (m : scopes.Scope) (p : Spot) (at : ℕ) (x : Name) → IsKnown systems constants_at s m x (look x s) → Good (TypedAs s.shapes p (meant.type_named m x)) (typing.type_spotted s p at x)
+  pub type_spotted : (s : Scopes) (m : scopes.Scope) (p : Spot) (at : ℕ) (x : Name) → IsKnown tokens s m x (look x s) → Good (TypedAs s.shapes p (meant.type_named m x)) (typing.type_spotted s p at x)
   unfolding typing.type_spotted
   type_spotted s m p at x h = good_then (KindOf s.shapes (meant.type_named m x)) (TypedAs s.shapes p (meant.type_named m x)) (typing.type_named s at x) (typing.at_spot s p at) (type_named s m at x h) (λ v k. spotted_kind s p at (meant.type_named m x) v k)
 
   -- ---- subranges
 
-  ranged_typed : (ss : Shapes) (at : ℕ) (p : Spot) (q r : named.Base × ℤ) (n k : Number) → NumberIs constants_at q n → NumberIs constants_at r k → Good (TypedAs ss p (named.ordinal (record { base = q.0; low = q.1; high = r.1 }))) (typing.ranged at (n, k))
+  in_order : (a c : ℤ) → int_lt c a ≡ false → int_le a c ≡ true
+  in_order a c h = search (arith, h)
+
+  ranged_typed : (ss : Shapes) (at : ℕ) (p : Spot) (q r : named.Base × ℤ) (n k : Number) → NumberIs tokens q n → NumberIs tokens r k → Good (TypedAs ss p (named.ordinal (record { base = q.0; low = q.1; high = r.1 }))) (typing.ranged at (n, k))
   ranged_typed ss at p q r n k h g = go (same_base n.base k.base) refl
     where
       R : named.Range
       R = record { base = q.0; low = q.1; high = r.1 }
 
-      bounded : same_base n.base k.base ≡ true → is_bounded R ≡ true
-      bounded e =
-          ap (λ b. b && is_within (range_of_base q.0) r.1) h.within ∙ subst (λ (c : named.Base). is_within (range_of_base c) r.1 ≡ true) (sym (base_same constants_at q.0 r.0 n.base k.base h.base g.base h.listed g.listed e)) g.within
+      high_within : same_base n.base k.base ≡ true → is_within (range_of_base q.0) r.1 ≡ true
+      high_within e = subst (λ (c : named.Base). is_within (range_of_base c) r.1 ≡ true) (sym (base_same tokens q.0 r.0 n.base k.base h.base g.base e)) g.within
 
-      inner : (b : Bool) → same_base n.base k.base ≡ true → Good (TypedAs ss p (named.ordinal R)) (if b then Err (check_fault.Rule at C18 ∷ []) else Ok (types.Ordinal (record { base = n.base; low = n.value; high = k.value })))
-      inner true e = tt
-      inner false e =
+      bounded : same_base n.base k.base ≡ true → int_lt k.value n.value ≡ false → is_bounded R ≡ true
+      bounded e f =
+          ap (λ b. b && (is_within (range_of_base q.0) r.1 && int_le q.1 r.1)) h.within ∙ ap (λ b. b && int_le q.1 r.1) (high_within e) ∙ ap (λ z. int_le z r.1) (sym h.value) ∙ ap (λ z. int_le n.value z) (sym g.value) ∙ in_order n.value k.value f
+
+      inner : (b : Bool) → int_lt k.value n.value ≡ b → same_base n.base k.base ≡ true → Good (TypedAs ss p (named.ordinal R)) (if b then Err (check_fault.Rule at C18 ∷ []) else Ok (types.Ordinal (record { base = n.base; low = n.value; high = k.value })))
+      inner true f e = tt
+      inner false f e =
           record {
             belongs = record { range = record { base = n.base; low = n.value; high = k.value }; is = refl; belongs = record { base = h.base; low = h.value; high = g.value } };
-            stands = stands_free p (named.ordinal R) (bounded e);
+            stands = stands_free p (named.ordinal R) (bounded e f);
           }
 
       go : (b : Bool) → same_base n.base k.base ≡ b → Good (TypedAs ss p (named.ordinal R)) (if b then (if int_lt k.value n.value then Err (check_fault.Rule at C18 ∷ []) else Ok (types.Ordinal (record { base = n.base; low = n.value; high = k.value }))) else Err (check_fault.Rule at C5 ∷ []))
-      go true e = inner (int_lt k.value n.value) e
+      go true e = inner (int_lt k.value n.value) refl e
       go false e = tt
 
-  pub subrange_typed : (s : Scopes) (m : scopes.Scope) (p : Spot) (at : ℕ) (c d : Constant) → IsSmallSimple (syntax.subrange at c d) → ((x : Name) → IsKnown systems constants_at s m x (look x s)) →
+  pub subrange_typed : (s : Scopes) (m : scopes.Scope) (p : Spot) (at : ℕ) (c d : Constant) → IsSmallSimple (syntax.subrange at c d) → ((x : Name) → IsKnown tokens s m x (look x s)) →
       Good (TypedAs s.shapes p (meant.simple_in m (syntax.subrange at c d)).0) (both (constant s c) (constant s d) >>= typing.ranged at)
   subrange_typed s m p at c d h k =
-      good_then (λ (q : Number × Number). NumberIs constants_at (meant.constant_of m c) q.0 × NumberIs constants_at (meant.constant_of m d) q.1) (TypedAs s.shapes p (meant.simple_in m (syntax.subrange at c d)).0) (both (constant s c) (constant s d)) (typing.ranged at)
-      (good_both (NumberIs constants_at (meant.constant_of m c)) (NumberIs constants_at (meant.constant_of m d)) (constant s c) (constant s d) (constant_number_of systems constants_at s m c h.0 k) (constant_number_of systems constants_at s m d h.1 k))
+      good_then (λ (q : Number × Number). NumberIs tokens (meant.constant_of m c) q.0 × NumberIs tokens (meant.constant_of m d) q.1) (TypedAs s.shapes p (meant.simple_in m (syntax.subrange at c d)).0) (both (constant s c) (constant s d)) (typing.ranged at)
+      (good_both (NumberIs tokens (meant.constant_of m c)) (NumberIs tokens (meant.constant_of m d)) (constant s c) (constant s d) (constant_number_of tokens s m c h.0 k) (constant_number_of tokens s m d h.1 k))
       (λ q g. ranged_typed s.shapes at p (meant.constant_of m c) (meant.constant_of m d) q.0 q.1 g.0 g.1)

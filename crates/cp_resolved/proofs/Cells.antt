@@ -50,7 +50,7 @@ module _ (k : Numbering) (ts : Compounds) where
     cells_same (named.record_with us) v h i = ap (kinds.cells_of ts) h.is ∙ ap compound_cells h.there ∙ fields_end us h.fields 0 h.cells h.each (let z : 0 + cells_in us ≤ most = omega (arith, i) in z) ∙ (let z : 0 + cells_in us ≡ cells_in us = omega arith in z)
     cells_same (named.component_of n) v h i = ap (kinds.cells_of ts) h
 
-    fields_end : (us : FieldTypes) (fs : List Field) (n end : ℕ) → FieldsAre k ts us fs n end → n + cells_in us ≤ most → end ≡ n + cells_in us
+    pub fields_end : (us : FieldTypes) (fs : List Field) (n end : ℕ) → FieldsAre k ts us fs n end → n + cells_in us ≤ most → end ≡ n + cells_in us
     fields_end named.no_field_types fs n end h i = omega (arith, h.1)
     fields_end (named.more_field_types x t us) fs n end h i =
         let c : kinds.cells_of ts h.value_type ≡ cells_of t = cells_same t h.value_type h.belongs (omega (arith, i)) in

@@ -9,6 +9,7 @@ use Rattle.cp_meaning.specs.Scopes.{seen_inside}
 use Rattle.cp_resolved.specs.Enumerations.{Enumerated}
 use Rattle.cp_resolved.specs.Fit.{nothing_declared}
 use Rattle.cp_resolved.specs.Small.{Each}
+use Rattle.cp_resolved.specs.Judging.{tokens_of}
 use Rattle.cp_resolved.specs.Tokens.{all_tokens, type_tokens, groups_tokens, part_tokens, routine_tokens, definition_tokens, program_part_tokens, program_tokens, IsOther, AreDifferent, definition_types, program_part_types, token_in, token_of_type, tokens_of_enumerations, HasFew, constants_among}
 use Rattle.cp_resolved.proofs.Steps.{slice_more}
 use Rattle.cp_resolved.proofs.StepsOfTypes.{slice_end}
@@ -146,12 +147,12 @@ parts_extend : (d : Declared) (qs : List ProgramPart) → Extends d.systems (pro
 parts_extend d [] = extends_same d.systems
 parts_extend d (q ∷ qs) = extends_trans d.systems (program_part_in d q).systems (program_parts_in (program_part_in d q) qs).systems (part_extends d q) (parts_extend (program_part_in d q) qs)
 
-module _ (constants_at : ℕ → List Name) (p : Program) where
+module _ (p : Program) where
   abbrev type_list : List ℕ
   type_list = all_tokens program_part_types p.parts (p.period ∷ [])
 
   abbrev Numbered : Declared → System → Type 0
-  Numbered d y = IsNumbered (token_of_type p) constants_at p (length d.systems) (seen_inside d.scope) y
+  Numbered d y = IsNumbered (tokens_of p) p (length d.systems) (seen_inside d.scope) y
 
   -- with the tokens before it and after it
   system_numbered : (d : Declared) (n : SystemDefinition) (y : System) (before rest : List ℕ) → Extends (definition_in d n (system_definition y)).systems (declared p).systems → length before ≡ length d.systems → type_list ≡ before ++ y.at ∷ rest → Among (p.period ∷ []) rest → AreDifferent type_list → Numbered d y
@@ -182,7 +183,7 @@ module _ (constants_at : ℕ → List Name) (p : Program) where
   definition_stage d n (system_definition y) rest s =
       record { before = s.before ++ y.at ∷ []; count = one_longer s.before y.at ∙ ap suc s.count ∙ sym (one_longer d.systems (system_in (seen_inside d.scope) y)); is = s.is ∙ sym (append_assoc s.before (y.at ∷ []) rest) }
 
-  definition_numbered : (d : Declared) (n : SystemDefinition) (v : Definition) (rest : List ℕ) → Stage d (definition_types v rest) → Extends (definition_in d n v).systems (declared p).systems → Among (p.period ∷ []) rest → AreDifferent type_list → IsNumberedDefinition (token_of_type p) constants_at p d v
+  definition_numbered : (d : Declared) (n : SystemDefinition) (v : Definition) (rest : List ℕ) → Stage d (definition_types v rest) → Extends (definition_in d n v).systems (declared p).systems → Among (p.period ∷ []) rest → AreDifferent type_list → IsNumberedDefinition (tokens_of p) p d v
   definition_numbered d n (type_definition t) rest s ext last different = tt
   definition_numbered d n (system_definition y) rest s ext last different = system_numbered d n y s.before rest ext s.count s.is last different
 
@@ -190,7 +191,7 @@ module _ (constants_at : ℕ → List Name) (p : Program) where
   definitions_stage d [] rest s = s
   definitions_stage d (n ∷ ns) rest s = definitions_stage (definition_in d n n.value) ns rest (definition_stage d n n.value (types_then ns rest) s)
 
-  definitions_numbered : (d : Declared) (ns : List SystemDefinition) (rest : List ℕ) → Stage d (types_then ns rest) → Extends (definitions_in d ns).systems (declared p).systems → Among (p.period ∷ []) rest → AreDifferent type_list → AreNumberedDefinitions (token_of_type p) constants_at p d ns
+  definitions_numbered : (d : Declared) (ns : List SystemDefinition) (rest : List ℕ) → Stage d (types_then ns rest) → Extends (definitions_in d ns).systems (declared p).systems → Among (p.period ∷ []) rest → AreDifferent type_list → AreNumberedDefinitions (tokens_of p) p d ns
   definitions_numbered d [] rest s ext last different = tt
   definitions_numbered d (n ∷ ns) rest s ext last different =
       let k : Declared = definition_in d n n.value in (
@@ -203,12 +204,12 @@ module _ (constants_at : ℕ → List Name) (p : Program) where
   part_stage d (program_types at ns) rest s = definitions_stage d ns rest s
   part_stage d (program_variables at gs) rest s = record { before = s.before; count = s.count; is = s.is }
 
-  part_numbered : (d : Declared) (q : ProgramPart) (rest : List ℕ) → Stage d (program_part_types q rest) → Extends (program_part_in d q).systems (declared p).systems → Among (p.period ∷ []) rest → AreDifferent type_list → IsNumberedPart (token_of_type p) constants_at p d q
+  part_numbered : (d : Declared) (q : ProgramPart) (rest : List ℕ) → Stage d (program_part_types q rest) → Extends (program_part_in d q).systems (declared p).systems → Among (p.period ∷ []) rest → AreDifferent type_list → IsNumberedPart (tokens_of p) p d q
   part_numbered d (program_constants at ds) rest s ext last different = tt
   part_numbered d (program_types at ns) rest s ext last different = definitions_numbered d ns rest s ext last different
   part_numbered d (program_variables at gs) rest s ext last different = tt
 
-  parts_numbered : (d : Declared) (qs : List ProgramPart) → Stage d (all_tokens program_part_types qs (p.period ∷ [])) → Extends (program_parts_in d qs).systems (declared p).systems → AreDifferent type_list → AreNumberedParts (token_of_type p) constants_at p d qs
+  parts_numbered : (d : Declared) (qs : List ProgramPart) → Stage d (all_tokens program_part_types qs (p.period ∷ [])) → Extends (program_parts_in d qs).systems (declared p).systems → AreDifferent type_list → AreNumberedParts (tokens_of p) p d qs
   parts_numbered d [] s ext different = tt
   parts_numbered d (q ∷ qs) s ext different =
       let k : Declared = program_part_in d q in
@@ -217,7 +218,7 @@ module _ (constants_at : ℕ → List Name) (p : Program) where
         parts_numbered k qs (part_stage d q rest s) ext different,
       )
 
-  pub all_numbered : AreDifferent (program_tokens p) → AreNumberedParts (token_of_type p) constants_at p nothing_declared p.parts
+  pub all_numbered : AreDifferent (program_tokens p) → AreNumberedParts (tokens_of p) p nothing_declared p.parts
   all_numbered h = parts_numbered nothing_declared p.parts (record { before = []; count = refl; is = refl }) (extends_same (declared p).systems) (types_different p h)
 
 -- ---- enumerations
@@ -228,10 +229,10 @@ other_enumeration e es at h = ap (λ (b : Bool). if b then names_of e.names else
 same_enumeration : (e : Enumerated) (es : List Enumerated) → constants_among e.at (e ∷ es) ≡ names_of e.names
 same_enumeration e es = ap (λ (b : Bool). if b then names_of e.names else constants_among e.at es) (same_number e.at)
 
-few_after : (e : Enumerated) (all es : List Enumerated) → IsOther e.at (tokens_of_enumerations es) → Each (IsFew (λ at. constants_among at all)) es → Each (IsFew (λ at. constants_among at (e ∷ all))) es
-few_after e all [] o h = tt
-few_after e all (d ∷ es) o h = (record { some = h.0.some; few = h.0.few; listed = h.0.listed ∙ sym (other_enumeration e all d.at (λ i. o.0 (sym i))) }, few_after e all es o.1 h.1)
+few_after : (systems : ℕ → ℕ) (e : Enumerated) (all es : List Enumerated) → IsOther e.at (tokens_of_enumerations es) → Each (IsFew (record { systems = systems; constants = λ at. constants_among at all })) es → Each (IsFew (record { systems = systems; constants = λ at. constants_among at (e ∷ all) })) es
+few_after systems e all [] o h = tt
+few_after systems e all (d ∷ es) o h = (record { some = h.0.some; few = h.0.few; listed = h.0.listed ∙ sym (other_enumeration e all d.at (λ i. o.0 (sym i))) }, few_after systems e all es o.1 h.1)
 
-pub all_few : (es : List Enumerated) → Each HasFew es → AreDifferent (tokens_of_enumerations es) → Each (IsFew (λ at. constants_among at es)) es
-all_few [] h d = tt
-all_few (e ∷ es) h d = (record { some = h.0.some; few = h.0.few; listed = sym (same_enumeration e es) }, few_after e es es d.0 (all_few es h.1 d.1))
+pub all_few : (systems : ℕ → ℕ) (es : List Enumerated) → Each HasFew es → AreDifferent (tokens_of_enumerations es) → Each (IsFew (record { systems = systems; constants = λ at. constants_among at es })) es
+all_few systems [] h d = tt
+all_few systems (e ∷ es) h d = (record { some = h.0.some; few = h.0.few; listed = sym (same_enumeration e es) }, few_after systems e es es d.0 (all_few systems es h.1 d.1))

@@ -11,12 +11,12 @@ use Rattle.cp_lawful.specs.Accepted.{IsAccepted}
 use Rattle.cp_resolved.specs.Begun.{all_begun}
 use Rattle.cp_resolved.specs.Held.{FewCellsLaw}
 use Rattle.cp_resolved.specs.InStep.{Numbering, InStep}
-use Rattle.cp_resolved.specs.Judging.{Place, places_of, AreAgreed}
+use Rattle.cp_resolved.specs.Judging.{Place, places_of, AreAgreed, tokens_of}
 use Rattle.cp_resolved.specs.Names.{AreInStep}
 use Rattle.cp_resolved.specs.Openings.{Opening, openings_of, numbering_of}
 use Rattle.cp_resolved.specs.Read.{IsRead}
 use Rattle.cp_resolved.specs.Small.{Each}
-use Rattle.cp_resolved.specs.Tokens.{token_of_type}
+use Rattle.cp_resolved.specs.Typed.{Tokens}
 use Rattle.cp_resolved.proofs.BegunWithin.{all_within}
 use Rattle.cp_resolved.proofs.Extends.{Longer}
 use Rattle.cp_resolved.proofs.FewContents.{IsFilled, Holds, program_holds}
@@ -34,14 +34,14 @@ use Rattle.cp_resolved.proofs.Whole.{program_laid}
 
 -- ---- names where statements begin
 
-all_small : (k : Numbering) (tokens : ℕ → ℕ) (p : Program) (ls : List Layer) (xs : List Place) (os : List Opening) → AreInStep k ls os → AreAgreed tokens p xs os → Each SmallNames ls
+all_small : (k : Numbering) (tokens : Tokens) (p : Program) (ls : List Layer) (xs : List Place) (os : List Opening) → AreInStep k ls os → AreAgreed tokens p xs os → Each SmallNames ls
 all_small k tokens p [] xs os h g = tt
 all_small k tokens p (l ∷ ls) xs [] h g = absurd h
 all_small k tokens p (l ∷ ls) [] (o ∷ os) h g = absurd g
 all_small k tokens p (l ∷ ls) (x ∷ xs) (o ∷ os) h g = (small_names k l.types l.names o.meaning.scope h.0 g.0.limited, all_small k tokens p ls xs os h.1 g.1)
 
 -- by the types of the whole program
-all_small_in : (k : Numbering) (tokens : ℕ → ℕ) (p : Program) (ts : Compounds) (ls : List Layer) (xs : List Place) (os : List Opening) → AreInStep k ls os → AreAgreed tokens p xs os → Each (λ (l : Layer). Longer l.types ts) ls → Each (λ (l : Layer). AreSmallNames ts l.names) ls
+all_small_in : (k : Numbering) (tokens : Tokens) (p : Program) (ts : Compounds) (ls : List Layer) (xs : List Place) (os : List Opening) → AreInStep k ls os → AreAgreed tokens p xs os → Each (λ (l : Layer). Longer l.types ts) ls → Each (λ (l : Layer). AreSmallNames ts l.names) ls
 all_small_in k tokens p ts [] xs os h g w = tt
 all_small_in k tokens p ts (l ∷ ls) xs [] h g w = absurd h
 all_small_in k tokens p ts (l ∷ ls) [] (o ∷ os) h g w = absurd g
@@ -53,14 +53,14 @@ all_small_in k tokens p ts (l ∷ ls) (x ∷ xs) (o ∷ os) h g w =
 
 fits_tokens : (t : Tree) → IsRead t.program → IsAccepted t → Each (λ (r : RoutineView). r.room ≤ 8192 * 20000) (layer_of t).routines
 fits_tokens t read accepted =
-    let small : Each SmallNames (all_begun t) = all_small (numbering_of t.program) (token_of_type t.program) t.program (all_begun t) (places_of t.program) (openings_of t.program) (read_names_law t read accepted).in_step (scopes_law t read accepted).places in
+    let small : Each SmallNames (all_begun t) = all_small (numbering_of t.program) (tokens_of t.program) t.program (all_begun t) (places_of t.program) (openings_of t.program) (read_names_law t read accepted).in_step (scopes_law t read accepted).places in
     let few = read_few t.program read in
     each_weaker (Fits (length (spell t.program)) 0) (λ (r : RoutineView). r.room ≤ 8192 * 20000) (λ r e. omega (arith, e, few)) (layer_of t).routines (program_level t small)
 
 pub permanents_few : (t : Tree) → IsRead t.program → IsAccepted t → Holds (layer_of t).types (numbering_of t.program) 20000 0 (layer_of t)
 permanents_few t read accepted =
     program_holds (layer_of t).types (numbering_of t.program) 20000 t (read_few t.program read)
-    (all_small_in (numbering_of t.program) (token_of_type t.program) t.program (layer_of t).types (all_begun t) (places_of t.program) (openings_of t.program) (read_names_law t read accepted).in_step (scopes_law t read accepted).places (all_within t))
+    (all_small_in (numbering_of t.program) (tokens_of t.program) t.program (layer_of t).types (all_begun t) (places_of t.program) (openings_of t.program) (read_names_law t read accepted).in_step (scopes_law t read accepted).places (all_within t))
 
 -- ---- cells of system types
 

@@ -15,7 +15,7 @@ use Rattle.cp_scope.specs.declared.count.Use.{Use}
 use Rattle.cp_scope.specs.Counts.{no_use, both_uses}
 use Rattle.cp_scope.specs.Types.{agree, is_of, is_ordinal}
 use Rattle.cp_scope.specs.Judged.{Judged, both, ◌>>=◌, faults}
-use Rattle.cp_scope.specs.Scopes.{Scopes, heading_at}
+use Rattle.cp_scope.specs.Scopes.{Heading, Scopes, heading_at}
 use Rattle.cp_check.specs.declared.operand.Context.{Context}
 use Rattle.cp_check.specs.declared.operand.Operand.{Operand}
 use Rattle.cp_check.specs.declared.operand.Place.{Place}
@@ -42,7 +42,8 @@ use Rattle.cp_meaning.specs.Names.{Name}
 use Rattle.cp_meaning.specs.Types as named
 use Rattle.cp_meaning.specs.Types.{Ty}
 use Rattle.cp_meaning.specs.Scopes as scopes
-use Rattle.cp_meaning.specs.Scopes.{find}
+use Rattle.cp_meaning.specs.Scopes.{find, since}
+use Rattle.cp_meaning.specs.Declarations.{routine_in}
 use Rattle.cp_meaning.specs.Lifting.{last_field}
 use Rattle.cp_slots.specs.Code as code
 use Rattle.cp_resolved.specs.Layouts.{Here}
@@ -50,7 +51,7 @@ use Rattle.cp_resolved.specs.Compiled.{Form, as_place, Formed, Designated, a_var
 use Rattle.cp_resolved.specs.Formed.{HasTest, HasOrdinal, HasQueue, HasValueFor, IsAssigned, IsCounter, Counts, IsPerformed, IsInvoked, IsStarted, IsFormed, AreFormed, AreArmsFormed, IsArmFormed}
 use Rattle.cp_resolved.specs.Small.{Each}
 use Rattle.cp_resolved.specs.SmallStatements.{IsSmallStart, IsSmallStatement, AreSmallStatements, AreSmallArms, IsSmallArm}
-use Rattle.cp_resolved.specs.Typed.{Written, TypeIs, IsOrdinalResult, RoutineIs, predeclared_of, ScopesAgree, FormIs, Expressed, HasForm, IsSmallExpression, AreSmallExpressions, IsSmallDesignator}
+use Rattle.cp_resolved.specs.Typed.{Tokens, Written, TypeIs, IsOrdinalResult, ResultIs, RoutineIs, predeclared_of, ScopesAgree, FormIs, Expressed, HasForm, IsSmallExpression, AreSmallExpressions, IsSmallDesignator}
 use Rattle.cp_resolved.proofs.Typing.{formed, OrdinalForm, ordinal_found, SetForm, set_found, QueueForm, queue_found}
 use Rattle.cp_resolved.proofs.TypingOperations.{boolean_found}
 use Rattle.cp_resolved.proofs.TypingNames.{Holds, NamedIs, HasDesignated, written, begun_typed}
@@ -122,7 +123,7 @@ agree_record n (types.Set q) h = absurd (let bad : false ≡ true = h in cc)
 agree_record n (types.Array m) h = absurd (let bad : false ≡ true = h in cc)
 agree_record n (types.Component k m) h = absurd (let bad : false ≡ true = h in cc)
 
-module _ (tokens : ℕ → ℕ) (s : Scopes) (h : Here) (w : Context) (agrees : ScopesAgree tokens s h) (heard : Heard s) where
+module _ (tokens : Tokens) (s : Scopes) (h : Here) (w : Context) (agrees : ScopesAgree tokens s h) (heard : Heard s) where
   abbrev W : Written
   W = written tokens s h
 
@@ -183,7 +184,7 @@ module _ (tokens : ℕ → ℕ) (s : Scopes) (h : Here) (w : Context) (agrees : 
   ordinal_formed : (e : Expression) (v : ValueType) → Expressed W v (expression_form h e) → is_ordinal v ≡ true → HasOrdinal h e
   ordinal_formed e v x i =
       let r = ordinal_is v i in
-      let f : OrdinalForm r.0 (expression_form h e) = ordinal_found W r.0 (expression_form h e) (subst (λ u. Expressed W u (expression_form h e)) r.1 x) in
+      let f : OrdinalForm tokens r.0 (expression_form h e) = ordinal_found W r.0 (expression_form h e) (subst (λ u. Expressed W u (expression_form h e)) r.1 x) in
       record { range = f.range; code = f.code; formed = f.is }
 
   test_formed : (at : ℕ) (e : Expression) (f : Found e) (u : Use) → faults (statements.tested at f.operand u) ≡ [] → HasTest h e
@@ -239,7 +240,7 @@ module _ (tokens : ℕ → ℕ) (s : Scopes) (h : Here) (w : Context) (agrees : 
   assigned_by d e (Some (scopes.standard_meaning f)) x v q i same k = subst (λ o. HasValueFor h o e) (sym same) k
   assigned_by d e None x v q i same k = subst (λ o. HasValueFor h o e) (sym same) k
 
-  result_ordinal : (v : ValueType) (o : Option Ty) → IsOrdinalResult v o → (r : Range) × (v ≡ types.Ordinal r)
+  result_ordinal : (v : ValueType) (o : Option Ty) → IsOrdinalResult tokens v o → (r : Range) × (v ≡ types.Ordinal r)
   result_ordinal v (Some (named.ordinal q)) i = (i.range, i.is)
   result_ordinal v (Some named.queue_type) i = absurd i
   result_ordinal v (Some (named.set_over q)) i = absurd i
@@ -248,22 +249,22 @@ module _ (tokens : ℕ → ℕ) (s : Scopes) (h : Here) (w : Context) (agrees : 
   result_ordinal v (Some (named.component_of k)) i = absurd i
   result_ordinal v None i = absurd i
 
-  own_assigned : (d : Designator) (i : Name) (n : ℕ) (o : Operand) (e : Expression) (v : Option ValueType) (m : Option scopes.Meaning) → RoutineIs v i h.scope m → Takes (statements.result_target s w n true v) o → Expressed W o.value_type (expression_form h e) → IsAssigned h d e m
-  own_assigned d i n o e None m k t x = absurd t
-  own_assigned d i n o e (Some v) (Some (scopes.routine_meaning r)) k t x = go (calls.is_own w n) t
+  own_assigned : (d : Designator) (i : Name) (n : ℕ) (o : Operand) (e : Expression) (v : Option ValueType) (m : Option scopes.Meaning) → v ≡ (heading_at n s).result → RoutineIs W (heading_at n s) i h.scope m → Takes (statements.result_target s w n true v) o → Expressed W o.value_type (expression_form h e) → IsAssigned h d e m
+  own_assigned d i n o e None m is k t x = absurd t
+  own_assigned d i n o e (Some v) (Some (scopes.routine_meaning r)) is k t x = go (calls.is_own w n) t
     where
       go : (b : Bool) → Takes (if b then target.Assignable v else target.Fixed None) o → HasOrdinal h e
       go true a =
-          let p = result_ordinal v _ k in
+          let p = result_ordinal v (routine_in (since i h.scope) r).result (subst (λ (z : Option ValueType). ResultIs tokens z (Some (routine_in (since i h.scope) r))) (sym is) k.0) in
           let q = agree_ordinal p.0 o.value_type (subst (λ z. agree z o.value_type ≡ true) p.1 a) in
           ordinal_formed e o.value_type x (ap is_ordinal q.1)
       go false a = absurd a
-  own_assigned d i n o e (Some v) (Some (scopes.constant_meaning b z)) k t x = absurd k
-  own_assigned d i n o e (Some v) (Some (scopes.type_meaning u)) k t x = absurd k
-  own_assigned d i n o e (Some v) (Some (scopes.local_variable u)) k t x = absurd k
-  own_assigned d i n o e (Some v) (Some (scopes.permanent_variable u)) k t x = absurd k
-  own_assigned d i n o e (Some v) (Some (scopes.standard_meaning f)) k t x = absurd k
-  own_assigned d i n o e (Some v) None k t x = absurd k
+  own_assigned d i n o e (Some v) (Some (scopes.constant_meaning b z)) is k t x = absurd k
+  own_assigned d i n o e (Some v) (Some (scopes.type_meaning u)) is k t x = absurd k
+  own_assigned d i n o e (Some v) (Some (scopes.local_variable u)) is k t x = absurd k
+  own_assigned d i n o e (Some v) (Some (scopes.permanent_variable u)) is k t x = absurd k
+  own_assigned d i n o e (Some v) (Some (scopes.standard_meaning f)) is k t x = absurd k
+  own_assigned d i n o e (Some v) None is k t x = absurd k
 
   no_entry : (n : ℕ) (o : Operand) (v : Option ValueType) → Takes (statements.result_target s w n false v) o → ⊥
   no_entry n o None t = t
@@ -279,7 +280,7 @@ module _ (tokens : ℕ → ℕ) (s : Scopes) (h : Here) (w : Context) (agrees : 
       go : (b : Bool) → is_fixed s v ≡ b → Takes (if is_assignable (if b then place.Fixed else place.Assignable) then target.Assignable v else target.Fixed (Some v)) o → IsAssigned h d e m
       go true f a = absurd a
       go false f a = assigned_by d e m x v q k same (value_formed m x v o.value_type q e k f a y)
-  named_assigned d i e m x (name.Routine n) q o k same t y = own_assigned d i n o e (heading_at n s).result m k t y
+  named_assigned d i e m x (name.Routine n) q o k same t y = own_assigned d i n o e (heading_at n s).result m refl k t y
   named_assigned d i e m x (name.Entry n) q o k same t y = absurd (no_entry n o (heading_at n s).result t)
   named_assigned d i e m x (name.Predeclared p) q o k same t y = absurd (no_standard p o (operations.is_function p) t)
   named_assigned d i e m x (name.Parameter v) q o k same t y = absurd t
@@ -349,14 +350,14 @@ module _ (tokens : ℕ → ℕ) (s : Scopes) (h : Here) (w : Context) (agrees : 
   any_counts i (Some (scopes.standard_meaning f)) c = c
   any_counts i None c = c
 
-  own_counts : (i : Identifier) (x : Name) (v : Option ValueType) (m : Option scopes.Meaning) → RoutineIs v x h.scope m → Counts h i m
-  own_counts i x v (Some (scopes.routine_meaning r)) k = tt
-  own_counts i x v (Some (scopes.constant_meaning b z)) k = absurd k
-  own_counts i x v (Some (scopes.type_meaning t)) k = absurd k
-  own_counts i x v (Some (scopes.local_variable t)) k = absurd k
-  own_counts i x v (Some (scopes.permanent_variable t)) k = absurd k
-  own_counts i x v (Some (scopes.standard_meaning f)) k = absurd k
-  own_counts i x v None k = absurd k
+  own_counts : (i : Identifier) (x : Name) (d : Heading) (m : Option scopes.Meaning) → RoutineIs W d x h.scope m → Counts h i m
+  own_counts i x d (Some (scopes.routine_meaning r)) k = tt
+  own_counts i x d (Some (scopes.constant_meaning b z)) k = absurd k
+  own_counts i x d (Some (scopes.type_meaning t)) k = absurd k
+  own_counts i x d (Some (scopes.local_variable t)) k = absurd k
+  own_counts i x d (Some (scopes.permanent_variable t)) k = absurd k
+  own_counts i x d (Some (scopes.standard_meaning f)) k = absurd k
+  own_counts i x d None k = absurd k
 
   record Counted (i : Identifier) (e f : Expression) : Type 0 where
     pub counter : Counts h i (find i.name h.scope)
@@ -384,7 +385,7 @@ module _ (tokens : ℕ → ℕ) (s : Scopes) (h : Here) (w : Context) (agrees : 
   named_counted i e f (name.Routine n) a b k c x y = go (heading_at n s).result c
     where
       inner : (v : ValueType) (z : Bool) → CountsOver (if z then target.Assignable v else target.Fixed None) a b → Counted i e f
-      inner v true d = with_bounds i e f (own_counts i i.name (heading_at n s).result (find i.name h.scope) k) (bounds_of v a b e f d x y)
+      inner v true d = with_bounds i e f (own_counts i i.name (heading_at n s) (find i.name h.scope) k) (bounds_of v a b e f d x y)
       inner v false d = absurd d
 
       go : (v : Option ValueType) → CountsOver (statements.result_target s w n true v) a b → Counted i e f

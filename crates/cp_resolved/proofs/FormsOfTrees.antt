@@ -8,7 +8,7 @@ use Rattle.cp_lawful.proofs.Loud.{Loud, Heard}
 use Rattle.cp_tree.specs.Syntax.{Program}
 use Rattle.cp_meaning.specs.Names.{Name}
 use Rattle.cp_resolved.specs.Formed.{AreFormed, FormsLaw}
-use Rattle.cp_resolved.specs.Judging.{Place, IsAgreed, AreAgreed, places_of}
+use Rattle.cp_resolved.specs.Judging.{Place, IsAgreed, AreAgreed, tokens_of, places_of}
 use Rattle.cp_resolved.specs.Layouts.{Layouts}
 use Rattle.cp_resolved.specs.Openings.{Opening, openings_of}
 use Rattle.cp_resolved.specs.Small.{Each}
@@ -30,11 +30,11 @@ module _ (p : Program) where
   abbrev Formed : Opening → Type 0
   Formed o = (l : Layouts) (k n : ℕ) → AreFormed (record { program = p; layouts = l; system = k; routine = n; scope = o.meaning.scope }) o.meaning.body
 
-  one_formed : (x : Place) (o : Opening) → IsAgreed (token_of_type p) p x o → IsSmallOpening o → Formed o
+  one_formed : (x : Place) (o : Opening) → IsAgreed (tokens_of p) p x o → IsSmallOpening o → Formed o
   one_formed x o h small l k n =
-      statements_formed (token_of_type p) x.scopes (record { program = p; layouts = l; system = k; routine = n; scope = o.meaning.scope }) x.context (h.scopes l k n) (all_heard x.scopes h.known) o.meaning.body (Ok no_use) small h.sound
+      statements_formed (tokens_of p) x.scopes (record { program = p; layouts = l; system = k; routine = n; scope = o.meaning.scope }) x.context (h.scopes l k n) (all_heard x.scopes h.known) o.meaning.body (Ok no_use) small h.sound
 
-  all_formed : (xs : List Place) (os : List Opening) → AreAgreed (token_of_type p) p xs os → Each IsSmallOpening os → Each Formed os
+  all_formed : (xs : List Place) (os : List Opening) → AreAgreed (tokens_of p) p xs os → Each IsSmallOpening os → Each Formed os
   all_formed [] [] h small = tt
   all_formed (x ∷ xs) (o ∷ os) h small = (one_formed x o h.0 small.0, all_formed xs os h.1 small.1)
   all_formed [] (o ∷ os) h small = absurd h

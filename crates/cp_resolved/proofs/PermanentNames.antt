@@ -56,13 +56,13 @@ IsPermanent m = ⊥
 abbrev pub Under : Names → Names → Type 0
 Under outer inner = (x : List ℕ) (m : Meaning) → IsPermanent m → find x inner ≡ Some m → find x outer ≡ Some m
 
-abbrev IsOther : Meaning → Type 0
+abbrev pub IsOther : Meaning → Type 0
 IsOther m = IsPermanent m → ⊥
 
 pub under_same : (ns : Names) → Under ns ns
 under_same ns x m i e = e
 
-under_added : (outer : Names) (x : List ℕ) (m : Meaning) (ns : Names) → IsOther m → Under outer ns → Under outer ((x, m) ∷ ns)
+pub under_added : (outer : Names) (x : List ℕ) (m : Meaning) (ns : Names) → IsOther m → Under outer ns → Under outer ((x, m) ∷ ns)
 under_added outer x m ns o u y n i e = go (found_cases (x, m) ns y n e)
   where
     go : ((bytes_eq x y ≡ true) × (m ≡ n)) ⊎ (find y ns ≡ Some n) → find y outer ≡ Some n
@@ -127,7 +127,7 @@ own_number l r x same =
 
 -- ---- what a system type sees of the names around it
 
-open_found : (x : List ℕ) (m : Meaning) (ns : Names) → find x (seen_inside ns) ≡ Some m → is_open m ≡ true
+pub open_found : (x : List ℕ) (m : Meaning) (ns : Names) → find x (seen_inside ns) ≡ Some m → is_open m ≡ true
 open_found x m [] e = absurd (no_name x m e)
 open_found x m (d ∷ ds) e = go (is_open d.1) refl (open_found x m ds) e
   where

@@ -21,8 +21,8 @@ use Rattle.cp_resolved.specs.FormedStatements.{OwnResult, KnowsResult}
 use Rattle.cp_resolved.specs.InStep.{Numbering, TypeIs, FoundIs}
 use Rattle.cp_resolved.specs.Layouts.{Here, frame_here, is_named, is_own}
 use Rattle.cp_resolved.specs.LayoutsKnow.{IsPlaced, place_of, KnowsAt}
-use Rattle.cp_resolved.specs.Openings.{meaning_at, numbering_of}
-use Rattle.cp_resolved.specs.TreeLayouts.{begun_at, layer_or, name_in, origin_in, hidden_origin}
+use Rattle.cp_resolved.specs.Openings.{Opening, meaning_at, numbering_of}
+use Rattle.cp_resolved.specs.TreeLayouts.{begun_at, layer_or, name_with, name_in, origin_in, hidden_origin}
 use Rattle.cp_resolved.specs.Used.{HasResult, ResultsAre}
 use Rattle.cp_resolved.proofs.Steps.{found_in}
 use Rattle.cp_resolved.proofs.TreeKnown.{undeclared_name, opens_of, layouts_law}
@@ -48,6 +48,10 @@ same_token n = go (n == n) (eqb_refl n)
     go true t = refl
     go false t = absurd t
 
+pub with_own_name : (x : Name) (y : Option Name) (o : Option Ty) → is_named x (name_with y o) ≡ true → is_named x y ≡ true
+with_own_name x y None h = absurd (let bad : false ≡ true = h in cc)
+with_own_name x y (Some t) h = h
+
 module _ (t : syntax.Tree) (place : IsPlaced t) (n : ℕ) (l : Layer) (e : slice_get (all_begun t) n ≡ Some l) (many : length l.routines ≡ n) where
   abbrev k : Numbering
   k = numbering_of t.program
@@ -71,7 +75,9 @@ module _ (t : syntax.Tree) (place : IsPlaced t) (n : ℕ) (l : Layer) (e : slice
       ap (λ (m : Layer). origin_in (hidden_origin m (all_calls_laid (meaning_at t.program n).scope (meaning_at t.program n).body) result_name) (layers.find result_name m.names)) begun_is ∙ ap (origin_in (origin.Local (own_result l))) none
 
   own_is : (x : Name) → is_own h x ≡ true → is_named x (opens_of t place n l e).opening.name ≡ true
-  own_is x own = sym (ap (λ o. is_named x (name_in o)) (opens_of t place n l e).there) ∙ own
+  own_is x own =
+      let o : Opening = (opens_of t place n l e).opening in
+      with_own_name x o.name o.meaning.result (sym (ap (λ q. is_named x (name_in q)) (opens_of t place n l e).there) ∙ own)
 
   result_for : (x : Name) (r : syntax.Routine) (q : Option Meaning) (s : Scope) → is_own h x ≡ true → layers.find x l.names ≡ q → FoundIs k l.types q (Some (scopes.routine_meaning r)) s → HasResult (meaning_at t.program n).result → OwnResult k h l x
   result_for x r None s own f i has = absurd i

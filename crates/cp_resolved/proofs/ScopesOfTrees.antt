@@ -5,7 +5,7 @@ use Rattle.cp_check.specs.Faults.{faults_of}
 use Rattle.cp_meaning.specs.Names.{Name}
 use Rattle.cp_meaning.specs.Systems.{SystemMeaning, declared, own_meaning, or_own}
 use Rattle.cp_resolved.specs.Enumerations.{enumerations_of}
-use Rattle.cp_resolved.specs.Judging.{ScopesAre, ScopesLaw}
+use Rattle.cp_resolved.specs.Judging.{tokens_of, ScopesAre, ScopesLaw}
 use Rattle.cp_resolved.specs.Small.{Each, IsSmallProgram}
 use Rattle.cp_resolved.specs.Standing.{IsStandingVariable, IsStandingParameter}
 use Rattle.cp_resolved.specs.Tokens.{AreDifferent, program_tokens, token_of_type, tokens_of_enumerations, HasFew, constants_among}
@@ -33,9 +33,8 @@ system_at (m ∷ ms) (suc k) own h g = system_at ms k own h.1 g
 
 pub tidy_agreed : (t : Tree) → faults_of t ≡ [] → IsTidy t.program → ScopesAre t.program
 tidy_agreed t h w =
-    let constants_at : ℕ → List Name = (λ at. constants_among at (enumerations_of t.program)) in
-    let r : ProgramResult (token_of_type t.program) constants_at t.program =
-    program_agrees (token_of_type t.program) constants_at t.program t refl h (all_numbered constants_at t.program w.tokens) w.small (all_few (enumerations_of t.program) w.few w.enumerations) w.tokens in
+    let r : ProgramResult (tokens_of t.program) t.program =
+    program_agrees (tokens_of t.program) t.program t refl h (all_numbered t.program w.tokens) w.small (all_few (token_of_type t.program) (enumerations_of t.program) w.few w.enumerations) w.tokens in
     let own : SystemMeaning = own_meaning (declared t.program) t.program in
     record {
       places = r.places;

@@ -6,8 +6,8 @@ use Rattle.cp_meaning.specs.Types.{Range, Ty, ordinal, queue_type, set_over, arr
 use Rattle.cp_meaning.specs.Operations.{range_of_base}
 use Rattle.cp_meaning.specs.Values.{Choice, the_field, the_element, number_value}
 use Rattle.cp_resolved.specs.Encoded.{Chosen, further_chosen, field_chosen, one_chosen, then_chosen, chosen_at, HasType}
-use Rattle.cp_resolved.specs.Layouts.{cells_of}
-use Rattle.cp_resolved.specs.Standing.{is_bounded, is_free, are_free, is_standing}
+use Rattle.cp_resolved.specs.Layouts.{cells_of, cells_in}
+use Rattle.cp_resolved.specs.Standing.{is_bounded, are_few, is_indexed, is_free, are_free, is_standing}
 use Rattle.cp_resolved.proofs.Typing.{first_true, second_true}
 
 -- ---- ranges
@@ -21,8 +21,9 @@ both_of a b h g = ap (λ c. c && b) h ∙ g
 -- a value in a range is one of its base
 pub within_base : (r : Range) → is_bounded r ≡ true → (z : ℤ) → is_within r z ≡ true → HasType (ordinal r) (number_value z)
 within_base r b z h =
-    let low : is_within (range_of_base r.base) r.low ≡ true = first_true (is_within (range_of_base r.base) r.low) (is_within (range_of_base r.base) r.high) b in
-    let high : is_within (range_of_base r.base) r.high ≡ true = second_true (is_within (range_of_base r.base) r.low) (is_within (range_of_base r.base) r.high) b in
+    let after : Bool = is_within (range_of_base r.base) r.high && int_le r.low r.high in
+    let low : is_within (range_of_base r.base) r.low ≡ true = first_true (is_within (range_of_base r.base) r.low) after b in
+    let high : is_within (range_of_base r.base) r.high ≡ true = first_true (is_within (range_of_base r.base) r.high) (int_le r.low r.high) (second_true (is_within (range_of_base r.base) r.low) after b) in
     both_of (int_le (range_of_base r.base).low z) (int_le z (range_of_base r.base).high)
     (at_most (range_of_base r.base).low r.low z (first_true (int_le (range_of_base r.base).low r.low) (int_le r.low (range_of_base r.base).high) low) (first_true (int_le r.low z) (int_le z r.high) h))
     (at_most z r.high (range_of_base r.base).high (second_true (int_le r.low z) (int_le z r.high) h) (second_true (int_le (range_of_base r.base).low r.high) (int_le r.high (range_of_base r.base).high) high))
@@ -61,9 +62,9 @@ no_part : (c : Chosen) → None ≡ Some c → ⊥
 no_part c h = let bad : None ≡ Some c = h in absurd cc
 
 one_free : (t : Ty) (i : Choice) (c : Chosen) → is_free t ≡ true → one_chosen t i ≡ Some c → is_free c.1 ≡ true
-one_free (record_with ts) (the_field x) c f h = field_free ts x c f h
+one_free (record_with ts) (the_field x) c f h = field_free ts x c (second_true (are_few (cells_in ts)) (are_free ts) f) h
 one_free (record_with ts) (the_element n) c f h = absurd (no_part c h)
-one_free (array_over r t) (the_element n) c f h = subst (λ (u : Ty). is_free u ≡ true) (element_is n r t c h) (second_true (is_bounded r) (is_free t) f)
+one_free (array_over r t) (the_element n) c f h = subst (λ (u : Ty). is_free u ≡ true) (element_is n r t c h) (second_true (is_indexed r t) (is_free t) f)
 one_free (array_over r t) (the_field x) c f h = absurd (no_part c h)
 one_free (ordinal r) i c f h = absurd (no_part c h)
 one_free queue_type i c f h = absurd (no_part c h)

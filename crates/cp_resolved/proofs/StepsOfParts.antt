@@ -38,10 +38,10 @@ module _ (k : Numbering) where
   reached_trans l j m s t es fs h i = record { names = i.names; constants = constants_trans k l.constants j.constants m.constants es fs h.constants i.constants }
 
   -- no enumerations after some
-  reached_then : (l j m : Layer) (s t : Scope) (es : List Enumerated) → Reached l j s es → Reached j m t [] → Reached l m t es
+  pub reached_then : (l j m : Layer) (s t : Scope) (es : List Enumerated) → Reached l j s es → Reached j m t [] → Reached l m t es
   reached_then l j m s t es h i = subst (λ fs. Reached l m t fs) (append-nil es) (reached_trans l j m s t es [] h i)
 
-  written_reached : (l : Layer) (x : ValueType × Layer) (y : Ty × Scope) (es : List Enumerated) → Written k l x y es → Reached l x.1 y.1 es
+  pub written_reached : (l : Layer) (x : ValueType × Layer) (y : Ty × Scope) (es : List Enumerated) → Written k l x y es → Reached l x.1 y.1 es
   written_reached l x y es w = record { names = w.names; constants = w.constants }
 
   -- ---- constants and types
@@ -73,10 +73,10 @@ module _ (k : Numbering) where
   -- ---- permanent variables
 
   -- components are found where the type has components
-  abbrev ComponentsAre : Compounds → Ty → ValueType → Type 0
+  abbrev pub ComponentsAre : Compounds → Ty → ValueType → Type 0
   ComponentsAre ts t v = ((has_components t ≡ false) × (components_of ts v ≡ None)) ⊎ ((c : Contained) × (has_components t ≡ true) × (components_of ts v ≡ Some c))
 
-  components_same : (ts : Compounds) (t : Ty) (v : ValueType) → TypeIs k ts t v → ComponentsAre ts t v
+  pub components_same : (ts : Compounds) (t : Ty) (v : ValueType) → TypeIs k ts t v → ComponentsAre ts t v
   components_same ts (named.ordinal s) v h = inl (refl, ap (components_of ts) h)
   components_same ts named.queue_type v h = inl (refl, ap (components_of ts) h)
   components_same ts (named.set_over s) v h = inl (refl, ap (components_of ts) h)
@@ -101,7 +101,7 @@ module _ (k : Numbering) where
   with_reached l s x t v (Some d) e h (inr c) i =
       record { names = (refl, inr (inl (record { first = l.owned.count; value_type = v; is = refl; belongs = h; has = c.1 })), i); constants = sym (append-nil l.constants) }
 
-  variables_of_reached : (l : Layer) (s : Scope) (t : Ty) (v : ValueType) (is : List Identifier) → TypeIs k l.types t v → InStep k l.types l.names s → Reached l (variables_of l v is) (with_names (names_of is) (scopes.permanent_variable t) s) []
+  pub variables_of_reached : (l : Layer) (s : Scope) (t : Ty) (v : ValueType) (is : List Identifier) → TypeIs k l.types t v → InStep k l.types l.names s → Reached l (variables_of l v is) (with_names (names_of is) (scopes.permanent_variable t) s) []
   unfolding variables_of
   variables_of_reached l s t v [] h i = reached_same l s i
   variables_of_reached l s t v (x ∷ xs) h i =
@@ -126,7 +126,7 @@ module _ (k : Numbering) where
 
   -- ---- local variables
 
-  locals_of_reached : (l : Layer) (s : Scope) (t : Ty) (v : ValueType) (is : List Identifier) → TypeIs k l.types t v → InStep k l.types l.names s → Reached l (locals_of l v is) (with_names (names_of is) (scopes.local_variable t) s) []
+  pub locals_of_reached : (l : Layer) (s : Scope) (t : Ty) (v : ValueType) (is : List Identifier) → TypeIs k l.types t v → InStep k l.types l.names s → Reached l (locals_of l v is) (with_names (names_of is) (scopes.local_variable t) s) []
   unfolding locals_of
   locals_of_reached l s t v [] h i = reached_same l s i
   locals_of_reached l s t v (x ∷ xs) h i =
@@ -150,7 +150,7 @@ module _ (k : Numbering) where
 
   -- ---- parts
 
-  permanent_part_reached : (l : Layer) (b : Block) (p : syntax.Part) → IsSmallPart p → AreNumbered k.firsts (length l.constants) (in_part p) → InStep k l.types l.names b.scope → Reached l (permanent_part l p) (meant.part_in scopes.permanent_variable b p).scope (in_part p)
+  pub permanent_part_reached : (l : Layer) (b : Block) (p : syntax.Part) → IsSmallPart p → AreNumbered k.firsts (length l.constants) (in_part p) → InStep k l.types l.names b.scope → Reached l (permanent_part l p) (meant.part_in scopes.permanent_variable b p).scope (in_part p)
   permanent_part_reached l b (syntax.constants at ds) h n i = constants_reached l b.scope ds h i
   permanent_part_reached l b (syntax.types at ds) h n i = definitions_reached l b.scope ds h n i
   permanent_part_reached l b (syntax.variables at gs) h n i = variables_reached l b gs h n i
@@ -164,7 +164,7 @@ module _ (k : Numbering) where
       let a : Reached l m c.scope (in_part p) = permanent_part_reached l b p h.0 (numbered_left k (length l.constants) (in_part p) (each_in in_part ps) n) i in
       reached_trans l m (permanent_parts m ps) c.scope (meant.parts_in scopes.permanent_variable c ps).scope (in_part p) (each_in in_part ps) a (permanent_parts_reached m c ps h.1 (numbered_after k l.constants m.constants (in_part p) (each_in in_part ps) a.constants n) a.names)
 
-  local_part_reached : (l : Layer) (b : Block) (p : syntax.Part) → IsSmallPart p → AreNumbered k.firsts (length l.constants) (in_part p) → InStep k l.types l.names b.scope → Reached l (local_part l p) (meant.part_in scopes.local_variable b p).scope (in_part p)
+  pub local_part_reached : (l : Layer) (b : Block) (p : syntax.Part) → IsSmallPart p → AreNumbered k.firsts (length l.constants) (in_part p) → InStep k l.types l.names b.scope → Reached l (local_part l p) (meant.part_in scopes.local_variable b p).scope (in_part p)
   local_part_reached l b (syntax.constants at ds) h n i = constants_reached l b.scope ds h i
   local_part_reached l b (syntax.types at ds) h n i = definitions_reached l b.scope ds h n i
   local_part_reached l b (syntax.variables at gs) h n i = locals_reached l b gs h n i
@@ -180,7 +180,7 @@ module _ (k : Numbering) where
 
   -- ---- headings of routines
 
-  constant_parameters_reached : (l : Layer) (s : Scope) (ps : Parameters) (t : Ty) (v : ValueType) (is : List Identifier) → TypeIs k l.types t v → InStep k l.types l.names s → Reached l (constant_parameters_of l ps v is).1 (with_names (names_of is) (scopes.local_variable t) s) []
+  pub constant_parameters_reached : (l : Layer) (s : Scope) (ps : Parameters) (t : Ty) (v : ValueType) (is : List Identifier) → TypeIs k l.types t v → InStep k l.types l.names s → Reached l (constant_parameters_of l ps v is).1 (with_names (names_of is) (scopes.local_variable t) s) []
   unfolding constant_parameters_of
   constant_parameters_reached l s ps t v [] h i = reached_same l s i
   constant_parameters_reached l s ps t v (x ∷ xs) h i =
@@ -207,7 +207,7 @@ module _ (k : Numbering) where
       let a : Reached l x.1 j.scope [] = constant_parameters_reached l h.scope ps (meant.type_named h.scope g.type_name.name) (laid.named_type l g.type_name.name) g.names (named_type_same k l h.scope g.type_name.name i) i in
       reached_trans l x.1 (constant_groups x.1 x.0 gs).1 j.scope (meant.with_groups scopes.local_variable j gs).scope [] [] a (constant_groups_reached x.1 j x.0 gs a.names)
 
-  either_group_reached : (b c : Bool) (l : Layer) (h : Heading) (ps : Parameters) (g : syntax.Group) → InStep k l.types l.names h.scope → Reached l (if b then var_group l ps g else constant_group l ps g).1 (meant.with_group scopes.local_variable c h g).scope []
+  pub either_group_reached : (b c : Bool) (l : Layer) (h : Heading) (ps : Parameters) (g : syntax.Group) → InStep k l.types l.names h.scope → Reached l (if b then var_group l ps g else constant_group l ps g).1 (meant.with_group scopes.local_variable c h g).scope []
   either_group_reached true c l h ps g i = var_parameters_reached l h.scope ps (meant.type_named h.scope g.type_name.name) (laid.named_type l g.type_name.name) g.names (named_type_same k l h.scope g.type_name.name i) i
   either_group_reached false c l h ps g i = constant_parameters_reached l h.scope ps (meant.type_named h.scope g.type_name.name) (laid.named_type l g.type_name.name) g.names (named_type_same k l h.scope g.type_name.name i) i
 
@@ -249,7 +249,7 @@ module _ (k : Numbering) where
   system_parameter_types l ps x (types.Record n) = refl
   system_parameter_types l ps x (types.System n) = refl
 
-  system_parameters_reached : (l : Layer) (s : Scope) (ps : Parameters) (t : Ty) (v : ValueType) (is : List Identifier) → IsParameter t → TypeIs k l.types t v → InStep k l.types l.names s → Reached l (system_parameters_of l ps v is).1 (with_names (names_of is) (scopes.permanent_variable t) s) []
+  pub system_parameters_reached : (l : Layer) (s : Scope) (ps : Parameters) (t : Ty) (v : ValueType) (is : List Identifier) → IsParameter t → TypeIs k l.types t v → InStep k l.types l.names s → Reached l (system_parameters_of l ps v is).1 (with_names (names_of is) (scopes.permanent_variable t) s) []
   unfolding system_parameters_of
   system_parameters_reached l s ps t v [] f h i = reached_same l s i
   system_parameters_reached l s ps t v (x ∷ xs) f h i =

@@ -30,7 +30,7 @@ use Rattle.cp_resolved.specs.InStep.{Numbering, CellsAre, PartsAre, BoundIs, InS
 use Rattle.cp_resolved.specs.Knows.{Knows}
 use Rattle.cp_resolved.specs.Layouts.{Here, frame_here, is_parameter}
 use Rattle.cp_resolved.specs.LayoutsKnow.{IsPlaced, place_of, KnowsAt, LayoutsLaw}
-use Rattle.cp_resolved.specs.Once.{IsOnce, IsWord, AreWords, IsSized, IsSizedMeaning, AreSized}
+use Rattle.cp_resolved.specs.Once.{IsOnce, IsWord, AreWords, IsSizedMeaning}
 use Rattle.cp_resolved.specs.Openings.{Opening, openings_of, meaning_in, meaning_at, numbering_of}
 use Rattle.cp_resolved.specs.TreeLayouts.{all_parts, layer_or, parts_at, begun_at, whole_laid, origin_in, hidden_origin, slot_in, first_in, owner_in}
 use Rattle.cp_resolved.specs.Used.{ResultsAre, system_type, EntryIs, KnowsCalls}
@@ -43,22 +43,6 @@ use Rattle.cp_resolved.proofs.Steps.{found_in}
 use Rattle.cp_resolved.proofs.Temporaries.{temporaries_next}
 
 -- ---- what is found in a scope
-
-local_sized : (x : Name) (t : Ty) (s : Scope) → AreSized s → scopes.find x s ≡ Some (scopes.local_variable t) → IsSized t
-local_sized x t [] h e = absurd (none-some _ e)
-local_sized x t (d ∷ ds) h e = go (same_name x d.0) (local_sized x t ds h.1) e
-  where
-    go : (b : Bool) → (scopes.find x ds ≡ Some (scopes.local_variable t) → IsSized t) → (if b then Some d.1 else scopes.find x ds) ≡ Some (scopes.local_variable t) → IsSized t
-    go true rest f = subst IsSizedMeaning (same_Some d.1 (scopes.local_variable t) f) h.0
-    go false rest f = rest f
-
-permanent_sized : (x : Name) (t : Ty) (s : Scope) → AreSized s → scopes.find x s ≡ Some (scopes.permanent_variable t) → IsSized t
-permanent_sized x t [] h e = absurd (none-some _ e)
-permanent_sized x t (d ∷ ds) h e = go (same_name x d.0) (permanent_sized x t ds h.1) e
-  where
-    go : (b : Bool) → (scopes.find x ds ≡ Some (scopes.permanent_variable t) → IsSized t) → (if b then Some d.1 else scopes.find x ds) ≡ Some (scopes.permanent_variable t) → IsSized t
-    go true rest f = subst IsSizedMeaning (same_Some d.1 (scopes.permanent_variable t) f) h.0
-    go false rest f = rest f
 
 -- no name that is no word is declared
 pub undeclared_name : (x : Name) (s : Scope) → (IsWord x → ⊥) → AreWords s → scopes.find x s ≡ None
@@ -120,8 +104,8 @@ module _ (t : syntax.Tree) (place : IsPlaced t) (n : ℕ) (l : Layer) (o : Openi
         first = λ x i v e. (in_system ℕ first_in x (meaning.Contained i v) (b.under x _ tt e), parameter_is x false (b.outer.first x i v (b.under x _ tt e)));
         bound = λ x i c e. (in_system ℕ slot_in x (meaning.Bound i c) (b.under x _ tt e), parameter_is x true (b.outer.bound x i c (b.under x _ tt e)));
         count = count_is;
-        local = λ x u e. local_sized x u (meaning_at t.program n).scope (place.sized n) e;
-        permanent = λ x u e. permanent_sized x u (meaning_at t.program n).scope (place.sized n) e;
+        local = λ x u e. subst IsSizedMeaning e (place.sized n x);
+        permanent = λ x u e. subst IsSizedMeaning e (place.sized n x);
       }
 
   -- ---- calls

@@ -10,7 +10,7 @@ use Rattle.cp_slots.specs.Code as code
 use Rattle.cp_meaning.specs.Types as named
 use Rattle.cp_meaning.specs.Types.{Ty, all_integers, all_booleans, all_characters}
 use Rattle.cp_resolved.specs.Compiled.{Form, as_ordinal, as_set, as_place, Formed, then_form, integer_form, truth_form, set_form, is_integer_base, is_boolean_base}
-use Rattle.cp_resolved.specs.Typed.{Written, BaseIs, RangeIs, FormIs, Expressed}
+use Rattle.cp_resolved.specs.Typed.{Tokens, Written, BaseIs, RangeIs, FormIs, Expressed}
 
 abbrev pub formed : Ty → Form → Formed
 formed t f = record { ty = t; form = f }
@@ -20,25 +20,25 @@ same_range r q h = cc
 
 -- ---- bases
 
-pub integer_base : (c : named.Base) (b : check_base.Base) → BaseIs c b → same_base b base.Integer ≡ true → is_integer_base c ≡ true
-integer_base named.integers b h e = refl
-integer_base named.booleans b h e = absurd (let bad : same_base base.Boolean base.Integer ≡ true = subst (λ (x : check_base.Base). same_base x base.Integer ≡ true) h e in cc)
-integer_base named.characters b h e = absurd (let bad : same_base base.Char base.Integer ≡ true = subst (λ (x : check_base.Base). same_base x base.Integer ≡ true) h e in cc)
-integer_base (named.enumerated at xs) b h e = absurd (let bad : same_base (base.Enumeration at (pos (length xs - 1))) base.Integer ≡ true = subst (λ (x : check_base.Base). same_base x base.Integer ≡ true) h.0 e in cc)
+pub integer_base : (k : Tokens) (c : named.Base) (b : check_base.Base) → BaseIs k c b → same_base b base.Integer ≡ true → is_integer_base c ≡ true
+integer_base k named.integers b h e = refl
+integer_base k named.booleans b h e = absurd (let bad : same_base base.Boolean base.Integer ≡ true = subst (λ (x : check_base.Base). same_base x base.Integer ≡ true) h e in cc)
+integer_base k named.characters b h e = absurd (let bad : same_base base.Char base.Integer ≡ true = subst (λ (x : check_base.Base). same_base x base.Integer ≡ true) h e in cc)
+integer_base k (named.enumerated at xs) b h e = absurd (let bad : same_base (base.Enumeration at (pos (length xs - 1))) base.Integer ≡ true = subst (λ (x : check_base.Base). same_base x base.Integer ≡ true) h.0 e in cc)
 
-pub boolean_base : (c : named.Base) (b : check_base.Base) → BaseIs c b → same_base b base.Boolean ≡ true → is_boolean_base c ≡ true
-boolean_base named.booleans b h e = refl
-boolean_base named.integers b h e = absurd (let bad : same_base base.Integer base.Boolean ≡ true = subst (λ (x : check_base.Base). same_base x base.Boolean ≡ true) h e in cc)
-boolean_base named.characters b h e = absurd (let bad : same_base base.Char base.Boolean ≡ true = subst (λ (x : check_base.Base). same_base x base.Boolean ≡ true) h e in cc)
-boolean_base (named.enumerated at xs) b h e = absurd (let bad : same_base (base.Enumeration at (pos (length xs - 1))) base.Boolean ≡ true = subst (λ (x : check_base.Base). same_base x base.Boolean ≡ true) h.0 e in cc)
+pub boolean_base : (k : Tokens) (c : named.Base) (b : check_base.Base) → BaseIs k c b → same_base b base.Boolean ≡ true → is_boolean_base c ≡ true
+boolean_base k named.booleans b h e = refl
+boolean_base k named.integers b h e = absurd (let bad : same_base base.Integer base.Boolean ≡ true = subst (λ (x : check_base.Base). same_base x base.Boolean ≡ true) h e in cc)
+boolean_base k named.characters b h e = absurd (let bad : same_base base.Char base.Boolean ≡ true = subst (λ (x : check_base.Base). same_base x base.Boolean ≡ true) h e in cc)
+boolean_base k (named.enumerated at xs) b h e = absurd (let bad : same_base (base.Enumeration at (pos (length xs - 1))) base.Boolean ≡ true = subst (λ (x : check_base.Base). same_base x base.Boolean ≡ true) h.0 e in cc)
 
 -- ---- forms of ordinals and sets
 
-pub record OrdinalForm (r : Range) (o : Option Formed) : Type 0 where
+pub record OrdinalForm (k : Tokens) (r : Range) (o : Option Formed) : Type 0 where
   pub range : named.Range
   pub code : code.Expression
   pub is : o ≡ Some (formed (named.ordinal range) (as_ordinal code))
-  pub belongs : RangeIs range r
+  pub belongs : RangeIs k range r
 
 pub record SetForm (o : Option Formed) : Type 0 where
   pub ty : Ty
@@ -50,12 +50,12 @@ pub record QueueForm (o : Option Formed) : Type 0 where
   pub is : o ≡ Some (formed named.queue_type (as_place place))
 
 module _ (w : Written) where
-  ordinal_form_of : (r : Range) (t : Ty) (f : Form) → FormIs w (types.Ordinal r) t f → OrdinalForm r (Some (formed t f))
+  ordinal_form_of : (r : Range) (t : Ty) (f : Form) → FormIs w (types.Ordinal r) t f → OrdinalForm w.tokens r (Some (formed t f))
   ordinal_form_of r (named.ordinal q) f h = record {
     range = q;
     code = h.0;
     is = ap (λ (x : Form). Some (formed (named.ordinal q) x)) h.1;
-    belongs = subst (RangeIs q) (sym (same_range r h.2.range h.2.is)) h.2.belongs;
+    belongs = subst (RangeIs w.tokens q) (sym (same_range r h.2.range h.2.is)) h.2.belongs;
   }
   ordinal_form_of r (named.set_over q) f h = absurd (let bad : types.Ordinal r ≡ types.Set h.2.0 = h.2.1 in cc)
   ordinal_form_of r (named.component_of n) f h = absurd (let bad : types.Ordinal r ≡ types.Component h.2.kind _ = h.2.is in cc)
@@ -63,7 +63,7 @@ module _ (w : Written) where
   ordinal_form_of r (named.array_over q t) f h = absurd (let bad : types.Ordinal r ≡ types.Array h.2.token = h.2.is in cc)
   ordinal_form_of r (named.record_with ts) f h = absurd (let bad : types.Ordinal r ≡ types.Record h.2.token = h.2.is in cc)
 
-  pub ordinal_found : (r : Range) (o : Option Formed) → Expressed w (types.Ordinal r) o → OrdinalForm r o
+  pub ordinal_found : (r : Range) (o : Option Formed) → Expressed w (types.Ordinal r) o → OrdinalForm w.tokens r o
   ordinal_found r (Some x) h = ordinal_form_of r x.ty x.form h
   ordinal_found r None h = absurd (let bad : types.Ordinal r ≡ types.Array h.belongs.token = h.belongs.is in cc)
 

@@ -30,7 +30,7 @@ use Rattle.cp_meaning.specs.Scopes.{find}
 use Rattle.cp_meaning.specs.Lifting.{last_field}
 use Rattle.cp_resolved.specs.Layouts.{Here}
 use Rattle.cp_resolved.specs.Compiled.{Formed, Designated as FormDesignated, then_form, set_form, signed_form, added_forms, multiplied_forms, with_member_form, begun_form, expression_form, sum_form, terms_form, term_form, factors_form, factor_form, members_form, first_form, designator_form, selected_form, chosen_form}
-use Rattle.cp_resolved.specs.Typed.{Written, ScopesAgree, Expressed, HasForm, IsSmallExpression, IsSmallSum, AreSmallTerms, IsSmallTerm, AreSmallFactors, IsSmallFactor, AreSmallExpressions, AreSmallSelectors}
+use Rattle.cp_resolved.specs.Typed.{Tokens, Written, ScopesAgree, Expressed, HasForm, IsSmallExpression, IsSmallSum, AreSmallTerms, IsSmallTerm, AreSmallFactors, IsSmallFactor, AreSmallExpressions, AreSmallSelectors}
 use Rattle.cp_resolved.proofs.Typing.{OrdinalForm, ordinal_found, a_set, first_true, second_true}
 use Rattle.cp_resolved.proofs.TypingOperations.{HasPartForm, agreed_form, first_form as one_form, sign_form, negated_form, group_form, added_form, multiplied_form, related_form}
 use Rattle.cp_resolved.proofs.TypingNames.{written, HasDesignated, begun_typed, field_selected, index_selected, known_selected, last_or, last_same}
@@ -51,9 +51,9 @@ only : {A : Type 0} (o : Option A) → o ≡ then_form o (λ a. Some a)
 only None = refl
 only (Some a) = refl
 
-module _ (systems : ℕ → ℕ) (s : Scopes) (h : Here) (w : Context) (agrees : ScopesAgree systems s h) where
+module _ (tokens : Tokens) (s : Scopes) (h : Here) (w : Context) (agrees : ScopesAgree tokens s h) where
   abbrev W : Written
-  W = written systems s h
+  W = written tokens s h
 
   small_number : (n : ℕ) → n ≤ 32767 → is_within (range_of_base named.integers) (pos n) ≡ true
   small_number n m = search (arith, m)
@@ -71,7 +71,7 @@ module _ (systems : ℕ → ℕ) (s : Scopes) (h : Here) (w : Context) (agrees :
   AllMembers (Ok os) go = Members os go
   AllMembers (Err fs) go = Unit {0}
 
-  element_form : (v : ValueType) (b : check_base.Base) (f : Option Formed) → Expressed W v f → is_of b v ≡ true → (r : Range) × OrdinalForm r f
+  element_form : (v : ValueType) (b : check_base.Base) (f : Option Formed) → Expressed W v f → is_of b v ≡ true → (r : Range) × OrdinalForm tokens r f
   element_form (types.Ordinal r) b f e i = (r, ordinal_found W r f e)
   element_form types.Queue b f e i = absurd (cc)
   element_form (types.Set r) b f e i = absurd (cc)
@@ -91,7 +91,7 @@ module _ (systems : ℕ → ℕ) (s : Scopes) (h : Here) (w : Context) (agrees :
   members_before (Err fs) (Ok os) f go e k = tt
   members_before (Err fs) (Err gs) f go e k = tt
 
-  arguments_before : (j : Judged Operand) (k : Judged (List Operand)) (f : Option Formed) → HasForm W j f → AreArguments systems s h w (both j k >>= expressions.before) f
+  arguments_before : (j : Judged Operand) (k : Judged (List Operand)) (f : Option Formed) → HasForm W j f → AreArguments tokens s h w (both j k >>= expressions.before) f
   arguments_before (Ok o) (Ok os) f e = e
   arguments_before (Ok o) (Err fs) f e = tt
   arguments_before (Err fs) (Ok os) f e = tt
@@ -118,12 +118,12 @@ module _ (systems : ℕ → ℕ) (s : Scopes) (h : Here) (w : Context) (agrees :
   constructed_form at (Err fs) go k = tt
 
   designator_found : (i : Identifier) (ss : Selectors) →
-      HasDesignated systems s h i.name (find i.name h.scope) (last_or None ss) (selectors s w (names.begun s i) ss) (then_form (begun_form h i.name (find i.name h.scope)) (selected_form h ss)) →
-      HasDesignated systems s h i.name (find i.name h.scope) (last_field ss) (designator s w (name_with i ss)) (designator_form h (name_with i ss))
+      HasDesignated tokens s h i.name (find i.name h.scope) (last_or None ss) (selectors s w (names.begun s i) ss) (then_form (begun_form h i.name (find i.name h.scope)) (selected_form h ss)) →
+      HasDesignated tokens s h i.name (find i.name h.scope) (last_field ss) (designator s w (name_with i ss)) (designator_form h (name_with i ss))
   unfolding expression
   designator_found i ss f =
-      subst (λ (x : Option Name). HasDesignated systems s h i.name (find i.name h.scope) x (designator s w (name_with i ss)) (designator_form h (name_with i ss))) (last_same ss)
-      (known_selected systems s h agrees i.name (find i.name h.scope) i.at (last_or None ss) (selectors s w (names.begun s i) ss) _ f)
+      subst (λ (x : Option Name). HasDesignated tokens s h i.name (find i.name h.scope) x (designator s w (name_with i ss)) (designator_form h (name_with i ss))) (last_same ss)
+      (known_selected tokens s h agrees i.name (find i.name h.scope) i.at (last_or None ss) (selectors s w (names.begun s i) ss) _ f)
 
   -- ---- expressions
 
@@ -155,27 +155,27 @@ module _ (systems : ℕ → ℕ) (s : Scopes) (h : Here) (w : Context) (agrees :
         (factors_typed at fs m.1 _ _ (multiplied_form W at o j (factor s w false g) f (factor_form h g) i (factor_typed g m.0)))
 
     pub factor_typed : (f : Factor) → IsSmallFactor f → HasForm W (factor s w false f) (factor_form h f)
-    factor_typed (number at n) m = constant_typed systems s h w base.Integer named.integers (pos n) (pos n) refl (small_number n m)
-    factor_typed (character at c) m = constant_typed systems s h w base.Char named.characters (pos c) (pos c) refl (small_character c m)
+    factor_typed (number at n) m = constant_typed tokens s h w base.Integer named.integers (pos n) (pos n) refl (small_number n m)
+    factor_typed (character at c) m = constant_typed tokens s h w base.Char named.characters (pos c) (pos c) refl (small_character c m)
     factor_typed (factor_named at (name_with i ss) es) m =
-        name_typed systems s h w at i ss (designator s w (name_with i ss)) (arguments s w [] 0 es) (designator_form h (name_with i ss)) (first_form h es)
-        (designator_found i ss (selectors_typed i.name (find i.name h.scope) ss m.0 None (names.begun s i) (begun_form h i.name (find i.name h.scope)) (begun_typed systems s h agrees i)))
+        name_typed tokens s h w at i ss (designator s w (name_with i ss)) (arguments s w [] 0 es) (designator_form h (name_with i ss)) (first_form h es)
+        (designator_found i ss (selectors_typed i.name (find i.name h.scope) ss m.0 None (names.begun s i) (begun_form h i.name (find i.name h.scope)) (begun_typed tokens s h agrees i)))
         (arguments_typed 0 es m.1)
     factor_typed (group at e) m = group_form W at (expression s w false e) (expression_form h e) (expression_typed e m)
     factor_typed (negated at f) m = negated_form W at (factor s w false f) (factor_form h f) (factor_typed f m)
     factor_typed (set_of at es) m = constructed_form at (arguments s w [] 0 es) (members_form h es) (members_typed 0 es m)
 
-    selectors_typed : (x0 : Name) (mean : Option scopes.Meaning) (ss : Selectors) → AreSmallSelectors ss → (x : Option Name) (j : Judged check_designated.Designated) (o : Option FormDesignated) → HasDesignated systems s h x0 mean x j o →
-        HasDesignated systems s h x0 mean (last_or x ss) (selectors s w j ss) (then_form o (selected_form h ss))
-    selectors_typed x0 mean no_selectors m x j o i = subst (HasDesignated systems s h x0 mean x j) (only o) i
+    selectors_typed : (x0 : Name) (mean : Option scopes.Meaning) (ss : Selectors) → AreSmallSelectors ss → (x : Option Name) (j : Judged check_designated.Designated) (o : Option FormDesignated) → HasDesignated tokens s h x0 mean x j o →
+        HasDesignated tokens s h x0 mean (last_or x ss) (selectors s w j ss) (then_form o (selected_form h ss))
+    selectors_typed x0 mean no_selectors m x j o i = subst (HasDesignated tokens s h x0 mean x j) (only o) i
     selectors_typed x0 mean (more_selectors (field n) ss) m x j o i =
-        subst (HasDesignated systems s h x0 mean (last_or (Some n.name) ss) _) (chain o (chosen_form h (field n)) (selected_form h ss))
-        (selectors_typed x0 mean ss m.1 (Some n.name) _ _ (field_selected systems s h agrees x0 mean x n j o i))
+        subst (HasDesignated tokens s h x0 mean (last_or (Some n.name) ss) _) (chain o (chosen_form h (field n)) (selected_form h ss))
+        (selectors_typed x0 mean ss m.1 (Some n.name) _ _ (field_selected tokens s h agrees x0 mean x n j o i))
     selectors_typed x0 mean (more_selectors (index e) ss) m x j o i =
-        subst (HasDesignated systems s h x0 mean (last_or None ss) _) (chain o (chosen_form h (index e)) (selected_form h ss))
-        (selectors_typed x0 mean ss m.1 None _ _ (index_selected systems s h agrees x0 mean x j (expression s w false e) o (expression_form h e) i (expression_typed e m.0)))
+        subst (HasDesignated tokens s h x0 mean (last_or None ss) _) (chain o (chosen_form h (index e)) (selected_form h ss))
+        (selectors_typed x0 mean ss m.1 None _ _ (index_selected tokens s h agrees x0 mean x j (expression s w false e) o (expression_form h e) i (expression_typed e m.0)))
 
-    arguments_typed : (k : ℕ) (es : Expressions) → AreSmallExpressions es → AreArguments systems s h w (arguments s w [] k es) (first_form h es)
+    arguments_typed : (k : ℕ) (es : Expressions) → AreSmallExpressions es → AreArguments tokens s h w (arguments s w [] k es) (first_form h es)
     arguments_typed k no_expressions m = tt
     arguments_typed k (more_expressions e es) m = arguments_before (expression s w false e) (arguments s w [] (k + 1) es) (expression_form h e) (expression_typed e m.0)
 
@@ -184,5 +184,5 @@ module _ (systems : ℕ → ℕ) (s : Scopes) (h : Here) (w : Context) (agrees :
     members_typed k (more_expressions e es) m = members_before (expression s w false e) (arguments s w [] (k + 1) es) (expression_form h e) (members_form h es) (expression_typed e m.0) (members_typed (k + 1) es m.1)
 
   -- what a designator stands for
-  pub designator_typed : (i : Identifier) (ss : Selectors) → AreSmallSelectors ss → HasDesignated systems s h i.name (find i.name h.scope) (last_field ss) (designator s w (name_with i ss)) (designator_form h (name_with i ss))
-  designator_typed i ss m = designator_found i ss (selectors_typed i.name (find i.name h.scope) ss m None (names.begun s i) (begun_form h i.name (find i.name h.scope)) (begun_typed systems s h agrees i))
+  pub designator_typed : (i : Identifier) (ss : Selectors) → AreSmallSelectors ss → HasDesignated tokens s h i.name (find i.name h.scope) (last_field ss) (designator s w (name_with i ss)) (designator_form h (name_with i ss))
+  designator_typed i ss m = designator_found i ss (selectors_typed i.name (find i.name h.scope) ss m None (names.begun s i) (begun_form h i.name (find i.name h.scope)) (begun_typed tokens s h agrees i))

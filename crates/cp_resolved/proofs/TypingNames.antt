@@ -33,7 +33,7 @@ use Rattle.cp_resolved.specs.Layouts.{Here, cells_of, is_parameter}
 use Rattle.cp_resolved.specs.Encoded.{Chosen, field_chosen, further_chosen}
 use Rattle.cp_resolved.specs.Compiled.{as_ordinal, Formed, Designated, a_variable, some_components, a_component, then_form, component_begun, permanent_begun, begun_form, part_of_form, with_field_form, element_of_form, with_index_form}
 use Rattle.cp_meaning.specs.Systems.{system_of}
-use Rattle.cp_resolved.specs.Typed.{Written, ComponentIs, TypeIs, FieldsAre, is_plain, are_plain, MayStand, ResultIs, VariableIs, ConstantIs, RoutineIs, StandardIs, MeaningIs, ScopesAgree, Expressed, HasForm}
+use Rattle.cp_resolved.specs.Typed.{Tokens, Written, ComponentIs, TypeIs, FieldsAre, is_plain, are_plain, MayStand, HeadingIs, VariableIs, ConstantIs, RoutineIs, StandardIs, MeaningIs, ScopesAgree, Expressed, HasForm}
 use Rattle.cp_resolved.proofs.Typing.{formed, OrdinalForm, ordinal_found, first_true, second_true}
 
 -- ---- fields
@@ -94,25 +94,25 @@ IsComponentMeaning k o = ⊥
 abbrev pub Holds : Written → Option scopes.Meaning → Option Name → ValueType → Option Designated → Type 0
 Holds w m x v (Some (a_variable p t)) = TypeIs w t v × (is_plain t ≡ true) × IsPlainMeaning m
 Holds w m x v (Some (some_components first q k)) = TypeIs w (named.array_over q (named.component_of k)) v × IsComponentMeaning k m × (x ≡ None)
-Holds w m x v (Some (a_component c k)) = ComponentIs (w.systems k) v × IsComponentMeaning k m × (x ≡ None)
+Holds w m x v (Some (a_component c k)) = ComponentIs w k v × IsComponentMeaning k m × (x ≡ None)
 Holds w m x v None = ⊥
 
-module _ (systems : ℕ → ℕ) (s : Scopes) (h : Here) where
+module _ (tokens : Tokens) (s : Scopes) (h : Here) where
   abbrev pub written : Written
-  written = record { shapes = s.shapes; systems = systems }
+  written = record { shapes = s.shapes; tokens = tokens }
 
   -- the call of a routine, by the name that stands for it
   pub record IsCalled (n : ℕ) (i : Name) (m : Option scopes.Meaning) (x : Option Name) : Type 0 where
     pub is : is_call_meant m x ≡ true
-    pub result : ResultIs (heading_at n s).result (routine_meant h.program h.scope i m x)
+    pub heading : HeadingIs written (heading_at n s) (routine_meant h.program h.scope i m x)
 
   abbrev pub NamedIs : Name → Option scopes.Meaning → Option Name → Named → Option Designated → Type 0
   NamedIs i m x name.Nothing d = Unit {0}
-  NamedIs i m x (name.Constant b) d = (z : ℤ) × ConstantIs b z m
+  NamedIs i m x (name.Constant b) d = (z : ℤ) × ConstantIs tokens b z m
   NamedIs i m x (name.Variable v) d = Holds written m x v d
   NamedIs i m x (name.Parameter v) d = Holds written m x v d
   NamedIs i m x name.Kind d = Unit {0}
-  NamedIs i m x (name.Routine n) d = RoutineIs (heading_at n s).result i h.scope m
+  NamedIs i m x (name.Routine n) d = RoutineIs written (heading_at n s) i h.scope m
   NamedIs i m x (name.Entry n) d = IsCalled n i m x
   NamedIs i m x (name.Predeclared q) d = StandardIs q m
 
@@ -122,7 +122,7 @@ module _ (systems : ℕ → ℕ) (s : Scopes) (h : Here) where
 
   -- ---- a name alone
 
-  parameter_or_part : (x : Name) (k : ℕ) (v : ValueType) (m : Option scopes.Meaning) (b : Bool) → ComponentIs (systems k) v → IsComponentMeaning k m → Holds written m None v (Some (component_begun h x k b))
+  parameter_or_part : (x : Name) (k : ℕ) (v : ValueType) (m : Option scopes.Meaning) (b : Bool) → ComponentIs written k v → IsComponentMeaning k m → Holds written m None v (Some (component_begun h x k b))
   parameter_or_part x k v m true c i = (c, i, refl)
   parameter_or_part x k v m false c i = (c, i, refl)
 
@@ -162,7 +162,7 @@ module _ (systems : ℕ → ℕ) (s : Scopes) (h : Here) where
   found_holds at x (Some None) k = tt
   found_holds at x (Some (Some m)) k = meaning_holds x m (find x h.scope) (k m refl)
 
-  pub begun_typed : (agree : ScopesAgree systems s h) (i : Identifier) → HasDesignated i.name (find i.name h.scope) None (names.begun s i) (begun_form h i.name (find i.name h.scope))
+  pub begun_typed : (agree : ScopesAgree tokens s h) (i : Identifier) → HasDesignated i.name (find i.name h.scope) None (names.begun s i) (begun_form h i.name (find i.name h.scope))
   unfolding names.begun names.visible
   begun_typed agree i = found_holds i.at i.name (look i.name s) (λ m e. agree.names i.name m e)
 
@@ -188,20 +188,20 @@ module _ (systems : ℕ → ℕ) (s : Scopes) (h : Here) where
   record_field token named.queue_type v m y p i plain k e = absurd (let bad : types.Record token ≡ types.Queue = i in cc)
   record_field token (named.set_over q) v m y p i plain k e = absurd (let bad : types.Record token ≡ types.Set (Some i.range) = i.is in cc)
   record_field token (named.array_over q t) v m y p i plain k e = absurd (let bad : types.Record token ≡ types.Array i.token = i.is in cc)
-  record_field token (named.component_of n) v m y p i plain k e = absurd (let bad : types.Record token ≡ types.Component i.kind (systems n) = i.is in cc)
+  record_field token (named.component_of n) v m y p i plain k e = absurd (let bad : types.Record token ≡ types.Component i.kind (tokens.systems n) = i.is in cc)
 
   field_held : (token : ℕ) (v : ValueType) (m : Option scopes.Meaning) (x : Option Name) (y : Name) (o : Option Designated) → Holds written m x (types.Record token) o → field_at token y s ≡ Some (Some (meaning.Variable v)) → Holds written m (Some y) v (then_form o (λ c. with_field_form c y))
   field_held token v m x y (Some (a_variable p t)) i e = record_field token t v m y p i.0 i.1 i.2 e
   field_held token v m x y (Some (some_components first q k)) i e = absurd (let bad : types.Record token ≡ types.Array i.0.token = i.0.is in cc)
-  field_held token v m x y (Some (a_component c k)) i e = absurd (let bad : types.Record token ≡ types.Component i.0.kind (systems k) = i.0.is in cc)
+  field_held token v m x y (Some (a_component c k)) i e = absurd (let bad : types.Record token ≡ types.Component i.0.kind (tokens.systems k) = i.0.is in cc)
   field_held token v m x y None i e = absurd i
 
   component_token : (j k : SystemKind) (n l : ℕ) → types.Component j n ≡ types.Component k l → n ≡ l
   component_token j k n l h = cc
 
-  entry_of : (agree : ScopesAgree systems s h) (k r : ℕ) (t : Ty) (i y : Name) → OfSystem k t → member_at (systems k) y s ≡ Some (Some (meaning.Routine r)) → IsCalled r i (Some (scopes.permanent_variable t)) (Some y)
-  entry_of agree k r (named.component_of n) i y o e = record { is = refl; result = agree.entries n r y (subst (λ j. member_at (systems j) y s ≡ Some (Some (meaning.Routine r))) (sym o) e) }
-  entry_of agree k r (named.array_over q (named.component_of n)) i y o e = record { is = refl; result = agree.entries n r y (subst (λ j. member_at (systems j) y s ≡ Some (Some (meaning.Routine r))) (sym o) e) }
+  entry_of : (agree : ScopesAgree tokens s h) (k r : ℕ) (t : Ty) (i y : Name) → OfSystem k t → member_at (tokens.systems k) y s ≡ Some (Some (meaning.Routine r)) → IsCalled r i (Some (scopes.permanent_variable t)) (Some y)
+  entry_of agree k r (named.component_of n) i y o e = record { is = refl; heading = agree.entries n r y (subst (λ j. member_at (tokens.systems j) y s ≡ Some (Some (meaning.Routine r))) (sym o) e) }
+  entry_of agree k r (named.array_over q (named.component_of n)) i y o e = record { is = refl; heading = agree.entries n r y (subst (λ j. member_at (tokens.systems j) y s ≡ Some (Some (meaning.Routine r))) (sym o) e) }
   entry_of agree k r (named.array_over q (named.ordinal z)) i y o e = absurd o
   entry_of agree k r (named.array_over q named.queue_type) i y o e = absurd o
   entry_of agree k r (named.array_over q (named.set_over z)) i y o e = absurd o
@@ -212,7 +212,7 @@ module _ (systems : ℕ → ℕ) (s : Scopes) (h : Here) where
   entry_of agree k r (named.set_over q) i y o e = absurd o
   entry_of agree k r (named.record_with ts) i y o e = absurd o
 
-  entry_called : (agree : ScopesAgree systems s h) (k r : ℕ) (m : Option scopes.Meaning) (i y : Name) → IsComponentMeaning k m → member_at (systems k) y s ≡ Some (Some (meaning.Routine r)) → IsCalled r i m (Some y)
+  entry_called : (agree : ScopesAgree tokens s h) (k r : ℕ) (m : Option scopes.Meaning) (i y : Name) → IsComponentMeaning k m → member_at (tokens.systems k) y s ≡ Some (Some (meaning.Routine r)) → IsCalled r i m (Some y)
   entry_called agree k r (Some (scopes.permanent_variable t)) i y o e = entry_of agree k r t i y o e
   entry_called agree k r (Some (scopes.local_variable t)) i y o e = absurd o
   entry_called agree k r (Some (scopes.constant_meaning b z)) i y o e = absurd o
@@ -229,11 +229,11 @@ module _ (systems : ℕ → ℕ) (s : Scopes) (h : Here) where
   component_of_plain j token (named.array_over q t) i p = absurd (let bad : types.Component j token ≡ types.Array i.token = i.is in cc)
   component_of_plain j token (named.record_with ts) i p = absurd (let bad : types.Component j token ≡ types.Record i.token = i.is in cc)
 
-  entry_held : (agree : ScopesAgree systems s h) (j : SystemKind) (token r : ℕ) (m : Option scopes.Meaning) (x : Option Name) (i y : Name) (o : Option Designated) → Holds written m x (types.Component j token) o → member_at token y s ≡ Some (Some (meaning.Routine r)) → IsCalled r i m (Some y)
+  entry_held : (agree : ScopesAgree tokens s h) (j : SystemKind) (token r : ℕ) (m : Option scopes.Meaning) (x : Option Name) (i y : Name) (o : Option Designated) → Holds written m x (types.Component j token) o → member_at token y s ≡ Some (Some (meaning.Routine r)) → IsCalled r i m (Some y)
   entry_held agree j token r m x i y (Some (a_variable p t)) e g = absurd (component_of_plain j token t e.0 e.1)
   entry_held agree j token r m x i y (Some (some_components first q k)) e g = absurd (let bad : types.Component j token ≡ types.Array e.0.token = e.0.is in cc)
   entry_held agree j token r m x i y (Some (a_component c k)) e g =
-      entry_called agree k r m i y e.1 (subst (λ n. member_at n y s ≡ Some (Some (meaning.Routine r))) (component_token j e.0.kind token (systems k) e.0.is) g)
+      entry_called agree k r m i y e.1 (subst (λ n. member_at n y s ≡ Some (Some (meaning.Routine r))) (component_token j e.0.kind token (tokens.systems k) e.0.is) g)
   entry_held agree j token r m x i y None e g = absurd e
 
   -- ---- elements
@@ -253,13 +253,13 @@ module _ (systems : ℕ → ℕ) (s : Scopes) (h : Here) where
   array_element token named.queue_type a m p c i plain k e = absurd (let bad : types.Array token ≡ types.Queue = i in cc)
   array_element token (named.set_over q) a m p c i plain k e = absurd (let bad : types.Array token ≡ types.Set (Some i.range) = i.is in cc)
   array_element token (named.record_with ts) a m p c i plain k e = absurd (let bad : types.Array token ≡ types.Record i.token = i.is in cc)
-  array_element token (named.component_of n) a m p c i plain k e = absurd (let bad : types.Array token ≡ types.Component i.kind (systems n) = i.is in cc)
+  array_element token (named.component_of n) a m p c i plain k e = absurd (let bad : types.Array token ≡ types.Component i.kind (tokens.systems n) = i.is in cc)
 
-  component_element : (token k : ℕ) (q : named.Range) (a : ArrayShape) → TypeIs written (named.array_over q (named.component_of k)) (types.Array token) → array_at token s ≡ Some a → ComponentIs (systems k) a.element
+  component_element : (token k : ℕ) (q : named.Range) (a : ArrayShape) → TypeIs written (named.array_over q (named.component_of k)) (types.Array token) → array_at token s ≡ Some a → ComponentIs written k a.element
   component_element token k q a i e =
       let same : token ≡ i.token = array_token token i.token i.is in
       let shape : i.shape ≡ a = one_shape i.shape a (sym i.there ∙ (ap (λ n. array_at n s) (sym same) ∙ e)) in
-      subst (λ (b : ArrayShape). ComponentIs (systems k) b.element) shape i.belongs
+      subst (λ (b : ArrayShape). ComponentIs written k b.element) shape i.belongs
     where
       array_token : (n k : ℕ) → types.Array n ≡ types.Array k → n ≡ k
       array_token n k h = cc
@@ -270,12 +270,12 @@ module _ (systems : ℕ → ℕ) (s : Scopes) (h : Here) where
   element_held : (token : ℕ) (a : ArrayShape) (m : Option scopes.Meaning) (x : Option Name) (o : Option Designated) (q : named.Range) (c : code.Expression) → Holds written m x (types.Array token) o → array_at token s ≡ Some a → Holds written m None a.element (then_form o (λ d. with_index_form h d (formed (named.ordinal q) (as_ordinal c))))
   element_held token a m x (Some (a_variable p t)) q c i e = array_element token t a m p c i.0 i.1 i.2 e
   element_held token a m x (Some (some_components first r k)) q c i e = (component_element token k r a i.0 e, i.1, refl)
-  element_held token a m x (Some (a_component d k)) q c i e = absurd (let bad : types.Array token ≡ types.Component i.0.kind (systems k) = i.0.is in cc)
+  element_held token a m x (Some (a_component d k)) q c i e = absurd (let bad : types.Array token ≡ types.Component i.0.kind (tokens.systems k) = i.0.is in cc)
   element_held token a m x None q c i e = absurd i
 
   -- ---- a selector
 
-  module _ (agrees : ScopesAgree systems s h) (x0 : Name) (m : Option scopes.Meaning) where
+  module _ (agrees : ScopesAgree tokens s h) (x0 : Name) (m : Option scopes.Meaning) where
     with_field_typed : (at a : ℕ) (u : Use) (n : Named) (y : Name) (O : Option Designated) (q : Option (Option Meaning)) → ((v : ValueType) → q ≡ Some (Some (meaning.Variable v)) → NamedIs x0 m (Some y) (names.part_of n v) O) → HasDesignated x0 m (Some y) (names.with_field at (names.designated a u n) q) O
     with_field_typed at a u n y O (Some (Some (meaning.Variable v))) k = k v refl
     with_field_typed at a u n y O None k = tt
@@ -327,8 +327,8 @@ module _ (systems : ℕ → ℕ) (s : Scopes) (h : Here) where
 
     -- ---- an index
 
-    index_ordinal : (r : Range) (v : ValueType) (f : Option Formed) → agree (types.Ordinal r) v ≡ true → Expressed written v f → (q : named.Range) × (c : code.Expression) × (f ≡ Some (formed (named.ordinal q) (as_ordinal c)))
-    index_ordinal r (types.Ordinal y) f e d = (let g : OrdinalForm y f = ordinal_found written y f d in (g.range, g.code, g.is))
+    pub index_ordinal : (r : Range) (v : ValueType) (f : Option Formed) → agree (types.Ordinal r) v ≡ true → Expressed written v f → (q : named.Range) × (c : code.Expression) × (f ≡ Some (formed (named.ordinal q) (as_ordinal c)))
+    index_ordinal r (types.Ordinal y) f e d = (let g : OrdinalForm tokens y f = ordinal_found written y f d in (g.range, g.code, g.is))
     index_ordinal r types.Queue f e d = absurd (cc)
     index_ordinal r (types.Set y) f e d = absurd (cc)
     index_ordinal r (types.Array y) f e d = absurd (cc)

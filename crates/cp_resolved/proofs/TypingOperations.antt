@@ -49,8 +49,8 @@ pub record BaseForm (Is : named.Base → Type 0) (o : Option Formed) : Type 0 wh
 module _ (w : Written) where
   pub integer_found : (v : ValueType) (o : Option Formed) → Expressed w v o → is_of base.Integer v ≡ true → BaseForm (λ b. is_integer_base b ≡ true) o
   integer_found (types.Ordinal r) o h e =
-      let f : OrdinalForm r o = ordinal_found w r o h in
-      record { range = f.range; code = f.code; is = f.is; belongs = integer_base f.range.base r.base f.belongs.base e }
+      let f : OrdinalForm w.tokens r o = ordinal_found w r o h in
+      record { range = f.range; code = f.code; is = f.is; belongs = integer_base w.tokens f.range.base r.base f.belongs.base e }
   integer_found types.Queue o h e = absurd (cc)
   integer_found (types.Set s) o h e = absurd (cc)
   integer_found (types.Array n) o h e = absurd (cc)
@@ -59,8 +59,8 @@ module _ (w : Written) where
 
   pub boolean_found : (v : ValueType) (o : Option Formed) → Expressed w v o → is_of base.Boolean v ≡ true → BaseForm (λ b. is_boolean_base b ≡ true) o
   boolean_found (types.Ordinal r) o h e =
-      let f : OrdinalForm r o = ordinal_found w r o h in
-      record { range = f.range; code = f.code; is = f.is; belongs = boolean_base f.range.base r.base f.belongs.base e }
+      let f : OrdinalForm w.tokens r o = ordinal_found w r o h in
+      record { range = f.range; code = f.code; is = f.is; belongs = boolean_base w.tokens f.range.base r.base f.belongs.base e }
   boolean_found types.Queue o h e = absurd (cc)
   boolean_found (types.Set s) o h e = absurd (cc)
   boolean_found (types.Array n) o h e = absurd (cc)

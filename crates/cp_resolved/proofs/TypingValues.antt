@@ -36,46 +36,46 @@ use Rattle.cp_meaning.specs.Expressions.{routine_meant, result_called}
 use Rattle.cp_meaning.specs.Places.{result_type}
 use Rattle.cp_resolved.specs.Layouts.{Here}
 use Rattle.cp_resolved.specs.Compiled.{as_ordinal, as_place, Formed, Designated, a_variable, some_components, a_component, then_form, integer_form, applied_ordinal, applied_form, constant_form, call_form, named_form, valued_form, loaded_form}
-use Rattle.cp_resolved.specs.Typed.{Written, BaseIs, RangeIs, TypeIs, is_plain, IsOrdinalResult, ResultIs, ConstantIs, RoutineIs, StandardIs, predeclared_of, FormIs, Expressed, HasForm}
+use Rattle.cp_resolved.specs.Typed.{Tokens, Written, BaseIs, RangeIs, TypeIs, is_plain, IsOrdinalResult, ResultIs, HeadingIs, ConstantIs, RoutineIs, StandardIs, predeclared_of, FormIs, Expressed, HasForm}
 use Rattle.cp_resolved.proofs.Typing.{formed, OrdinalForm, QueueForm, ordinal_found, queue_found, an_integer, a_truth, a_character, then_one}
 use Rattle.cp_resolved.proofs.TypingOperations.{integer_found, ok_if}
 use Rattle.cp_resolved.proofs.TypingNames.{IsPlainMeaning, IsComponentMeaning, Holds, written, IsCalled, NamedIs, HasDesignated}
 
 -- ---- the values of a base
 
-pub whole_is : (c : named.Base) (b : check_base.Base) → BaseIs c b → RangeIs (range_of_base c) (whole b)
-whole_is named.integers b h = subst (λ (x : check_base.Base). RangeIs (range_of_base named.integers) (whole x)) (sym h) (record { base = refl; low = refl; high = refl })
-whole_is named.booleans b h = subst (λ (x : check_base.Base). RangeIs (range_of_base named.booleans) (whole x)) (sym h) (record { base = refl; low = refl; high = refl })
-whole_is named.characters b h = subst (λ (x : check_base.Base). RangeIs (range_of_base named.characters) (whole x)) (sym h) (record { base = refl; low = refl; high = refl })
-whole_is (named.enumerated at xs) b h = subst (λ (x : check_base.Base). RangeIs (range_of_base (named.enumerated at xs)) (whole x)) (sym h.0) (record { base = (refl, h.1); low = refl; high = refl })
+pub whole_is : (k : Tokens) (c : named.Base) (b : check_base.Base) → BaseIs k c b → RangeIs k (range_of_base c) (whole b)
+whole_is k named.integers b h = subst (λ (x : check_base.Base). RangeIs k (range_of_base named.integers) (whole x)) (sym h) (record { base = refl; low = refl; high = refl })
+whole_is k named.booleans b h = subst (λ (x : check_base.Base). RangeIs k (range_of_base named.booleans) (whole x)) (sym h) (record { base = refl; low = refl; high = refl })
+whole_is k named.characters b h = subst (λ (x : check_base.Base). RangeIs k (range_of_base named.characters) (whole x)) (sym h) (record { base = refl; low = refl; high = refl })
+whole_is k (named.enumerated at xs) b h = subst (λ (x : check_base.Base). RangeIs k (range_of_base (named.enumerated at xs)) (whole x)) (sym h.0) (record { base = (refl, h.1, h.2); low = refl; high = refl })
 
 -- integers hold the last value of a base
-pub last_number : (c : named.Base) (b : check_base.Base) → BaseIs c b → is_within all_integers (range_of_base c).high ≡ true
-last_number named.integers b h = refl
-last_number named.booleans b h = refl
-last_number named.characters b h = refl
-last_number (named.enumerated at xs) b h = few (length xs - 1) (omega (arith, h.1))
+pub last_number : (k : Tokens) (c : named.Base) (b : check_base.Base) → BaseIs k c b → is_within all_integers (range_of_base c).high ≡ true
+last_number k named.integers b h = refl
+last_number k named.booleans b h = refl
+last_number k named.characters b h = refl
+last_number k (named.enumerated at xs) b h = few (length xs - 1) (omega (arith, h.1))
   where
     few : (n : ℕ) → n ≤ 32767 → is_within all_integers (pos n) ≡ true
     few n h = search (arith, h)
 
-module _ (systems : ℕ → ℕ) (s : Scopes) (h : Here) (w : Context) where
-  base_value : (c : named.Base) (b : check_base.Base) (e : code.Expression) → BaseIs c b → Expressed (written systems s h) (values_of b) (Some (formed (named.ordinal (range_of_base c)) (as_ordinal e)))
-  base_value c b e i = (e, refl, record { range = whole b; is = refl; belongs = whole_is c b i })
+module _ (tokens : Tokens) (s : Scopes) (h : Here) (w : Context) where
+  base_value : (c : named.Base) (b : check_base.Base) (e : code.Expression) → BaseIs tokens c b → Expressed (written tokens s h) (values_of b) (Some (formed (named.ordinal (range_of_base c)) (as_ordinal e)))
+  base_value c b e i = (e, refl, record { range = whole b; is = refl; belongs = whole_is tokens c b i })
 
   -- ---- constants
 
-  pub constant_typed : (b : check_base.Base) (c : named.Base) (z y : ℤ) → BaseIs c b → is_within (range_of_base c) y ≡ true → Expressed (written systems s h) (values_of b) (constant_form c y)
+  pub constant_typed : (b : check_base.Base) (c : named.Base) (z y : ℤ) → BaseIs tokens c b → is_within (range_of_base c) y ≡ true → Expressed (written tokens s h) (values_of b) (constant_form c y)
   constant_typed b c z y i e =
-      subst (λ (t : Bool). Expressed (written systems s h) (values_of b) (if t then Some (formed (named.ordinal (range_of_base c)) (as_ordinal (code.number y))) else None)) (sym e) (base_value c b (code.number y) i)
+      subst (λ (t : Bool). Expressed (written tokens s h) (values_of b) (if t then Some (formed (named.ordinal (range_of_base c)) (as_ordinal (code.number y))) else None)) (sym e) (base_value c b (code.number y) i)
 
-  alone_typed : (o : Operand) (os : List Operand) (f : Option Formed) → Expressed (written systems s h) o.value_type f → HasForm (written systems s h) (calls.alone o os) f
+  alone_typed : (o : Operand) (os : List Operand) (f : Option Formed) → Expressed (written tokens s h) o.value_type f → HasForm (written tokens s h) (calls.alone o os) f
   alone_typed o [] f e = e
   alone_typed o (p ∷ os) f e = tt
 
   -- ---- variables
 
-  loaded_typed : (p : code.Place) (t : Ty) (v : ValueType) → TypeIs (written systems s h) t v → is_plain t ≡ true → FormIs (written systems s h) v t (loaded_form p t)
+  loaded_typed : (p : code.Place) (t : Ty) (v : ValueType) → TypeIs (written tokens s h) t v → is_plain t ≡ true → FormIs (written tokens s h) v t (loaded_form p t)
   loaded_typed p (named.ordinal q) v i e = (code.load p, refl, i)
   loaded_typed p named.queue_type v i e = (p, refl, i)
   loaded_typed p (named.set_over q) v i e = (code.load_set p, refl, (Some i.range, i.is))
@@ -83,14 +83,14 @@ module _ (systems : ℕ → ℕ) (s : Scopes) (h : Here) (w : Context) where
   loaded_typed p (named.record_with ts) v i e = (p, refl, i)
   loaded_typed p (named.component_of n) v i e = absurd (cc)
 
-  held_typed : (m : Option scopes.Meaning) (x : Option Name) (v : ValueType) (o : Option Designated) → Holds (written systems s h) m x v o → Expressed (written systems s h) v (then_form o valued_form)
+  held_typed : (m : Option scopes.Meaning) (x : Option Name) (v : ValueType) (o : Option Designated) → Holds (written tokens s h) m x v o → Expressed (written tokens s h) v (then_form o valued_form)
   held_typed m x v (Some (a_variable p t)) i = loaded_typed p t v i.0 i.1
   held_typed m x v (Some (some_components first q k)) i = record { range = q; system = k; belongs = i.0 }
   held_typed m x v (Some (a_component c k)) i = (c, refl, i.0)
   held_typed m x v None i = absurd i
 
   -- the name of a variable is no call, and no constant or standard function
-  record IsValue (m : Option scopes.Meaning) (x : Option Name) : Type 0 where
+  pub record IsValue (m : Option scopes.Meaning) (x : Option Name) : Type 0 where
     pub call : is_call_meant m x ≡ false
     pub value : (at : ℕ) (d : Designator) (o : Option Designated) (f : Option Formed) → named_form h at d false m o f ≡ then_form o valued_form
 
@@ -113,21 +113,21 @@ module _ (systems : ℕ → ℕ) (s : Scopes) (h : Here) (w : Context) where
   component_value k (Some (scopes.standard_meaning f)) x i e = absurd i
   component_value k None x i e = absurd i
 
-  held_value : (m : Option scopes.Meaning) (x : Option Name) (v : ValueType) (o : Option Designated) → Holds (written systems s h) m x v o → IsValue m x
+  pub held_value : (m : Option scopes.Meaning) (x : Option Name) (v : ValueType) (o : Option Designated) → Holds (written tokens s h) m x v o → IsValue m x
   held_value m x v (Some (a_variable p t)) i = plain_value m x i.2
   held_value m x v (Some (some_components first q k)) i = component_value k m x i.1 i.2
   held_value m x v (Some (a_component c k)) i = component_value k m x i.1 i.2
   held_value m x v None i = absurd i
 
-  variable_typed : (at : ℕ) (d : Designator) (m : Option scopes.Meaning) (x : Option Name) (v : ValueType) (o : Option Designated) (f : Option Formed) → Holds (written systems s h) m x v o → Expressed (written systems s h) v (named_form h at d (is_call_meant m x) m o f)
+  variable_typed : (at : ℕ) (d : Designator) (m : Option scopes.Meaning) (x : Option Name) (v : ValueType) (o : Option Designated) (f : Option Formed) → Holds (written tokens s h) m x v o → Expressed (written tokens s h) v (named_form h at d (is_call_meant m x) m o f)
   variable_typed at d m x v o f i =
       let is : IsValue m x = held_value m x v o i in
-      subst (λ (b : Bool). Expressed (written systems s h) v (named_form h at d b m o f)) (sym is.call)
-      (subst (Expressed (written systems s h) v) (sym (is.value at d o f)) (held_typed m x v o i))
+      subst (λ (b : Bool). Expressed (written tokens s h) v (named_form h at d b m o f)) (sym is.call)
+      (subst (Expressed (written tokens s h) v) (sym (is.value at d o f)) (held_typed m x v o i))
 
   -- ---- calls
 
-  result_typed : (at : ℕ) (v : ValueType) (j : Judged Use) (o : Option Ty) → IsOrdinalResult v o → HasForm (written systems s h) (j >>= calls.with_result at v) (call_form h at (result_type o))
+  result_typed : (at : ℕ) (v : ValueType) (j : Judged Use) (o : Option Ty) → IsOrdinalResult tokens v o → HasForm (written tokens s h) (j >>= calls.with_result at v) (call_form h at (result_type o))
   result_typed at v (Err fs) o i = tt
   result_typed at v (Ok n) (Some (named.ordinal q)) i = (_, refl, i)
   result_typed at v (Ok n) (Some named.queue_type) i = absurd i
@@ -137,23 +137,24 @@ module _ (systems : ℕ → ℕ) (s : Scopes) (h : Here) (w : Context) where
   result_typed at v (Ok n) (Some (named.component_of k)) i = absurd i
   result_typed at v (Ok n) None i = absurd i
 
-  function_typed : (at name_at : ℕ) (b : Bool) (n : ℕ) (os : List Operand) (u : Use) (v : Option ValueType) (r : Option RoutineMeaning) → ResultIs v r → HasForm (written systems s h) (calls.function_of s w at name_at b n os u v) (call_form h at (result_called r))
+  function_typed : (at name_at : ℕ) (b : Bool) (n : ℕ) (os : List Operand) (u : Use) (v : Option ValueType) (r : Option RoutineMeaning) → ResultIs tokens v r → HasForm (written tokens s h) (calls.function_of s w at name_at b n os u v) (call_form h at (result_called r))
   function_typed at name_at b n os u None r i = tt
   function_typed at name_at b n os u (Some v) (Some r) i = result_typed at v (calls.called s w at name_at b n os u) r.result i
   function_typed at name_at b n os u (Some v) None i = absurd i
 
-  pub call_typed : (at name_at : ℕ) (b : Bool) (n : ℕ) (os : List Operand) (u : Use) (r : Option RoutineMeaning) → ResultIs (heading_at n s).result r → HasForm (written systems s h) (calls.function_value s w at name_at b n os u) (call_form h at (result_called r))
+  pub call_typed : (at name_at : ℕ) (b : Bool) (n : ℕ) (os : List Operand) (u : Use) (r : Option RoutineMeaning) → HeadingIs (written tokens s h) (heading_at n s) r → HasForm (written tokens s h) (calls.function_value s w at name_at b n os u) (call_form h at (result_called r))
   unfolding calls.function_value
-  call_typed at name_at b n os u r i = function_typed at name_at b n os u (heading_at n s).result r i
+  call_typed at name_at b n os u (Some r) i = function_typed at name_at b n os u (heading_at n s).result (Some r) i.0
+  call_typed at name_at b n os u None i = absurd i
 
   -- ---- standard functions
 
   abbrev W : Written
-  W = written systems s h
+  W = written tokens s h
 
   stepped_next : (at : ℕ) (v : ValueType) (u : Use) (f : Option Formed) → Expressed W v f → HasForm W (operations.stepped at v u) (then_form f (applied_form scopes.succ_function))
   stepped_next at (types.Ordinal r) u f e =
-      let g : OrdinalForm r f = ordinal_found W r f e in
+      let g : OrdinalForm tokens r f = ordinal_found W r f e in
       then_one (Expressed W (values_of r.base)) (applied_form scopes.succ_function) f (formed (named.ordinal g.range) (as_ordinal g.code)) g.is (base_value g.range.base r.base _ g.belongs.base)
   stepped_next at types.Queue u f e = tt
   stepped_next at (types.Set r) u f e = tt
@@ -163,7 +164,7 @@ module _ (systems : ℕ → ℕ) (s : Scopes) (h : Here) (w : Context) where
 
   stepped_back : (at : ℕ) (v : ValueType) (u : Use) (f : Option Formed) → Expressed W v f → HasForm W (operations.stepped at v u) (then_form f (applied_form scopes.pred_function))
   stepped_back at (types.Ordinal r) u f e =
-      let g : OrdinalForm r f = ordinal_found W r f e in
+      let g : OrdinalForm tokens r f = ordinal_found W r f e in
       then_one (Expressed W (values_of r.base)) (applied_form scopes.pred_function) f (formed (named.ordinal g.range) (as_ordinal g.code)) g.is (base_value g.range.base r.base _ g.belongs.base)
   stepped_back at types.Queue u f e = tt
   stepped_back at (types.Set r) u f e = tt
@@ -173,9 +174,9 @@ module _ (systems : ℕ → ℕ) (s : Scopes) (h : Here) (w : Context) where
 
   numbered_typed : (at : ℕ) (v : ValueType) (u : Use) (f : Option Formed) → Expressed W v f → HasForm W (operations.numbered at v u) (then_form f (applied_form scopes.ord_function))
   numbered_typed at (types.Ordinal r) u f e =
-      let g : OrdinalForm r f = ordinal_found W r f e in
+      let g : OrdinalForm tokens r f = ordinal_found W r f e in
       then_one (Expressed W (values_of base.Integer)) (applied_form scopes.ord_function) f (formed (named.ordinal g.range) (as_ordinal g.code)) g.is
-      (subst (λ (b : Bool). Expressed W (values_of base.Integer) (if b then integer_form g.code else None)) (sym (last_number g.range.base r.base g.belongs.base)) (an_integer W g.code))
+      (subst (λ (b : Bool). Expressed W (values_of base.Integer) (if b then integer_form g.code else None)) (sym (last_number tokens g.range.base r.base g.belongs.base)) (an_integer W g.code))
   numbered_typed at types.Queue u f e = tt
   numbered_typed at (types.Set r) u f e = tt
   numbered_typed at (types.Array n) u f e = tt
@@ -242,7 +243,7 @@ module _ (systems : ℕ → ℕ) (s : Scopes) (h : Here) (w : Context) where
   standard_typed at d p os u (Some (scopes.routine_meaning r)) x o f i e = absurd i
   standard_typed at d p os u None x o f i e = absurd i
 
-  number_typed : (at : ℕ) (d : Designator) (b : check_base.Base) (z : ℤ) (m : Option scopes.Meaning) (x : Option Name) (o : Option Designated) (f : Option Formed) → ConstantIs b z m → Expressed W (values_of b) (named_form h at d (is_call_meant m x) m o f)
+  number_typed : (at : ℕ) (d : Designator) (b : check_base.Base) (z : ℤ) (m : Option scopes.Meaning) (x : Option Name) (o : Option Designated) (f : Option Formed) → ConstantIs tokens b z m → Expressed W (values_of b) (named_form h at d (is_call_meant m x) m o f)
   number_typed at d b z (Some (scopes.constant_meaning c y)) x o f i = constant_typed b c z y i.0 i.2
   number_typed at d b z (Some (scopes.standard_meaning q)) x o f i = absurd i
   number_typed at d b z (Some (scopes.type_meaning t)) x o f i = absurd i
@@ -252,8 +253,8 @@ module _ (systems : ℕ → ℕ) (s : Scopes) (h : Here) (w : Context) where
   number_typed at d b z None x o f i = absurd i
 
   -- a routine's own name, with the selectors after it
-  own_called : (i : Name) (n : ℕ) (m : Option scopes.Meaning) (x : Option Name) → RoutineIs (heading_at n s).result i h.scope m → IsCalled systems s h n i m x
-  own_called i n (Some (scopes.routine_meaning r)) x e = record { is = refl; result = e }
+  own_called : (i : Name) (n : ℕ) (m : Option scopes.Meaning) (x : Option Name) → RoutineIs (written tokens s h) (heading_at n s) i h.scope m → IsCalled tokens s h n i m x
+  own_called i n (Some (scopes.routine_meaning r)) x e = record { is = refl; heading = e }
   own_called i n (Some (scopes.constant_meaning b z)) x e = absurd e
   own_called i n (Some (scopes.standard_meaning q)) x e = absurd e
   own_called i n (Some (scopes.type_meaning t)) x e = absurd e
@@ -261,14 +262,14 @@ module _ (systems : ℕ → ℕ) (s : Scopes) (h : Here) (w : Context) where
   own_called i n (Some (scopes.permanent_variable t)) x e = absurd e
   own_called i n None x e = absurd e
 
-  called_typed : (at name_at : ℕ) (b : Bool) (i : Identifier) (ss : Selectors) (n : ℕ) (os : List Operand) (u : Use) (o : Option Designated) (f : Option Formed) → IsCalled systems s h n i.name (find i.name h.scope) (last_field ss) →
+  called_typed : (at name_at : ℕ) (b : Bool) (i : Identifier) (ss : Selectors) (n : ℕ) (os : List Operand) (u : Use) (o : Option Designated) (f : Option Formed) → IsCalled tokens s h n i.name (find i.name h.scope) (last_field ss) →
       HasForm W (calls.function_value s w at name_at b n os u) (named_form h at (designator i ss) (is_call_meant (find i.name h.scope) (last_field ss)) (find i.name h.scope) o f)
   called_typed at name_at b i ss n os u o f c =
       subst (λ (t : Bool). HasForm W (calls.function_value s w at name_at b n os u) (named_form h at (designator i ss) t (find i.name h.scope) o f)) (sym c.is)
-      (call_typed at name_at b n os u (routine_meant h.program h.scope i.name (find i.name h.scope) (last_field ss)) c.result)
+      (call_typed at name_at b n os u (routine_meant h.program h.scope i.name (find i.name h.scope) (last_field ss)) c.heading)
 
   value_typed : (at : ℕ) (i : Identifier) (ss : Selectors) (d : check_designated.Designated) (n : Named) (os : List Operand) (o : Option Designated) (f : Option Formed) →
-      NamedIs systems s h i.name (find i.name h.scope) (last_field ss) n o → ArgumentIs os f →
+      NamedIs tokens s h i.name (find i.name h.scope) (last_field ss) n o → ArgumentIs os f →
       HasForm W (calls.value_named s w at d os n) (named_form h at (designator i ss) (is_call_meant (find i.name h.scope) (last_field ss)) (find i.name h.scope) o f)
   value_typed at i ss d name.Nothing os o f e a = tt
   value_typed at i ss d name.Kind os o f e a = tt
@@ -287,7 +288,7 @@ module _ (systems : ℕ → ℕ) (s : Scopes) (h : Here) (w : Context) where
   AreArguments (Err fs) f = Unit {0}
 
   pub name_typed : (at : ℕ) (i : Identifier) (ss : Selectors) (j : Judged check_designated.Designated) (k : Judged (List Operand)) (o : Option Designated) (f : Option Formed) →
-      HasDesignated systems s h i.name (find i.name h.scope) (last_field ss) j o → AreArguments k f →
+      HasDesignated tokens s h i.name (find i.name h.scope) (last_field ss) j o → AreArguments k f →
       HasForm W (both j k >>= calls.value_of s w at) (named_form h at (designator i ss) (is_call_meant (find i.name h.scope) (last_field ss)) (find i.name h.scope) o f)
   unfolding calls.value_of
   name_typed at i ss (Ok d) (Ok os) o f e a = value_typed at i ss d d.named os o f e a

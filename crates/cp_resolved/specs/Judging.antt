@@ -17,14 +17,15 @@ use Rattle.cp_lawful.specs.Accepted.{IsAccepted}
 use Rattle.cp_meaning.specs.Names.{Name}
 use Rattle.cp_meaning.specs.Scopes.{find}
 use Rattle.cp_meaning.specs.Systems.{system_of}
+use Rattle.cp_resolved.specs.Enumerations.{enumerations_of}
 use Rattle.cp_resolved.specs.Layouts.{Layouts}
 use Rattle.cp_resolved.specs.Limited.{AreLimited}
 use Rattle.cp_resolved.specs.Openings.{Opening, openings_of}
 use Rattle.cp_resolved.specs.Read.{IsRead}
 use Rattle.cp_resolved.specs.Small.{Each}
 use Rattle.cp_resolved.specs.Standing.{IsFit, IsFreeVariable, IsStandingVariable, IsFreeParameter, IsStandingParameter, IsFreeResult}
-use Rattle.cp_resolved.specs.Tokens.{token_of_type}
-use Rattle.cp_resolved.specs.Typed.{ScopesAgree}
+use Rattle.cp_resolved.specs.Tokens.{token_of_type, constants_among}
+use Rattle.cp_resolved.specs.Typed.{Tokens, ScopesAgree}
 
 pub record Place : Type 0 where
   pub scopes : Scopes
@@ -80,7 +81,7 @@ places_of p =
 -- ---- the law
 
 -- The checker's scopes at a place agree with the scope of what is opened there, where each system type is written at a token; and its statements break no rule.
-pub record IsAgreed (tokens : ℕ → ℕ) (p : Program) (x : Place) (o : Opening) : Type 0 where
+pub record IsAgreed (tokens : Tokens) (p : Program) (x : Place) (o : Opening) : Type 0 where
   pub scopes : (l : Layouts) (k n : ℕ) → ScopesAgree tokens x.scopes (record { program = p; layouts = l; system = k; routine = n; scope = o.meaning.scope })
   pub sound : faults (statements x.scopes x.context (Ok no_use) o.meaning.body) ≡ []
   -- each visible name stands for something
@@ -93,15 +94,18 @@ pub record IsAgreed (tokens : ℕ → ℕ) (p : Program) (x : Place) (o : Openin
   pub parameters : Each IsFreeParameter o.meaning.parameters
   pub result : IsFreeResult o.meaning.result
 
-abbrev pub AreAgreed : (ℕ → ℕ) → Program → List Place → List Opening → Type 0
+abbrev pub AreAgreed : Tokens → Program → List Place → List Opening → Type 0
 AreAgreed tokens p [] [] = Unit {0}
 AreAgreed tokens p (x ∷ xs) (o ∷ os) = IsAgreed tokens p x o × AreAgreed tokens p xs os
 AreAgreed tokens p [] (o ∷ os) = ⊥
 AreAgreed tokens p (x ∷ xs) [] = ⊥
 
+abbrev pub tokens_of : Program → Tokens
+tokens_of p = record { systems = token_of_type p; constants = λ at. constants_among at (enumerations_of p) }
+
 -- at all places, and the types of permanent variables
 pub record ScopesAre (p : Program) : Type 0 where
-  pub places : AreAgreed (token_of_type p) p (places_of p) (openings_of p)
+  pub places : AreAgreed (tokens_of p) p (places_of p) (openings_of p)
   pub variables : (k : ℕ) → Each IsStandingVariable (system_of p k).variables
   pub parameters : (k : ℕ) → Each IsStandingParameter (system_of p k).parameters
 

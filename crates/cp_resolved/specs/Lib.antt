@@ -7,6 +7,7 @@ pub mod Enumerations
 pub mod Fit
 pub mod Formed
 pub mod FormedParts
+pub mod Framed
 pub mod Held
 pub mod InStep
 pub mod Judging
@@ -20,6 +21,7 @@ pub mod Names
 pub mod Once
 pub mod Openings
 pub mod OwnCalls
+pub mod Placed
 pub mod Read
 pub mod Resolved
 pub mod Small

@@ -1,10 +1,10 @@
 -- What accepted declarations have, of names that are declared once and of types that have few cells.
-use Rattle.std.specs.Prelude.{◌≡◌, ◌≤◌, ℕ, zero, suc, false, List, [], ◌∷◌}
+use Rattle.std.specs.Prelude.{◌≡◌, ◌≤◌, ℕ, zero, suc, false, List, [], ◌∷◌, Option, Some}
 use Rattle.cp_tree.specs.Syntax.{Routine, Definition, type_definition, system_definition, ProgramPart, program_constants, program_types, program_variables, Program}
 use Rattle.cp_slots.specs.Kinds.{most}
 use Rattle.cp_meaning.specs.Names.{Name, same_name}
 use Rattle.cp_meaning.specs.Types.{Ty}
-use Rattle.cp_meaning.specs.Scopes.{Meaning, local_variable, permanent_variable, Scope}
+use Rattle.cp_meaning.specs.Scopes.{Meaning, local_variable, permanent_variable, Scope, find}
 use Rattle.cp_meaning.specs.Declarations.{Variable, Parameter}
 use Rattle.cp_meaning.specs.Systems.{system_of}
 use Rattle.cp_resolved.specs.Layouts.{cells_of, is_parameter}
@@ -43,14 +43,14 @@ pub record IsOnce (p : Program) : Type 0 where
 abbrev pub IsSized : Ty → Type 0
 IsSized t = (cells_of t ≤ most) × IsFull t
 
-abbrev pub IsSizedMeaning : Meaning → Type 0
-IsSizedMeaning (local_variable t) = IsSized t
-IsSizedMeaning (permanent_variable t) = IsSized t
-IsSizedMeaning m = Unit {0}
+abbrev pub IsSizedMeaning : Option Meaning → Type 0
+IsSizedMeaning (Some (local_variable t)) = IsSized t
+IsSizedMeaning (Some (permanent_variable t)) = IsSized t
+IsSizedMeaning o = Unit {0}
 
 -- of each variable that is visible
 abbrev pub AreSized : Scope → Type 0
-AreSized s = Each (λ d. IsSizedMeaning d.1) s
+AreSized s = (x : Name) → IsSizedMeaning (find x s)
 
 -- ---- names that are spelled: none begins with the code 0
 

@@ -1,14 +1,23 @@
--- What types the variables of an accepted program have: bounds of ranges are values of their bases, and queues and components stand alone or in an array.
-use Rattle.std.specs.Prelude.{◌≡◌, Bool, true, false, ◌&&◌, Option, Some, None}
-use Rattle.cp_meaning.specs.Types.{Range, Ty, ordinal, queue_type, set_over, array_over, record_with, component_of, FieldTypes, no_field_types, more_field_types, is_within}
+-- What types the variables of an accepted program have: ranges have values, arrays and records few cells, and queues and components stand alone or in an array.
+use Rattle.std.specs.Prelude.{◌≡◌, ℕ, ◌*◌, nat_le, int_le, Bool, true, false, ◌&&◌, Option, Some, None}
+use Rattle.cp_meaning.specs.Types.{Range, Ty, ordinal, queue_type, set_over, array_over, record_with, component_of, FieldTypes, no_field_types, more_field_types, is_within, length_of_range}
 use Rattle.cp_meaning.specs.Operations.{range_of_base}
 use Rattle.cp_meaning.specs.Scopes.{Meaning, constant_meaning, type_meaning, local_variable, permanent_variable}
 use Rattle.cp_meaning.specs.Declarations.{Variable, Parameter}
 use Rattle.cp_resolved.specs.InStep.{IsSmall}
+use Rattle.cp_resolved.specs.Layouts.{cells_of, cells_in}
 
--- the bounds are values of the base
+-- the bounds are values of the base, and the first is not above the last
 abbrev pub is_bounded : Range → Bool
-is_bounded r = is_within (range_of_base r.base) r.low && is_within (range_of_base r.base) r.high
+is_bounded r = is_within (range_of_base r.base) r.low && (is_within (range_of_base r.base) r.high && int_le r.low r.high)
+
+-- rule C20
+abbrev pub are_few : ℕ → Bool
+are_few cells = nat_le cells 8192
+
+-- an index, and an array over it that has few cells
+abbrev pub is_indexed : Range → Ty → Bool
+is_indexed r t = is_bounded r && are_few (length_of_range r * cells_of t)
 
 abbrev mutual
   -- no queue and no component is in it
@@ -16,8 +25,8 @@ abbrev mutual
   is_free (ordinal r) = is_bounded r
   is_free queue_type = false
   is_free (set_over r) = is_bounded r
-  is_free (array_over r t) = is_bounded r && is_free t
-  is_free (record_with ts) = are_free ts
+  is_free (array_over r t) = is_indexed r t && is_free t
+  is_free (record_with ts) = are_few (cells_in ts) && are_free ts
   is_free (component_of n) = false
 
   pub are_free : FieldTypes → Bool
@@ -32,7 +41,7 @@ is_element t = is_free t
 
 -- or an array of such
 abbrev pub is_standing : Ty → Bool
-is_standing (array_over r t) = is_bounded r && is_element t
+is_standing (array_over r t) = is_indexed r t && is_element t
 is_standing t = is_element t
 
 -- what a name stands for: a variable of a routine has neither queues nor components

@@ -131,9 +131,14 @@ abbrev pub owner_in : ℕ → Option Opening → ℕ
 owner_in other None = other
 owner_in other (Some o) = o.owner
 
+-- only a function's name stands for a result
+abbrev pub name_with : Option Name → Option Ty → Option Name
+name_with x None = None
+name_with x (Some t) = x
+
 abbrev pub name_in : Option Opening → Option Name
 name_in None = None
-name_in (Some o) = o.name
+name_in (Some o) = name_with o.name o.meaning.result
 
 abbrev pub layouts_of : Tree → Layouts
 layouts_of t =

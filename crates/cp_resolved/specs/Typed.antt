@@ -1,5 +1,5 @@
 -- When the checker and the layouts say the same: of types, of what names stand for, and of operands and their forms.
-use Rattle.std.specs.Prelude.{◌≡◌, ◌≤◌, ◌-◌, ℕ, ℤ, pos, Bool, true, false, ◌&&◌, List, [], ◌∷◌, length, Option, Some, None, Ok, Err}
+use Rattle.std.specs.Prelude.{◌≡◌, ◌≤◌, ◌-◌, ◌*◌, ℕ, ℤ, pos, Bool, true, false, ◌&&◌, List, [], ◌∷◌, length, Option, Some, None, Ok, Err}
 use Rattle.cp_tree.specs.declared.declaration.SystemKind.{SystemKind}
 use Rattle.cp_tree.specs.Syntax.{Expression, alone, related, Sum, sum, Terms, no_terms, more_terms, Term, term, Factors, no_factors, more_factors, Factor, number, character, named as factor_named, group, negated, set_of, Expressions, no_expressions, more_expressions, Designator, designator, Selectors, no_selectors, more_selectors, Selector, field, index}
 use Rattle.cp_scope.specs.declared.types.Base.{Base}
@@ -11,76 +11,90 @@ use Rattle.cp_scope.specs.declared.types.Meaning.{Meaning}
 use Rattle.cp_scope.specs.declared.types.Meaning.TheVariants as meaning
 use Rattle.cp_scope.specs.declared.types.Predeclared.{Predeclared}
 use Rattle.cp_scope.specs.declared.types.Predeclared.TheVariants as predeclared
+use Rattle.cp_scope.specs.declared.types.Parameter as check_parameter
 use Rattle.cp_scope.specs.declared.shape.ArrayShape.{ArrayShape}
+use Rattle.cp_scope.specs.declared.shape.Census.{Census}
 use Rattle.cp_scope.specs.Judged.{Judged}
-use Rattle.cp_scope.specs.Scopes.{Names, Scope, record_shape, Shapes, shape_in, as_array, Scopes, look, member_at, heading_at}
+use Rattle.cp_scope.specs.Scopes.{Heading, Names, Scope, record_shape, system_shape, Shapes, shape_in, as_array, Scopes, look, member_at, heading_at}
 use Rattle.cp_check.specs.declared.operand.Operand.{Operand}
 use Rattle.cp_meaning.specs.Names.{Name}
 use Rattle.cp_meaning.specs.Types as named
 use Rattle.cp_meaning.specs.Types.{Ty, FieldTypes, is_within}
 use Rattle.cp_meaning.specs.Scopes as scopes
 use Rattle.cp_meaning.specs.Scopes.{Standard, find, since}
-use Rattle.cp_meaning.specs.Declarations.{RoutineMeaning, routine_in}
+use Rattle.cp_meaning.specs.Declarations.{Parameter, RoutineMeaning, routine_in}
 use Rattle.cp_meaning.specs.Operations.{range_of_base}
 use Rattle.cp_meaning.specs.Expressions.{routine_of_type}
 use Rattle.cp_slots.specs.Code as code
 use Rattle.cp_resolved.specs.Layouts.{cells_of, cells_in, Here}
+use Rattle.cp_resolved.specs.Standing.{is_free}
 use Rattle.cp_resolved.specs.Compiled.{Form, as_ordinal, as_set, as_place, as_component, Formed}
 
 -- ---- types
 
--- what is written at tokens, and the token of each system type by its number
+-- the token of each system type by its number, and the constants of the enumeration at a token
+pub record Tokens : Type 0 where
+  pub systems : ℕ → ℕ
+  pub constants : ℕ → List Name
+
+-- and what is written at tokens
 pub record Written : Type 0 where
   pub shapes : Shapes
-  pub systems : ℕ → ℕ
+  pub tokens : Tokens
 
 -- an enumeration by its token and its last constant; integers hold all numbers of its constants
-abbrev pub BaseIs : named.Base → Base → Type 0
-BaseIs named.integers b = b ≡ base.Integer
-BaseIs named.booleans b = b ≡ base.Boolean
-BaseIs named.characters b = b ≡ base.Char
-BaseIs (named.enumerated at xs) b = (b ≡ base.Enumeration at (pos (length xs - 1))) × (length xs ≤ 32768)
+abbrev pub BaseIs : Tokens → named.Base → Base → Type 0
+BaseIs k named.integers b = b ≡ base.Integer
+BaseIs k named.booleans b = b ≡ base.Boolean
+BaseIs k named.characters b = b ≡ base.Char
+BaseIs k (named.enumerated at xs) b = (b ≡ base.Enumeration at (pos (length xs - 1))) × (length xs ≤ 32768) × (xs ≡ k.constants at)
 
-pub record RangeIs (q : named.Range) (r : Range) : Type 0 where
-  pub base : BaseIs q.base r.base
+pub record RangeIs (k : Tokens) (q : named.Range) (r : Range) : Type 0 where
+  pub base : BaseIs k q.base r.base
   pub low : r.low ≡ q.low
   pub high : r.high ≡ q.high
 
-pub record OrdinalIs (q : named.Range) (v : ValueType) : Type 0 where
+pub record OrdinalIs (k : Tokens) (q : named.Range) (v : ValueType) : Type 0 where
   pub range : Range
   pub is : v ≡ types.Ordinal range
-  pub belongs : RangeIs q range
+  pub belongs : RangeIs k q range
 
-pub record SetIs (q : named.Range) (v : ValueType) : Type 0 where
+pub record SetIs (k : Tokens) (q : named.Range) (v : ValueType) : Type 0 where
   pub range : Range
   pub is : v ≡ types.Set (Some range)
-  pub belongs : RangeIs q range
+  pub belongs : RangeIs k q range
 
--- the cells that the checker counts are no fewer, and within its limit
 pub record ArrayIs (Element : ValueType → Type 0) (cells : ℕ) (w : Written) (q : named.Range) (v : ValueType) : Type 0 where
   pub token : ℕ
   pub is : v ≡ types.Array token
   pub shape : ArrayShape
   pub there : as_array (shape_in token w.shapes) ≡ Some shape
-  pub range : RangeIs q shape.index
+  pub range : RangeIs w.tokens q shape.index
+  pub takes : shape.cells ≡ cells
   pub belongs : Element shape.element
-  pub counted : cells ≤ shape.cells
-  pub few : shape.cells ≤ 8192
 
-pub record RecordIs (Fields : Names → Type 0) (own : ℕ) (w : Written) (v : ValueType) : Type 0 where
+pub record RecordIs (Fields : Names → Type 0) (cells : ℕ) (w : Written) (v : ValueType) : Type 0 where
   pub token : ℕ
   pub is : v ≡ types.Record token
   pub fields : Scope
-  pub cells : ℕ
   pub there : shape_in token w.shapes ≡ Some (record_shape fields cells)
   pub visible : fields.is_sealed ≡ false
   pub each : Fields fields.names
-  pub counted : own ≤ cells
-  pub few : cells ≤ 8192
 
-pub record ComponentIs (token : ℕ) (v : ValueType) : Type 0 where
+-- a system type is written
+pub record SystemThere (token : ℕ) (ss : Shapes) : Type 0 where
+  pub names : Scope
+  pub heading : Heading
+  pub census : Census
+  pub need : ℕ
+  pub there : shape_in token ss ≡ Some (system_shape names heading census need)
+
+-- the system type of this number alone is written at its token
+pub record ComponentIs (w : Written) (n : ℕ) (v : ValueType) : Type 0 where
   pub kind : SystemKind
-  pub is : v ≡ types.Component kind token
+  pub is : v ≡ types.Component kind (w.tokens.systems n)
+  pub only : (k : ℕ) → w.tokens.systems k ≡ w.tokens.systems n → k ≡ n
+  pub there : SystemThere (w.tokens.systems n) w.shapes
 
 -- the first field, before others
 pub record FieldIs (Is : ValueType → Type 0) (Rest : Names → Type 0) (x : List ℕ) (ds : Names) : Type 0 where
@@ -92,12 +106,12 @@ pub record FieldIs (Is : ValueType → Type 0) (Rest : Names → Type 0) (x : Li
 
 abbrev mutual
   pub TypeIs : Written → Ty → ValueType → Type 0
-  TypeIs w (named.ordinal q) v = OrdinalIs q v
+  TypeIs w (named.ordinal q) v = OrdinalIs w.tokens q v
   TypeIs w named.queue_type v = v ≡ types.Queue
-  TypeIs w (named.set_over q) v = SetIs q v
-  TypeIs w (named.array_over q t) v = ArrayIs (TypeIs w t) (cells_of (named.array_over q t)) w q v
+  TypeIs w (named.set_over q) v = SetIs w.tokens q v
+  TypeIs w (named.array_over q t) v = ArrayIs (TypeIs w t) (named.length_of_range q * cells_of t) w q v
   TypeIs w (named.record_with ts) v = RecordIs (FieldsAre w ts) (cells_in ts) w v
-  TypeIs w (named.component_of n) v = ComponentIs (w.systems n) v
+  TypeIs w (named.component_of n) v = ComponentIs w n v
 
   pub FieldsAre : Written → FieldTypes → Names → Type 0
   FieldsAre w named.no_field_types ds = ds ≡ []
@@ -134,32 +148,54 @@ predeclared_of scopes.delay_procedure = predeclared.Delay
 predeclared_of scopes.continue_procedure = predeclared.Continue
 predeclared_of scopes.display_procedure = predeclared.Display
 
-abbrev pub IsOrdinalResult : ValueType → Option Ty → Type 0
-IsOrdinalResult v (Some (named.ordinal q)) = OrdinalIs q v
-IsOrdinalResult v o = ⊥
+abbrev pub IsOrdinalResult : Tokens → ValueType → Option Ty → Type 0
+IsOrdinalResult k v (Some (named.ordinal q)) = OrdinalIs k q v
+IsOrdinalResult k v o = ⊥
 
 -- what a function has as its result
-abbrev pub ResultIs : Option ValueType → Option RoutineMeaning → Type 0
-ResultIs None o = Unit {0}
-ResultIs (Some v) (Some r) = IsOrdinalResult v r.result
-ResultIs (Some v) None = ⊥
+abbrev pub ResultIs : Tokens → Option ValueType → Option RoutineMeaning → Type 0
+ResultIs k None o = Unit {0}
+ResultIs k (Some v) (Some r) = IsOrdinalResult k v r.result
+ResultIs k (Some v) None = ⊥
+
+-- what a parameter may be: without queues and components, or a component, which is handed over as a value
+abbrev pub IsHanded : Bool → Ty → Type 0
+IsHanded false (named.component_of n) = Unit {0}
+IsHanded b t = is_free t ≡ true
+
+pub record ParameterIs (w : Written) (a : check_parameter.Parameter) (q : Parameter) : Type 0 where
+  pub passed : a.is_var ≡ q.is_var
+  pub belongs : TypeIs w q.ty a.value_type
+  pub handed : IsHanded q.is_var q.ty
+
+-- one after the other
+abbrev pub AreParameters : Written → List check_parameter.Parameter → List Parameter → Type 0
+AreParameters w [] [] = Unit {0}
+AreParameters w (a ∷ as') (q ∷ qs) = ParameterIs w a q × AreParameters w as' qs
+AreParameters w [] (q ∷ qs) = ⊥
+AreParameters w (a ∷ as') [] = ⊥
+
+-- what is written as the heading of a routine
+abbrev pub HeadingIs : Written → Heading → Option RoutineMeaning → Type 0
+HeadingIs w d None = ⊥
+HeadingIs w d (Some r) = ResultIs w.tokens d.result (Some r) × AreParameters w d.parameters r.parameters
 
 abbrev pub VariableIs : Written → ValueType → Option scopes.Meaning → Type 0
 VariableIs w v (Some (scopes.local_variable t)) = TypeIs w t v × (is_plain t ≡ true)
 VariableIs w v (Some (scopes.permanent_variable t)) = TypeIs w t v × MayStand t
 VariableIs w v o = ⊥
 
-abbrev pub ConstantIs : Base → ℤ → Option scopes.Meaning → Type 0
-ConstantIs b z (Some (scopes.constant_meaning c y)) = BaseIs c b × (z ≡ y) × (is_within (range_of_base c) y ≡ true)
-ConstantIs b z o = ⊥
+abbrev pub ConstantIs : Tokens → Base → ℤ → Option scopes.Meaning → Type 0
+ConstantIs k b z (Some (scopes.constant_meaning c y)) = BaseIs k c b × (z ≡ y) × (is_within (range_of_base c) y ≡ true)
+ConstantIs k b z o = ⊥
 
 abbrev pub KindIs : Written → ValueType → Option scopes.Meaning → Type 0
 KindIs w v (Some (scopes.type_meaning t)) = TypeIs w t v
 KindIs w v o = ⊥
 
-abbrev pub RoutineIs : Option ValueType → Name → scopes.Scope → Option scopes.Meaning → Type 0
-RoutineIs v x scope (Some (scopes.routine_meaning r)) = ResultIs v (Some (routine_in (since x scope) r))
-RoutineIs v x scope o = ⊥
+abbrev pub RoutineIs : Written → Heading → Name → scopes.Scope → Option scopes.Meaning → Type 0
+RoutineIs w d x scope (Some (scopes.routine_meaning r)) = HeadingIs w d (Some (routine_in (since x scope) r))
+RoutineIs w d x scope o = ⊥
 
 abbrev pub StandardIs : Predeclared → Option scopes.Meaning → Type 0
 StandardIs q (Some (scopes.standard_meaning f)) = predeclared_of f ≡ q
@@ -167,18 +203,18 @@ StandardIs q o = ⊥
 
 -- what the checker has for a name, and what the scope has
 abbrev pub MeaningIs : Written → Scopes → Name → scopes.Scope → Meaning → Option scopes.Meaning → Type 0
-MeaningIs w s x scope (meaning.Constant b z) o = ConstantIs b z o
+MeaningIs w s x scope (meaning.Constant b z) o = ConstantIs w.tokens b z o
 MeaningIs w s x scope (meaning.Kind v) o = KindIs w v o
 MeaningIs w s x scope (meaning.Variable v) o = VariableIs w v o
 MeaningIs w s x scope (meaning.Parameter v) o = VariableIs w v o
 MeaningIs w s x scope (meaning.Reference v) o = VariableIs w v o
-MeaningIs w s x scope (meaning.Routine n) o = RoutineIs (heading_at n s).result x scope o
+MeaningIs w s x scope (meaning.Routine n) o = RoutineIs w (heading_at n s) x scope o
 MeaningIs w s x scope (meaning.Predeclared q) o = StandardIs q o
 
 -- The checker's scopes and the place of a statement: each visible name stands for the same, and so do the routines of components.
-pub record ScopesAgree (systems : ℕ → ℕ) (s : Scopes) (h : Here) : Type 0 where
-  pub names : (x : Name) (m : Meaning) → look x s ≡ Some (Some m) → MeaningIs (record { shapes = s.shapes; systems = systems }) s x h.scope m (find x h.scope)
-  pub entries : (k n : ℕ) (y : Name) → member_at (systems k) y s ≡ Some (Some (meaning.Routine n)) → ResultIs (heading_at n s).result (routine_of_type h.program (named.component_of k) y)
+pub record ScopesAgree (tokens : Tokens) (s : Scopes) (h : Here) : Type 0 where
+  pub names : (x : Name) (m : Meaning) → look x s ≡ Some (Some m) → MeaningIs (record { shapes = s.shapes; tokens = tokens }) s x h.scope m (find x h.scope)
+  pub entries : (k n : ℕ) (y : Name) → member_at (tokens.systems k) y s ≡ Some (Some (meaning.Routine n)) → HeadingIs (record { shapes = s.shapes; tokens = tokens }) (heading_at n s) (routine_of_type h.program (named.component_of k) y)
 
 -- ---- operands and forms
 
@@ -187,9 +223,9 @@ IsSet v = (o : Option Range) × (v ≡ types.Set o)
 
 -- Of a value, the form that its type wants. Of the value of a set no range is kept.
 abbrev pub FormIs : Written → ValueType → Ty → Form → Type 0
-FormIs w v (named.ordinal q) f = (c : code.Expression) × (f ≡ as_ordinal c) × OrdinalIs q v
+FormIs w v (named.ordinal q) f = (c : code.Expression) × (f ≡ as_ordinal c) × OrdinalIs w.tokens q v
 FormIs w v (named.set_over q) f = (c : code.SetExpression) × (f ≡ as_set c) × IsSet v
-FormIs w v (named.component_of n) f = (c : code.ComponentPlace) × (f ≡ as_component c) × ComponentIs (w.systems n) v
+FormIs w v (named.component_of n) f = (c : code.ComponentPlace) × (f ≡ as_component c) × ComponentIs w n v
 FormIs w v t f = (p : code.Place) × (f ≡ as_place p) × TypeIs w t v
 
 -- a whole array of components, which has no form

@@ -8,6 +8,7 @@ ghost use Rattle.cp_resolved.specs.ItemsStand.{StatementsLaw};
 ghost use Rattle.cp_resolved.specs.LayoutsKnow.{LayoutsLaw};
 ghost use Rattle.cp_resolved.specs.Names.{NamesLaw};
 ghost use Rattle.cp_resolved.specs.OwnCalls.{OwnCallsLaw};
+ghost use Rattle.cp_resolved.specs.Placed.{PlacedLaw};
 ghost use Rattle.cp_resolved.specs.Read.{PlainLaw, ReadNamesLaw};
 ghost use Rattle.cp_resolved.specs.Soundness.{SoundLaw};
 
@@ -64,6 +65,11 @@ pub fn law_few_cells()
 /// The layouts of a tree know the names, the routines and the cells of calls where its statements begin.
 pub fn law_layouts()
     ensures { LayoutsLaw }
+{}
+
+/// What was read and breaks no rule has what this law and `law_bodies` want of a tree.
+pub fn law_placed()
+    ensures { PlacedLaw }
 {}
 
 /// The items that are laid out of statements stand for these statements.

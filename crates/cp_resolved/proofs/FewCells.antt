@@ -1,0 +1,96 @@
+-- Types that stand have few cells, and none of their arrays is without elements.
+use Rattle.std.proofs.Common.{◌≡◌, ◌*◌, ◌≤◌, ℤ, pos, negsuc, Bool, true, false, ◌&&◌, refl, arith}
+use Rattle.std.specs.Prelude.{◌+ℤ◌, ◌-ℤ◌, int_le}
+use Rattle.std.proofs.lemmas.Bool.{leb-true}
+use Rattle.cp_meaning.specs.Types.{Range, Ty, ordinal, queue_type, set_over, array_over, record_with, component_of, FieldTypes, no_field_types, more_field_types, is_within, natural_of, length_of_range}
+use Rattle.cp_meaning.specs.Operations.{range_of_base}
+use Rattle.cp_resolved.specs.Layouts.{cells_of, cells_in}
+use Rattle.cp_resolved.specs.Standing.{is_bounded, are_few, is_indexed, is_free, are_free, is_element, is_standing}
+use Rattle.cp_resolved.specs.Valued.{IsFull, AreFull}
+
+pub left_of : (a b : Bool) → (a && b) ≡ true → a ≡ true
+left_of true b h = refl
+left_of false b h = h
+
+pub right_of : (a b : Bool) → (a && b) ≡ true → b ≡ true
+right_of true b h = h
+right_of false b h = absurd (let bad : false ≡ true = h in cc)
+
+-- ---- ranges
+
+pub in_order : (r : Range) → is_bounded r ≡ true → int_le r.low r.high ≡ true
+in_order r h =
+    right_of (is_within (range_of_base r.base) r.high) (int_le r.low r.high) (right_of (is_within (range_of_base r.base) r.low) (is_within (range_of_base r.base) r.high && int_le r.low r.high) h)
+
+pub not_negative : (a b : ℤ) → int_le a b ≡ true → int_le (pos 0) (b -ℤ a) ≡ true
+not_negative a b h = search (arith, h)
+
+one_more : (z : ℤ) → int_le (pos 0) z ≡ true → 1 ≤ natural_of (z +ℤ pos 1)
+one_more (pos n) h = omega arith
+one_more (negsuc n) h = absurd (let bad : false ≡ true = h in cc)
+
+some_values : (r : Range) → is_bounded r ≡ true → 1 ≤ length_of_range r
+some_values r h = one_more (r.high -ℤ r.low) (not_negative r.low r.high (in_order r h))
+
+-- ---- cells
+
+indexed_few : (r : Range) (t : Ty) (b : Bool) → (is_indexed r t && b) ≡ true → length_of_range r * cells_of t ≤ 8192
+indexed_few r t b h = leb-true (length_of_range r * cells_of t) 8192 (right_of (is_bounded r) (are_few (length_of_range r * cells_of t)) (left_of (is_indexed r t) b h))
+
+pub few_free : (t : Ty) → is_free t ≡ true → cells_of t ≤ 8192
+few_free (ordinal r) h = omega arith
+few_free queue_type h = omega arith
+few_free (set_over r) h = omega arith
+few_free (array_over r t) h = indexed_few r t (is_free t) h
+few_free (record_with ts) h = leb-true (cells_in ts) 8192 (left_of (are_few (cells_in ts)) (are_free ts) h)
+few_free (component_of n) h = omega arith
+
+pub few_element : (t : Ty) → is_element t ≡ true → cells_of t ≤ 8192
+few_element (ordinal r) h = omega arith
+few_element queue_type h = omega arith
+few_element (set_over r) h = omega arith
+few_element (array_over r t) h = few_free (array_over r t) h
+few_element (record_with ts) h = few_free (record_with ts) h
+few_element (component_of n) h = omega arith
+
+pub few_standing : (t : Ty) → is_standing t ≡ true → cells_of t ≤ 8192
+few_standing (ordinal r) h = omega arith
+few_standing queue_type h = omega arith
+few_standing (set_over r) h = omega arith
+few_standing (array_over r t) h = indexed_few r t (is_element t) h
+few_standing (record_with ts) h = few_free (record_with ts) h
+few_standing (component_of n) h = omega arith
+
+-- ---- arrays
+
+indexed_some : (r : Range) (t : Ty) (b : Bool) → (is_indexed r t && b) ≡ true → 1 ≤ length_of_range r
+indexed_some r t b h = some_values r (left_of (is_bounded r) (are_few (length_of_range r * cells_of t)) (left_of (is_indexed r t) b h))
+
+mutual
+  pub full_free : (t : Ty) → is_free t ≡ true → IsFull t
+  full_free (ordinal r) h = tt
+  full_free queue_type h = tt
+  full_free (set_over r) h = tt
+  full_free (array_over r t) h = (indexed_some r t (is_free t) h, full_free t (right_of (is_indexed r t) (is_free t) h))
+  full_free (record_with ts) h = all_full ts (right_of (are_few (cells_in ts)) (are_free ts) h)
+  full_free (component_of n) h = tt
+
+  all_full : (ts : FieldTypes) → are_free ts ≡ true → AreFull ts
+  all_full no_field_types h = tt
+  all_full (more_field_types x t ts) h = (full_free t (left_of (is_free t) (are_free ts) h), all_full ts (right_of (is_free t) (are_free ts) h))
+
+full_element : (t : Ty) → is_element t ≡ true → IsFull t
+full_element (ordinal r) h = tt
+full_element queue_type h = tt
+full_element (set_over r) h = tt
+full_element (array_over r t) h = full_free (array_over r t) h
+full_element (record_with ts) h = full_free (record_with ts) h
+full_element (component_of n) h = tt
+
+pub full_standing : (t : Ty) → is_standing t ≡ true → IsFull t
+full_standing (ordinal r) h = tt
+full_standing queue_type h = tt
+full_standing (set_over r) h = tt
+full_standing (array_over r t) h = (indexed_some r t (is_element t) h, full_element t (right_of (is_indexed r t) (is_element t) h))
+full_standing (record_with ts) h = full_free (record_with ts) h
+full_standing (component_of n) h = tt
