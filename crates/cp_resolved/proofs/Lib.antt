@@ -25,6 +25,8 @@ pub mod CallingProgram
 pub mod CallsOfTrees
 pub mod CallsSpread
 pub mod Cells
+pub mod ComponentOrder
+pub mod ComponentsStand
 pub mod Declared
 pub mod Declares
 pub mod Designating
@@ -123,6 +125,7 @@ pub mod StepsOfParts
 pub mod StepsOfProgram
 pub mod StepsOfRoutines
 pub mod StepsOfTypes
+pub mod SystemsLaid
 pub mod Temporaries
 pub mod TreeKnown
 pub mod Typing
