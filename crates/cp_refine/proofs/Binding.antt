@@ -20,19 +20,11 @@ use Rattle.cp_resolved.specs.Layouts.{cells_of, Layouts, FrameLayout, cell_named
 use Rattle.cp_resolved.specs.Encoded.{encode}
 use Rattle.cp_resolved.specs.Resolved.{AreApart, ParameterIs, ParametersAre}
 use Rattle.cp_refine.specs.Given.{PutsBlock, IsValue, Keeps, IsApartFrom, GivesValue, IsBound, AreBound}
+use Rattle.cp_refine.specs.Parameters.{IsOther, AreDifferent}
 use Rattle.cp_refine.specs.Represents.{LiesAt, PlaceAt}
 use Rattle.cp_refine.proofs.Moving.{set_here, set_there}
 use Rattle.cp_refine.proofs.Parts.{encode_length}
 use Rattle.cp_refine.proofs.Seeing.{onward_is}
-
--- no other parameter has the name, and so for all
-abbrev pub IsOther : Name → List Parameter → Type 0
-IsOther x [] = Unit {0}
-IsOther x (q ∷ qs) = (same_name x q.name ≡ false) × IsOther x qs
-
-abbrev pub AreDifferent : List Parameter → Type 0
-AreDifferent [] = Unit {0}
-AreDifferent (q ∷ qs) = IsOther q.name qs × AreDifferent qs
 
 -- what is put as a value
 put_is : (m mem : Memory) (f : Frame) (slot : ℕ) (b : Bound) → IsValue m b → put_in_frame mem f slot b ≡ put_value mem (Local (onward f.base slot)) b

@@ -51,7 +51,7 @@ use Rattle.cp_refine.proofs.Control.{Taken, StepIs, goes, takes_item, acts, fail
 use Rattle.cp_refine.proofs.Gates.{OwnNumbers}
 use Rattle.cp_refine.proofs.Lists.{frames_rest}
 
-is_call : (a : Action) (r : ℕ) (c : code.ComponentPlace) (b : Bool) (xs : List code.Argument) (o : Option ℕ) → code.action_seen a ≡ code.call r c b xs o →
+pub is_call : (a : Action) (r : ℕ) (c : code.ComponentPlace) (b : Bool) (xs : List code.Argument) (o : Option ℕ) → code.action_seen a ≡ code.call r c b xs o →
     (d : ComponentPlace) × (ys : Vec Argument Global) × (a ≡ action.Call r d b ys o) × (code.component_seen d ≡ c) × (map code.argument_seen ys.items ≡ xs)
 is_call (action.Call n d w ys u) r c b xs o e = (d, ys, cc, cc, cc)
 is_call a r c b xs o e = absurd (cc)

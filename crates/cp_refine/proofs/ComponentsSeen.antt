@@ -18,6 +18,7 @@ use Rattle.cp_meaning.specs.Places.{View, content_of, this_component, component_
 use Rattle.cp_resolved.specs.Layouts.{Layouts, here, is_parameter, look}
 use Rattle.cp_resolved.specs.Resolved as resolved
 use Rattle.cp_resolved.specs.Stands.{Ground}
+use Rattle.cp_refine.specs.ComponentNames.{NamesKnown}
 use Rattle.cp_refine.specs.Represents.{CallIs, CallsHold, HasBegun, Represents}
 use Rattle.cp_refine.proofs.ComponentPlaces.{own_component, ComponentsKnown}
 
@@ -25,14 +26,6 @@ use Rattle.cp_refine.proofs.ComponentPlaces.{own_component, ComponentsKnown}
 top_call : (r : Tables) (l : Layouts) (m : Memory) (cs : List Call) (f : Frame) (fs : List Frame) → CallsHold r l m cs (f ∷ fs) → CallIs r l (current cs) f
 top_call r l m [] f fs h = absurd h
 top_call r l m (c ∷ cs) f fs h = h.0
-
--- what the rules of the language say of names of components, in the scope of a routine and in the system type to which it belongs
-pub record NamesKnown (p : Program) (l : Layouts) (routine system : ℕ) : Type 0 where
-  pub scope : (x : Name) (t : Ty) → find x (l.meanings routine).scope ≡ Some (permanent_variable t) → has_components t ≡ true → find x (system_of p system).scope ≡ Some (permanent_variable t)
-  -- a parameter is one of the layout, and a variable has no cells
-  pub parameter : (x : Name) (k : ℕ) → find x (l.meanings routine).scope ≡ Some (permanent_variable (component_of k)) → is_parameter x (system_of p system).parameters ≡ true → look x (l.systems system).parts ≡ Some (component_of k)
-  pub variable : (x : Name) (k : ℕ) → find x (l.meanings routine).scope ≡ Some (permanent_variable (component_of k)) → is_parameter x (system_of p system).parameters ≡ false → (look x (l.systems system).variables ≡ None) × (look x (l.systems system).parts ≡ None)
-  pub array : (x : Name) (q : Range) (k : ℕ) → find x (l.meanings routine).scope ≡ Some (permanent_variable (array_over q (component_of k))) → (look x (l.systems system).variables ≡ None) × (look x (l.systems system).parts ≡ None)
 
 module _ (g : Ground) (p : Program) (l : Layouts) (s : State) (m : Machine) (rep : Represents g p l s m) (cs : List Call) (f : Frame) (fs : List Frame) (own : Memory) (calls : CallsHold g.tables l own cs (f ∷ fs))
     (stands : resolved.ComponentIs g p l f.component)

@@ -22,8 +22,8 @@ use Rattle.cp_resolved.specs.Encoded.{chosen_at}
 use Rattle.cp_resolved.specs.Resolved.{SystemParametersAre}
 use Rattle.cp_resolved.specs.Stands.{Ground}
 use Rattle.cp_refine.specs.Given.{AreHanded}
+use Rattle.cp_refine.specs.Parameters.{AreDifferent}
 use Rattle.cp_refine.specs.Represents.{LiesAt, BeginsAt, PlaceAt, PhaseIs, HasBegun, ComponentIs, all_permanents, Represents}
-use Rattle.cp_refine.proofs.Binding.{AreDifferent}
 use Rattle.cp_refine.proofs.Handing.{CanHand, Hands, handed_memory, handed_bindings, hands_all, variables_handed, parts_handed, others_handed, not_found}
 use Rattle.cp_refine.proofs.Moving.{set_here, set_there, same_or_other}
 use Rattle.cp_refine.proofs.NewFrame.{content_second}

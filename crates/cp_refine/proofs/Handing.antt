@@ -20,8 +20,8 @@ use Rattle.cp_resolved.specs.Encoded.{HasType}
 use Rattle.cp_resolved.specs.Resolved.{AreApart, SystemParameterIs, SystemParametersAre}
 use Rattle.cp_refine.specs.Agrees.{Few}
 use Rattle.cp_refine.specs.Given.{IsValue, Keeps, IsApartFrom, IsOutside, IsHanded, AreHanded}
+use Rattle.cp_refine.specs.Parameters.{IsOther, AreDifferent}
 use Rattle.cp_refine.specs.Represents.{LiesAt}
-use Rattle.cp_refine.proofs.Binding.{IsOther, AreDifferent}
 use Rattle.cp_refine.proofs.Moving.{set_here, set_there}
 use Rattle.cp_refine.proofs.NewFrame.{content_first, content_second, others_named}
 use Rattle.cp_refine.proofs.Parts.{encode_length}

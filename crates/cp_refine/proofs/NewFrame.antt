@@ -27,8 +27,9 @@ use Rattle.cp_resolved.specs.Layouts.{Layouts, FrameLayout, cell_named, look}
 use Rattle.cp_resolved.specs.Resolved.{first_values, first_value, FrameIs, ParameterIs, ParametersAre, RoutineIs}
 use Rattle.cp_resolved.specs.Stands.{Ground}
 use Rattle.cp_refine.specs.Given.{IsBound, AreBound}
+use Rattle.cp_refine.specs.Parameters.{IsOther, AreDifferent}
 use Rattle.cp_refine.specs.Represents.{LiesAt, PlaceAt, CallHolds}
-use Rattle.cp_refine.proofs.Binding.{IsOther, AreDifferent, Binds, OneLies, AllLie, AllBound, all_bound, free_cells}
+use Rattle.cp_refine.proofs.Binding.{Binds, OneLies, AllLie, AllBound, all_bound, free_cells}
 use Rattle.cp_refine.proofs.Parts.{encode_length}
 
 -- ---- environments

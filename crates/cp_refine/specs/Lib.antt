@@ -1,9 +1,15 @@
 pub mod Agrees
+pub mod ComponentNames
 pub mod Given
+pub mod GoodSets
 pub mod InStep
+pub mod ItemsKnown
 pub mod Kinds
 pub mod Law
 pub mod Named
+pub mod Parameters
 pub mod PlainValues
+pub mod Prepared
 pub mod Remaining
 pub mod Represents
+pub mod StatesKnown

@@ -22,13 +22,14 @@ use Rattle.cp_meaning.specs.Scopes as scopes
 use Rattle.cp_meaning.specs.State.{Item, function_call, statement_item, start_item, until, successor, return, init_end, end}
 use Rattle.cp_meaning.specs.Declarations.{Parameter, RoutineMeaning, routine_in}
 use Rattle.cp_meaning.specs.Places.{result_type}
-use Rattle.cp_meaning.specs.Lifting.{last_field, is_call_meant, own_call, expression_calls, sum_calls, terms_calls, term_calls, factors_calls, factor_calls, expressions_calls, selectors_calls}
+use Rattle.cp_meaning.specs.Lifting.{last_field, is_call_meant, own_call, expression_calls, sum_calls, terms_calls, term_calls, factors_calls, factor_calls, expressions_calls, designator_calls, selectors_calls}
 use Rattle.cp_meaning.specs.Expressions.{name_of, routine_called, routine_meant, result_called}
 use Rattle.cp_resolved.specs.Layouts.{Here, frame_here, cell_named, slot_of, look}
 use Rattle.cp_resolved.specs.Compiled.{compared_forms, Formed, then_form, Designated, a_variable, some_components, a_component, named_form, valued_form, with_index_form, with_field_form, permanent_begun, begun_form, signed_form, added_forms, multiplied_forms, not_form, applied_form, with_member_form, set_form, expression_form, sum_form, terms_form, term_form, factors_form, factor_form, members_form, first_form, designator_form, selected_form}
 use Rattle.cp_resolved.specs.FormedParts.{CanGive, CanGiveAll, CallFormed, IsReady, AreReady, PassedBy, ParametersAre, parameters_in, HeadingIs, KnowsHeadings}
 use Rattle.cp_resolved.specs.InStep.{Numbering, base_of, FoundIs, predeclared_as}
 use Rattle.cp_resolved.specs.Knows.{Knows}
+use Rattle.cp_resolved.specs.Meant.{AreHeld}
 use Rattle.cp_resolved.specs.Stands.{AreGiven, IsGiven, CalleeIs, IsCalled, ResultGoes, result_cell}
 use Rattle.cp_resolved.specs.Used.{AreNext, AreEntry, IsOne, HasResult, IsFunction, UsedAs, IsUsed, SumUsed, TermsUsed, TermUsed, FactorsUsed, FactorUsed, AreUsed, SelectorsUsed, ResultsAre, system_type, KnowsCalls}
 use Rattle.cp_resolved.specs.Valued.{ValueIs, DesignatedIs}
@@ -51,6 +52,8 @@ pub record CallPending (lines : List ℕ) (h : Here) (at : ℕ) (d : syntax.Desi
   pub taken : ResultGoes h (Some (temporary at)) (h.layouts.meanings number).result
   pub action : p.action ≡ code.call number part is_entry arguments (result_cell h (Some (temporary at)))
   pub line : p.line ≡ slice_index lines at
+  pub chosen : AreHeld h (designator_calls h.scope d)
+  pub held : AreHeld h (expressions_calls h.scope es)
 
 abbrev pub PendingAre : List ℕ → Here → List Pending → List Item → Type 0
 PendingAre lines h [] [] = Unit {0}
@@ -100,6 +103,17 @@ module _ (h : Here) where
   ready_next n (return o ∷ is) a = absurd a
   ready_next n (init_end k ∷ is) a = absurd a
   ready_next n (end ∷ is) a = absurd a
+
+  pub ready_held : (n : ℕ) (is : List Item) → AreReady h n is → AreHeld h is
+  ready_held n [] a = tt
+  ready_held n (function_call at d es ∷ is) a = (a.0.held, ready_held (suc n) is a.1)
+  ready_held n (statement_item t ∷ is) a = absurd a
+  ready_held n (start_item t ∷ is) a = absurd a
+  ready_held n (until ts e ∷ is) a = absurd a
+  ready_held n (successor at i z d w t ∷ is) a = absurd a
+  ready_held n (return o ∷ is) a = absurd a
+  ready_held n (init_end k ∷ is) a = absurd a
+  ready_held n (end ∷ is) a = absurd a
 
   pub ready_first : (n : ℕ) (is js : List Item) → AreReady h n (is ++ js) → AreReady h n is
   ready_first n [] js a = tt
@@ -166,10 +180,10 @@ module _ (k : Numbering) (h : Here) (b : Layer) (g : Knows k h b) (calls : Knows
 
   -- a call of a function takes the cell after those of its arguments, and stands in an item after theirs
   call_goes : (m : Layer) (at : ℕ) (d : syntax.Designator) (es : syntax.Expressions) (part : code.ComponentPlace) (e : Bool) (number : ℕ) (routine : RoutineMeaning) (o : Option FunctionResult) → ResultsAre k b.types (Some (result_type routine.result)) o → Kept b m → routine_called h.program h.scope d ≡ Some routine →
-      HasResult routine.result → CalleeIs h d (scopes.find (name_of d) h.scope) part e number → HeadingIs k h b number routine → Argues es → AreReady h (cells m) (expressions_calls h.scope es ++ function_call at d es ∷ []) →
+      HasResult routine.result → CalleeIs h d (scopes.find (name_of d) h.scope) part e number → HeadingIs k h b number routine → Argues es → AreHeld h (designator_calls h.scope d) → AreReady h (cells m) (expressions_calls h.scope es ++ function_call at d es ∷ []) →
       GoesOn m (function_as m at part e number o (λ l i. arguments_from l i 0 es)).1 (expressions_calls h.scope es ++ function_call at d es ∷ [])
-  call_goes m at d es part e number routine None v s met has callee heading argues ready = absurd v
-  call_goes m at d es part e number routine (Some w) v s met has callee heading argues ready =
+  call_goes m at d es part e number routine None v s met has callee heading argues chosen ready = absurd v
+  call_goes m at d es part e number routine (Some w) v s met has callee heading argues chosen ready =
       let is : List Item = expressions_calls h.scope es in
       let j : Layer = (arguments_from m number 0 es).1 in
       let given : List code.Argument = (arguments_from m number 0 es).0 in
@@ -188,6 +202,8 @@ module _ (k : Numbering) (h : Here) (b : Layer) (g : Knows k h b) (calls : Knows
         taken = subst (λ (q : RoutineMeaning). ResultGoes h (Some (temporary at)) q.result) (sym heading.same) (result_there (temporary at) routine.result has (own.held ∙ ap (λ q. Some (result_called q)) met));
         action = ap (λ q. code.call number part e given (Some (slot_of q))) (sym own.cell);
         line = ap (λ ls. slice_index ls at) (kept_lines j (kept_trans b m j s (arguments_kept m number 0 es)));
+        chosen = chosen;
+        held = ready_held h (cells m) is (ready_first h (cells m) is (function_call at d es ∷ []) ready);
       } in
       goes_both lines h m j z is (function_call at d es ∷ []) a.0 (record {
         taken = grown_room (layers.with_cell x.1).frame (slice_get x.1.routines number) ∙ length-append j.frame.image (pos 0 ∷ []);
@@ -259,7 +275,7 @@ module _ (k : Numbering) (h : Here) (b : Layer) (g : Knows k h b) (calls : Knows
       let callee : CalleeIs h d (scopes.find x.name h.scope) code.own false number = subst (λ m. CalleeIs h d m code.own false number) (sym me) (refl, refl, given.0) in
       let begins : begun l x.name ≡ values.a_routine number = known.same_begun k h b g calls l x.name s ∙ ap laid.begun_as there in
       subst (λ w. GoesOn l (named_as l at w (λ m. first_value m es) as').1 (expressions_calls h.scope es ++ function_call at d es ∷ [])) (sym begins)
-      (call_goes l at d es code.own false number q (result_of l number) v s met has callee (subst (HeadingIs k h b number) fi.2 given.1) ar n)
+      (call_goes l at d es code.own false number q (result_of l number) v s met has callee (subst (HeadingIs k h b number) fi.2 given.1) ar tt n)
 
   component_goes : (l : Layer) (at : ℕ) (x : Identifier) (ss : syntax.Selectors) (es : syntax.Expressions) (t : Ty) → is_call_meant (Some (scopes.permanent_variable t)) (last_field ss) ≡ true → scopes.find x.name h.scope ≡ Some (scopes.permanent_variable t) → Kept b l → SelectorsUsed h ss → Selects l ss → Argues es →
       AreEntry ss → IsFunction (routine_called h.program h.scope (syntax.designator x ss)) → ((q : Designated) × (designator_form h (syntax.designator x ss) ≡ Some q)) → AreReady h (cells l) (selectors_calls h.scope ss ++ (expressions_calls h.scope es ++ function_call at (syntax.designator x ss) es ∷ [])) →
@@ -288,7 +304,7 @@ module _ (k : Numbering) (h : Here) (b : Layer) (g : Knows k h b) (calls : Knows
       let part_is : designator_form h d ≡ Some (a_component e.part (h.layouts.owners r.number)) = form.1 ∙ ap (λ w. Some w) e.is_part ∙ ap (λ c. Some (a_component e.part c)) (sym heading.0) in
       let callee : CalleeIs h d (scopes.find x.name h.scope) e.part true r.number = subst (λ w. CalleeIs h d w e.part true r.number) (sym me) (part_is, refl) in
       let called_there : GoesOn m (function_as m at e.part true r.number (result_of m r.number) as').1 rest =
-      call_goes m at d es e.part true r.number r.routine (result_of m r.number) v kept (met ∙ r.called) has callee heading.1 ar (ready_rest h (cells l) m (selectors_calls h.scope ss) rest moved.taken n) in
+      call_goes m at d es e.part true r.number r.routine (result_of m r.number) v kept (met ∙ r.called) has callee heading.1 ar (ready_held h (cells l) (selectors_calls h.scope ss) ready) (ready_rest h (cells l) m (selectors_calls h.scope ss) rest moved.taken n) in
       let all : GoesOn m (named_as m at (selectors l (begun l x.name) ss).0 (λ m. first_value m es) as').1 rest =
       subst (λ y. GoesOn m (named_as m at y (λ m. first_value m es) as').1 rest) (sym (e.leads ∙ ap (entry_found e.part) r.there)) called_there in
       goes_both lines h l m (named_as m at (selectors l (begun l x.name) ss).0 (λ m. first_value m es) as').1 (selectors_calls h.scope ss) rest moved all

@@ -64,6 +64,11 @@ pub mod Going
 pub mod Grown
 pub mod Handed
 pub mod HandedOver
+pub mod InsideExpressions
+pub mod InsideForms
+pub mod InsidePlaces
+pub mod InsideViews
+pub mod ItemsMean
 pub mod Kept
 pub mod KeptNames
 pub mod KeptOwned

@@ -35,22 +35,24 @@ use Rattle.cp_meaning.specs.Expressions.{name_of, routine_of_type, routine_meant
 use Rattle.cp_meaning.specs.Lifting.{last_field, designator_calls, expression_calls, expressions_calls, selectors_calls}
 use Rattle.cp_meaning.specs.Steps.{at_expression}
 use Rattle.cp_resolved.specs.Calls.{starts_calls, calls_laid, all_calls_laid, arms_calls_laid, arm_calls_laid}
-use Rattle.cp_resolved.specs.Compiled.{as_ordinal, Formed, then_form, Designated, a_variable, some_components, a_component, result_begun, permanent_begun, begun_form, ordinal_form, with_index_form, with_element_form, expression_form, designator_form, selected_form}
+use Rattle.cp_resolved.specs.Compiled.{Form, as_ordinal, as_set, as_place, as_component, Formed, then_form, Designated, a_variable, some_components, a_component, result_begun, permanent_begun, begun_form, ordinal_form, with_index_form, with_element_form, expression_form, designator_form, selected_form}
 use Rattle.cp_resolved.specs.FormedParts.{CanGiveAll, CallFormed, AreReady, parameters_in, HeadingIs}
 use Rattle.cp_resolved.specs.FormedStatements.{IsTarget, PerformFormed, StartFormed, StartIs, EntryFormed, InvokeFormed, TestFormed, OrdinalFormed, AssignFormed, OwnResult, ForFormed, IsNotRoutine, StatementFormed, AllFormed, ArmsFormed, ArmFormed}
 use Rattle.cp_resolved.specs.InStep.{Numbering, base_of, range_on, predeclared_as, FoundIs, TypeIs}
-use Rattle.cp_resolved.specs.ItemsStand.{Surroundings, StatementsLaw}
+use Rattle.cp_resolved.specs.ItemsStand.{Surroundings, CanStand, StatementsLaw}
 use Rattle.cp_resolved.specs.Layouts.{Here, frame_here, is_own, cell_named}
+use Rattle.cp_resolved.specs.Meant.{AreHeld, IsCell, Assigns, Means}
 use Rattle.cp_resolved.specs.Small.{Each, IsSmallConstant}
-use Rattle.cp_resolved.specs.Stands.{StartItem, StartsAre, Ground, ItemAt, CalleeIs, CallItem, CallsAre, kind_of, first_of, Performed, InvokedBy, IsOrdinal, labels_of, is_down, OwnAll, OwnArms, OwnArm, StatementIs}
+use Rattle.cp_resolved.specs.Stands.{AssignedBy, StartItem, StartsAre, Ground, ItemAt, CalleeIs, CallItem, CallsAre, kind_of, first_of, Performed, InvokedBy, IsOrdinal, labels_of, is_down, OwnAll, OwnArms, OwnArm, StatementIs}
 use Rattle.cp_resolved.specs.Used.{HasResult, IsUsed, AreUsed, SelectorsUsed, system_type}
 use Rattle.cp_resolved.specs.Valued.{ValueIs, PlaceIs, DesignatedIs}
 use Rattle.cp_resolved.proofs.Alike.{same_inside}
 use Rattle.cp_resolved.proofs.Designating.{IsNoRoutine, begun_same}
 use Rattle.cp_resolved.proofs.Expressions as known
 use Rattle.cp_resolved.proofs.Expressions.{cells, TakesFrom, takes_none, takes_both}
-use Rattle.cp_resolved.proofs.Going.{Goes, goes_none, goes_both, ready_next, ready_first, ready_rest, grown_room, heading_parameters, expression_goes, arguments_go, selectors_go}
+use Rattle.cp_resolved.proofs.Going.{Goes, goes_none, goes_both, ready_next, ready_held, ready_first, ready_rest, grown_room, heading_parameters, expression_goes, arguments_go, selectors_go}
 use Rattle.cp_resolved.proofs.Grown.{Grew, grew_trans, kept_grew, settled_grew, with_more}
+use Rattle.cp_resolved.proofs.ItemsMean.{NewItems, none_new, both_new, ended_new}
 use Rattle.cp_resolved.proofs.Kept.{Kept, kept_trans, expression_kept, designator_kept, arguments_kept}
 use Rattle.cp_resolved.proofs.Moved.{assigned_same}
 use Rattle.cp_resolved.proofs.SettledItems.{all_frame, all_pending, Holds, holds_first, Led, ended, finish, again_first}
@@ -129,6 +131,7 @@ module _ (k : Numbering) (h : Here) (g : Ground) (few : length g.tables.items �
     pub taken : TakesFrom (cells l) m is
     pub pending : m.pending ≡ []
     pub grew : Grew l m
+    pub means : NewItems h l m
     pub stands : Holds g h m.items → Is
 
   grew_holds : (l m : Layer) → Grew l m → Holds g h m.items → Holds g h l.items
@@ -140,29 +143,31 @@ module _ (k : Numbering) (h : Here) (g : Ground) (few : length g.tables.items �
         taken = takes_both (cells l) m o is js a.taken c.taken;
         pending = c.pending;
         grew = grew_trans l m o a.grew c.grew;
+        means = both_new h l m o a.means c.means;
         stands = λ b. f (a.stands (grew_holds m o c.grew b)) (c.stands b);
       }
 
   then_does : (l m : Layer) (is : List Item) (A B : Type 0) → (A → B) → Does l m is A → Does l m is B
-  then_does l m is A B f a = record { taken = a.taken; pending = a.pending; grew = a.grew; stands = λ b. f (a.stands b) }
+  then_does l m is A B f a = record { taken = a.taken; pending = a.pending; grew = a.grew; means = a.means; stands = λ b. f (a.stands b) }
 
   kept_lines : (l m : Layer) → World l → Kept l m → m.lines ≡ g.lines
   kept_lines l m w s = ap (λ (j : Layer). j.lines) s ∙ w.lines
 
   -- the calls of a statement and its own item
-  own_does : (l m : Layer) (is : List Item) (at : ℕ) (a : code.Action) (need : ℕ) (next : Option ℕ) → World l → l.pending ≡ [] → Kept l m → Goes g.lines h l m is → Does l (ended g h m at a need next).1 is (Led g h (ended g h m at a need next).0 is at a next)
-  own_does l m is at a need next w none s i =
+  own_does : (l m : Layer) (is : List Item) (at : ℕ) (a : code.Action) (need : ℕ) (next : Option ℕ) → World l → l.pending ≡ [] → Kept l m → Goes g.lines h l m is → Means h a → Does l (ended g h m at a need next).1 is (Led g h (ended g h m at a need next).0 is at a next)
+  own_does l m is at a need next w none s i x =
       let j : Layer = added m at a need in
       record {
         taken = ap (λ (f : layers.Frame). length f.image) (all_frame (without_pending j) j.pending next) ∙ i.taken;
         pending = all_pending (without_pending j) j.pending next;
         grew = grew_trans l j (ended g h m at a need next).1 (kept_grew l j (kept_trans l m j s refl)) (settled_grew j next);
+        means = ended_new g h l m is at a need next none s i x;
         stands = λ b. finish g h l m is at a need next none i (kept_lines l m w s) b;
       }
 
   -- with no calls
-  alone_does : (l : Layer) (at : ℕ) (a : code.Action) (need : ℕ) (next : Option ℕ) → World l → l.pending ≡ [] → Does l (ended g h l at a need next).1 [] (Led g h (ended g h l at a need next).0 [] at a next)
-  alone_does l at a need next w none = own_does l l [] at a need next w none refl (goes_none g.lines h l)
+  alone_does : (l : Layer) (at : ℕ) (a : code.Action) (need : ℕ) (next : Option ℕ) → World l → l.pending ≡ [] → Means h a → Does l (ended g h l at a need next).1 [] (Led g h (ended g h l at a need next).0 [] at a next)
+  alone_does l at a need next w none x = own_does l l [] at a need next w none refl (goes_none g.lines h l) x
 
   led_as : (first : Option ℕ) (is : List Item) (at : ℕ) (a c : code.Action) (next : Option ℕ) → a ≡ c → Led g h first is at a next → Led g h first is at c next
   led_as first is at a c next e x = subst (λ y. Led g h first is at y next) e x
@@ -177,14 +182,15 @@ module _ (k : Numbering) (h : Here) (g : Ground) (few : length g.tables.items �
       let i = known.expression_is k h l w.names w.calls l e _ refl u (ready_next h (cells l) (expression_calls h.scope e) r) f in
       known.ordinal_is k h l w.names w.calls t (as_ordinal c) (expression l e).0 c i.value refl
 
-  expression_does : (l : Layer) (e : syntax.Expression) (t : Ty) (c : code.Expression) (at : ℕ) (a : code.Expression → code.Action) (need : ℕ) (next : Option ℕ) → World l → l.pending ≡ [] → IsOrdinal h e t c → IsUsed h e → AreReady h (cells l) (expression_calls h.scope e) →
+  expression_does : (l : Layer) (e : syntax.Expression) (t : Ty) (c : code.Expression) (at : ℕ) (a : code.Expression → code.Action) (need : ℕ) (next : Option ℕ) → (IsCell h c → Means h (a c)) → World l → l.pending ≡ [] → IsOrdinal h e t c → IsUsed h e → AreReady h (cells l) (expression_calls h.scope e) →
       Does l (ended g h (expression l e).1 at (a (ordinal_of (expression l e).0)) need next).1 (expression_calls h.scope e) (Led g h (ended g h (expression l e).1 at (a (ordinal_of (expression l e).0)) need next).0 (expression_calls h.scope e) at (a c) next)
-  expression_does l e t c at a need next w none f u r =
+  expression_does l e t c at a need next means w none f u r =
       let m : Layer = (expression l e).1 in
       let b : code.Action = a (ordinal_of (expression l e).0) in
       let is : List Item = expression_calls h.scope e in
       then_does l (ended g h m at b need next).1 is (Led g h (ended g h m at b need next).0 is at b next) (Led g h (ended g h m at b need next).0 is at (a c) next)
-      (led_as (ended g h m at b need next).0 is at b (a c) next (ap a (cell_is l e t c w f u r))) (own_does l m is at b need next w none (expression_kept l e) (goes l e t c w f u r))
+      (led_as (ended g h m at b need next).0 is at b (a c) next (ap a (cell_is l e t c w f u r))) (own_does l m is at b need next w none (expression_kept l e) (goes l e t c w f u r)
+      (subst (Means h) (sym (ap a (cell_is l e t c w f u r))) (means (record { expression = e; ty = t; formed = f; held = ready_held h (cells l) is r }))))
 
   -- ---- statements
 
@@ -192,9 +198,9 @@ module _ (k : Numbering) (h : Here) (g : Ground) (few : length g.tables.items �
   After l x s next = Does l x.1 (calls_laid h.scope s) (StatementIs g h x.0 s next)
 
   -- a test before or after a list
-  test_does : (l : Layer) (e : syntax.Expression) (f : TestFormed h e) (at : ℕ) (a : code.Expression → code.Action) (need : ℕ) (next : Option ℕ) → World l → l.pending ≡ [] → AreReady h (cells l) (expression_calls h.scope e) →
+  test_does : (l : Layer) (e : syntax.Expression) (f : TestFormed h e) (at : ℕ) (a : code.Expression → code.Action) (need : ℕ) (next : Option ℕ) → (IsCell h f.cell → Means h (a f.cell)) → World l → l.pending ≡ [] → AreReady h (cells l) (expression_calls h.scope e) →
       Does l (ended g h (expression l e).1 at (a (ordinal_of (expression l e).0)) need next).1 (expression_calls h.scope e) (Led g h (ended g h (expression l e).1 at (a (ordinal_of (expression l e).0)) need next).0 (expression_calls h.scope e) at (a f.cell) next)
-  test_does l e f at a need next w none r = expression_does l e f.test.ty f.cell at a need next w none f.test.cell f.used r
+  test_does l e f at a need next means w none r = expression_does l e f.test.ty f.cell at a need next means w none f.test.cell f.used r
 
   -- the first item of a loop's test, where it begins again
   again_is : (l m : Layer) (is : List Item) (at : ℕ) (a : code.Action) (need : ℕ) (next : Option ℕ) → l.pending ≡ [] → Goes g.lines h l m is → Holds g h (ended g h m at a need next).1.items → (ended g h m at a need next).0 ≡ Some (again m)
@@ -277,6 +283,26 @@ module _ (k : Numbering) (h : Here) (g : Ground) (few : length g.tables.items �
       let p : (d : Designated) × (begun_form h x.name (scopes.find x.name h.scope) ≡ Some d) × (selected_form h ss d ≡ Some q) = known.inside (begun_form h x.name (scopes.find x.name h.scope)) (selected_form h ss) q f in
       selectors_go k h l w.names w.calls w.headings g.lines w.lines l p.0 q (begun l x.name) ss refl u n p.2
 
+  assigns_mean : (t u : Ty) (y : Form) (p : code.Place) (a : code.Action) → AssignedBy t p u y a → Assigns h a → Means h a
+  assigns_mean (named.ordinal q) u (as_ordinal c) p a e x = subst (λ b. Assigns h b → Means h b) (sym e) (λ y. y) x
+  assigns_mean (named.set_over q) u (as_set c) p a e x = subst (λ b. Assigns h b → Means h b) (sym e) (λ y. y) x
+  assigns_mean (named.array_over q t) u (as_place c) p a e x = subst (λ b. Assigns h b → Means h b) (sym e.1) (λ y. y) x
+  assigns_mean (named.record_with us) u (as_place c) p a e x = subst (λ b. Assigns h b → Means h b) (sym e.1) (λ y. y) x
+  assigns_mean named.queue_type u y p a e x = absurd e
+  assigns_mean (named.component_of n) u y p a e x = absurd e
+  assigns_mean (named.ordinal q) u (as_set c) p a e x = absurd e
+  assigns_mean (named.ordinal q) u (as_place c) p a e x = absurd e
+  assigns_mean (named.ordinal q) u (as_component c) p a e x = absurd e
+  assigns_mean (named.set_over q) u (as_ordinal c) p a e x = absurd e
+  assigns_mean (named.set_over q) u (as_place c) p a e x = absurd e
+  assigns_mean (named.set_over q) u (as_component c) p a e x = absurd e
+  assigns_mean (named.array_over q t) u (as_ordinal c) p a e x = absurd e
+  assigns_mean (named.array_over q t) u (as_set c) p a e x = absurd e
+  assigns_mean (named.array_over q t) u (as_component c) p a e x = absurd e
+  assigns_mean (named.record_with us) u (as_ordinal c) p a e x = absurd e
+  assigns_mean (named.record_with us) u (as_set c) p a e x = absurd e
+  assigns_mean (named.record_with us) u (as_component c) p a e x = absurd e
+
   assign_does : (l : Layer) (at : ℕ) (x : Identifier) (ss : syntax.Selectors) (e : syntax.Expression) (next : Option ℕ) → World l → l.pending ≡ [] → AssignFormed h (syntax.designator x ss) e → AreReady h (cells l) (selectors_calls h.scope ss ++ expression_calls h.scope e) →
       After l (settled (assigned l at (syntax.designator x ss) e) next) (syntax.assign at (syntax.designator x ss) e) next
   unfolding assigned
@@ -301,7 +327,8 @@ module _ (k : Numbering) (h : Here) (g : Ground) (few : length g.tables.items �
       ap (λ p. laid.assigned_as o p (expression m e).0 (target_of m (designator l d).0).value_type) t.place_is
       ∙ assigned_same k o f.ty f.value.ty f.value.form (expression m e).0 f.place (target_of m (designator l d).0).value_type f.act value belongs f.assigned f.moved in
       let a : code.Action = laid.assignment o (target_of m (designator l d).0) (expression m e).0 in
-      let done : Does l (ended g h o at a 0 next).1 (is ++ js) (Led g h (ended g h o at a 0 next).0 (is ++ js) at a next) = own_does l o (is ++ js) at a 0 next w none whole (goes_both g.lines h l m o is js i j) in
+      let meant : Assigns h f.act = record { target = d; expression = e; place = f.place; ty = f.ty; value = f.value; aimed = f.target; formed = f.formed; assigned = f.assigned; chosen = ready_held h (cells l) is first; held = ready_held h (cells m) js rest } in
+      let done : Does l (ended g h o at a 0 next).1 (is ++ js) (Led g h (ended g h o at a 0 next).0 (is ++ js) at a next) = own_does l o (is ++ js) at a 0 next w none whole (goes_both g.lines h l m o is js i j) (subst (Means h) (sym same) (assigns_mean f.ty f.value.ty f.value.form f.place f.act f.assigned meant)) in
       then_does l (ended g h o at a 0 next).1 (is ++ js) (Led g h (ended g h o at a 0 next).0 (is ++ js) at a next) (StatementIs g h (ended g h o at a 0 next).0 (syntax.assign at d e) next)
       (λ y. (let z = led_as (ended g h o at a 0 next).0 (is ++ js) at a f.act next same y in (z.number, z.calls, record { place = f.place; ty = f.ty; value = f.value; act = f.act; target = f.target; formed = f.formed; assigned = f.assigned; item = z.item }))) done
 
@@ -313,10 +340,10 @@ module _ (k : Numbering) (h : Here) (g : Ground) (few : length g.tables.items �
   shown_same c named.characters = refl
   shown_same c (named.enumerated at xs) = ap shown.Constant (sym (numbered at))
 
-  performed_does : (l : Layer) (at : ℕ) (q : Predeclared) (e : syntax.Expression) (z : Formed) (a : code.Action) (next : Option ℕ) → World l → l.pending ≡ [] → expression_form h e ≡ Some z → IsUsed h e → AreReady h (cells l) (expression_calls h.scope e ++ []) → (ValueIs k l.types z (expression l e).0 → laid.performed q (expression l e).0 ≡ a) →
+  performed_does : (l : Layer) (at : ℕ) (q : Predeclared) (e : syntax.Expression) (z : Formed) (a : code.Action) (next : Option ℕ) → World l → l.pending ≡ [] → expression_form h e ≡ Some z → IsUsed h e → AreReady h (cells l) (expression_calls h.scope e ++ []) → (ValueIs k l.types z (expression l e).0 → laid.performed q (expression l e).0 ≡ a) → Means h a →
       Does l (settled (standard l at q (syntax.more_expressions e syntax.no_expressions)) next).1 (expression_calls h.scope e ++ []) (Led g h (settled (standard l at q (syntax.more_expressions e syntax.no_expressions)) next).0 (expression_calls h.scope e ++ []) at a next)
   unfolding standard first_value
-  performed_does l at q e z a next w none f u n same =
+  performed_does l at q e z a next w none f u n same means =
       let is : List Item = expression_calls h.scope e in
       let m : Layer = (expression l e).1 in
       let c : code.Action = laid.performed q (expression l e).0 in
@@ -325,7 +352,7 @@ module _ (k : Numbering) (h : Here) (g : Ground) (few : length g.tables.items �
       let v = known.expression_is k h l w.names w.calls l e z refl u (ready_next h (cells l) is r) f in
       let all : Goes g.lines h l m (is ++ []) = subst (Goes g.lines h l m) (sym (append-nil is)) i in
       then_does l (ended g h m at c 0 next).1 (is ++ []) (Led g h (ended g h m at c 0 next).0 (is ++ []) at c next) (Led g h (ended g h m at c 0 next).0 (is ++ []) at a next)
-      (led_as (ended g h m at c 0 next).0 (is ++ []) at c a next (same v.value)) (own_does l m (is ++ []) at c 0 next w none (expression_kept l e) all)
+      (led_as (ended g h m at c 0 next).0 (is ++ []) at c a next (same v.value)) (own_does l m (is ++ []) at c 0 next w none (expression_kept l e) all (subst (Means h) (sym (same v.value)) means))
 
   abbrev Performs : Layer → ℕ → scopes.Standard → syntax.Expressions → Option ℕ → Type 0
   Performs l at s es next = Does l (settled (standard l at (predeclared_as s) es) next).1 (expressions_calls h.scope es) ((n : ℕ) × CallsAre g h (settled (standard l at (predeclared_as s) es) next).0 (expressions_calls h.scope es) (Some n) × Performed g h n at s (first_of es) next)
@@ -334,13 +361,14 @@ module _ (k : Numbering) (h : Here) (g : Ground) (few : length g.tables.items �
   standard_does l at scopes.display_procedure e next w none f n =
       then_does l _ (expression_calls h.scope e ++ []) _ _ (λ y. (y.number, y.calls, record { range = f.range; cell = f.cell; formed = f.formed; item = y.item }))
       (performed_does l at predeclared.Display e _ (code.display f.cell (kind_of g.firsts f.range.base)) next w none f.formed f.used n (λ v.
-      ap laid.displayed v.2 ∙ ap (code.display f.cell) (shown_same f.cell v.0.base) ∙ ap (λ (r : named.Range). code.display f.cell (kind_of g.firsts r.base)) (range_inside v.0 f.range (sym v.1))))
+      ap laid.displayed v.2 ∙ ap (code.display f.cell) (shown_same f.cell v.0.base) ∙ ap (λ (r : named.Range). code.display f.cell (kind_of g.firsts r.base)) (range_inside v.0 f.range (sym v.1)))
+      (record { expression = e; ty = named.ordinal f.range; formed = f.formed; held = ready_held h (cells l) (expression_calls h.scope e) (ready_first h (cells l) (expression_calls h.scope e) [] n) }))
   standard_does l at scopes.delay_procedure e next w none f n =
       then_does l _ (expression_calls h.scope e ++ []) _ _ (λ y. (y.number, y.calls, record { place = f.place; formed = f.formed; item = y.item }))
-      (performed_does l at predeclared.Delay e _ (code.delay f.place) next w none f.formed f.used n (λ v. ap (λ y. code.delay (place_of y)) v.1))
+      (performed_does l at predeclared.Delay e _ (code.delay f.place) next w none f.formed f.used n (λ v. ap (λ y. code.delay (place_of y)) v.1) (record { expression = e; formed = f.formed; held = ready_held h (cells l) (expression_calls h.scope e) (ready_first h (cells l) (expression_calls h.scope e) [] n) }))
   standard_does l at scopes.continue_procedure e next w none f n =
       then_does l _ (expression_calls h.scope e ++ []) _ _ (λ y. (y.number, y.calls, record { place = f.place; formed = f.formed; item = y.item }))
-      (performed_does l at predeclared.Continue e _ (code.continue_at f.place) next w none f.formed f.used n (λ v. ap (λ y. code.continue_at (place_of y)) v.1))
+      (performed_does l at predeclared.Continue e _ (code.continue_at f.place) next w none f.formed f.used n (λ v. ap (λ y. code.continue_at (place_of y)) v.1) (record { expression = e; formed = f.formed; held = ready_held h (cells l) (expression_calls h.scope e) (ready_first h (cells l) (expression_calls h.scope e) [] n) }))
   standard_does l at scopes.succ_function e next w none f n = absurd f
   standard_does l at scopes.pred_function e next w none f n = absurd f
   standard_does l at scopes.chr_function e next w none f n = absurd f
@@ -354,9 +382,9 @@ module _ (k : Numbering) (h : Here) (g : Ground) (few : length g.tables.items �
   Calls l at x d es is next = Does l x.1 is ((n : ℕ) × CallsAre g h x.0 is (Some n) × CallItem g h n at d es None next)
 
   procedure_does : (l m : Layer) (is : List Item) (at : ℕ) (d : syntax.Designator) (es : syntax.Expressions) (part : code.ComponentPlace) (b : Bool) (number : ℕ) (routine : meant.RoutineMeaning) (next : Option ℕ) → World l → l.pending ≡ [] → Kept l m → Goes g.lines h l m is → routine_called h.program h.scope d ≡ Some routine →
-      CalleeIs h d (scopes.find (name_of d) h.scope) part b number → HeadingIs k h l number routine → CallFormed h d es → AreUsed h es → AreReady h (cells m) (expressions_calls h.scope es) → Calls l at (settled (procedure m at part b number es) next) d es (is ++ expressions_calls h.scope es) next
+      CalleeIs h d (scopes.find (name_of d) h.scope) part b number → HeadingIs k h l number routine → CallFormed h d es → AreUsed h es → AreHeld h (designator_calls h.scope d) → AreReady h (cells m) (expressions_calls h.scope es) → Calls l at (settled (procedure m at part b number es) next) d es (is ++ expressions_calls h.scope es) next
   unfolding procedure arguments
-  procedure_does l m is at d es part b number routine next w none s i met callee heading formed u n =
+  procedure_does l m is at d es part b number routine next w none s i met callee heading formed u chosen n =
       let js : List Item = expressions_calls h.scope es in
       let fits : CanGiveAll h routine.parameters es = subst (λ (q : meant.RoutineMeaning). CanGiveAll h q.parameters es) (same_Some formed.routine routine (sym formed.called ∙ met)) formed.arguments in
       let a = arguments_go k h l w.names w.calls w.headings g.lines w.lines m number 0 es (cell_named (h.layouts.frames number)) routine.parameters (parameters_in (slice_get l.headings number)) s u n heading.parameters (λ j. heading_parameters k h l w.names w.calls w.headings g.lines w.lines number 0 j refl) fits in
@@ -372,7 +400,8 @@ module _ (k : Numbering) (h : Here) (g : Ground) (few : length g.tables.items �
         y.number,
         y.calls,
         record { number = number; part = part; is_entry = b; arguments = given; called = record { routine = routine; called = met; same = sym heading.same; callee = callee; given = a.1 }; item = y.item; taken = tt },
-      )) (own_does l o (is ++ js) at act need next w none whole (goes_both g.lines h l m o is js i rest))
+      )) (own_does l o (is ++ js) at act need next w none whole (goes_both g.lines h l m o is js i rest)
+      (record { designator = d; expressions = es; name = None; called = record { routine = routine; called = met; same = sym heading.same; callee = callee; given = a.1 }; goes = tt; cell = refl; chosen = chosen; held = ready_held h (cells m) js n }))
 
   abbrev InvokeDoes : Layer → ℕ → Identifier → syntax.Selectors → syntax.Expressions → Option scopes.Meaning → Option ℕ → Type 0
   InvokeDoes l at x ss es m next =
@@ -406,7 +435,7 @@ module _ (k : Numbering) (h : Here) (g : Ground) (few : length g.tables.items �
       let given = w.headings.own x.name number there in
       let callee : CalleeIs h d (scopes.find x.name h.scope) code.own false number = subst (λ m. CalleeIs h d m code.own false number) (sym me) (refl, refl, given.0) in
       subst (λ z. Does l (settled (laid.invoked_as l at (laid.callee_of z) es) next).1 is ((n : ℕ) × CallsAre g h (settled (laid.invoked_as l at (laid.callee_of z) es) next).0 is (Some n) × CallItem g h n at d es None next)) (sym (ap begun_as there))
-      (procedure_does l l [] at d es code.own false number q next w none refl (goes_none g.lines h l) met callee (subst (HeadingIs k h l number) fi.2 given.1) f.2 f.1 n)
+      (procedure_does l l [] at d es code.own false number q next w none refl (goes_none g.lines h l) met callee (subst (HeadingIs k h l number) fi.2 given.1) f.2 f.1 tt n)
 
   invoke_entry : (l : Layer) (at : ℕ) (x : Identifier) (ss : syntax.Selectors) (es : syntax.Expressions) (t : Ty) (o : Option Name) (next : Option ℕ) → World l → l.pending ≡ [] → scopes.find x.name h.scope ≡ Some (scopes.permanent_variable t) → last_field ss ≡ o → EntryFormed h (syntax.designator x ss) es →
       AreReady h (cells l) (selectors_calls h.scope ss ++ expressions_calls h.scope es) → InvokeDoes l at x ss es (Some (scopes.permanent_variable t)) next
@@ -433,7 +462,7 @@ module _ (k : Numbering) (h : Here) (g : Ground) (few : length g.tables.items �
       let callee : CalleeIs h d (scopes.find x.name h.scope) e.part true entry.number = subst (λ z. CalleeIs h d z e.part true entry.number) (sym me) (part_is, refl) in
       let leads : (selectors l (begun l x.name) ss).0 ≡ values.an_entry e.part entry.number = e.leads ∙ ap (λ z. entry_found e.part (known.entry_named k h l w.names w.calls (system_type t) z)) last ∙ ap (entry_found e.part) entry.there in
       subst (λ z. Does l (settled (laid.invoked_as m at (laid.callee_of z) es) next).1 (is ++ js) ((n : ℕ) × CallsAre g h (settled (laid.invoked_as m at (laid.callee_of z) es) next).0 (is ++ js) (Some n) × CallItem g h n at d es None next)) (sym leads)
-      (procedure_does l m is at d es e.part true entry.number routine next w none (designator_kept l d) moved f.call.called callee heading.1 f.call f.used (ready_rest h (cells l) m is js moved.taken n))
+      (procedure_does l m is at d es e.part true entry.number routine next w none (designator_kept l d) moved f.call.called callee heading.1 f.call f.used (ready_held h (cells l) is first) (ready_rest h (cells l) m is js moved.taken n))
 
   no_call : (l : Layer) (x : Identifier) (ss : syntax.Selectors) (es : syntax.Expressions) (m : Option scopes.Meaning) → scopes.find x.name h.scope ≡ m → routine_meant h.program h.scope x.name m (last_field ss) ≡ None → EntryFormed h (syntax.designator x ss) es → ⊥
   no_call l x ss es m me e f = none-some f.call.routine (sym e ∙ sym (ap (λ z. routine_meant h.program h.scope x.name z (last_field ss)) me) ∙ f.call.called)
@@ -483,7 +512,11 @@ module _ (k : Numbering) (h : Here) (g : Ground) (few : length g.tables.items �
       ∙ ap (λ c. code.for_do x.origin x.range.low x.range.high x.first.cell c (laid.is_down d) body) to
       ∙ ap (λ c. code.for_do x.origin x.range.low x.range.high x.first.cell x.last.cell c body) (down_same d) in
       then_does l (ended g h o at act need next).1 (is ++ js) (Led g h (ended g h o at act need next).0 (is ++ js) at act next) (Led g h (ended g h o at act need next).0 (is ++ js) at (code.for_do x.origin x.range.low x.range.high x.first.cell x.last.cell (is_down d) body) next)
-      (led_as (ended g h o at act need next).0 (is ++ js) at act (code.for_do x.origin x.range.low x.range.high x.first.cell x.last.cell (is_down d) body) next same) (own_does l o (is ++ js) at act need next w none whole (goes_both g.lines h l m o is js a b))
+      (led_as (ended g h o at act need next).0 (is ++ js) at act (code.for_do x.origin x.range.low x.range.high x.first.cell x.last.cell (is_down d) body) next same) (own_does l o (is ++ js) at act need next w none whole (goes_both g.lines h l m o is js a b) (subst (Means h) (sym same) (
+        record { name = i; range = x.range; variable = x.variable },
+        record { expression = e; ty = x.first.ty; formed = x.first.formed; held = ready_held h (cells l) is first },
+        record { expression = f; ty = x.last.ty; formed = x.last.formed; held = ready_held h (cells m) js rest },
+      )))
 
   -- ---- labels
 
@@ -529,7 +562,8 @@ module _ (k : Numbering) (h : Here) (g : Ground) (few : length g.tables.items �
       then_does l (ended g h o x.at act need next).1 (is ++ js) (Led g h (ended g h o x.at act need next).0 (is ++ js) x.at act next) ((z : ℕ) × CallsAre g h (ended g h o x.at act need next).0 (is ++ js) (Some z) × StartItem g h z t next)
       (λ y. (let z = led_as (ended g h o x.at act need next).0 (is ++ js) x.at act wanted next (ap (λ r. code.start f.part r given) s.initial) y in
       (z.number, z.calls, record { part = f.part; system = f.system; arguments = given; target = f.target; given = a.1; item = z.item })))
-      (own_does l o (is ++ js) x.at act need next w none whole (goes_both g.lines h l m o is js i goes_there)) in
+      (own_does l o (is ++ js) x.at act need next w none whole (goes_both g.lines h l m o is js i goes_there)
+      (record { target = d; expressions = es; system = f.system; aimed = f.target; given = a.1; initial = s.initial; chosen = ready_held h (cells l) is first; held = ready_held h (cells m) js rest })) in
       let numbered_so : Does l (settled (laid.started_as m x.at (Some (f.part, f.system)) es) next).1 (is ++ js) ((z : ℕ) × CallsAre g h (settled (laid.started_as m x.at (Some (f.part, f.system)) es) next).0 (is ++ js) (Some z) × StartItem g h z t next) =
       subst (λ r. Does l (settled (begun_component m x.at f.part r es) next).1 (is ++ js) ((z : ℕ) × CallsAre g h (settled (begun_component m x.at f.part r es) next).0 (is ++ js) (Some z) × StartItem g h z t next)) (sym same) done in
       subst (λ y. Does l (settled (laid.started_as m x.at (laid.placed_of y) es) next).1 (is ++ js) ((z : ℕ) × CallsAre g h (settled (laid.started_as m x.at (laid.placed_of y) es) next).0 (is ++ js) (Some z) × StartItem g h z t next)) (sym leads) numbered_so
@@ -541,7 +575,7 @@ module _ (k : Numbering) (h : Here) (g : Ground) (few : length g.tables.items �
 
   starts_do : (l : Layer) (ts : List syntax.Start) (next : Option ℕ) → World l → l.pending ≡ [] → Each (StartFormed h) ts → AreReady h (cells l) (starts_calls h.scope ts) → Does l (starts l ts next).1 (starts_calls h.scope ts) (StartsAre g h (starts l ts next).0 ts next)
   unfolding starts
-  starts_do l [] next w none f n = record { taken = takes_none l; pending = none; grew = kept_grew l l refl; stands = λ b. refl }
+  starts_do l [] next w none f n = record { taken = takes_none l; pending = none; grew = kept_grew l l refl; means = none_new h l; stands = λ b. refl }
   starts_do l (t ∷ ts) next w none f n =
       let rest : Option ℕ × Layer = starts l ts next in
       let is : List Item = starts_calls h.scope ts in
@@ -561,15 +595,16 @@ module _ (k : Numbering) (h : Here) (g : Ground) (few : length g.tables.items �
       let need : ℕ = max (need_inside o.items body) (pending_need o) in
       let act : code.Expression → code.Action = λ c. code.until c body (again o) in
       let y : Option ℕ × Layer = ended g h o (token_of e) (act (ordinal_of (expression m e).0)) need next in
-      let first : Does m y.1 is (Led g h y.0 is (token_of e) (act f.cell) next) = test_does m e f (token_of e) act need next w before.pending n in
+      let first : Does m y.1 is (Led g h y.0 is (token_of e) (act f.cell) next) = test_does m e f (token_of e) act need next (λ c. c) w before.pending n in
       let looped : Does m y.1 is (Led g h y.0 is (token_of e) (act f.cell) next × (y.0 ≡ Some (again o))) = record {
         taken = first.taken;
         pending = first.pending;
         grew = first.grew;
+        means = first.means;
         stands = λ b. (first.stands b, again_is m o is (token_of e) (act (ordinal_of (expression m e).0)) need next before.pending (goes m e f.test.ty f.cell w f.test.cell f.used n) b);
       } in
       let z : Option ℕ × Layer = settled (blocked y.1 at body) y.0 in
-      let last : Does y.1 z.1 [] (Led g h z.0 [] at (code.block body) y.0) = alone_does y.1 at (code.block body) (need_inside y.1.items body) y.0 (world_grown m y.1 first.grew w) first.pending in
+      let last : Does y.1 z.1 [] (Led g h z.0 [] at (code.block body) y.0) = alone_does y.1 at (code.block body) (need_inside y.1.items body) y.0 (world_grown m y.1 first.grew w) first.pending tt in
       let both : Does m z.1 (is ++ []) (Led g h z.0 [] at (code.block body) y.0 × (Led g h y.0 is (token_of e) (act f.cell) next × (y.0 ≡ Some (again o)))) =
       both_do m y.1 z.1 is [] _ (Led g h z.0 [] at (code.block body) y.0) (Led g h z.0 [] at (code.block body) y.0 × (Led g h y.0 is (token_of e) (act f.cell) next × (y.0 ≡ Some (again o)))) looped last (λ a c. (c, a)) in
       let all : Does m z.1 is (Led g h z.0 [] at (code.block body) y.0 × (Led g h y.0 is (token_of e) (act f.cell) next × (y.0 ≡ Some (again o)))) = subst (λ js. Does m z.1 js (Led g h z.0 [] at (code.block body) y.0 × (Led g h y.0 is (token_of e) (act f.cell) next × (y.0 ≡ Some (again o))))) (append-nil is) both in
@@ -595,43 +630,44 @@ module _ (k : Numbering) (h : Here) (g : Ground) (few : length g.tables.items �
       let o : Layer = (expression l e).1 in
       let need : ℕ = max (need_inside o.items body) (pending_need o) in
       let act : code.Expression → code.Action = λ c. code.while_do c body (again o) in
-      let first : Does l (ended g h o at (act (ordinal_of (expression l e).0)) need next).1 is (Led g h (ended g h o at (act (ordinal_of (expression l e).0)) need next).0 is at (act f.cell) next) = test_does l e f at act need next w none n in
+      let first : Does l (ended g h o at (act (ordinal_of (expression l e).0)) need next).1 is (Led g h (ended g h o at (act (ordinal_of (expression l e).0)) need next).0 is at (act f.cell) next) = test_does l e f at act need next (λ c. c) w none n in
       record {
         taken = first.taken;
         pending = first.pending;
         grew = first.grew;
+        means = first.means;
         stands = λ b. (first.stands b, again_is l o is at (act (ordinal_of (expression l e).0)) need next none (goes l e f.test.ty f.cell w f.test.cell f.used n) b);
       }
 
   choose_does : (l : Layer) (at : ℕ) (e : syntax.Expression) (first other : Option ℕ) (next : Option ℕ) → World l → l.pending ≡ [] → (f : TestFormed h e) → AreReady h (cells l) (expression_calls h.scope e) →
       Does l (settled (chosen l at e first other) next).1 (expression_calls h.scope e) (Led g h (settled (chosen l at e first other) next).0 (expression_calls h.scope e) at (code.choose f.cell first other) next)
   unfolding chosen
-  choose_does l at e first other next w none f n = test_does l e f at (λ c. code.choose c first other) (max (need_inside (expression l e).1.items first) (need_inside (expression l e).1.items other)) next w none n
+  choose_does l at e first other next w none f n = test_does l e f at (λ c. code.choose c first other) (max (need_inside (expression l e).1.items first) (need_inside (expression l e).1.items other)) next (λ c. c) w none n
 
   select_does : (l : Layer) (at : ℕ) (e : syntax.Expression) (as' : List code.Arm) (next : Option ℕ) → World l → l.pending ≡ [] → (f : OrdinalFormed h e) → AreReady h (cells l) (expression_calls h.scope e) →
       Does l (settled (selected l at e as') next).1 (expression_calls h.scope e) (Led g h (settled (selected l at e as') next).0 (expression_calls h.scope e) at (code.select f.cell as') next)
   unfolding selected
-  select_does l at e as' next w none f n = expression_does l e f.ty f.cell at (λ c. code.select c as') (arms_need (expression l e).1 0 as') next w none f.formed f.used n
+  select_does l at e as' next w none f n = expression_does l e f.ty f.cell at (λ c. code.select c as') (arms_need (expression l e).1 0 as') next (λ c. c) w none f.formed f.used n
 
   mutual
     unfolding statements statement arms one_arm
 
     pub statement_does : (l : Layer) (s : syntax.Statement) (next : Option ℕ) → World l → l.pending ≡ [] → StatementFormed h s → AreReady h (cells l) (calls_laid h.scope s) → After l (statement l s next) s next
     statement_does l (syntax.empty at) next w none f n =
-        let x = alone_does l at code.nothing 0 next w none in
+        let x = alone_does l at code.nothing 0 next w none tt in
         then_does l (statement l (syntax.empty at) next).1 [] _ (StatementIs g h (statement l (syntax.empty at) next).0 (syntax.empty at) next) (λ y. (y.number, y.calls, y.item)) x
     statement_does l (syntax.assign at (syntax.designator x ss) e) next w none f n = assign_does l at x ss e next w none f n
     statement_does l (syntax.invoke at (syntax.designator x ss) es) next w none f n = invoke_does l at x ss es next w none (scopes.find x.name h.scope) refl f n
     statement_does l (syntax.block at ss) next w none f n =
         let x : Option ℕ × Layer = statements l ss in
         let a = statements_do l ss w none f n in
-        let c = alone_does x.1 at (code.block x.0) (need_inside x.1.items x.0) next (world_grown l x.1 a.grew w) a.pending in
+        let c = alone_does x.1 at (code.block x.0) (need_inside x.1.items x.0) next (world_grown l x.1 a.grew w) a.pending tt in
         subst (λ is. Does l (statement l (syntax.block at ss) next).1 is (StatementIs g h (statement l (syntax.block at ss) next).0 (syntax.block at ss) next)) (append-nil (all_calls_laid h.scope ss))
         (both_do l x.1 (statement l (syntax.block at ss) next).1 (all_calls_laid h.scope ss) [] _ _ (StatementIs g h (statement l (syntax.block at ss) next).0 (syntax.block at ss) next) a c (λ y z. (z.number, z.calls, (x.0, y, z.item))))
     statement_does l (syntax.cycle at ss) next w none f n =
         let x : Option ℕ × Layer = statements l ss in
         let a = statements_do l ss w none f n in
-        let c = alone_does x.1 at (code.cycle x.0) (need_inside x.1.items x.0) next (world_grown l x.1 a.grew w) a.pending in
+        let c = alone_does x.1 at (code.cycle x.0) (need_inside x.1.items x.0) next (world_grown l x.1 a.grew w) a.pending tt in
         subst (λ is. Does l (statement l (syntax.cycle at ss) next).1 is (StatementIs g h (statement l (syntax.cycle at ss) next).0 (syntax.cycle at ss) next)) (append-nil (all_calls_laid h.scope ss))
         (both_do l x.1 (statement l (syntax.cycle at ss) next).1 (all_calls_laid h.scope ss) [] _ _ (StatementIs g h (statement l (syntax.cycle at ss) next).0 (syntax.cycle at ss) next) a c (λ y z. (z.number, z.calls, (x.0, y, z.item))))
     statement_does l (syntax.if_then at e s) next w none f n =
@@ -693,7 +729,7 @@ module _ (k : Numbering) (h : Here) (g : Ground) (few : length g.tables.items �
     statement_does l (syntax.init at ts) next w none f n = starts_do l ts next w none f n
 
     pub statements_do : (l : Layer) (ss : syntax.Statements) → World l → l.pending ≡ [] → AllFormed h ss → AreReady h (cells l) (all_calls_laid h.scope ss) → Does l (statements l ss).1 (all_calls_laid h.scope ss) (OwnAll g h ss (statements l ss).0 None)
-    statements_do l syntax.no_statements w none f n = record { taken = takes_none l; pending = none; grew = kept_grew l l refl; stands = λ b. refl }
+    statements_do l syntax.no_statements w none f n = record { taken = takes_none l; pending = none; grew = kept_grew l l refl; means = none_new h l; stands = λ b. refl }
     statements_do l (syntax.more_statements s ss) w none f n =
         let rest : Option ℕ × Layer = statements l ss in
         let is : List Item = all_calls_laid h.scope ss in
@@ -703,7 +739,7 @@ module _ (k : Numbering) (h : Here) (g : Ground) (few : length g.tables.items �
         both_do l rest.1 (statement rest.1 s rest.0).1 is js _ _ (OwnAll g h (syntax.more_statements s ss) (statement rest.1 s rest.0).0 None) a c (λ y z. (rest.0, z, y))
 
     arms_do : (l : Layer) (as' : syntax.Arms) → World l → l.pending ≡ [] → ArmsFormed h as' → AreReady h (cells l) (arms_calls_laid h.scope as') → Does l (arms l as').1 (arms_calls_laid h.scope as') (OwnArms g h as' (arms l as').0)
-    arms_do l syntax.no_arms w none f n = record { taken = takes_none l; pending = none; grew = kept_grew l l refl; stands = λ b. tt }
+    arms_do l syntax.no_arms w none f n = record { taken = takes_none l; pending = none; grew = kept_grew l l refl; means = none_new h l; stands = λ b. tt }
     arms_do l (syntax.more_arms a as') w none f n =
         let x : code.Arm × Layer = one_arm l a in
         let is : List Item = arm_calls_laid h.scope a in
@@ -723,3 +759,7 @@ pub statements_law : StatementsLaw
 statements_law k h g l ss few numbered w c =
     let d = statements_do k h g few numbered l ss w c.pending c.formed c.calls in
     record { stand = d.stands; cells = d.taken }
+
+-- and each of them means something
+pub statements_mean : (k : Numbering) (h : Here) (g : Ground) (l : Layer) (ss : syntax.Statements) → length g.tables.items ≤ most → ((at : ℕ) → g.firsts at ≡ k.firsts at) → Surroundings k h g l → CanStand h l ss → NewItems h l (statements l ss).1
+statements_mean k h g l ss few numbered w c = (statements_do k h g few numbered l ss w c.pending c.formed c.calls).means

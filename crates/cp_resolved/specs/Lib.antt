@@ -17,6 +17,7 @@ pub mod Knows
 pub mod Layouts
 pub mod LayoutsKnow
 pub mod Limited
+pub mod Meant
 pub mod Names
 pub mod Once
 pub mod Openings

@@ -1,0 +1,156 @@
+-- The steps of `delay` and `continue`: they go on slots as on names.
+use Rattle.std.proofs.Common.{◌≡◌, ◌∙◌, ℕ, ◌^◌, ◌<◌, true, false, List, ◌∷◌, ◌++◌, Option, Some, None, ap, sym, refl, subst, length}
+use Rattle.std.specs.Prelude.{slice_index}
+use Rattle.cp_tree.specs.declared.declaration.SystemKind.{SystemKind}
+use Rattle.cp_tree.specs.declared.declaration.SystemKind.TheVariants as system_kind
+use Rattle.cp_tree.specs.Syntax.{Tree, Program, Expression, Expressions, more_expressions, Designator, invoke}
+use Rattle.cp_slots.specs.declared.tables.ComponentKind.{ComponentKind}
+use Rattle.cp_slots.specs.declared.tables.ComponentKind.TheVariants as kind
+use Rattle.cp_slots.specs.Tables.{Tables, component_at}
+use Rattle.cp_machine.specs.declared.process.Entry.{Entry}
+use Rattle.cp_machine.specs.Fits.{MachineFits}
+use Rattle.cp_machine.specs.Machine.{Machine, thread_at}
+use Rattle.cp_machine.specs.Reach.{Reaches}
+use Rattle.cp_machine.specs.Step.{step_at}
+use Rattle.cp_meaning.specs.Names.{Name}
+use Rattle.cp_meaning.specs.Expressions.{name_of}
+use Rattle.cp_meaning.specs.Lifting.{expression_calls, expressions_calls, designator_calls}
+use Rattle.cp_meaning.specs.Places.{this_component}
+use Rattle.cp_meaning.specs.Scopes.{standard_meaning, permanent_variable, delay_procedure, continue_procedure, find}
+use Rattle.cp_meaning.specs.State as named
+use Rattle.cp_meaning.specs.State.{delayed, entry_routine, Call, callers, current, Item, statement_item, State, has_entry}
+use Rattle.cp_meaning.specs.Steps.{view_of, step_of}
+use Rattle.cp_meaning.specs.Systems.{system_of}
+use Rattle.cp_meaning.specs.Types.{Ty, queue_type}
+use Rattle.cp_resolved.specs.Layouts.{Layouts, Here, here}
+use Rattle.cp_resolved.specs.Compiled.{as_place, expression_form}
+use Rattle.cp_resolved.specs.Stands.{Ground, result_cell, ResultGoes}
+use Rattle.cp_slots.specs.Code as code
+use Rattle.cp_refine.specs.ItemsKnown.{QueueKnown}
+use Rattle.cp_refine.specs.Kinds.{SameKind}
+use Rattle.cp_refine.specs.Law.{ground_of}
+use Rattle.cp_refine.specs.Prepared.{Prepared}
+use Rattle.cp_refine.specs.Represents.{CallsHold, own_memory}
+use Rattle.cp_refine.proofs.CallSteps.{call_component}
+use Rattle.cp_refine.proofs.ComponentsNow.{executed_there, executed_system}
+use Rattle.cp_refine.proofs.Continuing.{MayContinue}
+use Rattle.cp_refine.proofs.ContinueSteps.{Ends, own_continue, continue_step}
+use Rattle.cp_refine.proofs.Control.{Taken, StepIs, scope_is, top_frame}
+use Rattle.cp_refine.proofs.Delayed.{MayDelay}
+use Rattle.cp_refine.proofs.Delaying.{QueueNamed, own_delay, delay_step}
+use Rattle.cp_refine.proofs.Executed.{executes, few_cells, variables_of_components}
+use Rattle.cp_refine.proofs.Going.{Going}
+use Rattle.cp_refine.proofs.HoldsInReached.{HoldsInReached}
+use Rattle.cp_refine.proofs.Kept.{kept_left, kept_right}
+use Rattle.cp_refine.proofs.KindsKnown.{own_numbers, monitor_known, kinds_agree, first_waits, others_outside, may_leave}
+use Rattle.cp_refine.proofs.QueueNames.{queue_named}
+use Rattle.cp_refine.proofs.Running.{Executes}
+use Rattle.cp_refine.proofs.StepOfStatement.{below_fits}
+use Rattle.cp_refine.proofs.SystemKinds.{kind_is}
+
+monitor_number : (a : SystemKind) (c : ComponentKind) → SameKind a c → a ≡ system_kind.Monitor → (j : ℕ) × (c ≡ kind.Monitor j)
+monitor_number system_kind.Monitor (kind.Monitor j) h e = (j, refl)
+monitor_number system_kind.Process (kind.Process j) h e = absurd (cc)
+monitor_number system_kind.Class kind.Class h e = absurd (cc)
+monitor_number a c h e = absurd h
+
+-- a procedure gives its caller no result
+no_result : (h : Here) (o : Option Name) (c : Option Ty) → c ≡ None → ResultGoes h o c → result_cell h o ≡ None
+no_result h None c e w = refl
+no_result h (Some x) None e w = absurd w
+no_result h (Some x) (Some u) e w = absurd (cc)
+
+module _ (t : Tree) (r : Tables) (l : Layouts) (prepared : Prepared t r l) (s : State) (known : HoldsInReached t.program s) (m : Machine) (fits : MachineFits r m) (reach : Reaches r m) (q : ℕ) (going : Going (ground_of t r) t.program l s m q) (at : ℕ) (mid : Option ℕ) (es : List Entry) (xs ys : List Item)
+    (token : ℕ) (d : Designator) (e : Expression) (more : Expressions) (k : Taken (ground_of t r) t.program l s m q at (statement_item (invoke token d (more_expressions e more))) mid es xs ys) (rules : QueueKnown (here t.program l (thread_at m.threads q).frame.routine) e) where
+  abbrev g : Ground
+  g = ground_of t r
+
+  abbrev p : Program
+  p = t.program
+
+  abbrev this : Here
+  this = here p l (thread_at m.threads q).frame.routine
+
+  abbrev item_now : Item
+  item_now = statement_item (invoke token d (more_expressions e more))
+
+  -- the component that is executed, a monitor
+  abbrev n : ℕ
+  n = this_component (view_of p s q)
+
+  ex : Executes g p l m q
+  ex = executes t r l prepared m q fits going.many
+
+  this_is : n ≡ (thread_at m.threads q).frame.component
+  this_is =
+      let top = top_frame (thread_at m.threads q).frame es in
+      call_component r l (own_memory (thread_at m.threads q)) (named.process_at s.processes q).calls (thread_at m.threads q).frame top.0 (subst (λ fs. CallsHold r l (own_memory (thread_at m.threads q)) (named.process_at s.processes q).calls fs) top.1 k.calls)
+
+  there : n < length r.components
+  there = subst (λ c. c < length r.components) (sym this_is) (executed_there t r l prepared s known m fits reach q going)
+
+  monitor : (j : ℕ) × ((component_at r n).kind ≡ kind.Monitor j)
+  monitor =
+      monitor_number (named.component_at s.components n).kind (component_at r n).kind (kinds_agree t r l prepared s known n there)
+      (kind_is t r l prepared s known n there ∙ (ap (λ c. (system_of p (component_at r c).system).kind) this_is ∙ (ap (λ a. (system_of p a).kind) (executed_system t r l prepared s known m fits reach q going) ∙ rules.monitor)))
+
+  queue_is : (spot : code.Place) → expression_form this e ≡ Some (record { ty = queue_type; form = as_place spot }) → QueueNamed g p l s m q es e spot
+  queue_is spot formed =
+      queue_named g p l s m q at item_now mid es xs ys k ex e spot
+      (kept_left this (expression_calls this.scope e) (expressions_calls this.scope more) (kept_right this (designator_calls this.scope d) (expression_calls this.scope e ++ expressions_calls this.scope more) k.kept)) formed
+      rules.designator rules.ty rules.is (ap (find (name_of rules.designator)) (scope_is g p l s m q at item_now mid es xs ys k) ∙ rules.permanent)
+
+  -- ---- `delay`
+
+  may_delay : MayDelay g l s m q n monitor.0
+  may_delay =
+      record {
+        apart = variables_of_components t r l prepared;
+        parts_apart = prepared.systems.apart;
+        own = own_numbers t r l prepared;
+        is = monitor.1;
+        known = monitor_known t r l prepared m fits n monitor.0 monitor.1;
+        exclusive = others_outside t r l prepared s known n monitor.0 q monitor.1 going.there going.was refl;
+        line = first_waits t r l prepared s known n;
+      }
+
+  pub delay_so : find (name_of d) this.scope ≡ Some (standard_meaning delay_procedure) → StepIs g p l q (slice_index t.lines token) (step_of p s q) (step_at r m q)
+  delay_so standard =
+      let own = own_delay g p l s m q at token d e more mid es xs ys k monitor.0 may_delay standard in
+      delay_step g p l s m q at token d e more mid es xs ys k monitor.0 may_delay standard (queue_is own.place own.formed)
+
+  -- ---- `continue`
+
+  module _ (entry : (current (named.process_at s.processes q).calls).kind ≡ entry_routine) (delayed_inside : (i : ℕ) → i < length s.processes → (named.process_at s.processes i).status ≡ delayed n → has_entry n (named.process_at s.processes i).calls ≡ true) where
+    open_now : (c : Call) × (cs : List Call) × ((named.process_at s.processes q).calls ≡ c ∷ cs)
+    open_now = known.open_call q going.there (λ h. (let w = going.was in cc))
+
+    top_entry : open_now.0.kind ≡ entry_routine
+    top_entry = sym (ap (λ (cs : List Call). (current cs).kind) open_now.2) ∙ entry
+
+    top_component : open_now.0.component ≡ n
+    top_component = sym (ap (λ (cs : List Call). (current cs).component) open_now.2)
+
+    may_continue : MayContinue g p l s m q n monitor.0 es
+    may_continue =
+        record {
+          apart = variables_of_components t r l prepared;
+          parts_apart = prepared.systems.apart;
+          there = there;
+          is = monitor.1;
+          leave = may_leave t r l prepared s known m fits n monitor.0 q monitor.1 going.there going.was refl
+              (ap (λ cs. has_entry n (callers cs)) open_now.2 ∙ subst (λ c. has_entry c open_now.1 ≡ false) top_component (known.once q open_now.0 open_now.1 going.there open_now.2 top_entry));
+          fits = fits.each q going.many;
+          fits_below = below_fits t r l prepared s m q at fits going.many mid es xs ys k.stack;
+          few = few_cells t r l prepared m q fits going.many;
+          routines = prepared.stands.routines;
+          simple = prepared.results;
+          called = delayed_inside;
+        }
+
+    pub continue_so : find (name_of d) this.scope ≡ Some (standard_meaning continue_procedure) → (l.meanings (thread_at m.threads q).frame.routine).result ≡ None → StepIs g p l q (slice_index t.lines token) (step_of p s q) (step_at r m q)
+    continue_so standard procedure =
+        let own = own_continue g p l s m q at token d e more mid es xs ys k monitor.0 may_continue open_now.0 open_now.1 open_now.2 top_entry standard in
+        let ends = Ends g p l s m q at token d e more mid es xs ys k monitor.0 may_continue open_now.0 open_now.1 open_now.2 top_entry in
+        continue_step g p l s m q at token d e more mid es xs ys k monitor.0 may_continue open_now.0 open_now.1 open_now.2 top_entry standard (queue_is own.place own.formed)
+        (ends.is.6.0 ∙ no_result (here p l ends.caller.routine) ends.is.2 (l.meanings (thread_at m.threads q).frame.routine).result procedure ends.is.6.1)
