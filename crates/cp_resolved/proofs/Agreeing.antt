@@ -1,5 +1,5 @@
 -- Where the checker's scopes and a scope of the program agree on each name: what is visible, and one name more.
-use Rattle.std.proofs.Common.{◌≡◌, ℕ, Bool, true, false, if◌then◌else◌, List, [], ◌∷◌, ◌++◌, Option, Some, None, Ok, Err, is_some, refl, sym, ap, subst, ◌∙◌}
+use Rattle.std.proofs.Common.{◌≡◌, ℕ, Bool, true, false, if◌then◌else◌, List, [], ◌∷◌, ◌++◌, Option, Some, None, Ok, Err, is_some, refl, sym, ap, subst, ◌∙◌, append_assoc, append-nil}
 use Rattle.std.specs.Prelude.{nat_eq}
 use Rattle.std.specs.Str.{bytes_eq}
 use Rattle.std.proofs.lemmas.Slice.Eq.{bytes_eq-Decides}
@@ -113,6 +113,20 @@ look_is x s h = ap (λ (b : Bool). or_else (if b then through_seal (checker.find
 pub look_entered : (b : Bool) (x : Name) (s : Scopes) → look_outer x (enter b s).outer ≡ or_else (inner_look b s x) (look_outer x s.outer)
 unfolding enter
 look_entered b x s = look_last x s.outer (sealed b s.inner)
+
+-- ---- names that are declared after others
+
+abbrev pub Appends : Names → Names → Type 0
+Appends ds es = (more : Names) × (es ≡ ds ++ more)
+
+pub appends_none : (ds es : Names) → es ≡ ds → Appends ds es
+appends_none ds es e = ([], e ∙ sym (append-nil ds))
+
+pub appends_same : (ds : Names) → Appends ds ds
+appends_same ds = appends_none ds ds refl
+
+pub appends_then : (ds es fs : Names) → Appends ds es → Appends es fs → Appends ds fs
+appends_then ds es fs h g = (h.0 ++ g.0, g.1 ∙ ap (λ xs. xs ++ g.0) h.1 ∙ append_assoc ds h.0 g.0)
 
 -- ---- shapes
 

@@ -31,11 +31,12 @@ use Rattle.cp_meaning.specs.Systems.{with_routines}
 use Rattle.cp_resolved.specs.Enumerations.{each_in, in_routine}
 use Rattle.cp_resolved.specs.Judging.{routine_place, routine_places, IsOwn, IsAgreed, AreAgreed}
 use Rattle.cp_resolved.specs.Openings.{Opening, with_routine, routine_openings}
+use Rattle.cp_resolved.specs.Limited.{AreLimited}
 use Rattle.cp_resolved.specs.Small.{Each, IsSmallRoutine}
 use Rattle.cp_resolved.specs.Standing.{IsFit, IsFreeVariable, IsFreeParameter, IsFreeResult}
 use Rattle.cp_resolved.specs.Tokens.{all_tokens, part_tokens, routine_tokens}
 use Rattle.cp_resolved.specs.Typed.{Tokens, HeadingIs, ScopesAgree}
-use Rattle.cp_resolved.proofs.Agreeing.{look_is, none_left, none_right, new_names, More, more_trans, with_more}
+use Rattle.cp_resolved.proofs.Agreeing.{look_is, none_left, none_right, new_names, More, more_trans, with_more, Appends, appends_none, appends_then}
 use Rattle.cp_resolved.proofs.AgreeingNames.{W, heading_kept, heading_is_more, Known, IsKnown, known_moved, Agree, sees, fits, agree_same, agree_kept, agree_known, agree_returned}
 use Rattle.cp_resolved.proofs.AgreeingTypes.{IsFew}
 use Rattle.cp_resolved.proofs.AgreeingWritten.{each_left, each_right}
@@ -76,6 +77,7 @@ module _ (tokens : Tokens) (p : Program) where
         sound = sound;
         known = λ x e. subst (IsKnown tokens s m x) e (sees tokens p false None s m below ks h x tt);
         fit = λ x. subst (λ (i : scopes.Scope). IsFit (find x i)) (sym is) (fits tokens p false None s m below ks h x);
+        limited = subst AreLimited (sym is) h.limited;
         variables = variables;
         parameters = parameters;
         result = result;
@@ -108,6 +110,7 @@ module _ (tokens : Tokens) (p : Program) where
         outer = ap (λ (b : Around). b.outer) last;
         settled = refl;
         more = more_trans s.shapes a.shapes ss more all;
+        appends = ((r.name.name, c) ∷ [], ap (λ (b : Around). b.inner.names) last ∙ ap (λ (e : Scope). e.names) (new_names (sealed false s.inner) r.name.name c fresh));
       }
 
   -- with the parameters that stood before it
@@ -173,13 +176,13 @@ module _ (tokens : Tokens) (p : Program) where
     pub read : ReadsAs s (routine_step owner s r).scopes
 
   -- what a routine leaves, by what its heading leaves
-  routine_result : (owner : Option SystemKind) (s a : Scopes) (m below : scopes.Scope) (js ks : List ℕ) (n : ℕ) (r : Routine) (h : Headed) (v : Option ValueType) → h.result ≡ Ok v → Each IsFreeParameter (routine_in (with_routine m r) r).parameters → IsFreeResult (routine_in (with_routine m r) r).result → BodyResult owner a m below ks r (Ok v) h.scopes → a.outer ≡ s.outer → More s.shapes a.shapes → ReadsAs s a →
+  routine_result : (owner : Option SystemKind) (s a : Scopes) (m below : scopes.Scope) (js ks : List ℕ) (n : ℕ) (r : Routine) (h : Headed) (v : Option ValueType) → h.result ≡ Ok v → Each IsFreeParameter (routine_in (with_routine m r) r).parameters → IsFreeResult (routine_in (with_routine m r) r).result → BodyResult owner a m below ks r (Ok v) h.scopes → a.outer ≡ s.outer → More s.shapes a.shapes → Appends s.inner.names a.inner.names → ReadsAs s a →
       IsAgreed tokens p (record { scopes = (part_steps spot.Other (announced_of r h.result h.scopes) r.parts).scopes; context = routine_context owner r }) (record { meaning = routine_in (with_routine m r) r; owner = n; name = Some r.name.name })
       × StepResult tokens p false None s (routines.headed_step owner r h).scopes (with_routine m r) below ks × ReadsAs s (routines.headed_step owner r h).scopes
-  routine_result owner s a m below js ks n r h v is parameters result b outer more read =
+  routine_result owner s a m below js ks n r h v is parameters result b outer more longer read =
       let body : BodyResult owner a m below ks r h.result h.scopes = subst (λ (j : Judged (Option ValueType)). BodyResult owner a m below ks r j h.scopes) (sym is) b in (
         place_agreed (part_steps spot.Other (announced_of r h.result h.scopes) r.parts).scopes (routine_context owner r) (routine_in (with_routine m r) r).scope (with_routine m r) (r.body.at ∷ ks) (record { meaning = routine_in (with_routine m r) r; owner = n; name = Some r.name.name }) refl body.sound body.variables parameters result (λ z i. (let o = body.own z i in record { named = o.named; heading = o.heading })) body.agree,
-        record { agree = body.step.agree; outer = body.step.outer ∙ outer; settled = body.step.settled; more = more_trans s.shapes a.shapes (routines.headed_step owner r h).scopes.shapes more body.step.more },
+        record { agree = body.step.agree; outer = body.step.outer ∙ outer; settled = body.step.settled; more = more_trans s.shapes a.shapes (routines.headed_step owner r h).scopes.shapes more body.step.more; appends = appends_then s.inner.names a.inner.names (routines.headed_step owner r h).scopes.inner.names longer body.step.appends },
         body.read ∙ read,
       )
 
@@ -196,7 +199,7 @@ module _ (tokens : Tokens) (p : Program) where
       let ann = announced_agrees tokens p a hd.scopes m below (with_routine m r) (meant.heading_of (with_routine m r) r.kind).scope (routine_tokens r ks) (all_tokens part_tokens r.parts (r.body.at ∷ ks)) r head.value refl fresh named.agree head.step.agree head.step.outer head.step.settled head.step.more (head.result, head.read) in
       let body = body_agrees owner a hd.scopes m below (routine_tokens r ks) ks r head.value fresh named.agree ann small few
       (subst (λ (j : Judged (Option ValueType)). faults (routines.opened owner r (announced_of r j hd.scopes)).uses ≡ []) head.is (none_right (faults hd.result) (faults (routines.opened owner r (announced_of r hd.result hd.scopes)).uses) e)) in
-      let all = routine_result owner s a m below (routine_tokens r ks) ks n r hd head.value head.is head.parameters head.free body named.outer (λ k d i. ap (shape_in k) named.shapes ∙ i) (ap checker.parameters_in named.reserved.names) in
+      let all = routine_result owner s a m below (routine_tokens r ks) ks n r hd head.value head.is head.parameters head.free body named.outer (λ k d i. ap (shape_in k) named.shapes ∙ i) (appends_none s.inner.names a.inner.names named.reserved.names) (ap checker.parameters_in named.reserved.names) in
       record { place = all.0; step = all.1; read = all.2 }
 
   -- ---- the routines of a system type

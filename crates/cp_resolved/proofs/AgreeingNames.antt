@@ -25,6 +25,8 @@ use Rattle.cp_resolved.specs.Small.{Each}
 use Rattle.cp_resolved.specs.Standing.{IsFit, is_standing}
 use Rattle.cp_resolved.specs.Tokens.{AreDifferent}
 use Rattle.cp_resolved.specs.Typed.{Tokens, SystemThere, IsValueParameter, Written, TypeIs, FieldsAre, AreParameters, HeadingIs, VariableIs, KindIs, RoutineIs, MeaningIs}
+use Rattle.cp_resolved.specs.Limited.{IsLimitedMeaning, AreLimited}
+use Rattle.cp_resolved.proofs.FewCells.{few_free, few_standing}
 use Rattle.cp_resolved.proofs.Agreeing.{itself, is_itself, unknown, find_last, new_names, inner_look, look_is, More, with_more, with_there, with_other, AreFree, free_others}
 
 -- the heading of a routine is written
@@ -210,6 +212,17 @@ module _ (tokens : Tokens) where
   pub new_known : (t : Scopes) (m : scopes.Scope) (n : Name) (c : Meaning) (d : scopes.Meaning) → New t n c d → Known t ((n, d) ∷ m) n c
   new_known t m n c d h = record { means = subst (MeaningIs (W t.shapes) t n ((n, d) ∷ m) c) (find_first n d m) (h.means m); there = h.there; fit = subst IsFit (find_first n d m) h.fit }
 
+  fit_limited : (d : scopes.Meaning) → IsFit (Some d) → IsLimitedMeaning d
+  fit_limited (scopes.type_meaning t) h = few_standing t h
+  fit_limited (scopes.local_variable t) h = few_free t h
+  fit_limited (scopes.permanent_variable t) h = few_standing t h
+  fit_limited (scopes.constant_meaning b z) h = tt
+  fit_limited (scopes.routine_meaning r) h = tt
+  fit_limited (scopes.standard_meaning q) h = tt
+
+  known_limited : (s : Scopes) (m : scopes.Scope) (n : Name) (c : Meaning) (d : scopes.Meaning) → Known s ((n, d) ∷ m) n c → IsLimitedMeaning d
+  known_limited s m n c d h = fit_limited d (subst IsFit (sym (find_first n d m)) h.fit)
+
   stacked_other : (s t : Scopes) (m below : scopes.Scope) (x n : Name) (d : scopes.Meaning) (o : Option (Option Meaning)) → More s.shapes t.shapes → bytes_eq x n ≡ false → IsStacked s m below x o → IsStacked t ((n, d) ∷ m) below x o
   stacked_other s t m below x n d None more e h = record { found = h.found ∙ find_other x n d m e; rest = h.rest ∙ since_other x n d m e; latest = h.latest ∙ type_other x n d m e }
   stacked_other s t m below x n d (Some None) more e h = h
@@ -276,6 +289,7 @@ module _ (tokens : Tokens) where
       pub outer : (x : Name) → IsBut but x → IsKnown s below x (look_outer x s.outer)
       pub own : OwnIs but s below
       pub base : (x : Name) → IsFit (find x below)
+      pub limited : AreLimited m
       pub free : AreFree s.shapes ks
       pub different : AreDifferent ks
       pub entries : AreEntries s
@@ -320,6 +334,7 @@ module _ (tokens : Tokens) where
           outer = λ x g. is_known_moved s t below below x (look_outer x t.outer) more refl refl (subst (λ (cs : List Scope). IsKnown s below x (look_outer x cs)) (sym o) (h.outer x g));
           own = own_moved but s t below more o h.own;
           base = h.base;
+          limited = h.limited;
           free = subst (λ (ss : Shapes). AreFree ss ks) (sym e) h.free;
           different = h.different;
           entries = entries_more s t more (λ k j y g. ap (λ (ss : Shapes). as_member y (shape_in (tokens.systems k) ss)) (sym e) ∙ g) h.entries;
@@ -362,6 +377,7 @@ module _ (tokens : Tokens) where
           outer = λ x g. is_known_moved s (keep s k d) below below x (look_outer x s.outer) more refl refl (h.outer x g);
           own = own_moved but s (keep s k d) below more refl h.own;
           base = h.base;
+          limited = h.limited;
           free = free_others s.shapes k d ks h.free.0 h.different.0 h.free.1;
           different = h.different.1;
           entries = e;
@@ -462,6 +478,7 @@ module _ (tokens : Tokens) where
           outer = λ x g. is_known_moved s (add s n (Some c)) below below x (look_outer x s.outer) (λ i g e. e) refl refl (h.outer x g);
           own = own_moved but s (add s n (Some c)) below (λ i g e. e) refl h.own;
           base = h.base;
+          limited = (known_limited (add s n (Some c)) m n c d new, h.limited);
           free = h.free;
           different = h.different;
           entries = h.entries;
@@ -490,6 +507,7 @@ module _ (tokens : Tokens) where
           outer = λ x g. is_known_moved s t below below x (look_outer x t.outer) more refl refl (subst (λ (cs : List Scope). IsKnown s below x (look_outer x cs)) (sym o) (h.outer x g));
           own = own_moved but s t below more o h.own;
           base = h.base;
+          limited = h.limited;
           free = free;
           different = different;
           entries = entries;

@@ -15,7 +15,7 @@ use Rattle.cp_check.specs.declared.constant.Number.{Number}
 use Rattle.cp_check.specs.declared.types.Spot.{Spot}
 use Rattle.cp_check.specs.declared.types.Spot.TheVariants as spot
 use Rattle.cp_check.specs.Constants.{constant}
-use Rattle.cp_check.specs.Records.{reserve_field, reserve_fields}
+use Rattle.cp_check.specs.Records.{reserve_field, reserve_fields, with_fields}
 use Rattle.cp_check.specs.Types.{Typed, typed}
 use Rattle.cp_check.specs.Declarations.{as_declared, reserve_name, reserve_names, add_names, add_all, add_one, to_constant, to_kind, to_variable, constant_step, constant_steps, type_step, type_steps, variable_step, variable_steps, part_step, part_steps}
 use Rattle.cp_meaning.specs.Names.{Name}
@@ -31,12 +31,12 @@ use Rattle.cp_resolved.specs.Layouts.{cells_in}
 use Rattle.cp_resolved.specs.Standing.{are_few, is_indexed, is_free, are_free, is_standing}
 use Rattle.cp_resolved.specs.Tokens.{all_tokens, type_tokens, part_tokens}
 use Rattle.cp_resolved.specs.Typed.{Tokens, TypeIs, is_plain, are_plain, MayStand}
-use Rattle.cp_resolved.proofs.Agreeing.{Good, Sound, good_sound, none_left, none_right, none_first, More, more_same, more_trans}
+use Rattle.cp_resolved.proofs.Agreeing.{Appends, appends_none, appends_same, appends_then, Good, Sound, good_sound, none_left, none_right, none_first, More, more_same, more_trans}
 use Rattle.cp_resolved.proofs.AgreeingNames.{W, New, Agree, sees, agree_same, agree_settled, agree_added}
 use Rattle.cp_resolved.proofs.AgreeingConstants.{NumberIs, constant_number_of}
 use Rattle.cp_resolved.proofs.AgreeingTypes.{StandsAt, standing_at, IsFew, TypedAs}
 use Rattle.cp_resolved.proofs.AgreeingWritten.{each_left, each_right, type_agrees}
-use Rattle.cp_resolved.proofs.Reserving.{Pends, ReservedIn, AreAmong, AreFresh, AreOthers, one_reserved, all_reserved, pending_fresh, fresh_after, with_inner, NameReserved, name_reserved, NamesReserved, names_reserved}
+use Rattle.cp_resolved.proofs.Reserving.{named_all, all_filled, Pends, ReservedIn, AreAmong, AreFresh, AreOthers, one_reserved, all_reserved, pending_fresh, fresh_after, with_inner, NameReserved, name_reserved, NamesReserved, names_reserved}
 use Rattle.cp_resolved.proofs.Agreeing as agreeing
 
 -- ---- types that are plain
@@ -83,12 +83,13 @@ module _ (tokens : Tokens) (p : Program) where
     pub outer : t.outer ≡ s.outer
     pub settled : t.inner.pending ≡ []
     pub more : More s.shapes t.shapes
+    pub appends : Appends s.inner.names t.inner.names
 
   pub step_same : (b : Bool) (but : Option Name) (s : Scopes) (m below : scopes.Scope) (ks : List ℕ) → s.inner.pending ≡ [] → Agree tokens p b but s m below ks → StepResult b but s s m below ks
-  step_same b but s m below ks e h = record { agree = h; outer = refl; settled = e; more = more_same s.shapes }
+  step_same b but s m below ks e h = record { agree = h; outer = refl; settled = e; more = more_same s.shapes; appends = appends_same s.inner.names }
 
   pub step_then : (b : Bool) (but : Option Name) (s t u : Scopes) (m k below : scopes.Scope) (js ks : List ℕ) → StepResult b but s t m below js → StepResult b but t u k below ks → StepResult b but s u k below ks
-  step_then b but s t u m k below js ks h g = record { agree = g.agree; outer = g.outer ∙ h.outer; settled = g.settled; more = more_trans s.shapes t.shapes u.shapes h.more g.more }
+  step_then b but s t u m k below js ks h g = record { agree = g.agree; outer = g.outer ∙ h.outer; settled = g.settled; more = more_trans s.shapes t.shapes u.shapes h.more g.more; appends = appends_then s.inner.names t.inner.names u.inner.names h.appends g.appends }
 
   -- ---- names that are being declared
 
@@ -117,10 +118,10 @@ module _ (tokens : Tokens) (p : Program) where
   -- ---- names that are declared
 
   pub one_declared : (b : Bool) (but : Option Name) (s t : Scopes) (n : Identifier) (m below : scopes.Scope) (ks : List ℕ) (c : Meaning) (d : scopes.Meaning) → is_some (checker.find n.name t.inner.names) ≡ false → (b ≡ true → is_open c ≡ is_seen d) → New tokens (add t n.name (Some c)) n.name c d →
-      t.outer ≡ s.outer → More s.shapes t.shapes → Agree tokens p b but t m below ks → StepResult b but s (add_one t n (Some c)) ((n.name, d) ∷ m) below ks
+      t.outer ≡ s.outer → More s.shapes t.shapes → Appends s.inner.names t.inner.names → Agree tokens p b but t m below ks → StepResult b but s (add_one t n (Some c)) ((n.name, d) ∷ m) below ks
   unfolding add_one settle add
-  one_declared b but s t n m below ks c d fresh same new outer more h =
-      record { agree = agree_settled tokens p b but (add t n.name (Some c)) ((n.name, d) ∷ m) below ks (agree_added tokens p b but t m below ks n.name c d fresh same new h); outer = outer; settled = refl; more = more }
+  one_declared b but s t n m below ks c d fresh same new outer more longer h =
+      record { agree = agree_settled tokens p b but (add t n.name (Some c)) ((n.name, d) ∷ m) below ks (agree_added tokens p b but t m below ks n.name c d fresh same new h); outer = outer; settled = refl; more = more; appends = appends_then s.inner.names t.inner.names (add t n.name (Some c)).inner.names longer ((n.name, Some c) ∷ [], ap (λ (e : Scope). e.names) (agreeing.new_names t.inner n.name (Some c) fresh)) }
 
   record Added (b : Bool) (but : Option Name) (t u : Scopes) (m below : scopes.Scope) (ks : List ℕ) : Type 0 where
     pub agree : Agree tokens p b but u m below ks
@@ -142,16 +143,25 @@ module _ (tokens : Tokens) (p : Program) where
       names_added b but u ns ((n.name, d) ∷ m) below ks c d later others.1 same new (agree_added tokens p b but t m below ks n.name c d fresh.0 same (new u refl n.name) h) in
       record { agree = r.agree; outer = r.outer; shapes = r.shapes }
 
+  filled_names : (t : Scopes) (ns : List Identifier) (o : Option Meaning) → (add_names t ns o).inner ≡ with_fields t.inner ns o
+  unfolding add_names add with_fields
+  filled_names t [] o = refl
+  filled_names t (n ∷ ns) o = filled_names (add t n.name o) ns o
+
+  pub all_named : (t : Scopes) (ns : List Identifier) (o : Option Meaning) → AreFresh ns t.inner.names → AreOthers ns → (add_names t ns o).inner.names ≡ t.inner.names ++ named_all ns o
+  all_named t ns o fresh others = ap (λ (c : Scope). c.names) (filled_names t ns o) ∙ (all_filled t.inner ns o fresh others).names
+
   pub all_declared : (b : Bool) (but : Option Name) (s t : Scopes) (ns : List Identifier) (m below : scopes.Scope) (ks : List ℕ) (c : Meaning) (d : scopes.Meaning) → AreFresh ns t.inner.names → AreOthers ns → (b ≡ true → is_open c ≡ is_seen d) → ((u : Scopes) → u.shapes ≡ t.shapes → (n : Name) → New tokens u n c d) →
-      t.outer ≡ s.outer → More s.shapes t.shapes → Agree tokens p b but t m below ks → StepResult b but s (add_all t ns (Some c)) (meant.with_names (meant.names_of ns) d m) below ks
+      t.outer ≡ s.outer → More s.shapes t.shapes → Appends s.inner.names t.inner.names → Agree tokens p b but t m below ks → StepResult b but s (add_all t ns (Some c)) (meant.with_names (meant.names_of ns) d m) below ks
   unfolding add_all settle
-  all_declared b but s t ns m below ks c d fresh others same new outer more h =
+  all_declared b but s t ns m below ks c d fresh others same new outer more longer h =
       let r : Added b but t (add_names t ns (Some c)) (meant.with_names (meant.names_of ns) d m) below ks = names_added b but t ns m below ks c d fresh others same new h in
       record {
         agree = agree_settled tokens p b but (add_names t ns (Some c)) (meant.with_names (meant.names_of ns) d m) below ks r.agree;
         outer = r.outer ∙ outer;
         settled = refl;
         more = λ k e g. ap (checker.shape_in k) r.shapes ∙ more k e g;
+        appends = appends_then s.inner.names t.inner.names (add_names t ns (Some c)).inner.names longer (named_all ns (Some c), all_named t ns (Some c) fresh others);
       }
 
   -- ---- constants
@@ -173,7 +183,7 @@ module _ (tokens : Tokens) (p : Program) where
       subst (λ (j : Judged Number). StepResult b None s (add_one t d.name (as_declared (j >>= to_constant))) ((d.name.name, scopes.constant_meaning (meant.constant_of m d.value).0 (meant.constant_of m d.value).1) ∷ m) below ks) (sym n.is)
       (one_declared b None s t d.name m below ks (meaning.Constant n.value.base n.value.value) (scopes.constant_meaning (meant.constant_of m d.value).0 (meant.constant_of m d.value).1)
       (one_fresh t d.name t.inner.pending refl r.reserved.pends r.reserved.all) (λ g. refl) (constant_new (add t d.name.name (Some (meaning.Constant n.value.base n.value.value))) d.name.name (meant.constant_of m d.value) n.value n.holds)
-      r.outer (λ k g i. ap (checker.shape_in k) r.shapes ∙ i) r.agree)
+      r.outer (λ k g i. ap (checker.shape_in k) r.shapes ∙ i) (appends_none s.inner.names t.inner.names r.reserved.names) r.agree)
 
   pub constants_agree : (b : Bool) (s : Scopes) (m below : scopes.Scope) (ks : List ℕ) (ds : List ConstantDefinition) → (constant_steps s ds).faults ≡ [] → Each (λ d. IsSmallConstant d.value.kind) ds → s.inner.pending ≡ [] → Agree tokens p b None s m below ks →
       StepResult b None s (constant_steps s ds).scopes (meant.constants_in m ds) below ks
@@ -195,6 +205,7 @@ module _ (tokens : Tokens) (p : Program) where
     pub agree : Agree tokens p b None t.scopes u.1 below ks
     pub outer : t.scopes.outer ≡ s.outer
     pub more : More s.shapes t.scopes.shapes
+    pub appends : Appends s.inner.names t.scopes.inner.names
     pub fresh : AreFresh ns t.scopes.inner.names
     pub others : AreOthers ns
 
@@ -208,6 +219,7 @@ module _ (tokens : Tokens) (p : Program) where
         agree = r.agree;
         outer = r.outer ∙ n.outer;
         more = λ k d g. r.more k d (ap (checker.shape_in k) n.shapes ∙ g);
+        appends = appends_then s.inner.names a.inner.names (typed a q t).scopes.inner.names (appends_none s.inner.names a.inner.names n.reserved.names) r.appends;
         fresh = pending_fresh (typed a q t).scopes.inner ns a.inner.pending (λ x g. r.pends x (ap (is_among x) r.pending ∙ g)) n.reserved.all;
         others = n.reserved.others;
       }
@@ -217,11 +229,11 @@ module _ (tokens : Tokens) (p : Program) where
 
   -- a name for a type that was written
   pub kind_declared : (b : Bool) (s : Scopes) (n : Identifier) (t : Typed) (m below : scopes.Scope) (ks : List ℕ) (u : Ty) (v : ValueType) → t.type ≡ Ok v → TypeIs (W tokens t.scopes.shapes) u v → is_standing u ≡ true → is_some (checker.find n.name t.scopes.inner.names) ≡ false →
-      t.scopes.outer ≡ s.outer → More s.shapes t.scopes.shapes → Agree tokens p b None t.scopes m below ks → StepResult b None s (add_one t.scopes n (as_declared (t.type >>= to_kind))) ((n.name, scopes.type_meaning u) ∷ m) below ks
+      t.scopes.outer ≡ s.outer → More s.shapes t.scopes.shapes → Appends s.inner.names t.scopes.inner.names → Agree tokens p b None t.scopes m below ks → StepResult b None s (add_one t.scopes n (as_declared (t.type >>= to_kind))) ((n.name, scopes.type_meaning u) ∷ m) below ks
   unfolding add
-  kind_declared b s n t m below ks u v is h g fresh outer more agree =
+  kind_declared b s n t m below ks u v is h g fresh outer more longer agree =
       subst (λ (j : Judged ValueType). StepResult b None s (add_one t.scopes n (as_declared (j >>= to_kind))) ((n.name, scopes.type_meaning u) ∷ m) below ks) (sym is)
-      (one_declared b None s t.scopes n m below ks (meaning.Kind v) (scopes.type_meaning u) fresh (λ e. refl) (kind_new (add t.scopes n.name (Some (meaning.Kind v))) n.name u v h g) outer more agree)
+      (one_declared b None s t.scopes n m below ks (meaning.Kind v) (scopes.type_meaning u) fresh (λ e. refl) (kind_new (add t.scopes n.name (Some (meaning.Kind v))) n.name u v h g) outer more longer agree)
 
   type_step_agrees : (b : Bool) (s : Scopes) (m below : scopes.Scope) (ks : List ℕ) (d : TypeDefinition) → (type_step s d).faults ≡ [] → IsSmallType d.value → Each (IsFew tokens) (in_type d.value) → s.inner.pending ≡ [] → Agree tokens p b None s m below (type_tokens d.value ks) →
       StepResult b None s (type_step s d).scopes ((d.name.name, scopes.type_meaning (meant.type_in m d.value).0) ∷ (meant.type_in m d.value).1) below ks
@@ -231,7 +243,7 @@ module _ (tokens : Tokens) (p : Program) where
       let t : Typed = typed a spot.Definition d.value in
       let r = type_reached b s a (d.name ∷ []) m below ks spot.Definition d.value (name_result b None s d.name m below (type_tokens d.value ks) (none_left (reserve_name s d.name).faults (faults (t.type >>= to_kind)) e) empty h)
       (none_first t.type to_kind (none_right (reserve_name s d.name).faults (faults (t.type >>= to_kind)) e)) small few in
-      kind_declared b s d.name t (meant.type_in m d.value).1 below ks (meant.type_in m d.value).0 r.value r.is r.typed.belongs (standing_at spot.Definition (meant.type_in m d.value).0 r.typed.stands) r.fresh.0 r.outer r.more r.agree
+      kind_declared b s d.name t (meant.type_in m d.value).1 below ks (meant.type_in m d.value).0 r.value r.is r.typed.belongs (standing_at spot.Definition (meant.type_in m d.value).0 r.typed.stands) r.fresh.0 r.outer r.more r.appends r.agree
 
   pub types_agree : (b : Bool) (s : Scopes) (m below : scopes.Scope) (ks : List ℕ) (ds : List TypeDefinition) → (type_steps s ds).faults ≡ [] → Each (λ d. IsSmallType d.value) ds → Each (IsFew tokens) (each_in (λ d. in_type d.value) ds) → s.inner.pending ≡ [] → Agree tokens p b None s m below (all_tokens (λ d. type_tokens d.value) ds ks) →
       StepResult b None s (type_steps s ds).scopes (meant.types_in m ds) below ks
@@ -271,7 +283,7 @@ module _ (tokens : Tokens) (p : Program) where
       let r = type_reached b s a g.names m below ks q g.variable_type (names_result b None s g.names m below (type_tokens g.variable_type ks) (none_left (reserve_names s g.names).faults (faults (t.type >>= to_variable)) e) empty h)
       (none_first t.type to_variable (none_right (reserve_names s g.names).faults (faults (t.type >>= to_variable)) e)) small few in
       subst (λ (j : Judged ValueType). StepResult b None s (add_all t.scopes g.names (as_declared (j >>= to_variable))) (meant.with_names (meant.names_of g.names) (kind u.0) u.1) below ks) (sym r.is)
-      (all_declared b None s t.scopes g.names u.1 below ks (meaning.Variable r.value) (kind u.0) r.fresh r.others (λ i. how.hidden i u.0) (λ w i n. how.new w u.0 r.value (typed_moved t.scopes.shapes w.shapes q u.0 r.value i r.typed) n) r.outer r.more r.agree)
+      (all_declared b None s t.scopes g.names u.1 below ks (meaning.Variable r.value) (kind u.0) r.fresh r.others (λ i. how.hidden i u.0) (λ w i n. how.new w u.0 r.value (typed_moved t.scopes.shapes w.shapes q u.0 r.value i r.typed) n) r.outer r.more r.appends r.agree)
 
   pub variables_agree : (b : Bool) (q : Spot) (kind : Ty → scopes.Meaning) → Kind b q kind → (s : Scopes) (o : Block) (below : scopes.Scope) (ks : List ℕ) (gs : List VariableGroup) → (variable_steps q s gs).faults ≡ [] → Each (λ g. IsSmallType g.variable_type) gs → Each (IsFew tokens) (each_in (λ g. in_type g.variable_type) gs) → s.inner.pending ≡ [] → Agree tokens p b None s o.scope below (all_tokens (λ g. type_tokens g.variable_type) gs ks) →
       StepResult b None s (variable_steps q s gs).scopes (meant.variables_in kind o gs).scope below ks

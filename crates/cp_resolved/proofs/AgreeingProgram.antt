@@ -36,7 +36,7 @@ use Rattle.cp_resolved.specs.Small.{Each, IsSmallDefinition, IsSmallProgramPart,
 use Rattle.cp_resolved.specs.Standing.{IsFit, IsStandingVariable, IsStandingParameter}
 use Rattle.cp_resolved.specs.Tokens.{AreDifferent, all_tokens, routine_tokens, definition_tokens, program_part_tokens, program_tokens}
 use Rattle.cp_resolved.specs.Typed.{Tokens, SystemThere, RangeIs, TypeIs, predeclared_of, MeaningIs}
-use Rattle.cp_resolved.proofs.Agreeing.{none_left, none_right, none_first, AreFree}
+use Rattle.cp_resolved.proofs.Agreeing.{appends_none, none_left, none_right, none_first, AreFree}
 use Rattle.cp_resolved.proofs.AgreeingNames.{W, IsThere, IsKnown, Agree}
 use Rattle.cp_resolved.proofs.AgreeingTypes.{IsFew, standing_at}
 use Rattle.cp_resolved.proofs.AgreeingWritten.{each_left, each_right}
@@ -87,7 +87,7 @@ module _ (tokens : Tokens) (p : Program) where
       let w = type_reached tokens p true s a (n.name ∷ []) d.scope below ks spot.Definition t r e small few in
       record {
         places = tt;
-        step = kind_declared tokens p true s n.name (typed a spot.Definition t) (meant.type_in d.scope t).1 below ks (meant.type_in d.scope t).0 w.value w.is w.typed.belongs (standing_at spot.Definition (meant.type_in d.scope t).0 w.typed.stands) w.fresh.0 w.outer w.more w.agree;
+        step = kind_declared tokens p true s n.name (typed a spot.Definition t) (meant.type_in d.scope t).1 below ks (meant.type_in d.scope t).0 w.value w.is w.typed.belongs (standing_at spot.Definition (meant.type_in d.scope t).0 w.typed.stands) w.fresh.0 w.outer w.more w.appends w.agree;
         types = λ h. h;
         variables = λ h. h;
       }
@@ -98,7 +98,7 @@ module _ (tokens : Tokens) (p : Program) where
       record {
         places = w.places;
         step = kind_declared tokens p true s n.name t d.scope below ks (named.component_of c) (types.Component y.kind y.at) w.is (record { kind = y.kind; is = ap (types.Component y.kind) (sym number.token); only = λ k i. number.only k (i ∙ number.token); there = subst (λ (k : ℕ). SystemThere k t.scopes.shapes) (sym number.token) w.closed.there }) refl
-            (ap (λ (ds : Names). is_some (checker.find n.name.name ds)) w.closed.names ∙ r.reserved.pends n.name.name r.reserved.all.0) (w.closed.outer ∙ r.outer) (λ k f i. w.closed.more k f (ap (shape_in k) r.shapes ∙ i)) w.closed.agree;
+            (ap (λ (ds : Names). is_some (checker.find n.name.name ds)) w.closed.names ∙ r.reserved.pends n.name.name r.reserved.all.0) (w.closed.outer ∙ r.outer) (λ k f i. w.closed.more k f (ap (shape_in k) r.shapes ∙ i)) (appends_none s.inner.names t.scopes.inner.names (w.closed.names ∙ r.reserved.names)) w.closed.agree;
         types = λ h. each_last d.systems (system_in (seen_inside d.scope) y) h (w.variables, w.parameters);
         variables = λ h. h;
       }
@@ -293,6 +293,7 @@ module _ (tokens : Tokens) (p : Program) where
         outer = λ x g. always_known start x (look_outer x start.outer) (always_found x (look_scope start).names predeclared predeclared_always);
         own = tt;
         base = λ x. always_fit (look_outer x start.outer) (find x predeclared) (always_found x (look_scope start).names predeclared predeclared_always);
+        limited = (omega arith, (omega arith, (omega arith, (omega arith, (tt, (tt, (tt, (tt, (tt, (tt, (tt, (tt, (tt, (tt, (tt, tt)))))))))))))));
         free = all_free ks;
         different = different;
         entries = λ k n y e. absurd (let bad : None ≡ Some (Some (meaning.Routine n)) = e in cc);
@@ -302,7 +303,7 @@ module _ (tokens : Tokens) (p : Program) where
   -- ---- the program
 
   agree_plain : (s : Scopes) (m below : scopes.Scope) (ks : List ℕ) → Agree tokens p true None s m below ks → Agree tokens p false None s m below ks
-  agree_plain s m below ks h = record { unsealed = h.unsealed; names = h.names; seen = h.names; outer = h.outer; own = tt; base = h.base; free = h.free; different = h.different; entries = h.entries; starts = h.starts }
+  agree_plain s m below ks h = record { unsealed = h.unsealed; names = h.names; seen = h.names; outer = h.outer; own = tt; base = h.base; limited = h.limited; free = h.free; different = h.different; entries = h.entries; starts = h.starts }
 
   uses_sound : (at : ℕ) (s : Scopes) (j : Judged Use) → limit_faults at s j ≡ [] → faults j ≡ []
   uses_sound at s (Ok u) k = refl

@@ -36,7 +36,7 @@ use Rattle.cp_resolved.specs.Openings.{with_routine}
 use Rattle.cp_resolved.specs.Small.{Each}
 use Rattle.cp_resolved.specs.Standing.{is_free, IsFit, IsFreeParameter, IsFreeResult}
 use Rattle.cp_resolved.specs.Typed.{Tokens, TypeIs, IsOrdinalResult, ResultIs, AreParameters, HeadingIs, RoutineIs}
-use Rattle.cp_resolved.proofs.Agreeing.{Good, good_then, good_sound, none_left, none_right, none_first, itself, is_itself, new_names, look_last, look_is, look_entered, find_last, inner_look, More, more_same, more_trans, with_more, with_there}
+use Rattle.cp_resolved.proofs.Agreeing.{Good, good_then, good_sound, none_left, none_right, none_first, itself, is_itself, new_names, look_last, look_is, look_entered, find_last, inner_look, More, more_same, more_trans, with_more, with_there, appends_none}
 use Rattle.cp_resolved.proofs.AgreeingNames.{W, heading_is_more, IsTypeKnown, IsStacked, New, Known, IsKnown, is_known_moved, stacked_more, find_first, find_other, since_other, last_or, Agree, sees, fits, agree_kept}
 use Rattle.cp_resolved.proofs.AgreeingTypes.{Held, held_named, KindOf, IsOrdinal, ordinal_of, type_seen, known_type}
 use Rattle.cp_resolved.proofs.AgreeingParameters.{free_handed, copies, parameters_both, copies_are, names_read, shapes_added}
@@ -89,7 +89,7 @@ module _ (tokens : Tokens) (p : Program) where
       let v = good_sound (PlainType a.shapes t) j (parameter_good a m g (type_seen tokens p false but a m below ks g.type_name.at g.type_name.name r.agree)) (none_first j (headings.to_parameter is_var) (none_right (reserve_names s g.names).faults (faults (j >>= headings.to_parameter is_var)) e)) in
       subst (λ (i : Judged ValueType). StepResult tokens p false but s (add_all a g.names (as_declared (i >>= headings.to_parameter is_var))) (meant.with_names (meant.names_of g.names) (scopes.local_variable t) m) below ks) (sym v.is)
       (all_declared tokens p false but s a g.names m below ks (if is_var then meaning.Reference v.value else meaning.Parameter v.value) (scopes.local_variable t) (pending_fresh a.inner g.names a.inner.pending r.reserved.pends r.reserved.all) r.reserved.others (λ i. absurd (cc))
-      (λ u i n. parameter_new is_var a.shapes u n t v.value i v.holds) r.outer (λ k d i. ap (shape_in k) r.shapes ∙ i) r.agree)
+      (λ u i n. parameter_new is_var a.shapes u n t v.value i v.holds) r.outer (λ k d i. ap (shape_in k) r.shapes ∙ i) (appends_none s.inner.names a.inner.names r.reserved.names) r.agree)
 
   groups_agree : (own : Name) (s : Scopes) (h : meant.Heading) (below : scopes.Scope) (ks : List ℕ) (gs : List Group) → (headings.group_steps s gs).faults ≡ [] → s.inner.pending ≡ [] → Agree tokens p false (Some own) s h.scope below ks →
       StepResult tokens p false (Some own) s (headings.group_steps s gs).scopes (meant.with_groups scopes.local_variable h gs).scope below ks
@@ -336,6 +336,7 @@ module _ (tokens : Tokens) (p : Program) where
         own = subst (IsTypeKnown tokens (enter false s) k r.name.name) (sym (look_entered false r.name.name s))
             (subst (IsTypeKnown tokens (enter false s) m r.name.name) (look_is r.name.name s h.unsealed) (known_type tokens s (enter false s) m r.name.name (look r.name.name s) refl (sees tokens p false None s m below ks h r.name.name tt)));
         base = λ x. fit_routine x (bytes_eq x r.name.name) (fits tokens p false None s m below ks h x);
+        limited = (tt, h.limited);
         free = h.free;
         different = h.different;
         entries = h.entries;
@@ -461,6 +462,7 @@ module _ (tokens : Tokens) (p : Program) where
               (subst (IsKnown tokens a k x) (sym (look_last x s.outer c ∙ ap (λ o. or_else o (look_outer x s.outer)) (routine_last x s.inner r.name.name (announcing r) fresh))) (around a further known x (bytes_eq x r.name.name) refl));
           own = tt;
           base = kept.base;
+          limited = kept.limited;
           free = kept.free;
           different = kept.different;
           entries = kept.entries;

@@ -40,11 +40,12 @@ use Rattle.cp_meaning.specs.Expressions.{routine_of_system, routine_of_type}
 use Rattle.cp_resolved.specs.Enumerations.{each_in, in_part, in_routine, in_system}
 use Rattle.cp_resolved.specs.Judging.{Place, initial_place, routine_places, system_places, AreAgreed}
 use Rattle.cp_resolved.specs.Openings.{Opening, parts_scope, routine_openings, initial_opening, system_openings}
+use Rattle.cp_resolved.specs.Limited.{AreLimited}
 use Rattle.cp_resolved.specs.Small.{Each, IsSmallSystem}
 use Rattle.cp_resolved.specs.Standing.{is_element, is_standing, IsStandingVariable, IsStandingParameter}
 use Rattle.cp_resolved.specs.Tokens.{all_tokens, routine_tokens, system_tokens}
 use Rattle.cp_resolved.specs.Typed.{Tokens, SystemThere, IsValueParameter, TypeIs, IsHanded, AreParameters, HeadingIs, RoutineIs}
-use Rattle.cp_resolved.proofs.Agreeing.{Good, good_then, good_sound, none_left, none_right, none_first, look_entered, inner_look, More, more_same, more_trans, with_more, with_there, with_other, free_others}
+use Rattle.cp_resolved.proofs.Agreeing.{Good, good_then, good_sound, none_left, none_right, none_first, look_entered, inner_look, More, more_same, more_trans, with_more, with_there, with_other, free_others, appends_none}
 use Rattle.cp_resolved.proofs.AgreeingNames.{W, HeadingThere, heading_kept, heading_more, heading_is_more, parameters_more, AreStarts, New, Known, IsKnown, is_known_moved, IsStacked, AreEntries, Agree, sees, sees_of, fit_of, agree_returned}
 use Rattle.cp_resolved.proofs.AgreeingTypes.{Held, held_named, IsFew, KindOf, type_named}
 use Rattle.cp_resolved.proofs.AgreeingWritten.{each_left, each_right}
@@ -60,6 +61,14 @@ agreed_append tokens p [] ys [] qs h g = g
 agreed_append tokens p (x ∷ xs) ys (o ∷ os) qs h g = (h.0, agreed_append tokens p xs ys os qs h.1 g)
 agreed_append tokens p [] ys (o ∷ os) qs h g = absurd h
 agreed_append tokens p (x ∷ xs) ys [] qs h g = absurd h
+
+seen_limited : (m : scopes.Scope) → AreLimited m → AreLimited (seen_inside m)
+seen_limited [] h = tt
+seen_limited (d ∷ ds) h = go (scopes.is_seen d.1) (seen_limited ds h.1)
+  where
+    go : (b : Bool) → AreLimited (seen_inside ds) → AreLimited (if b then d ∷ seen_inside ds else seen_inside ds)
+    go true rest = (h.0, rest)
+    go false rest = rest
 
 module _ (tokens : Tokens) (p : Program) where
   -- ---- parameters
@@ -134,7 +143,7 @@ module _ (tokens : Tokens) (p : Program) where
       let v = good_sound (KindOf tokens a.shapes t) j (parameter_good o a m g (sees tokens p false None a m below ks r.agree g.type_name.name tt)) (none_first j systems_of.to_parameter (none_right (reserve_names s g.names).faults (faults (j >>= systems_of.to_parameter)) e)) in
       subst (λ (i : Judged ValueType). StepResult tokens p false None s (add_all a g.names (as_declared (i >>= systems_of.to_parameter))) (meant.with_names (meant.names_of g.names) (scopes.permanent_variable t) m) below ks) (sym v.is)
       (all_declared tokens p false None s a g.names m below ks (meaning.Parameter v.value) (scopes.permanent_variable t) (pending_fresh a.inner g.names a.inner.pending r.reserved.pends r.reserved.all) r.reserved.others (λ i. absurd (cc))
-      (λ u i n. parameter_new a.shapes u n t v.value i v.holds) r.outer (λ k d i. ap (shape_in k) r.shapes ∙ i) r.agree)
+      (λ u i n. parameter_new a.shapes u n t v.value i v.holds) r.outer (λ k d i. ap (shape_in k) r.shapes ∙ i) (appends_none s.inner.names a.inner.names r.reserved.names) r.agree)
 
   groups_agree : (o : SystemKind) (s : Scopes) (h : meant.Heading) (below : scopes.Scope) (ks : List ℕ) (gs : List Group) → (systems_of.group_steps o s gs).faults ≡ [] → s.inner.pending ≡ [] → Agree tokens p false None s h.scope below ks →
       StepResult tokens p false None s (systems_of.group_steps o s gs).scopes (meant.with_groups scopes.permanent_variable h gs).scope below ks
@@ -225,6 +234,7 @@ module _ (tokens : Tokens) (p : Program) where
             (sees_of tokens p s (seen_inside m) below x (inner_look true s x) (look_outer x s.outer) (h.seen x) (h.outer x tt)));
         own = tt;
         base = λ x. fit_of tokens p s (seen_inside m) below x (inner_look true s x) (h.seen x) (h.base x);
+        limited = seen_limited m h.limited;
         free = h.free;
         different = h.different;
         entries = h.entries;

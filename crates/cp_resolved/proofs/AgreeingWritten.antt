@@ -41,7 +41,7 @@ use Rattle.cp_resolved.specs.Layouts.{cells_of, cells_in}
 use Rattle.cp_resolved.specs.Standing.{is_bounded, is_based, are_few, is_indexed, is_free, are_free, is_element, is_standing}
 use Rattle.cp_resolved.specs.Tokens.{type_tokens, groups_tokens}
 use Rattle.cp_resolved.specs.Typed.{Tokens, BaseIs, RangeIs, TypeIs, FieldsAre}
-use Rattle.cp_resolved.proofs.Agreeing.{Good, good_then, Sound, good_sound, none_left, none_right, none_first, none_of_both, new_names, find_last, is_itself, More, more_same, more_trans, with_more, with_there}
+use Rattle.cp_resolved.proofs.Agreeing.{Appends, appends_none, appends_same, appends_then, Good, good_then, Sound, good_sound, none_left, none_right, none_first, none_of_both, new_names, find_last, is_itself, More, more_same, more_trans, with_more, with_there}
 use Rattle.cp_resolved.proofs.AgreeingCells.{array_takes, record_takes}
 use Rattle.cp_resolved.proofs.AgreeingNames.{W, Agree, sees, agree_added, agree_kept, type_more, fields_more}
 use Rattle.cp_resolved.proofs.AgreeingTypes.{StandsAt, stands_free, spotted_stands, held_array, IsOrdinal, ordinal_of, IsFew, TypedAs, type_spotted, subrange_typed}
@@ -118,6 +118,7 @@ module _ (tokens : Tokens) (p : Program) where
     pub pending : t.scopes.inner.pending ≡ s.inner.pending
     pub pends : Pends t.scopes.inner
     pub more : More s.shapes t.scopes.shapes
+    pub appends : Appends s.inner.names t.scopes.inner.names
 
   -- ---- enumerations
 
@@ -127,6 +128,7 @@ module _ (tokens : Tokens) (p : Program) where
     pub pending : t.inner.pending ≡ s.inner.pending
     pub pends : Pends t.inner
     pub shapes : t.shapes ≡ s.shapes
+    pub appends : Appends s.inner.names t.inner.names
 
   -- an enumeration, its base, and its constants
   pub record Lists (at : ℕ) (xs : List Name) (c : check_base.Base) : Type 0 where
@@ -147,6 +149,7 @@ module _ (tokens : Tokens) (p : Program) where
         pending = added_pending s.inner i.name (Some (meaning.Constant c (pos k))) fresh;
         pends = added_pends s.inner i.name (Some (meaning.Constant c (pos k))) new pends;
         shapes = refl;
+        appends = ((i.name, Some (meaning.Constant c (pos k))) ∷ [], ap (λ (e : Scope). e.names) (new_names s.inner i.name (Some (meaning.Constant c (pos k))) fresh));
       }
 
   is_member : (s : Scopes) (c : check_base.Base) (k : ℕ) (i : Identifier) → (typing.member s c k i).faults ≡ [] → (is_declared s i.name ≡ false) × ((typing.member s c k i).scopes ≡ add s i.name (Some (meaning.Constant c (pos k))))
@@ -159,12 +162,12 @@ module _ (tokens : Tokens) (p : Program) where
       go false e = (refl, refl)
 
   members_then : (b : Bool) (s t u : Scopes) (below : scopes.Scope) (ks : List ℕ) (m k : scopes.Scope) → MembersResult b s t below ks m → MembersResult b t u below ks k → MembersResult b s u below ks k
-  members_then b s t u below ks m k h g = record { agree = g.agree; outer = g.outer ∙ h.outer; pending = g.pending ∙ h.pending; pends = g.pends; shapes = g.shapes ∙ h.shapes }
+  members_then b s t u below ks m k h g = record { agree = g.agree; outer = g.outer ∙ h.outer; pending = g.pending ∙ h.pending; pends = g.pends; shapes = g.shapes ∙ h.shapes; appends = appends_then s.inner.names t.inner.names u.inner.names h.appends g.appends }
 
   members_agree : (b : Bool) (s : Scopes) (m below : scopes.Scope) (ks : List ℕ) (at : ℕ) (xs : List Name) (c : check_base.Base) (n k : ℕ) (is : List Identifier) → Lists at xs c → n ≡ k → k + length is ≡ length xs → (typing.members s c n is).faults ≡ [] → Pends s.inner → Agree tokens p b None s m below ks →
       MembersResult b s (typing.members s c n is).scopes below ks (meant.with_constants (named.enumerated at xs) k (meant.names_of is) m)
   unfolding typing.members
-  members_agree b s m below ks at xs c n k [] l same count e pends agree = record { agree = agree; outer = refl; pending = refl; pends = pends; shapes = refl }
+  members_agree b s m below ks at xs c n k [] l same count e pends agree = record { agree = agree; outer = refl; pending = refl; pends = pends; shapes = refl; appends = appends_same s.inner.names }
   members_agree b s m below ks at xs c n k (i ∷ is) l same count e pends agree =
       let one : (is_declared s i.name ≡ false) × ((typing.member s c n i).scopes ≡ add s i.name (Some (meaning.Constant c (pos n)))) = is_member s c n i (none_left (typing.member s c n i).faults (typing.members (typing.member s c n i).scopes c (n + 1) is).faults e) in
       let less : k < length xs = omega (arith, count) in
@@ -207,11 +210,11 @@ module _ (tokens : Tokens) (p : Program) where
   simple_agrees b s m below ks q (syntax.type_name at x) e small few pends agree =
       let v : Sound (TypedAs tokens s.shapes q (meant.type_named m x)) (typing.type_spotted s q at x) =
       good_sound (TypedAs tokens s.shapes q (meant.type_named m x)) (typing.type_spotted s q at x) (type_spotted tokens s m q at x (sees tokens p b None s m below ks agree x tt)) e in
-      record { value = v.value; is = v.is; typed = v.holds; agree = agree; outer = refl; pending = refl; pends = pends; more = more_same s.shapes }
+      record { value = v.value; is = v.is; typed = v.holds; agree = agree; outer = refl; pending = refl; pends = pends; more = more_same s.shapes; appends = appends_same s.inner.names }
   simple_agrees b s m below ks q (syntax.subrange at c d) e small few pends agree =
       let v = good_sound (TypedAs tokens s.shapes q (meant.simple_in m (syntax.subrange at c d)).0) (both (constant s c) (constant s d) >>= typing.ranged at)
       (subrange_typed tokens s m q at c d small (λ x. sees tokens p b None s m below ks agree x tt)) e in
-      record { value = v.value; is = v.is; typed = v.holds; agree = agree; outer = refl; pending = refl; pends = pends; more = more_same s.shapes }
+      record { value = v.value; is = v.is; typed = v.holds; agree = agree; outer = refl; pending = refl; pends = pends; more = more_same s.shapes; appends = appends_same s.inner.names }
   simple_agrees b s m below ks q (syntax.enumeration at is) e small few pends agree =
       let none : (typing.members s (typing.base_of at is) 0 is).faults ≡ [] = no_faults (typing.members s (typing.base_of at is) 0 is).faults (types.Ordinal (whole (typing.base_of at is))) e in
       let same : length (meant.names_of is) ≡ length is = length-map is (λ i. i.name) in
@@ -225,6 +228,7 @@ module _ (tokens : Tokens) (p : Program) where
         pending = r.pending;
         pends = r.pends;
         more = λ k d g. ap (shape_in k) r.shapes ∙ g;
+        appends = r.appends;
       }
 
   -- ---- arrays
@@ -282,10 +286,10 @@ module _ (tokens : Tokens) (p : Program) where
   array_good s q at i e (types.Record n) ev h g = tt
   array_good s q at i e (types.Component k n) ev h g = tt
 
-  array_kept : (b : Bool) (s u : Scopes) (m below : scopes.Scope) (ks : List ℕ) (q : Spot) (at : ℕ) (i e : Ty) (j : Judged ArrayShape) → Sound (ArrayAs u.shapes q i e) j → Agree tokens p b None u m below (at ∷ ks) → u.outer ≡ s.outer → u.inner.pending ≡ s.inner.pending → Pends u.inner → More s.shapes u.shapes →
+  array_kept : (b : Bool) (s u : Scopes) (m below : scopes.Scope) (ks : List ℕ) (q : Spot) (at : ℕ) (i e : Ty) (j : Judged ArrayShape) → Sound (ArrayAs u.shapes q i e) j → Agree tokens p b None u m below (at ∷ ks) → u.outer ≡ s.outer → u.inner.pending ≡ s.inner.pending → Pends u.inner → More s.shapes u.shapes → Appends s.inner.names u.inner.names →
       TypeResult b s below ks q (record { type = j >>= typing.to_array at; scopes = typing.keep_array u at j }) (named.array_over (range_of i) e, m)
   unfolding keep
-  array_kept b s u m below ks q at i e j a agree outer pending pends more =
+  array_kept b s u m below ks q at i e j a agree outer pending pends more appends =
       let further : More u.shapes (with_shape u.shapes at (array_shape a.value)) = with_more u.shapes at (array_shape a.value) agree.free.0 in
       subst (λ (k : Judged ArrayShape). TypeResult b s below ks q (record { type = k >>= typing.to_array at; scopes = typing.keep_array u at k }) (named.array_over (range_of i) e, m)) (sym a.is)
       (record {
@@ -300,19 +304,20 @@ module _ (tokens : Tokens) (p : Program) where
         pending = pending;
         pends = pends;
         more = more_trans s.shapes u.shapes (with_shape u.shapes at (array_shape a.value)) more further;
+        appends = appends;
       })
 
-  array_typed : (b : Bool) (s u : Scopes) (below : scopes.Scope) (ks : List ℕ) (q : Spot) (at : ℕ) (i : Ty) (ij : Judged ValueType) (iv : ValueType) (t : Typed) (e : Ty × scopes.Scope) → ij ≡ Ok iv → TypedAs tokens u.shapes spot.Other i iv → More u.shapes t.scopes.shapes → u.outer ≡ s.outer → u.inner.pending ≡ s.inner.pending → More s.shapes u.shapes →
+  array_typed : (b : Bool) (s u : Scopes) (below : scopes.Scope) (ks : List ℕ) (q : Spot) (at : ℕ) (i : Ty) (ij : Judged ValueType) (iv : ValueType) (t : Typed) (e : Ty × scopes.Scope) → ij ≡ Ok iv → TypedAs tokens u.shapes spot.Other i iv → More u.shapes t.scopes.shapes → u.outer ≡ s.outer → u.inner.pending ≡ s.inner.pending → More s.shapes u.shapes → Appends s.inner.names u.inner.names →
       TypeResult b u below (at ∷ ks) spot.Element t e → faults (typing.array_typed q at ij t).type ≡ [] → TypeResult b s below ks q (typing.array_typed q at ij t) (named.array_over (range_of i) e.0, e.1)
   unfolding typing.arrayed
-  array_typed b s u below ks q at i ij iv t e is h more outer pending before r none =
+  array_typed b s u below ks q at i ij iv t e is h more outer pending before longer r none =
       let index : TypedAs tokens t.scopes.shapes spot.Other i iv = record { belongs = type_more tokens u.shapes t.scopes.shapes more i iv h.belongs; stands = h.stands } in
       let good : Good (ArrayAs t.scopes.shapes q i e.0) (both ij t.type >>= typing.arrayed t.scopes q at) =
       subst (λ (j : Judged ValueType). Good (ArrayAs t.scopes.shapes q i e.0) (both j t.type >>= typing.arrayed t.scopes q at)) (sym is)
       (subst (λ (j : Judged ValueType). Good (ArrayAs t.scopes.shapes q i e.0) (both (Ok iv) j >>= typing.arrayed t.scopes q at)) (sym r.is) (array_good t.scopes q at i e.0 iv r.value index r.typed)) in
       array_kept b s t.scopes e.1 below ks q at i e.0 (both ij t.type >>= typing.arrayed t.scopes q at)
       (good_sound (ArrayAs t.scopes.shapes q i e.0) (both ij t.type >>= typing.arrayed t.scopes q at) good (none_first (both ij t.type >>= typing.arrayed t.scopes q at) (typing.to_array at) none))
-      r.agree (r.outer ∙ outer) (r.pending ∙ pending) r.pends (more_trans s.shapes u.shapes t.scopes.shapes before r.more)
+      r.agree (r.outer ∙ outer) (r.pending ∙ pending) r.pends (more_trans s.shapes u.shapes t.scopes.shapes before r.more) (appends_then s.inner.names u.inner.names t.scopes.inner.names longer r.appends)
 
   -- ---- sets
 
@@ -344,7 +349,7 @@ module _ (tokens : Tokens) (p : Program) where
   set_typed b s below ks q at base_at t u r none =
       let v = good_sound (TypedAs tokens t.scopes.shapes q (named.set_over (range_of u.0))) (t.type >>= typing.set_of at base_at)
       (subst (λ (j : Judged ValueType). Good (TypedAs tokens t.scopes.shapes q (named.set_over (range_of u.0))) (j >>= typing.set_of at base_at)) (sym r.is) (set_good t.scopes.shapes q at base_at u.0 r.value r.typed)) none in
-      record { value = v.value; is = v.is; typed = v.holds; agree = r.agree; outer = r.outer; pending = r.pending; pends = r.pends; more = r.more }
+      record { value = v.value; is = v.is; typed = v.holds; agree = r.agree; outer = r.outer; pending = r.pending; pends = r.pends; more = r.more; appends = r.appends }
 
   -- ---- records
 
@@ -360,6 +365,7 @@ module _ (tokens : Tokens) (p : Program) where
     pub pending : t.scopes.inner.pending ≡ s.inner.pending
     pub pends : Pends t.scopes.inner
     pub more : More s.shapes t.scopes.shapes
+    pub appends : Appends s.inner.names t.scopes.inner.names
 
   -- fields of one type before others
   fields_of_type : (ss : checker.Shapes) (is : List Identifier) (t : Ty) (v : ValueType) (ts : FieldTypes) (ds : Names) → TypeIs (W tokens ss) t v → FieldsAre (W tokens ss) ts ds → FieldsAre (W tokens ss) (meant.more_of_type is t ts) (named_all is (Some (meaning.Variable v)) ++ ds)
@@ -386,6 +392,7 @@ module _ (tokens : Tokens) (p : Program) where
     pub pending : t.scopes.inner.pending ≡ s.inner.pending
     pub pends : Pends t.scopes.inner
     pub more : More s.shapes t.scopes.shapes
+    pub appends : Appends s.inner.names t.scopes.inner.names
 
   group_filled : (b : Bool) (s : Scopes) (below : scopes.Scope) (ks : List ℕ) (f : Scope) (is : List Identifier) (t : Typed) (u : Ty × scopes.Scope) → f.pending ≡ [] → (reserve_fields f is).faults ≡ [] → TypeResult b s below ks spot.Other t u →
       GroupResult b s below ks f is (typing.fields_declared is (reserve_fields f is) t) u.0 u.1
@@ -406,6 +413,7 @@ module _ (tokens : Tokens) (p : Program) where
         pending = r.pending;
         pends = r.pends;
         more = r.more;
+        appends = r.appends;
       }
 
   fields_then : (b : Bool) (s : Scopes) (below : scopes.Scope) (ks js : List ℕ) (f : Scope) (is : List Identifier) (t w : Fields) (u : Ty) (m : scopes.Scope) (v : FieldTypes × scopes.Scope) → GroupResult b s below js f is t u m → FieldsResult b t.scopes below ks t.fields w v → FieldsResult b s below ks f (record { faults = t.faults ++ w.faults; fields = w.fields; scopes = w.scopes }) (meant.more_of_type is u v.0, v.1)
@@ -422,6 +430,7 @@ module _ (tokens : Tokens) (p : Program) where
         pending = r.pending ∙ g.pending;
         pends = r.pends;
         more = more_trans s.shapes t.scopes.shapes w.scopes.shapes g.more r.more;
+        appends = appends_then s.inner.names t.scopes.inner.names w.scopes.inner.names g.appends r.appends;
       }
 
   -- a record that is not too large
@@ -466,6 +475,7 @@ module _ (tokens : Tokens) (p : Program) where
         pending = r.pending;
         pends = r.pends;
         more = more_trans s.shapes f.scopes.shapes (with_shape f.scopes.shapes at (record_shape f.fields n)) r.more further;
+        appends = r.appends;
       })
 
   record_typed : (b : Bool) (s : Scopes) (below : scopes.Scope) (ks : List ℕ) (q : Spot) (at : ℕ) (f : Fields) (u : FieldTypes × scopes.Scope) → faults (typing.record_typed at f).type ≡ [] → FieldsResult b s below (at ∷ ks) new_scope f u → TypeResult b s below ks q (typing.record_typed at f) (named.record_with u.0, u.1)
@@ -493,7 +503,7 @@ module _ (tokens : Tokens) (p : Program) where
         let index = simple_agrees b s m below (type_tokens t (at ∷ ks)) spot.Other i none.0 small.0 (each_left (IsFew tokens) (in_simple i) (in_type t) few) pends agree in
         let u : Scopes = (typing.simple_typed s spot.Other i).scopes in
         let element = type_agrees b u (meant.simple_in m i).1 below (at ∷ ks) spot.Element t none.1 small.1 (each_right (IsFew tokens) (in_simple i) (in_type t) few) index.pends index.agree in
-        array_typed b s u below ks q at (meant.simple_in m i).0 (typing.simple_typed s spot.Other i).type index.value (typed u spot.Element t) (meant.type_in (meant.simple_in m i).1 t) index.is index.typed element.more index.outer index.pending index.more element e
+        array_typed b s u below ks q at (meant.simple_in m i).0 (typing.simple_typed s spot.Other i).type index.value (typed u spot.Element t) (meant.type_in (meant.simple_in m i).1 t) index.is index.typed element.more index.outer index.pending index.more index.appends element e
     type_agrees b s m below ks q (syntax.set_type at t) e small few pends agree =
         set_typed b s below ks q at (typing.simple_at t) (typing.simple_typed s spot.Base t) (meant.simple_in m t) (simple_agrees b s m below ks spot.Base t (none_first (typing.simple_typed s spot.Base t).type (typing.set_of at (typing.simple_at t)) e) small few pends agree) e
     type_agrees b s m below ks q (syntax.record_of at gs o) e small few pends agree =
@@ -503,7 +513,7 @@ module _ (tokens : Tokens) (p : Program) where
     groups_agree : (b : Bool) (s : Scopes) (m below : scopes.Scope) (ks : List ℕ) (f : Scope) (gs : syntax.FieldGroups) → (typing.groups_typed f s gs).faults ≡ [] → f.pending ≡ [] → AreSmallGroups gs → Each (IsFew tokens) (in_groups gs) → Pends s.inner → Agree tokens p b None s m below (groups_tokens gs ks) →
         FieldsResult b s below ks f (typing.groups_typed f s gs) (meant.fields_in m gs)
     groups_agree b s m below ks f syntax.no_fields e empty small few pends agree =
-        record { names = []; is = sym (append-nil f.names); each = refl; free = refl; sealed = refl; settled = empty; agree = agree; outer = refl; pending = refl; pends = pends; more = more_same s.shapes }
+        record { names = []; is = sym (append-nil f.names); each = refl; free = refl; sealed = refl; settled = empty; agree = agree; outer = refl; pending = refl; pends = pends; more = more_same s.shapes; appends = appends_same s.inner.names }
     groups_agree b s m below ks f (syntax.more_fields (syntax.fields is t) gs) e empty small few pends agree =
         let first : Fields = typing.group_typed f s (syntax.fields is t) in
         let none : (reserve_fields f is).faults ++ faults (typed s spot.Other t).type ≡ [] = none_left first.faults (typing.groups_typed first.fields first.scopes gs).faults e in

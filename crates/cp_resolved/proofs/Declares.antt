@@ -126,7 +126,7 @@ with_declares : (l : Layer) (x : List ℕ) (t : ValueType) (o : Option Contained
 with_declares l x t None = declares_names l (_ ∷ []) _ l.frame
 with_declares l x t (Some c) = declares_names l (_ ∷ []) _ l.frame
 
-variable_declares : (l : Layer) (x : List ℕ) (t : ValueType) → Declares l (variable l x t)
+pub variable_declares : (l : Layer) (x : List ℕ) (t : ValueType) → Declares l (variable l x t)
 variable_declares l x t = with_declares l x t (components_of l.types t)
 
 pub variables_of_declare : (l : Layer) (t : ValueType) (is : List Identifier) → Declares l (variables_of l t is)
@@ -181,7 +181,7 @@ local_parts_declare l (p ∷ ps) = declares_trans l (local_part l p) (local_part
 
 -- ---- headings
 
-constant_parameters_declare : (l : Layer) (ps : Parameters) (t : ValueType) (is : List Identifier) → Declares l (constant_parameters_of l ps t is).1
+pub constant_parameters_declare : (l : Layer) (ps : Parameters) (t : ValueType) (is : List Identifier) → Declares l (constant_parameters_of l ps t is).1
 unfolding constant_parameters_of
 constant_parameters_declare l ps t [] = declares_none l
 constant_parameters_declare l ps t (i ∷ is) =
@@ -195,7 +195,7 @@ constant_groups_declare l ps (g ∷ gs) =
     let x : Parameters × Layer = constant_group l ps g in
     declares_trans l x.1 (constant_groups x.1 x.0 gs).1 (constant_parameters_declare l ps (named_type l g.type_name.name) g.names) (constant_groups_declare x.1 x.0 gs)
 
-var_parameters_declare : (l : Layer) (ps : Parameters) (t : ValueType) (is : List Identifier) → Declares l (var_parameters_of l ps t is).1
+pub var_parameters_declare : (l : Layer) (ps : Parameters) (t : ValueType) (is : List Identifier) → Declares l (var_parameters_of l ps t is).1
 unfolding var_parameters_of
 var_parameters_declare l ps t [] = declares_none l
 var_parameters_declare l ps t (i ∷ is) =
@@ -222,7 +222,7 @@ heading_declares l x (syntax.function gs i) =
 
 -- ---- parameters of a system type
 
-system_parameter_declares : (l : Layer) (ps : Parameters) (x : List ℕ) (t : ValueType) → Declares l (system_parameter l ps x t).1
+pub system_parameter_declares : (l : Layer) (ps : Parameters) (x : List ℕ) (t : ValueType) → Declares l (system_parameter l ps x t).1
 system_parameter_declares l ps x (types.Ordinal r) = declares_names l (_ ∷ []) _ l.frame
 system_parameter_declares l ps x types.Queue = declares_names l (_ ∷ []) _ l.frame
 system_parameter_declares l ps x (types.Set r) = declares_names l (_ ∷ []) _ l.frame

@@ -26,7 +26,7 @@ count l = length l.items + length l.pending
 one_more : {X : Type 0} (xs : List X) (x : X) → length (xs ++ x ∷ []) ≡ length xs + 1
 one_more xs x = length-append xs (x ∷ [])
 
-added_one : (l : Layer) (at : ℕ) (a : Action) (need : ℕ) → count (added l at a need) ≡ count l + 1
+pub added_one : (l : Layer) (at : ℕ) (a : Action) (need : ℕ) → count (added l at a need) ≡ count l + 1
 added_one l at a need =
     let p : Pending = record { action = a; line = slice_index l.lines at; need = need } in
     let e = one_more l.pending p in
@@ -42,7 +42,7 @@ all_settled l (p ∷ ps) next =
     let f = one_more rest.1.items i in
     (omega (arith, e, f), h.1)
 
-settled_same : (l : Layer) (next : Option ℕ) → count (settled l next).1 ≡ count l
+pub settled_same : (l : Layer) (next : Option ℕ) → count (settled l next).1 ≡ count l
 settled_same l next =
     let h = all_settled (without_pending l) l.pending next in
     let e = h.0 in

@@ -28,7 +28,7 @@ use Rattle.cp_resolved.proofs.Foreign.{each_append}
 use Rattle.cp_resolved.proofs.Numbered.{names_room}
 use Rattle.cp_resolved.proofs.Walked.{statements_walked}
 
-each_entry : {A : Type 0} (Q : A → Type 0) (xs : List A) (n : ℕ) (x : A) → slice_get xs n ≡ Some x → Each Q xs → Q x
+pub each_entry : {A : Type 0} (Q : A → Type 0) (xs : List A) (n : ℕ) (x : A) → slice_get xs n ≡ Some x → Each Q xs → Q x
 each_entry Q [] n x e h = absurd (none-some x e)
 each_entry Q (y ∷ xs) zero x e h = subst Q (same_Some y x e) h.0
 each_entry Q (y ∷ xs) (suc n) x e h = each_entry Q xs n x e h.1
@@ -68,6 +68,9 @@ module _ (total low k : ℕ) where
           let b : v.reference_room + low ≤ total = each_entry (λ (q : RoutineView). q.reference_room + low ≤ total) l.routines r v e h.routines in
           record { routines = h.routines; frame = omega (arith, a, b); extents = h.extents }
 
+  within_call : (l : Layer) (r at : ℕ) (a : Action) (need : ℕ) → Within total low k l → Within total low k (added (with_room (with_cell l) r) at a need)
+  within_call l r at a need h = within_added (with_room (with_cell l) r) at a need (within_room (with_cell l) r (within_cell l h))
+
   all_settled : (l : Layer) (ps : List Pending) (next : Option ℕ) → Within total low k l → Within total low k (settled_all l ps next).1
   all_settled l [] next h = h
   all_settled l (p ∷ ps) next h = let f = all_settled l ps next h in record { routines = f.routines; frame = f.frame; extents = f.extents }
@@ -79,7 +82,7 @@ module _ (total low k : ℕ) where
   body_level : (after : ℕ) (l : Layer) (b : syntax.Body) → after + k ≤ low → Within total low k l → Level total after (body l b)
   body_level after l b le h =
       let x : Option ℕ × Layer = statements l b.statements in
-      let f : Within total low k x.1 = statements_walked (Within total low k) within_cell within_count within_room within_added within_settled l b.statements h in
+      let f : Within total low k x.1 = statements_walked (Within total low k) within_call within_count within_room within_added within_settled l b.statements h in
       let a : x.1.frame.reference_room + low ≤ total = f.frame in
       let c : length x.1.frame.extents ≤ k = f.extents in
       let new : (routine_of x.1 x.0).reference_room + after ≤ total = omega (arith, a, c, le) in

@@ -16,7 +16,7 @@ view_few [] bound n lt h = absurd (omega arith)
 view_few (r ∷ rs) bound zero lt h = h.0
 view_few (r ∷ rs) bound (suc n) lt h = view_few rs bound n (omega arith) h.1
 
-laid_routines : (t : Tree) → (laid t).routines ≡ (program (nothing_laid t.lines) t.program).routines
+pub laid_routines : (t : Tree) → (laid t).routines ≡ (program (nothing_laid t.lines) t.program).routines
 unfolding laid tables_laid
 laid_routines t = refl
 

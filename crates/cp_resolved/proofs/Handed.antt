@@ -37,7 +37,7 @@ simple_owned l (syntax.subrange at c d) = refl
 mutual
   unfolding written_type field_groups field_group
 
-  written_owned : (l : Layer) (t : TypeTerm) → (written_type l t).1.owned ≡ l.owned
+  pub written_owned : (l : Layer) (t : TypeTerm) → (written_type l t).1.owned ≡ l.owned
   written_owned l (syntax.simple at s) = simple_owned l s
   written_owned l (syntax.array_of at s t) = written_owned (simple_type l s).1 t ∙ simple_owned l s
   written_owned l (syntax.set_type at s) = simple_owned l s
@@ -50,12 +50,12 @@ mutual
   group_owned : (l : Layer) (r : Fields) (g : FieldGroup) → (field_group l r g).1.owned ≡ l.owned
   group_owned l r (syntax.fields is t) = written_owned l t
 
-constants_owned : (l : Layer) (ds : List ConstantDefinition) → (constants l ds).owned ≡ l.owned
+pub constants_owned : (l : Layer) (ds : List ConstantDefinition) → (constants l ds).owned ≡ l.owned
 unfolding constants
 constants_owned l [] = refl
 constants_owned l (d ∷ ds) = constants_owned (constant l d) ds
 
-definitions_owned : (l : Layer) (ds : List TypeDefinition) → (type_definitions l ds).owned ≡ l.owned
+pub definitions_owned : (l : Layer) (ds : List TypeDefinition) → (type_definitions l ds).owned ≡ l.owned
 unfolding type_definitions
 definitions_owned l [] = refl
 definitions_owned l (d ∷ ds) = definitions_owned (type_definition l d) ds ∙ written_owned l d.value
@@ -112,7 +112,7 @@ unfolding heading
 heading_owned l x (syntax.procedure gs) = parameter_groups_owned l [] gs
 heading_owned l x (syntax.function gs i) = constant_groups_owned l [] gs
 
-body_owned : (l : Layer) (b : Body) → (body l b).owned ≡ l.owned
+pub body_owned : (l : Layer) (b : Body) → (body l b).owned ≡ l.owned
 body_owned l b = ap (λ (j : Layer). j.owned) (statements_grew l b.statements).1
 
 routine_owned : (l : Layer) (r : Routine) → (routine l r).owned ≡ l.owned
@@ -122,7 +122,7 @@ routine_owned l r =
     let m : Layer = with_heading h.1 h.0 in
     body_owned (local_parts m r.parts) r.body ∙ local_parts_owned m r.parts ∙ heading_owned x.1 r.name.name r.kind
 
-routines_owned : (l : Layer) (rs : List Routine) → (routines l rs).owned ≡ l.owned
+pub routines_owned : (l : Layer) (rs : List Routine) → (routines l rs).owned ≡ l.owned
 unfolding routines
 routines_owned l [] = refl
 routines_owned l (r ∷ rs) = routines_owned (routine l r) rs ∙ routine_owned l r

@@ -16,6 +16,7 @@ pub mod Applied
 pub mod AssignableForms
 pub mod Avoiding
 pub mod BegunKnown
+pub mod BegunWithin
 pub mod BodiesStand
 pub mod Calling
 pub mod CallingBodies
@@ -47,10 +48,14 @@ pub mod EnumerationsRead
 pub mod Expressions
 pub mod Extends
 pub mod FewCells
+pub mod FewCellsOfTables
+pub mod FewContents
 pub mod FewItems
 pub mod FewItemsOfTables
+pub mod FewLocals
 pub mod FewReferences
 pub mod FewReferencesOfTables
+pub mod FewRooms
 pub mod Fitted
 pub mod FittedStatements
 pub mod Fitting
@@ -89,6 +94,7 @@ pub mod KeptOwned
 pub mod Knowing
 pub mod KnowingSystems
 pub mod LeastCells
+pub mod LeastLengths
 pub mod Listing
 pub mod Loops
 pub mod Moved
@@ -136,6 +142,7 @@ pub mod ShapesWritten
 pub mod Sized
 pub mod Sizes
 pub mod SmallBodies
+pub mod SmallNames
 pub mod SmallPrograms
 pub mod SmallStatements
 pub mod SmallTexts

@@ -100,7 +100,7 @@ contents_component ts (content.Component ∷ cs) = let a = contents_component ts
 
 -- ---- the cells with which a variable begins
 
-copies_length : (n : ℕ) (zs : List ℤ) → length (copies n zs) ≡ n * length zs
+pub copies_length : (n : ℕ) (zs : List ℤ) → length (copies n zs) ≡ n * length zs
 unfolding copies
 copies_length zero zs = omega arith
 copies_length (suc n) zs = length-append (copies n zs) zs ∙ (let e = copies_length n zs in omega (arith, e))

@@ -10,13 +10,13 @@ use Rattle.cp_slots.specs.Layers.{Layer, again, with_cell, with_room, settled, a
 use Rattle.cp_slots.specs.LaidExpressions.{begun, with_count, counted, function_as, named_as, signed, name_at, expression, sum, more_terms, term, more_factors, factor, elements, first_value, arguments_from, designator, selectors, selector, arguments}
 use Rattle.cp_slots.specs.LaidStatements.{Target, target_of, assignment, assigned, performed, procedure, standard, Callee, a_standard_procedure, a_procedure, no_callee, callee_of, invoked_as, invoked, blocked, cycled, chosen, while_item, until_item, token_of, repeated, arms_need, selected, origin_of, low_of, high_of, is_down, for_item, initial_of, begun_component, Placed, placed_of, started_as, started, starts, statements, statement, arms, one_arm}
 
-module _ (F : Layer → Type 0) (cell : (l : Layer) → F l → F (with_cell l)) (counts : (l : Layer) (k : ℕ) → F l → F (with_count l k)) (room : (l : Layer) (r : ℕ) → F l → F (with_room l r)) (add : (l : Layer) (at : ℕ) (a : Action) (need : ℕ) → F l → F (added l at a need)) (settle : (l : Layer) (next : Option ℕ) → F l → F (settled l next).1) where
+module _ (F : Layer → Type 0) (call : (l : Layer) (r at : ℕ) (a : Action) (need : ℕ) → F l → F (added (with_room (with_cell l) r) at a need)) (counts : (l : Layer) (k : ℕ) → F l → F (with_count l k)) (room : (l : Layer) (r : ℕ) → F l → F (with_room l r)) (add : (l : Layer) (at : ℕ) (a : Action) (need : ℕ) → F l → F (added l at a need)) (settle : (l : Layer) (next : Option ℕ) → F l → F (settled l next).1) where
   function_walked : (l : Layer) (at : ℕ) (c : ComponentPlace) (b : Bool) (r : ℕ) (o : Option FunctionResult) (handed : Layer → ℕ → List Argument × Layer) → ((m : Layer) (k : ℕ) → F m → F (handed m k).1) → F l → F (function_as l at c b r o handed).1
   function_walked l at c b r None handed g h = h
   function_walked l at c b r (Some x) handed g h =
       let y : List Argument × Layer = handed l r in
       let m : Layer = (counted y).1 in
-      add (with_room (with_cell m) r) at (code.call r c b y.0 (Some (length m.frame.image))) (call_need (with_cell m) r) (room (with_cell m) r (cell m (counts y.1 (length y.0) (g l r h))))
+      call m r at (code.call r c b y.0 (Some (length m.frame.image))) (call_need (with_cell m) r) (counts y.1 (length y.0) (g l r h))
 
   named_walked : (l : Layer) (at : ℕ) (d : Designated) (first : Layer → Value × Layer) (handed : Layer → ℕ → List Argument × Layer) → ((m : Layer) → F m → F (first m).1) → ((m : Layer) (k : ℕ) → F m → F (handed m k).1) → F l → F (named_as l at d first handed).1
   named_walked l at (a_value v) first handed f g h = h

@@ -20,6 +20,7 @@ use Rattle.cp_meaning.specs.Scopes.{find}
 use Rattle.cp_meaning.specs.Systems.{system_of}
 use Rattle.cp_resolved.specs.Enumerations.{enumerations_of}
 use Rattle.cp_resolved.specs.Layouts.{Layouts, is_named}
+use Rattle.cp_resolved.specs.Limited.{AreLimited}
 use Rattle.cp_resolved.specs.Openings.{Opening, openings_of}
 use Rattle.cp_resolved.specs.Read.{IsRead}
 use Rattle.cp_resolved.specs.Small.{Each}
@@ -93,6 +94,8 @@ pub record IsAgreed (tokens : Tokens) (p : Program) (x : Place) (o : Opening) : 
   pub known : (y : Name) → look y x.scopes ≡ Some None → ⊥
   -- ranges are inside their bases, and queues and components stand alone or in arrays
   pub fit : (x : Name) → IsFit (find x o.meaning.scope)
+  -- no visible type or variable has more than 8,192 cells, and none that is hidden
+  pub limited : AreLimited o.meaning.scope
   pub variables : Each IsFreeVariable o.meaning.variables
   pub parameters : Each IsFreeParameter o.meaning.parameters
   pub result : IsFreeResult o.meaning.result

@@ -23,6 +23,7 @@ pub mod Judging
 pub mod Knows
 pub mod Layouts
 pub mod LayoutsKnow
+pub mod Limited
 pub mod Meant
 pub mod Names
 pub mod Once

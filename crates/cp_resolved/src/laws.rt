@@ -4,7 +4,7 @@ ghost use Rattle.cp_resolved.specs.Formed.{FormsLaw};
 ghost use Rattle.cp_resolved.specs.FormedBodies.{FormedLaw};
 ghost use Rattle.cp_resolved.specs.Judging.{ScopesLaw};
 ghost use Rattle.cp_resolved.specs.HeadingsKnow.{HeadingsLaw};
-ghost use Rattle.cp_resolved.specs.Held.{FewItemsLaw, FewReferencesLaw};
+ghost use Rattle.cp_resolved.specs.Held.{FewCellsLaw, FewItemsLaw, FewReferencesLaw};
 ghost use Rattle.cp_resolved.specs.BodiesStand.{BodiesLaw};
 ghost use Rattle.cp_resolved.specs.ComponentsAre.{ComponentsLaw};
 ghost use Rattle.cp_resolved.specs.ItemsInside.{InsideLaw};
@@ -64,6 +64,11 @@ pub fn law_few_items()
 /// Its open calls have no more references than the program has tokens.
 pub fn law_few_references()
     ensures { FewReferencesLaw }
+{}
+
+/// In the tables of an accepted program routines, system types and processes have few cells.
+pub fn law_few_cells()
+    ensures { FewCellsLaw }
 {}
 
 /// The layouts of a tree know the names, the routines and the cells of calls where its statements begin.
