@@ -41,7 +41,7 @@ use Rattle.cp_resolved.specs.Layouts.{cells_of, cells_in}
 use Rattle.cp_resolved.specs.Standing.{is_bounded, is_based, are_few, is_indexed, is_free, are_free, is_element, is_standing}
 use Rattle.cp_resolved.specs.Tokens.{type_tokens, groups_tokens}
 use Rattle.cp_resolved.specs.Typed.{Tokens, BaseIs, RangeIs, TypeIs, FieldsAre}
-use Rattle.cp_resolved.proofs.Agreeing.{Appends, appends_none, appends_same, appends_then, Good, good_then, Sound, good_sound, none_left, none_right, none_first, none_of_both, new_names, find_last, is_itself, More, more_same, more_trans, with_more, with_there}
+use Rattle.cp_resolved.proofs.Agreeing.{Appends, appends_same, appends_then, Good, good_then, Sound, good_sound, none_left, none_right, none_first, none_of_both, new_names, find_last, is_itself, More, more_same, more_trans, with_more, with_there}
 use Rattle.cp_resolved.proofs.AgreeingCells.{array_takes, record_takes}
 use Rattle.cp_resolved.proofs.AgreeingNames.{W, Agree, sees, agree_added, agree_kept, type_more, fields_more}
 use Rattle.cp_resolved.proofs.AgreeingTypes.{StandsAt, stands_free, spotted_stands, held_array, IsOrdinal, ordinal_of, IsFew, TypedAs, type_spotted, subrange_typed}

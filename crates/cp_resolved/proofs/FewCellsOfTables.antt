@@ -1,5 +1,5 @@
 -- In the tables of an accepted program routines, system types and processes have few cells.
-use Rattle.std.proofs.Common.{◌≡◌, ℕ, zero, suc, ◌+◌, ◌*◌, ◌<◌, ◌≤◌, List, [], ◌∷◌, ◌++◌, ◌∙◌, map, length, Some, slice_get, slice_index_or, ap, sym, subst, refl, arith, le_trans}
+use Rattle.std.proofs.Common.{◌≡◌, ℕ, zero, suc, ◌+◌, ◌*◌, ◌<◌, ◌≤◌, List, [], ◌∷◌, ◌++◌, ◌∙◌, length, Some, slice_get, slice_index_or, ap, sym, subst, refl, arith, le_trans}
 use Rattle.cp_tree.specs.Spelling.{spell}
 use Rattle.cp_tree.specs.Syntax.{Program, Tree}
 use Rattle.cp_slots.specs.Kinds.{Compounds}
@@ -19,7 +19,7 @@ use Rattle.cp_resolved.specs.Small.{Each}
 use Rattle.cp_resolved.specs.Typed.{Tokens}
 use Rattle.cp_resolved.proofs.BegunWithin.{all_within}
 use Rattle.cp_resolved.proofs.Extends.{Longer}
-use Rattle.cp_resolved.proofs.FewContents.{IsFilled, Holds, program_holds}
+use Rattle.cp_resolved.proofs.FewContents.{Holds, program_holds}
 use Rattle.cp_resolved.proofs.FewReferences.{each_entry, each_weaker}
 use Rattle.cp_resolved.proofs.FewReferencesOfTables.{laid_routines}
 use Rattle.cp_resolved.proofs.FewRooms.{Fits, program_level, cells_few}

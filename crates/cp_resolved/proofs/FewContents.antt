@@ -1,12 +1,12 @@
 -- The permanent variables of a system type begin with few cells, where each of them has few.
-use Rattle.std.proofs.Common.{◌≡◌, ℕ, ◌+◌, ◌*◌, ◌≤◌, ℤ, Bool, true, false, if◌then◌else◌, List, [], ◌∷◌, ◌++◌, length, Option, Some, None, refl, sym, ap, subst, ◌∙◌, arith, length-append, append_assoc}
+use Rattle.std.proofs.Common.{◌≡◌, ℕ, ◌+◌, ◌*◌, ◌≤◌, List, [], ◌∷◌, ◌++◌, length, Option, Some, None, refl, sym, ap, subst, ◌∙◌, arith, length-append, append_assoc}
 use Rattle.cp_text.specs.declared.token.Kind.{Kind}
 use Rattle.cp_text.specs.declared.token.Kind.TheVariants as kind
 use Rattle.cp_text.specs.declared.token.Mark.TheVariants as mark
 use Rattle.cp_tree.specs.declared.constant.Identifier.{Identifier}
 use Rattle.cp_tree.specs.Syntax as syntax
 use Rattle.cp_tree.specs.Spelling.{put_optional, put_behind, put_all, put_parameters, put_identifier, put_constant_definition, put_type_definition, put_variable_group, put_type, put_part, put_group, put_body, put_routine, put_system, put_definition, put_system_definition, put_program_part, spell}
-use Rattle.cp_tree.proofs.Grows.{grows_all, grows_optional, grows_type, grows_constant_definition, grows_type_definition, grows_variable_group, grows_body, grows_routine, grows_definition, grows_system_definition}
+use Rattle.cp_tree.proofs.Grows.{grows_all, grows_optional, grows_type, grows_constant_definition, grows_type_definition, grows_definition}
 use Rattle.cp_slots.specs.declared.lay_out.kinds.ValueType.{ValueType}
 use Rattle.cp_slots.specs.declared.lay_out.kinds.ValueType.TheVariants as types
 use Rattle.cp_slots.specs.declared.lay_out.layer.Contained.{Contained}
@@ -21,7 +21,7 @@ use Rattle.cp_resolved.specs.InStep.{Numbering}
 use Rattle.cp_resolved.specs.Begun.{routines_begun, initial_begun, parameters_of, parts_begun, system_begun, definition_begun, definitions_begun, part_begun, program_parts_begun, all_begun}
 use Rattle.cp_resolved.specs.Small.{Each}
 use Rattle.cp_resolved.proofs.AgreeingWritten.{each_left, each_right}
-use Rattle.cp_resolved.proofs.Declares.{Declares, type_declares, constants_declare, definitions_declare, variable_declares, variables_of_declare, variables_declare, permanent_part_declares, permanent_parts_declare, system_parameter_declares, system_parameters_declare, system_groups_declare}
+use Rattle.cp_resolved.proofs.Declares.{Declares, type_declares, constants_declare, variables_of_declare, variables_declare, permanent_parts_declare, system_parameters_declare, system_groups_declare}
 use Rattle.cp_resolved.proofs.Extends.{routine_names}
 use Rattle.cp_resolved.proofs.Foreign.{each_append}
 use Rattle.cp_resolved.proofs.Handed.{written_owned, constants_owned, definitions_owned, body_owned, routines_owned}

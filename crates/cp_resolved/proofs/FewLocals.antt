@@ -1,11 +1,11 @@
 -- The frame of a routine begins with few cells, where each of its variables has few.
-use Rattle.std.proofs.Common.{◌≡◌, ℕ, zero, suc, ◌+◌, ◌*◌, ◌≤◌, ℤ, Bool, true, false, if◌then◌else◌, List, [], ◌∷◌, ◌++◌, length, refl, sym, ap, ◌∙◌, arith, length-append}
+use Rattle.std.proofs.Common.{◌≡◌, ℕ, ◌+◌, ◌*◌, ◌≤◌, Bool, true, false, if◌then◌else◌, List, [], ◌∷◌, length, refl, ap, ◌∙◌, arith, length-append}
 use Rattle.cp_text.specs.declared.token.Kind.{Kind}
 use Rattle.cp_text.specs.declared.token.Kind.TheVariants as kind
 use Rattle.cp_text.specs.declared.token.Mark.TheVariants as mark
 use Rattle.cp_tree.specs.declared.constant.Identifier.{Identifier}
 use Rattle.cp_tree.specs.Syntax as syntax
-use Rattle.cp_tree.specs.Spelling.{put_optional, put_behind, put_all, put_parameters, put_names, put_identifier, put_constant_definition, put_type_definition, put_variable_group, put_type, put_part, put_group, put_parameter_group, put_routine_kind}
+use Rattle.cp_tree.specs.Spelling.{put_behind, put_all, put_parameters, put_identifier, put_constant_definition, put_type_definition, put_variable_group, put_type, put_part, put_group, put_parameter_group, put_routine_kind}
 use Rattle.cp_tree.proofs.Grows.{grows_all, grows_optional, grows_type, grows_constant_definition, grows_type_definition}
 use Rattle.cp_slots.specs.declared.lay_out.kinds.Base.{Base}
 use Rattle.cp_slots.specs.declared.lay_out.kinds.ValueType.{ValueType}

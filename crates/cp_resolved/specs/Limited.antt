@@ -1,5 +1,5 @@
 -- Types of at most 8,192 cells, as rule C20 wants them.
-use Rattle.std.specs.Prelude.{ℕ, ◌≤◌, List, [], ◌∷◌}
+use Rattle.std.specs.Prelude.{◌≤◌}
 use Rattle.cp_meaning.specs.Types.{Ty}
 use Rattle.cp_meaning.specs.Scopes.{Meaning, type_meaning, local_variable, permanent_variable, Scope}
 use Rattle.cp_resolved.specs.Layouts.{cells_of}
