@@ -10,7 +10,6 @@ use Rattle.std.proofs.lemmas.List.Folds.{list_any-append}
 use Rattle.std.proofs.lemmas.List.Sums.{sum_by-append, count_by-le-length}
 use Rattle.indexmap.specs.IndexMap.{insert_entry}
 use lib.Pointwise.{pointwise}
-use Rattle.cp_slots.specs.Tables.{Tables}
 use Rattle.cp_run.specs.Table.{Line, each}
 use Rattle.cp_run.specs.declared.outcome.Outcome.{Outcome}
 use Rattle.cp_explore.specs.Report.{outcome_numbers, same_outcome, outcomes_of, firsts, count_of, group_text, groups_text}
@@ -19,6 +18,7 @@ use Rattle.cp_explore.specs.declared.groups.Group.{Group}
 use Rattle.cp_explore.specs.declared.key.OutcomeKey.{OutcomeKey}
 use Rattle.cp_explore.specs.declared.row.Row.{Row}
 use Rattle.cp_explore.specs.Rows.{line_of}
+use Rattle.cp_explore.specs.Text.{Spellings}
 
 abbrev numbers : Line → List ℕ
 numbers l = outcome_numbers l.outcome
@@ -210,17 +210,17 @@ room rows k most es o lt all h =
     by None few = tt
     by (Some g) few = let n = length-map (take k rows) line_of in let m = length-take-le k rows (omega (arith, lt)) in omega (arith, few, n, m, lt, all)
 
-tallies_text : (r : Tables) (lines fs : List Line) → each (λ t. tally_text r t.1) (map (tally_of lines) fs) ≡ groups_text r lines fs
-tallies_text r lines [] = refl
-tallies_text r lines (f ∷ fs) = ap (λ l. group_text r lines f ++ l) (tallies_text r lines fs)
+tallies_text : (names : Spellings) (lines fs : List Line) → each (λ t. tally_text names t.1) (map (tally_of lines) fs) ≡ groups_text names lines fs
+tallies_text names lines [] = refl
+tallies_text names lines (f ∷ fs) = ap (λ l. group_text names lines f ++ l) (tallies_text names lines fs)
 
-values_text : (r : Tables) (es : List (OutcomeKey × Group)) → each (tally_text r) (map tally (values_of es)) ≡ each (λ t. tally_text r t.1) (map held es)
-values_text r [] = refl
-values_text r (e ∷ es) = ap (λ l. tally_text r (tally e.1) ++ l) (values_text r es)
+values_text : (names : Spellings) (es : List (OutcomeKey × Group)) → each (tally_text names) (map tally (values_of es)) ≡ each (λ t. tally_text names t.1) (map held es)
+values_text names [] = refl
+values_text names (e ∷ es) = ap (λ l. tally_text names (tally e.1) ++ l) (values_text names es)
 
 -- the texts of the groups of all rows
-pub grouped_text : (r : Tables) (lines : List Line) (es : List (OutcomeKey × Group)) → map held es ≡ tallies_of lines → each (tally_text r) (map tally (values_of es)) ≡ groups_text r lines (outcomes_of lines)
-grouped_text r lines es h = values_text r es ∙ ap (each (λ t. tally_text r t.1)) h ∙ tallies_text r lines (outcomes_of lines)
+pub grouped_text : (names : Spellings) (lines : List Line) (es : List (OutcomeKey × Group)) → map held es ≡ tallies_of lines → each (tally_text names) (map tally (values_of es)) ≡ groups_text names lines (outcomes_of lines)
+grouped_text names lines es h = values_text names es ∙ ap (each (λ t. tally_text names t.1)) h ∙ tallies_text names lines (outcomes_of lines)
 
 pub grouped_count : (lines : List Line) (es : List (OutcomeKey × Group)) → map held es ≡ tallies_of lines → length es ≡ length (outcomes_of lines)
 grouped_count lines es h = sym (length-map es held) ∙ ap length h ∙ length-map (outcomes_of lines) (tally_of lines)

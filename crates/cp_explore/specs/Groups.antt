@@ -1,11 +1,10 @@
 -- The outcomes of a table with their first rows and counts.
 use Rattle.std.specs.Prelude.{ℕ, ◌+◌, List, ◌++◌, map, Option, None, Some, codes}
 use Rattle.cp_natural.specs.Decimal.{number_text}
-use Rattle.cp_slots.specs.Tables.{Tables}
 use Rattle.cp_run.specs.Table.{Line}
 use Rattle.cp_explore.specs.Report.{outcome_numbers, outcomes_of, count_of}
 use Rattle.cp_explore.specs.Rows.{line_of}
-use Rattle.cp_explore.specs.Text.{word_text, outcome_text}
+use Rattle.cp_explore.specs.Text.{Spellings, word_text, outcome_text}
 use Rattle.cp_explore.specs.declared.groups.Group.{Group}
 
 pub record Tally : Type 0 where
@@ -27,5 +26,5 @@ tally_with (Some t) l = record { first = t.first; count = t.count + 1 }
 abbrev pub tally : Group → Tally
 tally g = record { first = line_of g.first.now; count = g.count }
 
-abbrev pub tally_text : Tables → Tally → List ℕ
-tally_text r t = number_text t.count ++ codes " first " ++ word_text t.first.word ++ codes " " ++ outcome_text r t.first.outcome ++ codes "\n"
+abbrev pub tally_text : Spellings → Tally → List ℕ
+tally_text names t = number_text t.count ++ codes " first " ++ word_text t.first.word ++ codes " " ++ outcome_text names t.first.outcome ++ codes "\n"

@@ -4,7 +4,6 @@ use Rattle.std.specs.Int.{is_negative}
 use Rattle.std.specs.List.{list_any}
 use lib.Pointwise.{pointwise}
 use Rattle.cp_natural.specs.Decimal.{number_text}
-use Rattle.cp_slots.specs.Tables.{Tables}
 use Rattle.cp_machine.specs.declared.shown.Shown.{Shown}
 use Rattle.cp_machine.specs.declared.shown.Shown.TheVariants.{Integer, Char, Truth, Constant}
 use Rattle.cp_store.specs.declared.error.ErrorName.{ErrorName}
@@ -13,7 +12,7 @@ use Rattle.cp_run.specs.declared.outcome.Outcome.{Outcome}
 use Rattle.cp_run.specs.declared.outcome.OutcomeKind.{OutcomeKind}
 use Rattle.cp_run.specs.declared.outcome.OutcomeKind.TheVariants.{Finished, AllWaiting, RunError, ChoiceLimit, StepLimit, OutputLimit}
 use Rattle.cp_run.specs.Table.{Line, each}
-use Rattle.cp_explore.specs.Text.{word_text, outcome_text}
+use Rattle.cp_explore.specs.Text.{Spellings, word_text, outcome_text}
 
 -- An outcome as a list of numbers: outcomes are the same where their numbers are. Each part begins with what tells its kind, so no
 -- two outcomes have one list.
@@ -60,19 +59,19 @@ outcomes_of lines = firsts [] lines
 abbrev pub count_of : List Line → Line → ℕ
 count_of lines first = count_by (λ l. same_outcome l.outcome first.outcome) lines
 
-abbrev pub row_text : Tables → Line → List ℕ
-row_text r l = codes "row " ++ word_text l.word ++ codes " " ++ outcome_text r l.outcome ++ codes "\n"
+abbrev pub row_text : Spellings → Line → List ℕ
+row_text names l = codes "row " ++ word_text l.word ++ codes " " ++ outcome_text names l.outcome ++ codes "\n"
 
-abbrev pub rows_text : Tables → List Line → List ℕ
-rows_text r lines = each (row_text r) lines
+abbrev pub rows_text : Spellings → List Line → List ℕ
+rows_text names lines = each (row_text names) lines
 
-abbrev pub group_text : Tables → List Line → Line → List ℕ
-group_text r lines first = number_text (count_of lines first) ++ codes " first " ++ word_text first.word ++ codes " " ++ outcome_text r first.outcome ++ codes "\n"
+abbrev pub group_text : Spellings → List Line → Line → List ℕ
+group_text names lines first = number_text (count_of lines first) ++ codes " first " ++ word_text first.word ++ codes " " ++ outcome_text names first.outcome ++ codes "\n"
 
-abbrev pub groups_text : Tables → List Line → List Line → List ℕ
-groups_text r lines firsts = each (group_text r lines) firsts
+abbrev pub groups_text : Spellings → List Line → List Line → List ℕ
+groups_text names lines firsts = each (group_text names lines) firsts
 
 -- the report; the lines of the rows where `rows` is true
-abbrev pub report_text : Tables → List Line → Bool → List ℕ
-report_text r lines rows =
-    (if rows then rows_text r lines else []) ++ codes "schedules " ++ number_text (length lines) ++ codes "\n" ++ codes "outcomes " ++ number_text (length (outcomes_of lines)) ++ codes "\n" ++ groups_text r lines (outcomes_of lines)
+abbrev pub report_text : Spellings → List Line → Bool → List ℕ
+report_text names lines rows =
+    (if rows then rows_text names lines else []) ++ codes "schedules " ++ number_text (length lines) ++ codes "\n" ++ codes "outcomes " ++ number_text (length (outcomes_of lines)) ++ codes "\n" ++ groups_text names lines (outcomes_of lines)

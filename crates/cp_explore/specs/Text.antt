@@ -1,7 +1,6 @@
 -- The texts of words and outcomes, as lists of bytes.
-use Rattle.std.specs.Prelude.{ℕ, List, [], ◌∷◌, ◌++◌, ◌&&◌, not, ◌==◌, nat_le, decimal, codes, if◌then◌else◌}
+use Rattle.std.specs.Prelude.{ℕ, List, [], ◌∷◌, ◌++◌, ◌&&◌, not, ◌==◌, nat_le, slice_index_or, decimal, codes, if◌then◌else◌}
 use Rattle.std.specs.Fmt.{signed_decimal}
-use Rattle.cp_slots.specs.Tables.{Tables, name_at}
 use Rattle.cp_store.specs.declared.error.ErrorName.{ErrorName}
 use Rattle.cp_store.specs.declared.error.ErrorName.TheVariants.{Overflow, ZeroDivisor, Range, NoCase, QueueInUse, NotInit, InitTwice}
 use Rattle.cp_machine.specs.declared.shown.Shown.{Shown}
@@ -27,15 +26,19 @@ word_text word = joined_by 46 decimal word
 abbrev pub char_text : ℕ → List ℕ
 char_text c = if nat_le 33 c && (nat_le c 126 && not (c == 39)) then codes "'" ++ c ∷ [] ++ codes "'" else codes "'(:" ++ decimal c ++ codes ":)'"
 
-abbrev pub shown_text : Tables → Shown → List ℕ
-shown_text r (Integer z) = signed_decimal z
-shown_text r (Char c) = char_text c
-shown_text r (Truth b) = if b then codes "true" else codes "false"
-shown_text r (Constant number) = name_at r number
+-- the spellings of the constants of all enumerations, by their numbers
+abbrev pub Spellings : Type 0
+Spellings = List (List ℕ)
+
+abbrev pub shown_text : Spellings → Shown → List ℕ
+shown_text names (Integer z) = signed_decimal z
+shown_text names (Char c) = char_text c
+shown_text names (Truth b) = if b then codes "true" else codes "false"
+shown_text names (Constant number) = slice_index_or names number []
 
 -- its values, joined by spaces
-abbrev pub output_text : Tables → List Shown → List ℕ
-output_text r output = joined_by 32 (shown_text r) output
+abbrev pub output_text : Spellings → List Shown → List ℕ
+output_text names output = joined_by 32 (shown_text names) output
 
 abbrev pub error_text : ErrorName → List ℕ
 error_text Overflow = codes "overflow"
@@ -54,5 +57,5 @@ kind_text ChoiceLimit = codes "choice-limit"
 kind_text StepLimit = codes "step-limit"
 kind_text OutputLimit = codes "output-limit"
 
-abbrev pub outcome_text : Tables → Outcome → List ℕ
-outcome_text r o = kind_text o.kind ++ codes " output " ++ output_text r o.output
+abbrev pub outcome_text : Spellings → Outcome → List ℕ
+outcome_text names o = kind_text o.kind ++ codes " output " ++ output_text names o.output

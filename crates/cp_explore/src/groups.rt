@@ -2,7 +2,7 @@
 
 ghost use Rattle.std.specs.Prelude.{◌≡◌, ◌<◌, map, IfOk, IfSome, length, option_map};
 ghost use Rattle.std.specs.Map.{lookup};
-ghost use Rattle.cp_slots.specs.Tables.{Tables};
+ghost use Rattle.cp_explore.specs.Text.{Spellings};
 ghost use Rattle.cp_run.specs.Table.{each};
 ghost use Rattle.indexmap.specs.IndexMap.{index_map_len, insert_entry, values};
 ghost use Rattle.cp_explore.specs.Groups.{tally, tally_text, tally_with};
@@ -45,7 +45,7 @@ pub fn grouped<'a>(
     rows: &'a [Row],
 ) -> Result<IndexMap<OutcomeKey<'a>, Group<'a>>, AllocError>
     ensures count { IfOk result (λ m. index_map_len m ≡ length (outcomes_of (map line_of rows.now))) }
-    ensures texts { IfOk result (λ m. (r : Tables) → each (tally_text r) (map tally (values m)) ≡ groups_text r (map line_of rows.now) (outcomes_of (map line_of rows.now))) }
+    ensures texts { IfOk result (λ m. (names : Spellings) → each (tally_text names) (map tally (values m)) ≡ groups_text names (map line_of rows.now) (outcomes_of (map line_of rows.now))) }
 {
     let mut groups = IndexMap::new(alloc);
     for row in rows {

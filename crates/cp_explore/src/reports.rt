@@ -18,7 +18,7 @@ use indexmap::IndexMap;
 use std::alloc::{AllocError, Global};
 
 fn push_row(text: &mut String, program: &Resolved, row: &Row) -> Result<(), AllocError>
-    ensures { IfOk result (λ _. string_bytes text.new ≡ string_bytes text.old ++ row_text program.now (line_of row.now)) }
+    ensures { IfOk result (λ _. string_bytes text.new ≡ string_bytes text.old ++ row_text program.now.names (line_of row.now)) }
 {
     text.push_str("row ")?;
     push_word(text, row.word.as_slice())?;
@@ -28,7 +28,7 @@ fn push_row(text: &mut String, program: &Resolved, row: &Row) -> Result<(), Allo
 }
 
 fn push_rows(text: &mut String, program: &Resolved, rows: &[Row]) -> Result<(), AllocError>
-    ensures { IfOk result (λ _. string_bytes text.new ≡ string_bytes text.old ++ rows_text program.now (map line_of rows.now)) }
+    ensures { IfOk result (λ _. string_bytes text.new ≡ string_bytes text.old ++ rows_text program.now.names (map line_of rows.now)) }
 {
     for row in rows {
         push_row(text, program, row)?;
@@ -37,7 +37,7 @@ fn push_rows(text: &mut String, program: &Resolved, rows: &[Row]) -> Result<(), 
 }
 
 fn push_group(text: &mut String, program: &Resolved, group: &Group) -> Result<(), AllocError>
-    ensures { IfOk result (λ _. string_bytes text.new ≡ string_bytes text.old ++ tally_text program.now (tally group.now)) }
+    ensures { IfOk result (λ _. string_bytes text.new ≡ string_bytes text.old ++ tally_text program.now.names (tally group.now)) }
 {
     push_count(text, group.count)?;
     text.push_str(" first ")?;
@@ -52,7 +52,7 @@ fn push_groups(
     program: &Resolved,
     groups: &IndexMap<OutcomeKey, Group>,
 ) -> Result<(), AllocError>
-    ensures { IfOk result (λ _. string_bytes text.new ≡ string_bytes text.old ++ each (tally_text program.now) (map tally (values groups.now))) }
+    ensures { IfOk result (λ _. string_bytes text.new ≡ string_bytes text.old ++ each (tally_text program.now.names) (map tally (values groups.now))) }
 {
     for group in groups.values() {
         push_group(text, program, group)?;
@@ -76,7 +76,7 @@ pub fn report(
     table: &Table,
     rows: bool,
 ) -> Result<Report, AllocError>
-    ensures { IfOk result (λ r. r.text ≡ report_text program.now (map line_of table.now.rows) rows) }
+    ensures { IfOk result (λ r. r.text ≡ report_text program.now.names (map line_of table.now.rows) rows) }
 {
     let all = table.rows.as_slice();
     let groups = grouped(alloc, all)?;

@@ -87,7 +87,7 @@ fn push_char(text: &mut String, code: u8) -> Result<(), AllocError>
 
 #[inline(always)]
 fn push_shown(text: &mut String, program: &Resolved, value: Shown) -> Result<(), AllocError>
-    ensures { IfOk result (λ _. string_bytes text.new ≡ string_bytes text.old ++ shown_text program.now value) }
+    ensures { IfOk result (λ _. string_bytes text.new ≡ string_bytes text.old ++ shown_text program.now.names value) }
 {
     match value {
         Shown::Integer(number) => push_signed(text, number),
@@ -104,7 +104,7 @@ pub fn push_output(
     program: &Resolved,
     values: &[Shown],
 ) -> Result<(), AllocError>
-    ensures { IfOk result (λ _. string_bytes text.new ≡ string_bytes text.old ++ output_text program.now values.now) }
+    ensures { IfOk result (λ _. string_bytes text.new ≡ string_bytes text.old ++ output_text program.now.names values.now) }
 {
     let Some((first, rest)) = values.split_first() else {
         return text.push_str("-");
@@ -162,7 +162,7 @@ pub fn push_outcome(
     program: &Resolved,
     outcome: &Outcome,
 ) -> Result<(), AllocError>
-    ensures { IfOk result (λ _. string_bytes text.new ≡ string_bytes text.old ++ outcome_text program.now outcome.now) }
+    ensures { IfOk result (λ _. string_bytes text.new ≡ string_bytes text.old ++ outcome_text program.now.names outcome.now) }
 {
     push_kind(text, outcome.kind)?;
     text.push_str(" output ")?;

@@ -86,7 +86,7 @@ fn push_end(
     word: &[u8],
 ) -> Result<(), AllocError>
     requires { UsedWithin end.now (length word.now) }
-    ensures { IfOk result (λ _. string_bytes text.new ≡ string_bytes text.old ++ end_text program.now word.now (answer_of end.now)) }
+    ensures { IfOk result (λ _. string_bytes text.new ≡ string_bytes text.old ++ end_text program.now.names word.now (answer_of end.now)) }
 {
     match end {
         RunEnd::Ended { outcome, used } => {
@@ -116,7 +116,7 @@ pub fn trace_report(
     word: &[u8],
 ) -> Result<Report, AllocError>
     requires { UsedWithin end.now (length word.now) }
-    ensures { IfOk result (λ r. r.text ≡ trace_text program.now lines.now (answer_of end.now) word.now) }
+    ensures { IfOk result (λ r. r.text ≡ trace_text program.now.names lines.now (answer_of end.now) word.now) }
 {
     let mut text = String::new(alloc);
     push_lines(&mut text, lines)?;

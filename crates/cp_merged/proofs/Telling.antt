@@ -7,11 +7,11 @@ use Rattle.std.proofs.lemmas.List.{append_assoc, length-map}
 use Rattle.indexmap.specs.IndexMap.{insert_entry}
 use lib.Pointwise.{pointwise}
 use Rattle.cp_natural.specs.Decimal.{number_text}
-use Rattle.cp_slots.specs.Tables.{Tables}
 use Rattle.cp_run.specs.Table.{Line, each}
 use Rattle.cp_explore.specs.Report.{outcome_numbers, same_outcome, outcomes_of, group_text, groups_text, report_text}
 use Rattle.cp_explore.specs.Groups as groups
 use Rattle.cp_explore.specs.Groups.{Tally, tally_text}
+use Rattle.cp_explore.specs.Text.{Spellings}
 use Rattle.cp_explore.proofs.Grouping.{tallies_more}
 use Rattle.cp_merged.specs.Tallies.{one, more, noted, tally_onto, tally}
 use Rattle.cp_merged.specs.Code.{tally_of}
@@ -47,13 +47,13 @@ entries_onto ts done (l ∷ ls) h =
 entries : (lines : List Line) → map entry (tally same_outcome lines) ≡ groups.tallies_of lines
 entries lines = entries_onto [] [] lines refl
 
-texts_entries : (r : Tables) (ts : List Tally) → each (tally_text r) ts ≡ each (λ e. groups.tally_text r e.1) (map entry ts)
-texts_entries r [] = refl
-texts_entries r (t ∷ ts) = ap (λ l. tally_text r t ++ l) (texts_entries r ts)
+texts_entries : (names : Spellings) (ts : List Tally) → each (tally_text names) ts ≡ each (λ e. groups.tally_text names e.1) (map entry ts)
+texts_entries names [] = refl
+texts_entries names (t ∷ ts) = ap (λ l. tally_text names t ++ l) (texts_entries names ts)
 
-texts_groups : (r : Tables) (lines fs : List Line) → each (λ e. groups.tally_text r e.1) (map (groups.tally_of lines) fs) ≡ groups_text r lines fs
-texts_groups r lines [] = refl
-texts_groups r lines (f ∷ fs) = ap (λ l. group_text r lines f ++ l) (texts_groups r lines fs)
+texts_groups : (names : Spellings) (lines fs : List Line) → each (λ e. groups.tally_text names e.1) (map (groups.tally_of lines) fs) ≡ groups_text names lines fs
+texts_groups names lines [] = refl
+texts_groups names lines (f ∷ fs) = ap (λ l. group_text names lines f ++ l) (texts_groups names lines fs)
 
 pub counts_sum : (ts : List Tally) → rows_in ts ≡ counts ts
 counts_sum [] = refl
@@ -81,10 +81,10 @@ counts_onto ts [] = omega arith
 counts_onto ts (l ∷ ls) = let rest = counts_onto (noted same_outcome ts (one l)) ls in let here = counts_noted ts l in omega (arith, rest, here)
 
 -- what is printed of the tallies of a table is its report
-pub told_report : (r : Tables) (lines : List Line) → told_text r (tally same_outcome lines) ≡ report_text r lines false
-told_report r lines =
+pub told_report : (names : Spellings) (lines : List Line) → told_text names (tally same_outcome lines) ≡ report_text names lines false
+told_report names lines =
     let ts = tally same_outcome lines in
     let n : rows_in ts ≡ length lines = (let c = counts_onto [] lines in let d = counts_sum ts in omega (arith, c, d)) in
     let m : length ts ≡ length (outcomes_of lines) = sym (length-map ts entry) ∙ ap length (entries lines) ∙ length-map (outcomes_of lines) (groups.tally_of lines) in
-    let texts : each (tally_text r) ts ≡ groups_text r lines (outcomes_of lines) = texts_entries r ts ∙ ap (each (λ e. groups.tally_text r e.1)) (entries lines) ∙ texts_groups r lines (outcomes_of lines) in
-    ap (λ k. codes "schedules " ++ number_text k ++ codes "\n" ++ codes "outcomes " ++ number_text (length ts) ++ codes "\n" ++ each (tally_text r) ts) n ∙ ap (λ k. codes "schedules " ++ number_text (length lines) ++ codes "\n" ++ codes "outcomes " ++ number_text k ++ codes "\n" ++ each (tally_text r) ts) m ∙ ap (λ t. codes "schedules " ++ number_text (length lines) ++ codes "\n" ++ codes "outcomes " ++ number_text (length (outcomes_of lines)) ++ codes "\n" ++ t) texts
+    let texts : each (tally_text names) ts ≡ groups_text names lines (outcomes_of lines) = texts_entries names ts ∙ ap (each (λ e. groups.tally_text names e.1)) (entries lines) ∙ texts_groups names lines (outcomes_of lines) in
+    ap (λ k. codes "schedules " ++ number_text k ++ codes "\n" ++ codes "outcomes " ++ number_text (length ts) ++ codes "\n" ++ each (tally_text names) ts) n ∙ ap (λ k. codes "schedules " ++ number_text (length lines) ++ codes "\n" ++ codes "outcomes " ++ number_text k ++ codes "\n" ++ each (tally_text names) ts) m ∙ ap (λ t. codes "schedules " ++ number_text (length lines) ++ codes "\n" ++ codes "outcomes " ++ number_text (length (outcomes_of lines)) ++ codes "\n" ++ t) texts

@@ -5,8 +5,8 @@ ghost use Rattle.cp_machine.specs.System.{Machine};
 ghost use Rattle.cp_run.specs.System.{System};
 ghost use Rattle.cp_run.specs.Table.{table};
 ghost use Rattle.cp_run.specs.declared.outcome.OutcomeKind.{OutcomeKind};
-ghost use Rattle.cp_slots.specs.Tables.{Tables};
 ghost use Rattle.cp_explore.specs.Report.{same_outcome, report_text};
+ghost use Rattle.cp_explore.specs.Text.{Spellings};
 ghost use Rattle.cp_merged.specs.Complete.{IsComplete, IsClosed, IsKnown};
 ghost use Rattle.cp_merged.specs.Told.{told_text};
 ghost use Rattle.cp_merged.specs.Tallies.{Sameness, IsExact, tally};
@@ -19,7 +19,7 @@ pub fn law_layers()
 
 /// Their text is the report of the table without its rows.
 pub fn law_report()
-    ensures { (r : Tables) (sys : System Machine) (eq : Machine → Machine → Bool) → IsSound eq → (choices steps : ℕ) → told_text r (by_first (by_layers sys same_outcome eq choices steps)) ≡ report_text r (table sys choices steps) false }
+    ensures { (names : Spellings) (sys : System Machine) (eq : Machine → Machine → Bool) → IsSound eq → (choices steps : ℕ) → told_text names (by_first (by_layers sys same_outcome eq choices steps)) ≡ report_text names (table sys choices steps) false }
 {}
 
 /// A table in which no schedule ends for want of choices is the same with more choices.

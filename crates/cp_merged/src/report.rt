@@ -29,7 +29,7 @@ fn words_in(tallies: &[Tally]) -> Natural
 }
 
 fn push_tally(text: &mut String, program: &Resolved, tally: &Tally) -> Result<(), AllocError>
-    ensures { IfOk result (λ _. string_bytes text.new ≡ string_bytes text.old ++ tally_text program.now (tally_of tally.now)) }
+    ensures { IfOk result (λ _. string_bytes text.new ≡ string_bytes text.old ++ tally_text program.now.names (tally_of tally.now)) }
 {
     push_natural(text, &tally.count)?;
     text.push_str(" first ")?;
@@ -40,7 +40,7 @@ fn push_tally(text: &mut String, program: &Resolved, tally: &Tally) -> Result<()
 }
 
 fn push_tallies(text: &mut String, program: &Resolved, tallies: &[Tally]) -> Result<(), AllocError>
-    ensures { IfOk result (λ _. string_bytes text.new ≡ string_bytes text.old ++ each (tally_text program.now) (map tally_of tallies.now)) }
+    ensures { IfOk result (λ _. string_bytes text.new ≡ string_bytes text.old ++ each (tally_text program.now.names) (map tally_of tallies.now)) }
 {
     for tally in tallies {
         push_tally(text, program, tally)?;
@@ -49,7 +49,7 @@ fn push_tallies(text: &mut String, program: &Resolved, tallies: &[Tally]) -> Res
 }
 
 fn told(alloc: Global, program: &Resolved, tallies: &Tallies) -> Result<Report, AllocError>
-    ensures { IfOk result (λ r. r.text ≡ told_text program.now (map tally_of tallies.now)) }
+    ensures { IfOk result (λ r. r.text ≡ told_text program.now.names (map tally_of tallies.now)) }
 {
     let all = tallies.as_slice();
     let mut lines = String::new(alloc);
@@ -71,8 +71,8 @@ pub fn merged_report(
     program: &Resolved,
     tallies: &Tallies,
 ) -> Result<Report, AllocError>
-    ensures told { IfOk result (λ r. r.text ≡ told_text program.now (map tally_of tallies.now)) }
-    ensures report { IfOk result (λ r. (lines : List Line) → map tally_of tallies.now ≡ tally same_outcome lines → r.text ≡ report_text program.now lines false) }
+    ensures told { IfOk result (λ r. r.text ≡ told_text program.now.names (map tally_of tallies.now)) }
+    ensures report { IfOk result (λ r. (lines : List Line) → map tally_of tallies.now ≡ tally same_outcome lines → r.text ≡ report_text program.now.names lines false) }
 {
     let report = told(alloc, program, tallies)?;
     Ok(report)

@@ -41,6 +41,7 @@ pub mod Expressions
 pub mod Found
 pub mod FramesBelow
 pub mod FreeParts
+pub mod FunctionParameters
 pub mod Gates
 pub mod GivenUp
 pub mod Giving
@@ -53,6 +54,7 @@ pub mod InitialEnding
 pub mod InitialOpened
 pub mod InitialStarts
 pub mod Kept
+pub mod KnownItems
 pub mod LeastValues
 pub mod LettingIn
 pub mod Lists
@@ -61,6 +63,7 @@ pub mod Loops
 pub mod Members
 pub mod MonitorNumbers
 pub mod Moving
+pub mod NamesOfTree
 pub mod NewFrame
 pub mod NextInReached
 pub mod Numbers
@@ -73,9 +76,11 @@ pub mod Phases
 pub mod PlacesApart
 pub mod ProcessStarts
 pub mod ProgramOfTree
+pub mod Propositions
 pub mod QueueNames
 pub mod QueueParts
 pub mod QueueWriting
+pub mod QueuesKnown
 pub mod ReachedCalls
 pub mod ReachedInside
 pub mod ReachedKinds
@@ -88,6 +93,7 @@ pub mod Returning
 pub mod Rewriting
 pub mod RoutinesOfTree
 pub mod Running
+pub mod SameRuns
 pub mod Seeing
 pub mod SetAssignments
 pub mod SetCells

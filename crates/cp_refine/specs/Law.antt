@@ -7,6 +7,7 @@ use Rattle.cp_machine.specs.Machine.{Machine}
 use Rattle.cp_machine.specs.Reach.{Reaches}
 use Rattle.cp_run.specs.Run.{run}
 use Rattle.cp_run.specs.Slots.{slots}
+use Rattle.cp_run.specs.System.{System}
 use Rattle.cp_run.specs.Table.{table}
 use Rattle.cp_run.specs.Trace.{trace}
 use Rattle.cp_meaning.specs.State.{Gates, State}
@@ -30,10 +31,16 @@ pub record Simulates (t : Tree) (r : Tables) (l : Layouts) (g : Gates) (s : Stat
   pub reach : Reaches r m
   pub represents : Represents (ground_of t r) t.program l s m
 
+-- two systems have the same runs, table and traces
+pub record SameRuns {S T : Type 0} (a : System S) (b : System T) (choices steps : ℕ) : Type 0 where
+  pub runs : (word : List ℕ) → run a choices steps word ≡ run b choices steps word
+  pub tables : table a choices steps ≡ table b choices steps
+  pub traces : (word : List ℕ) → trace a choices steps word ≡ trace b choices steps word
+
+-- the meaning of a tree, and the slot machine of tables
+abbrev pub MeansTheSame : Tree → Tables → Gates → Type 0
+MeansTheSame t r g = (choices steps : ℕ) → SameRuns (named t g) (slots r (gates_of g)) choices steps
+
 -- where the two systems go in step, they have the same runs, table and traces
 abbrev pub SameRunsLaw : Type 0
-SameRunsLaw =
-    (t : Tree) (r : Tables) (l : Layouts) (g : Gates) → GoInStep (named t g) (slots r (gates_of g)) (Simulates t r l g) → (choices steps : ℕ) →
-    ((word : List ℕ) → run (named t g) choices steps word ≡ run (slots r (gates_of g)) choices steps word) ×
-    (table (named t g) choices steps ≡ table (slots r (gates_of g)) choices steps) ×
-    ((word : List ℕ) → trace (named t g) choices steps word ≡ trace (slots r (gates_of g)) choices steps word)
+SameRunsLaw = (t : Tree) (r : Tables) (l : Layouts) (g : Gates) → GoInStep (named t g) (slots r (gates_of g)) (Simulates t r l g) → MeansTheSame t r g

@@ -1,7 +1,8 @@
 //! What could stand in the place of a token that the parser refuses.
 
-use crate::probe::copy_of;
-use cp_text::{Kind, Mark, Name, Token, Tokens};
+use crate::draft::{Draft, spelling};
+use crate::extent::Extent;
+use cp_text::{Mark, Tokens};
 use cp_tree::{ParseFault, parse};
 use std::alloc::{AllocError, Global};
 
@@ -14,90 +15,69 @@ pub enum Candidate {
     Mark(Mark),
 }
 
-/// The reserved words and signs of the language, with their spellings.
-const MARKS: [(Mark, &str); 52] = [
-    (Mark::Const, "const"),
-    (Mark::Type, "type"),
-    (Mark::Var, "var"),
-    (Mark::Procedure, "procedure"),
-    (Mark::Function, "function"),
-    (Mark::Entry, "entry"),
-    (Mark::Class, "class"),
-    (Mark::Monitor, "monitor"),
-    (Mark::Process, "process"),
-    (Mark::Array, "array"),
-    (Mark::Set, "set"),
-    (Mark::Record, "record"),
-    (Mark::Begin, "begin"),
-    (Mark::If, "if"),
-    (Mark::Case, "case"),
-    (Mark::While, "while"),
-    (Mark::Repeat, "repeat"),
-    (Mark::For, "for"),
-    (Mark::Cycle, "cycle"),
-    (Mark::Init, "init"),
-    (Mark::Not, "not"),
-    (Mark::OpenParenthesis, "("),
-    (Mark::OpenBracket, "["),
-    (Mark::Plus, "+"),
-    (Mark::Minus, "-"),
-    (Mark::Times, "*"),
-    (Mark::Div, "div"),
-    (Mark::Mod, "mod"),
-    (Mark::And, "and"),
-    (Mark::Or, "or"),
-    (Mark::Equal, "="),
-    (Mark::NotEqual, "<>"),
-    (Mark::Less, "<"),
-    (Mark::Greater, ">"),
-    (Mark::AtMost, "<="),
-    (Mark::AtLeast, ">="),
-    (Mark::In, "in"),
-    (Mark::Becomes, ":="),
-    (Mark::Colon, ":"),
-    (Mark::Comma, ","),
-    (Mark::DoublePeriod, ".."),
-    (Mark::Of, "of"),
-    (Mark::Then, "then"),
-    (Mark::Do, "do"),
-    (Mark::To, "to"),
-    (Mark::Downto, "downto"),
-    (Mark::CloseParenthesis, ")"),
-    (Mark::CloseBracket, "]"),
-    (Mark::Until, "until"),
-    (Mark::Else, "else"),
-    (Mark::Semicolon, ";"),
-    (Mark::End, "end"),
+/// The reserved words and signs that may be tried.
+const MARKS: [Mark; 52] = [
+    Mark::Const,
+    Mark::Type,
+    Mark::Var,
+    Mark::Procedure,
+    Mark::Function,
+    Mark::Entry,
+    Mark::Class,
+    Mark::Monitor,
+    Mark::Process,
+    Mark::Array,
+    Mark::Set,
+    Mark::Record,
+    Mark::Begin,
+    Mark::If,
+    Mark::Case,
+    Mark::While,
+    Mark::Repeat,
+    Mark::For,
+    Mark::Cycle,
+    Mark::Init,
+    Mark::Not,
+    Mark::OpenParenthesis,
+    Mark::OpenBracket,
+    Mark::Plus,
+    Mark::Minus,
+    Mark::Times,
+    Mark::Div,
+    Mark::Mod,
+    Mark::And,
+    Mark::Or,
+    Mark::Equal,
+    Mark::NotEqual,
+    Mark::Less,
+    Mark::Greater,
+    Mark::AtMost,
+    Mark::AtLeast,
+    Mark::In,
+    Mark::Becomes,
+    Mark::Colon,
+    Mark::Comma,
+    Mark::DoublePeriod,
+    Mark::Of,
+    Mark::Then,
+    Mark::Do,
+    Mark::To,
+    Mark::Downto,
+    Mark::CloseParenthesis,
+    Mark::CloseBracket,
+    Mark::Until,
+    Mark::Else,
+    Mark::Semicolon,
+    Mark::End,
 ];
 
-fn kind_of(alloc: Global, candidate: Candidate) -> Result<Kind, AllocError> {
-    Ok(match candidate {
-        Candidate::Name => Kind::Name(Name::new(String::from_str(alloc, "x")?)),
-        Candidate::Number => Kind::Number(1),
-        Candidate::Character => Kind::Character(65),
-        Candidate::Mark(mark) => Kind::Mark(mark),
+fn push_candidate(draft: &mut Draft, candidate: Candidate) -> Result<(), AllocError> {
+    draft.push_text(match candidate {
+        Candidate::Name => "x",
+        Candidate::Number => "1",
+        Candidate::Character => "'A'",
+        Candidate::Mark(mark) => spelling(mark),
     })
-}
-
-/// The tokens before a number, and after them this one.
-fn tokens_with(
-    alloc: Global,
-    tokens: &Tokens,
-    at: usize,
-    candidate: Candidate,
-) -> Result<Tokens, AllocError> {
-    let mut items = Vec::new(alloc);
-    for place in 0..at.min(tokens.count()) {
-        items.push(Token {
-            kind: copy_of(alloc, tokens.kind(place))?,
-            line: 1,
-        })?;
-    }
-    items.push(Token {
-        kind: kind_of(alloc, candidate)?,
-        line: 1,
-    })?;
-    Ok(Tokens::new(items))
 }
 
 /// Whether a program can go on with this kind of token in the place of that number.
@@ -107,7 +87,12 @@ pub fn may_stand(
     at: usize,
     candidate: Candidate,
 ) -> Result<bool, AllocError> {
-    let tried = tokens_with(alloc, tokens, at, candidate)?;
+    let mut draft = Draft::new(alloc);
+    draft.push_copies(alloc, tokens, Extent { from: 0, to: at })?;
+    push_candidate(&mut draft, candidate)?;
+    let Some(tried) = draft.tokens(alloc)? else {
+        return Ok(false);
+    };
     match parse(alloc, &tried) {
         Ok(_) => Ok(true),
         Err(ParseFault::Unexpected(place)) => Ok(place > at),
@@ -211,11 +196,12 @@ pub fn push_wanted(
     if operator {
         add(alloc, &mut words, "an operator")?;
     }
-    for (mark, spelling) in MARKS {
+    for mark in MARKS {
         if !is_covered(mark, statement, operand, operator)
             && may_stand(alloc, tokens, at, Candidate::Mark(mark))?
         {
-            words.push(format!(in alloc; "\"{spelling}\"")?)?;
+            let word = spelling(mark);
+            words.push(format!(in alloc; "\"{word}\"")?)?;
         }
     }
     if may_stand(alloc, tokens, at, Candidate::Mark(Mark::Period))? {

@@ -7,6 +7,7 @@ mod components;
 mod counts;
 mod declared;
 mod disagree;
+mod draft;
 mod explain;
 mod extent;
 mod hints;

@@ -1,8 +1,9 @@
 //! Questions to the checker: whether it would accept a few tokens more at a place of a program.
 
+use crate::draft::{Draft, spelling};
 use crate::extent::Extent;
 use cp_check::{CheckFault, Rule, check};
-use cp_text::{Kind, Mark, Name, Token, Tokens};
+use cp_text::{Kind, Mark, Tokens};
 use cp_tree::{ParseFault, parse};
 use std::alloc::{AllocError, Global};
 
@@ -34,50 +35,19 @@ pub enum Reply {
 /// A name of the greatest length, that no program is likely to have.
 const NEW_NAME: &str = "q012345678901234567890123456789012345678";
 
-/// The same kind of token once more.
-pub fn copy_of(alloc: Global, kind: &Kind) -> Result<Kind, AllocError> {
-    Ok(match kind {
-        Kind::Number(value) => Kind::Number(*value),
-        Kind::Character(code) => Kind::Character(*code),
-        Kind::Name(name) => Kind::Name(name.copy(alloc)?),
-        Kind::Mark(mark) => Kind::Mark(*mark),
-    })
-}
-
-fn name(alloc: Global, text: &str) -> Result<Kind, AllocError> {
-    Ok(Kind::Name(Name::new(String::from_str(alloc, text)?)))
-}
-
-fn push_kind(items: &mut Vec<Token>, kind: Kind) -> Result<(), AllocError> {
-    items.push(Token { kind, line: 1 })?;
-    Ok(())
-}
-
-fn push_copies(
-    alloc: Global,
-    items: &mut Vec<Token>,
-    tokens: &Tokens,
-    extent: Extent,
-) -> Result<(), AllocError> {
-    for place in extent.from..extent.to.min(tokens.count()) {
-        push_kind(items, copy_of(alloc, tokens.kind(place))?)?;
-    }
-    Ok(())
-}
-
 fn push_piece(
     alloc: Global,
-    items: &mut Vec<Token>,
+    draft: &mut Draft,
     tokens: &Tokens,
     piece: Piece,
 ) -> Result<(), AllocError> {
     match piece {
-        Piece::Mark(mark) => push_kind(items, Kind::Mark(mark)),
-        Piece::Number(value) => push_kind(items, Kind::Number(value)),
-        Piece::Character(code) => push_kind(items, Kind::Character(code)),
-        Piece::NewName => push_kind(items, name(alloc, NEW_NAME)?),
-        Piece::Empty => push_kind(items, name(alloc, "empty")?),
-        Piece::Copied(extent) => push_copies(alloc, items, tokens, extent),
+        Piece::Mark(mark) => draft.push_text(spelling(mark)),
+        Piece::Number(value) => draft.push_kind(alloc, &Kind::Number(value)),
+        Piece::Character(code) => draft.push_kind(alloc, &Kind::Character(code)),
+        Piece::NewName => draft.push_text(NEW_NAME),
+        Piece::Empty => draft.push_text("empty"),
+        Piece::Copied(extent) => draft.push_copies(alloc, tokens, extent),
     }
 }
 
@@ -88,19 +58,22 @@ pub fn asked(
     place: usize,
     pieces: &[Piece],
 ) -> Result<Reply, AllocError> {
-    let mut items = Vec::new(alloc);
-    push_copies(alloc, &mut items, tokens, Extent { from: 0, to: place })?;
-    let from = items.len();
+    let mut draft = Draft::new(alloc);
+    draft.push_copies(alloc, tokens, Extent { from: 0, to: place })?;
+    let from = draft.count();
     for piece in pieces {
-        push_piece(alloc, &mut items, tokens, *piece)?;
+        push_piece(alloc, &mut draft, tokens, *piece)?;
     }
-    let to = items.len();
+    let to = draft.count();
     let rest = Extent {
         from: place,
         to: tokens.count(),
     };
-    push_copies(alloc, &mut items, tokens, rest)?;
-    replied(alloc, &Tokens::new(items), Extent { from, to })
+    draft.push_copies(alloc, tokens, rest)?;
+    match draft.tokens(alloc)? {
+        Some(tokens) => replied(alloc, &tokens, Extent { from, to }),
+        None => Ok(Reply::Unknown),
+    }
 }
 
 /// What the checker says of some tokens of a program.

@@ -29,19 +29,21 @@ use Rattle.cp_meaning.specs.Declarations as meant
 use Rattle.cp_meaning.specs.Declarations.{routine_in}
 use Rattle.cp_meaning.specs.Systems.{with_routines}
 use Rattle.cp_resolved.specs.Enumerations.{each_in, in_routine}
-use Rattle.cp_resolved.specs.Judging.{routine_place, routine_places, IsOwn, IsAgreed, AreAgreed}
+use Rattle.cp_resolved.specs.Framed.{IsOrdinalResult}
+use Rattle.cp_resolved.specs.Judging.{routine_place, routine_places, IsOwn, IsAgreed, AreAgreed, Place}
 use Rattle.cp_resolved.specs.Openings.{Opening, with_routine, routine_openings}
 use Rattle.cp_resolved.specs.Limited.{AreLimited}
 use Rattle.cp_resolved.specs.Small.{Each, IsSmallRoutine}
-use Rattle.cp_resolved.specs.Standing.{IsFit, IsFreeVariable, IsFreeParameter, IsFreeResult}
+use Rattle.cp_resolved.specs.Standing.{IsFit, IsFreeVariable, IsFreeParameter}
 use Rattle.cp_resolved.specs.Tokens.{all_tokens, part_tokens, routine_tokens}
-use Rattle.cp_resolved.specs.Typed.{Tokens, HeadingIs, ScopesAgree}
-use Rattle.cp_resolved.proofs.Agreeing.{look_is, none_left, none_right, new_names, More, more_trans, with_more, Appends, appends_none, appends_then}
+use Rattle.cp_resolved.specs.Typed.{Tokens, HeadingIs, IsMarked, ScopesAgree}
+use Rattle.cp_resolved.proofs.Agreeing.{look_is, none_left, none_right, new_names, More, more_trans, with_more, with_there, Appends, appends_none, appends_then}
 use Rattle.cp_resolved.proofs.AgreeingNames.{W, heading_kept, heading_is_more, Known, IsKnown, known_moved, Agree, sees, fits, agree_same, agree_kept, agree_known, agree_returned}
 use Rattle.cp_resolved.proofs.AgreeingTypes.{IsFew}
 use Rattle.cp_resolved.proofs.AgreeingWritten.{each_left, each_right}
 use Rattle.cp_resolved.proofs.AgreeingParts.{StepResult, step_then, step_same, name_result, local_kind, parts_agree, parts_stand}
 use Rattle.cp_resolved.proofs.ParametersRead.{Reads, name_read, parts_read, longer_routine}
+use Rattle.cp_resolved.proofs.RoutinesSeen.{body_entry}
 use Rattle.cp_resolved.proofs.AgreeingRoutines.{none_before, none_after, heading_none, heading_agrees, Announced, announced_agrees, announcing}
 
 pub record Uses (j : Judged Use) : Type 0 where
@@ -57,6 +59,19 @@ loud_uses (Err (f ∷ fs)) h e = absurd (let bad : f ∷ fs ≡ [] = e in cc)
 abbrev pub ReadsAs : Scopes → Scopes → Type 0
 ReadsAs s t = checker.parameters_in t.inner.names ≡ checker.parameters_in s.inner.names
 
+-- What the body of a routine takes is written when it is closed; s is before the routine, and t after it.
+pub record BodyWritten (s : Scopes) (x : Place) (t : Scopes) (r : Routine) : Type 0 where
+  pub before : More s.shapes x.scopes.shapes
+  pub uses : Use
+  pub judged : statements x.scopes x.context (Ok no_use) r.body.statements ≡ Ok uses
+  pub body : Use
+  pub there : shape_in r.body.at t.shapes ≡ Some (body_shape body)
+  pub same : body.delays ≡ uses.delays
+
+closed_written : (r : Routine) (v : Option ValueType) (u : Use) (t : Scopes) → shape_in r.body.at t.shapes ≡ None → shape_in r.body.at (routines.closed r v u t).shapes ≡ Some (body_shape (routine_use (census t.inner.names t.shapes).cells v u))
+unfolding routines.closed settle keep leave
+closed_written r v u t free = with_there t.shapes r.body.at (body_shape (routine_use (census t.inner.names t.shapes).cells v u)) free
+
 module _ (tokens : Tokens) (p : Program) where
   -- ---- statements
 
@@ -69,12 +84,13 @@ module _ (tokens : Tokens) (p : Program) where
       go (Some None) k = k
       go (Some (Some c)) k = tt
 
-  pub place_agreed : (s : Scopes) (w : Context) (m below : scopes.Scope) (ks : List ℕ) (o : Opening) → o.meaning.scope ≡ m → faults (statements s w (Ok no_use) o.meaning.body) ≡ [] → Each IsFreeVariable o.meaning.variables → Each IsFreeParameter o.meaning.parameters → IsFreeResult o.meaning.result → ((n : ℕ) → w.routine ≡ Some n → IsOwn tokens (record { scopes = s; context = w }) o n) → Agree tokens p false None s m below ks → IsAgreed tokens p (record { scopes = s; context = w }) o
+  pub place_agreed : (s : Scopes) (w : Context) (m below : scopes.Scope) (ks : List ℕ) (o : Opening) → o.meaning.scope ≡ m → faults (statements s w (Ok no_use) o.meaning.body) ≡ [] → Each IsFreeVariable o.meaning.variables → Each IsFreeParameter o.meaning.parameters → IsOrdinalResult o.meaning.result → ((n : ℕ) → w.routine ≡ Some n → IsOwn tokens (record { scopes = s; context = w }) o n) → Agree tokens p false None s m below ks → IsAgreed tokens p (record { scopes = s; context = w }) o
   place_agreed s w m below ks o is sound variables parameters result own h =
       record {
         scopes = λ l k n. subst (λ (i : scopes.Scope). ScopesAgree tokens s (record { program = p; layouts = l; system = k; routine = n; scope = i })) (sym is)
             (record { names = λ x c e. (subst (IsKnown tokens s m x) e (sees tokens p false None s m below ks h x tt)).means; entries = λ j i y e. (h.entries j i y e).0; starts = h.starts });
         sound = sound;
+        written = λ x n e. subst (λ (i : scopes.Scope). IsMarked s.shapes (meaning.Routine n) (find x i)) (sym is) ((subst (IsKnown tokens s m x) e (sees tokens p false None s m below ks h x tt)).marked);
         known = λ x e. subst (IsKnown tokens s m x) e (sees tokens p false None s m below ks h x tt);
         fit = λ x. subst (λ (i : scopes.Scope). IsFit (find x i)) (sym is) (fits tokens p false None s m below ks h x);
         limited = subst AreLimited (sym is) h.limited;
@@ -133,6 +149,7 @@ module _ (tokens : Tokens) (p : Program) where
     pub step : StepResult tokens p false None s (body_step r j (routines.opened owner r (announced_of r j hs))).scopes (with_routine m r) below ks
     pub own : (n : ℕ) → Some r.name.at ≡ Some n → IsOwn tokens (record { scopes = (part_steps spot.Other (announced_of r j hs) r.parts).scopes; context = routine_context owner r }) (opening_of m r 0) n
     pub read : ReadsAs s (body_step r j (routines.opened owner r (announced_of r j hs))).scopes
+    pub written : BodyWritten s (record { scopes = (part_steps spot.Other (announced_of r j hs) r.parts).scopes; context = routine_context owner r }) (body_step r j (routines.opened owner r (announced_of r j hs))).scopes r
 
   same_token : (n k : ℕ) → Some n ≡ Some k → n ≡ k
   same_token n k e = cc
@@ -163,27 +180,39 @@ module _ (tokens : Tokens) (p : Program) where
         step = subst (λ (i : Judged Use). StepResult tokens p false None s (closed_of r (Ok v) i d.scopes) k below ks) (sym (same ∙ uses.is))
             (closed_agrees s a d.scopes m below (routine_in k r).scope js ks r v uses.value fresh before ann.known ann.outer ann.more parts.more parts.outer parts.agree);
         own = λ n i. record {
+          routine = λ g. (let bad : Some r.name.name ≡ None = g in cc);
           named = λ x g. subst (λ (z : ℕ). look x d.scopes ≡ Some (Some (meaning.Routine z)) → bytes_eq x r.name.name ≡ true) (same_token r.name.at n i) (λ f. ann.alone x (own_found a d.scopes x r.name.at (parts_read spot.Other a r.parts) parts.outer parts.agree.unsealed f)) g;
           heading = subst (λ (z : ℕ). HeadingIs (W tokens d.scopes.shapes) (heading_at z d.scopes) (Some (routine_in k r))) (same_token r.name.at n i)
               (subst (λ (z : checker.Heading). HeadingIs (W tokens d.scopes.shapes) z (Some (routine_in k r))) (sym (heading_kept r.name.at a.shapes d.scopes.shapes parts.more ann.known.there)) (heading_is_more tokens a.shapes d.scopes.shapes parts.more (heading_at r.name.at a) (Some (routine_in k r)) ann.heading));
         };
         read = subst (λ (i : Judged Use). ReadsAs s (closed_of r (Ok v) i d.scopes)) (sym (same ∙ uses.is)) (closed_read s a d.scopes r v uses.value fresh ann.outer parts.outer);
+        written = record {
+          before = more_trans s.shapes a.shapes d.scopes.shapes ann.more parts.more;
+          uses = uses.value;
+          judged = uses.is;
+          body = routine_use (census d.scopes.inner.names d.scopes.shapes).cells v uses.value;
+          there = subst (λ (i : Judged Use). shape_in r.body.at (closed_of r (Ok v) i d.scopes).shapes ≡ Some (body_shape (routine_use (census d.scopes.inner.names d.scopes.shapes).cells v uses.value))) (sym (same ∙ uses.is)) (closed_written r v uses.value d.scopes parts.agree.free.0);
+          same = refl;
+        };
       }
 
   pub record RoutineResult (owner : Option SystemKind) (s : Scopes) (m below : scopes.Scope) (ks : List ℕ) (n : ℕ) (r : Routine) : Type 0 where
     pub place : IsAgreed tokens p (routine_place owner s r) (record { meaning = routine_in (with_routine m r) r; owner = n; name = Some r.name.name })
     pub step : StepResult tokens p false None s (routine_step owner s r).scopes (with_routine m r) below ks
     pub read : ReadsAs s (routine_step owner s r).scopes
+    pub written : BodyWritten s (routine_place owner s r) (routine_step owner s r).scopes r
 
   -- what a routine leaves, by what its heading leaves
-  routine_result : (owner : Option SystemKind) (s a : Scopes) (m below : scopes.Scope) (js ks : List ℕ) (n : ℕ) (r : Routine) (h : Headed) (v : Option ValueType) → h.result ≡ Ok v → Each IsFreeParameter (routine_in (with_routine m r) r).parameters → IsFreeResult (routine_in (with_routine m r) r).result → BodyResult owner a m below ks r (Ok v) h.scopes → a.outer ≡ s.outer → More s.shapes a.shapes → Appends s.inner.names a.inner.names → ReadsAs s a →
+  routine_result : (owner : Option SystemKind) (s a : Scopes) (m below : scopes.Scope) (js ks : List ℕ) (n : ℕ) (r : Routine) (h : Headed) (v : Option ValueType) → h.result ≡ Ok v → Each IsFreeParameter (routine_in (with_routine m r) r).parameters → IsOrdinalResult (routine_in (with_routine m r) r).result → BodyResult owner a m below ks r (Ok v) h.scopes → a.outer ≡ s.outer → More s.shapes a.shapes → Appends s.inner.names a.inner.names → ReadsAs s a →
       IsAgreed tokens p (record { scopes = (part_steps spot.Other (announced_of r h.result h.scopes) r.parts).scopes; context = routine_context owner r }) (record { meaning = routine_in (with_routine m r) r; owner = n; name = Some r.name.name })
       × StepResult tokens p false None s (routines.headed_step owner r h).scopes (with_routine m r) below ks × ReadsAs s (routines.headed_step owner r h).scopes
+      × BodyWritten s (record { scopes = (part_steps spot.Other (announced_of r h.result h.scopes) r.parts).scopes; context = routine_context owner r }) (routines.headed_step owner r h).scopes r
   routine_result owner s a m below js ks n r h v is parameters result b outer more longer read =
       let body : BodyResult owner a m below ks r h.result h.scopes = subst (λ (j : Judged (Option ValueType)). BodyResult owner a m below ks r j h.scopes) (sym is) b in (
-        place_agreed (part_steps spot.Other (announced_of r h.result h.scopes) r.parts).scopes (routine_context owner r) (routine_in (with_routine m r) r).scope (with_routine m r) (r.body.at ∷ ks) (record { meaning = routine_in (with_routine m r) r; owner = n; name = Some r.name.name }) refl body.sound body.variables parameters result (λ z i. (let o = body.own z i in record { named = o.named; heading = o.heading })) body.agree,
+        place_agreed (part_steps spot.Other (announced_of r h.result h.scopes) r.parts).scopes (routine_context owner r) (routine_in (with_routine m r) r).scope (with_routine m r) (r.body.at ∷ ks) (record { meaning = routine_in (with_routine m r) r; owner = n; name = Some r.name.name }) refl body.sound body.variables parameters result (λ z i. (let o = body.own z i in record { routine = o.routine; named = o.named; heading = o.heading })) body.agree,
         record { agree = body.step.agree; outer = body.step.outer ∙ outer; settled = body.step.settled; more = more_trans s.shapes a.shapes (routines.headed_step owner r h).scopes.shapes more body.step.more; appends = appends_then s.inner.names a.inner.names (routines.headed_step owner r h).scopes.inner.names longer body.step.appends },
         body.read ∙ read,
+        (let b = body.written in record { before = more_trans s.shapes a.shapes _ more b.before; uses = b.uses; judged = b.judged; body = b.body; there = b.there; same = b.same }),
       )
 
   pub routine_agrees : (owner : Option SystemKind) (s : Scopes) (m below : scopes.Scope) (ks : List ℕ) (n : ℕ) (r : Routine) → (routine_step owner s r).faults ≡ [] → IsSmallRoutine r → Each (IsFew tokens) (in_routine r) → s.inner.pending ≡ [] → Agree tokens p false None s m below (routine_tokens r ks) → RoutineResult owner s m below ks n r
@@ -196,11 +225,11 @@ module _ (tokens : Tokens) (p : Program) where
       let named = name_result tokens p false None s r.name m below (routine_tokens r ks) reserved empty h in
       let fresh : is_some (checker.find r.name.name a.inner.names) ≡ false = named.reserved.pends r.name.name named.reserved.all.0 in
       let head = heading_agrees tokens p owner s m below (routine_tokens r ks) r none named.agree in
-      let ann = announced_agrees tokens p a hd.scopes m below (with_routine m r) (meant.heading_of (with_routine m r) r.kind).scope (routine_tokens r ks) (all_tokens part_tokens r.parts (r.body.at ∷ ks)) r head.value refl fresh named.agree head.step.agree head.step.outer head.step.settled head.step.more (head.result, head.read) in
+      let ann = announced_agrees tokens p a hd.scopes m below (with_routine m r) (meant.heading_of (with_routine m r) r.kind).scope (routine_tokens r ks) (all_tokens part_tokens r.parts (r.body.at ∷ ks)) r head.value refl fresh named.agree head.step.agree head.step.outer head.step.settled head.step.more (head.result, head.read, sym (body_entry m r)) in
       let body = body_agrees owner a hd.scopes m below (routine_tokens r ks) ks r head.value fresh named.agree ann small few
       (subst (λ (j : Judged (Option ValueType)). faults (routines.opened owner r (announced_of r j hd.scopes)).uses ≡ []) head.is (none_right (faults hd.result) (faults (routines.opened owner r (announced_of r hd.result hd.scopes)).uses) e)) in
-      let all = routine_result owner s a m below (routine_tokens r ks) ks n r hd head.value head.is head.parameters head.free body named.outer (λ k d i. ap (shape_in k) named.shapes ∙ i) (appends_none s.inner.names a.inner.names named.reserved.names) (ap checker.parameters_in named.reserved.names) in
-      record { place = all.0; step = all.1; read = all.2 }
+      let all = routine_result owner s a m below (routine_tokens r ks) ks n r hd head.value head.is head.parameters head.ordinal body named.outer (λ k d i. ap (shape_in k) named.shapes ∙ i) (appends_none s.inner.names a.inner.names named.reserved.names) (ap checker.parameters_in named.reserved.names) in
+      record { place = all.0; step = all.1; read = all.2; written = all.3 }
 
   -- ---- the routines of a system type
 

@@ -24,7 +24,7 @@ use Rattle.cp_resolved.specs.Layouts.{cells_in}
 use Rattle.cp_resolved.specs.Small.{Each}
 use Rattle.cp_resolved.specs.Standing.{IsFit, is_standing}
 use Rattle.cp_resolved.specs.Tokens.{AreDifferent}
-use Rattle.cp_resolved.specs.Typed.{Tokens, SystemThere, IsValueParameter, Written, TypeIs, FieldsAre, AreParameters, HeadingIs, VariableIs, KindIs, RoutineIs, MeaningIs}
+use Rattle.cp_resolved.specs.Typed.{Tokens, SystemThere, IsValueParameter, Written, TypeIs, FieldsAre, AreParameters, HeadingIs, IsMarked, VariableIs, KindIs, RoutineIs, MeaningIs}
 use Rattle.cp_resolved.specs.Limited.{IsLimitedMeaning, AreLimited}
 use Rattle.cp_resolved.proofs.FewCells.{few_free, few_standing}
 use Rattle.cp_resolved.proofs.Agreeing.{itself, is_itself, unknown, find_last, new_names, inner_look, look_is, More, with_more, with_there, with_other, AreFree, free_others}
@@ -67,7 +67,7 @@ module _ (tokens : Tokens) where
     type_more ss ts m (named.record_with us) v h =
         record { token = h.token; is = h.is; fields = h.fields; there = m h.token (record_shape h.fields (cells_in us)) h.there; visible = h.visible; each = fields_more ss ts m us h.fields.names h.each; few = h.few }
     type_more ss ts m (named.component_of n) v h =
-        record { kind = h.kind; is = h.is; only = h.only; there = record { names = h.there.names; heading = h.there.heading; census = h.there.census; need = h.there.need; there = m (tokens.systems n) (system_shape h.there.names h.there.heading h.there.census h.there.need) h.there.there } }
+        record { kind = h.kind; is = h.is; own = h.own; only = h.only; there = record { names = h.there.names; heading = h.there.heading; census = h.there.census; need = h.there.need; there = m (tokens.systems n) (system_shape h.there.names h.there.heading h.there.census h.there.need) h.there.there } }
 
     pub fields_more : (ss ts : Shapes) → More ss ts → (us : FieldTypes) (ds : Names) → FieldsAre (W ss) us ds → FieldsAre (W ts) us ds
     fields_more ss ts m named.no_field_types ds h = h
@@ -114,7 +114,7 @@ module _ (tokens : Tokens) where
 
   pub heading_is_more : (ss ts : Shapes) → More ss ts → (d : Heading) (o : Option RoutineMeaning) → HeadingIs (W ss) d o → HeadingIs (W ts) d o
   heading_is_more ss ts m d None h = h
-  heading_is_more ss ts m d (Some r) h = (h.0, parameters_more ss ts m d.parameters r.parameters h.1)
+  heading_is_more ss ts m d (Some r) h = (h.0, parameters_more ss ts m d.parameters r.parameters h.1, h.2)
 
   routine_since : (ss ts : Shapes) → More ss ts → (d : Heading) (x : Name) (m k : scopes.Scope) (o : Option scopes.Meaning) → since x m ≡ since x k → RoutineIs (W ss) d x m o → RoutineIs (W ts) d x k o
   routine_since ss ts i d x m k (Some (scopes.routine_meaning r)) e h = subst (λ (t : scopes.Scope). HeadingIs (W ts) d (Some (routine_in t r))) e (heading_is_more ss ts i d (Some (routine_in (since x m) r)) h)
@@ -136,10 +136,26 @@ module _ (tokens : Tokens) where
       subst (λ (d : Heading). RoutineIs (W t.shapes) d x k o) (sym (heading_kept n s.shapes t.shapes more i)) (routine_since s.shapes t.shapes more (heading_at n s) x m k o e h)
   meaning_moved s t x m k (meaning.Predeclared q) o more e i h = h
 
+  marked_more : (ss ts : Shapes) → More ss ts → (c : Meaning) (o : Option scopes.Meaning) → IsMarked ss c o → IsMarked ts c o
+  marked_more ss ts m (meaning.Routine n) (Some (scopes.routine_meaning r)) h = record { token = h.token; heading = h.heading; there = m n (heading_shape h.heading r.body.at) h.there }
+  marked_more ss ts m (meaning.Routine n) (Some (scopes.constant_meaning b z)) h = absurd h
+  marked_more ss ts m (meaning.Routine n) (Some (scopes.type_meaning t)) h = absurd h
+  marked_more ss ts m (meaning.Routine n) (Some (scopes.local_variable t)) h = absurd h
+  marked_more ss ts m (meaning.Routine n) (Some (scopes.permanent_variable t)) h = absurd h
+  marked_more ss ts m (meaning.Routine n) (Some (scopes.standard_meaning q)) h = absurd h
+  marked_more ss ts m (meaning.Routine n) None h = absurd h
+  marked_more ss ts m (meaning.Constant b z) o h = tt
+  marked_more ss ts m (meaning.Kind v) o h = tt
+  marked_more ss ts m (meaning.Variable v) o h = tt
+  marked_more ss ts m (meaning.Parameter v) o h = tt
+  marked_more ss ts m (meaning.Reference v) o h = tt
+  marked_more ss ts m (meaning.Predeclared q) o h = tt
+
   -- ---- a name that the checker has
 
   pub record Known (s : Scopes) (m : scopes.Scope) (x : Name) (c : Meaning) : Type 0 where
     pub means : MeaningIs (W s.shapes) s x m c (find x m)
+    pub marked : IsMarked s.shapes c (find x m)
     pub there : IsThere s.shapes c
     pub fit : IsFit (find x m)
 
@@ -147,6 +163,7 @@ module _ (tokens : Tokens) where
   known_moved s t m k x c more f e h =
       record {
         means = subst (MeaningIs (W t.shapes) t x k c) f (meaning_moved s t x m k c (find x m) more e h.there h.means);
+        marked = subst (IsMarked t.shapes c) f (marked_more s.shapes t.shapes more c (find x m) h.marked);
         there = there_more s.shapes t.shapes more c h.there;
         fit = subst IsFit f h.fit;
       }
@@ -189,6 +206,7 @@ module _ (tokens : Tokens) where
 
   pub record New (t : Scopes) (n : Name) (c : Meaning) (d : scopes.Meaning) : Type 0 where
     pub means : (k : scopes.Scope) → MeaningIs (W t.shapes) t n ((n, d) ∷ k) c (Some d)
+    pub marked : IsMarked t.shapes c (Some d)
     pub there : IsThere t.shapes c
     pub fit : IsFit (Some d)
 
@@ -210,7 +228,7 @@ module _ (tokens : Tokens) where
   type_other x n (scopes.standard_meaning q) m h = refl
 
   pub new_known : (t : Scopes) (m : scopes.Scope) (n : Name) (c : Meaning) (d : scopes.Meaning) → New t n c d → Known t ((n, d) ∷ m) n c
-  new_known t m n c d h = record { means = subst (MeaningIs (W t.shapes) t n ((n, d) ∷ m) c) (find_first n d m) (h.means m); there = h.there; fit = subst IsFit (find_first n d m) h.fit }
+  new_known t m n c d h = record { means = subst (MeaningIs (W t.shapes) t n ((n, d) ∷ m) c) (find_first n d m) (h.means m); marked = subst (IsMarked t.shapes c) (find_first n d m) h.marked; there = h.there; fit = subst IsFit (find_first n d m) h.fit }
 
   fit_limited : (d : scopes.Meaning) → IsFit (Some d) → IsLimitedMeaning d
   fit_limited (scopes.type_meaning t) h = few_standing t h

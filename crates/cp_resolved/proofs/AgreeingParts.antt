@@ -167,7 +167,7 @@ module _ (tokens : Tokens) (p : Program) where
   -- ---- constants
 
   constant_new : (u : Scopes) (n : Name) (q : named.Base × _) (k : Number) → NumberIs tokens q k → New tokens u n (meaning.Constant k.base k.value) (scopes.constant_meaning q.0 q.1)
-  constant_new u n q k h = record { means = λ r. (h.base, h.value, h.within); there = tt; fit = h.small }
+  constant_new u n q k h = record { means = λ r. (h.base, h.value, h.within); marked = tt; there = tt; fit = h.small }
 
   one_fresh : (t : Scopes) (n : Identifier) (ms : List Name) → t.inner.pending ≡ ms → Pends t.inner → AreAmong (n ∷ []) ms → is_some (checker.find n.name t.inner.names) ≡ false
   one_fresh t n ms e h a = h n.name (ap (is_among n.name) e ∙ a.0)
@@ -225,7 +225,7 @@ module _ (tokens : Tokens) (p : Program) where
       }
 
   kind_new : (u : Scopes) (n : Name) (t : Ty) (v : ValueType) → TypeIs (W tokens u.shapes) t v → is_standing t ≡ true → New tokens u n (meaning.Kind v) (scopes.type_meaning t)
-  kind_new u n t v h g = record { means = λ r. h; there = tt; fit = g }
+  kind_new u n t v h g = record { means = λ r. h; marked = tt; there = tt; fit = g }
 
   -- a name for a type that was written
   pub kind_declared : (b : Bool) (s : Scopes) (n : Identifier) (t : Typed) (m below : scopes.Scope) (ks : List ℕ) (u : Ty) (v : ValueType) → t.type ≡ Ok v → TypeIs (W tokens t.scopes.shapes) u v → is_standing u ≡ true → is_some (checker.find n.name t.scopes.inner.names) ≡ false →
@@ -265,15 +265,15 @@ module _ (tokens : Tokens) (p : Program) where
     pub hidden : b ≡ true → (t : Ty) → false ≡ is_seen (kind t)
 
   pub permanent_kind : (b : Bool) (o : Option SystemKind) → Kind b (spot.Permanent o) scopes.permanent_variable
-  permanent_kind b o = record { new = λ u t v h n. record { means = λ r. (h.belongs, standing_may t h.stands); there = tt; fit = h.stands }; hidden = λ e t. refl }
+  permanent_kind b o = record { new = λ u t v h n. record { means = λ r. (h.belongs, standing_may t h.stands); marked = tt; there = tt; fit = h.stands }; hidden = λ e t. refl }
 
   pub local_kind : Kind false spot.Other scopes.local_variable
-  local_kind = record { new = λ u t v h n. record { means = λ r. (h.belongs, free_plain t h.stands); there = tt; fit = h.stands }; hidden = λ e. absurd (cc) }
+  local_kind = record { new = λ u t v h n. record { means = λ r. (h.belongs, free_plain t h.stands); marked = tt; there = tt; fit = h.stands }; hidden = λ e. absurd (cc) }
 
   typed_moved : (ss ts : Shapes) (q : Spot) (t : Ty) (v : ValueType) → ts ≡ ss → TypedAs tokens ss q t v → TypedAs tokens ts q t v
   typed_moved ss ts q t v e h = subst (λ us. TypedAs tokens us q t v) (sym e) h
 
-  variable_agrees : (b : Bool) (q : Spot) (kind : Ty → scopes.Meaning) → Kind b q kind → (s : Scopes) (m below : scopes.Scope) (ks : List ℕ) (g : VariableGroup) → (variable_step q s g).faults ≡ [] → IsSmallType g.variable_type → Each (IsFew tokens) (in_type g.variable_type) → s.inner.pending ≡ [] → Agree tokens p b None s m below (type_tokens g.variable_type ks) →
+  pub variable_agrees : (b : Bool) (q : Spot) (kind : Ty → scopes.Meaning) → Kind b q kind → (s : Scopes) (m below : scopes.Scope) (ks : List ℕ) (g : VariableGroup) → (variable_step q s g).faults ≡ [] → IsSmallType g.variable_type → Each (IsFew tokens) (in_type g.variable_type) → s.inner.pending ≡ [] → Agree tokens p b None s m below (type_tokens g.variable_type ks) →
       StepResult b None s (variable_step q s g).scopes (meant.with_names (meant.names_of g.names) (kind (meant.type_in m g.variable_type).0) (meant.type_in m g.variable_type).1) below ks
   unfolding variable_step
   variable_agrees b q kind how s m below ks g e small few empty h =
@@ -300,7 +300,7 @@ module _ (tokens : Tokens) (p : Program) where
 
   -- ---- parts
 
-  part_agrees : (b : Bool) (q : Spot) (kind : Ty → scopes.Meaning) → Kind b q kind → (s : Scopes) (o : Block) (below : scopes.Scope) (ks : List ℕ) (d : Part) → (part_step q s d).faults ≡ [] → IsSmallPart d → Each (IsFew tokens) (in_part d) → s.inner.pending ≡ [] → Agree tokens p b None s o.scope below (part_tokens d ks) →
+  pub part_agrees : (b : Bool) (q : Spot) (kind : Ty → scopes.Meaning) → Kind b q kind → (s : Scopes) (o : Block) (below : scopes.Scope) (ks : List ℕ) (d : Part) → (part_step q s d).faults ≡ [] → IsSmallPart d → Each (IsFew tokens) (in_part d) → s.inner.pending ≡ [] → Agree tokens p b None s o.scope below (part_tokens d ks) →
       StepResult b None s (part_step q s d).scopes (meant.part_in kind o d).scope below ks
   unfolding part_step
   part_agrees b q kind how s o below ks (syntax.constants at ds) e small few empty h = constants_agree b s o.scope below ks ds e small empty h

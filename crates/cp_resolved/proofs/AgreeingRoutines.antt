@@ -32,10 +32,11 @@ use Rattle.cp_meaning.specs.Scopes as scopes
 use Rattle.cp_meaning.specs.Scopes.{find, since, routine_meaning}
 use Rattle.cp_meaning.specs.Declarations as meant
 use Rattle.cp_meaning.specs.Declarations.{routine_in}
+use Rattle.cp_resolved.specs.Framed as framed
 use Rattle.cp_resolved.specs.Openings.{with_routine}
 use Rattle.cp_resolved.specs.Small.{Each}
-use Rattle.cp_resolved.specs.Standing.{is_free, IsFit, IsFreeParameter, IsFreeResult}
-use Rattle.cp_resolved.specs.Typed.{Tokens, TypeIs, IsOrdinalResult, ResultIs, AreParameters, HeadingIs, RoutineIs}
+use Rattle.cp_resolved.specs.Standing.{is_free, IsFit, IsFreeParameter}
+use Rattle.cp_resolved.specs.Typed.{Tokens, TypeIs, IsOrdinalResult, ResultIs, AreParameters, HeadingIs, RoutineIs, IsMarked}
 use Rattle.cp_resolved.proofs.Agreeing.{Good, good_then, good_sound, none_left, none_right, none_first, itself, is_itself, new_names, look_last, look_is, look_entered, find_last, inner_look, More, more_same, more_trans, with_more, with_there, appends_none}
 use Rattle.cp_resolved.proofs.AgreeingNames.{W, heading_is_more, IsTypeKnown, IsStacked, New, Known, IsKnown, is_known_moved, stacked_more, find_first, find_other, since_other, last_or, Agree, sees, fits, agree_kept}
 use Rattle.cp_resolved.proofs.AgreeingTypes.{Held, held_named, KindOf, IsOrdinal, ordinal_of, type_seen, known_type}
@@ -75,8 +76,8 @@ module _ (tokens : Tokens) (p : Program) where
       (λ v k. admitted_good s.shapes g.type_name.at (typing.holding s v) (meant.type_named m g.type_name.name) v k.belongs (held_named (W tokens s.shapes) s (meant.type_named m g.type_name.name) v refl k.belongs k.standing))
 
   parameter_new : (is_var : Bool) (ss : Shapes) (u : Scopes) (n : Name) (t : Ty) (v : ValueType) → u.shapes ≡ ss → PlainType ss t v → New tokens u n (if is_var then meaning.Reference v else meaning.Parameter v) (scopes.local_variable t)
-  parameter_new true ss u n t v e h = record { means = λ r. (subst (λ us. TypeIs (W tokens us) t v) (sym e) h.belongs, free_plain t h.free); there = tt; fit = h.free }
-  parameter_new false ss u n t v e h = record { means = λ r. (subst (λ us. TypeIs (W tokens us) t v) (sym e) h.belongs, free_plain t h.free); there = tt; fit = h.free }
+  parameter_new true ss u n t v e h = record { means = λ r. (subst (λ us. TypeIs (W tokens us) t v) (sym e) h.belongs, free_plain t h.free); marked = tt; there = tt; fit = h.free }
+  parameter_new false ss u n t v e h = record { means = λ r. (subst (λ us. TypeIs (W tokens us) t v) (sym e) h.belongs, free_plain t h.free); marked = tt; there = tt; fit = h.free }
 
   group_agrees : (is_var : Bool) (but : Option Name) (s : Scopes) (m below : scopes.Scope) (ks : List ℕ) (g : Group) → (headings.group_step is_var s g).faults ≡ [] → s.inner.pending ≡ [] → Agree tokens p false but s m below ks →
       StepResult tokens p false but s (headings.group_step is_var s g).scopes (meant.with_names (meant.names_of g.names) (scopes.local_variable (meant.type_named m g.type_name.name)) m) below ks
@@ -212,7 +213,8 @@ module _ (tokens : Tokens) (p : Program) where
   -- ---- results
 
   abbrev IsResult : Shapes → Option ValueType → Option Ty → Type 0
-  IsResult ss None o = Unit {0}
+  IsResult ss None None = Unit {0}
+  IsResult ss None (Some t) = ⊥
   IsResult ss (Some v) (Some t) = PlainType ss t v
   IsResult ss (Some v) None = ⊥
 
@@ -223,14 +225,14 @@ module _ (tokens : Tokens) (p : Program) where
   returned_good ss at (holds.Component j) t v b k = tt
   returned_good ss at (holds.Components j) t v b k = tt
 
-  result_good : (s : Scopes) (m : scopes.Scope) (i : Identifier) → Good (KindOf tokens s.shapes (meant.type_named m i.name)) (typing.type_named s i.at i.name) → Good (λ o. IsResult s.shapes o (Some (meant.type_named m i.name)) × (is_free (meant.type_named m i.name) ≡ true)) (headings.result_type s i)
+  result_good : (s : Scopes) (m : scopes.Scope) (i : Identifier) → Good (KindOf tokens s.shapes (meant.type_named m i.name)) (typing.type_named s i.at i.name) → Good (λ o. IsResult s.shapes o (Some (meant.type_named m i.name))) (headings.result_type s i)
   unfolding headings.result_type
   result_good s m i h =
       let t : Ty = meant.type_named m i.name in
-      good_then (PlainType s.shapes t) (λ o. IsResult s.shapes o (Some t) × (is_free t ≡ true)) (typing.type_named s i.at i.name >>= headings.returned_in s i.at) headings.some_type
+      good_then (PlainType s.shapes t) (λ o. IsResult s.shapes o (Some t)) (typing.type_named s i.at i.name >>= headings.returned_in s i.at) headings.some_type
       (good_then (KindOf tokens s.shapes t) (PlainType s.shapes t) (typing.type_named s i.at i.name) (headings.returned_in s i.at) h
       (λ v k. returned_good s.shapes i.at (typing.holding s v) t v k.belongs (held_named (W tokens s.shapes) s t v refl k.belongs k.standing)))
-      (λ v k. (k, k.free))
+      (λ v k. k)
 
   ordinal_result : (ss : Shapes) (t : Ty) (v : ValueType) → PlainType ss t v → is_ordinal v ≡ true → IsOrdinalResult tokens v (Some t)
   ordinal_result ss t (types.Ordinal r) h e =
@@ -242,14 +244,35 @@ module _ (tokens : Tokens) (p : Program) where
   ordinal_result ss t (types.Record n) h e = absurd (let bad : false ≡ true = e in cc)
   ordinal_result ss t (types.Component k n) h e = absurd (let bad : false ≡ true = e in cc)
 
-  result_is : (ss : Shapes) (at : ℕ) (o : Option ValueType) (q : Option Ty) → IsResult ss o q → headings.result_faults at o ≡ [] → ((r : meant.RoutineMeaning) → r.result ≡ q → ResultIs tokens o (Some r))
-  result_is ss at None q h e r i = tt
-  result_is ss at (Some v) (Some t) h e r i = subst (IsOrdinalResult tokens v) (sym i) (ordinal_result ss t v h (go (is_ordinal v) e))
+  judged_ordinal : (at : ℕ) (v : ValueType) → headings.result_faults at (Some v) ≡ [] → is_ordinal v ≡ true
+  judged_ordinal at v e = go (is_ordinal v) e
     where
       go : (b : Bool) → (if b then [] else fault at C5) ≡ [] → b ≡ true
       go true k = refl
       go false k = absurd (cc)
+
+  result_is : (ss : Shapes) (at : ℕ) (o : Option ValueType) (q : Option Ty) → IsResult ss o q → headings.result_faults at o ≡ [] → ((r : meant.RoutineMeaning) → r.result ≡ q → ResultIs tokens o (Some r))
+  result_is ss at None None h e r i = i
+  result_is ss at None (Some t) h e r i = absurd h
+  result_is ss at (Some v) (Some t) h e r i = subst (IsOrdinalResult tokens v) (sym i) (ordinal_result ss t v h (judged_ordinal at v e))
   result_is ss at (Some v) None h e r i = absurd h
+
+  -- an ordinal whose bounds are values of its base
+  bounded_type : (ss : Shapes) (t : Ty) (v : ValueType) → PlainType ss t v → is_ordinal v ≡ true → framed.IsOrdinal t
+  bounded_type ss t (types.Ordinal r) h e =
+      let o : IsOrdinal (W tokens ss) t r = ordinal_of (W tokens ss) t r h.belongs in
+      subst framed.IsOrdinal (sym o.is) (subst (λ (u : Ty). is_free u ≡ true) o.is h.free)
+  bounded_type ss t types.Queue h e = absurd (let bad : false ≡ true = e in cc)
+  bounded_type ss t (types.Set r) h e = absurd (let bad : false ≡ true = e in cc)
+  bounded_type ss t (types.Array n) h e = absurd (let bad : false ≡ true = e in cc)
+  bounded_type ss t (types.Record n) h e = absurd (let bad : false ≡ true = e in cc)
+  bounded_type ss t (types.Component k n) h e = absurd (let bad : false ≡ true = e in cc)
+
+  bounded_result : (ss : Shapes) (at : ℕ) (o : Option ValueType) (q : Option Ty) → IsResult ss o q → headings.result_faults at o ≡ [] → framed.IsOrdinalResult q
+  bounded_result ss at None None h e = tt
+  bounded_result ss at None (Some t) h e = absurd h
+  bounded_result ss at (Some v) (Some t) h e = bounded_type ss t v h (judged_ordinal at v e)
+  bounded_result ss at (Some v) None h e = absurd h
 
   -- ---- headings
 
@@ -260,7 +283,6 @@ module _ (tokens : Tokens) (p : Program) where
     pub result : IsResult h.scopes.shapes value (meant.result_of (meant.heading_of m k).scope k)
     pub parameters : Each IsFreeParameter (meant.heading_of m k).parameters
     pub read : AreRead h.scopes (meant.heading_of m k).parameters
-    pub free : IsFreeResult (meant.result_of (meant.heading_of m k).scope k)
 
   written_agrees : (own : Name) (s : Scopes) (m below : scopes.Scope) (ks : List ℕ) (k : RoutineKind) → faults (written s k).result ≡ [] → s.inner.pending ≡ [] → Agree tokens p false (Some own) s m below ks → AreRead s [] → WrittenResult own s m below ks (written s k) k
   unfolding headings.written
@@ -273,7 +295,6 @@ module _ (tokens : Tokens) (p : Program) where
         result = tt;
         parameters = parameters_free own s (record { parameters = []; scope = m }) below ks gs none empty agree tt;
         read = parameters_read own s (record { parameters = []; scope = m }) below ks gs none empty agree first;
-        free = tt;
       }
   written_agrees own s m below ks (function gs i) e empty agree first =
       let d : Step = headings.group_steps s gs in
@@ -281,15 +302,14 @@ module _ (tokens : Tokens) (p : Program) where
       let step = groups_agree own s (record { parameters = []; scope = m }) below ks gs none empty agree in
       let k : scopes.Scope = (meant.with_groups scopes.local_variable (record { parameters = []; scope = m }) gs).scope in
       let same : after_faults d.faults (headings.result_type d.scopes i) ≡ headings.result_type d.scopes i = none_after d.faults (headings.result_type d.scopes i) e in
-      let v = good_sound (λ o. IsResult d.scopes.shapes o (Some (meant.type_named k i.name)) × (is_free (meant.type_named k i.name) ≡ true)) (headings.result_type d.scopes i) (result_good d.scopes k i (type_seen tokens p false (Some own) d.scopes k below ks i.at i.name step.agree)) (ap faults (sym same) ∙ e) in
+      let v = good_sound (λ o. IsResult d.scopes.shapes o (Some (meant.type_named k i.name))) (headings.result_type d.scopes i) (result_good d.scopes k i (type_seen tokens p false (Some own) d.scopes k below ks i.at i.name step.agree)) (ap faults (sym same) ∙ e) in
       record {
         step = step;
         value = v.value;
         is = same ∙ v.is;
-        result = v.holds.0;
+        result = v.holds;
         parameters = groups_free own s (record { parameters = []; scope = m }) below ks gs none empty agree tt;
         read = groups_read own s (record { parameters = []; scope = m }) below ks gs none empty agree first;
-        free = v.holds.1;
       }
 
   pub record HeadingResult (s : Scopes) (m k below : scopes.Scope) (ks : List ℕ) (r : Routine) (h : Headed) : Type 0 where
@@ -299,7 +319,7 @@ module _ (tokens : Tokens) (p : Program) where
     pub result : ResultIs tokens value (Some (routine_in k r))
     pub parameters : Each IsFreeParameter (routine_in k r).parameters
     pub read : AreRead h.scopes (routine_in k r).parameters
-    pub free : IsFreeResult (routine_in k r).result
+    pub ordinal : framed.IsOrdinalResult (routine_in k r).result
 
   ruled_none : (fs : List CheckFault) (v : Option ValueType) → faults (unless fs v) ≡ [] → fs ≡ []
   ruled_none [] v h = refl
@@ -311,14 +331,15 @@ module _ (tokens : Tokens) (p : Program) where
       let first : faults (after_faults fs h.result) ≡ [] = none_first (after_faults fs h.result) (headings.ruled owner r) none in
       let same : after_faults fs h.result ≡ Ok w.value = none_after fs h.result first ∙ w.is in
       let all : headings.heading_faults owner r w.value ≡ [] = ruled_none (headings.heading_faults owner r w.value) w.value (subst (λ (j : Judged (Option ValueType)). faults (j >>= headings.ruled owner r) ≡ []) same none) in
+      let fine : headings.result_faults r.at w.value ≡ [] = none_left (headings.result_faults r.at w.value) (headings.entry_faults (r.name.at - 1) owner r.is_entry) all in
       record {
         step = w.step;
         value = w.value;
         is = ap (λ (j : Judged (Option ValueType)). j >>= headings.ruled owner r) same ∙ ap (λ gs. unless gs w.value) all;
-        result = result_is h.scopes.shapes r.at w.value (meant.result_of (meant.heading_of k r.kind).scope r.kind) w.result (none_left (headings.result_faults r.at w.value) (headings.entry_faults (r.name.at - 1) owner r.is_entry) all) (routine_in k r) refl;
+        result = result_is h.scopes.shapes r.at w.value (meant.result_of (meant.heading_of k r.kind).scope r.kind) w.result fine (routine_in k r) refl;
         parameters = w.parameters;
         read = w.read;
-        free = w.free;
+        ordinal = bounded_result h.scopes.shapes r.at w.value (meant.result_of (meant.heading_of k r.kind).scope r.kind) w.result fine;
       }
 
   -- a routine's own scope, before its parameters
@@ -381,14 +402,15 @@ module _ (tokens : Tokens) (p : Program) where
   since_first : (n : Name) (d : scopes.Meaning) (m : scopes.Scope) → since n ((n, d) ∷ m) ≡ (n, d) ∷ m
   since_first n d m = ap (λ (b : Bool). if b then (n, d) ∷ m else since n m) (itself n)
 
-  routine_known : (a : Scopes) (m : scopes.Scope) (r : Routine) (h : checker.Heading) (body : ℕ) → shape_in r.name.at a.shapes ≡ Some (heading_shape h body) → HeadingIs (W tokens a.shapes) h (Some (routine_in (with_routine m r) r)) → Known tokens a (with_routine m r) r.name.name (meaning.Routine r.name.at)
-  routine_known a m r h body there is =
+  routine_known : (a : Scopes) (m : scopes.Scope) (r : Routine) (h : checker.Heading) → shape_in r.name.at a.shapes ≡ Some (heading_shape h r.body.at) → HeadingIs (W tokens a.shapes) h (Some (routine_in (with_routine m r) r)) → Known tokens a (with_routine m r) r.name.name (meaning.Routine r.name.at)
+  routine_known a m r h there is =
       let k : scopes.Scope = with_routine m r in
       record {
         means = subst (λ o. RoutineIs (W tokens a.shapes) (checker.heading_at r.name.at a) r.name.name k o) (find_first tokens r.name.name (routine_meaning r) m)
             (subst (λ (t : scopes.Scope). HeadingIs (W tokens a.shapes) (checker.heading_at r.name.at a) (Some (routine_in t r))) (sym (since_first r.name.name (routine_meaning r) m))
             (subst (λ (d : checker.Heading). HeadingIs (W tokens a.shapes) d (Some (routine_in k r))) (sym (ap checker.as_heading there)) is));
-        there = record { heading = h; body = body; there = there };
+        marked = subst (IsMarked a.shapes (meaning.Routine r.name.at)) (find_first tokens r.name.name (routine_meaning r) m) (record { token = refl; heading = h; there = there });
+        there = record { heading = h; body = r.body.at; there = there };
         fit = subst IsFit (find_first tokens r.name.name (routine_meaning r) m) tt;
       }
 
@@ -450,7 +472,7 @@ module _ (tokens : Tokens) (p : Program) where
       let there : shape_in r.name.at t.shapes ≡ Some d = with_there hs.shapes r.name.at d h.free.0 in
       let further : More s.shapes a.shapes = more_trans s.shapes hs.shapes a.shapes more (with_more hs.shapes r.name.at d h.free.0) in
       let c : Scope = with_name (sealed false s.inner) r.name.name (announcing r) in
-      let known : Known tokens a k r.name.name (meaning.Routine r.name.at) = subst (λ (i : scopes.Scope). Known tokens a i r.name.name (meaning.Routine r.name.at)) (sym same) (routine_known a m r (headings.as_heading r v hs) r.body.at there (heading_is_more tokens hs.shapes a.shapes (with_more hs.shapes r.name.at d h.free.0) (headings.as_heading r v hs) (Some (routine_in (with_routine m r) r)) is_heading)) in
+      let known : Known tokens a k r.name.name (meaning.Routine r.name.at) = subst (λ (i : scopes.Scope). Known tokens a i r.name.name (meaning.Routine r.name.at)) (sym same) (routine_known a m r (headings.as_heading r v hs) there (heading_is_more tokens hs.shapes a.shapes (with_more hs.shapes r.name.at d h.free.0) (headings.as_heading r v hs) (Some (routine_in (with_routine m r) r)) is_heading)) in
       let last : last_of hs.outer ≡ (let b : Around = record { outer = s.outer; inner = sealed false s.inner } in b) = ap last_of outer ∙ last_is s.outer (sealed false s.inner) in
       let is : a.outer ≡ s.outer ++ c ∷ [] = ap (λ (b : Around). b.outer ++ with_name b.inner r.name.name (announcing r) ∷ []) last in
       record {

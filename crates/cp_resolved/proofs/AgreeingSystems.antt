@@ -38,13 +38,13 @@ use Rattle.cp_meaning.specs.Declarations.{Block}
 use Rattle.cp_meaning.specs.Systems.{SystemMeaning, with_routines, system_in, system_of}
 use Rattle.cp_meaning.specs.Expressions.{routine_of_system, routine_of_type}
 use Rattle.cp_resolved.specs.Enumerations.{each_in, in_part, in_routine, in_system}
-use Rattle.cp_resolved.specs.Judging.{Place, initial_place, routine_places, system_places, AreAgreed}
+use Rattle.cp_resolved.specs.Judging.{Place, parts_scopes, initial_place, routine_places, system_places, AreAgreed}
 use Rattle.cp_resolved.specs.Openings.{Opening, parts_scope, routine_openings, initial_opening, system_openings}
 use Rattle.cp_resolved.specs.Limited.{AreLimited}
 use Rattle.cp_resolved.specs.Small.{Each, IsSmallSystem}
 use Rattle.cp_resolved.specs.Standing.{is_element, is_standing, IsStandingVariable, IsStandingParameter}
 use Rattle.cp_resolved.specs.Tokens.{all_tokens, routine_tokens, system_tokens}
-use Rattle.cp_resolved.specs.Typed.{Tokens, SystemThere, IsValueParameter, TypeIs, IsHanded, AreParameters, HeadingIs, RoutineIs}
+use Rattle.cp_resolved.specs.Typed.{Tokens, SystemThere, IsValueParameter, IsSystemParameter, Written, TypeIs, IsHanded, AreParameters, HeadingIs, RoutineIs}
 use Rattle.cp_resolved.proofs.Agreeing.{Good, good_then, good_sound, none_left, none_right, none_first, look_entered, inner_look, More, more_same, more_trans, with_more, with_there, with_other, free_others, appends_none}
 use Rattle.cp_resolved.proofs.AgreeingNames.{W, HeadingThere, heading_kept, heading_more, heading_is_more, parameters_more, AreStarts, New, Known, IsKnown, is_known_moved, IsStacked, AreEntries, Agree, sees, sees_of, fit_of, agree_returned}
 use Rattle.cp_resolved.proofs.AgreeingTypes.{Held, held_named, IsFew, KindOf, type_named}
@@ -54,6 +54,7 @@ use Rattle.cp_resolved.proofs.ParametersRead.{parts_read, longer_read}
 use Rattle.cp_resolved.proofs.AgreeingParts.{standing_may, StepResult, step_then, step_same, names_result, all_declared, permanent_kind, parts_agree, parts_stand}
 use Rattle.cp_resolved.proofs.AgreeingRoutines.{none_before, none_after, AreRead}
 use Rattle.cp_resolved.proofs.AgreeingBodies.{Uses, loud_uses, all_heard, place_agreed, RoutinesResult, routines_agree}
+use Rattle.cp_resolved.proofs.VariablesAmongNames.{Declares, declares_more, parts_declare, Counted, closed_counted}
 use Rattle.cp_resolved.proofs.Reserving.{AreFresh, pending_fresh}
 
 pub agreed_append : (tokens : Tokens) (p : Program) (xs ys : List Place) (os qs : List Opening) → AreAgreed tokens p xs os → AreAgreed tokens p ys qs → AreAgreed tokens p (xs ++ ys) (os ++ qs)
@@ -130,7 +131,7 @@ module _ (tokens : Tokens) (p : Program) where
       (λ v k. admitted_handed g.type_name.at o s t v (typing.holding s v) refl k.belongs (held_named (W tokens s.shapes) s t v refl k.belongs k.standing))
 
   parameter_new : (ss : Shapes) (u : Scopes) (n : Name) (t : Ty) (v : ValueType) → u.shapes ≡ ss → KindOf tokens ss t v → New tokens u n (meaning.Parameter v) (scopes.permanent_variable t)
-  parameter_new ss u n t v e h = record { means = λ r. (subst (λ us. TypeIs (W tokens us) t v) (sym e) h.belongs, standing_may t h.standing); there = tt; fit = h.standing }
+  parameter_new ss u n t v e h = record { means = λ r. (subst (λ us. TypeIs (W tokens us) t v) (sym e) h.belongs, standing_may t h.standing); marked = tt; there = tt; fit = h.standing }
 
   group_agrees : (o : SystemKind) (s : Scopes) (m below : scopes.Scope) (ks : List ℕ) (g : Group) → (systems_of.group_step o s g).faults ≡ [] → s.inner.pending ≡ [] → Agree tokens p false None s m below ks →
       StepResult tokens p false None s (systems_of.group_step o s g).scopes (meant.with_names (meant.names_of g.names) (scopes.permanent_variable (meant.type_named m g.type_name.name)) m) below ks
@@ -249,9 +250,14 @@ module _ (tokens : Tokens) (p : Program) where
     pub variables : Each IsStandingVariable (system_in m y).variables
     pub parameters : Each IsStandingParameter (system_in m y).parameters
     pub read : AreRead tokens p (inside s y).scopes (system_in m y).parameters
+    pub declares : Declares tokens (spot.Permanent (Some y.kind)) (inside s y).scopes.shapes (system_in m y).variables (inside s y).scopes.inner.names
     pub uses : Uses (systems_of.opened s y).uses
+    -- where its routines begin
+    pub begins : Agree tokens p false None (parts_scopes s y) (parts_scope m y) m (all_tokens routine_tokens y.routines (y.at ∷ ks))
+    pub settled : (parts_scopes s y).inner.pending ≡ []
+    pub none : (routine_steps (Some y.kind) (parts_scopes s y) y.routines).faults ≡ []
 
-  inside_agrees : (s : Scopes) (m : scopes.Scope) (ks : List ℕ) (n : ℕ) (y : System) → faults (systems_of.opened s y).uses ≡ [] → IsSmallSystem y → Each (IsFew tokens) (in_system y) → s.inner.pending ≡ [] → Agree tokens p false None s m m (system_tokens y ks) → AreRead tokens p s [] → InsideResult s m ks n y
+  pub inside_agrees : (s : Scopes) (m : scopes.Scope) (ks : List ℕ) (n : ℕ) (y : System) → faults (systems_of.opened s y).uses ≡ [] → IsSmallSystem y → Each (IsFew tokens) (in_system y) → s.inner.pending ≡ [] → Agree tokens p false None s m m (system_tokens y ks) → AreRead tokens p s [] → InsideResult s m ks n y
   unfolding systems_of.opened inside
   inside_agrees s m ks n y e small few empty h first_read =
       let d : Step = inside s y in
@@ -276,12 +282,18 @@ module _ (tokens : Tokens) (p : Program) where
         places = agreed_append tokens p (routine_places (Some y.kind) b.scopes y.routines) (initial_place s y ∷ []) (routine_openings n ps y.routines) (initial_opening n (system_in m y) ∷ []) all.places
             (place_agreed tokens p d.scopes (initial_context y.kind) (system_in m y).scope m (y.at ∷ ks) (initial_opening n (system_in m y)) refl sound tt tt tt (λ z i. absurd (cc)) step.agree, tt);
         step = step;
+        begins = parts.agree;
+        settled = parts.settled;
+        none = none_right b.faults c.faults (none_right a.faults (b.faults ++ c.faults) none);
         parameters = groups_stand y.kind s (record { parameters = []; scope = m }) m (system_tokens y ks) y.parameters (none_left a.faults (b.faults ++ c.faults) none) empty h tt;
         read =
             (let before = groups_read y.kind s (record { parameters = []; scope = m }) m (system_tokens y ks) y.parameters (none_left a.faults (b.faults ++ c.faults) none) empty h first_read in
             subst (λ (as' : List check_parameter.Parameter). AreParameters (W tokens c.scopes.shapes) as' (system_in m y).parameters) (sym (all.read ∙ longer_read a.scopes.inner b.scopes.inner (parts_read (spot.Permanent (Some y.kind)) a.scopes y.parts)))
             (parameters_more tokens a.scopes.shapes c.scopes.shapes (more_trans a.scopes.shapes b.scopes.shapes c.scopes.shapes parts.more all.step.more) (parameters_in a.scopes.inner.names) (system_in m y).parameters before));
         variables = parts_stand tokens p false (spot.Permanent (Some y.kind)) scopes.permanent_variable (permanent_kind tokens p false (Some y.kind)) a.scopes o m rs y.parts (none_left b.faults c.faults (none_right a.faults (b.faults ++ c.faults) none)) small.0 (each_left (IsFew tokens) (each_in in_part y.parts) (each_in in_routine y.routines) few) first.settled first.agree tt;
+        declares =
+            (let before = parts_declare tokens p false (spot.Permanent (Some y.kind)) scopes.permanent_variable (permanent_kind tokens p false (Some y.kind)) a.scopes o m rs y.parts (none_left b.faults c.faults (none_right a.faults (b.faults ++ c.faults) none)) small.0 (each_left (IsFew tokens) (each_in in_part y.parts) (each_in in_routine y.routines) few) first.settled first.agree tt in
+            declares_more tokens (spot.Permanent (Some y.kind)) b.scopes.shapes c.scopes.shapes all.step.more (system_in m y).variables b.scopes.inner.names c.scopes.inner.names all.step.appends before);
         uses = record { value = uses.value; is = subst (λ (i : Judged Use). i ≡ Ok uses.value) (sym same) uses.is };
       }
 
@@ -291,6 +303,7 @@ module _ (tokens : Tokens) (p : Program) where
   pub record IsNumbered (c : ℕ) (m : scopes.Scope) (y : System) : Type 0 where
     pub meaning : system_of p c ≡ system_in m y
     pub token : tokens.systems c ≡ y.at
+    pub kind : tokens.kinds c ≡ y.kind
     pub only : (k : ℕ) → tokens.systems k ≡ y.at → k ≡ c
 
   routine_entry : (s : Scopes) (m : scopes.Scope) (x : Name) (n : ℕ) (o : Option scopes.Meaning) → RoutineIs (W tokens s.shapes) (heading_at n s) x m o → HeadingIs (W tokens s.shapes) (heading_at n s) (routine_of_system x o m)
@@ -401,10 +414,18 @@ module _ (tokens : Tokens) (p : Program) where
 
   -- ---- a system type
 
+  system_handed : (w : Written) (as' : List check_parameter.Parameter) (qs : List meant.Parameter) → AreParameters w as' qs → Each IsValueParameter qs → Each IsSystemParameter qs
+  system_handed w [] [] h g = tt
+  system_handed w (a ∷ as') (q ∷ qs) h g = ((g.0, h.0.handed), system_handed w as' qs h.1 g.1)
+  system_handed w [] (q ∷ qs) h g = absurd h
+  system_handed w (a ∷ as') [] h g = tt
+
   pub record SystemResult (s : Scopes) (m below : scopes.Scope) (ks : List ℕ) (n : ℕ) (y : System) (t : Typed) : Type 0 where
     pub places : AreAgreed tokens p (system_places (enter true s) y) (system_openings n (seen_inside m) y)
     pub variables : Each IsStandingVariable (system_in (seen_inside m) y).variables
     pub parameters : Each IsStandingParameter (system_in (seen_inside m) y).parameters
+    pub counted : Counted tokens p n t.scopes.shapes
+    pub handed : Each IsSystemParameter (system_in (seen_inside m) y).parameters
     pub is : t.type ≡ Ok (types.Component y.kind y.at)
     pub closed : ClosedResult s t.scopes m below ks y
 
@@ -419,6 +440,8 @@ module _ (tokens : Tokens) (p : Program) where
         places = r.places;
         variables = r.variables;
         parameters = r.parameters;
+        counted = closed_counted tokens p n (seen_inside m) y o.scopes (systems_of.use_of o.uses) i.token i.meaning r.step.agree.free.0 r.declares;
+        handed = system_handed (W tokens (inside a y).scopes.shapes) (parameters_in (inside a y).scopes.inner.names) (system_in (seen_inside m) y).parameters r.read (groups_values (record { parameters = []; scope = seen_inside m }) y.parameters tt);
         is = ap (λ (j : Judged Use). j >>= systems_of.to_component y.kind y.at) r.uses.is;
         closed = closed_agrees s o.scopes m below (system_tokens y ks) ks n y (systems_of.use_of o.uses) i h r.step.agree r.step.outer r.step.more r.read;
       }

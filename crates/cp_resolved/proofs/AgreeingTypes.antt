@@ -3,6 +3,7 @@ use Rattle.std.proofs.Common.{◌≡◌, ℕ, ◌≤◌, ℤ, Bool, true, false,
 use Rattle.std.specs.Str.{bytes_eq}
 use Rattle.std.specs.Prelude.{int_lt, int_le}
 use Rattle.cp_tree.specs.declared.constant.Constant.{Constant}
+use Rattle.cp_tree.specs.declared.declaration.SystemKind.{SystemKind}
 use Rattle.cp_tree.specs.Syntax as syntax
 use Rattle.cp_tree.specs.Syntax.{Program}
 use Rattle.cp_scope.specs.declared.fault.Rule.TheVariants.{C5, C11, C13, C18}
@@ -101,28 +102,42 @@ pub record Held (h : Holding) (t : Ty) : Type 0 where
   pub free : h ≡ holds.Plain → is_free t ≡ true
   pub element : IsSingle h → is_element t ≡ true
 
-pub spotted_stands : (at : ℕ) (p : Spot) (h : Holding) (v : ValueType) (t : Ty) → Held h t → Good (λ u. (u ≡ v) × StandsAt p t) (typing.spotted at p h v)
-spotted_stands at spot.Base h v t k = (refl, k.standing)
-spotted_stands at spot.Other holds.Plain v t k = (refl, k.free refl)
+-- of which kinds the components are that may stand somewhere
+abbrev pub MayOwn : Spot → SystemKind → Type 0
+MayOwn (spot.Permanent o) k = typing.may_own o k ≡ true
+MayOwn p k = Unit {0}
+
+abbrev pub MayHold : Spot → Holding → Type 0
+MayHold p (holds.Component k) = MayOwn p k
+MayHold p (holds.Components k) = MayOwn p k
+MayHold p h = Unit {0}
+
+pub spotted_stands : (at : ℕ) (p : Spot) (h : Holding) (v : ValueType) (t : Ty) → Held h t → Good (λ u. (u ≡ v) × StandsAt p t × MayHold p h) (typing.spotted at p h v)
+spotted_stands at spot.Base holds.Plain v t k = (refl, k.standing, tt)
+spotted_stands at spot.Base holds.Queue v t k = (refl, k.standing, tt)
+spotted_stands at spot.Base holds.Queues v t k = (refl, k.standing, tt)
+spotted_stands at spot.Base (holds.Component j) v t k = (refl, k.standing, tt)
+spotted_stands at spot.Base (holds.Components j) v t k = (refl, k.standing, tt)
+spotted_stands at spot.Other holds.Plain v t k = (refl, k.free refl, tt)
 spotted_stands at spot.Other holds.Queue v t k = tt
 spotted_stands at spot.Other holds.Queues v t k = tt
 spotted_stands at spot.Other (holds.Component j) v t k = tt
 spotted_stands at spot.Other (holds.Components j) v t k = tt
-spotted_stands at spot.Element holds.Plain v t k = (refl, k.element tt)
-spotted_stands at spot.Element holds.Queue v t k = (refl, k.element tt)
+spotted_stands at spot.Element holds.Plain v t k = (refl, k.element tt, tt)
+spotted_stands at spot.Element holds.Queue v t k = (refl, k.element tt, tt)
 spotted_stands at spot.Element holds.Queues v t k = tt
-spotted_stands at spot.Element (holds.Component j) v t k = (refl, k.element tt)
+spotted_stands at spot.Element (holds.Component j) v t k = (refl, k.element tt, tt)
 spotted_stands at spot.Element (holds.Components j) v t k = tt
-spotted_stands at spot.Definition holds.Plain v t k = (refl, k.standing)
+spotted_stands at spot.Definition holds.Plain v t k = (refl, k.standing, tt)
 spotted_stands at spot.Definition holds.Queue v t k = tt
-spotted_stands at spot.Definition holds.Queues v t k = (refl, k.standing)
+spotted_stands at spot.Definition holds.Queues v t k = (refl, k.standing, tt)
 spotted_stands at spot.Definition (holds.Component j) v t k = tt
-spotted_stands at spot.Definition (holds.Components j) v t k = (refl, k.standing)
-spotted_stands at (spot.Permanent o) holds.Plain v t k = (refl, k.standing)
-spotted_stands at (spot.Permanent o) holds.Queue v t k = good_if (λ u. (u ≡ v) × (is_standing t ≡ true)) (typing.may_queue (spot.Permanent o)) v (check_fault.Rule at C11) [] (λ e. (refl, k.standing))
-spotted_stands at (spot.Permanent o) holds.Queues v t k = good_if (λ u. (u ≡ v) × (is_standing t ≡ true)) (typing.may_queues (spot.Permanent o)) v (check_fault.Rule at C11) [] (λ e. (refl, k.standing))
-spotted_stands at (spot.Permanent o) (holds.Component j) v t k = good_if (λ u. (u ≡ v) × (is_standing t ≡ true)) (typing.may_own o j) v (check_fault.Rule at C13) [] (λ e. (refl, k.standing))
-spotted_stands at (spot.Permanent o) (holds.Components j) v t k = good_if (λ u. (u ≡ v) × (is_standing t ≡ true)) (typing.may_own o j) v (check_fault.Rule at C13) [] (λ e. (refl, k.standing))
+spotted_stands at spot.Definition (holds.Components j) v t k = (refl, k.standing, tt)
+spotted_stands at (spot.Permanent o) holds.Plain v t k = (refl, k.standing, tt)
+spotted_stands at (spot.Permanent o) holds.Queue v t k = good_if (λ u. (u ≡ v) × (is_standing t ≡ true) × Unit {0}) (typing.may_queue (spot.Permanent o)) v (check_fault.Rule at C11) [] (λ e. (refl, k.standing, tt))
+spotted_stands at (spot.Permanent o) holds.Queues v t k = good_if (λ u. (u ≡ v) × (is_standing t ≡ true) × Unit {0}) (typing.may_queues (spot.Permanent o)) v (check_fault.Rule at C11) [] (λ e. (refl, k.standing, tt))
+spotted_stands at (spot.Permanent o) (holds.Component j) v t k = good_if (λ u. (u ≡ v) × (is_standing t ≡ true) × (typing.may_own o j ≡ true)) (typing.may_own o j) v (check_fault.Rule at C13) [] (λ e. (refl, k.standing, e))
+spotted_stands at (spot.Permanent o) (holds.Components j) v t k = good_if (λ u. (u ≡ v) × (is_standing t ≡ true) × (typing.may_own o j ≡ true)) (typing.may_own o j) v (check_fault.Rule at C13) [] (λ e. (refl, k.standing, e))
 
 module _ (w : Written) where
   plain_array : (r : named.Range) (t : Ty) → (is_indexed r t && is_element t) ≡ true → (is_element t ≡ true → is_free t ≡ true) → Held holds.Plain (named.array_over r t)
@@ -273,17 +288,40 @@ module _ (tokens : Tokens) where
   known_type s t m x (Some (Some (meaning.Routine n))) e h = tt
   known_type s t m x (Some (Some (meaning.Predeclared q))) e h = tt
 
+  -- of which kind the component is, or those of an array
+  abbrev pub OwnedAt : Spot → Ty → Type 0
+  OwnedAt p (named.component_of n) = MayOwn p (tokens.kinds n)
+  OwnedAt p (named.array_over r (named.component_of n)) = MayOwn p (tokens.kinds n)
+  OwnedAt p t = Unit {0}
+
   -- what it is, and what it holds
   pub record TypedAs (ss : Shapes) (p : Spot) (t : Ty) (v : ValueType) : Type 0 where
     pub belongs : TypeIs (W tokens ss) t v
     pub stands : StandsAt p t
+    pub owned : OwnedAt p t
+
+  pub array_owned : (ss : Shapes) (p : Spot) (r : named.Range) (t : Ty) (v : ValueType) → TypeIs (W tokens ss) t v → MayHold p (typing.holding_array v) → OwnedAt p (named.array_over r t)
+  array_owned ss p r (named.component_of n) v h may = subst (MayOwn p) h.own (subst (λ (u : ValueType). MayHold p (typing.holding_array u)) h.is may)
+  array_owned ss p r (named.ordinal q) v h may = tt
+  array_owned ss p r named.queue_type v h may = tt
+  array_owned ss p r (named.set_over q) v h may = tt
+  array_owned ss p r (named.array_over q t) v h may = tt
+  array_owned ss p r (named.record_with ts) v h may = tt
+
+  named_owned : (s : Scopes) (p : Spot) (t : Ty) (v : ValueType) → TypeIs (W tokens s.shapes) t v → MayHold p (typing.holding s v) → OwnedAt p t
+  named_owned s p (named.component_of n) v h may = subst (MayOwn p) h.own (subst (λ (u : ValueType). MayHold p (typing.holding s u)) h.is may)
+  named_owned s p (named.array_over r t) v h may = array_owned s.shapes p r t h.shape.element h.belongs (subst (λ o. MayHold p (typing.holding_of o)) h.there (subst (λ (u : ValueType). MayHold p (typing.holding s u)) h.is may))
+  named_owned s p (named.ordinal q) v h may = tt
+  named_owned s p named.queue_type v h may = tt
+  named_owned s p (named.set_over q) v h may = tt
+  named_owned s p (named.record_with ts) v h may = tt
 
   spotted_kind : (s : Scopes) (p : Spot) (at : ℕ) (t : Ty) (v : ValueType) → KindOf s.shapes t v → Good (TypedAs s.shapes p t) (typing.at_spot s p at v)
   spotted_kind s p at t v h =
       good_of (typing.at_spot s p at v) (spotted_stands at p (typing.holding s v) v t (held_named (W tokens s.shapes) s t v refl h.belongs h.standing))
     where
-      good_of : (j : Judged ValueType) → Good (λ u. (u ≡ v) × StandsAt p t) j → Good (TypedAs s.shapes p t) j
-      good_of (Ok u) g = record { belongs = subst (TypeIs (W tokens s.shapes) t) (sym g.0) h.belongs; stands = g.1 }
+      good_of : (j : Judged ValueType) → Good (λ u. (u ≡ v) × StandsAt p t × MayHold p (typing.holding s v)) j → Good (TypedAs s.shapes p t) j
+      good_of (Ok u) g = record { belongs = subst (TypeIs (W tokens s.shapes) t) (sym g.0) h.belongs; stands = g.1; owned = named_owned s p t v h.belongs g.2 }
       good_of (Err []) g = absurd g
       good_of (Err (f ∷ fs)) g = tt
 
@@ -315,6 +353,7 @@ module _ (tokens : Tokens) where
           record {
             belongs = record { range = record { base = n.base; low = n.value; high = k.value }; is = refl; belongs = record { base = h.base; low = h.value; high = g.value } };
             stands = stands_free p (named.ordinal R) (bounded e f);
+            owned = tt;
           }
 
       go : (b : Bool) → same_base n.base k.base ≡ b → Good (TypedAs ss p (named.ordinal R)) (if b then (if int_lt k.value n.value then Err (check_fault.Rule at C18 ∷ []) else Ok (types.Ordinal (record { base = n.base; low = n.value; high = k.value }))) else Err (check_fault.Rule at C5 ∷ []))

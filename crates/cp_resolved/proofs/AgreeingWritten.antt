@@ -44,7 +44,7 @@ use Rattle.cp_resolved.specs.Typed.{Tokens, BaseIs, RangeIs, TypeIs, FieldsAre}
 use Rattle.cp_resolved.proofs.Agreeing.{Appends, appends_same, appends_then, Good, good_then, Sound, good_sound, none_left, none_right, none_first, none_of_both, new_names, find_last, is_itself, More, more_same, more_trans, with_more, with_there}
 use Rattle.cp_resolved.proofs.AgreeingCells.{array_takes, record_takes}
 use Rattle.cp_resolved.proofs.AgreeingNames.{W, Agree, sees, agree_added, agree_kept, type_more, fields_more}
-use Rattle.cp_resolved.proofs.AgreeingTypes.{StandsAt, stands_free, spotted_stands, held_array, IsOrdinal, ordinal_of, IsFew, TypedAs, type_spotted, subrange_typed}
+use Rattle.cp_resolved.proofs.AgreeingTypes.{MayHold, OwnedAt, array_owned, StandsAt, stands_free, spotted_stands, held_array, IsOrdinal, ordinal_of, IsFew, TypedAs, type_spotted, subrange_typed}
 use Rattle.cp_resolved.proofs.FewCells.{in_order, few_element, characters_within}
 use Rattle.cp_resolved.proofs.Reserving.{Pends, or_left, or_right, ReservedIn, all_reserved, pending_fresh, named_all, Filled, all_filled}
 
@@ -144,7 +144,7 @@ module _ (tokens : Tokens) (p : Program) where
       let few : length xs ≤ 32768 = l.few in
       record {
         agree = agree_added tokens p b None s m below ks i.name (meaning.Constant c (pos k)) (scopes.constant_meaning (named.enumerated at xs) (pos k)) fresh (λ e. refl)
-            (record { means = λ r. (l.base, refl, index_within k (length xs) less); there = tt; fit = omega (arith, less, few) }) agree;
+            (record { means = λ r. (l.base, refl, index_within k (length xs) less); marked = tt; there = tt; fit = omega (arith, less, few) }) agree;
         outer = refl;
         pending = added_pending s.inner i.name (Some (meaning.Constant c (pos k))) fresh;
         pends = added_pends s.inner i.name (Some (meaning.Constant c (pos k))) new pends;
@@ -202,6 +202,7 @@ module _ (tokens : Tokens) (p : Program) where
       record {
         belongs = record { range = whole (typing.base_of at is); is = refl; belongs = record { base = l.base; low = refl; high = last_is (length is) some } };
         stands = stands_free q (named.ordinal (record { base = named.enumerated at (meant.names_of is); low = pos 0; high = pos (length is - 1) })) bounded;
+        owned = tt;
       }
 
   pub simple_agrees : (b : Bool) (s : Scopes) (m below : scopes.Scope) (ks : List ℕ) (q : Spot) (t : syntax.Simple) → faults (typing.simple_typed s q t).type ≡ [] → IsSmallSimple t → Each (IsFew tokens) (in_simple t) → Pends s.inner → Agree tokens p b None s m below ks →
@@ -240,6 +241,7 @@ module _ (tokens : Tokens) (p : Program) where
     pub takes : a.cells ≡ length_of_range (range_of i) * cells_of e
     pub few : length_of_range (range_of i) * cells_of e ≤ 8192
     pub stands : StandsAt q (named.array_over (range_of i) e)
+    pub owned : OwnedAt tokens q (named.array_over (range_of i) e)
 
   index_bounded : (ss : checker.Shapes) (i : Ty) (r : Range) → IsOrdinal (W tokens ss) i r → is_free i ≡ true → is_bounded (range_of i) ≡ true
   index_bounded ss i r o h = subst (λ (t : Ty). is_free t ≡ true) o.is h
@@ -267,19 +269,19 @@ module _ (tokens : Tokens) (p : Program) where
       shaped j = typing.spotted at q (typing.holding_array ev) (types.Array at) >>= (λ u. j >>= (λ v. Ok (record { index = r; element = ev; cells = n })))
 
       -- where it stands, whatever its length
-      spotted : (k : named.Range) → (is_indexed k e && is_element e) ≡ true → Good (λ u. (u ≡ types.Array at) × StandsAt q (named.array_over k e)) (typing.spotted at q (typing.holding_array ev) (types.Array at))
+      spotted : (k : named.Range) → (is_indexed k e && is_element e) ≡ true → Good (λ u. (u ≡ types.Array at) × StandsAt q (named.array_over k e) × MayHold q (typing.holding_array ev)) (typing.spotted at q (typing.holding_array ev) (types.Array at))
       spotted k f = spotted_stands at q (typing.holding_array ev) (types.Array at) (named.array_over k e) (held_array (W tokens s.shapes) k e ev g.belongs f)
 
       go : (b : Bool) → nat_lt 8192 n ≡ b → Good (ArrayAs s.shapes q i e) (shaped (if b then Err (check_fault.Rule at C20 ∷ []) else Ok tt))
       go true f =
           let few : cells_of e ≤ 8192 = few_element e g.stands in
           let one : length_of_range one_place * cells_of e ≤ 8192 = omega (arith, few) in
-          good_then (λ u. (u ≡ types.Array at) × StandsAt q (named.array_over one_place e)) (ArrayAs s.shapes q i e) (typing.spotted at q (typing.holding_array ev) (types.Array at)) (λ u. Err (check_fault.Rule at C20 ∷ []) >>= (λ (v : Unit {0}). Ok (record { index = r; element = ev; cells = n })))
+          good_then (λ u. (u ≡ types.Array at) × StandsAt q (named.array_over one_place e) × MayHold q (typing.holding_array ev)) (ArrayAs s.shapes q i e) (typing.spotted at q (typing.holding_array ev) (types.Array at)) (λ u. Err (check_fault.Rule at C20 ∷ []) >>= (λ (v : Unit {0}). Ok (record { index = r; element = ev; cells = n })))
           (spotted one_place (indexed one_place e refl one g.stands)) (λ u k. tt)
       go false f =
           let takes : n ≡ length_of_range (range_of i) * cells_of e = array_takes (W tokens s.shapes) (range_of i) r e ev o.range (in_order (range_of i) bounded) g.belongs f in
-          good_then (λ u. (u ≡ types.Array at) × StandsAt q (named.array_over (range_of i) e)) (ArrayAs s.shapes q i e) (typing.spotted at q (typing.holding_array ev) (types.Array at)) (λ u. Ok (record { index = r; element = ev; cells = n }))
-          (spotted (range_of i) (indexed (range_of i) e bounded (subst (λ m. m ≤ 8192) takes (ltb-false 8192 n f)) g.stands)) (λ u k. record { range = o.range; element = g.belongs; takes = takes; few = subst (λ m. m ≤ 8192) takes (ltb-false 8192 n f); stands = k.1 })
+          good_then (λ u. (u ≡ types.Array at) × StandsAt q (named.array_over (range_of i) e) × MayHold q (typing.holding_array ev)) (ArrayAs s.shapes q i e) (typing.spotted at q (typing.holding_array ev) (types.Array at)) (λ u. Ok (record { index = r; element = ev; cells = n }))
+          (spotted (range_of i) (indexed (range_of i) e bounded (subst (λ m. m ≤ 8192) takes (ltb-false 8192 n f)) g.stands)) (λ u k. record { range = o.range; element = g.belongs; takes = takes; few = subst (λ m. m ≤ 8192) takes (ltb-false 8192 n f); stands = k.1; owned = array_owned tokens s.shapes q (range_of i) e ev g.belongs k.2 })
   array_good s q at i e types.Queue ev h g = tt
   array_good s q at i e (types.Set r) ev h g = tt
   array_good s q at i e (types.Array n) ev h g = tt
@@ -298,6 +300,7 @@ module _ (tokens : Tokens) (p : Program) where
         typed = record {
           belongs = record { token = at; is = refl; shape = a.value; there = ap as_array (with_there u.shapes at (array_shape a.value) agree.free.0); range = a.holds.range; takes = a.holds.takes; few = a.holds.few; belongs = type_more tokens u.shapes (with_shape u.shapes at (array_shape a.value)) further e a.value.element a.holds.element };
           stands = a.holds.stands;
+          owned = a.holds.owned;
         };
         agree = agree_kept tokens p b None u m below at ks (array_shape a.value) tt (λ y. refl) agree;
         outer = outer;
@@ -311,7 +314,7 @@ module _ (tokens : Tokens) (p : Program) where
       TypeResult b u below (at ∷ ks) spot.Element t e → faults (typing.array_typed q at ij t).type ≡ [] → TypeResult b s below ks q (typing.array_typed q at ij t) (named.array_over (range_of i) e.0, e.1)
   unfolding typing.arrayed
   array_typed b s u below ks q at i ij iv t e is h more outer pending before longer r none =
-      let index : TypedAs tokens t.scopes.shapes spot.Other i iv = record { belongs = type_more tokens u.shapes t.scopes.shapes more i iv h.belongs; stands = h.stands } in
+      let index : TypedAs tokens t.scopes.shapes spot.Other i iv = record { belongs = type_more tokens u.shapes t.scopes.shapes more i iv h.belongs; stands = h.stands; owned = h.owned } in
       let good : Good (ArrayAs t.scopes.shapes q i e.0) (both ij t.type >>= typing.arrayed t.scopes q at) =
       subst (λ (j : Judged ValueType). Good (ArrayAs t.scopes.shapes q i e.0) (both j t.type >>= typing.arrayed t.scopes q at)) (sym is)
       (subst (λ (j : Judged ValueType). Good (ArrayAs t.scopes.shapes q i e.0) (both (Ok iv) j >>= typing.arrayed t.scopes q at)) (sym r.is) (array_good t.scopes q at i e.0 iv r.value index r.typed)) in
@@ -338,7 +341,7 @@ module _ (tokens : Tokens) (p : Program) where
 
       go : (b : Bool) → (int_lt r.low (pos 0) || int_lt (pos 127) r.high) ≡ b → Good (TypedAs tokens ss q (named.set_over (range_of t))) (if b then Err (check_fault.Rule at C20 ∷ []) else Ok (types.Set (Some r)))
       go true e = tt
-      go false e = record { belongs = record { range = r; is = refl; belongs = o.range; low = (members e).0; high = (members e).1 }; stands = stands_free q (named.set_over (range_of t)) (based e) }
+      go false e = record { belongs = record { range = r; is = refl; belongs = o.range; low = (members e).0; high = (members e).1 }; stands = stands_free q (named.set_over (range_of t)) (based e); owned = tt }
   set_good ss q at base_at t types.Queue h = tt
   set_good ss q at base_at t (types.Set r) h = tt
   set_good ss q at base_at t (types.Array n) h = tt
@@ -469,6 +472,7 @@ module _ (tokens : Tokens) (p : Program) where
             each = fields_more tokens f.scopes.shapes (with_shape f.scopes.shapes at (record_shape f.fields n)) further u.0 f.fields.names fields;
           };
           stands = stands_free q (named.record_with u.0) free;
+          owned = tt;
         };
         agree = agree_kept tokens p b None f.scopes u.1 below at ks (record_shape f.fields n) tt (λ y. refl) r.agree;
         outer = r.outer;

@@ -1,32 +1,20 @@
 -- Where an expression that breaks no rule is a variable that may be assigned to, its form is the value of that variable.
 use Rattle.std.proofs.Common.{◌≡◌, ℕ, Bool, true, false, ◌&&◌, if◌then◌else◌, List, [], ◌∷◌, Option, Some, None, Ok, Err, refl, sym, ap, subst, ◌∙◌}
-use Rattle.std.specs.Option.{option_or}
 use Rattle.cp_tree.specs.declared.constant.Identifier.{Identifier}
-use Rattle.cp_tree.specs.declared.constant.Sign.{Sign}
-use Rattle.cp_tree.specs.declared.expression.Addition.{Addition}
-use Rattle.cp_tree.specs.declared.expression.Addition.TheVariants as addition
-use Rattle.cp_tree.specs.declared.expression.Multiplication.{Multiplication}
-use Rattle.cp_tree.specs.declared.expression.Multiplication.TheVariants as multiplication
-use Rattle.cp_tree.specs.declared.expression.Relation.{Relation}
-use Rattle.cp_tree.specs.Syntax.{Expression, alone, related, Sum, sum, Terms, no_terms, more_terms as terms_more, Term, term, Factors, no_factors, more_factors as factors_more, Factor, number, character, named as factor_named, group, negated, set_of, designator as name_with, Selectors}
-use Rattle.cp_scope.specs.declared.fault.Rule.TheVariants.{C5}
-use Rattle.cp_scope.specs.declared.types.Base.TheVariants as base
+use Rattle.cp_tree.specs.Syntax.{Expression, alone, related, Sum, sum, no_terms, more_terms as terms_more, Term, term, no_factors, more_factors as factors_more, Factor, number, character, named as factor_named, group, negated, set_of, designator as name_with, Selectors}
 use Rattle.cp_scope.specs.declared.types.ValueType.{ValueType}
 use Rattle.cp_scope.specs.declared.types.ValueType.TheVariants as types
-use Rattle.cp_scope.specs.declared.types.Predeclared.{Predeclared}
-use Rattle.cp_scope.specs.declared.types.Predeclared.TheVariants as predeclared
 use Rattle.cp_scope.specs.declared.count.Use.{Use}
-use Rattle.cp_scope.specs.Types.{agree, is_of, values_of, whole}
-use Rattle.cp_scope.specs.Counts.{both_uses}
-use Rattle.cp_scope.specs.Judged.{Judged, broken, both, ◌>>=◌}
-use Rattle.cp_scope.specs.Scopes.{Scopes, heading_at}
+use Rattle.cp_scope.specs.Types.{values_of}
+use Rattle.cp_scope.specs.Judged.{Judged, both, ◌>>=◌}
+use Rattle.cp_scope.specs.Scopes.{Scopes}
 use Rattle.cp_check.specs.declared.operand.Context.{Context}
 use Rattle.cp_check.specs.declared.operand.Operand.{Operand}
 use Rattle.cp_check.specs.declared.operand.Place.TheVariants as place
 use Rattle.cp_check.specs.declared.operand.Designated as check_designated
 use Rattle.cp_check.specs.declared.operand.Named.{Named}
 use Rattle.cp_check.specs.declared.operand.Named.TheVariants as name
-use Rattle.cp_check.specs.Operands.{value, is_assignable, is_queue_in}
+use Rattle.cp_check.specs.Operands.{value, is_assignable}
 use Rattle.cp_check.specs.Operations as operations
 use Rattle.cp_check.specs.Calls as calls
 use Rattle.cp_check.specs.Expressions.{expression, sum_value, more_terms, term_value, more_factors, factor, designator, arguments, constructed, set_like, are_elements}
@@ -41,209 +29,11 @@ use Rattle.cp_meaning.specs.Lifting.{last_field, is_call_meant}
 use Rattle.cp_resolved.specs.Layouts.{Here}
 use Rattle.cp_resolved.specs.Compiled.{Formed, Designated, a_variable, some_components, a_component, then_form, loaded_form, valued_form, signed_form, named_form, expression_form, sum_form, term_form, factor_form, designator_form}
 use Rattle.cp_resolved.specs.Typed.{Tokens, Written, TypeIs, is_plain, ScopesAgree, IsSmallExpression, IsSmallSum, IsSmallTerm, IsSmallFactor}
+use Rattle.cp_resolved.proofs.MadeValues.{IsMade, agreed_made, sum_made, product_made, signed_made, related_made, negated_made, group_made, constructed_made, applied_made, alone_made, call_made, terms_made, factors_made}
 use Rattle.cp_resolved.proofs.Typing.{formed}
 use Rattle.cp_resolved.proofs.TypingNames.{Holds, written, NamedIs, HasDesignated}
 use Rattle.cp_resolved.proofs.TypingValues.{IsValue, held_value}
 use Rattle.cp_resolved.proofs.TypingExpressions.{designator_typed}
-
--- ---- values that are made
-
-abbrev pub MadeOption : Option Operand → Type 0
-MadeOption None = Unit {0}
-MadeOption (Some o) = is_assignable o.place ≡ false
-
-abbrev pub IsMade : Judged Operand → Type 0
-IsMade (Ok o) = is_assignable o.place ≡ false
-IsMade (Err fs) = Unit {0}
-
-abbrev IsMadePart : Judged (Option Operand) → Type 0
-IsMadePart (Ok o) = MadeOption o
-IsMadePart (Err fs) = Unit {0}
-
-number_made : (at : ℕ) (l r : Operand) → MadeOption (operations.number at l r)
-number_made at l r = go (is_of base.Integer l.value_type && is_of base.Integer r.value_type)
-  where
-    go : (b : Bool) → MadeOption (if b then Some (value at (values_of base.Integer) (both_uses l.uses r.uses)) else None)
-    go true = refl
-    go false = tt
-
-set_types_made : (at : ℕ) (v y : ValueType) (u : Use) → MadeOption (operations.set_of_types at v y u)
-set_types_made at (types.Set a) (types.Set b) u = go (agree (types.Set a) (types.Set b))
-  where
-    go : (c : Bool) → MadeOption (if c then Some (value at (operations.set_type a b) u) else None)
-    go true = refl
-    go false = tt
-set_types_made at (types.Set a) (types.Ordinal r) u = tt
-set_types_made at (types.Set a) types.Queue u = tt
-set_types_made at (types.Set a) (types.Array n) u = tt
-set_types_made at (types.Set a) (types.Record n) u = tt
-set_types_made at (types.Set a) (types.Component k n) u = tt
-set_types_made at (types.Ordinal r) y u = tt
-set_types_made at types.Queue y u = tt
-set_types_made at (types.Array n) y u = tt
-set_types_made at (types.Record n) y u = tt
-set_types_made at (types.Component k n) y u = tt
-
-set_made : (at : ℕ) (l r : Operand) → MadeOption (operations.set at l r)
-set_made at l r = set_types_made at l.value_type r.value_type (both_uses l.uses r.uses)
-
-either_made : (o p : Option Operand) → MadeOption o → MadeOption p → MadeOption (option_or o p)
-either_made None p h g = g
-either_made (Some x) p h g = h
-
-truth_made : (at : ℕ) (l r : Operand) → MadeOption (operations.truth_or_set at l r)
-truth_made at l r = go (is_of base.Boolean l.value_type && is_of base.Boolean r.value_type)
-  where
-    go : (b : Bool) → MadeOption (if b then Some (value at (values_of base.Boolean) (both_uses l.uses r.uses)) else operations.set at l r)
-    go true = refl
-    go false = set_made at l r
-
-added_made : (at : ℕ) (a : Addition) (o : Option Operand) (r : Operand) → MadeOption (operations.added at a o r)
-added_made at a None r = tt
-added_made at addition.Plus (Some l) r = number_made at l r
-added_made at addition.Minus (Some l) r = either_made (operations.number at l r) (operations.set at l r) (number_made at l r) (set_made at l r)
-added_made at addition.Or (Some l) r = truth_made at l r
-
-multiplied_made : (at : ℕ) (m : Multiplication) (o : Option Operand) (r : Operand) → MadeOption (operations.multiplied at m o r)
-multiplied_made at m None r = tt
-multiplied_made at multiplication.And (Some l) r = truth_made at l r
-multiplied_made at multiplication.Times (Some l) r = number_made at l r
-multiplied_made at multiplication.Div (Some l) r = number_made at l r
-multiplied_made at multiplication.Mod (Some l) r = number_made at l r
-
-agreed_made : (at : ℕ) (j : Judged (Option Operand)) → IsMadePart j → IsMade (j >>= operations.agreed at)
-agreed_made at (Ok None) h = tt
-agreed_made at (Ok (Some o)) h = h
-agreed_made at (Err fs) h = tt
-
-sum_made : (at : ℕ) (a : Addition) (j : Judged (Option Operand)) (k : Judged Operand) → IsMadePart (both j k >>= expressions.added at a)
-sum_made at a (Ok o) (Ok r) = added_made at a o r
-sum_made at a (Ok o) (Err fs) = tt
-sum_made at a (Err fs) (Ok r) = tt
-sum_made at a (Err fs) (Err gs) = tt
-
-product_made : (at : ℕ) (m : Multiplication) (j : Judged (Option Operand)) (k : Judged Operand) → IsMadePart (both j k >>= expressions.multiplied at m)
-product_made at m (Ok o) (Ok r) = multiplied_made at m o r
-product_made at m (Ok o) (Err fs) = tt
-product_made at m (Err fs) (Ok r) = tt
-product_made at m (Err fs) (Err gs) = tt
-
-signed_made : (at : ℕ) (g : Sign) (j : Judged Operand) → IsMadePart (j >>= expressions.signed at (Some g))
-signed_made at g (Ok o) = go (is_of base.Integer o.value_type)
-  where
-    go : (b : Bool) → MadeOption (if b then Some (value at (values_of base.Integer) o.uses) else None)
-    go true = refl
-    go false = tt
-signed_made at g (Err fs) = tt
-
-related_made : (at : ℕ) (r : Relation) (j k : Judged Operand) → IsMade (both j k >>= operations.related at r)
-related_made at r (Ok a) (Ok b) = go (operations.relates r a.value_type b.value_type)
-  where
-    go : (c : Bool) → IsMade (if c then Ok (value at (values_of base.Boolean) (both_uses a.uses b.uses)) else broken at C5)
-    go true = refl
-    go false = tt
-related_made at r (Ok a) (Err gs) = tt
-related_made at r (Err fs) (Ok b) = tt
-related_made at r (Err fs) (Err gs) = tt
-
-negated_made : (at : ℕ) (j : Judged Operand) → IsMade (j >>= operations.negated at)
-negated_made at (Ok o) = go (is_of base.Boolean o.value_type)
-  where
-    go : (c : Bool) → IsMade (if c then Ok (value at (values_of base.Boolean) o.uses) else broken at C5)
-    go true = refl
-    go false = tt
-negated_made at (Err fs) = tt
-
-group_made : (at : ℕ) (j : Judged Operand) → IsMade (j >>= expressions.to_group at)
-group_made at (Ok o) = refl
-group_made at (Err fs) = tt
-
-like_made : (at : ℕ) (os : List Operand) (v : ValueType) → IsMade (set_like at os v)
-like_made at os (types.Ordinal r) = go (are_elements r.base os) _
-  where
-    go : (b : Bool) (o : Use) → IsMade (if b then Ok (value at (types.Set (Some (whole r.base))) o) else broken at C5)
-    go true o = refl
-    go false o = tt
-like_made at os types.Queue = tt
-like_made at os (types.Set r) = tt
-like_made at os (types.Array n) = tt
-like_made at os (types.Record n) = tt
-like_made at os (types.Component k n) = tt
-
-constructed_made : (at : ℕ) (j : Judged (List Operand)) → IsMade (j >>= constructed at)
-constructed_made at (Ok []) = refl
-constructed_made at (Ok (o ∷ os)) = like_made at (o ∷ os) o.value_type
-constructed_made at (Err fs) = tt
-
-if_made : (c : Bool) (at : ℕ) (v : ValueType) (u : Use) → IsMade (if c then Ok (value at v u) else broken at C5)
-if_made true at v u = refl
-if_made false at v u = tt
-
-stepped_made : (at : ℕ) (v : ValueType) (u : Use) → IsMade (operations.stepped at v u)
-stepped_made at (types.Ordinal r) u = refl
-stepped_made at types.Queue u = tt
-stepped_made at (types.Set r) u = tt
-stepped_made at (types.Array n) u = tt
-stepped_made at (types.Record n) u = tt
-stepped_made at (types.Component k n) u = tt
-
-numbered_made : (at : ℕ) (v : ValueType) (u : Use) → IsMade (operations.numbered at v u)
-numbered_made at (types.Ordinal r) u = refl
-numbered_made at types.Queue u = tt
-numbered_made at (types.Set r) u = tt
-numbered_made at (types.Array n) u = tt
-numbered_made at (types.Record n) u = tt
-numbered_made at (types.Component k n) u = tt
-
-applied_one_made : (at : ℕ) (p : Predeclared) (o : Operand) (u : Use) → IsMade (operations.applied_to at p o u)
-applied_one_made at predeclared.Succ o u = stepped_made at o.value_type u
-applied_one_made at predeclared.Pred o u = stepped_made at o.value_type u
-applied_one_made at predeclared.Ord o u = numbered_made at o.value_type u
-applied_one_made at predeclared.Chr o u = if_made (is_of base.Integer o.value_type) at (values_of base.Char) u
-applied_one_made at predeclared.Abs o u = if_made (is_of base.Integer o.value_type) at (values_of base.Integer) u
-applied_one_made at predeclared.Empty o u = if_made (is_queue_in o.value_type o.place) at (values_of base.Boolean) u
-applied_one_made at predeclared.Delay o u = tt
-applied_one_made at predeclared.Continue o u = tt
-applied_one_made at predeclared.Display o u = tt
-
-applied_all_made : (at : ℕ) (p : Predeclared) (os : List Operand) (u : Use) → IsMade (operations.applied_all at p os u)
-applied_all_made at p [] u = tt
-applied_all_made at p (o ∷ []) u = applied_one_made at p o u
-applied_all_made at p (o ∷ q ∷ os) u = tt
-
-applied_made : (at : ℕ) (p : Predeclared) (os : List Operand) (u : Use) → IsMade (operations.applied at p os u)
-applied_made at p os u = go (operations.is_function p)
-  where
-    go : (b : Bool) → IsMade (if b then operations.applied_all at p os u else broken at C5)
-    go true = applied_all_made at p os u
-    go false = tt
-
-alone_made : (o : Operand) (os : List Operand) → is_assignable o.place ≡ false → IsMade (calls.alone o os)
-alone_made o [] h = h
-alone_made o (p ∷ os) h = tt
-
-result_made : (at : ℕ) (v : ValueType) (j : Judged Use) → IsMade (j >>= calls.with_result at v)
-result_made at v (Ok u) = refl
-result_made at v (Err fs) = tt
-
-module _ (s : Scopes) (w : Context) where
-  function_made : (at name_at : ℕ) (b : Bool) (n : ℕ) (os : List Operand) (u : Use) (v : Option ValueType) → IsMade (calls.function_of s w at name_at b n os u v)
-  function_made at name_at b n os u None = tt
-  function_made at name_at b n os u (Some v) = result_made at v (calls.called s w at name_at b n os u)
-
-  call_made : (at name_at : ℕ) (b : Bool) (n : ℕ) (os : List Operand) (u : Use) → IsMade (calls.function_value s w at name_at b n os u)
-  unfolding calls.function_value
-  call_made at name_at b n os u = function_made at name_at b n os u (heading_at n s).result
-
-  terms_made : (at : ℕ) (ts : Terms) (j : Judged (Option Operand)) → IsMadePart j → IsMadePart (more_terms s w at j ts)
-  unfolding expression
-  terms_made at no_terms j h = h
-  terms_made at (terms_more a t ts) j h = terms_made at ts (both j (term_value s w false t) >>= expressions.added at a) (sum_made at a j (term_value s w false t))
-
-  factors_made : (at : ℕ) (fs : Factors) (j : Judged (Option Operand)) → IsMadePart j → IsMadePart (more_factors s w at j fs)
-  unfolding expression
-  factors_made at no_factors j h = h
-  factors_made at (factors_more m f fs) j h = factors_made at fs (both j (factor s w false f) >>= expressions.multiplied at m) (product_made at m j (factor s w false f))
 
 -- ---- variables
 
@@ -264,8 +54,13 @@ module _ (tokens : Tokens) (s : Scopes) (h : Here) (w : Context) (agrees : Scope
   W = written tokens s h
 
   made : (j : Judged Operand) (f : Option Formed) → IsMade j → HasVariable W j f
-  made (Ok o) f e = (λ i. (let bad : false ≡ true = sym e ∙ i in absurd cc))
+  made (Ok o) f e = (λ i. (let bad : false ≡ true = sym (ap is_assignable e) ∙ i in absurd cc))
   made (Err fs) f e = tt
+
+  -- a parameter that is handed over as a value is not assigned to
+  fixed : (o : Operand) (os : List Operand) (f : Option Formed) → is_assignable o.place ≡ false → HasVariable W (calls.alone o os) f
+  fixed o [] f e = (λ i. (let bad : false ≡ true = sym e ∙ i in absurd cc))
+  fixed o (p ∷ os) f e = tt
 
   pub components_fixed : (v : ValueType) (q : named.Range) (k : ℕ) → TypeIs W (named.array_over q (named.component_of k)) v → calls.is_fixed s v ≡ true
   components_fixed v q k e = ap (calls.is_fixed s) e.is ∙ ap calls.is_fixed_array e.there ∙ ap calls.is_fixed_element e.belongs.is
@@ -297,7 +92,7 @@ module _ (tokens : Tokens) (s : Scopes) (h : Here) (w : Context) (agrees : Scope
   value_held at i ss d name.Nothing os o f k = tt
   value_held at i ss d name.Kind os o f k = tt
   value_held at i ss d (name.Constant b) os o f k = made (calls.value_named s w at d os (name.Constant b)) _ (alone_made (value at (values_of b) d.uses) os refl)
-  value_held at i ss d (name.Parameter v) os o f k = made (calls.value_named s w at d os (name.Parameter v)) _ (alone_made (calls.placed at v place.Fixed d.uses) os refl)
+  value_held at i ss d (name.Parameter v) os o f k = fixed (calls.placed at v place.Fixed d.uses) os _ refl
   value_held at i ss d (name.Predeclared p) os o f k = made (calls.value_named s w at d os (name.Predeclared p)) _ (applied_made at p os (calls.total_use d.uses os))
   value_held at i ss d (name.Routine n) os o f k = made (calls.value_named s w at d os (name.Routine n)) _ (call_made s w at d.name_at true n os d.uses)
   value_held at i ss d (name.Entry n) os o f k = made (calls.value_named s w at d os (name.Entry n)) _ (call_made s w at d.name_at false n os d.uses)

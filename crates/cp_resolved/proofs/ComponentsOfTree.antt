@@ -40,10 +40,10 @@ module _ (t : Tree) (h : IsPlain t.program) where
   numbering = numbering_of t.program
 
   -- the state before the routines of the program
-  abbrev around : Layer
+  abbrev pub around : Layer
   around = program_parts (nothing_laid t.lines) program.parts
 
-  laid_all : AllLaid numbering end t
+  pub laid_all : AllLaid numbering end t
   laid_all = all_laid numbering t h.small h.fit h.numbered (opened_all t.program)
 
   pub earlier : HoldEarlier end.types
@@ -52,7 +52,7 @@ module _ (t : Tree) (h : IsPlain t.program) where
   pub count_same : length end.systems ≡ program_system program
   count_same = laid_all.count
 
-  meaning_of : (j : ℕ) (m : SystemMeaning) → slice_get (declared program).systems j ≡ Some m → system_of program j ≡ m
+  pub meaning_of : (j : ℕ) (m : SystemMeaning) → slice_get (declared program).systems j ≡ Some m → system_of program j ≡ m
   meaning_of j m e = ap (or_own (own_meaning (declared program) program)) e
 
   past_meaning : (j : ℕ) → slice_get (declared program).systems j ≡ None → system_of program j ≡ own_meaning (declared program) program

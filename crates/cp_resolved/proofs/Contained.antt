@@ -60,7 +60,7 @@ path_same (s ∷ a) = three_true (same_name s.name s.name) (same_element s.eleme
 
 -- ---- places in lists
 
-skipped : {A : Type 0} (xs ys : List A) (i : ℕ) → slice_get (xs ++ ys) (length xs + i) ≡ slice_get ys i
+pub skipped : {A : Type 0} (xs ys : List A) (i : ℕ) → slice_get (xs ++ ys) (length xs + i) ≡ slice_get ys i
 skipped [] ys i = let e : 0 + i ≡ i = omega arith in ap (λ n. slice_get ys n) e
 skipped (x ∷ xs) ys i = let e : suc (length xs) + i ≡ suc (length xs + i) = omega arith in ap (λ n. slice_get (x ∷ (xs ++ ys)) n) e ∙ skipped xs ys i
 
@@ -93,11 +93,11 @@ at_least : (count i one : ℕ) → i < count → one ≤ count * one
 at_least zero i one lt = absurd (omega (arith, lt))
 at_least (suc count) i one lt = let e : suc count * one ≡ one + count * one = omega arith in omega (arith, e)
 
-listed_first : (p : Program) (depth j : ℕ) (path : Path) → j < depth → slice_get (listed p depth j path) 0 ≡ Some (record { path = path; system = j })
+pub listed_first : (p : Program) (depth j : ℕ) (path : Path) → j < depth → slice_get (listed p depth j path) 0 ≡ Some (record { path = path; system = j })
 listed_first p zero j path lt = absurd (omega (arith, lt))
 listed_first p (suc depth) j path lt = refl
 
-elements_first : (p : Program) (depth j : ℕ) → j < depth → ((a b : Path) → length (listed p depth j a) ≡ length (listed p depth j b)) → (above path : Path) (y : Name) (count start i : ℕ) → i < count →
+pub elements_first : (p : Program) (depth j : ℕ) → j < depth → ((a b : Path) → length (listed p depth j a) ≡ length (listed p depth j b)) → (above path : Path) (y : Name) (count start i : ℕ) → i < count →
     slice_get (listed_elements (listed p depth j) above y count start) (i * length (listed p depth j path)) ≡ Some (record { path = step_down above y (Some (start + i)); system = j })
 elements_first p depth j lt even above path y zero start i less = absurd (omega (arith, less))
 elements_first p depth j lt even above path y (suc count) start zero less =

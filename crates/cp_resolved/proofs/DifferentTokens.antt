@@ -1,6 +1,7 @@
 -- System types and enumerations by their tokens, where these are different.
 use Rattle.std.proofs.Common.{◌≡◌, ℕ, zero, suc, Bool, if◌then◌else◌, List, [], ◌∷◌, ◌++◌, length, Some, slice_get, refl, sym, ap, subst, ◌∙◌, arith, append_assoc, length-append}
 use Rattle.std.proofs.lemmas.List.{append-nil}
+use Rattle.cp_tree.specs.declared.declaration.SystemKind.{SystemKind}
 use Rattle.cp_tree.specs.Syntax.{simple, array_of, set_type, record_of, no_fields, more_fields, fields, TypeDefinition, VariableGroup, constants, types, variables, System, Definition, type_definition, system_definition, SystemDefinition, ProgramPart, program_constants, program_types, program_variables, Program}
 use Rattle.cp_meaning.specs.Declarations.{names_of}
 use Rattle.cp_meaning.specs.Systems.{SystemMeaning, system_in, Declared, definition_in, definitions_in, program_part_in, program_parts_in, declared, own_meaning, or_own}
@@ -162,6 +163,7 @@ module _ (p : Program) where
       let other : p.period ≡ y.at → ⊥ = (last.other y.at (different_after before (y.at ∷ rest) apart).0).0 in
       record {
         meaning = ap (or_own (own_meaning (declared p) p)) found;
+        kind = ap (λ (m : SystemMeaning). m.kind) (ap (or_own (own_meaning (declared p) p)) found);
         token = ap (token_in p.period type_list) (sym count) ∙ ap (λ (ks : List ℕ). token_in p.period ks (length before)) is ∙ token_there p.period y.at before rest;
         only = λ k e. token_only p.period y.at before rest k other apart (ap (λ (ks : List ℕ). token_in p.period ks k) (sym is) ∙ e) ∙ count;
       }
@@ -228,10 +230,10 @@ other_enumeration e es at h = ap (λ (b : Bool). if b then names_of e.names else
 same_enumeration : (e : Enumerated) (es : List Enumerated) → constants_among e.at (e ∷ es) ≡ names_of e.names
 same_enumeration e es = ap (λ (b : Bool). if b then names_of e.names else constants_among e.at es) (same_number e.at)
 
-few_after : (systems : ℕ → ℕ) (e : Enumerated) (all es : List Enumerated) → IsOther e.at (tokens_of_enumerations es) → Each (IsFew (record { systems = systems; constants = λ at. constants_among at all })) es → Each (IsFew (record { systems = systems; constants = λ at. constants_among at (e ∷ all) })) es
-few_after systems e all [] o h = tt
-few_after systems e all (d ∷ es) o h = (record { some = h.0.some; few = h.0.few; listed = h.0.listed ∙ sym (other_enumeration e all d.at (λ i. o.0 (sym i))) }, few_after systems e all es o.1 h.1)
+few_after : (systems : ℕ → ℕ) (kinds : ℕ → SystemKind) (e : Enumerated) (all es : List Enumerated) → IsOther e.at (tokens_of_enumerations es) → Each (IsFew (record { systems = systems; kinds = kinds; constants = λ at. constants_among at all })) es → Each (IsFew (record { systems = systems; kinds = kinds; constants = λ at. constants_among at (e ∷ all) })) es
+few_after systems kinds e all [] o h = tt
+few_after systems kinds e all (d ∷ es) o h = (record { some = h.0.some; few = h.0.few; listed = h.0.listed ∙ sym (other_enumeration e all d.at (λ i. o.0 (sym i))) }, few_after systems kinds e all es o.1 h.1)
 
-pub all_few : (systems : ℕ → ℕ) (es : List Enumerated) → Each HasFew es → AreDifferent (tokens_of_enumerations es) → Each (IsFew (record { systems = systems; constants = λ at. constants_among at es })) es
-all_few systems [] h d = tt
-all_few systems (e ∷ es) h d = (record { some = h.0.some; few = h.0.few; listed = sym (same_enumeration e es) }, few_after systems e es es d.0 (all_few systems es h.1 d.1))
+pub all_few : (systems : ℕ → ℕ) (kinds : ℕ → SystemKind) (es : List Enumerated) → Each HasFew es → AreDifferent (tokens_of_enumerations es) → Each (IsFew (record { systems = systems; kinds = kinds; constants = λ at. constants_among at es })) es
+all_few systems kinds [] h d = tt
+all_few systems kinds (e ∷ es) h d = (record { some = h.0.some; few = h.0.few; listed = sym (same_enumeration e es) }, few_after systems kinds e es es d.0 (all_few systems kinds es h.1 d.1))

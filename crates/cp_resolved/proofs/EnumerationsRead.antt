@@ -8,7 +8,7 @@ use Rattle.cp_tree.specs.Syntax.{type_name, enumeration, subrange, simple, array
 use Rattle.cp_tree.specs.Spelling.{put_optional, put_all, put_type, put_more_field_groups, put_type_definition, put_variable_group, put_part, put_body, put_routine, put_system_definition, put_program_part, spell}
 use Rattle.cp_tree.specs.SpellingIndexed.{AreIndexedNames, AreAllIndexed, AreSomeIndexed, IsIndexedSimple, IsIndexedType, AreIndexedFieldGroups, AreIndexedMoreFieldGroups, IsIndexedFieldGroup, IsIndexedTypeDefinition, IsIndexedVariableGroup, IsIndexedPart, IsIndexedRoutine, IsIndexedSystem, IsIndexedDefinition, IsIndexedSystemDefinition, IsIndexedProgramPart, IsIndexedProgram}
 use Rattle.cp_resolved.specs.Enumerations.{Enumerated, in_simple, in_type, in_groups, in_group, each_in, in_part, in_routine, in_system, in_definition, in_program_part, enumerations_of}
-use Rattle.cp_resolved.specs.Read.{IsRead}
+use Rattle.cp_tree.specs.Read.{IsRead}
 use Rattle.cp_resolved.specs.Small.{Each}
 use Rattle.cp_resolved.specs.Tokens.{IsOther, AreDifferent, tokens_of_enumerations, HasFew}
 use Rattle.cp_resolved.proofs.Numbered.{AreInOrder, program_ordered}
@@ -114,7 +114,7 @@ module _ (total : ℕ) where
 
 pub read_few : (p : Program) → IsRead p → Each HasFew (enumerations_of p)
 read_few p h =
-    let few : length h.tokens ≤ 20000 = h.scanned.reads.few in
+    let few : length h.tokens ≤ 20000 = h.text.reads.reads.few in
     let same : length (spell p) ≡ length h.tokens = sym (ap (λ (ks : List Kind). length ks) h.spelled) ∙ kinds_length h.tokens in
     few_of (length (spell p)) (enumerations_of p) (length (spell p)) 0 (omega (arith, few, same)) (program_ordered (length (spell p)) p h.proper.indexed) (program_some (length (spell p)) p h.proper.indexed)
 

@@ -14,7 +14,7 @@ use Rattle.cp_resolved.specs.InStep.{Numbering, InStep}
 use Rattle.cp_resolved.specs.Judging.{Place, places_of, AreAgreed, tokens_of}
 use Rattle.cp_resolved.specs.Names.{AreInStep}
 use Rattle.cp_resolved.specs.Openings.{Opening, openings_of, numbering_of}
-use Rattle.cp_resolved.specs.Read.{IsRead}
+use Rattle.cp_tree.specs.Read.{IsRead}
 use Rattle.cp_resolved.specs.Small.{Each}
 use Rattle.cp_resolved.specs.Typed.{Tokens}
 use Rattle.cp_resolved.proofs.BegunWithin.{all_within}

@@ -202,7 +202,7 @@ module _ (tokens : Tokens) (s : Scopes) (h : Here) (w : Context) (agrees : Scope
         named = routine_target (find i.name h.scope) (name_with i no_selectors) i.name n k tt (subst HasResult (sym o.1) tt);
       }
 
-  begun_routine : (i : Identifier) (c : check_designated.Designated) (n : ℕ) → names.begun s i ≡ Ok c → c.named ≡ name.Routine n → look i.name s ≡ Some (Some (meaning.Routine n))
+  pub begun_routine : (i : Identifier) (c : check_designated.Designated) (n : ℕ) → names.begun s i ≡ Ok c → c.named ≡ name.Routine n → look i.name s ≡ Some (Some (meaning.Routine n))
   unfolding names.begun names.visible
   begun_routine i c n is e = go (look i.name s) refl is
     where

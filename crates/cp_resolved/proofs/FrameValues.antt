@@ -52,7 +52,7 @@ all_plain : (vs : List Variable) → Each IsFreeVariable vs → components_among
 all_plain [] h = refl
 all_plain (v ∷ vs) h = ap (λ b. if b then components_among false vs else v ∷ components_among false vs) (free_plain v.ty h.0) ∙ ap (λ us. v ∷ us) (all_plain vs h.1)
 
-zero_after : (image zeros : List ℤ) (n : ℕ) → AreZeros zeros → n < length zeros → StandsAt (image ++ zeros) (length image + n) (encode (number_value (pos 0)))
+pub zero_after : (image zeros : List ℤ) (n : ℕ) → AreZeros zeros → n < length zeros → StandsAt (image ++ zeros) (length image + n) (encode (number_value (pos 0)))
 zero_after image zeros n are lt = stands_after image zeros (pos 0 ∷ []) n (zero_stands zeros n are lt)
 
 module _ (k : Numbering) (p : syntax.Program) (m : RoutineMeaning) (l : Layer) (declared : AreDeclared local_variable m.scope (routine_variables m)) (words : AreWords m.scope) (steps : InStep k l.types l.names m.scope)
@@ -107,12 +107,12 @@ module _ (k : Numbering) (p : syntax.Program) (m : RoutineMeaning) (l : Layer) (
   temporary_other at None = refl
   temporary_other at (Some u) = refl
 
-  first_zero : (x : Name) (t : Ty) → IsTemporary x t cs' → first_value m x ≡ number_value (pos 0)
+  pub first_zero : (x : Name) (t : Ty) → IsTemporary x t cs' → first_value m x ≡ number_value (pos 0)
   first_zero x t e =
       subst (λ y. first_value m y ≡ number_value (pos 0)) (sym e.is)
       (ap value_held (content_right (temporary e.at) (least_of m.variables) (least_result m.result) (least_nothing (temporary e.at) (none_among (temporary e.at) (λ i. i))) ∙ result_none (temporary e.at) m.result (temporary_other e.at m.result)))
 
-  first_least : (x : Name) (t : Ty) → look x vs ≡ Some t → look x (parameter_variables m.parameters) ≡ None → first_value m x ≡ least t
+  pub first_least : (x : Name) (t : Ty) → look x vs ≡ Some t → look x (parameter_variables m.parameters) ≡ None → first_value m x ≡ least t
   first_least x t e none = go (look_either x t (parameters_by false m.parameters ++ result_variables m.result) m.variables e)
     where
       inner : (look x (parameters_by false m.parameters) ≡ Some t) ⊎ ((look x (parameters_by false m.parameters) ≡ None) × (look x (result_variables m.result) ≡ Some t)) → first_value m x ≡ least t

@@ -185,7 +185,7 @@ module _ (k : Numbering) (all : Compounds) (counted : Counted all) where
   abbrev Headed : Layer → List Parameter → Type 0
   Headed l qs = Frames l (parameters_by false qs) (parameters_by true qs)
 
-  abbrev ParametersFit : List Parameter → Type 0
+  abbrev pub ParametersFit : List Parameter → Type 0
   ParametersFit qs = Fits [] (parameter_variables qs)
 
   parameters_before : (qs ps : List Parameter) → Longer qs ps → ParametersFit ps → ParametersFit qs
@@ -235,7 +235,7 @@ module _ (k : Numbering) (all : Compounds) (counted : Counted all) where
       let few : Counted l.types = counted_first l.types all (among l m.1 (either_group_declares g.is_var l ps g.group) later) counted in
       parameter_groups_framed m.1 c m.0 gs a.names x f (group_framed g.is_var l j.scope j.parameters ps g.group i few (parameters_before c.parameters (meant.with_parameter_groups c gs).parameters (parameter_groups_grow c gs) f) h)
 
-  abbrev ResultHasCells : Option Ty → Type 0
+  abbrev pub ResultHasCells : Option Ty → Type 0
   ResultHasCells None = Unit {0}
   ResultHasCells (Some t) = HasCells t
 

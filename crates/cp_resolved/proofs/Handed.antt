@@ -129,7 +129,7 @@ routines_owned l (r ∷ rs) = routines_owned (routine l r) rs ∙ routine_owned 
 
 -- ---- the program has no parameters
 
-abbrev handed : Layer → List ComponentParameter
+abbrev pub handed : Layer → List ComponentParameter
 handed l = l.owned.parameters
 
 variable_handed : (l : Layer) (x : List ℕ) (t : ValueType) (o : Option Contained) → handed (variable_with l x t o) ≡ handed l
@@ -141,7 +141,7 @@ unfolding variables_of
 variables_of_handed l t [] = refl
 variables_of_handed l t (i ∷ is) = variables_of_handed (variable l i.name t) t is ∙ variable_handed l i.name t (components_of l.types t)
 
-variables_handed : (l : Layer) (gs : List VariableGroup) → handed (variables l gs) ≡ handed l
+pub variables_handed : (l : Layer) (gs : List VariableGroup) → handed (variables l gs) ≡ handed l
 unfolding variables
 variables_handed l [] = refl
 variables_handed l (g ∷ gs) =

@@ -63,20 +63,20 @@ parts_once s (q ∷ qs) h =
 
 -- ---- names that are declared together
 
-abbrev AllKnown : List Name → Names → Type 0
+abbrev pub AllKnown : List Name → Names → Type 0
 AllKnown xs ds = Each (λ x. IsKnown x ds) xs
 
-abbrev AllNew : List Name → Names → Type 0
+abbrev pub AllNew : List Name → Names → Type 0
 AllNew xs ds = Each (λ x. is_some (find x ds) ≡ false) xs
 
-names_new : (s : Scopes) (ns : List Identifier) → (reserve_names s ns).faults ≡ [] → AllNew (names_of ns) s.inner.names
+pub names_new : (s : Scopes) (ns : List Identifier) → (reserve_names s ns).faults ≡ [] → AllNew (names_of ns) s.inner.names
 unfolding reserve_names
 names_new s [] h = tt
 names_new s (n ∷ ns) h =
     let t : Scopes = (reserve_name s n).scopes in
     (reserved_new s n (no_left (reserve_name s n).faults _ h), subst (AllNew (names_of ns)) (reserved_names s n) (names_new t ns (no_right (reserve_name s n).faults _ h)))
 
-names_known : (s : Scopes) (ns : List Identifier) (m : Option checker.Meaning) → AllKnown (names_of ns) (add_names s ns m).inner.names
+pub names_known : (s : Scopes) (ns : List Identifier) (m : Option checker.Meaning) → AllKnown (names_of ns) (add_names s ns m).inner.names
 unfolding add_names add
 names_known s [] m = tt
 names_known s (n ∷ ns) m =

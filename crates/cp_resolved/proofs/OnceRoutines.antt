@@ -67,7 +67,7 @@ known_without x n (d ∷ ds) h = one (bytes_eq n d.0) (known_without x n ds)
 -- ---- one routine
 
 -- its name is new
-routine_new : (k : Option SystemKind) (s : Scopes) (r : Routine) → (routine_step k s r).faults ≡ [] → is_some (find r.name.name s.inner.names) ≡ false
+pub routine_new : (k : Option SystemKind) (s : Scopes) (r : Routine) → (routine_step k s r).faults ≡ [] → is_some (find r.name.name s.inner.names) ≡ false
 unfolding routine_step heading
 routine_new k s r h =
     let w : Headed = written (enter false (reserve_name s r.name).scopes) r.kind in
@@ -88,7 +88,7 @@ closed_known r (Ok v) (Err fs) s x h = known_without x r.name.name (last_of s.ou
 closed_known r (Err fs) u s x h = h
 
 -- and it is known after it, with those before
-routine_known : (k : Option SystemKind) (s : Scopes) (r : Routine) (x : Name) → (IsKnown x s.inner.names) ⊎ (x ≡ r.name.name) → IsKnown x (routine_step k s r).scopes.inner.names
+pub routine_known : (k : Option SystemKind) (s : Scopes) (r : Routine) (x : Name) → (IsKnown x s.inner.names) ⊎ (x ≡ r.name.name) → IsKnown x (routine_step k s r).scopes.inner.names
 unfolding routine_step routines.opened heading enter
 routine_known k s r x h =
     let b : Scopes = (reserve_name s r.name).scopes in

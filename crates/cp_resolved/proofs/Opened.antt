@@ -9,7 +9,7 @@ use Rattle.cp_meaning.specs.Systems.{declared, own_meaning}
 use Rattle.cp_resolved.specs.Resolved.{initial_meaning}
 use Rattle.cp_resolved.specs.Openings.{Opening, AreOpened, meaning_in, meaning_at, openings_of}
 
-slice_seam : {X : Type 0} (xs : List X) (x : X) (ys : List X) → slice_get (xs ++ x ∷ ys) (length xs) ≡ Some x
+pub slice_seam : {X : Type 0} (xs : List X) (x : X) (ys : List X) → slice_get (xs ++ x ∷ ys) (length xs) ≡ Some x
 slice_seam xs x ys =
     let v : length xs < length (xs ++ x ∷ ys) = omega (arith, length-append xs (x ∷ ys)) in
     slice_get-get_or (xs ++ x ∷ ys) (length xs) x v ∙ ap (λ y. Some y) (get_or-append_seam xs x ys x)

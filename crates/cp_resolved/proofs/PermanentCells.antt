@@ -107,6 +107,7 @@ taken_apart x y t u (v ∷ vs) o h i = go (same_name x v.name) (same_name y v.na
 -- the count of cells stops at the greatest word
 abbrev pub Holds : List Variable → Name → Meaning → Type 0
 Holds ws x (meaning.Variable (origin.Permanent n) v) = (t : Ty) × (look x ws ≡ Some t) × (n ≡ min (taken_before x ws) most)
+Holds ws x (meaning.Bound n k) = (t : Ty) × (look x ws ≡ Some t) × (n ≡ min (taken_before x ws) most)
 Holds ws x m = Unit {0}
 
 abbrev pub AreHolding : List Variable → Names → Type 0
@@ -123,7 +124,7 @@ holds_more ws vs x (meaning.Variable (origin.Reference n) v) h = tt
 holds_more ws vs x (meaning.Constant b z) h = tt
 holds_more ws vs x (meaning.Kind v) h = tt
 holds_more ws vs x (meaning.Contained n v) h = tt
-holds_more ws vs x (meaning.Bound n k) h = tt
+holds_more ws vs x (meaning.Bound n k) h = (h.0, look_left x h.0 ws vs h.1, h.2 ∙ ap (λ j. min j most) (sym (taken_left x h.0 ws vs h.1)))
 holds_more ws vs x (meaning.Routine n) h = tt
 holds_more ws vs x (meaning.Predeclared p) h = tt
 
@@ -132,6 +133,7 @@ holding_more ws vs ns h x m e = holds_more ws vs x m (h x m e)
 
 abbrev pub IsUnheld : Meaning → Type 0
 IsUnheld (meaning.Variable (origin.Permanent n) v) = ⊥
+IsUnheld (meaning.Bound n k) = ⊥
 IsUnheld m = Unit {0}
 
 unheld_holds : (ws : List Variable) (x : Name) (m : Meaning) → IsUnheld m → Holds ws x m
@@ -141,7 +143,7 @@ unheld_holds ws x (meaning.Variable (origin.Reference n) v) h = tt
 unheld_holds ws x (meaning.Constant b z) h = tt
 unheld_holds ws x (meaning.Kind v) h = tt
 unheld_holds ws x (meaning.Contained n v) h = tt
-unheld_holds ws x (meaning.Bound n k) h = tt
+unheld_holds ws x (meaning.Bound n k) h = absurd h
 unheld_holds ws x (meaning.Routine n) h = tt
 unheld_holds ws x (meaning.Predeclared p) h = tt
 
@@ -197,6 +199,9 @@ variable_holds ws x t v n new e y same =
     let none : taken_before y (one_variable x t ∷ []) ≡ 0 = ap (λ b. if b then 0 else width t + 0) turned in
     let place = taken_right y ws (one_variable x t ∷ []) absent in
     (t, look_right y ws (one_variable x t ∷ []) absent ∙ first, e ∙ ap (λ j. min j most) (let f : taken ws ≡ taken_before y (ws ++ one_variable x t ∷ []) = omega (arith, place, none) in f))
+
+bound_holds : (ws : List Variable) (x : Name) (t : Ty) (n k : ℕ) → look x ws ≡ None → n ≡ min (taken ws) most → (y : Name) → bytes_eq x y ≡ true → Holds (ws ++ one_variable x t ∷ []) y (meaning.Bound n k)
+bound_holds ws x t n k new e y same = variable_holds ws x t types.Queue n new e y same
 
 more_cells : (ws : List Variable) (x : Name) (t : Ty) (n w : ℕ) → n ≡ min (taken ws) most → w ≡ width t → plus n w ≡ min (taken (ws ++ one_variable x t ∷ [])) most
 more_cells ws x t n w e f = let a = taken_append ws (one_variable x t ∷ []) in let b : taken (one_variable x t ∷ []) ≡ width t + 0 = refl in omega (arith, a, b, e, f)
@@ -323,7 +328,7 @@ module _ (k : Numbering) where
       subst (λ u. Owns (system_parameter l ps x u).1 (ws ++ one_variable x (named.record_with us) ∷ [])) (sym i.is) (cell_owns l x (named.record_with us) (types.Record i.number) ws refl (subst (TypeIs k l.types (named.record_with us)) i.is i) new h)
   parameter_owns l ps x (named.component_of n) v ws p i new h =
       subst (λ u. Owns (system_parameter l ps x u).1 (ws ++ one_variable x (named.component_of n) ∷ [])) (sym i)
-      (record { cells = more_cells ws x (named.component_of n) l.owned.cells 1 h.cells refl; holding = holding_added (ws ++ one_variable x (named.component_of n) ∷ []) x (meaning.Bound l.owned.cells n) l.names tt (holding_more ws (one_variable x (named.component_of n) ∷ []) l.names h.holding) })
+      (record { cells = more_cells ws x (named.component_of n) l.owned.cells 1 h.cells refl; holding = holding_variable (ws ++ one_variable x (named.component_of n) ∷ []) x (meaning.Bound l.owned.cells n) l.names (bound_holds ws x (named.component_of n) l.owned.cells n new.other h.cells) (holding_more ws (one_variable x (named.component_of n) ∷ []) l.names h.holding) })
 
   system_parameter_types : (l : Layer) (ps : Parameters) (x : List ℕ) (v : ValueType) → (system_parameter l ps x v).1.types ≡ l.types
   system_parameter_types l ps x (types.Ordinal r) = refl

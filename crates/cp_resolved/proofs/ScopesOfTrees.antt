@@ -2,12 +2,13 @@
 use Rattle.std.proofs.Common.{◌≡◌, ℕ, zero, suc, List, [], ◌∷◌, slice_get, refl}
 use Rattle.cp_tree.specs.Syntax.{Program, Tree}
 use Rattle.cp_check.specs.Faults.{faults_of}
-use Rattle.cp_meaning.specs.Systems.{SystemMeaning, declared, own_meaning, or_own}
+use Rattle.cp_meaning.specs.Systems.{SystemMeaning, declared, own_meaning, or_own, system_of}
 use Rattle.cp_resolved.specs.Enumerations.{enumerations_of}
 use Rattle.cp_resolved.specs.Judging.{tokens_of, ScopesAre, ScopesLaw}
 use Rattle.cp_resolved.specs.Small.{Each, IsSmallProgram}
 use Rattle.cp_resolved.specs.Standing.{IsStandingVariable, IsStandingParameter}
 use Rattle.cp_resolved.specs.Tokens.{AreDifferent, program_tokens, token_of_type, tokens_of_enumerations, HasFew}
+use Rattle.cp_resolved.specs.Typed.{IsSystemParameter}
 use Rattle.cp_resolved.proofs.AgreeingProgram.{ProgramResult, program_agrees}
 use Rattle.cp_resolved.proofs.DifferentIndexed.{tokens_different}
 use Rattle.cp_resolved.proofs.DifferentTokens.{all_numbered, all_few}
@@ -22,7 +23,7 @@ pub record IsTidy (p : Program) : Type 0 where
   pub tokens : AreDifferent (program_tokens p)
 
 abbrev IsStandingSystem : SystemMeaning → Type 0
-IsStandingSystem m = Each IsStandingVariable m.variables × Each IsStandingParameter m.parameters
+IsStandingSystem m = Each IsStandingVariable m.variables × Each IsStandingParameter m.parameters × Each IsSystemParameter m.parameters
 
 -- a system type by its number, the program's own after all others
 system_at : (ms : List SystemMeaning) (k : ℕ) (own : SystemMeaning) → Each IsStandingSystem ms → IsStandingSystem own → IsStandingSystem (or_own own (slice_get ms k))
@@ -33,12 +34,13 @@ system_at (m ∷ ms) (suc k) own h g = system_at ms k own h.1 g
 pub tidy_agreed : (t : Tree) → faults_of t ≡ [] → IsTidy t.program → ScopesAre t.program
 tidy_agreed t h w =
     let r : ProgramResult (tokens_of t.program) t.program =
-    program_agrees (tokens_of t.program) t.program t refl h (all_numbered t.program w.tokens) w.small (all_few (token_of_type t.program) (enumerations_of t.program) w.few w.enumerations) w.tokens in
+    program_agrees (tokens_of t.program) t.program t refl h (all_numbered t.program w.tokens) w.small (all_few (token_of_type t.program) (λ k. (system_of t.program k).kind) (enumerations_of t.program) w.few w.enumerations) w.tokens in
     let own : SystemMeaning = own_meaning (declared t.program) t.program in
     record {
       places = r.places;
-      variables = λ k. (system_at (declared t.program).systems k own r.types (r.variables, tt)).0;
-      parameters = λ k. (system_at (declared t.program).systems k own r.types (r.variables, tt)).1;
+      variables = λ k. (system_at (declared t.program).systems k own r.types (r.variables, tt, tt)).0;
+      parameters = λ k. (system_at (declared t.program).systems k own r.types (r.variables, tt, tt)).1;
+      handed = λ k. (system_at (declared t.program).systems k own r.types (r.variables, tt, tt)).2;
     }
 
 pub scopes_law : ScopesLaw

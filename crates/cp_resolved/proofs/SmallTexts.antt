@@ -17,7 +17,7 @@ use Rattle.cp_tree.specs.Spelling.{spell}
 use Rattle.cp_tree.specs.Syntax.{Program}
 use Rattle.cp_resolved.specs.Enumerations.{enumerations_of, constants_before}
 use Rattle.cp_resolved.specs.Once.{IsWord}
-use Rattle.cp_resolved.specs.Read.{IsRead}
+use Rattle.cp_tree.specs.Read.{IsRead}
 use Rattle.cp_resolved.specs.Small.{IsSmallProgram, AreNumbered}
 use Rattle.cp_resolved.proofs.Numbered.{program_numbered}
 use Rattle.cp_resolved.proofs.SmallPrograms.{program_small}
@@ -70,14 +70,14 @@ kinds_length [] = refl
 kinds_length (t ∷ ts) = ap suc (kinds_length ts)
 
 pub read_scanned : (p : Program) → IsRead p → AreScanned (spell p)
-read_scanned p h = subst AreScanned h.spelled (tokens_scanned 1 h.scanned.parts h.tokens h.scanned.reads.cut h.scanned.reads.tokens)
+read_scanned p h = subst AreScanned h.spelled (tokens_scanned 1 h.text.reads.parts h.tokens h.text.reads.reads.cut h.text.reads.reads.tokens)
 
 pub read_small : (p : Program) → IsRead p → IsSmallProgram p
 read_small p h = program_small p (read_scanned p h)
 
 pub read_few : (p : Program) → IsRead p → length (spell p) ≤ 20000
 read_few p h =
-    let few : length h.tokens ≤ 20000 = h.scanned.reads.few in
+    let few : length h.tokens ≤ 20000 = h.text.reads.reads.few in
     let same : length (spell p) ≡ length h.tokens = sym (ap (λ (ks : List Kind). length ks) h.spelled) ∙ kinds_length h.tokens in
     omega (arith, few, same)
 

@@ -101,10 +101,10 @@ images l w =
     }
 
 module _ (l : Layer) where
-  system_there : (k : ℕ) (s : System) → slice_get l.systems k ≡ Some s → slice_get (system_types l.systems l.owned) k ≡ Some (system_type s.owned)
+  pub system_there : (k : ℕ) (s : System) → slice_get l.systems k ≡ Some s → slice_get (system_types l.systems l.owned) k ≡ Some (system_type s.owned)
   system_there k s e = still_there (types_of l.systems) (system_type l.owned ∷ []) k (system_type s.owned) (types_there l.systems k s e)
 
-  program_there : slice_get (system_types l.systems l.owned) (length l.systems) ≡ Some (system_type l.owned)
+  pub program_there : slice_get (system_types l.systems l.owned) (length l.systems) ≡ Some (system_type l.owned)
   program_there = ap (λ k. slice_get (system_types l.systems l.owned) k) (sym (types_count l.systems)) ∙ last_entry (types_of l.systems) (system_type l.owned)
 
   systems_count : length (system_types l.systems l.owned) ≡ length l.systems + 1

@@ -16,7 +16,7 @@ use Rattle.cp_resolved.proofs.Entries.{there}
 use Rattle.cp_resolved.proofs.EncodedCells.{times_stopped}
 use Rattle.cp_resolved.proofs.OwnedParts.{contained_of, all_contained, AreLow, count_after}
 
-either_place : {A : Type 0} (xs ys : List A) (n : ℕ) (x : A) → slice_get (xs ++ ys) n ≡ Some x → (slice_get xs n ≡ Some x) ⊎ ((m : ℕ) × (n ≡ length xs + m) × (slice_get ys m ≡ Some x))
+pub either_place : {A : Type 0} (xs ys : List A) (n : ℕ) (x : A) → slice_get (xs ++ ys) n ≡ Some x → (slice_get xs n ≡ Some x) ⊎ ((m : ℕ) × (n ≡ length xs + m) × (slice_get ys m ≡ Some x))
 either_place [] ys n x e = inr (n, (let z : n ≡ 0 + n = omega arith in z), e)
 either_place (y ∷ xs) ys zero x e = inl e
 either_place (y ∷ xs) ys (suc n) x e = go (either_place xs ys n x e)

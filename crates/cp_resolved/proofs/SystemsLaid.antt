@@ -23,6 +23,7 @@ use Rattle.cp_resolved.specs.Small.{Each, IsSmallSystem, IsSmallDefinition, IsSm
 use Rattle.cp_resolved.specs.TreeLayouts.{definition_parts, definitions_parts, part_parts, program_parts_parts, whole_laid}
 use Rattle.cp_resolved.proofs.Declares.{type_declares, constants_declare, variables_declare}
 use Rattle.cp_resolved.proofs.Extends.{Longer, Extends, extends_trans, initial_extends, routines_extend, system_extends, system_definitions_extend, program_parts_extend}
+use Rattle.cp_resolved.proofs.HandedComponents.{AreBound, system_bound}
 use Rattle.cp_resolved.proofs.KeptNames as kept
 use Rattle.cp_resolved.proofs.KeptOwned.{body_owned, routines_owned, definition_owned, constants_owned}
 use Rattle.cp_resolved.proofs.OwnedParts.{all_contained, AreLow, OwnsAt, Owns, owns_grown}
@@ -61,6 +62,7 @@ module _ (k : Numbering) (end : Layer) where
   pub record SystemIs (number : ℕ) (s : System) (m : SystemMeaning) (around : Layer) : Type 0 where
     pub kind : s.kind ≡ m.kind
     pub own : OwnIs number around s.owned m
+    pub handed : AreBound s.owned.parameters m.parameters around.names
 
   abbrev pub AreLaid : ℕ → List System → List SystemMeaning → List Layer → Type 0
   AreLaid n [] [] [] = Unit {0}
@@ -139,6 +141,7 @@ module _ (k : Numbering) (end : Layer) where
           bound = parts_bound u l s;
           found = permanent_found z (parts_scope u s) s.routines ts (parts_begun_reached k l d.scope s h.0 f i.outer e i.names).names;
         };
+        handed = subst (λ (p : Owned). AreBound p.parameters (system_in u s).parameters z.names) (sym eq) (system_bound k l d.scope s f i.outer i.names);
       }
 
   -- ---- the declarations of the program

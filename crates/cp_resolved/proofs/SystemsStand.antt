@@ -6,11 +6,11 @@ use Rattle.cp_slots.specs.declared.place.Origin.TheVariants as origin
 use Rattle.cp_slots.specs.declared.lay_out.kinds.ValueType.{ValueType}
 use Rattle.cp_slots.specs.declared.lay_out.names.Meaning.TheVariants as meaning
 use Rattle.cp_slots.specs.Kinds.{most}
-use Rattle.cp_slots.specs.Laid.{PlainTables, laid, tables_laid, system_types}
+use Rattle.cp_slots.specs.Laid.{PlainTables, plain, laid, tables_laid, system_types}
 use Rattle.cp_slots.specs.Layers as layers
 use Rattle.cp_slots.specs.Layers.{Layer, System, nothing_laid, routine_of}
 use Rattle.cp_slots.specs.LaidStatements.{statements}
-use Rattle.cp_slots.specs.Tables.{RoutineView, no_system, system_at}
+use Rattle.cp_slots.specs.Tables.{Tables, RoutineView, no_system, system_at}
 use Rattle.cp_meaning.specs.Names.{Name}
 use Rattle.cp_meaning.specs.Types as named
 use Rattle.cp_meaning.specs.Types.{Ty, has_components}
@@ -20,9 +20,10 @@ use Rattle.cp_meaning.specs.Steps.{parameter_variables}
 use Rattle.cp_meaning.specs.Systems.{SystemMeaning, program_system, system_of}
 use Rattle.cp_resolved.specs.Begun.{all_begun}
 use Rattle.cp_resolved.specs.Fit.{nothing_declared}
-use Rattle.cp_resolved.specs.Framed.{AreDifferent, system_variables, SystemsLaw}
+use Rattle.cp_resolved.specs.Framed.{AreDifferent, AreDeclared, system_variables, SystemsLaw}
 use Rattle.cp_resolved.specs.InStep.{Numbering, InStep}
 use Rattle.cp_resolved.specs.Layouts.{cells_of, look, SystemLayout}
+use Rattle.cp_resolved.specs.LayoutsKnow.{IsPlaced}
 use Rattle.cp_resolved.specs.Openings.{Opening, openings_of, meaning_at, numbering_of}
 use Rattle.cp_resolved.specs.Resolved.{initial_meaning, SystemParameterIs, SystemParametersAre, AreApart}
 use Rattle.cp_resolved.specs.Small.{Each, IsParameter}
@@ -35,6 +36,7 @@ use Rattle.cp_resolved.proofs.FrameCells.{each_left, each_right}
 use Rattle.cp_resolved.proofs.Grown.{statements_grew}
 use Rattle.cp_resolved.proofs.Opened.{opened_all}
 use Rattle.cp_resolved.proofs.PermanentCells.{Owns}
+use Rattle.cp_resolved.proofs.PermanentNames.{Under, FirstsApart}
 use Rattle.cp_resolved.proofs.RoutinesCounted.{Many, all_many}
 use Rattle.cp_resolved.proofs.ScopeVariables.{Among, among_left, among_all, among_some}
 use Rattle.cp_resolved.proofs.Seats.{Seated, AreSeated, initial_number, SystemFits, Settled, AreSettled}
@@ -123,8 +125,26 @@ initial_view t many n le = go (slice_get (whole_laid t).systems n) refl
         let same : length (whole_laid t).systems ≡ n = omega (arith, past, le, many.systems) in
         record { view = p.last.routine; there = subst (λ j. slice_get (whole_laid t).routines j ≡ Some p.last.routine) last p.last.there; system = p.last.system ∙ same }
 
-pub systems_law : SystemsLaw
-systems_law t r same place framed modest n le =
+-- ---- a system type by its number
+
+pub record SystemStands (t : syntax.Tree) (r : Tables) (n : ℕ) : Type 0 where
+  -- where its routines begin
+  pub around : Layer
+  pub there : parts_at t n ≡ around
+  pub own : (system_at r n).own ≡ around.owned.cells
+  pub owns : Owns around (parameter_variables (system_of t.program n).parameters ++ components_among false (system_of t.program n).variables)
+  pub first : FirstsApart (system_of t.program n).parameters around.names
+  pub parameters : Each (λ (q : Parameter). IsParameter q.ty) (system_of t.program n).parameters
+  -- where its initial statement begins
+  pub begun : Layer
+  pub names : InStep (numbering_of t.program) begun.types begun.names (system_of t.program n).scope
+  pub under : Under around.names begun.names
+  pub initial : (system_layout t n).initial < length r.routines
+  pub statement : meaning_at t.program (system_layout t n).initial ≡ initial_meaning (system_of t.program n)
+  pub owner : owner_in (program_system t.program) (slice_get (openings_of t.program) (system_layout t n).initial) ≡ n
+
+pub system_stands : (t : syntax.Tree) (r : Tables) → plain r ≡ laid t → IsPlaced t → (n : ℕ) → AreDeclared permanent_variable (system_of t.program n).scope (system_variables (system_of t.program n)) → n ≤ program_system t.program → SystemStands t r n
+system_stands t r same place n declares le =
     let k : Numbering = numbering_of t.program in
     let p : syntax.Program = t.program in
     let end : Layer = whole_laid t in
@@ -155,25 +175,46 @@ systems_law t r same place framed modest n le =
     let opens_owner : opens.opening.owner ≡ n = ap (λ (o : Opening). o.owner) same_opening ∙ sym seat.seated.system ∙ systems in
     let around : opens.begins.around ≡ z = same_Some opens.begins.around z (sym opens.begins.outer.there ∙ ap (λ j. slice_get (all_parts t) j) opens_owner ∙ at.1) in
     let steps : InStep k l.types l.names m.scope = subst (λ u. InStep k l.types l.names u) scope (layouts_law t place number l begun.1).names.names in
-    let under : (x : Name) (i : ℕ) (w : ValueType) → layers.find x l.names ≡ Some (meaning.Variable (origin.Permanent i) w) → layers.find x z.names ≡ Some (meaning.Variable (origin.Permanent i) w) =
-    λ x i w e. ap (λ (q : Layer). layers.find x q.names) (sym around) ∙ opens.begins.under x (meaning.Variable (origin.Permanent i) w) tt e in
     let own : (system_at r n).own ≡ z.owned.cells = ap (λ ss. (slice_index_or ss n no_system).own) (ap (λ (q : PlainTables). q.systems) same ∙ laid_systems t) ∙ s.cells in
-    let few : z.owned.cells < most = subst (λ c. c < most) own (modest n) in
     let sized : (w : Variable) → find w.name m.scope ≡ Some (permanent_variable w.ty) → cells_of w.ty ≤ most = λ w e. (permanent_sized w.name w.ty (meaning_at p number).scope (place.sized number) (ap (find w.name) scope ∙ e)).0 in
-    let small : Each (λ (w : Variable). cells_of w.ty ≤ most) (system_variables m) = each_map (λ (w : Variable). find w.name m.scope ≡ Some (permanent_variable w.ty)) (λ (w : Variable). cells_of w.ty ≤ most) (system_variables m) sized (framed.permanents n).visible in
+    let small : Each (λ (w : Variable). cells_of w.ty ≤ most) (system_variables m) = each_map (λ (w : Variable). find w.name m.scope ≡ Some (permanent_variable w.ty)) (λ (w : Variable). cells_of w.ty ≤ most) (system_variables m) sized declares.visible in
     let qs : List Variable = parameter_variables m.parameters in
     let later : Each (λ (w : Variable). has_components w.ty ≡ false → cells_of w.ty ≤ most) m.variables = each_map (λ (w : Variable). cells_of w.ty ≤ most) (λ (w : Variable). has_components w.ty ≡ false → cells_of w.ty ≤ most) m.variables (λ w c e. c) (each_right (λ (w : Variable). cells_of w.ty ≤ most) qs m.variables small) in
-    let fits : SystemFits k p end counted m = system_fits k m (framed.permanents n).different (each_left (λ (w : Variable). cells_of w.ty ≤ most) qs m.variables small) later in
+    let fits : SystemFits k p end counted m = system_fits k m declares.different (each_left (λ (w : Variable). cells_of w.ty ≤ most) qs m.variables small) later in
     let owns : Owns z (qs ++ components_among false m.variables) = s.owns fits in
     let place_is : parts_at t n ≡ z = ap (layer_or (nothing_laid t.lines)) at.1 in
-    let inside : (x : Name) (u : Ty) → look x (components_among false (system_variables m)) ≡ Some u → slot_in (layers.find x (parts_at t n).names) + cells_of u ≤ (system_at r n).own =
-    λ x u e. subst (λ (q : Layer). slot_in (layers.find x q.names) + cells_of u ≤ (system_at r n).own) (sym place_is) (subst (λ c. slot_in (layers.find x z.names) + cells_of u ≤ c) (sym own) (cells_inside k m z l (framed.permanents n) (framed.standing n) owns few steps under x u e)) in
     record {
+      around = z;
+      there = place_is;
+      own = own;
+      owns = owns;
+      first = subst (λ (q : Layer). FirstsApart m.parameters q.names) around (subst (λ j. FirstsApart (system_of p j).parameters opens.begins.around.names) opens_owner opens.begins.outer.first);
+      parameters = s.parameters;
+      begun = l;
+      names = steps;
+      under = subst (λ (q : Layer). Under q.names l.names) around opens.begins.under;
       initial = subst (λ rs. number < length rs) (sym (ap (λ (q : PlainTables). q.routines) same ∙ laid_routines t)) below;
       statement = meant;
       owner = owner;
+    }
+
+pub systems_law : SystemsLaw
+systems_law t r same place framed modest n le =
+    let k : Numbering = numbering_of t.program in
+    let m : SystemMeaning = system_of t.program n in
+    let s : SystemStands t r n = system_stands t r same place n (framed.permanents n) le in
+    let z : Layer = s.around in
+    let l : Layer = s.begun in
+    let few : z.owned.cells < most = subst (λ c. c < most) s.own (modest n) in
+    let under : (x : Name) (i : ℕ) (w : ValueType) → layers.find x l.names ≡ Some (meaning.Variable (origin.Permanent i) w) → layers.find x z.names ≡ Some (meaning.Variable (origin.Permanent i) w) = λ x i w e. s.under x (meaning.Variable (origin.Permanent i) w) tt e in
+    let inside : (x : Name) (u : Ty) → look x (components_among false (system_variables m)) ≡ Some u → slot_in (layers.find x (parts_at t n).names) + cells_of u ≤ (system_at r n).own =
+    λ x u e. subst (λ (q : Layer). slot_in (layers.find x q.names) + cells_of u ≤ (system_at r n).own) (sym s.there) (subst (λ c. slot_in (layers.find x z.names) + cells_of u ≤ c) (sym s.own) (cells_inside k m z l (framed.permanents n) (framed.standing n) s.owns few s.names under x u e)) in
+    record {
+      initial = s.initial;
+      statement = s.statement;
+      owner = s.owner;
       cells = inside;
-      apart = subst (λ (q : Layer). AreApart (λ x. slot_in (layers.find x q.names)) (components_among false (system_variables m))) (sym place_is) (cells_apart k m z l (framed.permanents n) (framed.standing n) owns few steps under);
-      typed = first_typed k m z l (framed.permanents n) (framed.standing n) owns few steps under;
+      apart = subst (λ (q : Layer). AreApart (λ x. slot_in (layers.find x q.names)) (components_among false (system_variables m))) (sym s.there) (cells_apart k m z l (framed.permanents n) (framed.standing n) s.owns few s.names under);
+      typed = first_typed k m z l (framed.permanents n) (framed.standing n) s.owns few s.names under;
       parameters = parameters_are (system_layout t n) m (framed.permanents n).different refl refl m.parameters s.parameters (λ x u h. h);
     }

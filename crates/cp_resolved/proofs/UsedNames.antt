@@ -152,7 +152,7 @@ component_variable k (Some (scopes.standard_meaning q)) h = absurd h
 component_variable k None h = absurd h
 
 module _ (tokens : Tokens) (s : Scopes) (h : Here) (w : Context) (agrees : ScopesAgree tokens s h) where
-  holds_variable : (m : Option scopes.Meaning) (x : Option Name) (v : ValueType) (o : Option Designated) → Holds (written tokens s h) m x v o → IsVariableMeaning m
+  pub holds_variable : (m : Option scopes.Meaning) (x : Option Name) (v : ValueType) (o : Option Designated) → Holds (written tokens s h) m x v o → IsVariableMeaning m
   holds_variable m x v (Some (a_variable p t)) i = plain_variable m i.2
   holds_variable m x v (Some (some_components first q k)) i = component_variable k m i.1
   holds_variable m x v (Some (a_component c k)) i = component_variable k m i.1

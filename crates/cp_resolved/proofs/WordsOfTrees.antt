@@ -14,7 +14,7 @@ use Rattle.cp_meaning.specs.Systems.{with_routines, system_in, Declared, definit
 use Rattle.cp_resolved.specs.Fit.{nothing_declared}
 use Rattle.cp_resolved.specs.Once.{IsWord, AreWords}
 use Rattle.cp_resolved.specs.Openings.{Opening, with_routine, routine_openings, parts_scope, initial_opening, definition_openings, definitions_openings, part_openings, parts_openings, openings_of, meaning_in, meaning_at}
-use Rattle.cp_resolved.specs.Read.{IsRead}
+use Rattle.cp_tree.specs.Read.{IsRead}
 use Rattle.cp_resolved.specs.Resolved.{initial_meaning}
 use Rattle.cp_resolved.specs.Small.{Each, IsSmallPart}
 use Rattle.cp_resolved.proofs.SmallPrograms.{parameters_after, each_small, group_after, parameter_group_after, kind_after, routine_small, definition_small, program_part_small}

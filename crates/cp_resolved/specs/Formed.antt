@@ -10,7 +10,7 @@ use Rattle.cp_slots.specs.Code as code
 use Rattle.cp_resolved.specs.Layouts.{Layouts, Here}
 use Rattle.cp_resolved.specs.Compiled.{as_ordinal, as_set, as_place, Designated, a_variable, a_component, begun_form, expression_form, designator_form}
 use Rattle.cp_resolved.specs.Openings.{Opening, openings_of}
-use Rattle.cp_resolved.specs.Read.{IsRead}
+use Rattle.cp_tree.specs.Read.{IsRead}
 use Rattle.cp_resolved.specs.Small.{Each}
 use Rattle.cp_resolved.specs.Stands.{IsTest}
 

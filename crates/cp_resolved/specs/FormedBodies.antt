@@ -7,7 +7,7 @@ use Rattle.cp_resolved.specs.Calls.{all_calls_laid}
 use Rattle.cp_resolved.specs.FormedStatements.{AllFormed}
 use Rattle.cp_resolved.specs.LayoutsKnow.{place_of}
 use Rattle.cp_resolved.specs.Openings.{openings_of, meaning_at}
-use Rattle.cp_resolved.specs.Read.{IsRead}
+use Rattle.cp_tree.specs.Read.{IsRead}
 
 -- of routine n, by the layouts of the tree
 pub record IsFormedAt (t : Tree) (n : ℕ) : Type 0 where

@@ -4,7 +4,7 @@ use Rattle.cp_tree.specs.Syntax.{Tree}
 use Rattle.cp_slots.specs.Laid.{plain, laid}
 use Rattle.cp_slots.specs.Tables.{Tables, routine_at, system_at}
 use Rattle.cp_lawful.specs.Accepted.{IsAccepted}
-use Rattle.cp_resolved.specs.Read.{IsRead}
+use Rattle.cp_tree.specs.Read.{IsRead}
 
 -- no more items than tokens, and so the premise `items` of `AreHeld`
 abbrev pub FewItemsLaw : Type 0

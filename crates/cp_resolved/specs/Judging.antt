@@ -19,14 +19,15 @@ use Rattle.cp_meaning.specs.Names.{Name}
 use Rattle.cp_meaning.specs.Scopes.{find}
 use Rattle.cp_meaning.specs.Systems.{system_of}
 use Rattle.cp_resolved.specs.Enumerations.{enumerations_of}
+use Rattle.cp_resolved.specs.Framed.{IsOrdinalResult}
 use Rattle.cp_resolved.specs.Layouts.{Layouts, is_named}
 use Rattle.cp_resolved.specs.Limited.{AreLimited}
 use Rattle.cp_resolved.specs.Openings.{Opening, openings_of}
-use Rattle.cp_resolved.specs.Read.{IsRead}
+use Rattle.cp_tree.specs.Read.{IsRead}
 use Rattle.cp_resolved.specs.Small.{Each}
-use Rattle.cp_resolved.specs.Standing.{IsFit, IsFreeVariable, IsStandingVariable, IsFreeParameter, IsStandingParameter, IsFreeResult}
+use Rattle.cp_resolved.specs.Standing.{IsFit, IsFreeVariable, IsStandingVariable, IsFreeParameter, IsStandingParameter}
 use Rattle.cp_resolved.specs.Tokens.{token_of_type, constants_among}
-use Rattle.cp_resolved.specs.Typed.{Tokens, HeadingIs, ScopesAgree}
+use Rattle.cp_resolved.specs.Typed.{Tokens, IsSystemParameter, HeadingIs, ScopesAgree, IsMarked}
 
 pub record Place : Type 0 where
   pub scopes : Scopes
@@ -83,6 +84,7 @@ places_of p =
 
 -- Of a routine: its name alone stands for it, and its heading is written.
 pub record IsOwn (tokens : Tokens) (x : Place) (o : Opening) (n : ℕ) : Type 0 where
+  pub routine : o.name ≡ None → ⊥
   pub named : (y : Name) → look y x.scopes ≡ Some (Some (meaning.Routine n)) → is_named y o.name ≡ true
   pub heading : HeadingIs (record { shapes = x.scopes.shapes; tokens = tokens }) (heading_at n x.scopes) (Some o.meaning)
 
@@ -90,6 +92,7 @@ pub record IsOwn (tokens : Tokens) (x : Place) (o : Opening) (n : ℕ) : Type 0 
 pub record IsAgreed (tokens : Tokens) (p : Program) (x : Place) (o : Opening) : Type 0 where
   pub scopes : (l : Layouts) (k n : ℕ) → ScopesAgree tokens x.scopes (record { program = p; layouts = l; system = k; routine = n; scope = o.meaning.scope })
   pub sound : faults (statements x.scopes x.context (Ok no_use) o.meaning.body) ≡ []
+  pub written : (y : Name) (n : ℕ) → look y x.scopes ≡ Some (Some (meaning.Routine n)) → IsMarked x.scopes.shapes (meaning.Routine n) (find y o.meaning.scope)
   -- each visible name stands for something
   pub known : (y : Name) → look y x.scopes ≡ Some None → ⊥
   -- ranges are inside their bases, and queues and components stand alone or in arrays
@@ -98,7 +101,8 @@ pub record IsAgreed (tokens : Tokens) (p : Program) (x : Place) (o : Opening) : 
   pub limited : AreLimited o.meaning.scope
   pub variables : Each IsFreeVariable o.meaning.variables
   pub parameters : Each IsFreeParameter o.meaning.parameters
-  pub result : IsFreeResult o.meaning.result
+  -- of a function an ordinal
+  pub result : IsOrdinalResult o.meaning.result
   pub own : (n : ℕ) → x.context.routine ≡ Some n → IsOwn tokens x o n
 
 abbrev pub AreAgreed : Tokens → Program → List Place → List Opening → Type 0
@@ -108,13 +112,15 @@ AreAgreed tokens p [] (o ∷ os) = ⊥
 AreAgreed tokens p (x ∷ xs) [] = ⊥
 
 abbrev pub tokens_of : Program → Tokens
-tokens_of p = record { systems = token_of_type p; constants = λ at. constants_among at (enumerations_of p) }
+tokens_of p = record { systems = token_of_type p; kinds = λ k. (system_of p k).kind; constants = λ at. constants_among at (enumerations_of p) }
 
 -- at all places, and the types of permanent variables
 pub record ScopesAre (p : Program) : Type 0 where
   pub places : AreAgreed (tokens_of p) p (places_of p) (openings_of p)
   pub variables : (k : ℕ) → Each IsStandingVariable (system_of p k).variables
   pub parameters : (k : ℕ) → Each IsStandingParameter (system_of p k).parameters
+  -- a parameter of a system type is handed over as a value, and is a component or has neither queues nor components
+  pub handed : (k : ℕ) → Each IsSystemParameter (system_of p k).parameters
 
 abbrev pub ScopesLaw : Type 0
 ScopesLaw = (t : Tree) → IsRead t.program → IsAccepted t → ScopesAre t.program

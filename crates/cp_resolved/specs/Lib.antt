@@ -1,4 +1,5 @@
 pub mod Begun
+pub mod BodiesFormed
 pub mod BodiesStand
 pub mod Calls
 pub mod Compiled
@@ -32,6 +33,8 @@ pub mod OwnCalls
 pub mod Placed
 pub mod Read
 pub mod Resolved
+pub mod Resolving
+pub mod RoutinesStand
 pub mod Small
 pub mod SmallStatements
 pub mod Soundness

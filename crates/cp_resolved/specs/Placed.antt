@@ -2,7 +2,7 @@
 use Rattle.cp_tree.specs.Syntax.{Tree}
 use Rattle.cp_lawful.specs.Accepted.{IsAccepted}
 use Rattle.cp_resolved.specs.LayoutsKnow.{IsPlaced}
-use Rattle.cp_resolved.specs.Read.{IsRead}
+use Rattle.cp_tree.specs.Read.{IsRead}
 
 abbrev pub PlacedLaw : Type 0
 PlacedLaw = (t : Tree) → IsRead t.program → IsAccepted t → IsPlaced t

@@ -1,7 +1,7 @@
 -- When the checker and the layouts say the same: of types, of what names stand for, and of operands and their forms.
 use Rattle.std.specs.Prelude.{◌≡◌, ◌≤◌, ◌-◌, ◌*◌, ℕ, ℤ, pos, Bool, true, false, ◌&&◌, List, [], ◌∷◌, length, Option, Some, None, Ok, Err}
 use Rattle.cp_tree.specs.declared.declaration.SystemKind.{SystemKind}
-use Rattle.cp_tree.specs.Syntax.{Expression, alone, related, Sum, sum, Terms, no_terms, more_terms, Term, term, Factors, no_factors, more_factors, Factor, number, character, named as factor_named, group, negated, set_of, Expressions, no_expressions, more_expressions, Designator, designator, Selectors, no_selectors, more_selectors, Selector, field, index}
+use Rattle.cp_tree.specs.Syntax.{Routine, Expression, alone, related, Sum, sum, Terms, no_terms, more_terms, Term, term, Factors, no_factors, more_factors, Factor, number, character, named as factor_named, group, negated, set_of, Expressions, no_expressions, more_expressions, Designator, designator, Selectors, no_selectors, more_selectors, Selector, field, index}
 use Rattle.cp_scope.specs.declared.types.Base.{Base}
 use Rattle.cp_scope.specs.declared.types.Base.TheVariants as base
 use Rattle.cp_scope.specs.declared.types.Range.{Range}
@@ -15,7 +15,7 @@ use Rattle.cp_scope.specs.declared.types.Parameter as check_parameter
 use Rattle.cp_scope.specs.declared.shape.ArrayShape.{ArrayShape}
 use Rattle.cp_scope.specs.declared.shape.Census.{Census}
 use Rattle.cp_scope.specs.Judged.{Judged}
-use Rattle.cp_scope.specs.Scopes.{Heading, Names, Scope, record_shape, system_shape, Shapes, shape_in, as_array, Scopes, look, member_at, heading_at}
+use Rattle.cp_scope.specs.Scopes.{Heading, Names, Scope, record_shape, system_shape, heading_shape, Shapes, shape_in, as_array, Scopes, look, member_at, heading_at}
 use Rattle.cp_check.specs.declared.operand.Operand.{Operand}
 use Rattle.cp_meaning.specs.Names.{Name}
 use Rattle.cp_meaning.specs.Types as named
@@ -34,9 +34,10 @@ use Rattle.cp_resolved.specs.Compiled.{Form, as_ordinal, as_set, as_place, as_co
 
 -- ---- types
 
--- the token of each system type by its number, and the constants of the enumeration at a token
+-- the token and the kind of each system type by its number, and the constants of the enumeration at a token
 pub record Tokens : Type 0 where
   pub systems : ℕ → ℕ
+  pub kinds : ℕ → SystemKind
   pub constants : ℕ → List Name
 
 -- and what is written at tokens
@@ -100,6 +101,7 @@ pub record SystemThere (token : ℕ) (ss : Shapes) : Type 0 where
 pub record ComponentIs (w : Written) (n : ℕ) (v : ValueType) : Type 0 where
   pub kind : SystemKind
   pub is : v ≡ types.Component kind (w.tokens.systems n)
+  pub own : kind ≡ w.tokens.kinds n
   pub only : (k : ℕ) → w.tokens.systems k ≡ w.tokens.systems n → k ≡ n
   pub there : SystemThere (w.tokens.systems n) w.shapes
 
@@ -161,7 +163,8 @@ IsOrdinalResult k v o = ⊥
 
 -- what a function has as its result
 abbrev pub ResultIs : Tokens → Option ValueType → Option RoutineMeaning → Type 0
-ResultIs k None o = Unit {0}
+ResultIs k None (Some r) = r.result ≡ None
+ResultIs k None None = ⊥
 ResultIs k (Some v) (Some r) = IsOrdinalResult k v r.result
 ResultIs k (Some v) None = ⊥
 
@@ -185,10 +188,20 @@ AreParameters w (a ∷ as') [] = ⊥
 abbrev pub IsValueParameter : Parameter → Type 0
 IsValueParameter q = q.is_var ≡ false
 
+-- of a system type
+abbrev pub IsSystemParameter : Parameter → Type 0
+IsSystemParameter q = IsValueParameter q × IsHanded q.is_var q.ty
+
+-- whether the latest routine of a scope is an entry; in the scope of a routine's body it is the routine itself
+abbrev pub is_entry_in : scopes.Scope → Bool
+is_entry_in [] = false
+is_entry_in ((n, scopes.routine_meaning r) ∷ s) = r.is_entry
+is_entry_in (d ∷ s) = is_entry_in s
+
 -- what is written as the heading of a routine
 abbrev pub HeadingIs : Written → Heading → Option RoutineMeaning → Type 0
 HeadingIs w d None = ⊥
-HeadingIs w d (Some r) = ResultIs w.tokens d.result (Some r) × AreParameters w d.parameters r.parameters
+HeadingIs w d (Some r) = ResultIs w.tokens d.result (Some r) × AreParameters w d.parameters r.parameters × (d.is_entry ≡ is_entry_in r.scope)
 
 abbrev pub VariableIs : Written → ValueType → Option scopes.Meaning → Type 0
 VariableIs w v (Some (scopes.local_variable t)) = TypeIs w t v × (is_plain t ≡ true)
@@ -202,6 +215,17 @@ ConstantIs k b z o = ⊥
 abbrev pub KindIs : Written → ValueType → Option scopes.Meaning → Type 0
 KindIs w v (Some (scopes.type_meaning t)) = TypeIs w t v
 KindIs w v o = ⊥
+
+-- the heading of a routine is written at its name's token, and says where its body is
+pub record IsWritten (n : ℕ) (ss : Shapes) (r : Routine) : Type 0 where
+  pub token : n ≡ r.name.at
+  pub heading : Heading
+  pub there : shape_in n ss ≡ Some (heading_shape heading r.body.at)
+
+abbrev pub IsMarked : Shapes → Meaning → Option scopes.Meaning → Type 0
+IsMarked ss (meaning.Routine n) (Some (scopes.routine_meaning r)) = IsWritten n ss r
+IsMarked ss (meaning.Routine n) o = ⊥
+IsMarked ss m o = Unit {0}
 
 abbrev pub RoutineIs : Written → Heading → Name → scopes.Scope → Option scopes.Meaning → Type 0
 RoutineIs w d x scope (Some (scopes.routine_meaning r)) = HeadingIs w d (Some (routine_in (since x scope) r))

@@ -5,6 +5,7 @@ ghost use Rattle.cp_resolved.specs.FormedBodies.{FormedLaw};
 ghost use Rattle.cp_resolved.specs.Judging.{ScopesLaw};
 ghost use Rattle.cp_resolved.specs.HeadingsKnow.{HeadingsLaw};
 ghost use Rattle.cp_resolved.specs.Held.{FewCellsLaw, FewItemsLaw, FewReferencesLaw};
+ghost use Rattle.cp_resolved.specs.BodiesFormed.{BodiesFormedLaw, DistinctLaw, ReadBodiesLaw};
 ghost use Rattle.cp_resolved.specs.BodiesStand.{BodiesLaw};
 ghost use Rattle.cp_resolved.specs.ComponentsAre.{ComponentsLaw};
 ghost use Rattle.cp_resolved.specs.ItemsInside.{InsideLaw};
@@ -14,6 +15,8 @@ ghost use Rattle.cp_resolved.specs.Names.{NamesLaw};
 ghost use Rattle.cp_resolved.specs.OwnCalls.{OwnCallsLaw};
 ghost use Rattle.cp_resolved.specs.Placed.{PlacedLaw};
 ghost use Rattle.cp_resolved.specs.Read.{PlainLaw, ReadNamesLaw};
+ghost use Rattle.cp_resolved.specs.Resolving.{ResolvingLaw};
+ghost use Rattle.cp_resolved.specs.RoutinesStand.{RoutinesLaw};
 ghost use Rattle.cp_resolved.specs.Soundness.{SoundLaw};
 
 /// The names of the tables stand for what the names of the program stand for.
@@ -96,6 +99,26 @@ pub fn law_bodies()
     ensures { BodiesLaw }
 {}
 
+/// Each routine and each initial statement of the tables stands for its own of the tree: frame, items, result and permanent variables.
+pub fn law_routines()
+    ensures { RoutinesLaw }
+{}
+
+/// What was read and breaks no rule declares its parameters as `law_headings` wants it.
+pub fn law_distinct()
+    ensures { DistinctLaw }
+{}
+
+/// So its routines and initial statements have what `law_bodies` wants of each.
+pub fn law_bodies_formed()
+    ensures { BodiesFormedLaw }
+{}
+
+/// And so in its tables the items of each stand for its statements.
+pub fn law_read_bodies()
+    ensures { ReadBodiesLaw }
+{}
+
 /// The components of the tables stand for those of the tree, and the processes for its processes, where no count of them has stopped.
 pub fn law_components()
     ensures { ComponentsLaw }
@@ -104,4 +127,9 @@ pub fn law_components()
 /// In tables that stand for a tree each item is inside what it names, and names components of the types that it wants.
 pub fn law_inside()
     ensures { InsideLaw }
+{}
+
+/// The tables of each program that was read and breaks no rule stand for it, and are sound.
+pub fn law_resolved()
+    ensures { ResolvingLaw }
 {}

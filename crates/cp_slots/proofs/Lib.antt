@@ -1,5 +1,4 @@
 pub mod Sharing
-pub mod TypedTables
 pub mod NamesSeen
 pub mod Settling
 pub mod Laid

@@ -1,13 +1,12 @@
 -- The tables of a tree, as a function of the tree: what `lay_out` gives.
 -- It has the shape of the code on purpose, so that each function of the code is one equation. What makes tables those of a program, in the terms of the language,
 -- is said by relations, which are to be proved of this function and not of the code.
-use Rattle.std.specs.Prelude.{◌≡◌, ◌⊎◌, ℕ, ◌-◌, max, ℤ, List, [], ◌∷◌, ◌++◌, map, length, Option, Some, None, slice_get}
+use Rattle.std.specs.Prelude.{ℕ, ◌-◌, max, ℤ, List, [], ◌∷◌, ◌++◌, map, length, Option, Some, None, slice_get}
 use Rattle.cp_tree.specs.Syntax.{Tree}
 use Rattle.cp_slots.specs.declared.tables.Component.{Component}
-use Rattle.cp_slots.specs.declared.tables.ComponentKind.TheVariants as component_kind
 use Rattle.cp_slots.specs.declared.tables.Process.{Process}
 use Rattle.cp_slots.specs.declared.lay_out.Room.{Room}
-use Rattle.cp_slots.specs.Tables.{Tables, RoutineView, SystemView, no_routine, no_system}
+use Rattle.cp_slots.specs.Tables.{Tables, RoutineView, SystemView}
 use Rattle.cp_slots.specs.Code.{Item, item_seen}
 use Rattle.cp_slots.specs.Kinds.{plus}
 use Rattle.cp_slots.specs.Layers.{Layer, Owned, System, need_of, nothing_laid}
@@ -102,34 +101,3 @@ tables_laid l = tables_listed l (program_listed l.types l.systems l.owned (lengt
 
 unfoldable pub laid : Tree → PlainTables
 laid t = tables_laid (program (nothing_laid t.lines) t.program)
-
--- ---- the stand-in
-
-abbrev pub standing_component : Component
-standing_component = record { kind = component_kind.Process 0; base = 0; system = 0 }
-
-abbrev pub standing_process : Process
-standing_process = record { component = 0; routine = 0 }
-
--- the program of no statements
-abbrev pub no_program : Tables
-no_program =
-    record {
-      items = [];
-      routines = no_routine ∷ [];
-      systems = no_system ∷ [];
-      components = standing_component ∷ [];
-      processes = standing_process ∷ [];
-      monitors = 0;
-      permanents = [];
-      depth = 1;
-      cells = 0;
-      references = 0;
-      arguments = 0;
-      names = [];
-    }
-
--- what is resolved: what is laid out of the tree, or the program of no statements.
--- That an accepted tree never gives the second is not said here.
-abbrev pub LaidOrNothing : Tree → Tables → Type 0
-LaidOrNothing t tables = (plain tables ≡ laid t) ⊎ (tables ≡ no_program)

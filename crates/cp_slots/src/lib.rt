@@ -1,16 +1,11 @@
 //! From names to slots: the resolved program.
 #![tactic(auto)]
 
-mod entries;
-mod inside;
 pub mod item;
-mod lay_out;
+pub mod lay_out;
 pub mod place;
 pub mod resolved;
-pub mod resolver;
-mod sound;
 pub mod tables;
-mod typed;
 
 pub use item::{Action, Arm, Item, ShownKind};
 pub use place::{
@@ -18,7 +13,6 @@ pub use place::{
     Origin, Place, SetExpression, SetOperation,
 };
 pub use resolved::Resolved;
-pub use resolver::resolve;
 pub use tables::{
     Component, ComponentKind, ComponentParameter, Layout, Process, Routine, SystemType,
 };

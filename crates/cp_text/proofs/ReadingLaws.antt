@@ -14,7 +14,7 @@ use Rattle.cp_text.specs.declared.token.Kind.{Kind}
 use Rattle.cp_text.specs.declared.token.Token.{Token}
 use Rattle.cp_text.specs.Faults.{fault_at, Outcome, out_of_memory}
 use Rattle.cp_text.specs.Lexemes.{next}
-use Rattle.cp_text.specs.Reading.{Stands, Part, joined, AreCut, AreTokens, no_more, blank, lexeme, FaultAt, HasTokens, too_long, faulty, Reading}
+use Rattle.cp_text.specs.Reading.{Stands, Part, joined, AreCut, AreTokens, no_more, blank, lexeme, FaultAt, HasTokens, too_long, faulty, Reading, AreOfText}
 use Rattle.cp_text.specs.Scanning.{added, scan_from, scan, Scans}
 use Rattle.cp_text.proofs.NextLaws.{next_stands, next_blank, next_fault, fault_somewhere, KindAfter, NextPiece, NextTells, next_tells}
 use Rattle.cp_text.proofs.ScanSteps.{scan_stops, scan_goes, scan_ends, scan_short, scan_long}
@@ -194,6 +194,10 @@ long_only text long other reads = sym (scan_long text long) ∙ reading_is text 
 pub short_reads : (text : List ℕ) → length text ≤ 65535 → (o : Outcome) → Scans (scan_from 0 1 [] text) o → o ≢ Err out_of_memory → Reading text o
 short_reads text short (Ok ts) h told = subst (Reading text) (scan_short text short ∙ h) (reading_holds text)
 short_reads text short (Err f) h told = subst (Reading text) (scan_short text short ∙ h (λ e. told (ap Err e))) (reading_holds text)
+
+-- what the pieces of a short text come to are its tokens
+pub of_text : (text : List ℕ) → length text ≤ 65535 → (ts : List Token) → scan_from 0 1 [] text ≡ Ok ts → AreOfText ts
+of_text text short ts h = record { text = text; reads = subst (Reading text) (scan_short text short ∙ h) (reading_holds text) }
 
 pub short_only : (text : List ℕ) → length text ≤ 65535 → (o : Outcome) → Scans (scan_from 0 1 [] text) o → (other : Outcome) → Reading text other → o ≢ Err out_of_memory → o ≡ other
 short_only text short (Ok ts) h other reads told = sym h ∙ sym (scan_short text short) ∙ reading_is text other reads

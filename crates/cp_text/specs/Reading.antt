@@ -177,6 +177,11 @@ pub record HasTokens (text : List ℕ) (ts : List Token) : Type 0 where
   pub parts : List Part
   pub reads : ReadsUpTo text parts ts []
 
+-- these are the tokens of a text
+pub record AreOfText (ts : List Token) : Type 0 where
+  pub text : List ℕ
+  pub reads : HasTokens text ts
+
 -- the text has this fault
 pub data HasFault (text : List ℕ) (f : ScanFault) : Type 0 where
   too_long : 65535 < length text → f ≡ fault_at 0 TooLong → HasFault text f

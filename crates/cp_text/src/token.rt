@@ -139,14 +139,20 @@ impl Model for Tokens {
     ghost Value = { List Token };
 
     ghost view = { λ t. t.items.items };
+
+    ghost use Rattle.cp_text.specs.Reading.{AreOfText};
+
+    ghost invariant = { λ t. AreOfText t.items.items };
 }
 
 impl Tokens {
+    ghost use Rattle.cp_text.specs.Reading.{AreOfText};
     ghost use Rattle.cp_text.specs.Kinds.{kinds};
     ghost use Rattle.cp_text.specs.Lines.{line_of};
 
     /// These tokens.
     pub fn new(items: Vec<Token>) -> Tokens
+        requires { AreOfText items.items }
         ensures { result ≡ items.items }
     {
         Tokens { items }
@@ -154,7 +160,8 @@ impl Tokens {
 
     /// How many tokens there are.
     pub fn count(&self) -> usize
-        ensures { result ≡ length self.now }
+        ensures value { result ≡ length self.now }
+        ensures text { AreOfText self.now }
     {
         self.items.len()
     }

@@ -15,6 +15,7 @@ use Rattle.cp_scope.specs.declared.fault.CheckFault.{CheckFault}
 use Rattle.cp_scope.specs.Judged.{RefusesList}
 use Rattle.cp_check.specs.Faults.{faults_of}
 use Rattle.cp_slots.specs.Tables.{Tables}
+use Rattle.cp_resolved.specs.Resolving.{IsProgramOf}
 use Rattle.cp_run.specs.Slots.{slots}
 use Rattle.cp_run.specs.Run.{run}
 use Rattle.cp_run.specs.Table.{table}
@@ -43,14 +44,14 @@ IsRefusedIn line (Some reason) verdict text = (verdict ≡ Refused) × (text ≡
 abbrev pub IsReported : Options → Tables → Verdict → List ℕ → Type 0
 IsReported o program verdict text =
     let rows = table (slots program o.gates) o.choices o.steps in
-    ((verdict ≡ Reported) × (length rows ≤ 50000) × (text ≡ report_text program rows o.rows))
+    ((verdict ≡ Reported) × (length rows ≤ 50000) × (text ≡ report_text program.names rows o.rows))
     ⊎ ((verdict ≡ TooManyRows) × (50000 < length rows) × (text ≡ codes "too many rows\n"))
 
 -- the report of the whole table of any size, or what is too many first
 abbrev pub IsMerged : Options → Tables → Verdict → List ℕ → Type 0
 IsMerged o program verdict text =
     let sys = slots program o.gates in
-    ((verdict ≡ Reported) × FitsBefore sys o.choices o.steps o.states (o.choices + 1) × (text ≡ report_text program (table sys o.choices o.steps) false))
+    ((verdict ≡ Reported) × FitsBefore sys o.choices o.steps o.states (o.choices + 1) × (text ≡ report_text program.names (table sys o.choices o.steps) false))
     ⊎ (((verdict ≡ TooManyStates) × IsDueFault sys o.choices o.steps o.states fault.TooManyStates × (text ≡ codes "too many states\n"))
     ⊎ ((verdict ≡ TooManyOutcomes) × IsDueFault sys o.choices o.steps o.states fault.TooManyOutcomes × (text ≡ codes "too many outcomes\n")))
 
@@ -58,16 +59,16 @@ IsMerged o program verdict text =
 abbrev pub IsTraced : Options → Tables → List ℕ → Verdict → List ℕ → Type 0
 IsTraced o program word verdict text =
     let sys = slots program o.gates in
-    (verdict ≡ Reported) × (text ≡ trace_text program (trace sys o.choices o.steps word) (run sys o.choices o.steps word) word)
+    (verdict ≡ Reported) × (text ≡ trace_text program.names (trace sys o.choices o.steps word) (run sys o.choices o.steps word) word)
 
 -- one schedule is traced, or all are reported
 abbrev pub IsExplored : Options → Tables → Verdict → List ℕ → Type 0
 IsExplored o program verdict text = MatchOption o.schedule (MatchBool o.merge (IsMerged o program verdict text) (IsReported o program verdict text)) (λ word. IsTraced o program word.items verdict text)
 
--- A tree is refused for the first rule that it breaks, or its program's table is reported.
+-- A tree is refused for the first rule that it breaks, or the table of the program that stands for it is reported.
 abbrev pub AnswersTree : Options → List Token → tree.Tree → Verdict → List ℕ → Type 0
 AnswersTree o tokens t verdict text =
-    ((faults_of (tree_view t) ≡ []) × (program : Tables) × IsExplored o program verdict text)
+    ((faults_of (tree_view t) ≡ []) × (program : Tables) × IsProgramOf (tree_view t) program × IsExplored o program verdict text)
     ⊎ ((fault : CheckFault) × RefusesList fault (faults_of (tree_view t)) × IsRefusedAt tokens (check_reason fault) verdict text)
 
 abbrev pub AnswersParsed : Options → List Token → Result tree.Tree ParseFault → Verdict → List ℕ → Type 0

@@ -4,10 +4,14 @@ use Rattle.std.specs.Prelude.{IfOk, slice_get}
 use Rattle.cp_text.specs.declared.token.Kind.{Kind}
 use Rattle.cp_text.specs.declared.token.Kind.TheVariants as kind
 use Rattle.cp_text.specs.declared.token.Mark.TheVariants as mark
+use Rattle.cp_text.specs.declared.token.Token.{Token}
+use Rattle.cp_text.specs.Kinds.{kinds}
+use Rattle.cp_text.specs.Reading.{AreOfText}
 use Rattle.cp_tree.specs.declared.fault.ParseFault.{ParseFault}
 use Rattle.cp_tree.specs.declared.fault.ParseFault.TheVariants.{Unexpected, OutsideProfile, TooDeep, Memory}
 use Rattle.cp_tree.specs.declared.tree.Tree as tree_tree
 use Rattle.cp_tree.specs.Answer.{is_left_out, answer_of, answer, Answers}
+use Rattle.cp_tree.specs.Read as read
 use Rattle.cp_tree.specs.Input.{Input, Outcome, Parser, ◌>>=◌, expect, start_of}
 use Rattle.cp_tree.specs.Syntax.{Routine, Body, ProgramPart, Program}
 use Rattle.cp_tree.specs.View.{program_view}
@@ -211,3 +215,11 @@ both_land p q n m (Err Memory) shallow h g = absurd h
 pub one_tree : (p q : Program) → IsProper p → IsProper q → spell p ≡ spell q → p ≡ q
 one_tree p q one two e =
     both_land p q (length (spell p)) (length (spell q)) (program (start_of (spell p))) one.shallow (program_lands p one.indexed) (lands (spell p) q (program (start_of (spell p))) two.indexed e refl)
+
+-- ---- the tree
+
+-- what is answered to the tokens of a text was read
+pub read_of : (ts : List Token) → AreOfText ts → (p : Program) → answer (kinds ts) ≡ Ok p → read.IsRead p
+read_of ts text p h =
+    let both : IsProper p × (kinds ts ≡ spell p) = subst (λ (r : Result Program ParseFault). IfOk r (λ q. IsProper q × (kinds ts ≡ spell q))) h (answered (kinds ts)).proper in
+    record { tokens = ts; text = text; spelled = both.1; proper = both.0 }

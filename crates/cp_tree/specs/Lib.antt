@@ -1,6 +1,7 @@
 pub mod Answer
 pub mod Input
 pub mod Place
+pub mod Read
 pub mod Reading
 pub mod ReadingDeclarations
 pub mod ReadingExpressions

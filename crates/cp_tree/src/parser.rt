@@ -1,17 +1,19 @@
 //! From tokens to a tree.
 
-ghost use Rattle.std.specs.Prelude.{◌≡◌, ◌≢◌, ◌≤◌, ℕ, true, false, length, slice_get, IfOk, Err};
+ghost use Rattle.std.specs.Prelude.{◌≡◌, ◌≢◌, ◌≤◌, ℕ, true, false, length, slice_get, IfOk, Ok, Err};
 ghost use Rattle.std.specs.Option.{option_copied};
 ghost use Rattle.cp_text.specs.Kinds.{kinds};
 ghost use Rattle.cp_text.specs.Lines as texts;
+ghost use Rattle.cp_text.specs.Reading.{AreOfText};
 ghost use Rattle.cp_tree.specs.Answer as spec;
 ghost use Rattle.cp_tree.specs.Spelling.{spell};
 ghost use Rattle.cp_tree.specs.SpellingIndexed.{IsIndexed};
 ghost use Rattle.cp_tree.specs.SpellingLevel.{IsProper};
-ghost use Rattle.cp_tree.specs.Syntax.{Program};
+ghost use Rattle.cp_tree.specs.Syntax as syntax;
 ghost use Rattle.cp_tree.specs.View.{program_view};
 
 use crate::cursor::Cursor;
+use crate::declaration::Program;
 use crate::fault::ParseFault;
 use crate::read_program::program;
 use crate::tree::Tree;
@@ -28,13 +30,13 @@ pub fn parse(alloc: Global, tokens: &Tokens) -> Result<Tree, ParseFault>
     ensures lines { IfOk result (λ t. t.lines.items ≡ texts.lines tokens.now) }
 
     // No other program spells them.
-    ensures only { IfOk result (λ t. (other : Program) → IsIndexed other → kinds tokens.now ≡ spell other → program_view t.program ≡ other) }
-    ensures one_tree { (p q : Program) → IsProper p → IsProper q → spell p ≡ spell q → p ≡ q }
+    ensures only { IfOk result (λ t. (other : syntax.Program) → IsIndexed other → kinds tokens.now ≡ spell other → program_view t.program ≡ other) }
+    ensures one_tree { (p q : syntax.Program) → IsProper p → IsProper q → spell p ≡ spell q → p ≡ q }
 
     // When each error comes.
-    ensures unexpected { (at : ℕ) → result ≡ Err (ParseFault.Unexpected at) → (other : Program) → IsIndexed other → kinds tokens.now ≢ spell other }
-    ensures outside { (at : ℕ) → result ≡ Err (ParseFault.OutsideProfile at) → (other : Program) → IsIndexed other → kinds tokens.now ≢ spell other }
-    ensures too_deep { (at : ℕ) → result ≡ Err (ParseFault.TooDeep at) → (other : Program) → IsProper other → kinds tokens.now ≢ spell other }
+    ensures unexpected { (at : ℕ) → result ≡ Err (ParseFault.Unexpected at) → (other : syntax.Program) → IsIndexed other → kinds tokens.now ≢ spell other }
+    ensures outside { (at : ℕ) → result ≡ Err (ParseFault.OutsideProfile at) → (other : syntax.Program) → IsIndexed other → kinds tokens.now ≢ spell other }
+    ensures too_deep { (at : ℕ) → result ≡ Err (ParseFault.TooDeep at) → (other : syntax.Program) → IsProper other → kinds tokens.now ≢ spell other }
     ensures left_out { (at : ℕ) → result ≡ Err (ParseFault.OutsideProfile at) → spec.is_left_out (slice_get (kinds tokens.now) at) ≡ true }
     ensures not_left_out { (at : ℕ) → result ≡ Err (ParseFault.Unexpected at) → spec.is_left_out (slice_get (kinds tokens.now) at) ≡ false }
     ensures within { (at : ℕ) → result ≡ Err (ParseFault.Unexpected at) → at ≤ length (kinds tokens.now) }
@@ -50,18 +52,25 @@ fn read(alloc: Global, tokens: &Tokens) -> Result<Tree, ParseFault>
     ensures lines { IfOk result (λ t. t.lines.items ≡ texts.lines tokens.now) }
 {
     match program(alloc, &mut Cursor::new(tokens)) {
-        Ok(program) => Ok(Tree {
-            program,
-            lines: lines(alloc, tokens)?,
-        }),
+        Ok(program) => Ok(tree_of(alloc, tokens, program)?),
         Err(fault) => Err(told(tokens, fault)),
     }
+}
+
+fn tree_of(alloc: Global, tokens: &Tokens, program: Program) -> Result<Tree, AllocError>
+    requires { spec.answer (kinds tokens.now) ≡ Ok (program_view program) }
+    ensures program { IfOk result (λ t. t.program ≡ program) }
+    ensures lines { IfOk result (λ t. t.lines.items ≡ texts.lines tokens.now) }
+{
+    let lines = lines(alloc, tokens)?;
+    Ok(Tree { program, lines })
 }
 
 // The line of each token.
 #[tactic(auto, using(crate::proofs::LineLaws::next_line, crate::proofs::LineLaws::all_lines))]
 fn lines(alloc: Global, tokens: &Tokens) -> Result<Vec<u32>, AllocError>
-    ensures { IfOk result (λ v. v.items ≡ texts.lines tokens.now) }
+    ensures lines { IfOk result (λ v. v.items ≡ texts.lines tokens.now) }
+    ensures text { AreOfText tokens.now }
 {
     let mut found = Vec::new(alloc);
     for at in 0..tokens.count() {

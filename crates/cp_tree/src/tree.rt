@@ -1,15 +1,18 @@
 //! The tree of a program, with the line of each token.
 
 ghost use Rattle.std.specs.Prelude.{◌≡◌, slice_index};
+ghost use Rattle.cp_tree.specs.Read.{IsRead};
+ghost use Rattle.cp_tree.specs.View.{program_view};
 
 use crate::declaration::Program;
 
-/// A program as it is written.
+/// A program as it was read.
 #[derive(Drop)]
 pub struct Tree {
     pub program: Program,
     /// The line of each token, counted from 1.
     pub lines: Vec<u32>,
+    pub ghost read: { ∥ IsRead (program_view program) ∥₁ },
 }
 
 impl Tree {

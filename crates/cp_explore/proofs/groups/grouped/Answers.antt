@@ -22,6 +22,6 @@ returns-clause-count c =
     grouped_count (map line_of c.args.rows.now) c.loop-row.groups.entries (c.loop-row.invariant ∙ ap (λ rows. tallies_of (map line_of rows)) (take_whole c.args.rows.now k (omega arith)))
 
 pub returns-clause-texts : goal.returns-clause-texts
-returns-clause-texts c = λ r.
+returns-clause-texts c = λ names.
     (let k = c.loop-row.row-index in
-    grouped_text r (map line_of c.args.rows.now) c.loop-row.groups.entries (c.loop-row.invariant ∙ ap (λ rows. tallies_of (map line_of rows)) (take_whole c.args.rows.now k (omega arith))))
+    grouped_text names (map line_of c.args.rows.now) c.loop-row.groups.entries (c.loop-row.invariant ∙ ap (λ rows. tallies_of (map line_of rows)) (take_whole c.args.rows.now k (omega arith))))

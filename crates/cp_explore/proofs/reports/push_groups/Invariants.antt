@@ -6,4 +6,4 @@ use Rattle.cp_explore.proofs.reports.push_groups.Given as goal
 
 -- those so far, and those that are left
 abbrev pub invariant-loop-group : goal.invariant-loop-group
-invariant-loop-group l = string_bytes l.initial.text ++ each (tally_text l.program) (map tally (values l.groups)) ≡ string_bytes l.text ++ each (tally_text l.program) (map tally l.group-iterator)
+invariant-loop-group l = string_bytes l.initial.text ++ each (tally_text l.program.names) (map tally (values l.groups)) ≡ string_bytes l.text ++ each (tally_text l.program.names) (map tally l.group-iterator)

@@ -5,4 +5,4 @@ use Rattle.cp_explore.specs.Rows.{line_of}
 use Rattle.cp_explore.proofs.reports.push_rows.Given as goal
 
 abbrev pub invariant-loop-row : goal.invariant-loop-row
-invariant-loop-row l = string_bytes l.text ≡ string_bytes l.initial.text ++ each (λ row. row_text l.program (line_of row)) (take l.row-index l.rows)
+invariant-loop-row l = string_bytes l.text ≡ string_bytes l.initial.text ++ each (λ row. row_text l.program.names (line_of row)) (take l.row-index l.rows)

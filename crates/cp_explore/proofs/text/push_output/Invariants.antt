@@ -3,4 +3,4 @@ use Rattle.cp_explore.specs.Text.{behind_each, shown_text}
 use Rattle.cp_explore.proofs.text.push_output.Given as goal
 
 abbrev pub invariant-loop-value : goal.invariant-loop-value
-invariant-loop-value l = string_bytes l.text ≡ string_bytes l.initial.text ++ behind_each 32 (shown_text l.program) (take l.value-index l.rest)
+invariant-loop-value l = string_bytes l.text ≡ string_bytes l.initial.text ++ behind_each 32 (shown_text l.program.names) (take l.value-index l.rest)

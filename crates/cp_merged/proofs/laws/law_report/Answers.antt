@@ -8,4 +8,4 @@ use Rattle.cp_merged.proofs.Telling.{told_report}
 use Rattle.cp_merged.proofs.laws.law_report.Goals as goal
 
 pub returns : goal.returns
-returns c = λ r sys eq sound choices steps. ap (told_text r) (layers_tally sys same_outcome exact_outcomes eq sound choices steps) ∙ told_report r (table sys choices steps)
+returns c = λ names sys eq sound choices steps. ap (told_text names) (layers_tally sys same_outcome exact_outcomes eq sound choices steps) ∙ told_report names (table sys choices steps)

@@ -2,6 +2,7 @@ use Rattle.std.proofs.Common.{◌≡◌, length, arith, sym, ◌∙◌, ap, Ok, 
 use Rattle.cp_text.specs.Faults.{out_of_memory}
 use Rattle.cp_text.specs.Lexemes.{next}
 use Rattle.cp_text.specs.Scanning.{fault}
+use Rattle.cp_text.proofs.ReadingLaws.{of_text}
 use Rattle.cp_text.proofs.ScanSteps.{fault_told, scan_stops, scan_goes, scan_ends}
 use Rattle.cp_text.proofs.scanner.pieces.Goals as goal
 
@@ -23,6 +24,9 @@ loop-rest-preserved c = record {
   counted = omega arith;
   within = omega arith;
 }
+
+pub new-requires : goal.new-requires
+new-requires c = of_text c.args.source.now (omega arith) c.loop-rest.items.items (sym c.loop-rest.invariant.reads ∙ scan_ends c.loop-rest.line c.loop-rest.items.items c.loop-rest.rest.now (grind arith))
 
 pub returns : goal.returns
 returns c =

@@ -1,0 +1,175 @@
+-- What the rules say of the calls in each routine and initial statement of a tree that was read and breaks none: what is called is a routine of some number.
+use Rattle.std.proofs.Common.{◌≡◌, ℕ, zero, suc, Bool, true, false, ◌&&◌, if◌then◌else◌, ◌⊎◌, inl, inr, List, [], ◌∷◌, length, Option, Some, None, Ok, is_some, slice_get, refl, sym, ap, subst, ◌∙◌}
+use Rattle.std.specs.Prelude.{not}
+use Rattle.cp_tree.specs.declared.declaration.SystemKind.{SystemKind}
+use Rattle.cp_tree.specs.declared.declaration.SystemKind.TheVariants as system_kind
+use Rattle.cp_tree.specs.declared.constant.Identifier.{Identifier}
+use Rattle.cp_tree.specs.Syntax.{Program, Routine, Tree, Designator, designator as name_with, Selectors, no_selectors, more_selectors}
+use Rattle.cp_scope.specs.declared.types.ValueType.{ValueType}
+use Rattle.cp_scope.specs.declared.types.Meaning.TheVariants as meaning
+use Rattle.cp_scope.specs.declared.types.Predeclared.{Predeclared}
+use Rattle.cp_scope.specs.declared.types.Predeclared.TheVariants as predeclared
+use Rattle.cp_scope.specs.declared.count.Use.{Use}
+use Rattle.cp_scope.specs.Counts.{no_use}
+use Rattle.cp_scope.specs.Judged.{Judged}
+use Rattle.cp_scope.specs.Scopes.{Scopes, Shape, Shapes, heading_shape, body_shape, as_body, body_of, shape_in, look, heading_at, body_at}
+use Rattle.cp_scope.specs.Scopes as checker
+use Rattle.cp_check.specs.declared.operand.Context.{Context}
+use Rattle.cp_check.specs.declared.operand.Designated as check_designated
+use Rattle.cp_check.specs.declared.operand.Named.{Named}
+use Rattle.cp_check.specs.declared.operand.Named.TheVariants as name
+use Rattle.cp_check.specs.Calls as calls
+use Rattle.cp_check.specs.Names as names
+use Rattle.cp_check.specs.Expressions.{expression, designator, selectors}
+use Rattle.cp_check.specs.Statements.{statements, may_wait, may_wait_in}
+use Rattle.cp_lawful.specs.Accepted.{IsAccepted}
+use Rattle.cp_lawful.proofs.Loud.{Heard, statements_loud}
+use Rattle.cp_meaning.specs.Names.{Name, same_name}
+use Rattle.cp_meaning.specs.Types as named
+use Rattle.cp_meaning.specs.Types.{Ty}
+use Rattle.cp_meaning.specs.Scopes as scopes
+use Rattle.cp_meaning.specs.Scopes.{find, since, routine_meaning, standard_meaning, delay_procedure, continue_procedure}
+use Rattle.cp_meaning.specs.Declarations.{RoutineMeaning, routine_in}
+use Rattle.cp_meaning.specs.Expressions.{name_of, routine_called, routine_meant, routine_of_system, routine_of_type}
+use Rattle.cp_meaning.specs.Lifting.{last_field, is_call_meant}
+use Rattle.cp_meaning.specs.Systems.{SystemMeaning, declared, own_meaning, or_own, system_of}
+use Rattle.cp_resolved.specs.Compiled.{Designated, designator_form}
+use Rattle.cp_resolved.specs.Judging.{Place, IsOwn, IsAgreed, AreAgreed, places_of, tokens_of}
+use Rattle.cp_resolved.specs.Layouts.{Here}
+use Rattle.cp_resolved.specs.Openings.{Opening, openings_of, meaning_in, meaning_at}
+use Rattle.cp_tree.specs.Read.{IsRead}
+use Rattle.cp_resolved.specs.Resolved.{initial_meaning}
+use Rattle.cp_resolved.specs.Small.{Each}
+use Rattle.cp_resolved.specs.TreeLayouts.{layouts_of}
+use Rattle.cp_resolved.specs.Typed.{Tokens, is_entry_in, IsOrdinalResult, ResultIs, HeadingIs, IsMarked, RoutineIs, StandardIs, predeclared_of, ConstantIs, ScopesAgree, IsSmallDesignator, AreSmallSelectors}
+use Rattle.cp_resolved.specs.Used.{IsBare}
+use Rattle.cp_resolved.proofs.CallsJudged.{Below, OwnCall, CalledAs, GivesResult}
+use Rattle.cp_resolved.proofs.ExpressionsJudged.{FunctionSaid}
+use Rattle.cp_resolved.proofs.FormedStatements.{Right, right_of}
+use Rattle.cp_resolved.proofs.FormedTargets.{OwnRoutine, begun_routine}
+use Rattle.cp_resolved.proofs.FormsOfTrees.{all_heard}
+use Rattle.cp_resolved.proofs.ProgramNoted.{ProgramNoted, read_noted}
+use Rattle.cp_resolved.proofs.RoutinesNoted.{is_monitor, delays_in, opens_entry, entry_with, entry_in, entry_at, waits_of, waits_with, waits_at, IsNoted, AreNoted, Done, Numbered, InitialNumbered, SystemNumbered}
+use Rattle.cp_resolved.proofs.RoutinesSeen.{body_entry, body_scope_entry}
+use Rattle.cp_resolved.proofs.ScopesOfTrees.{scopes_law}
+use Rattle.cp_resolved.proofs.SmallBodies.{IsSmallOpening, read_opens}
+use Rattle.cp_resolved.proofs.StatementsJudged.{InvokedAs, IsInvoked, InvokeSaid, StatementsSaid, statements_said}
+use Rattle.cp_resolved.proofs.TypingExpressions.{designator_typed}
+use Rattle.cp_resolved.proofs.TypingNames.{IsComponentMeaning, IsPlainMeaning, OfSystem, Holds, written, IsCalled, NamedIs, HasDesignated}
+use Rattle.cp_resolved.proofs.TypingValues.{own_called}
+use Rattle.cp_resolved.proofs.UsedNames.{IsVariableMeaning, other_bare, EntryUsed, entry_used, known_is, holds_variable}
+use Rattle.cp_resolved.proofs.WithoutFaults.{Then, then_of}
+
+-- ---- the place of a number
+
+pub record At (t : Tree) (n : ℕ) : Type 0 where
+  pub place : Place
+  pub opening : Opening
+  pub means : meaning_at t.program n ≡ opening.meaning
+  pub entry : entry_at t.program n ≡ opens_entry opening
+  pub waits : waits_at t.program n ≡ waits_of place opening
+  pub agreed : IsAgreed (tokens_of t.program) t.program place opening
+  pub noted : IsNoted t.program place opening
+  pub small : IsSmallOpening opening
+
+record There (tokens : Tokens) (p : Program) (xs : List Place) (n : ℕ) (o : Opening) : Type 0 where
+  place : Place
+  is : slice_get xs n ≡ Some place
+  agreed : IsAgreed tokens p place o
+  noted : IsNoted p place o
+  small : IsSmallOpening o
+
+there_at : (tokens : Tokens) (p : Program) (xs : List Place) (os : List Opening) (n : ℕ) (o : Opening) → AreAgreed tokens p xs os → AreNoted p xs os → Each IsSmallOpening os → slice_get os n ≡ Some o → There tokens p xs n o
+there_at tokens p [] [] n o a h s e = absurd (let bad : None ≡ Some o = e in cc)
+there_at tokens p [] (q ∷ os) n o a h s e = absurd a
+there_at tokens p (x ∷ xs) [] n o a h s e = absurd a
+there_at tokens p (x ∷ xs) (q ∷ os) zero o a h s e =
+    let same : q ≡ o = cc in
+    record { place = x; is = refl; agreed = subst (IsAgreed tokens p x) same a.0; noted = subst (IsNoted p x) same h.0; small = subst IsSmallOpening same s.0 }
+there_at tokens p (x ∷ xs) (q ∷ os) (suc n) o a h s e =
+    let r : There tokens p xs n o = there_at tokens p xs os n o a.1 h.1 s.1 e in
+    record { place = r.place; is = r.is; agreed = r.agreed; noted = r.noted; small = r.small }
+
+waits_none : (q : Option Place) → waits_with q None ≡ false
+waits_none None = refl
+waits_none (Some x) = refl
+
+-- ---- routines of scopes
+
+found_entry : (y : Name) (s : scopes.Scope) (r : Routine) → find y s ≡ Some (routine_meaning r) → is_entry_in (since y s) ≡ r.is_entry
+found_entry y [] r e = absurd (let bad : None ≡ Some (routine_meaning r) = e in cc)
+found_entry y (d ∷ s) r e = go (same_name y d.0) (found_entry y s r) e
+  where
+    one : (m : scopes.Meaning) → m ≡ routine_meaning r → is_entry_in ((d.0, m) ∷ s) ≡ r.is_entry
+    one m f = ap (λ (z : scopes.Meaning). is_entry_in ((d.0, z) ∷ s)) f
+
+    go : (b : Bool) → (find y s ≡ Some (routine_meaning r) → is_entry_in (since y s) ≡ r.is_entry) → (if b then Some d.1 else find y s) ≡ Some (routine_meaning r) → is_entry_in (if b then d ∷ s else since y s) ≡ r.is_entry
+    go true rest f = one d.1 (let g : d.1 ≡ routine_meaning r = cc in g)
+    go false rest f = rest f
+
+pub routine_entry : (y : Name) (s : scopes.Scope) (r : Routine) → find y s ≡ Some (routine_meaning r) → is_entry_in (routine_in (since y s) r).scope ≡ r.is_entry
+routine_entry y s r e = body_scope_entry (since y s) r ∙ found_entry y s r e
+
+-- a system type by its number, the program's own after all others
+system_numbered : (p : Program) (tokens : Tokens) (ms : List SystemMeaning) (k : ℕ) (own : SystemMeaning) → Each (SystemNumbered p tokens) ms → SystemNumbered p tokens own → SystemNumbered p tokens (or_own own (slice_get ms k))
+system_numbered p tokens [] k own h g = g
+system_numbered p tokens (m ∷ ms) zero own h g = h.0
+system_numbered p tokens (m ∷ ms) (suc k) own h g = system_numbered p tokens ms k own h.1 g
+
+-- ---- what is called
+
+-- a routine of the component itself is no entry, and nobody waits in it where nobody waits in the caller; of another component an entry is called
+abbrev pub IsCalledAs : Program → (caller callee : ℕ) → Option scopes.Meaning → Type 0
+IsCalledAs p n k (Some (routine_meaning y)) = (entry_at p k ≡ false) × (waits_at p n ≡ false → waits_at p k ≡ false)
+IsCalledAs p n k m = entry_at p k ≡ true
+
+pub record CalleeKnown (p : Program) (n : ℕ) (m : Option scopes.Meaning) (r : RoutineMeaning) : Type 0 where
+  pub number : ℕ
+  pub same : r ≡ meaning_at p number
+  pub called : IsCalledAs p n number m
+
+module _ (t : Tree) (read : IsRead t.program) (accepted : IsAccepted t) where
+  abbrev p : Program
+  p = t.program
+
+  abbrev tokens : Tokens
+  tokens = tokens_of t.program
+
+  all : ProgramNoted tokens p
+  all = read_noted t read accepted
+
+  pub numbered : (k : ℕ) → SystemNumbered p tokens (system_of p k)
+  numbered k = system_numbered p tokens (declared p).systems k (own_meaning (declared p) p) all.systems all.own
+
+  at_opening : (n : ℕ) (o : Opening) → slice_get (openings_of p) n ≡ Some o → There tokens p (places_of p) n o
+  at_opening n o e = there_at tokens p (places_of p) (openings_of p) n o (scopes_law t read accepted).places all.noted (read_opens p read) e
+
+  pub at_number : (n : ℕ) → At t n
+  at_number n = go (slice_get (openings_of p) n) refl
+    where
+      go : (o : Option Opening) → slice_get (openings_of p) n ≡ o → At t n
+      go (Some o) e =
+          let r : There tokens p (places_of p) n o = at_opening n o e in
+          record {
+            place = r.place;
+            opening = o;
+            means = ap (meaning_in (initial_meaning (own_meaning (declared p) p))) e;
+            entry = ap entry_in e;
+            waits = ap (λ (q : Option Place). waits_with q (slice_get (openings_of p) n)) r.is ∙ ap (waits_with (Some r.place)) e;
+            agreed = r.agreed;
+            noted = r.noted;
+            small = r.small;
+          }
+      go None e =
+          let i : InitialNumbered p tokens (own_meaning (declared p) p) = all.own.initial in
+          let r : There tokens p (places_of p) i.number i.opening = at_opening i.number i.opening i.there in
+          record {
+            place = r.place;
+            opening = i.opening;
+            means = ap (meaning_in (initial_meaning (own_meaning (declared p) p))) e ∙ (sym i.means ∙ ap (meaning_in (initial_meaning (own_meaning (declared p) p))) i.there);
+            entry = ap entry_in e ∙ (sym i.entry ∙ ap entry_in i.there);
+            waits = ap (waits_with (slice_get (places_of p) n)) e ∙ (waits_none (slice_get (places_of p) n) ∙ (sym i.waits ∙ (ap (λ (q : Option Place). waits_with q (slice_get (openings_of p) i.number)) r.is ∙ ap (waits_with (Some r.place)) i.there)));
+            agreed = r.agreed;
+            noted = r.noted;
+            small = r.small;
+          }

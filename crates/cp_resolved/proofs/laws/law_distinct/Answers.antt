@@ -1,0 +1,5 @@
+use Rattle.cp_resolved.proofs.DistinctOfTrees.{accepted_distinct}
+use Rattle.cp_resolved.proofs.laws.law_distinct.Goals as goal
+
+pub returns : goal.returns
+returns c = accepted_distinct

@@ -1,0 +1,28 @@
+//! From a checked tree to its resolved program.
+
+ghost use Rattle.std.specs.Prelude.{◌≡◌, IfOk};
+ghost use Rattle.cp_tree.specs.TreeView.{tree_view};
+ghost use Rattle.cp_slots.specs.Laid.{plain, laid};
+ghost use Rattle.cp_slots.specs.Tables.{tables_of};
+ghost use Rattle.cp_resolved.specs.Resolving.{IsProgramOf};
+
+use cp_check::Checked;
+use cp_slots::lay_out::lay_out;
+use cp_slots::{Layout, Resolved};
+use std::alloc::{AllocError, Global};
+
+/// The resolved program of a checked tree: its tables stand for the tree.
+pub fn resolve(alloc: Global, checked: &Checked) -> Result<Resolved, AllocError>
+    ensures { IfOk result (λ r. IsProgramOf (tree_view checked.now.tree) r) }
+{
+    let layout = lay_out(alloc, checked.tree())?;
+    Ok(resolved(checked, layout))
+}
+
+// The tables of a checked tree are sound. Only the contract speaks of the tree.
+fn resolved(_checked: &Checked, layout: Layout) -> Resolved
+    requires { plain (tables_of layout) ≡ laid (tree_view _checked.now.tree) }
+    ensures { IsProgramOf (tree_view _checked.now.tree) result }
+{
+    Resolved::new(layout)
+}

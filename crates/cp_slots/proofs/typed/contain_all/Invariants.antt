@@ -1,8 +1,0 @@
-use Rattle.std.proofs.Common.{◌<◌, ◌≤◌, ◌+◌, ◌*◌, ℕ}
-use Rattle.cp_slots.specs.Systems.{IsOf}
-use Rattle.cp_slots.specs.Tables.{tables_of}
-use Rattle.cp_slots.proofs.typed.contain_all.Given as goal
-
-abbrev pub invariant-loop-component : goal.invariant-loop-component
-invariant-loop-component l =
-    (c : ℕ) → c < l.component → IsOf (tables_of l.layout) l.system c → (k : ℕ) → k ≤ l.reach → IsOf (tables_of l.layout) l.named (c + l.first + k * l.stride)
