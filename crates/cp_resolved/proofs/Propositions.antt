@@ -87,7 +87,7 @@ module _ (t : Tables) (rising : AreRising t) where
   names_once system (Element first low high stride index) named = hlevel props
   names_once system (Parameter slot) named =
       λ u v. subst (λ (b : ℕ). (w : HasCell t system slot named b) → u ≡ (b, w.0, w.1, w.2)) (one_parameter system slot u.0 v.0 u.1 v.1 u.2 v.2)
-          (λ w. (let once : IsProp (HasCell t system slot named u.0) = hlevel props in ap (λ (x : HasCell t system slot named u.0). (u.0, x.0, x.1, x.2)) (once (u.1, u.2, u.3) w))) (v.1, v.2, v.3)
+      (λ w. (let once : IsProp (HasCell t system slot named u.0) = hlevel props in ap (λ (x : HasCell t system slot named u.0). (u.0, x.0, x.1, x.2)) (once (u.1, u.2, u.3) w))) (v.1, v.2, v.3)
 
   hands_none_once : (xs : List Argument) → IsProp (HandsNone xs)
   hands_none_once [] = hlevel props

@@ -3,7 +3,7 @@ use Rattle.std.proofs.Common.{◌≡◌, ◌⊎◌, inl, inr, ◌∙◌, ◌+◌
 use Rattle.std.specs.List.{list_any, AllByRecursion as Each}
 use Rattle.std.proofs.lemmas.List.Elements.{All-from_recursion}
 use native.Mathlib.Numerals.{unary_clauses}
-use Rattle.cp_slots.specs.Tables.{Tables}
+use Rattle.cp_explore.specs.Text.{Spellings}
 use Rattle.cp_machine.specs.declared.shown.Shown.{Shown}
 use Rattle.cp_run.specs.declared.outcome.Outcome.{Outcome}
 use Rattle.cp_run.specs.declared.outcome.OutcomeKind.{OutcomeKind}
@@ -109,9 +109,9 @@ neither : (a b : Bool) → a ≡ false → b ≡ false → (a || b) ≡ false
 neither true b e h = absurd (cc)
 neither false b e h = h
 
-no_limit : (r : Tables) (ps : List OutcomePattern) → Skips (is_one_of r ps)
-no_limit r [] output = refl
-no_limit r (p ∷ ps) output = neither (fits r (record { kind = ChoiceLimit; output = output }) p) (is_one_of r ps (record { kind = ChoiceLimit; output = output })) (no_kind p.kind (has_output r p.output output)) (no_limit r ps output)
+no_limit : (names : Spellings) (ps : List OutcomePattern) → Skips (is_one_of names ps)
+no_limit names [] output = refl
+no_limit names (p ∷ ps) output = neither (fits names (record { kind = ChoiceLimit; output = output }) p) (is_one_of names ps (record { kind = ChoiceLimit; output = output })) (no_kind p.kind (has_output names p.output output)) (no_limit names ps output)
 
 -- ---- what holds
 
@@ -121,9 +121,9 @@ by_claim claim q sys choices steps more skips e h =
     let Q : Claim → Type 0 = λ c. is_true_by c q (table sys (choices + more) steps) ≡ true in
     subst Q (sym e) (some_lasts q sys choices steps more skips (subst P e h))
 
-lasts_by : {S : Type 0} (r : Tables) (sys : System S) (choices steps more : ℕ) (e : Expectation) → is_true_of r e (table sys choices steps) ≡ true → (is_whole (table sys choices steps) ≡ true) ⊎ (e.claim ≡ Sometimes) → is_true_of r e (table sys (choices + more) steps) ≡ true
-lasts_by r sys choices steps more e h (inl whole) = ap (is_true_of r e) (complete sys choices steps more (All-from_recursion (λ l. IsOver l.outcome.kind) (table sys choices steps) (all_over (table sys choices steps) whole))) ∙ h
-lasts_by r sys choices steps more e h (inr some) = by_claim e.claim (is_one_of r e.outcomes.items) sys choices steps more (no_limit r e.outcomes.items) some h
+lasts_by : {S : Type 0} (names : Spellings) (sys : System S) (choices steps more : ℕ) (e : Expectation) → is_true_of names e (table sys choices steps) ≡ true → (is_whole (table sys choices steps) ≡ true) ⊎ (e.claim ≡ Sometimes) → is_true_of names e (table sys (choices + more) steps) ≡ true
+lasts_by names sys choices steps more e h (inl whole) = ap (is_true_of names e) (complete sys choices steps more (All-from_recursion (λ l. IsOver l.outcome.kind) (table sys choices steps) (all_over (table sys choices steps) whole))) ∙ h
+lasts_by names sys choices steps more e h (inr some) = by_claim e.claim (is_one_of names e.outcomes.items) sys choices steps more (no_limit names e.outcomes.items) some h
 
-pub lasts : {S : Type 0} (r : Tables) (sys : System S) (choices steps more : ℕ) (e : Expectation) → HoldsOf r (table sys choices steps) e → is_true_of r e (table sys (choices + more) steps) ≡ true
-lasts r sys choices steps more e holds = lasts_by r sys choices steps more e holds.0 holds.1
+pub lasts : {S : Type 0} (names : Spellings) (sys : System S) (choices steps more : ℕ) (e : Expectation) → HoldsOf names (table sys choices steps) e → is_true_of names e (table sys (choices + more) steps) ≡ true
+lasts names sys choices steps more e holds = lasts_by names sys choices steps more e holds.0 holds.1

@@ -2,7 +2,6 @@
 use Rattle.std.specs.Prelude.{List, ◌++◌, Bool, true, false, not, ◌&&◌, nat_eq, Option, None, Some, if◌then◌else◌, string_bytes, codes}
 use Rattle.std.specs.List.{list_any, list_all, starts_with}
 use lib.Pointwise.{pointwise}
-use Rattle.cp_slots.specs.Tables.{Tables}
 use Rattle.cp_store.specs.declared.error.ErrorName.{ErrorName}
 use Rattle.cp_store.specs.declared.error.ErrorName.TheVariants.{Overflow, ZeroDivisor, Range, NoCase, QueueInUse, NotInit, InitTwice}
 use Rattle.cp_machine.specs.declared.shown.Shown.{Shown}
@@ -10,7 +9,7 @@ use Rattle.cp_run.specs.declared.outcome.Outcome.{Outcome}
 use Rattle.cp_run.specs.declared.outcome.OutcomeKind.{OutcomeKind}
 use Rattle.cp_run.specs.declared.outcome.OutcomeKind.TheVariants.{Finished, AllWaiting, RunError, ChoiceLimit, StepLimit, OutputLimit}
 use Rattle.cp_run.specs.Table.{Line}
-use Rattle.cp_explore.specs.Text.{output_text}
+use Rattle.cp_explore.specs.Text.{Spellings, output_text}
 use Rattle.cp_verdict.specs.declared.expectation.Claim.{Claim}
 use Rattle.cp_verdict.specs.declared.expectation.Claim.TheVariants.{Never, Sometimes, Only}
 use Rattle.cp_verdict.specs.declared.expectation.KindPattern.{KindPattern}
@@ -44,19 +43,19 @@ is_limit OutputLimit = true
 is_limit kind = false
 
 -- The printed values, with a space after each, are the text; or they begin with it, where any may follow.
-abbrev pub reads_as : Tables → OutputPattern → List Shown → Bool
-reads_as r p values =
-    if p.open then starts_with nat_eq (output_text r values ++ codes " ") (string_bytes p.text) else pointwise nat_eq (output_text r values ++ codes " ") (string_bytes p.text)
+abbrev pub reads_as : Spellings → OutputPattern → List Shown → Bool
+reads_as names p values =
+    if p.open then starts_with nat_eq (output_text names values ++ codes " ") (string_bytes p.text) else pointwise nat_eq (output_text names values ++ codes " ") (string_bytes p.text)
 
-abbrev pub has_output : Tables → Option OutputPattern → List Shown → Bool
-has_output r None values = true
-has_output r (Some p) values = reads_as r p values
+abbrev pub has_output : Spellings → Option OutputPattern → List Shown → Bool
+has_output names None values = true
+has_output names (Some p) values = reads_as names p values
 
-abbrev pub fits : Tables → Outcome → OutcomePattern → Bool
-fits r o p = is_of_kind p.kind o.kind && has_output r p.output o.output
+abbrev pub fits : Spellings → Outcome → OutcomePattern → Bool
+fits names o p = is_of_kind p.kind o.kind && has_output names p.output o.output
 
-abbrev pub is_one_of : Tables → List OutcomePattern → Outcome → Bool
-is_one_of r ps o = list_any (fits r o) ps
+abbrev pub is_one_of : Spellings → List OutcomePattern → Outcome → Bool
+is_one_of names ps o = list_any (fits names o) ps
 
 -- whether an expectation of the named outcomes is true of some rows
 abbrev pub is_true_by : Claim → (Outcome → Bool) → List Line → Bool
@@ -64,8 +63,8 @@ is_true_by Never named lines = not (list_any (λ l. named l.outcome) lines)
 is_true_by Sometimes named lines = list_any (λ l. named l.outcome) lines
 is_true_by Only named lines = list_all (λ l. named l.outcome) lines
 
-abbrev pub is_true_of : Tables → Expectation → List Line → Bool
-is_true_of r e lines = is_true_by e.claim (is_one_of r e.outcomes.items) lines
+abbrev pub is_true_of : Spellings → Expectation → List Line → Bool
+is_true_of names e lines = is_true_by e.claim (is_one_of names e.outcomes.items) lines
 
 -- whether one row with this outcome settles it: against `never` and `only`, for `some`
 abbrev pub settles_by : Claim → (Outcome → Bool) → Outcome → Bool
@@ -73,5 +72,5 @@ settles_by Never named o = named o
 settles_by Sometimes named o = named o
 settles_by Only named o = not (named o) && not (is_limit o.kind)
 
-abbrev pub settles : Tables → Expectation → Outcome → Bool
-settles r e o = settles_by e.claim (is_one_of r e.outcomes.items) o
+abbrev pub settles : Spellings → Expectation → Outcome → Bool
+settles names e o = settles_by e.claim (is_one_of names e.outcomes.items) o

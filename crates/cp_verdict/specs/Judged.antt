@@ -1,7 +1,7 @@
 -- What a table says of an expectation.
 use Rattle.std.specs.Prelude.{◌≡◌, ◌≢◌, List, Bool, true, false, not, Option, None, Some, find}
 use Rattle.std.specs.List.{list_all}
-use Rattle.cp_slots.specs.Tables.{Tables}
+use Rattle.cp_explore.specs.Text.{Spellings}
 use Rattle.cp_run.specs.declared.outcome.Outcome.{Outcome}
 use Rattle.cp_run.specs.Table.{Line}
 use Rattle.cp_verdict.specs.Expectations.{is_limit, is_one_of, is_true_by, settles_by}
@@ -30,8 +30,8 @@ IsJudgedBy claim named lines (Against s) = (claim ≢ Sometimes) × (is_true_by 
 IsJudgedBy claim named lines Missing = (claim ≡ Sometimes) × (is_true_by claim named lines ≡ false) × (is_whole lines ≡ true)
 IsJudgedBy claim named lines Unsettled = (first_settling claim named lines ≡ None) × (is_whole lines ≡ false)
 
-abbrev pub IsJudged : Tables → Expectation → List Line → Judgement → Type 0
-IsJudged r e lines j = IsJudgedBy e.claim (is_one_of r e.outcomes.items) lines j
+abbrev pub IsJudged : Spellings → Expectation → List Line → Judgement → Type 0
+IsJudged names e lines j = IsJudgedBy e.claim (is_one_of names e.outcomes.items) lines j
 
 -- the judgement from the first outcome that settles an expectation, and whether the table is whole
 abbrev pub judgement_of : Claim → Option Seen → Bool → Judgement

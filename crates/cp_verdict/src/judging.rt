@@ -34,7 +34,7 @@ fn first_settling<'a>(
     expectation: &Expectation,
     seen: &[Seen<'a>],
 ) -> Result<Option<Seen<'a>>, AllocError>
-    ensures { IfOk result (λ found. option_map spec.line_of found ≡ spec.first_settling expectation.now.claim (is_one_of program.now expectation.now.outcomes.items) (map spec.line_of seen.now)) }
+    ensures { IfOk result (λ found. option_map spec.line_of found ≡ spec.first_settling expectation.now.claim (is_one_of program.now.names expectation.now.outcomes.items) (map spec.line_of seen.now)) }
 {
     for one in seen {
         if settles(alloc, program, expectation, one.outcome)? {
@@ -75,7 +75,7 @@ pub fn judge<'a>(
     expectation: &Expectation,
     seen: &[Seen<'a>],
 ) -> Result<Judgement<'a>, AllocError>
-    ensures { IfOk result (λ j. (lines : List Line) → map spec.line_of seen.now ≡ outcomes_of lines → spec.IsJudged program.now expectation.now lines j) }
+    ensures { IfOk result (λ j. (lines : List Line) → map spec.line_of seen.now ≡ outcomes_of lines → spec.IsJudged program.now.names expectation.now lines j) }
 {
     let whole = is_whole(seen);
     let found = first_settling(alloc, program, expectation, seen)?;

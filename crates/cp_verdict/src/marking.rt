@@ -54,7 +54,7 @@ pub fn mark<'a>(
     expectations: &'a [Expectation],
     seen: &[Seen<'a>],
 ) -> Result<Verdict<'a>, AllocError>
-    ensures { IfOk result (λ v. (lines : List Line) → map line_of seen.now ≡ outcomes_of lines → IsMarked program.now expectations.entry.now lines v) }
+    ensures { IfOk result (λ v. (lines : List Line) → map line_of seen.now ≡ outcomes_of lines → IsMarked program.now.names expectations.entry.now lines v) }
 {
     let Some((first, rest)) = expectations.split_first() else {
         return Ok(Verdict::Holds);

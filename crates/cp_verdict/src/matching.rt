@@ -58,7 +58,7 @@ fn reads_as(
     pattern: &OutputPattern,
     values: &[Shown],
 ) -> Result<bool, AllocError>
-    ensures { IfOk result (λ b. b ≡ spec.reads_as program.now pattern.now values.now) }
+    ensures { IfOk result (λ b. b ≡ spec.reads_as program.now.names pattern.now values.now) }
 {
     let mut printed = String::new(alloc);
     push_output(&mut printed, program, values)?;
@@ -78,7 +78,7 @@ fn fits(
     pattern: &OutcomePattern,
     outcome: &Outcome,
 ) -> Result<bool, AllocError>
-    ensures { IfOk result (λ b. b ≡ spec.fits program.now outcome.now pattern.now) }
+    ensures { IfOk result (λ b. b ≡ spec.fits program.now.names outcome.now pattern.now) }
 {
     if !is_of_kind(pattern.kind, outcome.kind) {
         return Ok(false);
@@ -96,7 +96,7 @@ fn is_one_of(
     patterns: &[OutcomePattern],
     outcome: &Outcome,
 ) -> Result<bool, AllocError>
-    ensures { IfOk result (λ b. b ≡ spec.is_one_of program.now patterns.now outcome.now) }
+    ensures { IfOk result (λ b. b ≡ spec.is_one_of program.now.names patterns.now outcome.now) }
 {
     let Some((first, rest)) = patterns.split_first() else {
         return Ok(false);
@@ -114,7 +114,7 @@ pub fn settles(
     expectation: &Expectation,
     outcome: &Outcome,
 ) -> Result<bool, AllocError>
-    ensures { IfOk result (λ b. b ≡ spec.settles program.now expectation.now outcome.now) }
+    ensures { IfOk result (λ b. b ≡ spec.settles program.now.names expectation.now outcome.now) }
 {
     let is_named = is_one_of(alloc, program, expectation.outcomes.as_slice(), outcome)?;
     match expectation.claim {

@@ -135,7 +135,7 @@ fn marked_by<'a>(
     expectations: &'a [Expectation],
     tallies: &'a [Tally],
 ) -> Result<Marked, AllocError>
-    ensures { IfOk result (λ m. (lines : List Line) → map tally_of tallies.entry.now ≡ tally same_outcome lines → spec.IsMarkOf program.now expectations.entry.now lines m.mark) }
+    ensures { IfOk result (λ m. (lines : List Line) → map tally_of tallies.entry.now ≡ tally same_outcome lines → spec.IsMarkOf program.now.names expectations.entry.now lines m.mark) }
 {
     let seen = seen_of(alloc, tallies)?;
     let verdict = mark(alloc, program, expectations, &seen)?;
@@ -156,7 +156,7 @@ pub fn mark_program(
     most: Most,
     expectations: &[Expectation],
 ) -> Result<Marked, MarkFault>
-    ensures { IfOk result (λ m. spec.IsMarkOf job.entry.program.now expectations.entry.now (table (slots job.entry.program.now job.entry.limits.gates) job.entry.limits.choices job.entry.limits.steps) m.mark) }
+    ensures { IfOk result (λ m. spec.IsMarkOf job.entry.program.now.names expectations.entry.now (table (slots job.entry.program.now job.entry.limits.gates) job.entry.limits.choices job.entry.limits.steps) m.mark) }
 {
     let tallies = explored(alloc, job, most)?;
     let marked = marked_by(alloc, job.program, expectations, tallies.as_slice())?;
