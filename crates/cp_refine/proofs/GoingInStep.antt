@@ -28,7 +28,7 @@ use Rattle.cp_refine.specs.Law.{ground_of, Simulates}
 use Rattle.cp_refine.specs.Named as own
 use Rattle.cp_refine.specs.Named.{gates_of, is_some, in_line_of}
 use Rattle.cp_refine.specs.Prepared.{Prepared}
-use Rattle.cp_refine.specs.WholeLaw.{StillOpen}
+use Rattle.cp_refine.specs.AllKnown.{AllKnown}
 use Rattle.cp_refine.proofs.Admitting.{admits}
 use Rattle.cp_refine.proofs.Beginning.{opening_simulates, process_count, first_goes, same_count, looks_alike}
 use Rattle.cp_refine.proofs.Control.{StepIs}
@@ -45,7 +45,7 @@ some_pending : (o : Option ℕ) → is_some o ≡ true → (n : ℕ) × (o ≡ S
 some_pending (Some n) e = (n, refl)
 some_pending None e = absurd (cc)
 
-module _ (t : Tree) (r : Tables) (l : Layouts) (g : Gates) (ok : IsAccepted t) (stands : Stands (ground_of t r) t l) (sound : IsSound r) (asked : StillOpen t r l g) where
+module _ (t : Tree) (r : Tables) (l : Layouts) (g : Gates) (ok : IsAccepted t) (stands : Stands (ground_of t r) t l) (sound : IsSound r) (asked : AllKnown t r l g) where
   abbrev p : Program
   p = t.program
 
@@ -61,16 +61,16 @@ module _ (t : Tree) (r : Tables) (l : Layouts) (g : Gates) (ok : IsAccepted t) (
   -- ---- a step
 
   module _ (s : State) (m : Machine) (q : ℕ) (sim : Simulates t r l g s m) (may : CanGo on_names s q) where
-    there : q < length s.processes
+    pub there : q < length s.processes
     there = let a = same_count t r l g prepared s m sim in let b = may.below in omega (arith, a, b)
 
     many : q < length m.threads
     many = let a = sim.represents.process_count in let b = there in omega (arith, a, b)
 
-    goes_now : Going (ground_of t r) p l s m q
+    pub goes_now : Going (ground_of t r) p l s m q
     goes_now = going (ground_of t r) p l s m q sim.represents there may.ready
 
-    still : s.pending ≡ None
+    pub still : s.pending ≡ None
     still = none_pending s.pending may.free
 
     ready_slot : is_ready m q ≡ true

@@ -61,7 +61,7 @@ own_from cs zero n e = refl
 own_from cs (suc depth) n e = rw e refl
 
 -- access rights are kept in each reached state
-reached_lawful : (p : Program) → IsWellFormed p → (g : Gates) (s : State) → IsReached p g s → IsLawful s
+pub reached_lawful : (p : Program) → IsWellFormed p → (g : Gates) (s : State) → IsReached p g s → IsLawful s
 reached_lawful p ok g _ at_first = (ownership p ok g).opening_lawful
 reached_lawful p ok g _ (by_step s q before none less was) = (ownership p ok g).steps_lawful s q before (reached_lawful p ok g s before) none less was
 reached_lawful p ok g _ (by_admission s n q before is member) = (ownership p ok g).admissions_lawful s n q before (reached_lawful p ok g s before) is member

@@ -61,6 +61,7 @@ pub mod LettingIn
 pub mod Lists
 pub mod LocalBlocks
 pub mod Loops
+pub mod Meaning
 pub mod Members
 pub mod MonitorNumbers
 pub mod Moving
@@ -94,6 +95,7 @@ pub mod Returning
 pub mod Rewriting
 pub mod RoutinesOfTree
 pub mod Running
+pub mod RunningMachine
 pub mod SameRuns
 pub mod Seeing
 pub mod SetAssignments

@@ -21,7 +21,7 @@ use Rattle.cp_resolved.proofs.ScopesOfTrees.{scopes_law}
 use Rattle.cp_resolved.proofs.SystemParameters.{accepted_values, accepted_free}
 use Rattle.cp_refine.specs.Parameters.{HaveTypes}
 use Rattle.cp_refine.specs.Prepared.{ProgramKnown}
-use Rattle.cp_refine.specs.WholeLaw.{StillOpen, StatesAre}
+use Rattle.cp_refine.specs.AllKnown.{AllKnown, StatesKnown}
 use Rattle.cp_refine.proofs.NamesOfTree.{components_below, names_known}
 use Rattle.cp_refine.proofs.RoutinesOfTree.{fit_so, result_free, result_simple, parameters_have_values, names_of_parameters, references_closed}
 use Rattle.cp_refine.proofs.SystemsOfTree.{standing_so, apart_so, closed_so, different_so, silent_so}
@@ -30,7 +30,7 @@ have_types : (qs : List Parameter) (vs : List Variable) → Each (λ (q : Parame
 have_types [] vs plain standing = tt
 have_types (q ∷ qs) vs plain standing = (plain.0, standing.0, have_types qs vs plain.1 standing.1)
 
-module _ (t : Tree) (r : Tables) (g : Gates) (read : IsRead t.program) (ok : IsAccepted t) (same : plain r ≡ laid t) (states : StatesAre t r g) where
+module _ (t : Tree) (r : Tables) (g : Gates) (read : IsRead t.program) (ok : IsAccepted t) (same : plain r ≡ laid t) (states : StatesKnown t r (layouts_of t) g) where
   framed : IsFramed t
   framed = accepted_framed t read ok
 
@@ -60,5 +60,5 @@ module _ (t : Tree) (r : Tables) (g : Gates) (read : IsRead t.program) (ok : IsA
         };
       }
 
-  pub still_open : StillOpen t r (layouts_of t) g
-  still_open = record { program = program_known; states = states }
+  pub all_known : AllKnown t r (layouts_of t) g
+  all_known = record { program = program_known; states = states }

@@ -1,4 +1,5 @@
 pub mod Agrees
+pub mod AllKnown
 pub mod Bodies
 pub mod ComponentNames
 pub mod Given
@@ -6,6 +7,7 @@ pub mod InStep
 pub mod ItemsKnown
 pub mod Kinds
 pub mod Law
+pub mod MeaningLaw
 pub mod Named
 pub mod Parameters
 pub mod PlainValues
@@ -13,5 +15,5 @@ pub mod Prepared
 pub mod Remaining
 pub mod Represents
 pub mod RoutinesKnown
+pub mod Running
 pub mod StatesKnown
-pub mod WholeLaw

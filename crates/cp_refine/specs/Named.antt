@@ -35,6 +35,10 @@ abbrev pub gates_of : Gates → slot_gates.Gates
 gates_of first_gates = First
 gates_of any_gates = Any
 
+abbrev pub named_gates : slot_gates.Gates → Gates
+named_gates First = first_gates
+named_gates Any = any_gates
+
 -- a displayed value; a constant of an enumeration by its number among all constants, by how many are declared before its enumeration
 abbrev pub shown_by : (ℕ → ℕ) → Base → ℤ → slot_shown.Shown
 shown_by firsts integers z = shown.Integer z

@@ -1,6 +1,6 @@
-//! The slot machine stands for the meaning of the program on its own names: definitions, and what of it is proved.
+//! The slot machine stands for the meaning of the program on its own names: definitions and laws.
 #![tactic(auto)]
 
 pub mod laws;
 
-pub use laws::{law_in_step, law_same_runs, law_tree, law_whole};
+pub use laws::{law_in_step, law_means, law_running, law_same_runs};

@@ -8,7 +8,7 @@ use Rattle.cp_run.specs.declared.limits.Limits.{Limits}
 use Rattle.cp_explore.specs.Report.{report_text}
 use Rattle.cp_merged.specs.TooMany.{FitsBefore, IsDueFault}
 use Rattle.cp_merged.specs.declared.fault.MergeFault.TheVariants as fault
-use Rattle.cp_tool.specs.Answered.{IsMerged}
+use Rattle.cp_tool.specs.Answered.{IsMerged, machine, machine_rows}
 use Rattle.cp_tool.specs.declared.options.Options.{Options}
 use Rattle.cp_tool.specs.declared.answering.Verdict.{Verdict}
 use Rattle.cp_tool.specs.declared.answering.Verdict.TheVariants.{Reported, TooManyStates, TooManyOutcomes}
@@ -20,7 +20,11 @@ IsMergedBy choices steps gates states program verdict text =
     ⊎ (((verdict ≡ TooManyStates) × IsDueFault sys choices steps states fault.TooManyStates × (text ≡ codes "too many states\n"))
     ⊎ ((verdict ≡ TooManyOutcomes) × IsDueFault sys choices steps states fault.TooManyOutcomes × (text ≡ codes "too many outcomes\n")))
 
-pub merged_by : (o : Options) (l : Limits) (program : Tables) (verdict : Verdict) (text : List ℕ) → (l.choices ≡ o.choices) × (l.steps ≡ o.steps) × (l.gates ≡ o.gates) → IsMergedBy l.choices l.steps l.gates o.states program verdict text → IsMerged o program verdict text
+-- by the limits of the options
+abbrev pub IsMergedOf : Options → Tables → Verdict → List ℕ → Type 0
+IsMergedOf o program verdict text = IsMerged o (machine o program) program.names (machine_rows o program) verdict text
+
+pub merged_by : (o : Options) (l : Limits) (program : Tables) (verdict : Verdict) (text : List ℕ) → (l.choices ≡ o.choices) × (l.steps ≡ o.steps) × (l.gates ≡ o.gates) → IsMergedBy l.choices l.steps l.gates o.states program verdict text → IsMergedOf o program verdict text
 merged_by o l program verdict text same h =
     let a = subst (λ (n : ℕ). IsMergedBy n l.steps l.gates o.states program verdict text) same.0 h in
     let b = subst (λ (n : ℕ). IsMergedBy o.choices n l.gates o.states program verdict text) same.1 a in

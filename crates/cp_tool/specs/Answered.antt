@@ -8,6 +8,7 @@ use Rattle.cp_text.specs.Reading.{Reading}
 use Rattle.cp_text.specs.declared.fault.ScanFault.{ScanFault}
 use Rattle.cp_text.specs.declared.token.Token.{Token}
 use Rattle.cp_tree.specs.Answer.{Answers}
+use Rattle.cp_tree.specs.Syntax as syntax
 use Rattle.cp_tree.specs.TreeView.{tree_view}
 use Rattle.cp_tree.specs.declared.fault.ParseFault.{ParseFault}
 use Rattle.cp_tree.specs.declared.tree.Tree as tree
@@ -16,10 +17,15 @@ use Rattle.cp_scope.specs.Judged.{RefusesList}
 use Rattle.cp_check.specs.Faults.{faults_of}
 use Rattle.cp_slots.specs.Tables.{Tables}
 use Rattle.cp_resolved.specs.Resolving.{IsProgramOf}
+use Rattle.cp_resolved.specs.Enumerations.{constant_names}
+use Rattle.cp_machine.specs.System.{Machine}
 use Rattle.cp_run.specs.Slots.{slots}
+use Rattle.cp_run.specs.System.{System}
 use Rattle.cp_run.specs.Run.{run}
-use Rattle.cp_run.specs.Table.{table}
+use Rattle.cp_run.specs.Table.{Line, table}
 use Rattle.cp_run.specs.Trace.{trace}
+use Rattle.cp_refine.specs.Named.{named, named_gates}
+use Rattle.cp_explore.specs.Text.{Spellings}
 use Rattle.cp_explore.specs.Report.{report_text}
 use Rattle.cp_explore.specs.TraceText.{trace_text}
 use Rattle.cp_merged.specs.TooMany.{FitsBefore, IsDueFault}
@@ -40,35 +46,43 @@ abbrev pub IsRefusedIn : ℕ → Option (List ℕ) → Verdict → List ℕ → 
 IsRefusedIn line None verdict text = ⊥
 IsRefusedIn line (Some reason) verdict text = (verdict ≡ Refused) × (text ≡ refusal line reason)
 
--- the report of the whole table, or that it has more rows than are shown
-abbrev pub IsReported : Options → Tables → Verdict → List ℕ → Type 0
-IsReported o program verdict text =
-    let rows = table (slots program o.gates) o.choices o.steps in
-    ((verdict ≡ Reported) × (length rows ≤ 50000) × (text ≡ report_text program.names rows o.rows))
-    ⊎ ((verdict ≡ TooManyRows) × (50000 < length rows) × (text ≡ codes "too many rows\n"))
+-- the report of these rows, or that there are more than are shown
+abbrev pub IsReported : Options → Spellings → List Line → Verdict → List ℕ → Type 0
+IsReported o names rows verdict text =
+    ((verdict ≡ Reported) × (length rows ≤ 50000) × (text ≡ report_text names rows o.rows)) ⊎ ((verdict ≡ TooManyRows) × (50000 < length rows) × (text ≡ codes "too many rows\n"))
 
--- the report of the whole table of any size, or what is too many first
-abbrev pub IsMerged : Options → Tables → Verdict → List ℕ → Type 0
-IsMerged o program verdict text =
-    let sys = slots program o.gates in
-    ((verdict ≡ Reported) × FitsBefore sys o.choices o.steps o.states (o.choices + 1) × (text ≡ report_text program.names (table sys o.choices o.steps) false))
-    ⊎ (((verdict ≡ TooManyStates) × IsDueFault sys o.choices o.steps o.states fault.TooManyStates × (text ≡ codes "too many states\n"))
-    ⊎ ((verdict ≡ TooManyOutcomes) × IsDueFault sys o.choices o.steps o.states fault.TooManyOutcomes × (text ≡ codes "too many outcomes\n")))
+-- the report of any number of rows, or what of the machine is too many first
+abbrev pub IsMerged : Options → System Machine → Spellings → List Line → Verdict → List ℕ → Type 0
+IsMerged o machine names rows verdict text =
+    ((verdict ≡ Reported) × FitsBefore machine o.choices o.steps o.states (o.choices + 1) × (text ≡ report_text names rows false))
+    ⊎ (((verdict ≡ TooManyStates) × IsDueFault machine o.choices o.steps o.states fault.TooManyStates × (text ≡ codes "too many states\n"))
+    ⊎ ((verdict ≡ TooManyOutcomes) × IsDueFault machine o.choices o.steps o.states fault.TooManyOutcomes × (text ≡ codes "too many outcomes\n")))
 
 -- the trace of this schedule
-abbrev pub IsTraced : Options → Tables → List ℕ → Verdict → List ℕ → Type 0
-IsTraced o program word verdict text =
-    let sys = slots program o.gates in
-    (verdict ≡ Reported) × (text ≡ trace_text program.names (trace sys o.choices o.steps word) (run sys o.choices o.steps word) word)
+abbrev pub IsTraced : {S : Type 0} → Options → System S → Spellings → List ℕ → Verdict → List ℕ → Type 0
+IsTraced o sys names word verdict text = (verdict ≡ Reported) × (text ≡ trace_text names (trace sys o.choices o.steps word) (run sys o.choices o.steps word) word)
 
--- one schedule is traced, or all are reported
-abbrev pub IsExplored : Options → Tables → Verdict → List ℕ → Type 0
-IsExplored o program verdict text = MatchOption o.schedule (MatchBool o.merge (IsMerged o program verdict text) (IsReported o program verdict text)) (λ word. IsTraced o program word.items verdict text)
+-- One schedule of a system is traced, or all are reported. Where equal states are merged, it is those of the machine that are counted.
+abbrev pub IsExplored : {S : Type 0} → Options → System Machine → System S → Spellings → Verdict → List ℕ → Type 0
+IsExplored o machine sys names verdict text =
+    let rows = table sys o.choices o.steps in
+    MatchOption o.schedule (MatchBool o.merge (IsMerged o machine names rows verdict text) (IsReported o names rows verdict text)) (λ word. IsTraced o sys names word.items verdict text)
 
--- A tree is refused for the first rule that it breaks, or the table of the program that stands for it is reported.
+-- the slot machine of tables, by the rule of admission that the options name, and its rows
+abbrev pub machine : Options → Tables → System Machine
+machine o r = slots r o.gates
+
+abbrev pub machine_rows : Options → Tables → List Line
+machine_rows o r = table (machine o r) o.choices o.steps
+
+-- what is explored of a program: its meaning on its own names, for which a slot machine of its tables stands
+abbrev pub IsExploredOf : Options → syntax.Tree → Verdict → List ℕ → Type 0
+IsExploredOf o t verdict text = (program : Tables) × IsProgramOf t program × IsExplored o (machine o program) (named t (named_gates o.gates)) (constant_names t.program) verdict text
+
+-- A tree is refused for the first rule that it breaks, or the outcomes of its schedules are reported.
 abbrev pub AnswersTree : Options → List Token → tree.Tree → Verdict → List ℕ → Type 0
 AnswersTree o tokens t verdict text =
-    ((faults_of (tree_view t) ≡ []) × (program : Tables) × IsProgramOf (tree_view t) program × IsExplored o program verdict text)
+    ((faults_of (tree_view t) ≡ []) × IsExploredOf o (tree_view t) verdict text)
     ⊎ ((fault : CheckFault) × RefusesList fault (faults_of (tree_view t)) × IsRefusedAt tokens (check_reason fault) verdict text)
 
 abbrev pub AnswersParsed : Options → List Token → Result tree.Tree ParseFault → Verdict → List ℕ → Type 0

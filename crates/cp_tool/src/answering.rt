@@ -209,7 +209,7 @@ fn explored<X: Threads + Sync>(
     options: &Options,
     program: &Resolved,
 ) -> Result<Answer, AllocError>
-    ensures { IfOk result (λ a. spec.IsExplored options.now program.now a.verdict a.text) }
+    ensures { IfOk result (λ a. spec.IsExplored options.now (spec.machine options.now program.now) (spec.machine options.now program.now) program.now.names a.verdict a.text) }
 {
     match &options.schedule {
         Some(word) => traced::<Brand>(alloc, options, program, word.as_slice(), Blank::new(1)),
@@ -234,7 +234,7 @@ fn traced<L: Ledger>(
     requires parts { blank.parts ≡ L.parts }
     requires one { L.parts ≡ 1 }
     requires word { length word.now ≤ 100 }
-    ensures { IfOk result (λ a. spec.IsTraced options.now program.now word.now a.verdict a.text) }
+    ensures { IfOk result (λ a. spec.IsTraced options.now (spec.machine options.now program.now) program.now.names word.now a.verdict a.text) }
 {
     let Some(limits) = Limits::new(options.choices, options.steps, options.gates) else {
         unreachable!()
@@ -250,7 +250,7 @@ fn traced<L: Ledger>(
 
 /// The report of a program's table by its outcomes alone, or what there are too many of.
 fn merged(alloc: Global, options: &Options, program: &Resolved) -> Result<Answer, AllocError>
-    ensures { IfOk result (λ a. spec.IsMerged options.now program.now a.verdict a.text) }
+    ensures { IfOk result (λ a. spec.IsMerged options.now (spec.machine options.now program.now) program.now.names (spec.machine_rows options.now program.now) a.verdict a.text) }
 {
     let Some(limits) = Limits::new(options.choices, options.steps, options.gates) else {
         unreachable!()
@@ -280,7 +280,7 @@ fn counted<X: Threads + Sync>(
     program: &Resolved,
 ) -> Result<Answer, AllocError>
     requires { options.now.merge ≡ false }
-    ensures { IfOk result (λ a. spec.IsReported options.now program.now a.verdict a.text) }
+    ensures { IfOk result (λ a. spec.IsReported options.now program.now.names (spec.machine_rows options.now program.now) a.verdict a.text) }
 {
     let Some(limits) = Limits::new(options.choices, options.steps, options.gates) else {
         unreachable!()

@@ -3,10 +3,13 @@ use Rattle.std.proofs.lemmas.Result.{IfOk-weaker}
 use Rattle.cp_tree.specs.TreeView.{tree_view}
 use Rattle.cp_tree.specs.declared.tree.Tree as tree
 use Rattle.cp_resolved.specs.Resolving.{IsProgramOf}
+use Rattle.cp_tool.proofs.Meaning.{explored}
 use Rattle.cp_tool.proofs.answering.checked.Goals as goal
 
 pub returns-in_ok-resolve-in-Ok : goal.returns-in_ok-resolve-in-Ok
 returns-in_ok-resolve-in-Ok g c =
     let program = c.in_ok-resolve-in-Ok.field-0 in
-    let is : IsProgramOf (tree_view c.args.tree) program = subst (λ (t : tree.Tree). IsProgramOf (tree_view t) program) c.in-Ok.ensures.same c.in_ok-resolve-in-Ok.ensures in
-    IfOk-weaker c.explored-in-Ok.result _ _ (λ a h. inl (c.in-Ok.ensures.accepted, program, is, h)) c.explored-in-Ok.ensures
+    let t = c.args.tree in
+    let ok = c.in-Ok.ensures.accepted in
+    let is : IsProgramOf (tree_view t) program = subst (λ (x : tree.Tree). IsProgramOf (tree_view x) program) c.in-Ok.ensures.same c.in_ok-resolve-in-Ok.ensures in
+    IfOk-weaker c.explored-in-Ok.result _ _ (λ a h. inl (ok, explored (tree_view t) program c.args.options.now a.verdict a.text t.read ok is h)) c.explored-in-Ok.ensures

@@ -1,0 +1,39 @@
+-- The tables of a tree that was read and is accepted go in step with its meaning.
+use Rattle.std.proofs.Common.{◌≡◌}
+use Rattle.std.proofs.Math.Logic.{∥∥₁_elim}
+use Rattle.cp_tree.specs.Read.{IsRead}
+use Rattle.cp_tree.specs.Syntax.{Tree}
+use Rattle.cp_slots.specs.Laid.{plain, laid}
+use Rattle.cp_slots.specs.Tables.{Tables}
+use Rattle.cp_lawful.specs.Accepted.{IsAccepted}
+use Rattle.cp_meaning.specs.State.{Gates}
+use Rattle.cp_run.specs.Slots.{slots}
+use Rattle.cp_resolved.specs.Resolving.{AreTablesOf}
+use Rattle.cp_resolved.specs.TreeLayouts.{layouts_of}
+use Rattle.cp_resolved.proofs.Resolving.{resolving_law}
+use Rattle.cp_refine.specs.AllKnown.{AllKnown}
+use Rattle.cp_refine.specs.InStep.{GoInStep}
+use Rattle.cp_refine.specs.Law.{Simulates, MeansTheSame}
+use Rattle.cp_refine.specs.Named.{named, gates_of}
+use Rattle.cp_refine.proofs.GoingInStep.{in_step}
+use Rattle.cp_refine.proofs.ProgramOfTree.{all_known}
+use Rattle.cp_refine.proofs.Propositions.{means_once}
+use Rattle.cp_refine.proofs.SameRuns.{same_runs}
+use Rattle.cp_refine.proofs.StatesOfTree.{states_known}
+
+module _ (t : Tree) (r : Tables) (g : Gates) (read : IsRead t.program) (ok : IsAccepted t) (same : plain r ≡ laid t) where
+  pub it : AreTablesOf t r
+  it = resolving_law t r read ok same
+
+  pub known : AllKnown t r (layouts_of t) g
+  known = all_known t r g read ok same (states_known t r g read ok same)
+
+  pub goes_in_step : GoInStep (named t g) (slots r (gates_of g)) (Simulates t r (layouts_of t) g)
+  goes_in_step = in_step t r (layouts_of t) g ok it.stands it.sound known
+
+  pub meaning_law : MeansTheSame t r g
+  meaning_law = same_runs t r (layouts_of t) g goes_in_step
+
+-- where it is only known that it was read
+pub means : (t : Tree) (r : Tables) (g : Gates) → ∥ IsRead t.program ∥₁ → IsAccepted t → plain r ≡ laid t → MeansTheSame t r g
+means t r g read ok same = ∥∥₁_elim read (means_once t r g) (λ it. meaning_law t r g it ok same)

@@ -1,0 +1,5 @@
+use Rattle.cp_refine.proofs.RunningMachine.{running_law}
+use Rattle.cp_refine.proofs.laws.law_running.Goals as goal
+
+pub returns : goal.returns
+returns c = running_law
