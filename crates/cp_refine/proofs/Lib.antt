@@ -55,6 +55,7 @@ pub mod InitialOpened
 pub mod InitialStarts
 pub mod Kept
 pub mod KnownItems
+pub mod KnownRoutines
 pub mod LeastValues
 pub mod LettingIn
 pub mod Lists
@@ -103,6 +104,7 @@ pub mod Standards
 pub mod StartArguments
 pub mod StartFitting
 pub mod StartNames
+pub mod StatesOfTree
 pub mod StepOfCall
 pub mod StepOfEnd
 pub mod StepOfItem
