@@ -33,6 +33,7 @@ pub mod Cells
 pub mod Chained
 pub mod ComponentImages
 pub mod ComponentOrder
+pub mod ComponentsCalled
 pub mod ComponentsLaw
 pub mod ComponentsOfTree
 pub mod ComponentsStand
@@ -53,6 +54,7 @@ pub mod EarlierTypes
 pub mod EncodedCells
 pub mod Ended
 pub mod Entries
+pub mod EntriesAllowed
 pub mod EntriesKnown
 pub mod EnumerationsRead
 pub mod Expressions
