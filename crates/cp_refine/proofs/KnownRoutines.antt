@@ -175,11 +175,11 @@ module _ (t : Tree) (read : IsRead t.program) (ok : IsAccepted t) where
           called = subst (λ (m : RoutineMeaning). CalledAs (traits t) n c.number (find (name_of d) m.scope)) (sym same) (called_as t n c.number (find (name_of d) own.scope) c.called);
         }
 
-    function_there : (at : ℕ) (d : Designator) (es : Expressions) → ItemStands (scope_of l n) (body_of l n) (function_call at d es) → IsFunctionSaid d
+    pub function_there : (at : ℕ) (d : Designator) (es : Expressions) → ItemStands (scope_of l n) (body_of l n) (function_call at d es) → IsFunctionSaid d
     function_there at d es w =
         function_said own.body at d es (calls_known.said t read ok n) (subst (λ (m : RoutineMeaning). ItemStands m.scope m.body (function_call at d es)) same w)
 
-    invoke_there : (at : ℕ) (d : Designator) (es : Expressions) → IsWithin (body_of l n) (invoke at d es) → IsInvokeSaid d
+    pub invoke_there : (at : ℕ) (d : Designator) (es : Expressions) → IsWithin (body_of l n) (invoke at d es) → IsInvokeSaid d
     invoke_there at d es w = invoke_said own.body at d es (calls_known.said t read ok n) (subst (λ (m : RoutineMeaning). IsWithin m.body (invoke at d es)) same w)
 
     called_there : (d : Designator) (r : RoutineMeaning) → routine_called p (scope_of l n) d ≡ Some r → routine_called p own.scope d ≡ Some r

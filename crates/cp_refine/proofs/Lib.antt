@@ -54,6 +54,7 @@ pub mod InitialEnding
 pub mod InitialOpened
 pub mod InitialStarts
 pub mod Kept
+pub mod KnownEntries
 pub mod KnownItems
 pub mod KnownRoutines
 pub mod LeastValues

@@ -16,7 +16,7 @@ use Rattle.cp_check.specs.declared.types.Spot.TheVariants as spot
 use Rattle.cp_check.specs.Names as names
 use Rattle.cp_check.specs.Types.{Step}
 use Rattle.cp_check.specs.Declarations.{reserve_name, part_steps}
-use Rattle.cp_check.specs.Headings.{after_faults, Headed, heading, announced, announced_of}
+use Rattle.cp_check.specs.Headings.{after_faults, Headed, may_enter, heading, announced, announced_of}
 use Rattle.cp_check.specs.Routines as routines
 use Rattle.cp_check.specs.Routines.{routine_context, routine_step, routine_steps, routine_use, body_step, closed_of}
 use Rattle.cp_check.specs.Statements.{statements}
@@ -45,6 +45,7 @@ use Rattle.cp_resolved.proofs.AgreeingParts.{StepResult, step_then, step_same, n
 use Rattle.cp_resolved.proofs.ParametersRead.{Reads, name_read, parts_read, longer_routine}
 use Rattle.cp_resolved.proofs.RoutinesSeen.{body_entry}
 use Rattle.cp_resolved.proofs.AgreeingRoutines.{none_before, none_after, heading_none, heading_agrees, Announced, announced_agrees, announcing}
+use Rattle.cp_resolved.proofs.EntriesAllowed.{entry_allowed}
 
 pub record Uses (j : Judged Use) : Type 0 where
   pub value : Use
@@ -201,6 +202,8 @@ module _ (tokens : Tokens) (p : Program) where
     pub step : StepResult tokens p false None s (routine_step owner s r).scopes (with_routine m r) below ks
     pub read : ReadsAs s (routine_step owner s r).scopes
     pub written : BodyWritten s (routine_place owner s r) (routine_step owner s r).scopes r
+    -- `entry` stands in classes and monitors alone
+    pub entry : r.is_entry ≡ true → may_enter owner ≡ true
 
   -- what a routine leaves, by what its heading leaves
   routine_result : (owner : Option SystemKind) (s a : Scopes) (m below : scopes.Scope) (js ks : List ℕ) (n : ℕ) (r : Routine) (h : Headed) (v : Option ValueType) → h.result ≡ Ok v → Each IsFreeParameter (routine_in (with_routine m r) r).parameters → IsOrdinalResult (routine_in (with_routine m r) r).result → BodyResult owner a m below ks r (Ok v) h.scopes → a.outer ≡ s.outer → More s.shapes a.shapes → Appends s.inner.names a.inner.names → ReadsAs s a →
@@ -229,7 +232,7 @@ module _ (tokens : Tokens) (p : Program) where
       let body = body_agrees owner a hd.scopes m below (routine_tokens r ks) ks r head.value fresh named.agree ann small few
       (subst (λ (j : Judged (Option ValueType)). faults (routines.opened owner r (announced_of r j hd.scopes)).uses ≡ []) head.is (none_right (faults hd.result) (faults (routines.opened owner r (announced_of r hd.result hd.scopes)).uses) e)) in
       let all = routine_result owner s a m below (routine_tokens r ks) ks n r hd head.value head.is head.parameters head.ordinal body named.outer (λ k d i. ap (shape_in k) named.shapes ∙ i) (appends_none s.inner.names a.inner.names named.reserved.names) (ap checker.parameters_in named.reserved.names) in
-      record { place = all.0; step = all.1; read = all.2; written = all.3 }
+      record { place = all.0; step = all.1; read = all.2; written = all.3; entry = entry_allowed owner r (reserve_name s r.name) head.value head.is }
 
   -- ---- the routines of a system type
 

@@ -41,6 +41,7 @@ module _ (s : Scopes) (w : Context) (f : Bool) (scope : Scope) where
     pub kind : IsValue s w f value.named
     pub called : CalledAs s w f value.named
     pub result : GivesResult s w f value.named
+    pub call : is_call scope d ≡ true
 
   abbrev pub AllSaid : List Item → Type 0
   AllSaid [] = Unit {0}
@@ -58,8 +59,8 @@ module _ (s : Scopes) (w : Context) (f : Bool) (scope : Scope) where
   said_both (init_end n ∷ xs) ys h g = absurd h
   said_both (end ∷ xs) ys h g = absurd h
 
-  own_said : (b : Bool) (at : ℕ) (d : Designator) (es : Expressions) → FunctionSaid d → AllSaid (own_call b at d es)
-  own_said true at d es h = (h, tt)
+  own_said : (b : Bool) (at : ℕ) (d : Designator) (es : Expressions) → (b ≡ true → FunctionSaid d) → AllSaid (own_call b at d es)
+  own_said true at d es h = (h refl, tt)
   own_said false at d es h = tt
 
   -- ---- designators
@@ -257,7 +258,7 @@ module _ (s : Scopes) (w : Context) (f : Bool) (scope : Scope) where
         let y = selectors_said ss m.0 (names.begun s i) t.value (subst (λ (c : check_designated.Designated). Below f c.uses) (sym (known_uses i.at t.value k.value t.value.named t.rest)) x.first) t.is in
         let z = arguments_said [] 0 es m.1 k.operands (none_functions 0 k.operands) x.others k.arguments in
         said_both (selectors_calls scope ss ++ expressions_calls scope es) (own_call (is_call scope d) at d es) (said_both (selectors_calls scope ss) (expressions_calls scope es) y.rest z)
-        (own_said (is_call scope d) at d es (record { small = m.0; value = k.value; is = k.is; kind = x.kind; called = x.called; result = x.result }))
+        (own_said (is_call scope d) at d es (λ call. record { small = m.0; value = k.value; is = k.is; kind = x.kind; called = x.called; result = x.result; call = call }))
     factor_said v (group at e) m p only h is =
         let t : Then (expression s w false e) (expressions.to_group at) p = then_of (expression s w false e) (expressions.to_group at) p is in
         expression_said false e m t.value (never t.value) (subst (λ (o : Operand). Below f o.uses) (sym (ok_same (expressions.grouped at t.value) p t.rest)) h) t.is

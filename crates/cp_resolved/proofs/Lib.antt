@@ -1,4 +1,3 @@
-mod SmallestSound
 pub mod Agreeing
 pub mod AgreeingBodies
 pub mod AgreeingCells
@@ -33,6 +32,7 @@ pub mod Cells
 pub mod Chained
 pub mod ComponentImages
 pub mod ComponentOrder
+pub mod ComponentsCalled
 pub mod ComponentsLaw
 pub mod ComponentsOfTree
 pub mod ComponentsStand
@@ -53,6 +53,7 @@ pub mod EarlierTypes
 pub mod EncodedCells
 pub mod Ended
 pub mod Entries
+pub mod EntriesAllowed
 pub mod EntriesKnown
 pub mod EnumerationsRead
 pub mod Expressions
@@ -187,6 +188,7 @@ pub mod SmallStatements
 pub mod SmallTexts
 pub mod SmallTokens
 pub mod SmallestProgram
+mod SmallestSound
 pub mod SoundComponents
 pub mod SoundItems
 pub mod SoundParameters

@@ -177,7 +177,7 @@ module _ (tokens : Tokens) (p : Program) where
       record {
         noted = noted_both p tokens xs (ys ++ place ∷ []) os (qs ++ own ∷ []) parts.places w.noted (noted_both p tokens ys (place ∷ []) qs (own ∷ []) agreed.places z.noted ((λ y r f. inr (z.done y r f)), tt));
         systems = w.numbered tt;
-        own = done_numbered p tokens None b.scopes.shapes (own_meaning (declared p) p) z.done (initial_numbered p tokens place (program_system p) (own_meaning (declared p) p) refl (listed_right p tokens ys (place ∷ []) qs (own ∷ []) agreed.places rest).0);
+        own = done_numbered p tokens None b.scopes.shapes (own_meaning (declared p) p) (λ process. refl) z.done (initial_numbered p tokens place (program_system p) (own_meaning (declared p) p) refl (listed_right p tokens ys (place ∷ []) qs (own ∷ []) agreed.places rest).0);
       }
 
 pub read_noted : (t : Tree) → IsRead t.program → IsAccepted t → ProgramNoted (tokens_of t.program) t.program

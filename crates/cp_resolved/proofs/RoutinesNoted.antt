@@ -8,6 +8,7 @@ use Rattle.cp_scope.specs.Counts.{no_use}
 use Rattle.cp_scope.specs.Judged.{Judged}
 use Rattle.cp_scope.specs.Scopes.{Scopes, Shapes, body_shape, shape_in}
 use Rattle.cp_check.specs.declared.operand.Context.{Context}
+use Rattle.cp_check.specs.Headings.{may_enter}
 use Rattle.cp_check.specs.Routines.{routine_step, routine_steps}
 use Rattle.cp_check.specs.Statements.{statements}
 use Rattle.cp_check.specs.Systems.{inside}
@@ -152,9 +153,10 @@ module _ (p : Program) where
     pub body : Use
     pub there : shape_in r.body.at ss ≡ Some (body_shape body)
     pub waits : waits_at p number ≡ (is_monitor owner && body.delays)
+    pub allowed : r.is_entry ≡ true → may_enter owner ≡ true
 
   done_more : (owner : Option SystemKind) (ss ts : Shapes) (k : scopes.Scope) (r : Routine) → More ss ts → Done owner ss k r → Done owner ts k r
-  done_more owner ss ts k r more h = record { number = h.number; means = h.means; entry = h.entry; body = h.body; there = more r.body.at (body_shape h.body) h.there; waits = h.waits }
+  done_more owner ss ts k r more h = record { number = h.number; means = h.means; entry = h.entry; body = h.body; there = more r.body.at (body_shape h.body) h.there; waits = h.waits; allowed = h.allowed }
 
   abbrev pub AllDone : Option SystemKind → Shapes → scopes.Scope → Type 0
   AllDone owner ss m = (y : Name) (r : Routine) → find y m ≡ Some (routine_meaning r) → Done owner ss (since y m) r
@@ -186,8 +188,8 @@ module _ (p : Program) where
       (λ same k. inl (ap (λ (z : Routine). Some z.name.at) (sym same)))
       (λ before k. inr (subst (λ (z : scopes.Scope). Done owner (routine_place owner s r).scopes.shapes z q) (sym (f.1 ∙ k)) (done_more owner s.shapes (routine_place owner s r).scopes.shapes (since y m) q b.before (done y q before))))
 
-  routine_done : (owner : Option SystemKind) (s : Scopes) (m : scopes.Scope) (n : ℕ) (r : Routine) → BodyWritten s (routine_place owner s r) (routine_step owner s r).scopes r → More s.shapes (routine_step owner s r).scopes.shapes → IsListed (routine_place owner s r) (opening_of n m r) → AllDone owner s.shapes m → AllDone owner (routine_step owner s r).scopes.shapes (with_routine m r)
-  routine_done owner s m n r b more listed done y q e =
+  routine_done : (owner : Option SystemKind) (s : Scopes) (m : scopes.Scope) (n : ℕ) (r : Routine) → BodyWritten s (routine_place owner s r) (routine_step owner s r).scopes r → More s.shapes (routine_step owner s r).scopes.shapes → (r.is_entry ≡ true → may_enter owner ≡ true) → IsListed (routine_place owner s r) (opening_of n m r) → AllDone owner s.shapes m → AllDone owner (routine_step owner s r).scopes.shapes (with_routine m r)
+  routine_done owner s m n r b more allowed listed done y q e =
       let ts : Shapes = (routine_step owner s r).scopes.shapes in
       let own : Done owner ts (with_routine m r) r = record {
         number = listed.number;
@@ -196,6 +198,7 @@ module _ (p : Program) where
         body = b.body;
         there = b.there;
         waits = listed.waits ∙ (ap (λ (j : Judged Use). is_monitor owner && delays_in j) b.judged ∙ ap (λ (c : Bool). is_monitor owner && c) (sym b.same));
+        allowed = allowed;
       } in
       routine_or m r y q e (Done owner ts (since y (with_routine m r)) q)
       (λ same k. subst (λ (z : scopes.Scope). Done owner ts z q) (sym k) (subst (Done owner ts (with_routine m r)) (sym same) own))
@@ -217,7 +220,7 @@ module _ (p : Program) where
         let first : RoutineResult tokens p owner s m below js n r = routine_agrees tokens p owner s m below js n r (none_left (routine_step owner s r).faults (routine_steps owner t rs).faults e) small.0 (each_left (IsFew tokens) (in_routine r) (each_in in_routine rs) few) empty h in
         let rest : RoutinesNoted owner t k n rs =
         routines_noted owner t k below ks n rs (none_right (routine_step owner s r).faults (routine_steps owner t rs).faults e) small.1 (each_right (IsFew tokens) (in_routine r) (each_in in_routine rs) few) first.step.settled first.step.agree listed.1
-        (routine_done owner s m n r first.written first.step.more listed.0 done) in
+        (routine_done owner s m n r first.written first.step.more first.entry listed.0 done) in
         record { noted = (routine_noted owner s m n r first.written done, rest.noted); done = rest.done }
 
     -- ---- a system type
@@ -239,9 +242,16 @@ module _ (p : Program) where
     pub record SystemNumbered (m : SystemMeaning) : Type 0 where
       pub routines : (y : Name) (r : Routine) → find y m.scope ≡ Some (routine_meaning r) → Numbered (since y m.scope) r
       pub initial : InitialNumbered m
+      -- no routine of a process is an entry
+      pub closed : m.kind ≡ system_kind.Process → (y : Name) (r : Routine) → find y m.scope ≡ Some (routine_meaning r) → r.is_entry ≡ true → ⊥
 
-    pub done_numbered : (owner : Option SystemKind) (ss : Shapes) (m : SystemMeaning) → AllDone owner ss m.scope → InitialNumbered m → SystemNumbered m
-    done_numbered owner ss m done i = record { routines = λ y r e. (let d = done y r e in record { number = d.number; means = d.means; entry = d.entry }); initial = i }
+    pub done_numbered : (owner : Option SystemKind) (ss : Shapes) (m : SystemMeaning) → (m.kind ≡ system_kind.Process → may_enter owner ≡ false) → AllDone owner ss m.scope → InitialNumbered m → SystemNumbered m
+    done_numbered owner ss m kind done i =
+        record {
+          routines = λ y r e. (let d = done y r e in record { number = d.number; means = d.means; entry = d.entry });
+          initial = i;
+          closed = λ process y r e entry. (let bad : true ≡ false = sym ((done y r e).allowed entry) ∙ kind process in cc);
+        }
 
     and_false : (b : Bool) → (b && false) ≡ false
     and_false true = refl
@@ -276,5 +286,5 @@ module _ (p : Program) where
         let done : AllDone (Some y.kind) (inside s y).scopes.shapes (system_in m y).scope = subst (λ (t : Scopes). AllDone (Some y.kind) t.shapes (system_in m y).scope) (sym (same_scopes s y)) all.done in
         let own = listed_right tokens xs (initial_place s y ∷ []) os (last ∷ []) agreed.places listed in (
           noted_both tokens xs (initial_place s y ∷ []) os (last ∷ []) agreed.places all.noted ((λ z q e. inr (done z q e)), tt),
-          done_numbered (Some y.kind) (inside s y).scopes.shapes (system_in m y) done (initial_numbered (initial_place s y) n (system_in m y) refl own.0),
+          done_numbered (Some y.kind) (inside s y).scopes.shapes (system_in m y) (ap (λ (k : SystemKind). may_enter (Some k))) done (initial_numbered (initial_place s y) n (system_in m y) refl own.0),
         )
