@@ -16,7 +16,7 @@ use Rattle.cp_refine.specs.InStep.{GoInStep}
 use Rattle.cp_refine.specs.Law.{Simulates, MeansTheSame}
 use Rattle.cp_refine.specs.Named.{named, gates_of}
 use Rattle.cp_refine.proofs.GoingInStep.{in_step}
-use Rattle.cp_refine.proofs.ProgramOfTree.{all_known}
+use Rattle.cp_refine.proofs.ProgramOfTree.{program_known}
 use Rattle.cp_refine.proofs.Propositions.{means_once}
 use Rattle.cp_refine.proofs.SameRuns.{same_runs}
 use Rattle.cp_refine.proofs.StatesOfTree.{states_known}
@@ -26,7 +26,7 @@ module _ (t : Tree) (r : Tables) (g : Gates) (read : IsRead t.program) (ok : IsA
   it = resolving_law t r read ok same
 
   pub known : AllKnown t r (layouts_of t) g
-  known = all_known t r g read ok same (states_known t r g read ok same)
+  known = record { program = program_known t r read ok same; states = states_known t r read ok same g }
 
   pub goes_in_step : GoInStep (named t g) (slots r (gates_of g)) (Simulates t r (layouts_of t) g)
   goes_in_step = in_step t r (layouts_of t) g ok it.stands it.sound known

@@ -6,7 +6,6 @@ use Rattle.cp_slots.specs.Laid.{plain, laid}
 use Rattle.cp_slots.specs.Tables.{Tables}
 use Rattle.cp_lawful.specs.Accepted.{IsAccepted}
 use Rattle.cp_meaning.specs.Declarations.{Variable, Parameter}
-use Rattle.cp_meaning.specs.State.{Gates}
 use Rattle.cp_meaning.specs.Steps.{parameter_variables}
 use Rattle.cp_meaning.specs.Systems.{system_of}
 use Rattle.cp_resolved.specs.Framed.{IsFramed}
@@ -21,7 +20,6 @@ use Rattle.cp_resolved.proofs.ScopesOfTrees.{scopes_law}
 use Rattle.cp_resolved.proofs.SystemParameters.{accepted_values, accepted_free}
 use Rattle.cp_refine.specs.Parameters.{HaveTypes}
 use Rattle.cp_refine.specs.Prepared.{ProgramKnown}
-use Rattle.cp_refine.specs.AllKnown.{AllKnown, StatesKnown}
 use Rattle.cp_refine.proofs.NamesOfTree.{components_below, names_known}
 use Rattle.cp_refine.proofs.RoutinesOfTree.{fit_so, result_free, result_simple, parameters_have_values, names_of_parameters, references_closed}
 use Rattle.cp_refine.proofs.SystemsOfTree.{standing_so, apart_so, closed_so, different_so, silent_so}
@@ -30,11 +28,11 @@ have_types : (qs : List Parameter) (vs : List Variable) → Each (λ (q : Parame
 have_types [] vs plain standing = tt
 have_types (q ∷ qs) vs plain standing = (plain.0, standing.0, have_types qs vs plain.1 standing.1)
 
-module _ (t : Tree) (r : Tables) (g : Gates) (read : IsRead t.program) (ok : IsAccepted t) (same : plain r ≡ laid t) (states : StatesKnown t r (layouts_of t) g) where
+module _ (t : Tree) (r : Tables) (read : IsRead t.program) (ok : IsAccepted t) (same : plain r ≡ laid t) where
   framed : IsFramed t
   framed = accepted_framed t read ok
 
-  program_known : ProgramKnown t r (layouts_of t)
+  pub program_known : ProgramKnown t r (layouts_of t)
   program_known =
       record {
         below = components_below t r (resolving_law t r read ok same).stands;
@@ -59,6 +57,3 @@ module _ (t : Tree) (r : Tables) (g : Gates) (read : IsRead t.program) (ok : IsA
           free = accepted_free t read ok;
         };
       }
-
-  pub all_known : AllKnown t r (layouts_of t) g
-  all_known = record { program = program_known; states = states }
