@@ -20,7 +20,7 @@ use Rattle.cp_resolved.proofs.Resolving.{resolving_law}
 use Rattle.cp_resolved.proofs.ScopesOfTrees.{scopes_law}
 use Rattle.cp_resolved.proofs.SystemParameters.{accepted_values, accepted_free}
 use Rattle.cp_refine.specs.Parameters.{HaveTypes}
-use Rattle.cp_refine.specs.Prepared.{ProgramKnown}
+use Rattle.cp_refine.specs.Prepared.{ProgramKnown, Prepared}
 use Rattle.cp_refine.specs.WholeLaw.{StillOpen, StatesAre}
 use Rattle.cp_refine.proofs.NamesOfTree.{components_below, names_known}
 use Rattle.cp_refine.proofs.RoutinesOfTree.{fit_so, result_free, result_simple, parameters_have_values, names_of_parameters, references_closed}
@@ -30,11 +30,11 @@ have_types : (qs : List Parameter) (vs : List Variable) → Each (λ (q : Parame
 have_types [] vs plain standing = tt
 have_types (q ∷ qs) vs plain standing = (plain.0, standing.0, have_types qs vs plain.1 standing.1)
 
-module _ (t : Tree) (r : Tables) (g : Gates) (read : IsRead t.program) (ok : IsAccepted t) (same : plain r ≡ laid t) (states : StatesAre t r g) where
+module _ (t : Tree) (r : Tables) (read : IsRead t.program) (ok : IsAccepted t) (same : plain r ≡ laid t) where
   framed : IsFramed t
   framed = accepted_framed t read ok
 
-  program_known : ProgramKnown t r (layouts_of t)
+  pub program_known : ProgramKnown t r (layouts_of t)
   program_known =
       record {
         below = components_below t r (resolving_law t r read ok same).stands;
@@ -60,5 +60,8 @@ module _ (t : Tree) (r : Tables) (g : Gates) (read : IsRead t.program) (ok : IsA
         };
       }
 
-  pub still_open : StillOpen t r (layouts_of t) g
-  still_open = record { program = program_known; states = states }
+  pub prepared_of_tree : Prepared t r (layouts_of t)
+  prepared_of_tree = record { stands = (resolving_law t r read ok same).stands; sound = (resolving_law t r read ok same).sound; program = program_known }
+
+pub still_open : (t : Tree) (r : Tables) (g : Gates) → IsRead t.program → IsAccepted t → plain r ≡ laid t → StatesAre t r g → StillOpen t r (layouts_of t) g
+still_open t r g read ok same states = record { program = program_known t r read ok same; states = states }
