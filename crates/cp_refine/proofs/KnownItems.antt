@@ -86,7 +86,7 @@ module _ (P : Statement → Type 0) where
   pub within_one : (body : Statements) (t : Statement) → EachOf P body → IsWithin body t → P t
   within_one body t h w = the_statement P t (within_in body t h w)
 
-start_in : (P : Start → Type 0) (t : Start) (ts : List Start) → Each P ts → IsAmongStarts t ts → P t
+pub start_in : (P : Start → Type 0) (t : Start) (ts : List Start) → Each P ts → IsAmongStarts t ts → P t
 start_in P t [] h k = absurd k
 start_in P t (u ∷ us) h (inl e) = subst P (sym e) h.0
 start_in P t (u ∷ us) h (inr k) = start_in P t us h.1 k

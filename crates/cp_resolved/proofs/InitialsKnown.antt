@@ -1,11 +1,11 @@
 -- What is known of the starts of an accepted tree: where they stand no local variable is visible, and their arguments use names as the rules want it.
-use Rattle.std.proofs.Common.{◌≡◌, ℕ, [], ◌++◌, ap, sym, subst, refl, ◌∙◌, Some}
+use Rattle.std.proofs.Common.{◌≡◌, ℕ, [], ◌++◌, ap, subst, ◌∙◌, Some}
 use Rattle.cp_tree.specs.Syntax.{Statement, empty, assign, invoke, block, if_then, if_else, case_of, while_do, repeat_until, for_do, cycle, init, Statements, no_statements, more_statements, Arms, no_arms, more_arms, arm, Program, Tree}
 use Rattle.cp_lawful.specs.Accepted.{IsAccepted}
 use Rattle.cp_meaning.specs.Names.{Name}
 use Rattle.cp_meaning.specs.Types.{Ty}
 use Rattle.cp_meaning.specs.Scopes.{local_variable, find}
-use Rattle.cp_meaning.specs.Declarations.{Variable, RoutineMeaning}
+use Rattle.cp_meaning.specs.Declarations.{RoutineMeaning}
 use Rattle.cp_meaning.specs.Steps.{parameter_variables}
 use Rattle.cp_meaning.specs.Systems.{system_of}
 use Rattle.cp_resolved.specs.FormedStatements.{StatementFormed, AllFormed, ArmsFormed}
