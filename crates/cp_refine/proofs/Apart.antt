@@ -61,7 +61,7 @@ calls_apart g p l m q at es routines fits stack =
 
 -- ---- the variables of components
 
-below_or_above : (n k : ℕ) → n ≢ k → (n < k) ⊎ (k < n)
+pub below_or_above : (n k : ℕ) → n ≢ k → (n < k) ⊎ (k < n)
 below_or_above zero zero d = absurd (d refl)
 below_or_above zero (suc k) d = inl (omega arith)
 below_or_above (suc n) zero d = inr (omega arith)

@@ -86,7 +86,7 @@ module _ (P : Statement → Type 0) where
   pub within_one : (body : Statements) (t : Statement) → EachOf P body → IsWithin body t → P t
   within_one body t h w = the_statement P t (within_in body t h w)
 
-start_in : (P : Start → Type 0) (t : Start) (ts : List Start) → Each P ts → IsAmongStarts t ts → P t
+pub start_in : (P : Start → Type 0) (t : Start) (ts : List Start) → Each P ts → IsAmongStarts t ts → P t
 start_in P t [] h k = absurd k
 start_in P t (u ∷ us) h (inl e) = subst P (sym e) h.0
 start_in P t (u ∷ us) h (inr k) = start_in P t us h.1 k
@@ -257,7 +257,7 @@ module _ (t : Tree) (r : Tables) (read : IsRead t.program) (ok : IsAccepted t) (
     pub item_known : (i : Item) → ItemStands (scope_of l n) (body_of l n) i → ItemKnown g this i
     item_known (statement_item u) w = statement_known u w (within_one Known (body_of l n) u each w)
     item_known (function_call at d es) w = function_known at d es w
-    item_known (start_item x) w = λ part c form. number_below t read ok c (start_in (statements.StartKnown (tokens_of p) this) x w.1 (within_one Known (body_of l n) (init w.0 w.1) each w.2) w.3 part c form)
+    item_known (start_item x) w = λ part c form. number_below t read ok c (start_in (statements.StartKnown (tokens_of p) this) x w.1 (within_one Known (body_of l n) (init w.0 w.1) each w.2).1 w.3 part c form)
     item_known (until ss e) w = tt
     item_known (successor at i z d b u) w = tt
     item_known (return o) w = tt

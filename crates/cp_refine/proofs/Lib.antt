@@ -33,6 +33,7 @@ pub mod CopyAssignments
 pub mod Counting
 pub mod Delayed
 pub mod Delaying
+pub mod DesignatedPlaces
 pub mod DesignatedTypes
 pub mod Displaying
 pub mod Ending
@@ -105,8 +106,11 @@ pub mod SetRanges
 pub mod Sets
 pub mod Standards
 pub mod StartArguments
+pub mod StartComponents
 pub mod StartFitting
 pub mod StartNames
+pub mod StartsKnown
+pub mod StartsOutside
 pub mod StatesOfTree
 pub mod StepOfCall
 pub mod StepOfEnd

@@ -19,7 +19,7 @@ use Rattle.cp_resolved.proofs.Resolving.{resolving_law}
 use Rattle.cp_resolved.proofs.ScopesOfTrees.{scopes_law}
 use Rattle.cp_resolved.proofs.SystemParameters.{accepted_values, accepted_free}
 use Rattle.cp_refine.specs.Parameters.{HaveTypes}
-use Rattle.cp_refine.specs.Prepared.{ProgramKnown}
+use Rattle.cp_refine.specs.Prepared.{ProgramKnown, Prepared}
 use Rattle.cp_refine.proofs.NamesOfTree.{components_below, names_known}
 use Rattle.cp_refine.proofs.RoutinesOfTree.{fit_so, result_free, result_simple, parameters_have_values, names_of_parameters, references_closed}
 use Rattle.cp_refine.proofs.SystemsOfTree.{standing_so, apart_so, closed_so, different_so, silent_so}
@@ -57,3 +57,6 @@ module _ (t : Tree) (r : Tables) (read : IsRead t.program) (ok : IsAccepted t) (
           free = accepted_free t read ok;
         };
       }
+
+  pub prepared_of_tree : Prepared t r (layouts_of t)
+  prepared_of_tree = record { stands = (resolving_law t r read ok same).stands; sound = (resolving_law t r read ok same).sound; program = program_known }

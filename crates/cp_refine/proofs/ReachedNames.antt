@@ -35,7 +35,7 @@ path_told (s ∷ a) (t ∷ b) h =
     ap₂ (λ u us. u ∷ us) same (path_told a b parts.2)
 
 -- the component that is found has the path
-found_path : (path : Path) (cs : List Component) → component_with path cs < length cs → (component_at cs (component_with path cs)).path ≡ path
+pub found_path : (path : Path) (cs : List Component) → component_with path cs < length cs → (component_at cs (component_with path cs)).path ≡ path
 found_path path [] less = absurd (omega arith)
 found_path path (c ∷ cs) less = go (same_path path c.path) refl less (found_path path cs)
   where

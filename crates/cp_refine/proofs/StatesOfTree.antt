@@ -17,6 +17,7 @@ use Rattle.cp_refine.proofs.KnownItems.{next_known}
 use Rattle.cp_refine.proofs.KnownRoutines.{traits, routines_known}
 use Rattle.cp_refine.proofs.NextInReached.{delayed_called, continues_in_entry}
 use Rattle.cp_refine.proofs.ProgramOfTree.{program_known}
+use Rattle.cp_refine.proofs.StartsKnown.{starts_known}
 
 module _ (t : Tree) (read : IsRead t.program) (ok : IsAccepted t) (g : Gates) (s : State) (before : IsReached t.program g s) where
   pub continuing_in_entry : (q : ℕ) → IsContinuing s q → (current (process_at s.processes q).calls).kind ≡ entry_routine
@@ -39,5 +40,5 @@ module _ (t : Tree) (r : Tables) (read : IsRead t.program) (ok : IsAccepted t) (
         next = next_known t r read ok (traits t) (routines_known t read ok) (entries_known t read ok) many names_typed g s m sim;
         continues = continuing_in_entry t read ok g s sim.reached;
         delayed = delayed_inside t read ok g s sim.reached;
-        starts = STARTS;
+        starts = starts_known t r read ok same (traits t) (routines_known t read ok) g s m sim;
       }

@@ -23,6 +23,7 @@ use Rattle.cp_meaning.specs.Expressions.{value, factor_value, first_value, targe
 use Rattle.cp_meaning.specs.Lifting.{is_call, own_call, expression_calls, factor_calls, expressions_calls, designator_calls}
 use Rattle.cp_resolved.specs.Layouts.{Layouts, Here}
 use Rattle.cp_resolved.specs.Compiled.{Form, as_ordinal, as_set, as_place, as_component, Formed, Designated, a_variable, some_components, a_component, then_form, integer_form, set_form, loaded_form, place_form, compared_forms, added_ordinals, added_forms, multiplied_ordinals, multiplied_forms, signed_ordinal, signed_form, not_form_of, not_form, applied_ordinal, applied_place, applied_form_of, applied_form, valued_form, call_form, constant_form, named_form, is_integer, is_boolean, expression_form, sum_form, terms_form, term_form, factors_form, factor_form, first_form, members_form, designator_form}
+use Rattle.cp_resolved.specs.Used.{AreNone, UsedAs, IsUsed, FactorUsed}
 use Rattle.cp_refine.specs.Agrees.{TargetAgrees, Sees}
 use Rattle.cp_refine.specs.PlainValues.{plain_address}
 use Rattle.cp_refine.specs.Remaining.{AreKept}
@@ -163,12 +164,16 @@ pub record IsName (v : View) (h : Here) (e : Expression) (d : Designator) (es : 
   pub same_value : value v e ≡ factor_value v (named token d es)
   pub same_form : expression_form h e ≡ factor_form h (named token d es)
   pub calls : AreKept h (expression_calls h.scope e) → AreKept h (factor_calls h.scope (named token d es))
+  pub used : (k : Here) → IsUsed k e → FactorUsed k (named token d es)
+  pub alone : es ≡ no_expressions → variable_in e ≡ Some d
 
 pub record IsNamedFactor (v : View) (h : Here) (c : Factor) (d : Designator) (es : Expressions) : Type 0 where
   pub token : ℕ
   pub same_value : factor_value v c ≡ factor_value v (named token d es)
   pub same_form : factor_form h c ≡ factor_form h (named token d es)
   pub calls : AreKept h (factor_calls h.scope c) → AreKept h (factor_calls h.scope (named token d es))
+  pub used : (k : Here) → FactorUsed k c → FactorUsed k (named token d es)
+  pub alone : es ≡ no_expressions → variable_in_factor c ≡ Some d
 
 -- some name
 abbrev pub SomeName : View → Here → Expression → Type 0
@@ -189,6 +194,8 @@ module _ (v : View) (h : Here) where
         same_value = by_value (factor_value v c) ∙ k.same_value;
         same_form = by_form (factor_form h c) ∙ k.same_form;
         calls = λ kept. k.calls (kept_left h (factor_calls h.scope c) [] (kept_left h (factor_calls h.scope c ++ []) [] kept));
+        used = λ i u. k.used i u.0.0;
+        alone = k.alone;
       }
     where
       by_value : (o : Outcome Typed) → ((o >>= λ x. Ok x) >>= λ x. signed_value None x >>= λ y. Ok y) ≡ o
@@ -200,10 +207,10 @@ module _ (v : View) (h : Here) where
       by_form None = refl
 
   own_factor : (at : ℕ) (d : Designator) (es : Expressions) → IsNamedFactor v h (named at d es) d es
-  own_factor at d es = record { token = at; same_value = refl; same_form = refl; calls = λ kept. kept }
+  own_factor at d es = record { token = at; same_value = refl; same_form = refl; calls = λ kept. kept; used = λ i u. u; alone = λ e. subst (λ xs. variable_in_factor (named at d xs) ≡ Some d) (sym e) refl }
 
   in_group : (at : ℕ) (e : Expression) (d : Designator) (es : Expressions) → IsName v h e d es → IsNamedFactor v h (group at e) d es
-  in_group at e d es k = record { token = k.token; same_value = k.same_value; same_form = k.same_form; calls = k.calls }
+  in_group at e d es k = record { token = k.token; same_value = k.same_value; same_form = k.same_form; calls = k.calls; used = k.used; alone = k.alone }
 
   -- ---- by its words
 
@@ -410,3 +417,29 @@ component_found v h e d z c named_by formed is =
     go (a_variable p t) ew j = absurd (no_component p t c (ap (λ (x : Formed). x.form) (form_is j) ∙ is))
     go (some_components first q k) ew j = absurd (cc)
     go (a_component p k) ew j = (let same : as_component p ≡ as_component c = ap (λ (x : Formed). x.form) (form_is j) ∙ is in let part : p ≡ c = cc in (k, ew ∙ ap (λ x. Some (a_component x k)) part, kept_calls))
+
+-- ---- where names are used as the rules want it
+
+none_given : (es : Expressions) → AreNone es → es ≡ no_expressions
+none_given no_expressions a = refl
+none_given (more_expressions e es) a = absurd a
+
+-- what has the form of a place or of a component has no arguments
+no_arguments : (h k : Here) (at : ℕ) (d : Designator) (es : Expressions) (target : Option Designated) (w : Option Formed) (b : Bool) (m : Option Meaning) (z : Formed) → named_form h at d b m target w ≡ Some z → IsPlace z.form → UsedAs k d es b m → es ≡ no_expressions
+no_arguments h k at d es target w true m z e i u = absurd (never (call_form h at (result_called (routine_called h.program h.scope d))) z (call_not h at (result_called (routine_called h.program h.scope d))) e i)
+no_arguments h k at d es target w false (Some (constant_meaning b n)) z e i u = absurd (never (constant_form b n) z (constant_not b n) e i)
+no_arguments h k at d es target w false (Some (standard_meaning s)) z e i u = then_some (es ≡ no_expressions) w (applied_form s) z e (λ x ex j. absurd (never (applied_form s x) z (applied_not s x x.form) j i))
+no_arguments h k at d es target w false (Some (type_meaning t)) z e i u = none_given es u
+no_arguments h k at d es target w false (Some (local_variable t)) z e i u = none_given es u
+no_arguments h k at d es target w false (Some (permanent_variable t)) z e i u = none_given es u
+no_arguments h k at d es target w false (Some (routine_meaning r)) z e i u = none_given es u
+no_arguments h k at d es target w false None z e i u = none_given es u
+
+-- a component is named alone
+pub component_named : (v : View) (h k : Here) (e : Expression) (z : Formed) → expression_form h e ≡ Some z → IsPlace z.form → k.scope ≡ h.scope → IsUsed k e → (d : Designator) × (variable_in e ≡ Some d)
+component_named v h k e z formed place same used =
+    let w = place_is v h e z formed place in
+    let d : Designator = w.0 in
+    let u = (w.2.used k used).2 in
+    let here : UsedAs k d w.1 (is_call h.scope d) (find (name_of d) h.scope) = subst (λ (s : Scope). UsedAs k d w.1 (is_call s d) (find (name_of d) s)) same u in
+    (d, w.2.alone (no_arguments h k w.2.token d w.1 (designator_form h d) (first_form h w.1) (is_call h.scope d) (find (name_of d) h.scope) z (sym w.2.same_form ∙ formed) place here))

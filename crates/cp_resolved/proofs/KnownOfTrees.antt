@@ -112,17 +112,19 @@ module _ (t : Tree) (read : IsRead t.program) (accepted : IsAccepted t) where
   get_less (q ∷ os) (suc n) o e = let h = get_less os n o e in omega (arith, h)
   get_less [] n o e = absurd (cc)
 
-  pub known_law : (n : ℕ) → KnownFor t (meaning_at p n)
-  known_law n = go (slice_get (openings_of p) n) refl
+  -- the meaning of each number is that of one of the openings
+  pub some_opening : (n : ℕ) → (k : ℕ) × (k < length (openings_of p)) × (meaning_at p k ≡ meaning_at p n)
+  some_opening n = go (slice_get (openings_of p) n) refl
     where
-      among_all : (k : ℕ) → k < length (openings_of p) → KnownFor t (meaning_at p k)
-      among_all k less =
-          let r : KnownAmong (openings_of p) k = all_among k less in
-          subst (KnownFor t) (sym (ap (meaning_in (initial_meaning (own_meaning (declared p) p))) r.is)) r.known
+      go : (q : Option Opening) → slice_get (openings_of p) n ≡ q → (k : ℕ) × (k < length (openings_of p)) × (meaning_at p k ≡ meaning_at p n)
+      go (Some o) e = (n, get_less (openings_of p) n o e, refl)
+      go None e = (length before_own, own_last.0, own_last.1 ∙ sym (ap (meaning_in (initial_meaning (own_meaning (declared p) p))) e))
 
-      go : (q : Option Opening) → slice_get (openings_of p) n ≡ q → KnownFor t (meaning_at p n)
-      go (Some o) e = among_all n (get_less (openings_of p) n o e)
-      go None e = subst (KnownFor t) (own_last.1 ∙ sym (ap (meaning_in (initial_meaning (own_meaning (declared p) p))) e)) (among_all (length before_own) own_last.0)
+  pub known_law : (n : ℕ) → KnownFor t (meaning_at p n)
+  known_law n =
+      let w = some_opening n in
+      let r : KnownAmong (openings_of p) w.0 = all_among w.0 w.1 in
+      subst (KnownFor t) (sym (ap (meaning_in (initial_meaning (own_meaning (declared p) p))) r.is) ∙ w.2) r.known
 
   -- the scope of a routine tells to which system type it belongs
   pub owner_measured : (n : ℕ) → n < length (openings_of p) → (layouts_of t).owners n ≡ (measure (meaning_at p n).scope).0

@@ -110,10 +110,14 @@ pub record InvokeKnown (k : Tokens) (h : Here) (w : Context) (d : Designator) (e
 abbrev pub StartKnown : Tokens → Here → Start → Type 0
 StartKnown k h t = (part : code.ComponentPlace) (n : ℕ) → designator_form h t.target ≡ Some (a_component part n) → (j : ℕ) → k.systems j ≡ k.systems n → j ≡ n
 
+-- `init` stands in an initial statement
+abbrev pub InitKnown : Tokens → Here → Context → List Start → Type 0
+InitKnown k h w ts = (w.routine ≡ None) × Each (StartKnown k h) ts
+
 abbrev pub StatementKnown : Tokens → Here → Context → Statement → Type 0
 StatementKnown k h w (assign at d e) = AssignKnown h d
 StatementKnown k h w (invoke at d es) = InvokeKnown k h w d es
-StatementKnown k h w (init at ts) = Each (StartKnown k h) ts
+StatementKnown k h w (init at ts) = InitKnown k h w ts
 StatementKnown k h w t = Unit {0}
 
 -- ---- proofs
@@ -531,6 +535,10 @@ module _ (tokens : Tokens) (s : Scopes) (h : Here) (w : Context) (agrees : Scope
       let b = both_of j (statements.start s w t) k.value k.is in
       record { value = k.value.0; is = b.first; rest = (start_by t t.target refl m.0 k.value.1 b.second, x.rest) }
 
+  outside_routines : (at : ℕ) (o : Option ℕ) (u r : Use) → statements.initial_in at o u ≡ Ok r → o ≡ None
+  outside_routines at None u r is = refl
+  outside_routines at (Some n) u r is = absurd (cc)
+
   -- ---- statements
 
   known_of : (t : Statement) → IsSmallStatement t → (r : Use) → statement s w t ≡ Ok r → StatementKnown tokens h w t
@@ -539,7 +547,7 @@ module _ (tokens : Tokens) (s : Scopes) (h : Here) (w : Context) (agrees : Scope
   known_of (invoke at (name_with i ss) es) m r is = invoke_known at i ss es m.0 m.1 r is
   known_of (init at ts) m r is =
       let k : Then (statements.starts s w (Ok no_use) ts) (statements.initial at w) r = then_of (statements.starts s w (Ok no_use) ts) (statements.initial at w) r is in
-      (starts_known ts m (Ok no_use) k.value k.is).rest
+      (outside_routines at w.routine k.value r k.rest, (starts_known ts m (Ok no_use) k.value k.is).rest)
   known_of (empty at) m r is = tt
   known_of (block at ss) m r is = tt
   known_of (if_then at e t) m r is = tt

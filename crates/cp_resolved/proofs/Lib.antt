@@ -100,6 +100,7 @@ pub mod HeadingsFit
 pub mod HeadingsFound
 pub mod HeadingsKnown
 pub mod HoldingTables
+pub mod InitialsKnown
 pub mod InsideArguments
 pub mod InsideExpressions
 pub mod InsideForms

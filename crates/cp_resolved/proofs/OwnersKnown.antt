@@ -30,6 +30,8 @@ pub record IsOwned (p : Program) (x : Place) (o : Opening) : Type 0 where
   pub result : (r : Routine) → (measure o.meaning.scope).1 ≡ Some r → IsProcedure r.kind → o.meaning.result ≡ None
   -- the latest routine is that to which the statements belong
   pub routine : (n : ℕ) → x.context.routine ≡ Some n → (r : Routine) × ((measure o.meaning.scope).1 ≡ Some r) × (o.meaning.result ≡ None → IsProcedure r.kind)
+  -- an initial statement has neither parameters nor variables
+  pub initial : x.context.routine ≡ None → (o.meaning.parameters ≡ []) × (o.meaning.variables ≡ [])
 
 abbrev pub AreOwned : Program → List Place → List Opening → Type 0
 AreOwned p [] [] = Unit {0}
@@ -70,6 +72,7 @@ module _ (p : Program) where
         height = ap (λ (a : Measure). a.0) now ∙ high;
         result = λ q e is. procedure_none inner r.kind (subst (λ (z : Routine). IsProcedure z.kind) (same_some q r (sym e ∙ ap (λ (a : Measure). a.1) now)) is);
         routine = λ n e. (r, ap (λ (a : Measure). a.1) now, none_procedure inner r.kind);
+        initial = λ e. absurd (let bad : Some r.name.at ≡ None = e in cc);
       }
 
   routines_owned : (owner : Option SystemKind) (k : ℕ) (s : Scopes) (m : Scope) (rs : List Routine) → HasKind owner k → (measure m).0 ≡ k → AreOwned p (routine_places owner s rs) (routine_openings k m rs)
@@ -79,7 +82,7 @@ module _ (p : Program) where
   -- ---- system types
 
   initial_owned : (x : Place) (k : ℕ) (m : SystemMeaning) → HasKind x.context.owner k → x.context.routine ≡ None → (measure m.scope).0 ≡ k → IsOwned p x (initial_opening k m)
-  initial_owned x k m kind none high = record { owner = kind; height = high; result = λ r e is. refl; routine = λ n e. absurd (let bad : None ≡ Some n = sym none ∙ e in cc) }
+  initial_owned x k m kind none high = record { owner = kind; height = high; result = λ r e is. refl; routine = λ n e. absurd (let bad : None ≡ Some n = sym none ∙ e in cc); initial = λ e. (refl, refl) }
 
   system_owned : (s : Scopes) (d : Declared) (y : System) → system_of p (length d.systems) ≡ system_in (seen_inside d.scope) y → IsHigh d → AreOwned p (system_places s y) (system_openings (length d.systems) (seen_inside d.scope) y)
   system_owned s d y is high =

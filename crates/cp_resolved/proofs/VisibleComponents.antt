@@ -147,7 +147,7 @@ module _ (t : Tree) (place : IsPlaced t) where
       let e : slice_get (openings_of p) (length (os ++ qs)) ≡ Some last = ap (λ zs. slice_get zs (length (os ++ qs))) (sym (append_assoc os qs (last ∷ []))) ∙ last_entry (os ++ qs) last in
       (seated_there (length (os ++ qs)) last e).visible
 
-  visible : (n : ℕ) → AreOf (routine_variables (meaning_at p n)) (system_variables (system_of p ((layouts_of t).owners n))) (meaning_at p n).scope
+  pub visible : (n : ℕ) → AreOf (routine_variables (meaning_at p n)) (system_variables (system_of p ((layouts_of t).owners n))) (meaning_at p n).scope
   visible n = go (slice_get (openings_of p) n) refl
     where
       go : (o : Option Opening) → slice_get (openings_of p) n ≡ o → AreOf (routine_variables (meaning_in (initial_meaning (own_meaning (declared p) p)) o)) (system_variables (system_of p (owner_in (program_system p) o))) (meaning_in (initial_meaning (own_meaning (declared p) p)) o).scope
