@@ -14,6 +14,7 @@ pub mod Joining
 pub mod Leading
 pub mod Listed
 pub mod MemberTables
+pub mod Meant
 pub mod Orders
 pub mod Parting
 pub mod Placing

@@ -7,6 +7,7 @@ pub mod Gather
 pub mod Groups
 pub mod Hashing
 pub mod Members
+pub mod Meant
 pub mod Report
 pub mod Rows
 pub mod Tables

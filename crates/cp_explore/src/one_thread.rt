@@ -5,6 +5,7 @@ ghost use Rattle.cp_machine.specs.System.{machine_of, IsStateOf};
 ghost use Rattle.cp_run.specs.Slots.{slots};
 ghost use Rattle.cp_run.specs.Table.{table};
 ghost use Rattle.cp_explore.specs.Beginnings.{beginnings, words_of_rows};
+ghost use Rattle.cp_explore.specs.Meant.{AreMeant};
 ghost use Rattle.cp_explore.specs.Rows.{line_of, IsTooMany};
 
 use crate::fault::ExploreFault;
@@ -27,6 +28,7 @@ pub fn explore_one<L: Ledger>(
 ) -> Result<Table, ExploreFault>
     requires { job.limits.choices ≤ 20 }
     ensures table { IfOk result (λ t. map line_of t.rows ≡ table (slots job.entry.program.now job.entry.limits.gates) job.entry.limits.choices job.entry.limits.steps) }
+    ensures meaning { IfOk result (λ t. AreMeant job.entry.program.now job.entry.limits.gates job.entry.limits.choices job.entry.limits.steps (map line_of t.rows)) }
     ensures few { IfOk result (λ t. length t.rows ≤ 50000) }
     ensures many { IfErr result (λ e. IsTooMany e → 50000 < length (table (slots job.entry.program.now job.entry.limits.gates) job.entry.limits.choices job.entry.limits.steps)) }
     ensures calls { IfOk result (λ t. calls.new ≤ calls.old + beginnings (words_of_rows t.rows)) }

@@ -3,6 +3,7 @@
 ghost use Rattle.std.specs.Prelude.{◌≡◌, ◌<◌, ◌≤◌, length, map, IfOk};
 ghost use Rattle.cp_run.specs.Slots.{slots};
 ghost use Rattle.cp_run.specs.Table.{table};
+ghost use Rattle.cp_explore.specs.Meant.{AreMeant};
 ghost use Rattle.cp_explore.specs.Rows.{line_of};
 
 use crate::cutting::Cutting;
@@ -23,6 +24,7 @@ pub fn explore<X: Threads + Sync, G: Gate + Sync>(
 ) -> Result<Table, ExploreFault>
     requires workers { (0 < workers) × (workers ≤ 16) }
     ensures table { IfOk result (λ t. map line_of t.rows ≡ table (slots cutting.now.job.program.now cutting.now.job.limits.gates) cutting.now.job.limits.choices cutting.now.job.limits.steps) }
+    ensures meaning { IfOk result (λ t. AreMeant cutting.now.job.program.now cutting.now.job.limits.gates cutting.now.job.limits.choices cutting.now.job.limits.steps (map line_of t.rows)) }
     ensures few { IfOk result (λ t. length t.rows ≤ 50000) }
     ensures many { result ≡ Err ExploreFault.TooManyRows → 50000 < length (table (slots cutting.now.job.program.now cutting.now.job.limits.gates) cutting.now.job.limits.choices cutting.now.job.limits.steps) }
 {

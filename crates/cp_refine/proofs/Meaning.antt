@@ -1,5 +1,5 @@
 -- The tables of a tree that was read and is accepted go in step with its meaning.
-use Rattle.std.proofs.Common.{◌≡◌}
+use Rattle.std.proofs.Common.{◌≡◌, ℕ, refl, subst}
 use Rattle.std.proofs.Math.Logic.{∥∥₁_elim}
 use Rattle.cp_tree.specs.Read.{IsRead}
 use Rattle.cp_tree.specs.Syntax.{Tree}
@@ -7,14 +7,16 @@ use Rattle.cp_slots.specs.Laid.{plain, laid}
 use Rattle.cp_slots.specs.Tables.{Tables}
 use Rattle.cp_lawful.specs.Accepted.{IsAccepted}
 use Rattle.cp_meaning.specs.State.{Gates}
+use Rattle.cp_machine.specs.declared.gates.Gates as slot_gates
+use Rattle.cp_machine.specs.declared.gates.Gates.TheVariants.{First, Any}
 use Rattle.cp_run.specs.Slots.{slots}
 use Rattle.cp_resolved.specs.Resolving.{AreTablesOf}
 use Rattle.cp_resolved.specs.TreeLayouts.{layouts_of}
 use Rattle.cp_resolved.proofs.Resolving.{resolving_law}
 use Rattle.cp_refine.specs.AllKnown.{AllKnown}
 use Rattle.cp_refine.specs.InStep.{GoInStep}
-use Rattle.cp_refine.specs.Law.{Simulates, MeansTheSame}
-use Rattle.cp_refine.specs.Named.{named, gates_of}
+use Rattle.cp_refine.specs.Law.{Simulates, SameRuns, MeansTheSame}
+use Rattle.cp_refine.specs.Named.{named, gates_of, named_gates}
 use Rattle.cp_refine.proofs.GoingInStep.{in_step}
 use Rattle.cp_refine.proofs.ProgramOfTree.{program_known}
 use Rattle.cp_refine.proofs.Propositions.{means_once}
@@ -37,3 +39,11 @@ module _ (t : Tree) (r : Tables) (g : Gates) (read : IsRead t.program) (ok : IsA
 -- where it is only known that it was read
 pub means : (t : Tree) (r : Tables) (g : Gates) → ∥ IsRead t.program ∥₁ → IsAccepted t → plain r ≡ laid t → MeansTheSame t r g
 means t r g read ok same = ∥∥₁_elim read (means_once t r g) (λ it. meaning_law t r g it ok same)
+
+same_gates : (g : slot_gates.Gates) → gates_of (named_gates g) ≡ g
+same_gates First = refl
+same_gates Any = refl
+
+-- by the rule of admission that the machine has
+pub runs_as_meant : (t : Tree) (r : Tables) (g : slot_gates.Gates) → ∥ IsRead t.program ∥₁ → IsAccepted t → plain r ≡ laid t → (choices steps : ℕ) → SameRuns (named t (named_gates g)) (slots r g) choices steps
+runs_as_meant t r g read ok same choices steps = subst (λ (h : slot_gates.Gates). SameRuns (named t (named_gates g)) (slots r h) choices steps) (same_gates g) (means t r (named_gates g) read ok same choices steps)

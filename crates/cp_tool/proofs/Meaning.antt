@@ -1,36 +1,28 @@
 -- What is explored of the slot machine is explored of the meaning, where both have the same runs, table and traces.
-use Rattle.std.proofs.Common.{◌≡◌, ℕ, List, false, Option, None, Some, Bool, true, MatchOption, refl, subst, sym}
+use Rattle.std.proofs.Common.{◌≡◌, ℕ, List, false, Option, None, Some, Bool, true, MatchOption, subst, sym}
 use Rattle.std.specs.Bool.{MatchBool}
 use Rattle.arrayvec.specs.ArrayVec.{ArrayVec}
 use Rattle.cp_tree.specs.Read.{IsRead}
 use Rattle.cp_tree.specs.Syntax.{Tree}
-use Rattle.cp_slots.specs.Laid.{plain, laid}
 use Rattle.cp_slots.specs.Tables.{Tables}
 use Rattle.cp_lawful.specs.Accepted.{IsAccepted}
 use Rattle.cp_resolved.specs.Enumerations.{constant_names}
 use Rattle.cp_resolved.specs.Resolving.{IsProgramOf}
 use Rattle.cp_machine.specs.System.{Machine}
-use Rattle.cp_machine.specs.declared.gates.Gates as slot_gates
-use Rattle.cp_machine.specs.declared.gates.Gates.TheVariants.{First, Any}
 use Rattle.cp_run.specs.Run.{Answer, run}
-use Rattle.cp_run.specs.Slots.{slots}
 use Rattle.cp_run.specs.System.{System}
 use Rattle.cp_run.specs.Table.{Line, table}
 use Rattle.cp_run.specs.Trace.{trace}
 use Rattle.cp_run.specs.declared.line.TraceLine.{TraceLine}
-use Rattle.cp_refine.specs.Law.{MeansTheSame, SameRuns}
-use Rattle.cp_refine.specs.Named.{named, gates_of, named_gates}
-use Rattle.cp_refine.proofs.Meaning.{means}
+use Rattle.cp_refine.specs.Law.{SameRuns}
+use Rattle.cp_refine.specs.Named.{named, named_gates}
+use Rattle.cp_refine.proofs.Meaning.{runs_as_meant}
 use Rattle.cp_resolved.proofs.Resolving.{read_names}
 use Rattle.cp_explore.specs.Text.{Spellings}
 use Rattle.cp_explore.specs.TraceText.{trace_text}
 use Rattle.cp_tool.specs.Answered.{IsReported, IsMerged, IsTraced, IsExplored, IsExploredOf, machine}
 use Rattle.cp_tool.specs.declared.options.Options.{Options}
 use Rattle.cp_tool.specs.declared.answering.Verdict.{Verdict}
-
-same_gates : (g : slot_gates.Gates) → gates_of (named_gates g) ≡ g
-same_gates First = refl
-same_gates Any = refl
 
 -- ---- two systems with the same runs
 
@@ -62,7 +54,6 @@ module _ {S T : Type 0} (a : System S) (b : System T) (o : Options) (names : Spe
 
 pub explored : (t : Tree) (r : Tables) (o : Options) (verdict : Verdict) (text : List ℕ) → ∥ IsRead t.program ∥₁ → IsAccepted t → IsProgramOf t r → IsExplored o (machine o r) (machine o r) r.names verdict text → IsExploredOf o t verdict text
 explored t r o verdict text read ok is h =
-    let means : SameRuns (named t (named_gates o.gates)) (slots r (gates_of (named_gates o.gates))) o.choices o.steps = means t r (named_gates o.gates) read ok is.laid o.choices o.steps in
-    let same : SameRuns (named t (named_gates o.gates)) (machine o r) o.choices o.steps = subst (λ (g : slot_gates.Gates). SameRuns (named t (named_gates o.gates)) (slots r g) o.choices o.steps) (same_gates o.gates) means in
+    let same : SameRuns (named t (named_gates o.gates)) (machine o r) o.choices o.steps = runs_as_meant t r o.gates read ok is.laid o.choices o.steps in
     let spelled : IsExplored o (machine o r) (machine o r) (constant_names t.program) verdict text = subst (λ (names : Spellings). IsExplored o (machine o r) (machine o r) names verdict text) (read_names t r read ok is.laid) h in
     (r, is, same_explored (named t (named_gates o.gates)) (machine o r) o (constant_names t.program) verdict text same (machine o r) spelled)
