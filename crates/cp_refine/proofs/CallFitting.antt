@@ -1,5 +1,5 @@
 -- A call of a component that is found fits: there is room for the frame, and the routine is one of the component's system type.
-use Rattle.std.proofs.Common.{◌∙◌, ℕ, ◌<◌, List, ◌∷◌, sym, refl, arith, length}
+use Rattle.std.proofs.Common.{◌∙◌, ℕ, ◌<◌, List, sym, refl, arith, length}
 use Rattle.cp_tree.specs.Syntax.{Tree}
 use Rattle.cp_slots.specs.declared.place.Argument.{Argument}
 use Rattle.cp_slots.specs.Fits.{CallFits, RoutineFits}

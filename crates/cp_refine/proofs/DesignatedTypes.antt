@@ -1,15 +1,15 @@
 -- A variable with selectors has a type that stands, as the names of the program have, and so a value in a range of it has its type.
-use Rattle.std.proofs.Common.{◌≡◌, ℕ, ◌+◌, pos, int_le, Bool, true, false, ◌&&◌, arith, if◌then◌else◌, [], ◌∷◌, Option, Some, None, ap, refl, subst}
+use Rattle.std.proofs.Common.{◌≡◌, ℕ, ◌+◌, pos, int_le, Bool, true, false, ◌&&◌, arith, [], ◌∷◌, Option, Some, None, ap, refl, subst}
 use Rattle.cp_tree.specs.Syntax.{Designator, designator, Selectors, no_selectors, more_selectors, Selector, field, index, Program}
 use Rattle.cp_slots.specs.Code as code
-use Rattle.cp_meaning.specs.Names.{Name, same_name}
-use Rattle.cp_meaning.specs.Types.{Range, Ty, ordinal, queue_type, set_over, array_over, record_with, component_of, FieldTypes, no_field_types, more_field_types}
+use Rattle.cp_meaning.specs.Names.{Name}
+use Rattle.cp_meaning.specs.Types.{Range, Ty, ordinal, queue_type, set_over, array_over, record_with, component_of, FieldTypes}
 use Rattle.cp_meaning.specs.Values.{the_field}
 use Rattle.cp_meaning.specs.Places.{result_type}
 use Rattle.cp_meaning.specs.Scopes.{Meaning, constant_meaning, type_meaning, local_variable, permanent_variable, routine_meaning, standard_meaning, find}
-use Rattle.cp_resolved.specs.Layouts.{cells_of, Here, here, Layouts, is_own, is_parameter}
+use Rattle.cp_resolved.specs.Layouts.{Here, here, Layouts, is_own, is_parameter}
 use Rattle.cp_resolved.specs.Compiled.{then_form, Designated, a_variable, some_components, a_component, part_of_form, component_begun, permanent_begun, result_begun, begun_form, with_field_form, with_element_form, with_index_form, ordinal_form, chosen_form, selected_form, designator_form, expression_form}
-use Rattle.cp_resolved.specs.Encoded.{Chosen, further_chosen, field_chosen, then_chosen}
+use Rattle.cp_resolved.specs.Encoded.{Chosen, field_chosen, then_chosen}
 use Rattle.cp_resolved.specs.Standing.{is_bounded, is_based, is_indexed, is_element, is_standing, IsFit, IsFreeResult}
 use Rattle.cp_resolved.proofs.FewCells.{in_order}
 use Rattle.cp_resolved.proofs.StandingParts.{free_part, within_base}

@@ -1,5 +1,4 @@
 -- Two systems have the same runs in one way at most.
-use Rattle.std.proofs.Common.{◌≡◌, ℕ, List}
 use Rattle.std.proofs.Props.{props}
 use Rattle.cp_tree.specs.Syntax.{Tree}
 use Rattle.cp_slots.specs.Tables.{Tables}

@@ -1,5 +1,5 @@
 -- The layouts of the routines of a tree: names, results and parameters have the types that the rules of the language give them.
-use Rattle.std.proofs.Common.{◌≡◌, ℕ, zero, suc, Bool, true, false, if◌then◌else◌, List, [], ◌∷◌, ◌++◌, Option, Some, None, inl, inr, ap, sym, refl, subst}
+use Rattle.std.proofs.Common.{◌≡◌, ℕ, zero, suc, Bool, true, false, if◌then◌else◌, List, [], ◌∷◌, ◌++◌, Option, Some, None, inl, inr, refl, subst}
 use Rattle.std.specs.Prelude.{slice_get}
 use Rattle.cp_tree.specs.Syntax.{Tree, Program}
 use Rattle.cp_meaning.specs.Declarations.{Variable, Parameter}

@@ -15,7 +15,7 @@ use Rattle.cp_run.specs.System.{System}
 use Rattle.cp_resolved.specs.Layouts.{Layouts}
 use Rattle.cp_resolved.specs.Resolving.{AreTablesOf}
 use Rattle.cp_resolved.specs.TreeLayouts.{layouts_of}
-use Rattle.cp_refine.specs.InStep.{CanGo, CanEnter, LooksAlike, GoInStep}
+use Rattle.cp_refine.specs.InStep.{CanGo, CanEnter, GoInStep}
 use Rattle.cp_refine.specs.Law.{Simulates}
 use Rattle.cp_refine.specs.Named.{named, gates_of}
 use Rattle.cp_refine.specs.Running.{IsMet, met_first, met_by_step, met_by_admission, StepsAsMeant, RunsAsMeant}

@@ -1,5 +1,5 @@
 -- The steps with which a call, an initial statement or a process ends: each goes on slots as on names.
-use Rattle.std.proofs.Common.{◌≡◌, ℕ, List, [], ◌∷◌, Option, subst, arith}
+use Rattle.std.proofs.Common.{◌≡◌, ℕ, List, [], ◌∷◌, Option, subst}
 use Rattle.cp_tree.specs.Syntax.{Tree, Program}
 use Rattle.cp_slots.specs.declared.tables.ComponentKind.TheVariants as kind
 use Rattle.cp_slots.specs.Tables.{Tables, component_at}

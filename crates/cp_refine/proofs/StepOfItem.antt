@@ -1,5 +1,5 @@
 -- The step of a process whose control stack begins with an item, of whatever kind the item is.
-use Rattle.std.proofs.Common.{◌≡◌, ◌∙◌, ℕ, List, ◌∷◌, ◌++◌, Option, Some, None, ap, sym, refl}
+use Rattle.std.proofs.Common.{◌≡◌, ◌∙◌, ℕ, List, ◌++◌, Option, Some, None, ap, sym, refl}
 use Rattle.std.specs.Prelude.{slice_index}
 use Rattle.cp_tree.specs.Syntax.{Tree, Program, Expressions, no_expressions, more_expressions, Designator, Statement, empty, assign, invoke, block, if_then, if_else, case_of, while_do, repeat_until, for_do, cycle, init}
 use Rattle.cp_slots.specs.Tables.{Tables}

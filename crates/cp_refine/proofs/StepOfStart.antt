@@ -25,7 +25,7 @@ use Rattle.cp_machine.specs.Step.{step_at}
 use Rattle.cp_meaning.specs.Calls.{bound}
 use Rattle.cp_meaning.specs.Expressions.{target_value}
 use Rattle.cp_meaning.specs.Kernel.{process_of}
-use Rattle.cp_meaning.specs.Outcome.{Outcome, ErrorName}
+use Rattle.cp_meaning.specs.Outcome.{Outcome}
 use Rattle.cp_meaning.specs.Places.{Target, component_there}
 use Rattle.cp_meaning.specs.State as named
 use Rattle.cp_meaning.specs.State.{Environment, Item, start_item, State}

@@ -1,6 +1,5 @@
 -- The layouts of the system types of a tree: what has cells stands, is no parameter that is a component, and all that has neither has no content at first.
-use Rattle.std.proofs.Common.{◌≡◌, ◌∙◌, ℕ, Bool, true, false, if◌then◌else◌, List, [], ◌∷◌, ◌++◌, Option, Some, None, inl, inr, ap, sym, refl, subst}
-use Rattle.std.specs.Prelude.{◌⊎◌}
+use Rattle.std.proofs.Common.{◌≡◌, ◌∙◌, ℕ, Bool, true, false, if◌then◌else◌, List, [], ◌∷◌, ◌++◌, Some, None, inl, inr, ap, sym, refl, subst}
 use Rattle.cp_tree.specs.Syntax.{Tree, Program}
 use Rattle.cp_meaning.specs.Calls.{least_of}
 use Rattle.cp_meaning.specs.Declarations.{Variable, Parameter}
@@ -13,7 +12,7 @@ use Rattle.cp_meaning.specs.Systems.{system_of}
 use Rattle.cp_meaning.specs.Types.{Ty, has_components}
 use Rattle.cp_resolved.specs.Framed as framed
 use Rattle.cp_resolved.specs.Framed.{system_variables, IsFramed}
-use Rattle.cp_resolved.specs.Layouts.{Layouts, look}
+use Rattle.cp_resolved.specs.Layouts.{look}
 use Rattle.cp_resolved.specs.Small.{Each}
 use Rattle.cp_resolved.specs.Standing.{is_standing, IsStandingVariable}
 use Rattle.cp_resolved.specs.TreeLayouts.{components_among, layouts_of}

@@ -1,64 +1,23 @@
 -- What the rules say of the calls in each routine and initial statement of a tree that was read and breaks none: what is called is a routine of some number.
-use Rattle.std.proofs.Common.{◌≡◌, ℕ, zero, suc, Bool, true, false, ◌&&◌, if◌then◌else◌, ◌⊎◌, inl, inr, List, [], ◌∷◌, length, Option, Some, None, Ok, is_some, slice_get, refl, sym, ap, subst, ◌∙◌}
-use Rattle.std.specs.Prelude.{not}
-use Rattle.cp_tree.specs.declared.declaration.SystemKind.{SystemKind}
-use Rattle.cp_tree.specs.declared.declaration.SystemKind.TheVariants as system_kind
-use Rattle.cp_tree.specs.declared.constant.Identifier.{Identifier}
-use Rattle.cp_tree.specs.Syntax.{Program, Routine, Tree, Designator, designator as name_with, Selectors, no_selectors, more_selectors}
-use Rattle.cp_scope.specs.declared.types.ValueType.{ValueType}
-use Rattle.cp_scope.specs.declared.types.Meaning.TheVariants as meaning
-use Rattle.cp_scope.specs.declared.types.Predeclared.{Predeclared}
-use Rattle.cp_scope.specs.declared.types.Predeclared.TheVariants as predeclared
-use Rattle.cp_scope.specs.declared.count.Use.{Use}
-use Rattle.cp_scope.specs.Counts.{no_use}
-use Rattle.cp_scope.specs.Judged.{Judged}
-use Rattle.cp_scope.specs.Scopes.{Scopes, Shape, Shapes, heading_shape, body_shape, as_body, body_of, shape_in, look, heading_at, body_at}
-use Rattle.cp_scope.specs.Scopes as checker
-use Rattle.cp_check.specs.declared.operand.Context.{Context}
-use Rattle.cp_check.specs.declared.operand.Designated as check_designated
-use Rattle.cp_check.specs.declared.operand.Named.{Named}
-use Rattle.cp_check.specs.declared.operand.Named.TheVariants as name
-use Rattle.cp_check.specs.Calls as calls
-use Rattle.cp_check.specs.Names as names
-use Rattle.cp_check.specs.Expressions.{expression, designator, selectors}
-use Rattle.cp_check.specs.Statements.{statements, may_wait, may_wait_in}
+use Rattle.std.proofs.Common.{◌≡◌, ℕ, zero, suc, Bool, true, false, if◌then◌else◌, List, [], ◌∷◌, Option, Some, None, slice_get, refl, sym, ap, subst, ◌∙◌}
+use Rattle.cp_tree.specs.Syntax.{Program, Routine, Tree}
 use Rattle.cp_lawful.specs.Accepted.{IsAccepted}
-use Rattle.cp_lawful.proofs.Loud.{Heard, statements_loud}
 use Rattle.cp_meaning.specs.Names.{Name, same_name}
-use Rattle.cp_meaning.specs.Types as named
-use Rattle.cp_meaning.specs.Types.{Ty}
 use Rattle.cp_meaning.specs.Scopes as scopes
 use Rattle.cp_meaning.specs.Scopes.{find, since, routine_meaning, standard_meaning, delay_procedure, continue_procedure}
 use Rattle.cp_meaning.specs.Declarations.{RoutineMeaning, routine_in}
-use Rattle.cp_meaning.specs.Expressions.{name_of, routine_called, routine_meant, routine_of_system, routine_of_type}
-use Rattle.cp_meaning.specs.Lifting.{last_field, is_call_meant}
 use Rattle.cp_meaning.specs.Systems.{SystemMeaning, declared, own_meaning, or_own, system_of}
-use Rattle.cp_resolved.specs.Compiled.{Designated, designator_form}
-use Rattle.cp_resolved.specs.Judging.{Place, IsOwn, IsAgreed, AreAgreed, places_of, tokens_of}
-use Rattle.cp_resolved.specs.Layouts.{Here}
+use Rattle.cp_resolved.specs.Judging.{Place, IsAgreed, AreAgreed, places_of, tokens_of}
 use Rattle.cp_resolved.specs.Openings.{Opening, openings_of, meaning_in, meaning_at}
 use Rattle.cp_tree.specs.Read.{IsRead}
 use Rattle.cp_resolved.specs.Resolved.{initial_meaning}
 use Rattle.cp_resolved.specs.Small.{Each}
-use Rattle.cp_resolved.specs.TreeLayouts.{layouts_of}
-use Rattle.cp_resolved.specs.Typed.{Tokens, is_entry_in, IsOrdinalResult, ResultIs, HeadingIs, IsMarked, RoutineIs, StandardIs, predeclared_of, ConstantIs, ScopesAgree, IsSmallDesignator, AreSmallSelectors}
-use Rattle.cp_resolved.specs.Used.{IsBare}
-use Rattle.cp_resolved.proofs.CallsJudged.{Below, OwnCall, CalledAs, GivesResult}
-use Rattle.cp_resolved.proofs.ExpressionsJudged.{FunctionSaid}
-use Rattle.cp_resolved.proofs.FormedStatements.{Right, right_of}
-use Rattle.cp_resolved.proofs.FormedTargets.{OwnRoutine, begun_routine}
-use Rattle.cp_resolved.proofs.FormsOfTrees.{all_heard}
+use Rattle.cp_resolved.specs.Typed.{Tokens, is_entry_in}
 use Rattle.cp_resolved.proofs.ProgramNoted.{ProgramNoted, read_noted}
-use Rattle.cp_resolved.proofs.RoutinesNoted.{is_monitor, delays_in, opens_entry, entry_with, entry_in, entry_at, waits_of, waits_with, waits_at, IsNoted, AreNoted, Done, Numbered, InitialNumbered, SystemNumbered}
-use Rattle.cp_resolved.proofs.RoutinesSeen.{body_entry, body_scope_entry}
+use Rattle.cp_resolved.proofs.RoutinesNoted.{opens_entry, entry_in, entry_at, waits_of, waits_with, waits_at, IsNoted, AreNoted, InitialNumbered, SystemNumbered}
+use Rattle.cp_resolved.proofs.RoutinesSeen.{body_scope_entry}
 use Rattle.cp_resolved.proofs.ScopesOfTrees.{scopes_law}
 use Rattle.cp_resolved.proofs.SmallBodies.{IsSmallOpening, read_opens}
-use Rattle.cp_resolved.proofs.StatementsJudged.{InvokedAs, IsInvoked, InvokeSaid, StatementsSaid, statements_said}
-use Rattle.cp_resolved.proofs.TypingExpressions.{designator_typed}
-use Rattle.cp_resolved.proofs.TypingNames.{IsComponentMeaning, IsPlainMeaning, OfSystem, Holds, written, IsCalled, NamedIs, HasDesignated}
-use Rattle.cp_resolved.proofs.TypingValues.{own_called}
-use Rattle.cp_resolved.proofs.UsedNames.{IsVariableMeaning, other_bare, EntryUsed, entry_used, known_is, holds_variable}
-use Rattle.cp_resolved.proofs.WithoutFaults.{Then, then_of}
 
 -- ---- the place of a number
 

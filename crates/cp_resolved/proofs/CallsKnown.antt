@@ -1,10 +1,10 @@
 -- Each call in the statements of a number is one of a routine of some number; who may wait there, and where `continue` stands.
-use Rattle.std.proofs.Common.{◌≡◌, ℕ, Bool, true, false, ◌&&◌, ◌⊎◌, inl, inr, List, [], ◌∷◌, Option, Some, None, Ok, is_some, refl, sym, ap, subst, ◌∙◌}
+use Rattle.std.proofs.Common.{◌≡◌, ℕ, Bool, true, false, ◌&&◌, ◌⊎◌, inl, inr, Option, Some, None, Ok, is_some, refl, sym, ap, subst, ◌∙◌}
 use Rattle.std.specs.Prelude.{not}
 use Rattle.cp_tree.specs.declared.declaration.SystemKind.{SystemKind}
 use Rattle.cp_tree.specs.declared.declaration.SystemKind.TheVariants as system_kind
 use Rattle.cp_tree.specs.declared.constant.Identifier.{Identifier}
-use Rattle.cp_tree.specs.Syntax.{Program, Routine, Tree, Statements, Designator, designator as name_with, Selectors, no_selectors, more_selectors}
+use Rattle.cp_tree.specs.Syntax.{Program, Tree, Designator, designator as name_with, Selectors, no_selectors, more_selectors}
 use Rattle.cp_scope.specs.declared.types.ValueType.{ValueType}
 use Rattle.cp_scope.specs.declared.types.Base as check_base
 use Rattle.cp_scope.specs.declared.types.Meaning.TheVariants as meaning
@@ -12,19 +12,18 @@ use Rattle.cp_scope.specs.declared.types.Predeclared.{Predeclared}
 use Rattle.cp_scope.specs.declared.types.Predeclared.TheVariants as predeclared
 use Rattle.cp_scope.specs.declared.count.Use.{Use}
 use Rattle.cp_scope.specs.Counts.{no_use}
-use Rattle.cp_scope.specs.Judged.{Judged, ◌>>=◌}
+use Rattle.cp_scope.specs.Judged.{Judged}
 use Rattle.cp_scope.specs.Scopes.{Scopes, Shape, as_body, body_of, look, heading_at, body_at}
-use Rattle.cp_scope.specs.Scopes as checker
 use Rattle.cp_check.specs.declared.operand.Context.{Context}
 use Rattle.cp_check.specs.declared.operand.Designated as check_designated
 use Rattle.cp_check.specs.declared.operand.Named.{Named}
 use Rattle.cp_check.specs.declared.operand.Named.TheVariants as name
 use Rattle.cp_check.specs.Calls as calls
 use Rattle.cp_check.specs.Names as names
-use Rattle.cp_check.specs.Expressions.{expression, designator, selectors}
-use Rattle.cp_check.specs.Statements.{statements, may_wait, may_wait_in}
+use Rattle.cp_check.specs.Expressions.{expression, designator}
+use Rattle.cp_check.specs.Statements.{statements, may_wait_in}
 use Rattle.cp_lawful.specs.Accepted.{IsAccepted}
-use Rattle.cp_lawful.proofs.Loud.{Heard, statements_loud}
+use Rattle.cp_lawful.proofs.Loud.{statements_loud}
 use Rattle.cp_meaning.specs.Names.{Name}
 use Rattle.cp_meaning.specs.Types as named
 use Rattle.cp_meaning.specs.Types.{Ty, has_components}
@@ -35,23 +34,23 @@ use Rattle.cp_meaning.specs.Expressions.{name_of, routine_called, routine_meant,
 use Rattle.cp_meaning.specs.Lifting.{last_field, is_call_meant}
 use Rattle.cp_meaning.specs.Systems.{system_of}
 use Rattle.cp_resolved.specs.Compiled.{Designated, designator_form}
-use Rattle.cp_resolved.specs.Judging.{Place, IsOwn, IsAgreed, tokens_of}
+use Rattle.cp_resolved.specs.Judging.{IsOwn, tokens_of}
 use Rattle.cp_resolved.specs.Layouts.{Here}
-use Rattle.cp_resolved.specs.Openings.{Opening, meaning_at}
+use Rattle.cp_resolved.specs.Openings.{meaning_at}
 use Rattle.cp_tree.specs.Read.{IsRead}
 use Rattle.cp_resolved.specs.TreeLayouts.{layouts_of}
-use Rattle.cp_resolved.specs.Typed.{Tokens, is_entry_in, IsOrdinalResult, ResultIs, HeadingIs, IsMarked, IsWritten, RoutineIs, StandardIs, predeclared_of, ConstantIs, ScopesAgree, IsSmallDesignator, AreSmallSelectors}
+use Rattle.cp_resolved.specs.Typed.{Tokens, is_entry_in, IsOrdinalResult, ResultIs, HeadingIs, IsMarked, RoutineIs, StandardIs, predeclared_of, ConstantIs, ScopesAgree, AreSmallSelectors}
 use Rattle.cp_resolved.specs.Used.{IsBare}
-use Rattle.cp_resolved.proofs.CalleesKnown.{At, at_number, numbered, routine_entry, IsCalledAs, CalleeKnown}
+use Rattle.cp_resolved.proofs.CalleesKnown.{At, at_number, numbered, routine_entry, CalleeKnown}
 use Rattle.cp_resolved.proofs.CallsJudged.{OwnCall, CalledAs, GivesResult, IsValue}
 use Rattle.cp_resolved.proofs.ExpressionsJudged.{FunctionSaid}
 use Rattle.cp_resolved.proofs.FormedStatements.{Right, right_of}
 use Rattle.cp_resolved.proofs.FormedTargets.{begun_routine}
 use Rattle.cp_resolved.proofs.FormsOfTrees.{all_heard}
-use Rattle.cp_resolved.proofs.RoutinesNoted.{is_monitor, delays_in, entry_with, entry_at, waits_at, waits_of, Done, Numbered, SystemNumbered}
+use Rattle.cp_resolved.proofs.RoutinesNoted.{is_monitor, delays_in, entry_with, entry_at, waits_at, Done, Numbered}
 use Rattle.cp_resolved.proofs.StatementsJudged.{InvokedAs, IsInvoked, InvokeSaid, StatementsSaid, statements_said}
 use Rattle.cp_resolved.proofs.TypingExpressions.{designator_typed}
-use Rattle.cp_resolved.proofs.TypingNames.{IsComponentMeaning, OfSystem, Holds, written, IsCalled, NamedIs, HasDesignated}
+use Rattle.cp_resolved.proofs.TypingNames.{IsComponentMeaning, written, IsCalled, NamedIs, HasDesignated}
 use Rattle.cp_resolved.proofs.TypingValues.{IsValue as IsPlainValue, held_value}
 use Rattle.cp_resolved.proofs.UsedNames.{IsVariableMeaning, other_bare, EntryUsed, entry_used, known_is}
 use Rattle.cp_resolved.proofs.WithoutFaults.{Then, then_of}

@@ -1,6 +1,6 @@
 -- The routines and initial statements of a program that breaks no rule, by their numbers.
-use Rattle.std.proofs.Common.{◌≡◌, ℕ, Bool, true, false, List, [], ◌∷◌, ◌++◌, length, Option, Some, None, Ok, slice_get, inr, refl, sym, ap, subst, ◌∙◌}
-use Rattle.cp_tree.specs.Syntax.{Program, Routine, System, Definition, type_definition, system_definition, SystemDefinition, ProgramPart, program_constants, program_types, program_variables, Tree}
+use Rattle.std.proofs.Common.{◌≡◌, ℕ, true, List, [], ◌∷◌, ◌++◌, length, None, Ok, inr, refl, sym, subst}
+use Rattle.cp_tree.specs.Syntax.{Program, System, Definition, type_definition, system_definition, SystemDefinition, ProgramPart, program_constants, program_types, program_variables, Tree}
 use Rattle.cp_scope.specs.declared.count.Use.{Use}
 use Rattle.cp_scope.specs.Counts.{no_use}
 use Rattle.cp_scope.specs.Judged.{Judged, ◌>>=◌, faults}
@@ -13,14 +13,12 @@ use Rattle.cp_check.specs.Systems as systems_of
 use Rattle.cp_check.specs.Systems.{definition_step, definition_steps, program_part_step, program_part_steps}
 use Rattle.cp_check.specs.Faults.{declarations, program_context, opened, faults_of}
 use Rattle.cp_lawful.specs.Accepted.{IsAccepted}
-use Rattle.cp_meaning.specs.Names.{Name}
 use Rattle.cp_meaning.specs.Scopes as scopes
 use Rattle.cp_meaning.specs.Scopes.{find, routine_meaning, predeclared, seen_inside}
-use Rattle.cp_meaning.specs.Declarations as meant
-use Rattle.cp_meaning.specs.Systems.{SystemMeaning, system_in, Declared, definition_in, definitions_in, program_part_in, program_parts_in, declared, program_system, own_meaning, with_routines, system_of}
+use Rattle.cp_meaning.specs.Systems.{SystemMeaning, system_in, Declared, definition_in, definitions_in, program_part_in, program_parts_in, declared, program_system, own_meaning, system_of}
 use Rattle.cp_resolved.specs.Enumerations.{in_routine, in_definition, in_program_part, each_in, enumerations_of}
 use Rattle.cp_resolved.specs.Fit.{nothing_declared}
-use Rattle.cp_resolved.specs.Judging.{Place, definition_places, definitions_places, part_places, parts_places, routine_places, places_of, AreAgreed, tokens_of}
+use Rattle.cp_resolved.specs.Judging.{Place, definition_places, definitions_places, part_places, parts_places, routine_places, places_of, tokens_of}
 use Rattle.cp_resolved.specs.Openings.{Opening, parts_scope, definition_openings, definitions_openings, part_openings, parts_openings, routine_openings, initial_opening, openings_of}
 use Rattle.cp_tree.specs.Read.{IsRead}
 use Rattle.cp_resolved.specs.Small.{Each, IsSmallDefinition, IsSmallProgramPart, IsSmallProgram}
@@ -31,14 +29,14 @@ use Rattle.cp_resolved.proofs.AgreeingNames.{Agree}
 use Rattle.cp_resolved.proofs.AgreeingTypes.{IsFew}
 use Rattle.cp_resolved.proofs.AgreeingWritten.{each_left, each_right}
 use Rattle.cp_resolved.proofs.AgreeingParts.{NamesResult, name_result}
-use Rattle.cp_resolved.proofs.AgreeingRoutines.{none_before, none_after}
+use Rattle.cp_resolved.proofs.AgreeingRoutines.{none_before}
 use Rattle.cp_resolved.proofs.AgreeingBodies.{RoutinesResult, routines_agree}
 use Rattle.cp_resolved.proofs.AgreeingSystems.{entered_agrees, InsideResult, inside_agrees}
-use Rattle.cp_resolved.proofs.AgreeingProgram.{IsNumberedDefinition, AreNumberedDefinitions, IsNumberedPart, AreNumberedParts, DefinedResult, defined_agrees, definitions_agree, part_agrees, parts_agree, start_agrees, agree_plain, uses_sound, start_settled}
+use Rattle.cp_resolved.proofs.AgreeingProgram.{AreNumberedDefinitions, IsNumberedPart, AreNumberedParts, defined_agrees, part_agrees, parts_agree, start_agrees, agree_plain, uses_sound, start_settled}
 use Rattle.cp_resolved.proofs.DifferentIndexed.{tokens_different}
 use Rattle.cp_resolved.proofs.DifferentTokens.{all_numbered, all_few}
 use Rattle.cp_resolved.proofs.EnumerationsRead.{read_few, read_different}
-use Rattle.cp_resolved.proofs.RoutinesSeen.{IsNoRoutine, written, constants, variables}
+use Rattle.cp_resolved.proofs.RoutinesSeen.{written, constants, variables}
 use Rattle.cp_resolved.proofs.RoutinesNoted.{AreNoRoutines, one_more, none_inside, none_found, AreListed, listed_left, listed_right, all_listed, AreNoted, noted_both, RoutinesNoted, routines_noted, SystemNumbered, done_numbered, initial_numbered, system_noted}
 use Rattle.cp_resolved.proofs.SmallTexts.{read_small}
 

@@ -1,5 +1,5 @@
 -- Tables are sound in one way at most, so that their soundness may be taken from what is only known to be there.
-use Rattle.std.proofs.Common.{◌≡◌, ◌∙◌, ℕ, ◌+◌, ◌<◌, ◌≤◌, Bool, true, false, List, [], ◌∷◌, length, Option, Some, None, sym, ap, arith, subst}
+use Rattle.std.proofs.Common.{◌≡◌, ℕ, ◌<◌, Bool, true, false, List, [], ◌∷◌, Option, Some, None, ap, arith, subst}
 use Rattle.std.proofs.Props.{props}
 use Rattle.cp_slots.specs.declared.item.Action.{Action}
 use Rattle.cp_slots.specs.declared.item.Action.TheVariants.{Empty, Assign, AssignSet, Copy, Block, If, Case, While, Until, For, Cycle, Call, Start, Delay, Continue, Display}
@@ -13,8 +13,8 @@ use Rattle.cp_slots.specs.declared.tables.ComponentKind.{ComponentKind}
 use Rattle.cp_slots.specs.declared.tables.ComponentKind.TheVariants as kind
 use Rattle.cp_slots.specs.declared.tables.Process.{Process}
 use Rattle.cp_slots.specs.Fits.{ListFits, InnerFits, ActionFits, ItemFits, KindFits, ProcessFits, IsSound}
-use Rattle.cp_slots.specs.Systems.{parameter_count, Names, is_component, HandsNone, HandsOne, Hands, IsOwn, StaysInside, CallNames, StartNames, ActionNames, IsItself, ComponentOwns, IsTyped}
-use Rattle.cp_slots.specs.Tables.{Tables, parameter_at, routine_at}
+use Rattle.cp_slots.specs.Systems.{parameter_count, Names, HandsNone, HandsOne, Hands, IsOwn, StaysInside, ActionNames, IsItself, ComponentOwns, IsTyped}
+use Rattle.cp_slots.specs.Tables.{Tables, parameter_at}
 
 -- ---- lists of items
 

@@ -1,5 +1,5 @@
 -- The routines of a system type by their numbers: which are entries, and what is written of their bodies where they are called.
-use Rattle.std.proofs.Common.{◌≡◌, ℕ, suc, Bool, true, false, ◌&&◌, if◌then◌else◌, ◌⊎◌, inl, inr, List, [], ◌∷◌, ◌++◌, length, Option, Some, None, Ok, Err, is_some, slice_get, refl, sym, ap, subst, ◌∙◌, arith, append_assoc, length-append}
+use Rattle.std.proofs.Common.{◌≡◌, ℕ, Bool, true, false, ◌&&◌, if◌then◌else◌, ◌⊎◌, inl, inr, List, [], ◌∷◌, ◌++◌, length, Option, Some, None, Ok, Err, is_some, slice_get, refl, sym, ap, subst, ◌∙◌, arith, append_assoc, length-append}
 use Rattle.cp_tree.specs.declared.declaration.SystemKind.{SystemKind}
 use Rattle.cp_tree.specs.declared.declaration.SystemKind.TheVariants as system_kind
 use Rattle.cp_tree.specs.Syntax.{Program, Routine, System}
@@ -7,7 +7,6 @@ use Rattle.cp_scope.specs.declared.count.Use.{Use}
 use Rattle.cp_scope.specs.Counts.{no_use}
 use Rattle.cp_scope.specs.Judged.{Judged}
 use Rattle.cp_scope.specs.Scopes.{Scopes, Shapes, body_shape, shape_in}
-use Rattle.cp_check.specs.declared.operand.Context.{Context}
 use Rattle.cp_check.specs.Headings.{may_enter}
 use Rattle.cp_check.specs.Routines.{routine_step, routine_steps}
 use Rattle.cp_check.specs.Statements.{statements}
@@ -24,7 +23,7 @@ use Rattle.cp_resolved.specs.Resolved.{initial_meaning}
 use Rattle.cp_resolved.specs.Small.{Each, IsSmallRoutine, IsSmallSystem}
 use Rattle.cp_resolved.specs.Tokens.{all_tokens, routine_tokens}
 use Rattle.cp_resolved.specs.Typed.{Tokens, is_entry_in}
-use Rattle.cp_resolved.proofs.Agreeing.{none_left, none_right, More, more_trans}
+use Rattle.cp_resolved.proofs.Agreeing.{none_left, none_right, More}
 use Rattle.cp_resolved.proofs.AgreeingNames.{Agree}
 use Rattle.cp_resolved.proofs.AgreeingTypes.{IsFew}
 use Rattle.cp_resolved.proofs.AgreeingWritten.{each_left, each_right}
