@@ -94,7 +94,7 @@ module _ (k : Numbering) where
   AreFound ts ns [] (p ∷ ps) = ⊥
   AreFound ts ns (q ∷ qs) [] = ⊥
 
-  pub passed_value : (ts : Compounds) (t : Ty) (v : ValueType) → IsNoComponent t → TypeIs k ts t v → PassedBy k ts false t (passing.Value v)
+  pub passed_value : (ts : Compounds) (t : Ty) (v : ValueType) → IsNoComponent t → TypeIs k ts t v → PassedBy k ts false t (passing.Constant v)
   passed_value ts (named.ordinal r) v o h = (v, refl, h)
   passed_value ts named.queue_type v o h = (v, refl, h)
   passed_value ts (named.set_over r) v o h = (v, refl, h)

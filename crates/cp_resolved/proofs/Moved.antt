@@ -42,18 +42,18 @@ module _ (k : Numbering) (l : Layer) where
 
   -- ---- arguments
 
-  copied : (u t : Ty) (q : code.Place) (v : Value) (x : ValueType) (g : code.ArgumentValue) → passed l (passing.Value x) v ≡ code.copy (place_of v) (kinds.cells_of l.types x) → FormIs k l.types t (as_place q) v → TypeIs k l.types u x → cells_of u ≤ kinds.most → t ≡ u → g ≡ code.copy q (cells_of t) → passed l (passing.Value x) v ≡ g
+  copied : (u t : Ty) (q : code.Place) (v : Value) (x : ValueType) (g : code.ArgumentValue) → passed l (passing.Constant x) v ≡ code.copy (place_of v) (kinds.cells_of l.types x) → FormIs k l.types t (as_place q) v → TypeIs k l.types u x → cells_of u ≤ kinds.most → t ≡ u → g ≡ code.copy q (cells_of t) → passed l (passing.Constant x) v ≡ g
   copied u t q v x g c i w m e h = c ∙ ap (code.copy (place_of v)) (cells_same k l.types u x w m) ∙ ap (λ y. code.copy (place_of y) (cells_of u)) i.1 ∙ ap (λ y. code.copy q (cells_of y)) (sym e) ∙ sym h
 
   value_same : (u t : Ty) (f : Form) (v : Value) (p : Passing) (g : code.ArgumentValue) → FormIs k l.types t f v → PassedBy k l.types false u p → ValueGiven u t f g → IsMoved u → passed l p v ≡ g
   value_same (named.ordinal r) t (as_ordinal c) v p g i w h m =
-      ap (λ y. passed l y v) w.1 ∙ ap (λ x. passed l (passing.Value x) v) w.2 ∙ ap (λ y. code.scalar (ordinal_of y) r.low r.high) i.2 ∙ sym h
+      ap (λ y. passed l y v) w.1 ∙ ap (λ x. passed l (passing.Constant x) v) w.2 ∙ ap (λ y. code.scalar (ordinal_of y) r.low r.high) i.2 ∙ sym h
   value_same (named.ordinal r) t (as_set b) v p g i w h m = absurd h
   value_same (named.ordinal r) t (as_place q) v p g i w h m = absurd h
   value_same (named.ordinal r) t (as_component c) v p g i w h m = absurd h
   value_same (named.set_over r) t (as_set b) v p g i w h m =
       ap (λ y. passed l y v) w.1
-      ∙ ap (λ x. passed l (passing.Value x) v) w.2
+      ∙ ap (λ x. passed l (passing.Constant x) v) w.2
       ∙ ap (λ y. code.set (set_of y) (byte_or 0 r.low) (byte_or 255 r.high)) i
       ∙ ap (λ n. code.set b n (byte_or 255 r.high)) (byte_same 0 r.low m.0)
       ∙ ap (code.set b (natural_of r.low)) (byte_same 255 r.high m.1)
@@ -67,13 +67,13 @@ module _ (k : Numbering) (l : Layer) where
   value_same (named.component_of n) t (as_place q) v p g i w h m = absurd h
   value_same (named.array_over r u) t (as_place q) v p g i w h m =
       ap (λ y. passed l y v) w.1
-      ∙ copied (named.array_over r u) t q v w.0 g (ap (λ x. passed l (passing.Value x) v) w.2.is ∙ ap (λ x. code.copy (place_of v) (kinds.cells_of l.types x)) (sym w.2.is)) i w.2 m h.0 h.1
+      ∙ copied (named.array_over r u) t q v w.0 g (ap (λ x. passed l (passing.Constant x) v) w.2.is ∙ ap (λ x. code.copy (place_of v) (kinds.cells_of l.types x)) (sym w.2.is)) i w.2 m h.0 h.1
   value_same (named.array_over r u) t (as_ordinal c) v p g i w h m = absurd h
   value_same (named.array_over r u) t (as_set b) v p g i w h m = absurd h
   value_same (named.array_over r u) t (as_component c) v p g i w h m = absurd h
   value_same (named.record_with us) t (as_place q) v p g i w h m =
       ap (λ y. passed l y v) w.1
-      ∙ copied (named.record_with us) t q v w.0 g (ap (λ x. passed l (passing.Value x) v) w.2.is ∙ ap (λ x. code.copy (place_of v) (kinds.cells_of l.types x)) (sym w.2.is)) i w.2 m h.0 h.1
+      ∙ copied (named.record_with us) t q v w.0 g (ap (λ x. passed l (passing.Constant x) v) w.2.is ∙ ap (λ x. code.copy (place_of v) (kinds.cells_of l.types x)) (sym w.2.is)) i w.2 m h.0 h.1
   value_same (named.record_with us) t (as_ordinal c) v p g i w h m = absurd h
   value_same (named.record_with us) t (as_set b) v p g i w h m = absurd h
   value_same (named.record_with us) t (as_component c) v p g i w h m = absurd h

@@ -70,7 +70,7 @@ AreReady h n (i ∷ is) = ⊥
 abbrev pub PassedBy : Numbering → Compounds → Bool → Ty → Passing → Type 0
 PassedBy k ts true t p = p ≡ passing.Reference
 PassedBy k ts false (component_of n) p = p ≡ passing.Component
-PassedBy k ts false t p = (v : ValueType) × (p ≡ passing.Value v) × TypeIs k ts t v
+PassedBy k ts false t p = (v : ValueType) × (p ≡ passing.Constant v) × TypeIs k ts t v
 
 -- the parameters in their order, each with its slot
 abbrev pub ParametersAre : Numbering → Compounds → (Name → ℕ) → List Parameter → List code_parameter.Parameter → Type 0

@@ -1,3 +1,4 @@
+pub mod Around
 pub mod Sharing
 pub mod NamesSeen
 pub mod Settling

@@ -1,7 +1,7 @@
 -- The items of a statement go into the tables, the last one first.
 use Rattle.std.proofs.Common.{◌≡◌, ℕ, List, [], ◌∷◌, ◌++◌, length, map, Option, Some, refl, ap}
 use Rattle.std.proofs.lemmas.List.{map-append}
-use Rattle.cp_slots.specs.declared.lay_out.layer.Pending as code_pending
+use Rattle.cp_slots.specs.declared.lay_out.lists.Pending as code_pending
 use Rattle.cp_slots.specs.Layers.{Layer, Pending, pending_seen, settled_all, with_item}
 
 settled_push : (l : Layer) (ps : List Pending) (p : Pending) (next : Option ℕ) → settled_all l (ps ++ p ∷ []) next ≡ settled_all (with_item l p next) ps (Some (length l.items))

@@ -1,6 +1,6 @@
 -- The tables of a tree, as a function of the tree: what `lay_out` gives.
 -- It has the shape of the code on purpose, so that each function of the code is one equation. What makes tables those of a program, in the terms of the language,
--- is said by relations, which are to be proved of this function and not of the code.
+-- is said by relations in `cp_resolved`, which are proved there of this function and not of the code.
 use Rattle.std.specs.Prelude.{ℕ, ◌-◌, max, ℤ, List, [], ◌∷◌, ◌++◌, map, length, Option, Some, None, slice_get}
 use Rattle.cp_tree.specs.Syntax.{Tree}
 use Rattle.cp_slots.specs.declared.tables.Component.{Component}

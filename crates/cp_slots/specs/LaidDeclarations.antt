@@ -157,7 +157,7 @@ abbrev pub Parameters : Type 0
 Parameters = List Parameter
 
 abbrev pub value_parameter : ℕ → ValueType → Parameter
-value_parameter slot t = record { slot = slot; passing = passing.Value t }
+value_parameter slot t = record { slot = slot; passing = passing.Constant t }
 
 abbrev pub constant_parameter : Layer → Parameters → List ℕ → ValueType → Parameters × Layer
 constant_parameter l ps x t =

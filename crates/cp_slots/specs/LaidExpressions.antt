@@ -118,9 +118,9 @@ component_in v = code.own
 abbrev pub passed : Layer → Passing → Value → ArgumentValue
 passed l passing.Reference v = code.reference (place_of v)
 passed l passing.Component v = code.component_of (component_in v)
-passed l (passing.Value (types.Ordinal r)) v = code.scalar (ordinal_of v) r.low r.high
-passed l (passing.Value (types.Set r)) v = code.set (set_of v) (byte_or 0 r.low) (byte_or 255 r.high)
-passed l (passing.Value t) v = code.copy (place_of v) (cells_of l.types t)
+passed l (passing.Constant (types.Ordinal r)) v = code.scalar (ordinal_of v) r.low r.high
+passed l (passing.Constant (types.Set r)) v = code.set (set_of v) (byte_or 0 r.low) (byte_or 255 r.high)
+passed l (passing.Constant t) v = code.copy (place_of v) (cells_of l.types t)
 
 abbrev pub with_argument : Layer → Option Parameter → Value → List Argument → List Argument
 with_argument l None v rest = rest

@@ -17,10 +17,11 @@ use Rattle.cp_slots.specs.declared.lay_out.layer.FunctionResult.{FunctionResult}
 use Rattle.cp_slots.specs.declared.lay_out.layer.Contained.{Contained}
 use Rattle.cp_slots.specs.declared.lay_out.layer.Content.{Content}
 use Rattle.cp_slots.specs.declared.lay_out.layer.Heading as code_heading
-use Rattle.cp_slots.specs.declared.lay_out.layer.Frame as code_frame
+use Rattle.cp_slots.specs.declared.lay_out.frame.Frame as code_frame
 use Rattle.cp_slots.specs.declared.lay_out.layer.Owned as code_owned
 use Rattle.cp_slots.specs.declared.lay_out.layer.System as code_system
-use Rattle.cp_slots.specs.declared.lay_out.layer.Pending as code_pending
+use Rattle.cp_slots.specs.declared.lay_out.lists.Pending as code_pending
+use Rattle.cp_slots.specs.declared.lay_out.surroundings.Surroundings as code_surroundings
 use Rattle.cp_slots.specs.declared.lay_out.layer.Layer as code_layer
 use Rattle.cp_slots.specs.Tables.{RoutineView, routine_view}
 use Rattle.cp_slots.specs.Kinds.{Compounds, types_seen, plus, values_of}
@@ -161,18 +162,18 @@ pending_seen p = record { action = action_seen p.action; line = p.line; need = p
 unfoldable pub layer_seen : code_layer.Layer → Layer
 layer_seen l =
     record {
-      lines = l.tree.now.lines.items;
-      types = types_seen l.types;
-      names = names_seen l.names;
-      systems = map system_seen l.systems.items;
-      headings = map heading_seen l.headings.items;
-      routines = map routine_view l.routines.items;
-      items = map item_seen l.items.items;
-      constants = map string_bytes l.constants.items;
-      owned = owned_seen l.owned;
+      lines = l.around.tree.now.lines.items;
+      types = types_seen l.around.types;
+      names = names_seen l.around.names;
+      systems = map system_seen l.around.systems.items;
+      headings = map heading_seen l.around.headings.items;
+      routines = map routine_view l.lists.routines.items;
+      items = map item_seen l.lists.items.items;
+      constants = map string_bytes l.lists.constants.items;
+      owned = owned_seen l.around.owned;
       frame = frame_seen l.frame;
-      pending = map pending_seen l.pending.items;
-      arguments = l.arguments;
+      pending = map pending_seen l.lists.pending.items;
+      arguments = l.lists.arguments;
     }
 
 -- the frame of a routine that begins
@@ -199,6 +200,17 @@ nothing_laid lines =
       frame = no_frame;
       pending = [];
       arguments = 0;
+    }
+
+-- what is around a statement, as the state in which nothing else is laid out
+abbrev pub around_seen : code_surroundings.Surroundings → Layer
+around_seen a =
+    record (nothing_laid a.tree.now.lines.items) {
+      types = types_seen a.types;
+      names = names_seen a.names;
+      systems = map system_seen a.systems.items;
+      headings = map heading_seen a.headings.items;
+      owned = owned_seen a.owned;
     }
 
 -- what a function lays out: an answer and a new state, unless memory fails

@@ -10,13 +10,17 @@ ghost use Rattle.cp_slots.specs.Laid.{plain, laid};
 
 mod component;
 mod declaration;
+mod designator;
 mod expression;
+mod frame;
 mod heading;
 mod kinds;
 mod layer;
+mod lists;
 mod names;
 mod part;
 mod statement;
+mod surroundings;
 mod types;
 mod value;
 
@@ -41,19 +45,14 @@ pub fn lay_out(alloc: Global, tree: &Tree) -> Result<Layout, AllocError>
 fn tables(alloc: Global, layer: Layer<'_>) -> Result<Layout, AllocError>
     ensures { IfOk result (λ l. plain (tables_of l) ≡ spec.tables_laid (layer_seen layer.entry)) }
 {
-    let initial = layer.routines.len().saturating_sub(1);
-    let components = Components::of_program(
-        alloc,
-        &layer.types,
-        &layer.systems,
-        &layer.owned,
-        initial,
-    )?;
+    let initial = layer.lists.routines.len().saturating_sub(1);
+    let components = Components::of_program(alloc, &layer.around, initial)?;
     let room = room_of(&layer, &components.processes);
-    let systems = system_types(alloc, &layer.systems, &layer.owned)?;
+    let systems = system_types(alloc, &layer.around.systems, &layer.around.owned)?;
+    let lists = layer.lists;
     Ok(Layout {
-        items: layer.items,
-        routines: layer.routines,
+        items: lists.items,
+        routines: lists.routines,
         systems,
         components: components.items,
         processes: components.processes,
@@ -62,8 +61,8 @@ fn tables(alloc: Global, layer: Layer<'_>) -> Result<Layout, AllocError>
         depth: room.depth,
         cells: room.cells,
         references: room.references,
-        arguments: layer.arguments,
-        names: layer.constants,
+        arguments: lists.arguments,
+        names: lists.constants,
     })
 }
 
@@ -128,9 +127,9 @@ fn room_of(layer: &Layer<'_>, processes: &[Process]) -> Room
 fn room_for(layer: &Layer<'_>, room: Room, initial: usize) -> Room
     ensures { result ≡ spec.room_for (layer_seen layer.now) room (slice_get (layer_seen layer.now).routines initial) }
 {
-    match layer.routines.get(initial) {
+    match layer.lists.routines.get(initial) {
         Some(routine) => {
-            let depth = layer.need_of(routine.body).saturating_add(1);
+            let depth = layer.lists.need_of(routine.body).saturating_add(1);
             room.with(routine, depth)
         }
         None => room,

@@ -1,4 +1,4 @@
-//! From names to slots: the resolved program.
+//! From names to slots: the tables of a tree, and the type of a resolved program.
 #![tactic(auto)]
 
 pub mod item;

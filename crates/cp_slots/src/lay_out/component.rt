@@ -8,6 +8,7 @@ ghost use Rattle.cp_slots.specs.LaidComponents.{listing_seen, content_least, con
 
 use crate::lay_out::kinds::Types;
 use crate::lay_out::layer::{Contained, Content, Owned, System};
+use crate::lay_out::surroundings::Surroundings;
 use crate::tables::{Component, ComponentKind, Process};
 use cp_tree::SystemKind;
 use std::alloc::{AllocError, Global};
@@ -37,16 +38,15 @@ impl Components {
     #[tactic(auto, unfolding(crate::specs::LaidComponents::program_listed))]
     pub fn of_program(
         alloc: Global,
-        types: &Types<'_>,
-        systems: &[System],
-        owned: &Owned,
+        around: &Surroundings<'_>,
         initial: usize,
     ) -> Result<Components, AllocError>
-        ensures { IfOk result (λ c. listing_seen c ≡ spec.program_listed (types_seen types.now) (map system_seen systems.now) (owned_seen owned.now) initial) }
+        ensures { IfOk result (λ c. listing_seen c ≡ spec.program_listed (types_seen around.now.types) (map system_seen around.now.systems.items) (owned_seen around.now.owned) initial) }
     {
         let mut components = Components::new(alloc);
         let kind = components.new_kind(SystemKind::Process, initial)?;
-        components.add_owned(types, systems, kind, owned, systems.len())?;
+        let systems = &around.systems;
+        components.add_owned(&around.types, systems, kind, &around.owned, systems.len())?;
         Ok(components)
     }
 

@@ -6,8 +6,9 @@ ghost use Rattle.cp_slots.specs.Layers.{layer_seen, heading_seen, Lays, Leads};
 ghost use Rattle.cp_slots.specs.LaidDeclarations as spec;
 ghost use Rattle.cp_slots.specs.LaidDeclarations.{outer_seen};
 
+use crate::lay_out::frame::Frame;
 use crate::lay_out::kinds::ValueType;
-use crate::lay_out::layer::{Frame, Heading, Layer, Owned, Parameter, System};
+use crate::lay_out::layer::{Heading, Layer, Owned, Parameter, System};
 use crate::lay_out::names::{Meaning, Names};
 use cp_tree::{
     Body, Definition, Program, ProgramPart, ProgramPartKind, Routine, System as WrittenSystem,
@@ -106,7 +107,7 @@ impl<'a> Layer<'a> {
     fn routine_count(&self) -> usize
         ensures { result ≡ length (layer_seen self.now).routines }
     {
-        self.routines.len()
+        self.lists.routines.len()
     }
 
     // A system type begins: it sees some of the names, and has its own cells.
@@ -114,10 +115,10 @@ impl<'a> Layer<'a> {
     fn enter(&mut self, alloc: Global) -> Result<Outer<'a>, AllocError>
         ensures { Lays outer_seen (spec.entered (layer_seen self.old)) (layer_seen self.new) result }
     {
-        let inside = self.names.inside(alloc)?;
+        let inside = self.around.names.inside(alloc)?;
         Ok(Outer {
-            names: mem::replace(&mut self.names, inside),
-            owned: mem::replace(&mut self.owned, Owned::new(alloc)),
+            names: mem::replace(&mut self.around.names, inside),
+            owned: mem::replace(&mut self.around.owned, Owned::new(alloc)),
         })
     }
 
@@ -132,10 +133,10 @@ impl<'a> Layer<'a> {
     ) -> Result<ValueType, AllocError>
         ensures { Lays (λ t. t) (spec.left (layer_seen self.old) (outer_seen outer.entry) kind first initial) (layer_seen self.new) result }
     {
-        self.names = outer.names;
-        let owned = mem::replace(&mut self.owned, outer.owned);
-        let number = self.systems.len();
-        self.systems.push(System {
+        self.around.names = outer.names;
+        let owned = mem::replace(&mut self.around.owned, outer.owned);
+        let number = self.around.systems.len();
+        self.around.systems.push(System {
             kind,
             owned,
             first,
@@ -168,11 +169,12 @@ impl<'a> Layer<'a> {
     fn open(&mut self, alloc: Global, node: &'a Routine) -> Result<usize, AllocError>
         ensures { Lays (λ n. n) (spec.opened (layer_seen self.old) node.now.name.name) (layer_seen self.new) result }
     {
-        let number = self.routines.len();
-        self.names
+        let number = self.lists.routines.len();
+        self.around
+            .names
             .add(node.name.name.as_str(), Meaning::Routine(number))?;
         self.frame = Frame::new(alloc);
-        Ok(self.names.open())
+        Ok(self.around.names.open())
     }
 
     fn routine_inside(&mut self, alloc: Global, node: &'a Routine) -> Result<(), AllocError>
@@ -189,14 +191,14 @@ impl<'a> Layer<'a> {
     fn close(&mut self, count: usize)
         ensures { layer_seen self.new ≡ spec.closed (layer_seen self.old) count }
     {
-        self.names.close(count);
+        self.around.names.close(count);
     }
 
     #[tactic(auto, unfolding(crate::specs::Layers::layer_seen))]
     fn add_heading(&mut self, heading: Heading<'a>) -> Result<(), AllocError>
         ensures { Leads (spec.with_heading (layer_seen self.old) (heading_seen heading.entry)) (layer_seen self.new) result }
     {
-        self.headings.push(heading)?;
+        self.around.headings.push(heading)?;
         Ok(())
     }
 

@@ -2,64 +2,35 @@
 
 ghost use Rattle.std.specs.Prelude.{◌≡◌, [], ◌++◌, map, IfOk, OnOk};
 ghost use Rattle.cp_tree.specs.View.{expression_view, expressions_view, expressions_of, sum_view, term_view, terms_view, terms_of, factor_view, factors_view, factors_of, designator_view, selector_view, selectors_view, selectors_of};
-ghost use Rattle.cp_slots.specs.Code.{expression_seen, set_seen, component_seen, argument_seen, place_seen, index_seen};
+ghost use Rattle.cp_slots.specs.Code.{expression_seen, set_seen, component_seen, argument_seen};
 ghost use Rattle.cp_slots.specs.Code as code;
-ghost use Rattle.cp_slots.specs.Kinds.{field_seen};
-ghost use Rattle.cp_slots.specs.Values.{value_seen, designated_seen, a_contained};
-ghost use Rattle.cp_slots.specs.Layers.{layer_seen, Lays, parameter_of, system_seen, heading_seen};
+ghost use Rattle.cp_slots.specs.Values.{value_seen, designated_seen};
+ghost use Rattle.cp_slots.specs.Layers.{layer_seen, around_seen, Lays, parameter_of};
 ghost use Rattle.cp_slots.specs.LaidExpressions as spec;
 
 use crate::item::Action;
 use crate::lay_out::kinds::{Base, ValueType};
-use crate::lay_out::layer::{FunctionResult, Heading, Layer, Passing, System};
-use crate::lay_out::names::Meaning;
+use crate::lay_out::layer::{FunctionResult, Layer, Passing};
+use crate::lay_out::surroundings::Surroundings;
 use crate::lay_out::value::{
     Designated, Value, added, applied, load, multiplied, negated, no_value, number, opposite,
     ordinal, place_at, place_of, related, set,
 };
-use crate::place::{
-    Argument, ArgumentValue, ComponentPlace, Expression, Index, Origin, Place, SetExpression,
-};
+use crate::place::{Argument, ArgumentValue, ComponentPlace, Expression, Origin, SetExpression};
 use cp_tree::{
-    Addition, Designator, Expression as Written, Factor, FactorKind, Identifier, Multiplication,
-    Selector, Sign, Sum, Term,
+    Addition, Designator, Expression as Written, Factor, FactorKind, Multiplication, Selector,
+    Sign, Sum, Term,
 };
 use std::alloc::{AllocError, Global};
 
 impl<'a> Layer<'a> {
-    /// What a name stands for.
-    #[tactic(auto, unfolding(crate::specs::Layers::layer_seen))]
-    pub fn begun(&self, alloc: Global, name: &Identifier) -> Designated
-        ensures { designated_seen result ≡ spec.begun (layer_seen self.now) name.now.name }
-    {
-        let Some(meaning) = self.names.look(name.name.as_str()) else {
-            return Designated::Nothing;
-        };
-        match meaning {
-            Meaning::Constant(base, value) => Designated::Value(number(value, base)),
-            Meaning::Variable(origin, value_type) => {
-                Designated::Variable(place_at(alloc, origin), value_type)
-            }
-            Meaning::Contained(first, ValueType::System(system)) => {
-                Designated::Component(ComponentPlace::Contained(first), system)
-            }
-            Meaning::Contained(first, value_type) => Designated::Contained(first, value_type),
-            Meaning::Bound(slot, system) => {
-                Designated::Component(ComponentPlace::Parameter(slot), system)
-            }
-            Meaning::Routine(routine) => Designated::Routine(routine),
-            Meaning::Predeclared(routine) => Designated::Predeclared(routine),
-            Meaning::Kind(_) => Designated::Nothing,
-        }
-    }
-
     /// A name with its selectors.
     #[cycle(expression)]
-    #[tactic(auto, unfolding(crate::specs::LaidExpressions::designator))]
+    #[tactic(auto, unfolding(crate::specs::LaidExpressions::designator, crate::specs::Layers::layer_seen))]
     pub fn designator(&mut self, alloc: Global, node: &Designator) -> Result<Designated, AllocError>
         ensures { Lays designated_seen (spec.designator (layer_seen self.old) (designator_view node.now)) (layer_seen self.new) result }
     {
-        let start = self.begun(alloc, &node.name);
+        let start = self.around.names.begun(alloc, &node.name);
         self.selectors(alloc, start, &node.selectors)
     }
 
@@ -81,7 +52,6 @@ impl<'a> Layer<'a> {
     }
 
     #[cycle(expression)]
-    #[tactic(auto, unfolding(crate::specs::LaidExpressions::selector))]
     fn selected(
         &mut self,
         alloc: Global,
@@ -91,113 +61,11 @@ impl<'a> Layer<'a> {
         ensures { Lays designated_seen (spec.selector (layer_seen self.old) (designated_seen whole) (selector_view node.now)) (layer_seen self.new) result }
     {
         match node {
-            Selector::Field(name) => Ok(self.field(whole, name)),
+            Selector::Field(name) => Ok(self.around.field(whole, name)),
             Selector::Index(index) => {
                 let index = ordinal(self.expression(alloc, index)?);
-                self.element(alloc, whole, index)
+                self.around.element(alloc, whole, index)
             }
-        }
-    }
-
-    // A field of a record, or a routine of a component.
-    #[tactic(auto, unfolding(crate::specs::Layers::layer_seen))]
-    fn field(&self, whole: Designated, name: &Identifier) -> Designated
-        ensures { designated_seen result ≡ spec.field_selected (layer_seen self.now) (designated_seen whole) name.now.name }
-    {
-        match whole {
-            Designated::Variable(place, value_type) => {
-                match self.types.field(value_type, &name.name) {
-                    Some(field) => Designated::Variable(
-                        with_offset(place, field.offset),
-                        field.value_type,
-                    ),
-                    None => Designated::Nothing,
-                }
-            }
-            Designated::Component(place, system) => match self.entry(system, name.name.as_str()) {
-                Some(routine) => Designated::Entry(place, routine),
-                None => Designated::Nothing,
-            },
-            _ => Designated::Nothing,
-        }
-    }
-
-    // The number of a system type's routine.
-    #[tactic(auto, unfolding(crate::specs::Layers::layer_seen))]
-    fn entry(&self, system: usize, name: &str) -> Option<usize>
-        ensures { result ≡ spec.entry_of (layer_seen self.now) system name.now }
-    {
-        match self.systems.get(system) {
-            Some(system) => entry_among(system, &self.headings, name),
-            None => None,
-        }
-    }
-
-    // An element of an array.
-    #[tactic(auto, unfolding(crate::specs::Layers::layer_seen))]
-    fn element(
-        &self,
-        alloc: Global,
-        whole: Designated,
-        index: Expression,
-    ) -> Result<Designated, AllocError>
-        ensures { IfOk result (λ d. designated_seen d ≡ spec.element_selected (layer_seen self.now) (designated_seen whole) (expression_seen index)) }
-    {
-        match whole {
-            Designated::Variable(place, value_type) => {
-                let Some(array) = self.types.array(value_type) else {
-                    return Ok(Designated::Nothing);
-                };
-                let index = Index {
-                    at: index,
-                    low: array.index.low,
-                    high: array.index.high,
-                    size: array.element_cells,
-                };
-                Ok(Designated::Variable(with_index(place, index)?, array.element))
-            }
-            Designated::Contained(first, value_type) => {
-                self.component_element(alloc, first, value_type, index)
-            }
-            _ => Ok(Designated::Nothing),
-        }
-    }
-
-    // A component of an array of these.
-    #[tactic(auto, unfolding(crate::specs::Layers::layer_seen))]
-    fn component_element(
-        &self,
-        alloc: Global,
-        first: usize,
-        value_type: ValueType,
-        index: Expression,
-    ) -> Result<Designated, AllocError>
-        ensures { IfOk result (λ d. designated_seen d ≡ spec.element_selected (layer_seen self.now) (a_contained first value_type) (expression_seen index)) }
-    {
-        let Some(array) = self.types.array(value_type) else {
-            return Ok(Designated::Nothing);
-        };
-        let ValueType::System(system) = array.element else {
-            return Ok(Designated::Nothing);
-        };
-        let place = ComponentPlace::Element {
-            first,
-            low: array.index.low,
-            high: array.index.high,
-            stride: self.component_count(system),
-            index: Box::new(alloc, index)?,
-        };
-        Ok(Designated::Component(place, system))
-    }
-
-    /// How many components one of a system type is, with those that it contains.
-    #[tactic(auto, unfolding(crate::specs::Layers::layer_seen))]
-    pub fn component_count(&self, system: usize) -> usize
-        ensures { result ≡ spec.component_count (layer_seen self.now) system }
-    {
-        match self.systems.get(system) {
-            Some(system) => system.owned.count,
-            None => 0,
         }
     }
 
@@ -268,7 +136,7 @@ impl<'a> Layer<'a> {
 
     // A call of a function, whose result is in a cell of its own.
     #[cycle(expression)]
-    #[tactic(auto, unfolding(crate::specs::LaidExpressions::function, crate::specs::LaidExpressions::arguments))]
+    #[tactic(auto, unfolding(crate::specs::LaidExpressions::function, crate::specs::LaidExpressions::arguments, crate::specs::Layers::layer_seen))]
     fn function(
         &mut self,
         alloc: Global,
@@ -280,13 +148,14 @@ impl<'a> Layer<'a> {
     ) -> Result<Value, AllocError>
         ensures { Lays value_seen (spec.function (layer_seen self.old) at (component_seen component) is_entry routine (expressions_of (expressions_view nodes.now))) (layer_seen self.new) result }
     {
-        let Some(outcome) = self.result(routine) else {
+        let Some(outcome) = self.around.result(routine) else {
             return Ok(no_value());
         };
         let arguments = self.arguments(alloc, routine, nodes)?;
         self.called(alloc, at, component, is_entry, routine, outcome, arguments)
     }
 
+    #[tactic(auto, unfolding(crate::specs::Layers::layer_seen))]
     fn called(
         &mut self,
         alloc: Global,
@@ -299,7 +168,7 @@ impl<'a> Layer<'a> {
     ) -> Result<Value, AllocError>
         ensures { Lays value_seen (spec.called (layer_seen self.old) at (component_seen component) is_entry routine outcome (map argument_seen arguments.items)) (layer_seen self.new) result }
     {
-        let slot = self.add_cell()?;
+        let slot = self.frame.add_cell()?;
         let need = self.reserve(routine);
         let action = Action::Call {
             routine,
@@ -326,7 +195,7 @@ impl<'a> Layer<'a> {
 
     /// The arguments of a routine, or of the system type with this initial statement.
     #[cycle(expression)]
-    #[tactic(auto, unfolding(crate::specs::LaidExpressions::arguments))]
+    #[tactic(auto, unfolding(crate::specs::LaidExpressions::arguments, crate::specs::Layers::layer_seen))]
     pub fn arguments(
         &mut self,
         alloc: Global,
@@ -336,15 +205,8 @@ impl<'a> Layer<'a> {
         ensures { Lays (λ v. map argument_seen v.items) (spec.arguments (layer_seen self.old) routine (expressions_of (expressions_view nodes.now))) (layer_seen self.new) result }
     {
         let arguments = self.all_arguments(alloc, routine, nodes)?;
-        self.count_arguments(arguments.len());
+        self.lists.count_arguments(arguments.len());
         Ok(arguments)
-    }
-
-    #[tactic(auto, unfolding(crate::specs::Layers::layer_seen))]
-    fn count_arguments(&mut self, count: usize)
-        ensures { layer_seen self.new ≡ spec.with_count (layer_seen self.old) count }
-    {
-        self.arguments = self.arguments.max(count);
     }
 
     #[cycle(expression)]
@@ -366,6 +228,7 @@ impl<'a> Layer<'a> {
     }
 
     // A value where the routine has a parameter at this place.
+    #[tactic(auto, unfolding(crate::specs::Layers::layer_seen), using(crate::proofs::Around::passed_around))]
     fn add_argument(
         &self,
         alloc: Global,
@@ -376,41 +239,13 @@ impl<'a> Layer<'a> {
     ) -> Result<(), AllocError>
         ensures { OnOk result (map argument_seen arguments.new.items ≡ map argument_seen arguments.old.items ++ spec.with_argument (layer_seen self.now) (parameter_of (layer_seen self.now) routine place) (value_seen value) []) }
     {
-        if let Some(parameter) = self.parameter(routine, place) {
+        if let Some(parameter) = self.around.parameter(routine, place) {
             arguments.push(Argument {
                 slot: parameter.slot,
-                value: self.passed(alloc, parameter.passing, value),
+                value: self.around.passed(alloc, parameter.passing, value),
             })?;
         }
         Ok(())
-    }
-
-    // A value as the argument of a parameter.
-    #[tactic(auto, unfolding(crate::specs::Layers::layer_seen))]
-    fn passed(&self, alloc: Global, passing: Passing, value: Value) -> ArgumentValue
-        ensures { code.value_seen result ≡ spec.passed (layer_seen self.now) passing (value_seen value) }
-    {
-        match passing {
-            Passing::Reference => ArgumentValue::Reference(place_of(alloc, value)),
-            Passing::Component => match value {
-                Value::Component(place) => ArgumentValue::Component(place),
-                _ => ArgumentValue::Component(ComponentPlace::Own),
-            },
-            Passing::Value(ValueType::Ordinal(range)) => ArgumentValue::Scalar {
-                value: ordinal(value),
-                low: range.low,
-                high: range.high,
-            },
-            Passing::Value(ValueType::Set(base)) => ArgumentValue::Set {
-                value: set(value),
-                low: byte_or(0, base.low),
-                high: byte_or(u8::MAX, base.high),
-            },
-            Passing::Value(value_type) => ArgumentValue::Copy {
-                source: place_of(alloc, value),
-                size: self.types.cells_of(value_type),
-            },
-        }
     }
 
     #[cycle(expression)]
@@ -485,6 +320,35 @@ impl<'a> Layer<'a> {
     }
 }
 
+impl<'a> Surroundings<'a> {
+    // A value as the argument of a parameter.
+    fn passed(&self, alloc: Global, passing: Passing, value: Value) -> ArgumentValue
+        ensures { code.value_seen result ≡ spec.passed (around_seen self.now) passing (value_seen value) }
+    {
+        match passing {
+            Passing::Reference => ArgumentValue::Reference(place_of(alloc, value)),
+            Passing::Component => match value {
+                Value::Component(place) => ArgumentValue::Component(place),
+                _ => ArgumentValue::Component(ComponentPlace::Own),
+            },
+            Passing::Constant(ValueType::Ordinal(range)) => ArgumentValue::Scalar {
+                value: ordinal(value),
+                low: range.low,
+                high: range.high,
+            },
+            Passing::Constant(ValueType::Set(base)) => ArgumentValue::Set {
+                value: set(value),
+                low: byte_or(0, base.low),
+                high: byte_or(u8::MAX, base.high),
+            },
+            Passing::Constant(value_type) => ArgumentValue::Copy {
+                source: place_of(alloc, value),
+                size: self.types.cells_of(value_type),
+            },
+        }
+    }
+}
+
 /// A number as it is written; there is none above the greatest integer.
 pub fn integer(value: u16) -> i16
     ensures { result ≡ spec.as_integer value }
@@ -538,45 +402,4 @@ fn with_element(
 {
     let fewer = Box::new(alloc, whole)?;
     Ok(SetExpression::With(fewer, Box::new(alloc, element)?))
-}
-
-// A part of a variable, this many cells further.
-fn with_offset(place: Place, cells: usize) -> Place
-    ensures { place_seen result ≡ spec.with_offset (place_seen place) cells }
-{
-    Place {
-        origin: place.origin,
-        offset: place.offset.saturating_add(cells),
-        indices: place.indices,
-    }
-}
-
-// An element of a part of a variable.
-fn with_index(place: Place, index: Index) -> Result<Place, AllocError>
-    ensures { IfOk result (λ p. place_seen p ≡ spec.with_index (place_seen place) (index_seen index)) }
-{
-    let Place {
-        origin,
-        offset,
-        mut indices,
-    } = place;
-    indices.push(index)?;
-    Ok(Place {
-        origin,
-        offset,
-        indices,
-    })
-}
-
-// The number of a routine with this heading.
-fn entry_among(system: &System, headings: &[Heading<'_>], name: &str) -> Option<usize>
-    ensures { result ≡ spec.entry_among (system_seen system.now) (map heading_seen headings.now) 0 name.now }
-{
-    for number in 0..headings.len() {
-        let heading = &headings[number];
-        if system.first <= number && number < system.initial && heading.name == name {
-            return Some(number);
-        }
-    }
-    None
 }

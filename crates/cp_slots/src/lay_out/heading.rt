@@ -6,16 +6,15 @@ ghost use Rattle.cp_slots.specs.Layers.{layer_seen, heading_seen, Lays, Leads};
 ghost use Rattle.cp_slots.specs.LaidDeclarations as spec;
 
 use crate::lay_out::kinds::ValueType;
-use crate::lay_out::layer::{Content, FunctionResult, Heading, Layer, Parameter, Passing};
+use crate::lay_out::layer::{FunctionResult, Heading, Layer, Parameter, Passing};
 use crate::lay_out::names::Meaning;
 use crate::place::Origin;
-use crate::tables::ComponentParameter;
 use cp_tree::{Group, Identifier, ParameterGroup, RoutineKind};
 use std::alloc::{AllocError, Global};
 
 impl<'a> Layer<'a> {
     /// A routine's heading, with its parameters declared.
-    #[tactic(auto, unfolding(crate::specs::LaidDeclarations::heading))]
+    #[tactic(auto, unfolding(crate::specs::LaidDeclarations::heading, crate::specs::Layers::layer_seen))]
     pub fn heading(
         &mut self,
         alloc: Global,
@@ -35,8 +34,8 @@ impl<'a> Layer<'a> {
             }
             RoutineKind::Function(groups, type_name) => {
                 let parameters = self.constant_groups(alloc, groups)?;
-                let value_type = self.named_type(type_name.name.as_str());
-                let slot = self.add_local(value_type)?;
+                let value_type = self.around.names.named_type(type_name.name.as_str());
+                let slot = self.frame.add_cells(&self.around.types, value_type)?;
                 Ok(Heading {
                     name,
                     parameters,
@@ -90,6 +89,7 @@ impl<'a> Layer<'a> {
         Ok(parameters)
     }
 
+    #[tactic(auto, unfolding(crate::specs::Layers::layer_seen))]
     fn constant_group(
         &mut self,
         before: Vec<Parameter>,
@@ -97,7 +97,7 @@ impl<'a> Layer<'a> {
     ) -> Result<Vec<Parameter>, AllocError>
         ensures { Lays (λ v. v.items) (spec.constant_group (layer_seen self.old) before.items (group_view group.now)) (layer_seen self.new) result }
     {
-        let value_type = self.named_type(group.type_name.name.as_str());
+        let value_type = self.around.names.named_type(group.type_name.name.as_str());
         self.constant_parameters_of(before, value_type, &group.names)
     }
 
@@ -129,11 +129,12 @@ impl<'a> Layer<'a> {
         let mut parameters = before;
         parameters.push(Parameter {
             slot,
-            passing: Passing::Value(value_type),
+            passing: Passing::Constant(value_type),
         })?;
         Ok(parameters)
     }
 
+    #[tactic(auto, unfolding(crate::specs::Layers::layer_seen))]
     fn var_group(
         &mut self,
         before: Vec<Parameter>,
@@ -141,7 +142,7 @@ impl<'a> Layer<'a> {
     ) -> Result<Vec<Parameter>, AllocError>
         ensures { Lays (λ v. v.items) (spec.var_group (layer_seen self.old) before.items (group_view group.now)) (layer_seen self.new) result }
     {
-        let value_type = self.named_type(group.type_name.name.as_str());
+        let value_type = self.around.names.named_type(group.type_name.name.as_str());
         self.var_parameters_of(before, value_type, &group.names)
     }
 
@@ -161,6 +162,7 @@ impl<'a> Layer<'a> {
         Ok(parameters)
     }
 
+    #[tactic(auto, unfolding(crate::specs::Layers::layer_seen))]
     fn var_parameter(
         &mut self,
         before: Vec<Parameter>,
@@ -169,7 +171,8 @@ impl<'a> Layer<'a> {
     ) -> Result<Vec<Parameter>, AllocError>
         ensures { Lays (λ v. v.items) (spec.var_parameter (layer_seen self.old) before.items identifier.now.name value_type) (layer_seen self.new) result }
     {
-        let slot = self.add_extent(value_type)?;
+        let cells = self.around.types.cells_of(value_type);
+        let slot = self.frame.add_extent(cells)?;
         self.declare(
             identifier,
             Meaning::Variable(Origin::Reference(slot), value_type),
@@ -180,16 +183,6 @@ impl<'a> Layer<'a> {
             passing: Passing::Reference,
         })?;
         Ok(parameters)
-    }
-
-    // The cells of a `var` parameter, by its number among these.
-    #[tactic(auto, unfolding(crate::specs::Layers::layer_seen))]
-    fn add_extent(&mut self, value_type: ValueType) -> Result<usize, AllocError>
-        ensures { Lays (λ n. n) (spec.with_extent (layer_seen self.old) value_type) (layer_seen self.new) result }
-    {
-        let slot = self.frame.extents.len();
-        self.frame.extents.push(self.types.cells_of(value_type))?;
-        Ok(slot)
     }
 
     /// The parameters of a system type.
@@ -208,6 +201,7 @@ impl<'a> Layer<'a> {
         Ok(parameters)
     }
 
+    #[tactic(auto, unfolding(crate::specs::Layers::layer_seen))]
     fn system_group(
         &mut self,
         before: Vec<Parameter>,
@@ -215,7 +209,7 @@ impl<'a> Layer<'a> {
     ) -> Result<Vec<Parameter>, AllocError>
         ensures { Lays (λ v. v.items) (spec.system_group (layer_seen self.old) before.items (group_view group.now)) (layer_seen self.new) result }
     {
-        let value_type = self.named_type(group.type_name.name.as_str());
+        let value_type = self.around.names.named_type(group.type_name.name.as_str());
         self.system_parameters_of(before, value_type, &group.names)
     }
 
@@ -249,6 +243,7 @@ impl<'a> Layer<'a> {
         }
     }
 
+    #[tactic(auto, unfolding(crate::specs::Layers::layer_seen))]
     fn component_parameter(
         &mut self,
         before: Vec<Parameter>,
@@ -257,7 +252,7 @@ impl<'a> Layer<'a> {
     ) -> Result<Vec<Parameter>, AllocError>
         ensures { Lays (λ v. v.items) (spec.component_parameter (layer_seen self.old) before.items identifier.now.name system) (layer_seen self.new) result }
     {
-        let slot = self.add_component_cell(system)?;
+        let slot = self.around.owned.add_component_cell(system)?;
         self.declare(identifier, Meaning::Bound(slot, system))?;
         let mut parameters = before;
         parameters.push(Parameter {
@@ -265,20 +260,6 @@ impl<'a> Layer<'a> {
             passing: Passing::Component,
         })?;
         Ok(parameters)
-    }
-
-    // The permanent cell of a component parameter.
-    #[tactic(auto, unfolding(crate::specs::Layers::layer_seen))]
-    fn add_component_cell(&mut self, system: usize) -> Result<usize, AllocError>
-        ensures { Lays (λ n. n) (spec.with_component_cell (layer_seen self.old) system) (layer_seen self.new) result }
-    {
-        let slot = self.owned.cells;
-        self.owned.cells = slot.saturating_add(1);
-        self.owned.contents.push(Content::Component)?;
-        self.owned
-            .parameters
-            .push(ComponentParameter { slot, system })?;
-        Ok(slot)
     }
 
     fn cell_parameter(
@@ -293,7 +274,7 @@ impl<'a> Layer<'a> {
         let mut parameters = before;
         parameters.push(Parameter {
             slot,
-            passing: Passing::Value(value_type),
+            passing: Passing::Constant(value_type),
         })?;
         Ok(parameters)
     }

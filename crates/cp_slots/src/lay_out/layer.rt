@@ -1,13 +1,19 @@
 //! What is laid out so far.
 
-ghost use Rattle.std.specs.Prelude.{◌≡◌, map, length, IfOk, OnOk, Some};
-ghost use Rattle.cp_slots.specs.Code.{action_seen, item_seen};
+ghost use Rattle.std.specs.Prelude.{◌≡◌, [], ◌∷◌, ◌++◌, map, length, IfOk, OnOk};
+ghost use Rattle.cp_slots.specs.declared.lay_out.layer.Content.TheVariants as content;
+ghost use Rattle.cp_slots.specs.Code.{action_seen};
+ghost use Rattle.cp_slots.specs.Kinds.{plus, times};
 ghost use Rattle.cp_slots.specs.Layers as spec;
-ghost use Rattle.cp_slots.specs.Layers.{layer_seen, frame_seen, owned_seen, pending_seen, Lays, Leads};
+ghost use Rattle.cp_slots.specs.Layers.{layer_seen, owned_seen, pending_seen, Lays, Leads};
+ghost use Rattle.cp_slots.specs.LaidDeclarations.{component_cell};
 
 use crate::item::{Action, Item};
+use crate::lay_out::frame::Frame;
 use crate::lay_out::kinds::{Types, ValueType};
+use crate::lay_out::lists::{Lists, Pending};
 use crate::lay_out::names::{Meaning, Names};
+use crate::lay_out::surroundings::Surroundings;
 use crate::tables::{ComponentParameter, Routine};
 use cp_tree::{Identifier, SystemKind, Tree};
 use std::alloc::{AllocError, Global};
@@ -16,7 +22,7 @@ use std::mem;
 /// How an argument is passed.
 #[derive(Clone, Copy, Drop)]
 pub enum Passing {
-    Value(ValueType),
+    Constant(ValueType),
     Reference,
     Component,
 }
@@ -41,18 +47,6 @@ pub struct Heading<'a> {
     pub name: &'a str,
     pub parameters: Vec<Parameter>,
     pub result: Option<FunctionResult>,
-}
-
-/// The frame of the routine that is laid out.
-#[derive(Drop)]
-pub struct Frame {
-    /// The cells as a call begins.
-    pub image: Vec<i16>,
-    /// The cells of each `var` parameter.
-    pub extents: Vec<usize>,
-    /// The most cells and `var` parameters of what is called.
-    pub room: usize,
-    pub reference_room: usize,
 }
 
 /// Component variables of one type that follow one another.
@@ -94,47 +88,14 @@ pub struct System {
     pub initial: usize,
 }
 
-/// An item that is not in the tables yet.
-#[derive(Drop)]
-pub struct Pending {
-    action: Action,
-    line: u32,
-    /// How many entries of a control stack the action itself may need.
-    need: usize,
-}
-
 /// What is laid out so far.
 #[derive(Drop)]
 pub struct Layer<'a> {
-    pub tree: &'a Tree,
-    pub types: Types<'a>,
-    pub names: Names<'a>,
-    pub systems: Vec<System>,
-    /// Of each routine, and of the one that is laid out.
-    pub headings: Vec<Heading<'a>>,
-    pub routines: Vec<Routine>,
-    pub items: Vec<Item>,
-    /// The constants of the enumerations.
-    pub constants: Vec<String>,
-    pub owned: Owned,
+    /// What expressions and types read.
+    pub around: Surroundings<'a>,
+    /// Of the routine that is laid out.
     pub frame: Frame,
-    /// The items of the statement that is laid out: its function calls, and itself.
-    pub pending: Vec<Pending>,
-    /// The greatest number of arguments.
-    pub arguments: usize,
-}
-
-impl Frame {
-    pub fn new(alloc: Global) -> Frame
-        ensures { frame_seen result ≡ spec.no_frame }
-    {
-        Frame {
-            image: Vec::new(alloc),
-            extents: Vec::new(alloc),
-            room: 0,
-            reference_room: 0,
-        }
-    }
+    pub lists: Lists,
 }
 
 impl Owned {
@@ -149,6 +110,40 @@ impl Owned {
             count: 1,
         }
     }
+
+    /// A variable of this many cells, by the first of them.
+    pub fn add_variable(&mut self, value_type: ValueType, cells: usize) -> Result<usize, AllocError>
+        ensures slot { IfOk result (λ n. n ≡ (owned_seen self.old).cells) }
+        ensures cells { OnOk result (owned_seen self.new ≡ record (owned_seen self.old) { cells = plus (owned_seen self.old).cells cells; contents = (owned_seen self.old).contents ++ content.Variable value_type ∷ [] }) }
+    {
+        let slot = self.cells;
+        self.cells = slot.saturating_add(cells);
+        self.contents.push(Content::Variable(value_type))?;
+        Ok(slot)
+    }
+
+    /// The cell of a parameter that is a component.
+    pub fn add_component_cell(&mut self, system: usize) -> Result<usize, AllocError>
+        ensures slot { IfOk result (λ n. n ≡ (owned_seen self.old).cells) }
+        ensures cell { OnOk result (owned_seen self.new ≡ record (owned_seen self.old) { cells = plus (owned_seen self.old).cells 1; contents = (owned_seen self.old).contents ++ content.Component ∷ []; parameters = (owned_seen self.old).parameters ++ component_cell (owned_seen self.old).cells system ∷ [] }) }
+    {
+        let slot = self.cells;
+        self.cells = slot.saturating_add(1);
+        self.contents.push(Content::Component)?;
+        self.parameters.push(ComponentParameter { slot, system })?;
+        Ok(slot)
+    }
+
+    /// Components, each of which counts as this many. The number of the first is the count of those before it.
+    pub fn add_components(&mut self, contained: Contained, each: usize) -> Result<usize, AllocError>
+        ensures first { IfOk result (λ n. n ≡ (owned_seen self.old).count) }
+        ensures components { OnOk result (owned_seen self.new ≡ record (owned_seen self.old) { count = plus (owned_seen self.old).count (times each contained.count); contained = (owned_seen self.old).contained ++ contained ∷ [] }) }
+    {
+        let first = self.count;
+        self.count = first.saturating_add(each.saturating_mul(contained.count));
+        self.contained.push(contained)?;
+        Ok(first)
+    }
 }
 
 impl<'a> Layer<'a> {
@@ -158,18 +153,22 @@ impl<'a> Layer<'a> {
         ensures { IfOk result (λ l. layer_seen l ≡ spec.nothing_laid tree.now.lines.items) }
     {
         Ok(Layer {
-            tree,
-            types: Types::new(alloc),
-            names: Names::new(alloc)?,
-            systems: Vec::new(alloc),
-            headings: Vec::new(alloc),
-            routines: Vec::new(alloc),
-            items: Vec::new(alloc),
-            constants: Vec::new(alloc),
-            owned: Owned::new(alloc),
+            around: Surroundings {
+                tree,
+                types: Types::new(alloc),
+                names: Names::new(alloc)?,
+                systems: Vec::new(alloc),
+                headings: Vec::new(alloc),
+                owned: Owned::new(alloc),
+            },
             frame: Frame::new(alloc),
-            pending: Vec::new(alloc),
-            arguments: 0,
+            lists: Lists {
+                routines: Vec::new(alloc),
+                items: Vec::new(alloc),
+                constants: Vec::new(alloc),
+                pending: Vec::new(alloc),
+                arguments: 0,
+            },
         })
     }
 
@@ -178,24 +177,7 @@ impl<'a> Layer<'a> {
     pub fn declare(&mut self, node: &'a Identifier, meaning: Meaning) -> Result<(), AllocError>
         ensures { Leads (spec.with_name (layer_seen self.old) node.now.name meaning) (layer_seen self.new) result }
     {
-        self.names.add(node.name.as_str(), meaning)
-    }
-
-    /// A parameter of a routine.
-    #[tactic(auto, unfolding(crate::specs::Layers::layer_seen))]
-    pub fn parameter(&self, routine: usize, place: usize) -> Option<Parameter>
-        ensures { result ≡ spec.parameter_of (layer_seen self.now) routine place }
-    {
-        let heading = self.headings.get(routine)?;
-        heading.parameters.get(place).copied()
-    }
-
-    /// A function's result.
-    #[tactic(auto, unfolding(crate::specs::Layers::layer_seen))]
-    pub fn result(&self, routine: usize) -> Option<FunctionResult>
-        ensures { result ≡ spec.result_of (layer_seen self.now) routine }
-    {
-        self.headings.get(routine)?.result
+        self.around.names.add(node.name.as_str(), meaning)
     }
 
     /// Whether it is the routine that is laid out.
@@ -203,41 +185,7 @@ impl<'a> Layer<'a> {
     pub fn is_own(&self, routine: usize) -> bool
         ensures { result ≡ spec.is_own (layer_seen self.now) routine }
     {
-        routine == self.routines.len()
-    }
-
-    /// A new cell of the frame, for the result of a call.
-    #[tactic(auto, unfolding(crate::specs::Layers::layer_seen))]
-    pub fn add_cell(&mut self) -> Result<usize, AllocError>
-        ensures { Lays (λ n. n) (length (layer_seen self.old).frame.image, spec.with_cell (layer_seen self.old)) (layer_seen self.new) result }
-    {
-        let slot = self.frame.image.len();
-        self.frame.image.push(0)?;
-        Ok(slot)
-    }
-
-    /// How many entries of a control stack a list needs.
-    #[tactic(auto, unfolding(crate::specs::Layers::layer_seen))]
-    pub fn need_of(&self, list: Option<usize>) -> usize
-        ensures { result ≡ spec.need_of (layer_seen self.now).items list }
-    {
-        match list {
-            Some(at) => match self.items.get(at) {
-                Some(item) => item.need,
-                None => 0,
-            },
-            None => 0,
-        }
-    }
-
-    /// The same of a list inside an item.
-    pub fn need_inside(&self, list: Option<usize>) -> usize
-        ensures { result ≡ spec.need_inside (layer_seen self.now).items list }
-    {
-        match list {
-            Some(_) => self.need_of(list).saturating_add(1),
-            None => 0,
-        }
+        routine == self.lists.routines.len()
     }
 
     /// The frame has room for those of a routine that is called, and the answer is what the call needs of a control stack.
@@ -246,29 +194,12 @@ impl<'a> Layer<'a> {
         ensures need { result ≡ spec.call_need (layer_seen self.old) routine }
         ensures room { layer_seen self.new ≡ spec.with_room (layer_seen self.old) routine }
     {
-        let Some(callee) = self.routines.get(routine) else {
+        let Some(callee) = self.lists.routines.get(routine) else {
             return 2;
         };
         let body = callee.body;
-        self.frame.room = self.frame.room.max(callee.room);
-        self.frame.reference_room = self.frame.reference_room.max(callee.reference_room);
-        self.need_of(body).saturating_add(2)
-    }
-
-    /// The most that the items of the statement need.
-    #[tactic(auto, unfolding(crate::specs::Layers::layer_seen))]
-    pub fn pending_need(&self) -> usize
-        ensures { result ≡ spec.pending_need (layer_seen self.now) }
-    {
-        most_need(&self.pending)
-    }
-
-    /// The number that the first item of the statement will have, where one more is to come.
-    #[tactic(auto, unfolding(crate::specs::Layers::layer_seen))]
-    pub fn again(&self) -> usize
-        ensures { result ≡ spec.again (layer_seen self.now) }
-    {
-        self.items.len().saturating_add(self.pending.len())
+        self.frame.reserve(callee);
+        self.lists.need_of(body).saturating_add(2)
     }
 
     /// One more item of the statement, by the token at which it begins.
@@ -276,8 +207,8 @@ impl<'a> Layer<'a> {
     pub fn add(&mut self, at: usize, action: Action, need: usize) -> Result<(), AllocError>
         ensures { Leads (spec.added (layer_seen self.old) at (action_seen action) need) (layer_seen self.new) result }
     {
-        let line = self.tree.line(at);
-        self.pending.push(Pending { action, line, need })?;
+        let line = self.around.tree.line(at);
+        self.lists.pending.push(Pending { action, line, need })?;
         Ok(())
     }
 
@@ -298,7 +229,7 @@ impl<'a> Layer<'a> {
         ensures taken { map pending_seen result.items ≡ (layer_seen self.old).pending }
         ensures left { layer_seen self.new ≡ spec.without_pending (layer_seen self.old) }
     {
-        mem::replace(&mut self.pending, Vec::new(alloc))
+        mem::replace(&mut self.lists.pending, Vec::new(alloc))
     }
 
     #[tactic(auto, using(crate::proofs::Settling::settled_last, crate::proofs::Settling::settled_none))]
@@ -321,13 +252,13 @@ impl<'a> Layer<'a> {
     fn add_item(&mut self, pending: Pending, next: Option<usize>) -> Result<usize, AllocError>
         ensures { Lays (λ n. n) (length (layer_seen self.old).items, spec.with_item (layer_seen self.old) (pending_seen pending) next) (layer_seen self.new) result }
     {
-        let need = self.need_of(next).max(pending.need);
-        let at = self.items.len();
-        self.items.push(Item {
+        let need = self.lists.need_of(next).max(pending.need);
+        let at = self.lists.items.len();
+        self.lists.items.push(Item {
             action: pending.action,
             next,
             line: pending.line,
-            routine: self.routines.len(),
+            routine: self.lists.routines.len(),
             need,
         })?;
         Ok(at)
@@ -341,16 +272,16 @@ impl<'a> Layer<'a> {
         let result = self.result_slot();
         let frame = mem::replace(&mut self.frame, Frame::new(alloc));
         let references = frame.extents.len();
-        self.routines.push(Routine {
+        self.lists.routines.push(Routine {
             body,
             room: frame.image.len().saturating_add(frame.room),
             image: frame.image,
             references,
             result,
             reference_room: references.saturating_add(frame.reference_room),
-            own: self.owned.cells,
+            own: self.around.owned.cells,
             extents: frame.extents,
-            system: self.systems.len(),
+            system: self.around.systems.len(),
         })?;
         Ok(())
     }
@@ -360,22 +291,9 @@ impl<'a> Layer<'a> {
     fn result_slot(&self) -> usize
         ensures { result ≡ spec.own_result (layer_seen self.now) }
     {
-        match self.result(self.routines.len()) {
+        match self.around.result(self.lists.routines.len()) {
             Some(result) => result.slot,
             None => 0,
         }
     }
-}
-
-// The most that items need.
-fn most_need(items: &[Pending]) -> usize
-    ensures { result ≡ spec.pending_need_from 0 (map pending_seen items.now) }
-{
-    let mut most = 0;
-    for item in items {
-        if most < item.need {
-            most = item.need;
-        }
-    }
-    most
 }

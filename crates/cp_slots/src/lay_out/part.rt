@@ -7,7 +7,7 @@ ghost use Rattle.cp_slots.specs.Layers.{layer_seen, Lays, Leads};
 ghost use Rattle.cp_slots.specs.LaidDeclarations as spec;
 
 use crate::lay_out::kinds::{Types, ValueType};
-use crate::lay_out::layer::{Contained, Content, Layer};
+use crate::lay_out::layer::{Contained, Layer};
 use crate::lay_out::names::Meaning;
 use crate::place::Origin;
 use cp_tree::{ConstantDefinition, Identifier, Part, PartKind, TypeDefinition, VariableGroup};
@@ -66,10 +66,11 @@ impl<'a> Layer<'a> {
         Ok(())
     }
 
+    #[tactic(auto, unfolding(crate::specs::Layers::layer_seen))]
     fn constant_definition(&mut self, node: &'a ConstantDefinition) -> Result<(), AllocError>
         ensures { Leads (spec.constant (layer_seen self.old) (constant_definition_view node.now)) (layer_seen self.new) result }
     {
-        let number = self.constant(&node.value);
+        let number = self.around.names.constant(&node.value);
         self.declare(&node.name, Meaning::Constant(number.base, number.value))
     }
 
@@ -138,7 +139,7 @@ impl<'a> Layer<'a> {
     ) -> Result<(), AllocError>
         ensures { Leads (spec.variable (layer_seen self.old) identifier.now.name value_type) (layer_seen self.new) result }
     {
-        match components_of(&self.types, value_type) {
+        match components_of(&self.around.types, value_type) {
             Some(contained) => self.component_variable(identifier, value_type, contained),
             None => {
                 self.cell_variable(identifier, value_type)?;
@@ -148,6 +149,7 @@ impl<'a> Layer<'a> {
     }
 
     // A variable of components.
+    #[tactic(auto, unfolding(crate::specs::Layers::layer_seen))]
     fn component_variable(
         &mut self,
         identifier: &'a Identifier,
@@ -156,23 +158,13 @@ impl<'a> Layer<'a> {
     ) -> Result<(), AllocError>
         ensures { Leads (spec.component_variable (layer_seen self.old) identifier.now.name value_type contained) (layer_seen self.new) result }
     {
-        let first = self.add_components(contained)?;
+        let each = self.around.component_count(contained.system);
+        let first = self.around.owned.add_components(contained, each)?;
         self.declare(identifier, Meaning::Contained(first, value_type))
     }
 
-    // The number of the first is the count of those before it.
-    #[tactic(auto, unfolding(crate::specs::Layers::layer_seen))]
-    fn add_components(&mut self, contained: Contained) -> Result<usize, AllocError>
-        ensures { Lays (λ n. n) (spec.with_components (layer_seen self.old) contained) (layer_seen self.new) result }
-    {
-        let each = self.component_count(contained.system);
-        let first = self.owned.count;
-        self.owned.count = first.saturating_add(each.saturating_mul(contained.count));
-        self.owned.contained.push(contained)?;
-        Ok(first)
-    }
-
     /// A variable of permanent cells, by the first of them.
+    #[tactic(auto, unfolding(crate::specs::Layers::layer_seen))]
     pub fn cell_variable(
         &mut self,
         identifier: &'a Identifier,
@@ -180,21 +172,12 @@ impl<'a> Layer<'a> {
     ) -> Result<usize, AllocError>
         ensures { Lays (λ n. n) (spec.cell_variable (layer_seen self.old) identifier.now.name value_type) (layer_seen self.new) result }
     {
-        let slot = self.add_permanent(value_type)?;
+        let cells = self.around.types.cells_of(value_type);
+        let slot = self.around.owned.add_variable(value_type, cells)?;
         self.declare(
             identifier,
             Meaning::Variable(Origin::Permanent(slot), value_type),
         )?;
-        Ok(slot)
-    }
-
-    #[tactic(auto, unfolding(crate::specs::Layers::layer_seen))]
-    fn add_permanent(&mut self, value_type: ValueType) -> Result<usize, AllocError>
-        ensures { Lays (λ n. n) (spec.with_permanent (layer_seen self.old) value_type) (layer_seen self.new) result }
-    {
-        let slot = self.owned.cells;
-        self.owned.cells = slot.saturating_add(self.types.cells_of(value_type));
-        self.owned.contents.push(Content::Variable(value_type))?;
         Ok(slot)
     }
 
@@ -234,6 +217,7 @@ impl<'a> Layer<'a> {
     }
 
     /// A variable or a constant parameter of a routine, by its first cell.
+    #[tactic(auto, unfolding(crate::specs::Layers::layer_seen))]
     pub fn local(
         &mut self,
         identifier: &'a Identifier,
@@ -241,21 +225,11 @@ impl<'a> Layer<'a> {
     ) -> Result<usize, AllocError>
         ensures { Lays (λ n. n) (spec.local_at (layer_seen self.old) identifier.now.name value_type) (layer_seen self.new) result }
     {
-        let slot = self.add_local(value_type)?;
+        let slot = self.frame.add_cells(&self.around.types, value_type)?;
         self.declare(
             identifier,
             Meaning::Variable(Origin::Local(slot), value_type),
         )?;
-        Ok(slot)
-    }
-
-    /// The cells of a parameter, a result or a local variable.
-    #[tactic(auto, unfolding(crate::specs::Layers::layer_seen))]
-    pub fn add_local(&mut self, value_type: ValueType) -> Result<usize, AllocError>
-        ensures { Lays (λ n. n) (spec.with_local (layer_seen self.old) value_type) (layer_seen self.new) result }
-    {
-        let slot = self.frame.image.len();
-        self.types.add_least(&mut self.frame.image, value_type)?;
         Ok(slot)
     }
 }

@@ -1,11 +1,10 @@
 //! Statements as items. The items of a list are added last to first, each after those inside it.
 
-ghost use Rattle.std.specs.Prelude.{◌≡◌, map, option_map, IfOk};
+ghost use Rattle.std.specs.Prelude.{◌≡◌, map, option_map};
 ghost use Rattle.cp_tree.specs.View.{expression_view, expressions_view, expressions_of, designator_view, statement_view, statements_view, statements_of, arm_view, arms_view, arms_of, start_view};
 ghost use Rattle.cp_slots.specs.Code.{action_seen, arm_seen, component_seen};
 ghost use Rattle.cp_slots.specs.Values.{value_seen, designated_seen};
-ghost use Rattle.cp_slots.specs.Layers.{layer_seen, Lays, Leads, is_own, result_of, settled, added};
-ghost use Rattle.cp_slots.specs.LaidTypes.{labels_of};
+ghost use Rattle.cp_slots.specs.Layers.{layer_seen, around_seen, Lays, Leads, is_own, result_of, settled, added};
 ghost use Rattle.cp_slots.specs.LaidStatements as spec;
 ghost use Rattle.cp_slots.specs.LaidStatements.{target_seen, callee_seen, placed_seen, token_of};
 
@@ -14,11 +13,12 @@ use crate::lay_out::expression::byte_or;
 use crate::lay_out::kinds::{Base, ValueType, values_of};
 use crate::lay_out::layer::Layer;
 use crate::lay_out::names::Predeclared;
+use crate::lay_out::surroundings::Surroundings;
 use crate::lay_out::value::{Designated, Value, ordinal, place_at, place_of, set};
 use crate::place::{ComponentPlace, Origin, Place};
 use cp_tree::{
-    Arm as WrittenArm, Constant, Designator, Direction, Expression as Written, Identifier, Start,
-    Statement, StatementKind,
+    Arm as WrittenArm, Designator, Direction, Expression as Written, Identifier, Start, Statement,
+    StatementKind,
 };
 use std::alloc::{AllocError, Global};
 
@@ -141,24 +141,13 @@ impl<'a> Layer<'a> {
     }
 
     #[cycle(statement)]
-    #[tactic(auto, unfolding(crate::specs::LaidStatements::one_arm))]
+    #[tactic(auto, unfolding(crate::specs::LaidStatements::one_arm, crate::specs::Layers::layer_seen))]
     fn arm(&mut self, alloc: Global, node: &WrittenArm) -> Result<Arm, AllocError>
         ensures { Lays arm_seen (spec.one_arm (layer_seen self.old) (arm_view node.now)) (layer_seen self.new) result }
     {
         let body = self.statement(alloc, &node.body, None)?;
-        let labels = self.labels(alloc, &node.labels)?;
+        let labels = self.around.names.labels(alloc, &node.labels)?;
         Ok(Arm { labels, body })
-    }
-
-    #[tactic(auto, using(crate::proofs::LaidLists::labels_step, crate::proofs::LaidLists::labels_none))]
-    fn labels(&self, alloc: Global, nodes: &[Constant]) -> Result<Vec<i16>, AllocError>
-        ensures { IfOk result (λ v. v.items ≡ labels_of (layer_seen self.now).names nodes.now) }
-    {
-        let mut labels = Vec::new(alloc);
-        for node in nodes {
-            labels.push(self.constant(node).value)?;
-        }
-        Ok(labels)
     }
 
     // The variable on the left of an assignment, or of a `for`.
@@ -173,11 +162,12 @@ impl<'a> Layer<'a> {
     }
 
     // The result of the function that is laid out.
+    #[tactic(auto, unfolding(crate::specs::Layers::layer_seen))]
     fn result_target(&self, alloc: Global, routine: usize) -> Target
         ensures { target_seen result ≡ spec.result_target (is_own (layer_seen self.now) routine) (result_of (layer_seen self.now) routine) }
     {
         let is_own = self.is_own(routine);
-        match self.result(routine) {
+        match self.around.result(routine) {
             Some(result) => {
                 if is_own {
                     Target {
@@ -192,7 +182,6 @@ impl<'a> Layer<'a> {
         }
     }
 
-    #[tactic(auto, unfolding(crate::specs::LaidStatements::assigned))]
     fn assign(
         &mut self,
         alloc: Global,
@@ -206,33 +195,8 @@ impl<'a> Layer<'a> {
         let named = self.designator(alloc, left)?;
         let target = self.target(alloc, named);
         let value = self.expression(alloc, right)?;
-        let action = self.assignment(alloc, target, value);
+        let action = self.around.assignment(alloc, target, value);
         self.finish(alloc, at, action, 0, next)
-    }
-
-    #[tactic(auto, unfolding(crate::specs::Layers::layer_seen))]
-    fn assignment(&self, alloc: Global, target: Target, value: Value) -> Action
-        ensures { action_seen result ≡ spec.assignment (layer_seen self.now) (target_seen target) (value_seen value) }
-    {
-        match target.value_type {
-            ValueType::Ordinal(range) => Action::Assign {
-                target: target.place,
-                value: ordinal(value),
-                low: range.low,
-                high: range.high,
-            },
-            ValueType::Set(base) => Action::AssignSet {
-                target: target.place,
-                value: set(value),
-                low: byte_or(0, base.low),
-                high: byte_or(u8::MAX, base.high),
-            },
-            whole => Action::Copy {
-                target: target.place,
-                source: place_of(alloc, value),
-                size: self.types.cells_of(whole),
-            },
-        }
     }
 
     #[tactic(auto, unfolding(crate::specs::LaidStatements::invoked))]
@@ -309,6 +273,7 @@ impl<'a> Layer<'a> {
         self.add(at, performed(alloc, routine, value), 0)
     }
 
+    #[tactic(auto, unfolding(crate::specs::Layers::layer_seen))]
     fn block(
         &mut self,
         alloc: Global,
@@ -318,10 +283,11 @@ impl<'a> Layer<'a> {
     ) -> Result<Option<usize>, AllocError>
         ensures { Lays (λ o. o) (settled (spec.blocked (layer_seen self.old) at list) next) (layer_seen self.new) result }
     {
-        let need = self.need_inside(list);
+        let need = self.lists.need_inside(list);
         self.finish(alloc, at, Action::Block(list), need, next)
     }
 
+    #[tactic(auto, unfolding(crate::specs::Layers::layer_seen))]
     fn cycle_item(
         &mut self,
         alloc: Global,
@@ -331,7 +297,7 @@ impl<'a> Layer<'a> {
     ) -> Result<Option<usize>, AllocError>
         ensures { Lays (λ o. o) (settled (spec.cycled (layer_seen self.old) at list) next) (layer_seen self.new) result }
     {
-        let need = self.need_inside(list);
+        let need = self.lists.need_inside(list);
         self.finish(alloc, at, Action::Cycle(list), need, next)
     }
 
@@ -351,7 +317,7 @@ impl<'a> Layer<'a> {
     }
 
     // `if`.
-    #[tactic(auto, unfolding(crate::specs::LaidStatements::chosen))]
+    #[tactic(auto, unfolding(crate::specs::LaidStatements::chosen, crate::specs::Layers::layer_seen))]
     fn choose(
         &mut self,
         alloc: Global,
@@ -364,7 +330,10 @@ impl<'a> Layer<'a> {
         ensures { Lays (λ o. o) (settled (spec.chosen (layer_seen self.old) at (expression_view test.now) then otherwise) next) (layer_seen self.new) result }
     {
         let test = ordinal(self.expression(alloc, test)?);
-        let need = self.need_inside(then).max(self.need_inside(otherwise));
+        let need = self
+            .lists
+            .need_inside(then)
+            .max(self.lists.need_inside(otherwise));
         let action = Action::If {
             test,
             then,
@@ -391,17 +360,18 @@ impl<'a> Layer<'a> {
     }
 
     // The most that arms need.
+    #[tactic(auto, unfolding(crate::specs::Layers::layer_seen))]
     fn arms_need(&self, arms: &[Arm]) -> usize
         ensures { result ≡ spec.arms_need (layer_seen self.now) 0 (map arm_seen arms.now) }
     {
         let mut need = 0;
         for arm in arms {
-            need = self.need_inside(arm.body).max(need);
+            need = self.lists.need_inside(arm.body).max(need);
         }
         need
     }
 
-    #[tactic(auto, unfolding(crate::specs::LaidStatements::while_item))]
+    #[tactic(auto, unfolding(crate::specs::LaidStatements::while_item, crate::specs::Layers::layer_seen))]
     fn while_item(
         &mut self,
         alloc: Global,
@@ -413,8 +383,8 @@ impl<'a> Layer<'a> {
         ensures { Lays (λ o. o) (settled (spec.while_item (layer_seen self.old) at (expression_view test.now) body) next) (layer_seen self.new) result }
     {
         let test = ordinal(self.expression(alloc, test)?);
-        let need = self.need_inside(body).max(self.pending_need());
-        let again = self.again();
+        let need = self.lists.need_inside(body).max(self.lists.pending_need());
+        let again = self.lists.again();
         self.finish(alloc, at, Action::While { test, body, again }, need, next)
     }
 
@@ -434,7 +404,7 @@ impl<'a> Layer<'a> {
         self.block(alloc, at, body, until)
     }
 
-    #[tactic(auto, unfolding(crate::specs::LaidStatements::until_item))]
+    #[tactic(auto, unfolding(crate::specs::LaidStatements::until_item, crate::specs::Layers::layer_seen))]
     fn until_item(
         &mut self,
         alloc: Global,
@@ -445,12 +415,12 @@ impl<'a> Layer<'a> {
     {
         let at = test.at;
         let test = ordinal(self.expression(alloc, test)?);
-        let need = self.need_inside(body).max(self.pending_need());
-        let again = self.again();
+        let need = self.lists.need_inside(body).max(self.lists.pending_need());
+        let again = self.lists.again();
         self.add(at, Action::Until { test, body, again }, need)
     }
 
-    #[tactic(auto, unfolding(crate::specs::LaidStatements::for_item))]
+    #[tactic(auto, unfolding(crate::specs::LaidStatements::for_item, crate::specs::Layers::layer_seen))]
     fn for_item(
         &mut self,
         alloc: Global,
@@ -464,12 +434,12 @@ impl<'a> Layer<'a> {
     ) -> Result<Option<usize>, AllocError>
         ensures { Lays (λ o. o) (settled (spec.for_item (layer_seen self.old) at name.now.name (expression_view from.now) direction (expression_view to.now) body) next) (layer_seen self.new) result }
     {
-        let named = self.begun(alloc, name);
+        let named = self.around.names.begun(alloc, name);
         let target = self.target(alloc, named);
         let (low, high) = bounds_of(target.value_type);
         let from = ordinal(self.expression(alloc, from)?);
         let to = ordinal(self.expression(alloc, to)?);
-        let need = self.need_inside(body);
+        let need = self.lists.need_inside(body);
         let action = Action::For {
             variable: target.place.origin,
             low,
@@ -502,7 +472,7 @@ impl<'a> Layer<'a> {
         Ok(first)
     }
 
-    #[tactic(auto, unfolding(crate::specs::LaidStatements::started))]
+    #[tactic(auto, unfolding(crate::specs::LaidStatements::started, crate::specs::Layers::layer_seen))]
     fn start(&mut self, alloc: Global, node: &Start) -> Result<(), AllocError>
         ensures { Leads (spec.started (layer_seen self.old) (start_view node.now)) (layer_seen self.new) result }
     {
@@ -510,7 +480,7 @@ impl<'a> Layer<'a> {
         let named = self.designator(alloc, &node.target)?;
         match placed_of(named) {
             Some((component, system)) => {
-                let routine = self.initial(system);
+                let routine = self.around.initial(system);
                 self.begin_component(alloc, at, component, routine, &node.arguments)
             }
             None => self.add(at, Action::Empty, 0),
@@ -537,15 +507,31 @@ impl<'a> Layer<'a> {
         };
         self.add(at, action, need)
     }
+}
 
-    // The initial statement of a system type.
-    #[tactic(auto, unfolding(crate::specs::Layers::layer_seen))]
-    fn initial(&self, system: usize) -> usize
-        ensures { result ≡ spec.initial_of (layer_seen self.now) system }
+impl<'a> Surroundings<'a> {
+    // An assignment of a value to a variable.
+    fn assignment(&self, alloc: Global, target: Target, value: Value) -> Action
+        ensures { action_seen result ≡ spec.assignment (around_seen self.now) (target_seen target) (value_seen value) }
     {
-        match self.systems.get(system) {
-            Some(system) => system.initial,
-            None => 0,
+        match target.value_type {
+            ValueType::Ordinal(range) => Action::Assign {
+                target: target.place,
+                value: ordinal(value),
+                low: range.low,
+                high: range.high,
+            },
+            ValueType::Set(base) => Action::AssignSet {
+                target: target.place,
+                value: set(value),
+                low: byte_or(0, base.low),
+                high: byte_or(u8::MAX, base.high),
+            },
+            whole => Action::Copy {
+                target: target.place,
+                source: place_of(alloc, value),
+                size: self.types.cells_of(whole),
+            },
         }
     }
 }

@@ -1,15 +1,15 @@
 //! Constants and types as they are written.
 
-ghost use Rattle.std.specs.Prelude.{◌≡◌, map, OnOk};
+ghost use Rattle.std.specs.Prelude.{◌≡◌, map, IfOk, OnOk};
 ghost use Rattle.cp_tree.specs.View.{simple_view, type_view, field_group_view, field_groups_view, field_groups_of};
 ghost use Rattle.cp_slots.specs.Kinds.{field_seen, fields_seen, no_fields};
-ghost use Rattle.cp_slots.specs.Layers.{layer_seen, find, Lays, Leads};
+ghost use Rattle.cp_slots.specs.Layers.{layer_seen, names_seen, find, find_type, Lays, Leads};
 ghost use Rattle.cp_slots.specs.LaidTypes as spec;
 
 use crate::lay_out::expression::{integer, integer_of};
 use crate::lay_out::kinds::{Base, Range, RecordType, ValueType, values_of};
 use crate::lay_out::layer::Layer;
-use crate::lay_out::names::Meaning;
+use crate::lay_out::names::{Meaning, Names};
 use cp_tree::{
     Constant, ConstantKind, FieldGroup, Identifier, Sign, Simple, SimpleKind, Type, TypeKind,
 };
@@ -42,10 +42,10 @@ fn signed(sign: Option<Sign>, number: i16) -> i16
     }
 }
 
-impl<'a> Layer<'a> {
+impl<'a> Names<'a> {
     /// A constant.
     pub fn constant(&self, node: &Constant) -> Number
-        ensures { (result.base, result.value) ≡ spec.constant_of (layer_seen self.now).names node.now }
+        ensures { (result.base, result.value) ≡ spec.constant_of (names_seen self.now) node.now }
     {
         match &node.kind {
             ConstantKind::Number(sign, number) => Number {
@@ -62,11 +62,10 @@ impl<'a> Layer<'a> {
         }
     }
 
-    #[tactic(auto, unfolding(crate::specs::Layers::layer_seen))]
     fn named_constant(&self, sign: Option<Sign>, name: &str) -> Number
-        ensures { (result.base, result.value) ≡ spec.constant_meant sign (find name.now (layer_seen self.now).names) }
+        ensures { (result.base, result.value) ≡ spec.constant_meant sign (find name.now (names_seen self.now)) }
     {
-        match self.names.look(name) {
+        match self.look(name) {
             Some(Meaning::Constant(base, number)) => Number {
                 base,
                 value: signed(sign, number),
@@ -78,17 +77,30 @@ impl<'a> Layer<'a> {
         }
     }
 
-    /// The type that a name stands for.
-    #[tactic(auto, unfolding(crate::specs::Layers::layer_seen))]
-    pub fn named_type(&self, name: &str) -> ValueType
-        ensures { result ≡ spec.named_type (layer_seen self.now) name.now }
+    /// The labels of an arm of `case`.
+    #[tactic(auto, using(crate::proofs::LaidLists::labels_step, crate::proofs::LaidLists::labels_none))]
+    pub fn labels(&self, alloc: Global, nodes: &[Constant]) -> Result<Vec<i16>, AllocError>
+        ensures { IfOk result (λ v. v.items ≡ spec.labels_of (names_seen self.now) nodes.now) }
     {
-        match self.names.look_type(name) {
+        let mut labels = Vec::new(alloc);
+        for node in nodes {
+            labels.push(self.constant(node).value)?;
+        }
+        Ok(labels)
+    }
+
+    /// The type that a name stands for.
+    pub fn named_type(&self, name: &str) -> ValueType
+        ensures { result ≡ spec.type_meant (find_type name.now (names_seen self.now)) }
+    {
+        match self.look_type(name) {
             Some(value_type) => value_type,
             None => values_of(Base::Integer),
         }
     }
+}
 
+impl<'a> Layer<'a> {
     /// A type, with its enumeration constants declared.
     #[cycle(types)]
     #[tactic(auto, unfolding(crate::specs::LaidTypes::written_type))]
@@ -138,7 +150,7 @@ impl<'a> Layer<'a> {
         ensures { Lays fields_seen (spec.field_group (layer_seen self.old) (fields_seen before.entry) (field_group_view group.now)) (layer_seen self.new) result }
     {
         let value_type = self.value_type(alloc, &group.field_type)?;
-        let cells = self.types.cells_of(value_type);
+        let cells = self.around.types.cells_of(value_type);
         let mut fields = before;
         add_fields(&mut fields, &group.names, value_type, cells)?;
         Ok(fields)
@@ -148,26 +160,26 @@ impl<'a> Layer<'a> {
     fn add_array(&mut self, index: Range, element: ValueType) -> Result<ValueType, AllocError>
         ensures { Lays (λ t. t) (spec.with_array_type (layer_seen self.old) index element) (layer_seen self.new) result }
     {
-        self.types.add_array(index, element)
+        self.around.types.add_array(index, element)
     }
 
     #[tactic(auto, unfolding(crate::specs::Layers::layer_seen))]
     fn add_record(&mut self, fields: RecordType<'a>) -> Result<ValueType, AllocError>
         ensures { Lays (λ t. t) (spec.with_record_type (layer_seen self.old) (fields_seen fields.entry)) (layer_seen self.new) result }
     {
-        self.types.add_record(fields)
+        self.around.types.add_record(fields)
     }
 
-    #[tactic(auto, unfolding(crate::specs::LaidTypes::simple_type))]
+    #[tactic(auto, unfolding(crate::specs::LaidTypes::simple_type, crate::specs::Layers::layer_seen))]
     fn simple(&mut self, alloc: Global, node: &'a Simple) -> Result<ValueType, AllocError>
         ensures { Lays (λ t. t) (spec.simple_type (layer_seen self.old) (simple_view node.now)) (layer_seen self.new) result }
     {
         match &node.kind {
-            SimpleKind::Name(name) => Ok(self.named_type(name.as_str())),
+            SimpleKind::Name(name) => Ok(self.around.names.named_type(name.as_str())),
             SimpleKind::Enumeration(constants) => self.enumeration(alloc, constants),
             SimpleKind::Subrange(low, high) => {
-                let low = self.constant(low);
-                let high = self.constant(high);
+                let low = self.around.names.constant(low);
+                let high = self.around.names.constant(high);
                 Ok(ValueType::Ordinal(Range {
                     base: low.base,
                     low: low.value,
@@ -185,7 +197,7 @@ impl<'a> Layer<'a> {
     ) -> Result<ValueType, AllocError>
         ensures { Lays (λ t. t) (spec.enumeration (layer_seen self.old) constants.now) (layer_seen self.new) result }
     {
-        let first = u16::try_from(self.constants.len()).unwrap_or(u16::MAX);
+        let first = u16::try_from(self.lists.constants.len()).unwrap_or(u16::MAX);
         let last = integer_of(constants.len().saturating_sub(1));
         let base = Base::Enumeration(first, last);
         self.enumerate(alloc, base, constants)?;
@@ -218,8 +230,8 @@ impl<'a> Layer<'a> {
         ensures { Leads (spec.with_constant (layer_seen self.old) node.now.name meaning) (layer_seen self.new) result }
     {
         let name = node.name.as_str();
-        self.names.add(name, meaning)?;
-        self.constants.push(String::from_str(alloc, name)?)?;
+        self.around.names.add(name, meaning)?;
+        self.lists.constants.push(String::from_str(alloc, name)?)?;
         Ok(())
     }
 }

@@ -1,7 +1,7 @@
 use Rattle.std.proofs.Common.{◌≡◌, drop, map}
 use Rattle.cp_slots.specs.Layers.{system_seen, heading_seen}
 use Rattle.cp_slots.specs.LaidExpressions.{entry_among}
-use Rattle.cp_slots.proofs.lay_out.expression.entry_among.Given as goal
+use Rattle.cp_slots.proofs.lay_out.designator.entry_among.Given as goal
 
 -- what is left leads where all lead
 abbrev pub invariant-loop-number : goal.invariant-loop-number

@@ -1,6 +1,6 @@
 use Rattle.std.proofs.Common.{◌≡◌, drop, map}
 use Rattle.cp_slots.specs.Layers.{pending_need_from, pending_seen}
-use Rattle.cp_slots.proofs.lay_out.layer.most_need.Given as goal
+use Rattle.cp_slots.proofs.lay_out.lists.most_need.Given as goal
 
 -- what is left leads where all lead
 abbrev pub invariant-loop-item : goal.invariant-loop-item
