@@ -2,4 +2,5 @@ pub mod Telling
 pub mod Using
 mod Matched
 mod WordLemmas
+pub mod Meaning
 pub mod Merging
