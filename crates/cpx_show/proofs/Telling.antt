@@ -10,7 +10,7 @@ use Rattle.cp_verdict.specs.declared.expectation.Expectation.{Expectation}
 use Rattle.cpx_show.specs.Showing.{Verdict, TellsMark}
 
 abbrev pub TellsWithin : ℕ → ℕ → Gates → Tables → List Expectation → Verdict → Type 0
-TellsWithin choices steps gates r es verdict = TellsMark r es (table (slots r gates) choices steps) verdict
+TellsWithin choices steps gates r es verdict = TellsMark r.names es (table (slots r gates) choices steps) verdict
 
 pub told_within : (o : Options) (l : Limits) (r : Tables) (es : List Expectation) (verdict : Verdict) → (l.choices ≡ o.choices) × (l.steps ≡ o.steps) × (l.gates ≡ o.gates) → TellsWithin l.choices l.steps l.gates r es verdict → TellsWithin o.choices o.steps o.gates r es verdict
 told_within o l r es verdict same h =

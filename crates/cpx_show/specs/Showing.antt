@@ -1,6 +1,6 @@
 -- What the program tells its caller.
 use Rattle.std.specs.Prelude.{◌≡◌, ◌⊎◌, ℕ, List}
-use Rattle.cp_slots.specs.Tables.{Tables}
+use Rattle.cp_explore.specs.Text.{Spellings}
 use Rattle.cp_run.specs.Table.{Line}
 use Rattle.cp_verdict.specs.Marked.{IsMarkOf}
 use Rattle.cp_verdict.specs.declared.expectation.Expectation.{Expectation}
@@ -42,5 +42,5 @@ verdict_of mark.Fails = Fails
 verdict_of mark.Open = Open
 
 -- There are too many rows, states or outcomes; or the mark of a program whose table has these rows is told.
-abbrev pub TellsMark : Tables → List Expectation → List Line → Verdict → Type 0
-TellsMark r es lines verdict = (verdict ≡ TooMany) ⊎ ((m : Mark) × (verdict ≡ verdict_of m) × IsMarkOf r es lines m)
+abbrev pub TellsMark : Spellings → List Expectation → List Line → Verdict → Type 0
+TellsMark names es lines verdict = (verdict ≡ TooMany) ⊎ ((m : Mark) × (verdict ≡ verdict_of m) × IsMarkOf names es lines m)

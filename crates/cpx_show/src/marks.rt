@@ -64,7 +64,7 @@ fn judged(
     program: &Resolved,
     expectations: &[Expectation],
 ) -> Result<Answer, AllocError>
-    ensures { IfOk result (λ a. spec.TellsMark program.now expectations.now (table (slots program.now options.now.gates) options.now.choices options.now.steps) a.verdict) }
+    ensures { IfOk result (λ a. spec.TellsMark program.now.names expectations.now (table (slots program.now options.now.gates) options.now.choices options.now.steps) a.verdict) }
 {
     let Some(limits) = Limits::new(options.choices, options.steps, options.gates) else {
         unreachable!()
