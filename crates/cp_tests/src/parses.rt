@@ -1,11 +1,12 @@
 //! The worked rows of the grammar, from source texts to trees and faults.
 
-use cp_text::{Kind, Mark, Token, Tokens, scan};
+use cp_text::{Tokens, scan};
 use cp_tree::{FactorKind, ParseFault, StatementKind, Tree, parse};
 use std::test::Fail;
 
+// A space stands between any two tokens.
 const BUFFER: &str =
-    "type buffer = monitor; var full: boolean; slot: integer; sender, receiver: queue; procedure entry put(x: integer); begin if full then delay(sender); slot := x; full := true; continue(receiver) end; procedure entry get(var x: integer); begin if not full then delay(receiver); x := slot; full := false; continue(sender) end; begin full := false end; producer = process(b: buffer); begin b.put(7) end; consumer = process(b: buffer); var v: integer; begin b.get(v); display(v) end; var b: buffer; p: producer; c: consumer; begin init b, p(b), c(b) end.";
+    "type buffer = monitor ; var full : boolean ; slot : integer ; sender , receiver : queue ; procedure entry put ( x : integer ) ; begin if full then delay ( sender ) ; slot := x ; full := true ; continue ( receiver ) end ; procedure entry get ( var x : integer ) ; begin if not full then delay ( receiver ) ; x := slot ; full := false ; continue ( sender ) end ; begin full := false end ; producer = process ( b : buffer ) ; begin b . put ( 7 ) end ; consumer = process ( b : buffer ) ; var v : integer ; begin b . get ( v ) ; display ( v ) end ; var b : buffer ; p : producer ; c : consumer ; begin init b , p ( b ) , c ( b ) end .";
 
 fn scanned(rt: &HostRuntime, source: &str) -> Result<Tokens, Fail> {
     Ok(
@@ -37,20 +38,15 @@ fn nested(rt: &HostRuntime, levels: usize) -> Result<String, Fail> {
     Ok(text)
 }
 
-// A copy of the first tokens, with token `at` replaced by `with`.
-fn copied(rt: &HostRuntime, tokens: &Tokens, count: usize, at: usize) -> Result<Tokens, Fail> {
-    let mut items = Vec::new(rt.alloc());
-    for i in 0..count.min(tokens.count()) {
-        let kind = match tokens.kind(i) {
-            _ if i == at => Kind::Mark(Mark::With),
-            Kind::Number(n) => Kind::Number(*n),
-            Kind::Character(c) => Kind::Character(*c),
-            Kind::Mark(m) => Kind::Mark(*m),
-            Kind::Name(n) => Kind::Name(n.copy(rt.alloc())?),
-        };
-        items.push(Token { kind, line: 1 })?;
+// The first tokens of the buffer, with token `at` replaced by `with`.
+fn copied(rt: &HostRuntime, count: usize, at: usize) -> Result<Tokens, Fail> {
+    let words: Vec<&str> = BUFFER.split_whitespace().collect(rt.alloc())?;
+    let mut text = String::new(rt.alloc());
+    for i in 0..count.min(words.len()) {
+        text.push_str(if i == at { "with" } else { words[i] })?;
+        text.push_str(" ")?;
     }
-    Ok(Tokens::new(items))
+    scanned(rt, text.as_str())
 }
 
 #[test]
@@ -92,7 +88,7 @@ fn with_at_each_token(rt: HostRuntime) -> Result<(), Fail> {
     let tokens = scanned(&rt, BUFFER)?;
     assert!(rt; parse(rt.alloc(), &tokens).is_ok());
     for at in 0..tokens.count() {
-        let changed = copied(&rt, &tokens, tokens.count(), at)?;
+        let changed = copied(&rt, tokens.count(), at)?;
         match parse(rt.alloc(), &changed) {
             Err(ParseFault::OutsideProfile(place)) => assert_eq!(rt; place, at),
             _ => assert_eq!(rt; at, tokens.count()),
@@ -105,7 +101,7 @@ fn with_at_each_token(rt: HostRuntime) -> Result<(), Fail> {
 fn cut_at_each_token(rt: HostRuntime) -> Result<(), Fail> {
     let tokens = scanned(&rt, BUFFER)?;
     for count in 0..tokens.count() {
-        let cut = copied(&rt, &tokens, count, count)?;
+        let cut = copied(&rt, count, count)?;
         match parse(rt.alloc(), &cut) {
             Err(ParseFault::Unexpected(place)) => assert_eq!(rt; place, count),
             _ => assert_eq!(rt; count, tokens.count()),
