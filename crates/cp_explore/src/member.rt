@@ -10,7 +10,7 @@ use crate::one_thread::copies;
 use crate::row::Row;
 use crate::walk::walk_from;
 use crate::word::word_of;
-use cp_machine::{State, Ticks};
+use cp_machine::{State, Ticks, Unwatched};
 use cp_run::{Limits, choose, is_over, may, open};
 use cp_slots::Resolved;
 use std::alloc::Global;
@@ -52,7 +52,13 @@ pub fn member_rows<S: Ledger, C: Ledger>(
             return Ok(rows);
         }
         halt = choose(
-            program, limits, &mut state, *process, &mut steps, &mut calls,
+            program,
+            limits,
+            &mut state,
+            *process,
+            &mut Unwatched,
+            &mut steps,
+            &mut calls,
         );
     }
     let left = limits.choices - word.len() as u8;

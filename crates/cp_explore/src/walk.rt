@@ -14,7 +14,7 @@ use crate::fault::ExploreFault;
 use crate::row::Row;
 use crate::word::word_of;
 use arrayvec::ArrayVec;
-use cp_machine::{State, Ticks};
+use cp_machine::{State, Ticks, Unwatched};
 use cp_run::{Halt, Limits, OutcomeKind, choose, outcome_at, wanted};
 use cp_slots::Resolved;
 use std::alloc::Global;
@@ -128,7 +128,15 @@ fn walk_child<S: Ledger, C: Ledger>(
     ensures some { IfOk result (λ _. 0 < length (walk (slots program.now limits.gates) limits.steps (length deeper.old) (chosen (slots program.now limits.gates) limits.steps (machine_of state.old) process))) }
     ensures calls { IfOk result (λ _. calls.new ≤ calls.old + beginnings (words_in (walk (slots program.now limits.gates) limits.steps (length deeper.old) (chosen (slots program.now limits.gates) limits.steps (machine_of state.old) process)))) }
 {
-    let halt = choose(program, limits, state, process, steps, calls);
+    let halt = choose(
+        program,
+        limits,
+        state,
+        process,
+        &mut Unwatched,
+        steps,
+        calls,
+    );
     word.push(process);
     walk_from(
         alloc, program, limits, state, halt, deeper, word, rows, steps, calls,

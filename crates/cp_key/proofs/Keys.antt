@@ -1,7 +1,8 @@
 -- The key of a state can be read back.
-use Rattle.std.proofs.Common.{reverse, ◌≡◌, ◌∙◌, ℕ, zero, suc, true, false, List, [], ◌∷◌, ◌++◌, Option, None, Some, ℤ, length, cond, eqb, refl, sym, ap}
+use Rattle.std.proofs.Common.{reverse, ◌≡◌, ◌∙◌, ℕ, zero, suc, true, false, List, [], ◌∷◌, ◌++◌, Option, None, Some, ℤ, length, map, cond, eqb, refl, sym, ap}
 use Rattle.std.specs.List.{flat_map}
-use Rattle.std.proofs.lemmas.List.{append_assoc, append-nil, reverse-reverse}
+use Rattle.std.proofs.lemmas.List.{append_assoc, append-nil, length-map, reverse-reverse}
+use Rattle.std.proofs.lemmas.List.Folds.{flat_map-map}
 use Rattle.cp_store.specs.declared.memory.Address.{Address}
 use Rattle.cp_store.specs.declared.memory.Address.TheVariants.{Permanent, Local}
 use Rattle.cp_store.specs.declared.memory.Frame.{Frame}
@@ -15,8 +16,9 @@ use Rattle.cp_machine.specs.declared.shown.Shown.{Shown}
 use Rattle.cp_machine.specs.declared.shown.Shown.TheVariants.{Integer, Char, Truth, Constant}
 use Rattle.cp_machine.specs.declared.state.Phase.{Phase}
 use Rattle.cp_machine.specs.declared.state.Phase.TheVariants.{Uninitialised, Initialising, Initialised}
+use Rattle.cp_machine.specs.Bodies.{Body, body_of}
 use Rattle.cp_machine.specs.Machine.{Machine, Thread}
-use Rattle.cp_key.specs.Key.{option_key, address_key, frame_key, entry_key, status_key, phase_key, gates_key, shown_key, thread_key, monitor_key, rest_key, key_of}
+use Rattle.cp_key.specs.Key.{option_key, address_key, frame_key, entry_key, status_key, phase_key, gates_key, shown_key, body_key, threads_key, monitor_key, rest_key, key_of}
 use Rattle.cp_key.specs.Numbers.{byte_key, integer_key, number_key, list_key}
 use Rattle.cp_key.proofs.NumberKeys.{Code, byte, short, number, integer}
 
@@ -190,11 +192,54 @@ shown = record { read = shown_read; back = shown_back }
 
 -- ---- threads, monitors and machines
 
-thread : Code thread_key
-thread = seen_as thread_key (both status (both frame (both (list entry) (both (list integer) (list address))))) (λ t. (t.status, (t.frame, (reverse t.stack, (t.cells, t.references))))) (λ p. record { status = p.0; frame = p.1.0; stack = reverse p.1.1.0; cells = p.1.1.1.0; references = p.1.1.1.1 }) same (λ t. refl)
+pub body : Code body_key
+body = seen_as body_key (both frame (both (list entry) (both (list integer) (list address)))) (λ b. (b.frame, (reverse b.stack, (b.cells, b.references)))) (λ p. record { frame = p.0; stack = reverse p.1.0; cells = p.1.1.0; references = p.1.1.1 }) same (λ b. refl)
   where
-    same : (t : Thread) → record { status = t.status; frame = t.frame; stack = reverse (reverse t.stack); cells = t.cells; references = t.references } ≡ t
-    same t = ap (λ stack. record t { stack = stack }) (reverse-reverse t.stack)
+    same : (b : Body) → record { frame = b.frame; stack = reverse (reverse b.stack); cells = b.cells; references = b.references } ≡ b
+    same b = ap (λ stack. record b { stack = stack }) (reverse-reverse b.stack)
+
+-- no body begins another one
+pub body_tells : (a b : Body) (x y : List ℕ) → body_key a ++ x ≡ body_key b ++ y → (a ≡ b) × (x ≡ y)
+body_tells a b x y e =
+    let same = sym (body.back a x) ∙ ap body.read e ∙ body.back b y in
+    (ap (λ r. r.0) same, ap (λ r. r.1) same)
+
+of_both : Status → Body → Thread
+of_both s b = record { status = s; frame = b.frame; stack = b.stack; cells = b.cells; references = b.references }
+
+all_of : List Status → List Body → List Thread
+all_of [] bs = []
+all_of (s ∷ ss) [] = []
+all_of (s ∷ ss) (b ∷ bs) = of_both s b ∷ all_of ss bs
+
+all_same : (ts : List Thread) → all_of (map (λ t. t.status) ts) (map (λ t. body_of t) ts) ≡ ts
+unfolding all_of of_both
+all_same [] = refl
+all_same (t ∷ ts) = ap (λ us. t ∷ us) (all_same ts)
+
+threads : Code threads_key
+threads = record { read = read_threads; back = back }
+  where
+    after : List Status × List ℕ → List Thread × List ℕ
+    after s = (let b = read_many body.read (length s.0) s.1 in (all_of s.0 b.0, b.1))
+
+    read_threads : List ℕ → List Thread × List ℕ
+    read_threads ns = after ((list status).read ns)
+
+    back : (ts : List Thread) (rest : List ℕ) → read_threads (threads_key ts ++ rest) ≡ (ts, rest)
+    back ts rest =
+        let ss = map (λ (t : Thread). t.status) ts in
+        let bs = map (λ (t : Thread). body_of t) ts in
+        let bodies = flat_map (λ (t : Thread). body_key (body_of t)) ts in
+        let long : length ss ≡ length ts = length-map ts (λ t. t.status) in
+        let also : length bs ≡ length ts = length-map ts (λ t. body_of t) in
+        let statuses : list_key (λ (t : Thread). status_key t.status) ts ≡ list_key status_key ss = ap (λ n. number_key n ++ flat_map (λ (t : Thread). status_key t.status) ts) (sym long) ∙ ap (λ ns. number_key (length ss) ++ ns) (sym (flat_map-map status_key (λ t. t.status) ts)) in
+        let read : read_many body.read (length ss) (bodies ++ rest) ≡ (bs, rest) = ap (λ n. read_many body.read n (bodies ++ rest)) (long ∙ sym also) ∙ ap (λ ns. read_many body.read (length bs) (ns ++ rest)) (sym (flat_map-map body_key (λ t. body_of t) ts)) ∙ many_back body_key body bs rest in
+        ap read_threads (append_assoc (list_key (λ (t : Thread). status_key t.status) ts) bodies rest)
+        ∙ ap (λ ns. read_threads (ns ++ (bodies ++ rest))) statuses
+        ∙ ap after ((list status).back ss (bodies ++ rest))
+        ∙ ap (λ b. (all_of ss b.0, b.1)) read
+        ∙ ap (λ us. (us, rest)) (all_same ts)
 
 monitor : Code monitor_key
 monitor = seen_as monitor_key (both (option byte) (list byte)) (λ m. (m.holder, m.line)) (λ p. record { holder = p.0; line = p.1 }) (λ m. refl) (λ m. refl)
@@ -204,7 +249,7 @@ rest = both (list monitor) (both (option byte) gates)
 
 machine : Code key_of
 unfolding key_of rest_key
-machine = seen_as key_of (both (list shown) (both (list integer) (both (list number) (both (list phase) (both (list thread) rest))))) (λ m. (m.output, (m.permanents, (m.bindings, (m.phases, (m.threads, (m.monitors, (m.pending, m.gates)))))))) (λ p. record { output = p.0; permanents = p.1.0; bindings = p.1.1.0; phases = p.1.1.1.0; threads = p.1.1.1.1.0; monitors = p.1.1.1.1.1.0; pending = p.1.1.1.1.1.1.0; gates = p.1.1.1.1.1.1.1 }) (λ m. refl) (λ m. refl)
+machine = seen_as key_of (both (list shown) (both (list integer) (both (list number) (both (list phase) (both threads rest))))) (λ m. (m.output, (m.permanents, (m.bindings, (m.phases, (m.threads, (m.monitors, (m.pending, m.gates)))))))) (λ p. record { output = p.0; permanents = p.1.0; bindings = p.1.1.0; phases = p.1.1.1.0; threads = p.1.1.1.1.0; monitors = p.1.1.1.1.1.0; pending = p.1.1.1.1.1.1.0; gates = p.1.1.1.1.1.1.1 }) (λ m. refl) (λ m. refl)
 
 -- states of one key are one
 pub key_tells : (m n : Machine) → key_of m ≡ key_of n → m ≡ n

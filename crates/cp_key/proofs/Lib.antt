@@ -1,4 +1,5 @@
 pub mod Keys
+pub mod KnownBodies
 pub mod Lists
 pub mod Machines
 pub mod NumberKeys

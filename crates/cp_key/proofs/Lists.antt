@@ -1,6 +1,6 @@
 -- Lists that are read element by element.
 use Rattle.std.proofs.Common.{◌≡◌, ◌∙◌, ℕ, ◌+◌, ◌<◌, List, [], ◌∷◌, ◌++◌, length, drop, take, get_or, reverse, ap, sym}
-use Rattle.std.specs.Prelude.{Result, Ok, Err, IsOk, OnOk, is_ok, true, if◌then◌else◌}
+use Rattle.std.specs.Prelude.{Result, Ok, Err, IfOk, IsOk, OnOk, is_ok, true, if◌then◌else◌}
 use Rattle.std.specs.List.{flat_map}
 use Rattle.std.proofs.lemmas.List.{append_assoc, drop_more, reverse-reverse, take_more}
 
@@ -20,3 +20,8 @@ turned_twice stack = reverse-reverse stack
 pub on_ok : {T E P : Type 0} (r : Result T E) → is_ok r ≡ true → OnOk r P → P
 on_ok (Ok x) ok h = h
 on_ok (Err e) ok h = absurd (cc)
+
+-- what follows where a call succeeds
+pub if_ok : {T E : Type 0} {P Q : T → Type 0} (r : Result T E) → ((x : T) → P x → Q x) → IfOk r P → IfOk r Q
+if_ok (Ok x) f h = f x h
+if_ok (Err e) f h = h

@@ -4,11 +4,11 @@ use Rattle.cp_machine.specs.declared.gates.Gates.{Gates}
 use Rattle.cp_machine.specs.declared.shown.Shown.{Shown}
 use Rattle.cp_machine.specs.declared.state.Phase.{Phase}
 use Rattle.cp_machine.specs.Machine.{Machine, Thread, Monitor}
-use Rattle.cp_key.specs.Key.{option_key, phase_key, gates_key, thread_key, rest_key}
+use Rattle.cp_key.specs.Key.{option_key, phase_key, gates_key, threads_key, rest_key}
 use Rattle.cp_key.specs.Numbers.{byte_key, integer_key, number_key, list_key}
 
 abbrev pub after_phases : Machine → List ℕ
-after_phases m = list_key thread_key m.threads ++ rest_key m
+after_phases m = threads_key m.threads ++ rest_key m
 
 abbrev pub after_bindings : Machine → List ℕ
 after_bindings m = list_key phase_key m.phases ++ after_phases m

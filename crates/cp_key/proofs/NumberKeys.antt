@@ -1,5 +1,5 @@
 -- The keys of numbers can be read back.
-use Rattle.std.proofs.Common.{◌≡◌, ◌∙◌, ◌⊎◌, inl, inr, ℕ, zero, suc, ◌+◌, ◌*◌, ◌/◌, ◌%◌, ◌<◌, ◌≤◌, List, [], ◌∷◌, ◌++◌, ℤ, pos, negsuc, eqb, ltb, cond, ap, refl, arith}
+use Rattle.std.proofs.Common.{◌≡◌, ◌∙◌, ◌⊎◌, inl, inr, ℕ, zero, suc, ◌+◌, ◌*◌, ◌/◌, ◌%◌, ◌<◌, ◌≤◌, List, [], ◌∷◌, ◌++◌, ℤ, pos, negsuc, Bool, eqb, ltb, cond, ap, refl, arith}
 use Rattle.std.proofs.lemmas.Bool.{cases_lt, lt-ltb, le-ltb, ne_eqb}
 use Rattle.cp_key.specs.Numbers.{digits, byte_key, short_key, number_key, place_of, integer_key}
 
@@ -89,5 +89,48 @@ at_place_of (negsuc n) =
     let half : (2 * n + 1) / 2 ≡ n = omega arith in
     ap (λ k. cond (eqb k 0) (pos ((2 * n + 1) / 2)) (negsuc ((2 * n + 1) / 2))) odd ∙ ap negsuc half
 
+integer_read : List ℕ → ℤ × List ℕ
+integer_read [] = (pos 0, [])
+integer_read (k ∷ ns) = let r = digits_read 1 ns in cond (eqb k 255) (number_at r.0, r.1) (pos k, ns)
+
+far_back : (z : ℤ) (rest : List ℕ) → integer_read ((255 ∷ digits 1 (place_of z)) ++ rest) ≡ (z, rest)
+unfolding integer_read
+far_back z rest = ap (λ r. (number_at r.0, r.1)) (digits_back 1 (place_of z) rest) ∙ ap (λ y. (y, rest)) (at_place_of z)
+
+integer_back : (z : ℤ) (rest : List ℕ) → integer_read (integer_key z ++ rest) ≡ (z, rest)
+unfolding integer_read
+integer_back (negsuc n) rest = far_back (negsuc n) rest
+integer_back (pos n) rest = go (cases_lt n 255)
+  where
+    go : (n < 255) ⊎ (255 ≤ n) → integer_read (integer_key (pos n) ++ rest) ≡ (pos n, rest)
+    go (inl lt) =
+        let read : Bool → ℤ × List ℕ = λ b. cond b (number_at (digits_read 1 rest).0, (digits_read 1 rest).1) (pos n, rest) in
+        ap (λ b. integer_read (cond b (n ∷ []) (255 ∷ digits 1 (place_of (pos n))) ++ rest)) (lt-ltb n 255 lt) ∙ ap read (ne_eqb n 255 (λ e. omega (arith, e, lt)))
+    go (inr ge) = ap (λ b. integer_read (cond b (n ∷ []) (255 ∷ digits 1 (place_of (pos n))) ++ rest)) (le-ltb n 255 ge) ∙ far_back (pos n) rest
+
 pub integer : Code integer_key
-integer = record { read = λ ns. (number_at (short.read ns).0, (short.read ns).1); back = λ z rest. ap (λ r. (number_at r.0, r.1)) (short.back (place_of z) rest) ∙ ap (λ y. (y, rest)) (at_place_of z) }
+integer = record { read = integer_read; back = integer_back }
+
+-- an integer of one byte
+record IsNear (z : ℤ) : Type 0 where
+  pub byte : ℕ
+  pub few : byte < 255
+  pub key : integer_key z ≡ byte ∷ []
+
+near_or_far : (z : ℤ) → IsNear z ⊎ (integer_key z ≡ 255 ∷ digits 1 (place_of z))
+near_or_far (negsuc n) = inr refl
+near_or_far (pos n) = go (cases_lt n 255)
+  where
+    go : (n < 255) ⊎ (255 ≤ n) → IsNear (pos n) ⊎ (integer_key (pos n) ≡ 255 ∷ digits 1 (place_of (pos n)))
+    go (inl lt) = inl (record { byte = n; few = lt; key = ap (λ b. cond b (n ∷ []) (255 ∷ digits 1 (place_of (pos n)))) (lt-ltb n 255 lt) })
+    go (inr ge) = inr (ap (λ b. cond b (n ∷ []) (255 ∷ digits 1 (place_of (pos n)))) (le-ltb n 255 ge))
+
+-- an integer is longer than a byte where its first byte is 255
+pub far_of_first : (z : ℤ) (bytes more : List ℕ) (first : ℕ) → bytes ≡ integer_key z ++ more → ((byte : ℕ) (rest : List ℕ) → bytes ≡ byte ∷ rest → first ≡ byte) → first ≡ 255 → bytes ≡ 255 ∷ digits 1 (place_of z) ++ more
+far_of_first z bytes more first e tells is = go (near_or_far z)
+  where
+    go : IsNear z ⊎ (integer_key z ≡ 255 ∷ digits 1 (place_of z)) → bytes ≡ 255 ∷ digits 1 (place_of z) ++ more
+    go (inl near) =
+        let same : first ≡ near.byte = tells near.byte more (e ∙ ap (λ k. k ++ more) near.key) in
+        absurd (omega (arith, same, near.few, is))
+    go (inr far) = e ∙ ap (λ k. k ++ more) far

@@ -1,5 +1,6 @@
 -- A state as bytes: each list after its length, each choice of a kind after its number.
 use Rattle.std.specs.Prelude.{reverse, ℕ, ◌<◌, List, [], ◌∷◌, ◌++◌, true, false, Option, None, Some}
+use Rattle.std.specs.List.{flat_map}
 use Rattle.cp_store.specs.declared.memory.Address.{Address}
 use Rattle.cp_store.specs.declared.memory.Address.TheVariants.{Permanent, Local}
 use Rattle.cp_store.specs.declared.memory.Frame.{Frame}
@@ -13,6 +14,7 @@ use Rattle.cp_machine.specs.declared.shown.Shown.{Shown}
 use Rattle.cp_machine.specs.declared.shown.Shown.TheVariants.{Integer, Char, Truth, Constant}
 use Rattle.cp_machine.specs.declared.state.Phase.{Phase}
 use Rattle.cp_machine.specs.declared.state.Phase.TheVariants.{Uninitialised, Initialising, Initialised}
+use Rattle.cp_machine.specs.Bodies.{Body, body_of}
 use Rattle.cp_machine.specs.Machine.{Machine, Thread, Monitor}
 use Rattle.cp_key.specs.Numbers.{byte_key, short_key, number_key, integer_key, list_key}
 
@@ -64,12 +66,16 @@ shown_key (Truth false) = 2 ∷ []
 shown_key (Truth true) = 3 ∷ []
 shown_key (Constant n) = 4 ∷ short_key n
 
--- what the frames of a thread hold, with the control stack from its bottom
-abbrev pub frames_key : Thread → List ℕ
-frames_key t = list_key entry_key (reverse t.stack) ++ (list_key integer_key t.cells ++ list_key address_key t.references)
+-- what the frames of a process hold, with the control stack from its bottom
+abbrev pub frames_key : Body → List ℕ
+frames_key b = list_key entry_key (reverse b.stack) ++ (list_key integer_key b.cells ++ list_key address_key b.references)
 
-abbrev pub thread_key : Thread → List ℕ
-thread_key t = status_key t.status ++ (frame_key t.frame ++ frames_key t)
+abbrev pub body_key : Body → List ℕ
+body_key b = frame_key b.frame ++ frames_key b
+
+-- the statuses of all threads, and then their bodies, so that those that stay the same lie side by side
+abbrev pub threads_key : List Thread → List ℕ
+threads_key ts = list_key (λ t. status_key t.status) ts ++ flat_map (λ t. body_key (body_of t)) ts
 
 abbrev pub monitor_key : Monitor → List ℕ
 monitor_key m = option_key byte_key m.holder ++ list_key byte_key m.line
@@ -80,4 +86,4 @@ rest_key m = list_key monitor_key m.monitors ++ (option_key byte_key m.pending +
 
 -- the output is first, so that it is read without the rest
 unfoldable pub key_of : Machine → List ℕ
-key_of m = list_key shown_key m.output ++ (list_key integer_key m.permanents ++ (list_key number_key m.bindings ++ (list_key phase_key m.phases ++ (list_key thread_key m.threads ++ rest_key m))))
+key_of m = list_key shown_key m.output ++ (list_key integer_key m.permanents ++ (list_key number_key m.bindings ++ (list_key phase_key m.phases ++ (threads_key m.threads ++ rest_key m))))

@@ -1,3 +1,4 @@
 pub mod Key
+pub mod Known
 pub mod Numbers
 pub mod Room

@@ -24,8 +24,10 @@ abbrev pub place_of : ℤ → ℕ
 place_of (pos n) = 2 * n
 place_of (negsuc n) = 2 * n + 1
 
+-- an integer that is not negative and below 255 is one byte, which is most of them; the others are the digits of their places
 abbrev pub integer_key : ℤ → List ℕ
-integer_key z = short_key (place_of z)
+integer_key (pos n) = if nat_lt n 255 then n ∷ [] else 255 ∷ digits 1 (place_of (pos n))
+integer_key (negsuc n) = 255 ∷ digits 1 (place_of (negsuc n))
 
 -- a list after its length
 abbrev pub list_key : {A : Type 0} → (A → List ℕ) → List A → List ℕ

@@ -1,6 +1,7 @@
 //! The key of a state: the state as bytes, and back.
 #![tactic(auto)]
 
+pub mod bodies;
 mod keyed;
 mod law;
 mod number;
@@ -9,6 +10,7 @@ mod reader;
 mod reading;
 mod writing;
 
+pub use bodies::Bodies;
 pub use law::law_key;
 pub use reading::{thaw, thaw_output};
 pub use writing::freeze;

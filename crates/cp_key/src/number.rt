@@ -53,6 +53,15 @@ impl Keyed for usize {
     fn short(self) -> Option<u8> {
         if self < 254 { Some(self as u8) } else { None }
     }
+
+    #[inline(always)]
+    fn of_byte(byte: u8) -> Option<usize> {
+        if byte < 254 {
+            Some(usize::from(byte))
+        } else {
+            None
+        }
+    }
 }
 
 #[cold]
@@ -113,18 +122,38 @@ impl Keyed for i16 {
 
     #[inline(always)]
     fn freeze(self, key: &mut Vec<u8>) -> Result<(), AllocError> {
-        freeze_short(place_of(self), key)
+        if 0 <= self && self < 255 {
+            key.push(self as u8)?;
+            Ok(())
+        } else {
+            freeze_pair(place_of(self), key)
+        }
     }
 
     #[inline(always)]
     fn thaw(key: &mut Reader) -> i16 {
-        at_place(thaw_short(key))
+        match key.byte() {
+            255 => at_place(thaw_pair(key)),
+            byte => i16::from(byte),
+        }
     }
 
     #[inline(always)]
     fn short(self) -> Option<u8> {
-        let place = place_of(self);
-        if place < 255 { Some(place as u8) } else { None }
+        if 0 <= self && self < 255 {
+            Some(self as u8)
+        } else {
+            None
+        }
+    }
+
+    #[inline(always)]
+    fn of_byte(byte: u8) -> Option<i16> {
+        if byte < 255 {
+            Some(i16::from(byte))
+        } else {
+            None
+        }
     }
 }
 

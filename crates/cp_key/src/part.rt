@@ -65,6 +65,15 @@ impl Keyed for Phase {
             Phase::Initialised => 2,
         })
     }
+
+    #[inline(always)]
+    fn of_byte(byte: u8) -> Option<Phase> {
+        match byte {
+            0 => Some(Phase::Uninitialised),
+            1 => Some(Phase::Initialising),
+            _ => Some(Phase::Initialised),
+        }
+    }
 }
 
 impl Keyed for Gates {

@@ -1,6 +1,6 @@
 -- Processes and monitors that are copied one by one.
 use Rattle.std.proofs.Common.{◌≡◌, ℕ, ◌+◌, ◌<◌, ◌≤◌, ◌∙◌, ◌⊎◌, inl, inr, suc, subst, get_or-set_same, get_or-set_other, List, [], ◌∷◌, length, map, ap, sym, refl, arith}
-use Rattle.std.specs.Prelude.{slice_index_or, slice_set, vec_len}
+use Rattle.std.specs.Prelude.{slice_index_or, slice_set, vec_capacity, vec_len}
 use Rattle.std.proofs.lemmas.Bool.{cases_eq}
 use Rattle.std.proofs.lemmas.List.{get_or-map, get_or_read, length-map, length-reverse, length-set}
 use Rattle.cp_slots.specs.Tables.{Tables}
@@ -11,6 +11,7 @@ use Rattle.cp_machine.specs.declared.process.Entry.TheVariants.{Rest, Successor,
 use Rattle.cp_machine.specs.Stack.{top_first}
 use Rattle.cp_machine.specs.declared.state.Guard.{Guard}
 use Rattle.cp_machine.specs.declared.process.Process.{Process}
+use Rattle.cp_machine.specs.Bodies.{Body, body_of}
 use Rattle.cp_machine.specs.Machine.{Machine, Thread, monitor_of, no_thread, thread_at, thread_of}
 use Rattle.cp_machine.specs.Fits.{FrameFits, HaveCells, HaveReferences, HaveRoom, HaveStacks, MachineFits, StackFits, ThreadFits}
 
@@ -45,6 +46,47 @@ grown of mine at x old lm read more n h q d lt =
     set_each (λ q d p. n q d ≤ of p) mine at x lm
     (λ d. (let e : of old ≡ of (slice_index_or mine at d) = ap of (get_or_read mine at old lm read d) in omega (arith, h at d lm, e, more)))
     (length mine) (λ q d l ne. h q d l) q d (omega (arith, long, lt))
+
+-- the processes before a place are copied, those from it on are still the old ones, and all have room
+pub record AreCopied (old mine theirs : List Process) (at : ℕ) : Type 0 where
+  pub copied : (k : ℕ) (d : Process) → k < at → thread_of (slice_index_or mine k d) ≡ thread_of (slice_index_or theirs k d)
+  pub rest : (k : ℕ) (d : Process) → at ≤ k → slice_index_or mine k d ≡ slice_index_or old k d
+  pub room : HaveRoom mine theirs
+  pub stacks : (depth : ℕ) → HaveStacks depth old → HaveStacks depth mine
+  pub cells : (cells : ℕ) → HaveCells cells old → HaveCells cells mine
+  pub references : (references : ℕ) → HaveReferences references old → HaveReferences references mine
+
+-- one process more is copied
+pub copied_next : (old mine theirs : List Process) (at : ℕ) (x was y : Process) → at < length mine → at < length theirs → was ≡ slice_index_or mine at was → y ≡ slice_index_or theirs at y → thread_of x ≡ thread_of y → vec_capacity was.stack ≤ vec_capacity x.stack → vec_capacity was.room.cells ≤ vec_capacity x.room.cells → vec_capacity was.room.references ≤ vec_capacity x.room.references → AreCopied old mine theirs at → AreCopied old (slice_set mine at x) theirs (at + 1)
+copied_next old mine theirs at x was y lm lt read_mine read same stack cells references h =
+    let of_stack = grown (λ p. vec_capacity p.stack) mine at x was lm read_mine stack in
+    let of_cells = grown (λ p. vec_capacity p.room.cells) mine at x was lm read_mine cells in
+    let of_references = grown (λ p. vec_capacity p.room.references) mine at x was lm read_mine references in
+    record {
+      copied = copied_more mine theirs at x y lm lt same read h.copied;
+      rest = λ k d le. get_or-set_other mine at k x d (λ e. omega (arith, e, le)) ∙ h.rest k d (omega (arith, le));
+      room = λ q d l. (
+        of_stack (λ q d. vec_len (slice_index_or theirs q d).stack) (λ q d l. (h.room q d l).0) q d l,
+        of_cells (λ q d. vec_len (slice_index_or theirs q d).room.cells) (λ q d l. (h.room q d l).1) q d l,
+        of_references (λ q d. vec_len (slice_index_or theirs q d).room.references) (λ q d l. (h.room q d l).2) q d l,
+      );
+      stacks = λ depth few. of_stack (λ q d. depth) (h.stacks depth few);
+      cells = λ n few. of_cells (λ q d. n) (h.cells n few);
+      references = λ n few. of_references (λ q d. n) (h.references n few);
+    }
+
+-- a process that takes the status of one with the same body is like it
+pub status_taken : (s t : Thread) → body_of s ≡ body_of t → record s { status = t.status } ≡ t
+status_taken s t same =
+    let with_body : Body → Thread = λ b. record { status = t.status; frame = b.frame; stack = b.stack; cells = b.cells; references = b.references } in
+    ap with_body same
+
+-- a process that is still the old one has the body of the other side's, where the old one has
+pub body_kept : (old mine theirs : List Process) (at : ℕ) (was y : Process) → at < length old → at < length theirs → slice_index_or mine at was ≡ slice_index_or old at was → was ≡ slice_index_or mine at was → y ≡ slice_index_or theirs at y → body_of (thread_at (map thread_of old) at) ≡ body_of (thread_at (map thread_of theirs) at) → body_of (thread_of was) ≡ body_of (thread_of y)
+body_kept old mine theirs at was y lo lt rest read_mine read kept =
+    let mine_is : thread_of was ≡ thread_at (map thread_of old) at = ap thread_of (read_mine ∙ rest) ∙ sym (get_or-map thread_of old at was no_thread lo) in
+    let theirs_is : thread_at (map thread_of theirs) at ≡ thread_of y = get_or-map thread_of theirs at y no_thread lt ∙ ap thread_of (sym read) in
+    ap body_of mine_is ∙ kept ∙ ap body_of theirs_is
 
 -- monitors that are alike one by one
 pub guards_same : (xs ys : List Guard) → length xs ≡ length ys → ((k : ℕ) (d : Guard) → k < length xs → monitor_of (slice_index_or xs k d) ≡ monitor_of (slice_index_or ys k d)) → map monitor_of xs ≡ map monitor_of ys

@@ -38,3 +38,4 @@ pub mod StepLines
 pub mod StoreLemmas
 pub mod TakeLemmas
 pub mod ThreadLemmas
+pub mod Unmoved

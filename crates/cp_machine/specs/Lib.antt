@@ -1,3 +1,4 @@
+pub mod Bodies
 pub mod Calls
 pub mod Fits
 pub mod Kernel

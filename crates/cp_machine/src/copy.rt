@@ -1,10 +1,12 @@
 //! Copies of states.
 
-ghost use Rattle.std.specs.Prelude.{◌≡◌, ◌≤◌, length, ℕ, IfOk, map, vec_capacity, vec_len};
+ghost use Rattle.std.specs.Prelude.{◌≡◌, ◌≤◌, false, length, ℕ, IfOk, map, vec_capacity, vec_len};
 ghost use Rattle.cp_slots.specs.Tables.{Tables};
 ghost use Rattle.cp_machine.specs.Fits.{HaveCells, HaveReferences, HaveRoom, HaveStacks, IsReserved, IsStateOf};
-ghost use Rattle.cp_machine.specs.Machine.{machine_of, monitor_of, thread_of};
+ghost use Rattle.cp_machine.specs.Bodies.{body_at, body_of, has_moved, KeepBodies};
+ghost use Rattle.cp_machine.specs.Machine.{machine_of, monitor_of, thread_at, thread_of};
 
+use crate::moved::{Moved, Unwatched, Watch};
 use crate::process::Process;
 use crate::state::{Guard, State};
 use arrayvec::ArrayVec;
@@ -44,11 +46,22 @@ impl State {
         ensures same { machine_of self.new ≡ machine_of other.now }
         ensures own { (r : Tables) → IsStateOf r self.old → IsStateOf r other.now → IsStateOf r self.new }
     {
-        take_state(self, other);
+        take_state(self, other, &Unwatched);
+    }
+
+    /// Becomes the same as a state of the same program after which these processes alone moved.
+    pub fn take_moved(&mut self, other: &State, moved: &Moved)
+        requires own { (r : Tables) × IsStateOf r self.old × IsStateOf r other.now }
+        requires kept { KeepBodies (has_moved moved.now) (machine_of other.now) (machine_of self.old) }
+        ensures same { machine_of self.new ≡ machine_of other.now }
+        ensures own { (r : Tables) → IsStateOf r self.old → IsStateOf r other.now → IsStateOf r self.new }
+    {
+        take_state(self, other, moved);
     }
 }
 
-fn take_state(to: &mut State, from: &State)
+#[inline(always)]
+fn take_state<W: Watch>(to: &mut State, from: &State, watch: &W)
     requires permanents { length to.old.permanents.items ≡ length from.now.permanents.items }
     requires bindings { length to.old.bindings.items ≡ length from.now.bindings.items }
     requires phases { length to.old.phases.items ≡ length from.now.phases.items }
@@ -56,13 +69,14 @@ fn take_state(to: &mut State, from: &State)
     requires guards { length to.old.guards.items ≡ length from.now.guards.items }
     requires room { HaveRoom to.old.processes.items from.now.processes.items }
     requires output { vec_len from.now.output ≤ vec_capacity to.old.output }
+    requires kept { (pid : ℕ) → W.moved watch.now pid ≡ false → body_at (machine_of to.old) pid ≡ body_at (machine_of from.now) pid }
     ensures same { machine_of to.new ≡ machine_of from.now }
     ensures reserved { (r : Tables) → IsReserved r to.old → IsReserved r from.now → IsReserved r to.new }
 {
     to.permanents.copy_from_slice(&from.permanents);
     to.bindings.copy_from_slice(&from.bindings);
     to.phases.copy_from_slice(&from.phases);
-    take_processes(&mut to.processes, &from.processes);
+    take_processes(&mut to.processes, &from.processes, watch);
     take_guards(&mut to.guards, &from.guards);
     to.pending = from.pending;
     to.gates = from.gates;
@@ -128,19 +142,26 @@ fn copy_of_guard(from: &Guard) -> Guard
     }
 }
 
-fn take_processes(mine: &mut [Process], theirs: &[Process])
+#[inline(always)]
+fn take_processes<W: Watch>(mine: &mut [Process], theirs: &[Process], watch: &W)
     requires length { length mine.old ≡ length theirs.now }
     requires room { HaveRoom mine.old theirs.now }
+    requires kept { (pid : ℕ) → W.moved watch.now pid ≡ false → body_of (thread_at (map thread_of mine.old) pid) ≡ body_of (thread_at (map thread_of theirs.now) pid) }
     ensures same { map thread_of mine.new ≡ map thread_of theirs.now }
     ensures stacks { (depth : ℕ) → HaveStacks depth mine.old → HaveStacks depth mine.new }
     ensures cells { (cells : ℕ) → HaveCells cells mine.old → HaveCells cells mine.new }
     ensures references { (references : ℕ) → HaveReferences references mine.old → HaveReferences references mine.new }
 {
     for at in 0..mine.len() {
-        take_process(&mut mine[at], &theirs[at]);
+        if watch.has(at) {
+            take_process(&mut mine[at], &theirs[at]);
+        } else {
+            mine[at].status = theirs[at].status;
+        }
     }
 }
 
+#[inline(always)]
 fn take_process(to: &mut Process, from: &Process)
     requires stack { vec_len from.now.stack ≤ vec_capacity to.old.stack }
     requires cells { vec_len from.now.room.cells ≤ vec_capacity to.old.room.cells }

@@ -1,9 +1,9 @@
 -- Leads and tallies are added to the entries of a map.
-use Rattle.std.proofs.Common.{◌≡◌, ◌∙◌, ◌+◌, ◌<◌, ◌⊎◌, inl, inr, ⊎_elim, ℕ, Bool, true, false, not, cond, ◌&&◌, ◌||◌, ◌==◌, nat_lt, if◌then◌else◌, List, [], ◌∷◌, map, Option, None, Some, refl, sym, ap, unwrap_or, arith}
+use Rattle.std.proofs.Common.{◌≡◌, ◌∙◌, ◌+◌, ◌<◌, ◌⊎◌, inl, inr, ℕ, Bool, true, false, not, cond, if◌then◌else◌, List, [], ◌∷◌, map, None, Some, refl, sym, ap, unwrap_or, arith}
 use Rattle.std.specs.Prelude.{nat_eq}
 use Rattle.std.specs.Ordering.{nat_cmp, is_lt}
 use Rattle.std.specs.Cmp.Lexicographic.{slice_cmp}
-use Rattle.std.specs.Map.{lookup}
+use Rattle.std.specs.Map.{lookup, set_value}
 use Rattle.std.proofs.lemmas.Bool.{lt-ltb, le-ltb, eq-eqb, ne_eqb, cases_order}
 use Rattle.std.proofs.lemmas.Cmp.{nat_list_eq_equiv}
 use Rattle.indexmap.specs.IndexMap.{insert_entry}
@@ -85,6 +85,37 @@ added_state (e ∷ es) new k z now x v put is none adds = ap (map keyed) put ∙
     by false q i on =
         let flip : pointwise nat_eq e.0.bytes.items at ≡ false = nat_list_eq_equiv.symm e.0.bytes.items at ∙ q in
         simp (q, flip) (ap (λ l. keyed e ∷ l) (on i))
+
+-- the state was known
+pub known_state : (es : List (StateKey × code.Lead)) (k : StateKey) (now x v : code.Lead) → lookup (λ j. pointwise nat_eq k.bytes.items j.bytes.items) es ≡ Some now → Adds now x v → map keyed (set_value (λ j. pointwise nat_eq k.bytes.items j.bytes.items) es v) ≡ with_lead (pointwise nat_eq) (map keyed es) (keyed (k, x))
+known_state [] k now x v is adds = absurd (cc)
+known_state (e ∷ es) k now x v is adds = by (pointwise nat_eq k.bytes.items e.0.bytes.items) refl is (λ i. known_state es k now x v i adds)
+  where
+    at : List ℕ
+    at = k.bytes.items
+
+    others : List (StateKey × code.Lead)
+    others = set_value (λ j. pointwise nat_eq at j.bytes.items) es v
+
+    by : (b : Bool) → pointwise nat_eq at e.0.bytes.items ≡ b → cond b (Some e.1) (lookup (λ j. pointwise nat_eq at j.bytes.items) es) ≡ Some now → (lookup (λ j. pointwise nat_eq at j.bytes.items) es ≡ Some now → map keyed others ≡ with_lead (pointwise nat_eq) (map keyed es) (keyed (k, x))) → map keyed (cond b ((e.0, v) ∷ es) (e ∷ others)) ≡ with_lead (pointwise nat_eq) (map keyed (e ∷ es)) (keyed (k, x))
+    by true q i on =
+        let flip : pointwise nat_eq e.0.bytes.items at ≡ true = nat_list_eq_equiv.symm e.0.bytes.items at ∙ q in
+        let same : e.1 ≡ now = ap (λ o. unwrap_or o e.1) i in
+        let count : v.count ≡ e.1.count + x.count = adds.0 ∙ ap (λ (y : code.Lead). y.count + x.count) (sym same) in
+        let first : v.first.items ≡ lesser e.1.first.items x.first.items = adds.1 ∙ ap (λ (y : code.Lead). lesser y.first.items x.first.items) (sym same) in
+        simp flip (ap (λ c. scored e.0.bytes.items c v.first.items ∷ map keyed es) count ∙ ap (λ w. scored e.0.bytes.items (e.1.count + x.count) w ∷ map keyed es) first)
+    by false q i on =
+        let flip : pointwise nat_eq e.0.bytes.items at ≡ false = nat_list_eq_equiv.symm e.0.bytes.items at ∙ q in
+        simp flip (ap (λ l. keyed e ∷ l) (on i))
+
+-- the state is new
+pub new_state : (es new : List (StateKey × code.Lead)) (k j : StateKey) (x : code.Lead) → new ≡ insert_entry (λ a b. pointwise nat_eq a.bytes.items b.bytes.items) es j x → j.bytes.items ≡ k.bytes.items → lookup (λ i. pointwise nat_eq k.bytes.items i.bytes.items) es ≡ None → map keyed new ≡ with_lead (pointwise nat_eq) (map keyed es) (keyed (k, x))
+new_state es new k j x put same none =
+    let z : code.Lead = record { count = 0; first = x.first } in
+    let found : lookup (λ i. pointwise nat_eq j.bytes.items i.bytes.items) es ≡ None = ap (λ b. lookup (λ (i : StateKey). pointwise nat_eq b i.bytes.items) es) same ∙ none in
+    let now : z ≡ unwrap_or (lookup (λ i. pointwise nat_eq j.bytes.items i.bytes.items) es) z = sym (ap (λ o. unwrap_or o z) found) in
+    let count : x.count ≡ 0 + x.count = omega arith in
+    added_state es new j z z x x put now (refl, refl) (count, sym (lesser_self x.first.items)) ∙ ap (λ b. with_lead (pointwise nat_eq) (map keyed es) (scored b x.count x.first.items)) same
 
 pub added_end : (es new : List (EndKey × code.Lead)) (k : EndKey) (z now x v : code.Lead) → new ≡ insert_entry (λ a b. same_outcome a.outcome b.outcome) es k v → now ≡ unwrap_or (lookup (λ j. same_outcome k.outcome j.outcome) es) z → IsNone z x → Adds now x v → map end_of new ≡ with_tally same_outcome (map end_of es) (end_of (k, x))
 added_end [] new k z now x v put is none adds =

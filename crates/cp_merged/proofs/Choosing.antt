@@ -1,8 +1,12 @@
 -- A lead goes one choice on with the processes of a list, one after the other.
-use Rattle.std.proofs.Common.{◌≡◌, ◌∙◌, ◌+◌, ◌*◌, ◌<◌, ◌≤◌, ◌^◌, ℕ, zero, suc, Bool, true, false, if◌then◌else◌, List, [], ◌∷◌, ◌++◌, length, Result, Ok, Err, IfOk, refl, sym, ap, subst, arith}
+use Rattle.std.proofs.Common.{◌≡◌, ◌∙◌, ⊎_elim, ◌+◌, ◌*◌, ◌<◌, ◌≤◌, ◌^◌, get_or, ℕ, zero, suc, Bool, true, false, if◌then◌else◌, List, [], ◌∷◌, ◌++◌, length, Result, Ok, Err, IfOk, refl, sym, ap, arith}
+use Rattle.std.proofs.lemmas.Bool.{cases_lt}
+use Rattle.std.proofs.Math.ListN.{get_or-append}
+use Rattle.std.proofs.Math.Seq.{get_or-append_seam}
 use Rattle.std.proofs.lemmas.List.{length-append}
 use Rattle.cp_run.specs.System.{System}
 use Rattle.cp_run.specs.Run.{may, chosen, those_below}
+use Rattle.cp_explore.proofs.Branches.{append_none}
 use Rattle.cp_merged.specs.Tallies.{Sameness}
 use Rattle.cp_merged.specs.Layers.{Lead, Front, arrived, after_choice, after_choices}
 use Rattle.cp_merged.specs.Holds.{total}
@@ -19,6 +23,29 @@ length_those (suc n) f = by (f n) (length_those n f)
     by : (b : Bool) → length (those_below n f) ≤ n → length (those_below n f ++ (if b then n ∷ [] else [])) ≤ suc n
     by true l = let a = length-append (those_below n f) (n ∷ []) in omega (arith, a, l)
     by false l = let a = length-append (those_below n f) [] in omega (arith, a, l)
+
+-- each of the numbers that pass a test passes it
+those_pass : (f : ℕ → Bool) (n i : ℕ) → i < length (those_below n f) → f (get_or (those_below n f) i 0) ≡ true
+those_pass f zero i lt = absurd (omega (arith, lt))
+those_pass f (suc n) i lt = by (f n) refl lt (those_pass f n i)
+  where
+    xs : List ℕ
+    xs = those_below n f
+
+    last : (b : Bool) → f n ≡ b → i < length (xs ++ (if b then n ∷ [] else [])) → length xs ≤ i → f (get_or (xs ++ (if b then n ∷ [] else [])) i 0) ≡ true
+    last false e l above = absurd (omega (arith, l, above, ap length (append_none xs)))
+    last true e l above =
+        let at : i ≡ length xs = omega (arith, l, above, length-append xs (n ∷ [])) in
+        ap f (ap (λ k. get_or (xs ++ n ∷ []) k 0) at ∙ get_or-append_seam xs n [] 0) ∙ e
+
+    by : (b : Bool) → f n ≡ b → i < length (xs ++ (if b then n ∷ [] else [])) → (i < length xs → f (get_or xs i 0) ≡ true) → f (get_or (xs ++ (if b then n ∷ [] else [])) i 0) ≡ true
+    by b e l on = ⊎_elim (λ (below : i < length xs). ap f (get_or-append xs (if b then n ∷ [] else []) 0 i below) ∙ on below) (λ (above : length xs ≤ i). last b e l above) (cases_lt i (length xs))
+
+-- each of the numbers that may be chosen may be
+pub may_those : {S : Type 0} (sys : System S) (s : S) (all : List ℕ) → all ≡ those_below sys.processes (may sys s) → (i : ℕ) → i < length all → may sys s (get_or all i 0) ≡ true
+may_those sys s all is i lt =
+    let e = ap length is in
+    ap (λ l. may sys s (get_or l i 0)) is ∙ those_pass (may sys s) sys.processes i (omega (arith, lt, e))
 
 module _ {S : Type 0} (sys : System S) (same : Sameness) (eq : S → S → Bool) (steps : ℕ) (x : Lead S) where
   abbrev pub after_list : List ℕ → Front S → Front S

@@ -1,5 +1,5 @@
 -- From layer to layer: what fits, and which fault is due.
-use Rattle.std.proofs.Common.{◌≡◌, ◌∙◌, ◌⊎◌, inl, inr, ⊎_elim, lit<, ◌+◌, ◌<◌, ◌≤◌, ℕ, zero, suc, List, [], length, map, refl, sym, ap, subst, arith}
+use Rattle.std.proofs.Common.{◌≡◌, ◌∙◌, ◌⊎◌, inl, ⊎_elim, lit<, ◌+◌, ◌<◌, ◌≤◌, ℕ, List, [], length, map, sym, ap, subst, arith}
 use Rattle.std.specs.Prelude.{Result, Ok, Err, IfErr, IsErrAnd, ◌^◌}
 use Rattle.std.proofs.Math.Nat.{pow-le-pow_right}
 use Rattle.std.proofs.lemmas.List.Elements.{All-nil}
@@ -14,7 +14,7 @@ use Rattle.cp_explore.specs.Report.{same_outcome}
 use Rattle.cp_merged.specs.Layers.{Front, arrived, front_at, by_layers}
 use Rattle.cp_merged.specs.Code.{keyed, end_of}
 use Rattle.cp_merged.specs.Told.{rows_in}
-use Rattle.cp_merged.specs.Holds.{same_key, AreLeads, AreEnds, Holds, IsStates, total}
+use Rattle.cp_merged.specs.Holds.{same_key, AreEnds, Holds, IsStates, total}
 use Rattle.cp_merged.specs.TooMany.{HasTooManyStates, HasTooManyOutcomes, FitsBefore, IsDueFault}
 use Rattle.cp_merged.specs.declared.end_key.EndKey.{EndKey}
 use Rattle.cp_merged.specs.declared.fault.MergeFault.{MergeFault}

@@ -1,22 +1,22 @@
 -- When layers and outcomes fit, by the numbers of leads and tallies.
-use Rattle.std.proofs.Common.{◌≡◌, ◌≢◌, inl, inr, ◌+◌, ◌<◌, ◌≤◌, ℕ, zero, suc, Bool, true, false, if◌then◌else◌, List, [], ◌∷◌, length, map, Option, None, Some, refl, sym, ap, subst, ◌∙◌, arith}
-use Rattle.std.specs.Prelude.{Contains, is_some}
+use Rattle.std.proofs.Common.{◌≡◌, ◌≢◌, inl, inr, ◌<◌, ◌≤◌, ℕ, Bool, true, false, if◌then◌else◌, List, [], ◌∷◌, length, map, Option, None, Some, refl, sym, ap, subst, ◌∙◌, arith}
+use Rattle.std.specs.Prelude.{is_some}
 use Rattle.std.specs.List.{AllByRecursion as Each}
 use Rattle.std.proofs.lemmas.List.{length-map}
 use Rattle.cp_run.specs.declared.outcome.Outcome.{Outcome}
 use Rattle.cp_run.specs.System.{System}
-use Rattle.cp_run.specs.Run.{Node, Halted, Choosing, opened}
+use Rattle.cp_run.specs.Run.{Choosing}
 use Rattle.cp_run.specs.Table.{Line, table}
 use Rattle.cp_explore.specs.Groups.{Tally}
 use Rattle.cp_merged.specs.Tallies.{Sameness, IsExact}
-use Rattle.cp_merged.specs.Layers.{Lead, IsSound, Front, front_at, by_layers}
-use Rattle.cp_merged.specs.TooMany.{MoreThan, IsInLayer, IsEndWithin, HasTooManyStates, HasTooManyOutcomes}
-use Rattle.cp_merged.proofs.Anywhere.{AnyOf, Has, Differ, more_than, no_more_than, has_from_contains, contains_from_has, found_in}
+use Rattle.cp_merged.specs.Layers.{Lead, IsSound, front_at, by_layers}
+use Rattle.cp_merged.specs.TooMany.{IsInLayer, IsEndWithin, HasTooManyStates, HasTooManyOutcomes}
+use Rattle.cp_merged.proofs.Anywhere.{AnyOf, Has, Differ, more_than, no_more_than, has_from_contains, contains_from_has}
 use Rattle.cp_merged.proofs.Basics.{Score, plus, score, score_in, Apart}
 use Rattle.cp_merged.proofs.Reaching.{end_in_table, table_end, short_row}
-use Rattle.cp_merged.proofs.Scores.{scored, score_one, layers_score}
+use Rattle.cp_merged.proofs.Scores.{scored, layers_score}
 use Rattle.cp_merged.proofs.Sorted.{apart_at, apart_by}
-use Rattle.cp_merged.proofs.Fronts.{IsLead, IsEndBy, OneEach, StateIn, EndIn, has_reached, has_ended, is_front, once_at}
+use Rattle.cp_merged.proofs.Fronts.{IsLead, IsEndBy, OneEach, has_reached, has_ended, is_front}
 
 any_map : {A B : Type 0} (g : A → B) (b : B) (xs : List A) → AnyOf (λ x. g x ≡ b) xs → Has b (map g xs)
 any_map g b [] h = h

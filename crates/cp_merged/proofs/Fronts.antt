@@ -1,5 +1,5 @@
 -- What a front has: the states and ends that words lead to, each once.
-use Rattle.std.proofs.Common.{◌≡◌, ◌≢◌, ◌⊎◌, inl, inr, ⊎_elim, ◌+◌, ◌*◌, ◌<◌, ◌≤◌, ◌^◌, ℕ, zero, suc, Bool, true, false, if◌then◌else◌, List, [], ◌∷◌, ◌++◌, length, map, Option, None, Some, refl, sym, ap, subst, ◌∙◌, arith}
+use Rattle.std.proofs.Common.{◌≡◌, ◌⊎◌, inl, inr, ⊎_elim, ◌+◌, ◌<◌, ◌≤◌, ℕ, zero, suc, Bool, true, false, if◌then◌else◌, List, [], ◌∷◌, ◌++◌, length, Some, refl, sym, ap, subst, ◌∙◌, arith}
 use Rattle.std.specs.List.{AllByRecursion as Each}
 use Rattle.std.proofs.lemmas.List.{length-append}
 use Rattle.std.proofs.lemmas.Bool.{cases_order}
@@ -9,10 +9,9 @@ use Rattle.cp_run.specs.System.{System}
 use Rattle.cp_run.specs.Run.{Node, Halted, Choosing, may, chosen, opened}
 use Rattle.cp_explore.specs.Groups.{Tally}
 use Rattle.cp_merged.specs.Tallies.{Sameness, IsExact}
-use Rattle.cp_merged.specs.Layers.{up_to, lesser, Lead, IsSound, merged_lead, with_lead, merged_tally, with_tally, Front, arrived, after_choice, after_choices, after_layer, front_at}
+use Rattle.cp_merged.specs.Layers.{up_to, Lead, IsSound, merged_lead, with_lead, merged_tally, with_tally, Front, arrived, after_choice, after_choices, after_layer, front_at}
 use Rattle.cp_merged.specs.TooMany.{node_after}
 use Rattle.cp_merged.proofs.Anywhere.{AnyOf}
-use Rattle.cp_merged.proofs.Order.{lesser_length}
 use Rattle.cp_merged.proofs.Reaching.{may_below, snoc, step_on, step_back, IsEnd}
 use Rattle.cp_merged.proofs.Unique.{each_to}
 

@@ -1,5 +1,5 @@
 -- A layer in the making: the front so far, and the leads that are still to go on.
-use Rattle.std.proofs.Common.{◌≡◌, ◌∙◌, ◌+◌, ◌*◌, ◌^◌, ◌<◌, ◌≤◌, lit<, ℕ, zero, suc, Bool, List, [], ◌∷◌, length, map, refl, sym, ap, subst, arith, All}
+use Rattle.std.proofs.Common.{◌≡◌, ◌∙◌, ◌+◌, ◌*◌, ◌^◌, ◌<◌, ◌≤◌, lit<, ℕ, suc, List, [], ◌∷◌, length, map, refl, sym, ap, subst, arith}
 use Rattle.std.proofs.Math.Nat.{pow-le-pow_right}
 use Rattle.std.specs.List.{AllByRecursion as Each}
 use Rattle.std.proofs.lemmas.List.{length-map}
@@ -9,14 +9,13 @@ use Rattle.cp_machine.specs.System.{Machine, output_of}
 use Rattle.cp_machine.specs.declared.shown.Shown.{Shown}
 use Rattle.cp_run.specs.declared.outcome.OutcomeKind.TheVariants.{ChoiceLimit}
 use Rattle.cp_machine.specs.declared.gates.Gates.{Gates}
-use Rattle.cp_run.specs.System.{System}
 use Rattle.cp_run.specs.Slots.{slots, processes_of}
 use Rattle.cp_key.specs.Key.{key_of}
 use Rattle.cp_key.specs.Room.{IsMachineOf}
 use Rattle.cp_explore.specs.Groups.{Tally}
 use Rattle.cp_explore.specs.Report.{same_outcome}
 use Rattle.cp_merged.specs.Layers.{Lead, Front, after_choices, after_layer, at_limit, with_tally, front_at, by_layers}
-use Rattle.cp_merged.specs.Code.{keyed, end_of}
+use Rattle.cp_merged.specs.Code.{keyed}
 use Rattle.cp_merged.specs.Holds.{same_key, frozen, AreLeads, AreEnds, Holds, words_of, counts, total}
 use Rattle.cp_merged.specs.TooMany.{HasTooManyStates}
 use Rattle.cp_merged.specs.declared.end_key.EndKey.{EndKey}

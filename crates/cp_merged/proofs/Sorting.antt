@@ -1,6 +1,5 @@
 -- The outcomes that the layers find, in the order of their first words, are the tallies of the table.
-use Rattle.std.proofs.Common.{◌≡◌, ◌∙◌, ◌⊎◌, inl, inr, ⊎_elim, ◌+◌, ◌<◌, ◌≤◌, ℕ, zero, suc, Bool, true, false, not, List, [], ◌∷◌, length, map, Option, None, Some, refl, sym, ap, subst, arith, All, get_or}
-use Rattle.std.specs.Prelude.{Contains}
+use Rattle.std.proofs.Common.{◌≡◌, ◌∙◌, ◌⊎◌, inl, inr, ◌+◌, ℕ, suc, Bool, true, false, not, List, [], ◌∷◌, map, None, Some, refl, sym, ap, subst, arith, get_or}
 use Rattle.std.specs.List.{IsDistinct, AllByRecursion as Each}
 use Rattle.std.specs.List.Sorted.{IsPermutation, IsSortedBy}
 use Rattle.std.specs.Ordering.{nat_cmp, is_lt}
@@ -21,7 +20,7 @@ use Rattle.cp_run.specs.Table.{table}
 use Rattle.cp_run.specs.declared.outcome.Outcome.{Outcome}
 use Rattle.cp_explore.specs.Groups.{Tally}
 use Rattle.cp_explore.specs.Report.{same_outcome}
-use Rattle.cp_merged.specs.Tallies.{Sameness, IsSameness, tally}
+use Rattle.cp_merged.specs.Tallies.{IsSameness, tally}
 use Rattle.cp_merged.specs.Layers.{up_to, IsSound, by_layers}
 use Rattle.cp_merged.specs.Code.{tally_of, by_word}
 use Rattle.cp_merged.specs.Told.{rows_in}

@@ -19,7 +19,8 @@ use crate::ordered::sorted;
 use crate::tallies::Tallies;
 use crate::word::Word;
 use cp_explore::Job;
-use cp_machine::{State, Ticks};
+use cp_key::Bodies;
+use cp_machine::{Moved, State, Ticks};
 use cp_natural::Natural;
 use cp_run::{Limits, open};
 use cp_slots::Resolved;
@@ -81,7 +82,8 @@ fn ends_of<S: Ledger, C: Ledger>(
         count: Natural::one(),
         first: Word::new(),
     };
-    let Ok(()) = front.arrive(alloc, &state, halt, one) else {
+    let none = Bodies::none();
+    let Ok(()) = front.arrive(alloc, &state, halt, &none, &Moved::everybody(), &one) else {
         return Err(MergeFault::Memory);
     };
     if front.layer.len() > most {

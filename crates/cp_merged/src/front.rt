@@ -4,6 +4,8 @@ ghost use Rattle.std.specs.Prelude.{◌≡◌, ◌+◌, ◌^◌, ◌<◌, [], Li
 ghost use Rattle.std.specs.Map.{lookup};
 ghost use lib.Pointwise.{pointwise};
 ghost use Rattle.cp_slots.specs.Tables.{Tables};
+ghost use Rattle.cp_key.specs.Known.{AreBodiesOf, Cover};
+ghost use Rattle.cp_machine.specs.Bodies.{has_moved, KeepBodies};
 ghost use Rattle.cp_machine.specs.System.{Machine, machine_of, output_of, IsStateOf};
 ghost use Rattle.cp_machine.specs.declared.gates.Gates.{Gates};
 ghost use Rattle.cp_run.specs.Slots.{slots};
@@ -19,8 +21,8 @@ use crate::end_key::EndKey;
 use crate::lead::Lead;
 use crate::state_key::StateKey;
 use crate::word::word_of;
-use cp_key::freeze;
-use cp_machine::State;
+use cp_key::{Bodies, freeze};
+use cp_machine::{Moved, State};
 use cp_natural::Natural;
 use cp_run::{Halt, OutcomeKind, outcome_at};
 use indexmap::IndexMap;
@@ -36,16 +38,33 @@ pub type Layer = IndexMap<StateKey, Lead>;
 /// The outcomes of the words that have ended.
 pub type Ends = IndexMap<EndKey, Lead>;
 
-fn add_state(layer: &mut Layer, key: StateKey, lead: Lead) -> Result<(), AllocError>
-    requires { IfSome (lookup (λ k. pointwise nat_eq key.bytes.items k.bytes.items) layer.old.entries) (λ y. y.count + lead.count < 10 ^ 126) }
-    ensures { IfOk result (λ _. map keyed layer.new.entries ≡ with_lead (pointwise nat_eq) (map keyed layer.old.entries) (keyed (key, lead))) }
+// A state that is known takes no memory.
+fn add_state(
+    alloc: Global,
+    layer: &mut Layer,
+    key: &StateKey,
+    lead: &Lead,
+) -> Result<(), AllocError>
+    requires { IfSome (lookup (λ k. pointwise nat_eq key.now.bytes.items k.bytes.items) layer.old.entries) (λ y. y.count + lead.now.count < 10 ^ 126) }
+    ensures { IfOk result (λ _. map keyed layer.new.entries ≡ with_lead (pointwise nat_eq) (map keyed layer.old.entries) (keyed (key.now, lead.now))) }
 {
-    let known = layer.entry(key)?.or_insert(Lead {
-        count: Natural::zero(),
-        first: word_of(lead.first.as_slice()),
-    });
-    known.merge(&lead);
+    match layer.get_mut(key) {
+        Some(known) => known.merge(lead),
+        None => {
+            let bytes = Vec::from_slice(alloc, key.bytes.as_slice())?;
+            layer.insert(StateKey { bytes }, copy_of(lead))?;
+        }
+    }
     Ok(())
+}
+
+fn copy_of(lead: &Lead) -> Lead
+    ensures { result ≡ lead.now }
+{
+    Lead {
+        count: lead.count,
+        first: word_of(lead.first.as_slice()),
+    }
 }
 
 fn add_end(ended: &mut Ends, key: EndKey, lead: Lead) -> Result<(), AllocError>
@@ -66,7 +85,7 @@ pub struct Front {
     pub ended: Ends,
     pub layer: Layer,
     /// Room for a key.
-    scratch: Vec<u8>,
+    scratch: StateKey,
 }
 
 impl Front {
@@ -78,7 +97,9 @@ impl Front {
         Front {
             ended: IndexMap::new(alloc),
             layer: IndexMap::new(alloc),
-            scratch: Vec::new(alloc),
+            scratch: StateKey {
+                bytes: Vec::new(alloc),
+            },
         }
     }
 
@@ -118,17 +139,24 @@ impl Front {
         Ok(())
     }
 
-    /// A choice is due in a state that words lead to.
-    pub fn wait(&mut self, alloc: Global, state: &State, lead: Lead) -> Result<(), AllocError>
-        requires { (xs : List (layers.Lead Machine)) × (map keyed self.old.layer.entries ≡ map frozen xs) × (words_of xs + lead.count < 10 ^ 126) }
-        ensures layer { IfOk result (λ _. (r : Tables) (xs : List (layers.Lead Machine)) → IsStateOf r state.now → AreLeads r self.old.layer.entries xs → AreLeads r self.new.layer.entries (with_lead same_key xs (record { state = machine_of state.now; first = lead.first.items; count = lead.count }))) }
+    /// A choice is due in a state that words lead to. The bodies of the processes that did not move are known.
+    pub fn wait(
+        &mut self,
+        alloc: Global,
+        state: &State,
+        known: &Bodies,
+        moved: &Moved,
+        lead: &Lead,
+    ) -> Result<(), AllocError>
+        requires small { (xs : List (layers.Lead Machine)) × (map keyed self.old.layer.entries ≡ map frozen xs) × (words_of xs + lead.now.count < 10 ^ 126) }
+        requires known { (before : Machine) × AreBodiesOf known.now before × KeepBodies (has_moved moved.now) before (machine_of state.now) }
+        requires cover { Cover known.now moved.now (machine_of state.now) }
+        ensures layer { IfOk result (λ _. (r : Tables) (xs : List (layers.Lead Machine)) → IsStateOf r state.now → AreLeads r self.old.layer.entries xs → AreLeads r self.new.layer.entries (with_lead same_key xs (record { state = machine_of state.now; first = lead.now.first.items; count = lead.now.count }))) }
         ensures ended { self.new.ended.entries ≡ self.old.ended.entries }
     {
-        self.scratch.clear();
-        freeze(state, &mut self.scratch)?;
-        let bytes = Vec::from_slice(alloc, self.scratch.as_slice())?;
-        add_state(&mut self.layer, StateKey { bytes }, lead)?;
-        Ok(())
+        self.scratch.bytes.clear();
+        freeze(state, known, moved, &mut self.scratch.bytes)?;
+        add_state(alloc, &mut self.layer, &self.scratch, lead)
     }
 
     /// Words arrive at a state, where the run stands still.
@@ -137,14 +165,18 @@ impl Front {
         alloc: Global,
         state: &State,
         halt: Halt,
-        lead: Lead,
+        known: &Bodies,
+        moved: &Moved,
+        lead: &Lead,
     ) -> Result<(), AllocError>
-        requires { (r : Tables) × (f : layers.Front Machine) × Holds r self.old.ended.entries self.old.layer.entries f × (total f + lead.count < 10 ^ 126) }
-        ensures { IfOk result (λ _. (r : Tables) (gates : Gates) (f : layers.Front Machine) → IsStateOf r state.now → Holds r self.old.ended.entries self.old.layer.entries f → Holds r self.new.ended.entries self.new.layer.entries (arrived (slots r gates) same_outcome same_key lead.first.items lead.count (node_of halt (machine_of state.now)) f)) }
+        requires small { (r : Tables) × (f : layers.Front Machine) × Holds r self.old.ended.entries self.old.layer.entries f × (total f + lead.now.count < 10 ^ 126) }
+        requires known { (before : Machine) × AreBodiesOf known.now before × KeepBodies (has_moved moved.now) before (machine_of state.now) }
+        requires cover { Cover known.now moved.now (machine_of state.now) }
+        ensures { IfOk result (λ _. (r : Tables) (gates : Gates) (f : layers.Front Machine) → IsStateOf r state.now → Holds r self.old.ended.entries self.old.layer.entries f → Holds r self.new.ended.entries self.new.layer.entries (arrived (slots r gates) same_outcome same_key lead.now.first.items lead.now.count (node_of halt (machine_of state.now)) f)) }
     {
         match halt {
-            Halt::Ended(kind) => self.end(alloc, kind, state, lead),
-            Halt::Choice => self.wait(alloc, state, lead),
+            Halt::Ended(kind) => self.end(alloc, kind, state, copy_of(lead)),
+            Halt::Choice => self.wait(alloc, state, known, moved, lead),
         }
     }
 }

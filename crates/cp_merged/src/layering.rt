@@ -1,6 +1,8 @@
 //! From layer to layer.
 
 ghost use Rattle.std.specs.Prelude.{◌≡◌, ◌+◌, ◌*◌, ◌^◌, ◌<◌, ◌≤◌, [], true, length, IfOk, IfErr};
+ghost use Rattle.cp_key.specs.Known.{AreBodiesOf};
+ghost use Rattle.cp_machine.specs.Bodies.{has_moved, KeepBodies};
 ghost use Rattle.cp_machine.specs.System.{Machine, machine_of, IsStateOf};
 ghost use Rattle.cp_run.specs.Run.{may};
 ghost use Rattle.cp_run.specs.Slots.{slots, processes_of};
@@ -14,8 +16,8 @@ use crate::fault::MergeFault;
 use crate::front::{Front, Layer};
 use crate::lead::Lead;
 use crate::word::{longer, word_of};
-use cp_key::{thaw, thaw_output};
-use cp_machine::{State, Ticks};
+use cp_key::{Bodies, thaw, thaw_output};
+use cp_machine::{Moved, State, Ticks};
 use cp_run::{Limits, OutcomeKind, choose, wanted};
 use cp_slots::Resolved;
 use std::alloc::{AllocError, Global};
@@ -29,6 +31,8 @@ fn take_choice<S: Ledger, C: Ledger>(
     state: &mut State,
     lead: &Lead,
     process: u8,
+    known: &Bodies,
+    moved: &mut Moved,
     front: &mut Front,
     steps: &mut Ticks<S>,
     calls: &mut Ticks<C>,
@@ -37,50 +41,55 @@ fn take_choice<S: Ledger, C: Ledger>(
     requires may { may (slots program.now limits.gates) (machine_of state.old) process ≡ true }
     requires room { length lead.now.first.items < 100 }
     requires small { (f : layers.Front Machine) × Holds program.now front.old.ended.entries front.old.layer.entries f × (total f + lead.now.count < 10 ^ 126) }
+    requires known { AreBodiesOf known.now (machine_of state.old) }
+    requires all { length known.now.rests.items ≡ length (machine_of state.old).threads + 1 }
     ensures own { IsStateOf program.now state.new }
+    ensures kept { KeepBodies (has_moved moved.new) (machine_of state.old) (machine_of state.new) }
     ensures front { IfOk result (λ _. (f : layers.Front Machine) → Holds program.now front.old.ended.entries front.old.layer.entries f → Holds program.now front.new.ended.entries front.new.layer.entries (layers.after_choice (slots program.now limits.gates) same_outcome same_key limits.steps (record { state = machine_of state.old; first = lead.now.first.items; count = lead.now.count }) process f)) }
 {
-    let halt = choose(program, limits, state, process, steps, calls);
+    let halt = choose(program, limits, state, process, moved, steps, calls);
     let arriving = Lead {
         count: lead.count,
         first: longer(lead.first.as_slice(), process),
     };
-    front.arrive(alloc, state, halt, arriving)
+    front.arrive(alloc, state, halt, known, moved, &arriving)
 }
 
-/// A lead goes one choice on with each process that may be chosen: with the last in its own state, and with the others in copies.
+/// A lead goes one choice on with each process that may be chosen, in a copy of its state. `moved` are the processes whose bodies the
+/// copy may have otherwise.
 fn take_choices<S: Ledger, C: Ledger>(
     alloc: Global,
     program: &Resolved,
     limits: Limits,
-    state: &mut State,
+    state: &State,
     lead: &Lead,
     next: &mut State,
+    known: &Bodies,
+    moved: &mut Moved,
     front: &mut Front,
     steps: &mut Ticks<S>,
     calls: &mut Ticks<C>,
 ) -> Result<(), AllocError>
-    requires own { IsStateOf program.now state.old }
+    requires own { IsStateOf program.now state.now }
     requires next { IsStateOf program.now next.old }
     requires room { length lead.now.first.items < 100 }
     requires small { (f : layers.Front Machine) × Holds program.now front.old.ended.entries front.old.layer.entries f × (total f + 16 * lead.now.count < 10 ^ 126) }
-    ensures own { IsStateOf program.now state.new }
+    requires known { AreBodiesOf known.now (machine_of state.now) }
+    requires all { length known.now.rests.items ≡ length (machine_of state.now).threads + 1 }
+    requires kept { KeepBodies (has_moved moved.old) (machine_of state.now) (machine_of next.old) }
     ensures next { IsStateOf program.now next.new }
-    ensures front { IfOk result (λ _. (f : layers.Front Machine) → Holds program.now front.old.ended.entries front.old.layer.entries f → Holds program.now front.new.ended.entries front.new.layer.entries (layers.after_choices (slots program.now limits.gates) same_outcome same_key limits.steps (record { state = machine_of state.old; first = lead.now.first.items; count = lead.now.count }) (processes_of program.now) f)) }
+    ensures kept { KeepBodies (has_moved moved.new) (machine_of state.now) (machine_of next.new) }
+    ensures front { IfOk result (λ _. (f : layers.Front Machine) → Holds program.now front.old.ended.entries front.old.layer.entries f → Holds program.now front.new.ended.entries front.new.layer.entries (layers.after_choices (slots program.now limits.gates) same_outcome same_key limits.steps (record { state = machine_of state.now; first = lead.now.first.items; count = lead.now.count }) (processes_of program.now) f)) }
 {
     let numbers = wanted(program, limits, state);
-    let Some((last, others)) = numbers.as_slice().split_last() else {
-        return Ok(());
-    };
-    for process in others {
-        next.take_from(state);
+    for process in numbers.as_slice() {
+        next.take_moved(state, moved);
+        *moved = Moved::nobody();
         take_choice(
-            alloc, program, limits, next, lead, *process, front, steps, calls,
+            alloc, program, limits, next, lead, *process, known, moved, front, steps, calls,
         )?;
     }
-    take_choice(
-        alloc, program, limits, state, lead, *last, front, steps, calls,
-    )
+    Ok(())
 }
 
 /// Each lead of layer `depth` goes one choice on. A layer of more than `most` states is not made to its end.
@@ -109,10 +118,12 @@ pub fn next_layer<S: Ledger, C: Ledger>(
     ensures many { IfErr result (λ e. IsStates e (HasTooManyStates (slots program.now limits.gates) limits.steps most (depth + 1))) }
 {
     let _ = depth;
+    let mut known = Bodies::none();
+    let mut moved = Moved::everybody();
     for (key, lead) in layer.iter() {
-        thaw(key.bytes.as_slice(), state);
+        known = thaw(key.bytes.as_slice(), &known, state, &mut moved);
         let Ok(()) = take_choices(
-            alloc, program, limits, state, lead, next, front, steps, calls,
+            alloc, program, limits, state, lead, next, &known, &mut moved, front, steps, calls,
         ) else {
             return Err(MergeFault::Memory);
         };

@@ -9,3 +9,4 @@ pub mod TraceRuns
 pub mod Tracing
 pub mod Turning
 pub mod Wanting
+pub mod Watching

@@ -1,7 +1,8 @@
 //! Choices: what a due choice may take, and where it leads to.
 
 ghost use Rattle.std.specs.Prelude.{◌≡◌, ◌≤◌, ◌+◌, true, false, is_some};
-ghost use Rattle.cp_machine.specs.System.{machine_of, opening, IsStateOf};
+ghost use Rattle.cp_machine.specs.Bodies.{KeepBodies};
+ghost use Rattle.cp_machine.specs.System.{Machine, machine_of, opening, IsStateOf};
 ghost use Rattle.cp_run.specs.Run.{those_below, may, chosen, opened};
 ghost use Rattle.cp_run.specs.Slots.{slots, processes_of};
 ghost use Rattle.cp_run.specs.Code.{node_of};
@@ -11,7 +12,7 @@ use crate::outcome::{Halt, Turn};
 use crate::stretches::stretch;
 use crate::turn::{settled_turn, turn_at};
 use arrayvec::ArrayVec;
-use cp_machine::{State, Ticks};
+use cp_machine::{State, Ticks, Unwatched, Watch};
 use cp_slots::Resolved;
 use std::sync::ledger::Ledger;
 
@@ -34,12 +35,13 @@ pub fn may(program: &Resolved, limits: Limits, state: &State, process: u8) -> bo
     wanted(program, limits, state).contains(&process)
 }
 
-/// Takes a due choice: lets the process in at the pending monitor, or goes on with it.
-pub fn choose<S: Ledger, C: Ledger>(
+/// Takes a due choice: lets the process in at the pending monitor, or goes on with it. `watch` is told of the processes that move.
+pub fn choose<S: Ledger, C: Ledger, W: Watch>(
     program: &Resolved,
     limits: Limits,
     state: &mut State,
     process: u8,
+    watch: &mut W,
     steps: &mut Ticks<S>,
     calls: &mut Ticks<C>,
 ) -> Halt
@@ -49,15 +51,16 @@ pub fn choose<S: Ledger, C: Ledger>(
     ensures own { IsStateOf program.now state.new }
     ensures steps { steps.new ≤ steps.old + limits.steps }
     ensures calls { calls.new ≤ calls.old + 1 }
+    ensures kept { (before : Machine) → KeepBodies (W.moved watch.old) before (machine_of state.old) → KeepBodies (W.moved watch.new) before (machine_of state.new) }
 {
     if state.pending().is_none() {
-        return stretch(program, limits, state, process, steps, calls);
+        return stretch(program, limits, state, process, watch, steps, calls);
     }
     state.admit(process);
     match settled_turn(program, limits, state, true, process) {
         Turn::Over(kind) => Halt::Ended(kind),
         Turn::Due => Halt::Choice,
-        Turn::Goes(next) => stretch(program, limits, state, next, steps, calls),
+        Turn::Goes(next) => stretch(program, limits, state, next, watch, steps, calls),
     }
 }
 
@@ -80,6 +83,6 @@ pub fn open<S: Ledger, C: Ledger>(
     match turn_at(program, limits, state, false, 0) {
         Turn::Over(kind) => Halt::Ended(kind),
         Turn::Due => Halt::Choice,
-        Turn::Goes(next) => stretch(program, limits, state, next, steps, calls),
+        Turn::Goes(next) => stretch(program, limits, state, next, &mut Unwatched, steps, calls),
     }
 }

@@ -9,7 +9,7 @@ ghost use Rattle.cp_run.specs.Code.{answer_of, node_of, further};
 use crate::choice::{choose, may, open, wanted};
 use crate::limits::Limits;
 use crate::outcome::{Halt, Outcome, OutcomeKind, Output, RunEnd};
-use cp_machine::{State, Ticks};
+use cp_machine::{State, Ticks, Unwatched};
 use cp_slots::Resolved;
 use std::alloc::{AllocError, Global};
 use std::marker::Brand;
@@ -75,7 +75,15 @@ fn run_counted<L: Ledger, C: Ledger>(
                 if !may(program, limits, &state, *process) {
                     return Ok(RunEnd::NotReady { place });
                 }
-                halt = choose(program, limits, &mut state, *process, ticks, &mut calls);
+                halt = choose(
+                    program,
+                    limits,
+                    &mut state,
+                    *process,
+                    &mut Unwatched,
+                    ticks,
+                    &mut calls,
+                );
             }
         }
     }

@@ -1,7 +1,8 @@
 //! A stretch: one process goes on until a choice is due or the run ends.
 
 ghost use Rattle.std.specs.Prelude.{◌≡◌, ◌≤◌, ◌+◌, true, false};
-ghost use Rattle.cp_machine.specs.System.{machine_of, is_ready, is_pending, IsStateOf};
+ghost use Rattle.cp_machine.specs.Bodies.{KeepBodies};
+ghost use Rattle.cp_machine.specs.System.{Machine, machine_of, is_ready, is_pending, IsStateOf};
 ghost use Rattle.cp_run.specs.Run.{stretch, turn_after};
 ghost use Rattle.cp_run.specs.Slots.{slots};
 ghost use Rattle.cp_run.specs.Code.{node_of, IfGoes};
@@ -9,7 +10,7 @@ ghost use Rattle.cp_run.specs.Code.{node_of, IfGoes};
 use crate::limits::Limits;
 use crate::outcome::{Halt, OutcomeKind, Turn};
 use crate::turn::turn_at;
-use cp_machine::{Event, State, Ticks, local_step, step};
+use cp_machine::{Event, State, Ticks, Watch, local_step, step};
 use cp_slots::Resolved;
 use std::sync::ledger::Ledger;
 
@@ -71,12 +72,13 @@ fn next_turn<S: Ledger>(
 }
 
 /// Goes on with `pid` until a choice of either kind is due, or the run ends for a cause other than the number of choices.
-/// `steps` counts the steps that succeed, `calls` this call.
-pub fn stretch<S: Ledger, C: Ledger>(
+/// `steps` counts the steps that succeed, `calls` this call. `watch` is told of the processes that move.
+pub fn stretch<S: Ledger, C: Ledger, W: Watch>(
     program: &Resolved,
     limits: Limits,
     state: &mut State,
     pid: u8,
+    watch: &mut W,
     steps: &mut Ticks<S>,
     calls: &mut Ticks<C>,
 ) -> Halt
@@ -87,15 +89,20 @@ pub fn stretch<S: Ledger, C: Ledger>(
     ensures own { IsStateOf program.now state.new }
     ensures steps { steps.new ≤ steps.old + limits.steps }
     ensures calls { calls.new ≡ calls.old + 1 }
+    ensures kept { (before : Machine) → KeepBodies (W.moved watch.old) before (machine_of state.old) → KeepBodies (W.moved watch.new) before (machine_of state.new) }
 {
     calls.tick();
     let mut going = pid;
+    watch.add(pid);
     let mut is_under_way = false;
     for _ in 0..limits.steps {
         match next_turn(program, limits, state, going, is_under_way, steps) {
             Turn::Over(kind) => return Halt::Ended(kind),
             Turn::Due => return Halt::Choice,
-            Turn::Goes(next) => going = next,
+            Turn::Goes(next) => {
+                watch.add(next);
+                going = next;
+            }
         }
         is_under_way = true;
     }

@@ -4,7 +4,7 @@ ghost use Rattle.std.specs.Prelude.{◌≡◌};
 
 use crate::programs::{THREE_CALLERS, limits_of, program_of};
 use arrayvec::ArrayVec;
-use cp_machine::{Gates, State, Ticks};
+use cp_machine::{Gates, State, Ticks, Unwatched};
 use cp_run::{Halt, choose, may, open};
 use cp_slots::Resolved;
 use std::alloc::Global;
@@ -62,7 +62,13 @@ fn readings_after<S: Ledger, C: Ledger>(
             return Err(Fail::from("no such choice"));
         }
         halt = choose(
-            program, limits, &mut state, *process, &mut steps, &mut calls,
+            program,
+            limits,
+            &mut state,
+            *process,
+            &mut Unwatched,
+            &mut steps,
+            &mut calls,
         );
     }
     Ok(readings_of(&state))

@@ -1,23 +1,47 @@
 use Rattle.std.proofs.Common.{[], ◌≡◌, ◌∙◌, ◌≤◌, ap, arith, length, subst, sym}
 use Rattle.std.specs.Prelude.{vec_len}
-use Rattle.std.proofs.lemmas.List.{append-nil}
+use Rattle.std.proofs.lemmas.List.{append-nil, length-map}
 use Rattle.cp_machine.specs.declared.state.TheConstants.{LIMIT}
 use Rattle.cp_machine.specs.Fits.{LinesFit, MachineFits}
+use Rattle.cp_machine.specs.Machine.{thread_of}
 use Rattle.cp_machine.specs.Reach.{Reaches}
 use Rattle.cp_key.specs.Key.{key_of}
+use Rattle.cp_key.specs.Known.{AreBodiesOf}
 use Rattle.cp_key.proofs.Keys.{key_tells}
+use Rattle.cp_key.proofs.KnownBodies.{bodies_alike}
 use Rattle.cp_key.proofs.Owned.{machine_room}
 use Rattle.cp_key.proofs.reading.thaw.Goals as goal
 
 pub returns-clause-same : goal.returns-clause-same
 returns-clause-same c = λ m e.
-    (let one = c.requires.1 in
-    let read = c.thaw_state.ensures.same one [] (c.requires.4 ∙ sym (append-nil (key_of one))) (machine_room c.requires.0 c.args.state.now one c.requires.2 c.requires.3) in
-    read ∙ key_tells one m (sym c.requires.4 ∙ e))
+    (let key = c.requires.key in
+    let one = key.1 in
+    let read = c.thaw_state.ensures.same one [] (key.4 ∙ sym (append-nil (key_of one))) (machine_room key.0 c.args.state.now one key.2 key.3) in
+    read.0 ∙ key_tells one m (sym key.4 ∙ e))
+
+pub returns-clause-bodies : goal.returns-clause-bodies
+returns-clause-bodies c =
+    let key = c.requires.key in
+    let one = key.1 in
+    let read = c.thaw_state.ensures.same one [] (key.4 ∙ sym (append-nil (key_of one))) (machine_room key.0 c.args.state.now one key.2 key.3) in
+    subst (AreBodiesOf c.thaw_state.result) (sym read.0) read.1
+
+pub returns-clause-kept : goal.returns-clause-kept
+returns-clause-kept c = λ other h.
+    (let new = c.thaw_state.new.state.processes.items in
+    let old = c.args.state.now.processes.items in
+    let first = length-map new thread_of in
+    let second = length-map old thread_of in
+    let kept = c.thaw_state.ensures.kept in
+    record {
+      count = h.count ∙ second ∙ sym c.thaw_state.ensures.count ∙ sym first;
+      bodies = λ pid e. h.bodies pid (kept.moved pid e) ∙ sym (bodies_alike new old pid c.thaw_state.ensures.count (λ d. kept.bodies pid d e));
+    })
 
 pub returns-clause-own : goal.returns-clause-own
 returns-clause-own c = λ r m own its e.
-    (let read = c.thaw_state.ensures.same m [] (e ∙ sym (append-nil (key_of m))) (machine_room r c.args.state.now m own its) in
+    (let both = c.thaw_state.ensures.same m [] (e ∙ sym (append-nil (key_of m))) (machine_room r c.args.state.now m own its) in
+    let read = both.0 in
     let output = c.thaw_state.new.state.output in
     let long : length output.items ≡ length m.output = ap (λ x. length x.output) read in
     let len : vec_len output ≡ length output.items = output.ok.0 in

@@ -1,4 +1,4 @@
-use Rattle.std.proofs.Common.{◌≡◌, ◌∙◌, ◌<◌, ◌≤◌, length, map, ap, sym, subst, arith}
+use Rattle.std.proofs.Common.{◌≡◌, ◌∙◌, ◌<◌, ◌≤◌, length, map, ap, refl, sym, subst, arith}
 use Rattle.cp_machine.specs.System.{machine_of}
 use Rattle.cp_run.specs.Code.{node_of}
 use Rattle.cp_run.specs.Slots.{slots}
@@ -9,13 +9,22 @@ use Rattle.cp_merged.specs.TooMany.{IsDueFault}
 use Rattle.cp_merged.proofs.Arriving.{ends_are}
 use Rattle.cp_merged.specs.Holds.{same_key, AreLeads, AreEnds}
 use Rattle.cp_merged.proofs.Exploring.{holds_none, holds_first, holds_taken, reached_first, reached_next, first_fault, outcomes_fault, layer_fault, last_fault, all_fits, rows_small, err_to}
+use Rattle.cp_merged.proofs.Knowing.{all_moved, none_known, none_wanted}
 use Rattle.cp_merged.proofs.explorer.ends_of.Goals as goal
 
-pub arrive-requires : goal.arrive-requires
-arrive-requires g c =
+pub arrive-requires-clause-small : goal.arrive-requires-clause-small
+arrive-requires-clause-small g c =
     let l = c.args.limits in
     let h = holds_none c.args.program.now l.gates l.choices l.steps c.args.most c.new-front.result.ended.entries c.new-front.result.layer.entries c.new-front.ensures.ended c.new-front.ensures.layer in
     (c.args.program.now, h.0, h.1, (let e = c.one.ensures in let s = h.2 in omega (arith, e, s)))
+
+pub arrive-requires-clause-known : goal.arrive-requires-clause-known
+arrive-requires-clause-known g c =
+    let m = machine_of c.open-halt.new.state in
+    (m, none_known c.none-none.result m c.none-none.ensures, all_moved c.everybody.result m m c.everybody.ensures refl)
+
+pub arrive-requires-clause-cover : goal.arrive-requires-clause-cover
+arrive-requires-clause-cover g c = none_wanted c.none-none.result c.everybody.result (machine_of c.open-halt.new.state) c.everybody.ensures
 
 pub returns-then-len-most-clause-fault : goal.returns-then-len-most-clause-fault
 returns-then-len-most-clause-fault g c =

@@ -1,4 +1,4 @@
-use Rattle.std.proofs.Common.{rules, ◌∙◌, ap, refl, unwrap_or}
+use Rattle.std.proofs.Common.{rules, ◌∙◌, ap, unwrap_or}
 use Rattle.cp_merged.specs.declared.lead.Lead as code
 use Rattle.cp_merged.proofs.Adding.{added_end}
 use Rattle.cp_merged.proofs.front.add_end.Goals as goal

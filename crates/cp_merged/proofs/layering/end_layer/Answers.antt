@@ -1,4 +1,4 @@
-use Rattle.std.proofs.Common.{rules, ◌≡◌, ◌∙◌, ◌<◌, ◌≤◌, [], ◌∷◌, ap, length, sym, subst, arith}
+use Rattle.std.proofs.Common.{rules, ◌≡◌, ◌∙◌, ◌∷◌, sym, subst, arith}
 use Rattle.cp_machine.specs.System.{machine_of, output_of}
 use Rattle.cp_key.specs.Key.{key_of}
 use Rattle.cp_run.specs.Slots.{slots}

@@ -1,4 +1,4 @@
-use Rattle.std.proofs.Common.{rules, ◌≡◌, ◌∙◌, ◌<◌, ◌≤◌, [], ◌∷◌, ap, length, sym, subst, arith}
+use Rattle.std.proofs.Common.{rules, ◌≡◌, ◌∙◌, ◌<◌, [], ◌∷◌, ap, length, sym, subst, arith}
 use Rattle.cp_machine.specs.System.{machine_of}
 use Rattle.cp_key.specs.Key.{key_of}
 use Rattle.cp_run.specs.Slots.{slots}
@@ -6,6 +6,7 @@ use Rattle.cp_explore.specs.Report.{same_outcome}
 use Rattle.cp_merged.specs.Layers.{front_at}
 use Rattle.cp_merged.specs.Holds.{same_key, AreLeads}
 use Rattle.cp_merged.proofs.Making.{Making, leads_length, making_start, making_next, making_more, making_done, making_many, making_room, making_small}
+use Rattle.cp_merged.proofs.Knowing.{all_moved, none_known}
 use Rattle.cp_merged.proofs.layering.next_layer.Goals as goal
 
 pub loop-key-init : goal.loop-key-init
@@ -20,12 +21,14 @@ loop-key-init g c =
     record {
       own = c.requires.own;
       next = c.requires.next;
+      known = none_known c.none-known.result (machine_of c.args.state.now) c.none-known.ensures;
+      kept = all_moved c.everybody-moved.result (machine_of c.args.state.now) (machine_of c.args.next.now) c.everybody-moved.ensures (c.requires.next.fits.threads ∙ sym c.requires.own.fits.threads);
       few = omega (arith, none);
       making = making_start r l.gates l.steps c.args.depth front.ended.entries front.layer.entries c.into_iter-key-iterator.result c.requires.own.sound.few (omega (arith, due, most)) (subst (λ es. AreLeads r es (front_at (slots r l.gates) same_outcome same_key l.steps c.args.depth).layer) (sym all) c.requires.layer) c.requires.front;
     }
 
-pub thaw-requires : goal.thaw-requires
-thaw-requires g c =
+pub thaw-known-requires-clause-key : goal.thaw-known-requires-clause-key
+thaw-known-requires-clause-key g c =
     let r = c.args.program.now in
     let l = c.args.limits in
     let d = c.args.depth in
@@ -48,7 +51,36 @@ take_choices-requires-clause-own g c =
     let m = subst (Making r l.gates l.steps d old.ended.entries old.layer.entries) at c.loop-key.invariant.making in
     let n = making_next r l.gates l.steps d old.ended.entries old.layer.entries es (c.in-Some.key.now, c.in-Some.lead.now) m in
     let key : c.as_slice.result.now ≡ key_of n.lead.state = c.as_slice.ensures.value ∙ n.key in
-    c.thaw.ensures.own r n.lead.state c.loop-key.invariant.own n.own key
+    c.thaw-known.ensures.own r n.lead.state c.loop-key.invariant.own n.own key
+
+pub returns-in_default-clause-own : goal.returns-in_default-clause-own
+returns-in_default-clause-own g c =
+    let r = c.args.program.now in
+    let l = c.args.limits in
+    let d = c.args.depth in
+    let old = c.loop-key.front in
+    let es = c.next.new.self in
+    let at : c.loop-key.key-iterator ≡ (c.in-Some.key.now, c.in-Some.lead.now) ∷ c.next.new.self = first_of (search (rules, c.in-Some.ensures.steps), cc (c.in-Some.ensures.steps, c.in-Some.key-is, c.in-Some.lead-is), grind (arith, c.in-Some.ensures.steps, c.in-Some.key-is, c.in-Some.lead-is), assumption c.in-Some.ensures.steps) in
+    let m = subst (Making r l.gates l.steps d old.ended.entries old.layer.entries) at c.loop-key.invariant.making in
+    let n = making_next r l.gates l.steps d old.ended.entries old.layer.entries es (c.in-Some.key.now, c.in-Some.lead.now) m in
+    let key : c.as_slice.result.now ≡ key_of n.lead.state = c.as_slice.ensures.value ∙ n.key in
+    c.thaw-known.ensures.own r n.lead.state c.loop-key.invariant.own n.own key
+
+pub returns-then-len-most-clause-own : goal.returns-then-len-most-clause-own
+returns-then-len-most-clause-own g c =
+    let r = c.args.program.now in
+    let l = c.args.limits in
+    let d = c.args.depth in
+    let old = c.loop-key.front in
+    let es = c.next.new.self in
+    let at : c.loop-key.key-iterator ≡ (c.in-Some.key.now, c.in-Some.lead.now) ∷ c.next.new.self = first_of (search (rules, c.in-Some.ensures.steps), cc (c.in-Some.ensures.steps, c.in-Some.key-is, c.in-Some.lead-is), grind (arith, c.in-Some.ensures.steps, c.in-Some.key-is, c.in-Some.lead-is), assumption c.in-Some.ensures.steps) in
+    let m = subst (Making r l.gates l.steps d old.ended.entries old.layer.entries) at c.loop-key.invariant.making in
+    let n = making_next r l.gates l.steps d old.ended.entries old.layer.entries es (c.in-Some.key.now, c.in-Some.lead.now) m in
+    let key : c.as_slice.result.now ≡ key_of n.lead.state = c.as_slice.ensures.value ∙ n.key in
+    c.thaw-known.ensures.own r n.lead.state c.loop-key.invariant.own n.own key
+
+pub take_choices-requires-clause-kept : goal.take_choices-requires-clause-kept
+take_choices-requires-clause-kept g c = c.thaw-known.ensures.kept (machine_of c.loop-key.next) c.loop-key.invariant.kept
 
 pub take_choices-requires-clause-room : goal.take_choices-requires-clause-room
 take_choices-requires-clause-room g c =
@@ -90,8 +122,8 @@ returns-then-len-most-clause-many g c =
     let n = making_next r l.gates l.steps d old.ended.entries old.layer.entries es (c.in-Some.key.now, c.in-Some.lead.now) m in
     let key : c.as_slice.result.now ≡ key_of n.lead.state = c.as_slice.ensures.value ∙ n.key in
     let new = c.take_choices.new.front in
-    let same : machine_of c.thaw.new.state ≡ n.lead.state = c.thaw.ensures.same n.lead.state key in
-    let made = making_more r l.gates l.steps d old.ended.entries new.ended.entries old.layer.entries new.layer.entries es (c.in-Some.key.now, c.in-Some.lead.now) m (machine_of c.thaw.new.state) c.requires.own.sound.few (n.key ∙ ap key_of (sym same)) same (λ f h. c.in-Ok.ensures.front f h) in
+    let same : machine_of c.thaw-known.new.state ≡ n.lead.state = c.thaw-known.ensures.same n.lead.state key in
+    let made = making_more r l.gates l.steps d old.ended.entries new.ended.entries old.layer.entries new.layer.entries es (c.in-Some.key.now, c.in-Some.lead.now) m (machine_of c.thaw-known.new.state) c.requires.own.sound.few (n.key ∙ ap key_of (sym same)) same (λ f h. c.in-Ok.ensures.front f h) in
     let many : c.args.most < length new.layer.entries = omega arith in
     making_many r l.gates l.steps d c.args.most new.ended.entries new.layer.entries es many made
 
@@ -107,11 +139,13 @@ loop-key-preserved g c =
     let n = making_next r l.gates l.steps d old.ended.entries old.layer.entries es (c.in-Some.key.now, c.in-Some.lead.now) m in
     let key : c.as_slice.result.now ≡ key_of n.lead.state = c.as_slice.ensures.value ∙ n.key in
     let new = c.take_choices.new.front in
-    let same : machine_of c.thaw.new.state ≡ n.lead.state = c.thaw.ensures.same n.lead.state key in
-    let made = making_more r l.gates l.steps d old.ended.entries new.ended.entries old.layer.entries new.layer.entries es (c.in-Some.key.now, c.in-Some.lead.now) m (machine_of c.thaw.new.state) c.requires.own.sound.few (n.key ∙ ap key_of (sym same)) same (λ f h. c.in-Ok.ensures.front f h) in
+    let same : machine_of c.thaw-known.new.state ≡ n.lead.state = c.thaw-known.ensures.same n.lead.state key in
+    let made = making_more r l.gates l.steps d old.ended.entries new.ended.entries old.layer.entries new.layer.entries es (c.in-Some.key.now, c.in-Some.lead.now) m (machine_of c.thaw-known.new.state) c.requires.own.sound.few (n.key ∙ ap key_of (sym same)) same (λ f h. c.in-Ok.ensures.front f h) in
     record {
-      own = c.take_choices.ensures.own;
+      own = c.thaw-known.ensures.own r n.lead.state c.loop-key.invariant.own n.own key;
       next = c.take_choices.ensures.next;
+      known = c.thaw-known.ensures.bodies;
+      kept = c.take_choices.ensures.kept;
       few = omega arith;
       making = made;
     }

@@ -1,5 +1,7 @@
 use Rattle.std.proofs.Common.{◌≤◌, length}
-use Rattle.cp_machine.specs.System.{IsStateOf}
+use Rattle.cp_key.specs.Known.{AreBodiesOf}
+use Rattle.cp_machine.specs.Bodies.{has_moved, KeepBodies}
+use Rattle.cp_machine.specs.System.{machine_of, IsStateOf}
 use Rattle.cp_merged.proofs.Making.{Making}
 use Rattle.cp_merged.proofs.layering.next_layer.Given as goal
 
@@ -8,6 +10,8 @@ invariant-loop-key g l =
     record {
       own : IsStateOf l.program l.state;
       next : IsStateOf l.program l.next;
+      known : AreBodiesOf l.known (machine_of l.state);
+      kept : KeepBodies (has_moved l.moved) (machine_of l.state) (machine_of l.next);
       few : length l.front.layer.entries ≤ l.most;
       making : Making l.program l.limits.gates l.limits.steps l.depth l.front.ended.entries l.front.layer.entries l.key-iterator;
     }

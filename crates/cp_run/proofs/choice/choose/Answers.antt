@@ -4,6 +4,7 @@ use Rattle.cp_run.specs.declared.outcome.Turn.TheVariants.{Over, Due, Goes}
 use Rattle.cp_run.specs.Slots.{slots}
 use Rattle.cp_run.proofs.Choosing.{may_in_line, may_be_ready, chosen_free, chosen_at_gate}
 use Rattle.cp_machine.proofs.CallerLemmas.{pending_is, line_within, admitted_free}
+use Rattle.cp_run.proofs.Watching.{let_in}
 use Rattle.cp_run.proofs.choice.choose.Goals as goal
 
 pub stretch-requires-clause-ready : goal.stretch-requires-clause-ready
@@ -48,3 +49,12 @@ pub returns-in-Goes-clause-node : goal.returns-in-Goes-clause-node
 returns-in-Goes-clause-node g c =
     let e : is_pending (machine_of c.args.state.now) ≡ true = pending_is (machine_of c.args.state.now) c.pending.result true c.pending.ensures c.if-is_none.ensures in
     chosen_at_gate (slots c.args.program.now c.args.limits.gates) c.args.limits.steps (machine_of c.args.state.now) (machine_of c.admit.new.self) c.args.process (Goes c.in-Goes.next) e c.admit.ensures.after c.in-Goes.ensures.turn ∙ c.stretch-in-Goes.ensures.node
+
+pub returns-in-Over-clause-kept : goal.returns-in-Over-clause-kept
+returns-in-Over-clause-kept g c = λ before h. let_in (g.W.Watch.moved c.args.watch.now) before (machine_of c.args.state.now) (machine_of c.admit.new.self) c.args.process c.admit.ensures.after h
+
+pub returns-in-Due-clause-kept : goal.returns-in-Due-clause-kept
+returns-in-Due-clause-kept g c = λ before h. let_in (g.W.Watch.moved c.args.watch.now) before (machine_of c.args.state.now) (machine_of c.admit.new.self) c.args.process c.admit.ensures.after h
+
+pub returns-in-Goes-clause-kept : goal.returns-in-Goes-clause-kept
+returns-in-Goes-clause-kept g c = λ before h. c.stretch-in-Goes.ensures.kept before (let_in (g.W.Watch.moved c.args.watch.now) before (machine_of c.args.state.now) (machine_of c.admit.new.self) c.args.process c.admit.ensures.after h)

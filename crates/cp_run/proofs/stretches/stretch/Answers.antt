@@ -2,7 +2,9 @@ use Rattle.std.proofs.Common.{◌≡◌, ◌<◌, ◌-◌, ◌∙◌, arith}
 use Rattle.cp_machine.specs.System.{machine_of}
 use Rattle.cp_run.specs.declared.outcome.Turn.TheVariants.{Over, Due, Goes}
 use Rattle.cp_run.specs.Slots.{slots}
+use Rattle.cp_machine.proofs.Unmoved.{keep_more}
 use Rattle.cp_run.proofs.Stretching.{step_on, used_up}
+use Rattle.cp_run.proofs.Watching.{stepped}
 use Rattle.cp_run.proofs.stretches.stretch.Goals as goal
 
 pub returns-in-Over-clause-node : goal.returns-in-Over-clause-node
@@ -25,9 +27,17 @@ loop-preserved g c =
       node = c.loop.invariant.node ∙ step_on (slots c.args.program.now c.args.limits.gates) c.args.limits.steps c.loop.counter (machine_of c.loop.state) (machine_of c.next_turn.new.state) c.loop.going (Goes c.in-Goes.next) lt c.in-Goes.ensures.state c.in-Goes.ensures.turn;
       steps = omega (arith, c.in-Goes.ensures.steps);
       calls = c.loop.invariant.calls;
+      moved = c.add-in-Goes.ensures.this;
+      kept = λ before h. keep_more (g.W.Watch.moved c.loop.watch) (g.W.Watch.moved c.add-in-Goes.new.self) before (machine_of c.next_turn.new.state) c.in-Goes.next (stepped c.args.program.now c.args.limits.gates (g.W.Watch.moved c.loop.watch) before (machine_of c.loop.state) (machine_of c.next_turn.new.state) c.loop.going c.in-Goes.ensures.state (c.loop.invariant.kept before h) c.loop.invariant.moved) c.add-in-Goes.ensures.others c.add-in-Goes.ensures.this;
     }
 
 pub returns-clause-node : goal.returns-clause-node
 returns-clause-node g c =
     let done : c.args.limits.steps - c.loop.counter ≡ 0 = omega arith in
     c.loop.invariant.node ∙ used_up (slots c.args.program.now c.args.limits.gates) (c.args.limits.steps - c.loop.counter) (machine_of c.loop.state) c.loop.going done
+
+pub returns-in-Over-clause-kept : goal.returns-in-Over-clause-kept
+returns-in-Over-clause-kept g c = λ before h. stepped c.args.program.now c.args.limits.gates (g.W.Watch.moved c.loop.watch) before (machine_of c.loop.state) (machine_of c.next_turn.new.state) c.loop.going c.in-Over.ensures.state (c.loop.invariant.kept before h) c.loop.invariant.moved
+
+pub returns-in-Due-clause-kept : goal.returns-in-Due-clause-kept
+returns-in-Due-clause-kept g c = λ before h. stepped c.args.program.now c.args.limits.gates (g.W.Watch.moved c.loop.watch) before (machine_of c.loop.state) (machine_of c.next_turn.new.state) c.loop.going c.in-Due.ensures.state (c.loop.invariant.kept before h) c.loop.invariant.moved

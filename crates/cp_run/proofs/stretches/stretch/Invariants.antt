@@ -1,5 +1,6 @@
 use Rattle.std.proofs.Common.{◌≡◌, ◌≤◌, ◌-◌, ◌+◌, true, false}
-use Rattle.cp_machine.specs.System.{machine_of, is_ready, is_pending, IsStateOf}
+use Rattle.cp_machine.specs.Bodies.{KeepBodies}
+use Rattle.cp_machine.specs.System.{Machine, machine_of, is_ready, is_pending, IsStateOf}
 use Rattle.cp_run.specs.Run.{stretch}
 use Rattle.cp_run.specs.Slots.{slots}
 use Rattle.cp_run.proofs.stretches.stretch.Given as goal
@@ -13,4 +14,6 @@ invariant-loop g l =
       node : stretch (slots l.program l.limits.gates) l.limits.steps (machine_of l.fn.state) l.fn.pid ≡ stretch (slots l.program l.limits.gates) (l.limits.steps - l.counter) (machine_of l.state) l.going;
       steps : l.steps ≤ l.fn.steps + l.counter;
       calls : l.calls ≡ l.fn.calls + 1;
+      moved : g.W.Watch.moved l.watch l.going ≡ true;
+      kept : (before : Machine) → KeepBodies (g.W.Watch.moved l.fn.watch) before (machine_of l.fn.state) → KeepBodies (g.W.Watch.moved l.watch) before (machine_of l.state);
     }

@@ -1,5 +1,5 @@
-use Rattle.std.proofs.Common.{◌≡◌, ◌≤◌, ◌<◌, ◌^◌, length, arith}
-use Rattle.cp_merged.proofs.Arriving.{ends_full, ends_more, room_for_end}
+use Rattle.std.proofs.Common.{◌≤◌, ◌^◌, length, arith}
+use Rattle.cp_merged.proofs.Arriving.{ends_full, room_for_end}
 use Rattle.cp_merged.proofs.front.Front.end.Goals as goal
 
 pub returns-then-len-gt-MOST_OUTCOMES-clause-ended :

@@ -1,0 +1,11 @@
+use Rattle.std.proofs.Common.{◌∙◌, ◌++◌, ap, refl, sym}
+use Rattle.cp_machine.specs.Bodies.{body_of}
+use Rattle.cp_key.specs.Known.{inside}
+use Rattle.cp_key.proofs.Keys.{body_tells}
+use Rattle.cp_key.proofs.reading.thaw_next.Goals as goal
+
+pub returns-else-not-thaw_known-clause-same : goal.returns-else-not-thaw_known-clause-same
+returns-else-not-thaw_known-clause-same c = λ t more e room.
+    (let known = c.if-not-thaw_known.ensures.known in
+    let left = c.thaw_known.new.key.bytes.now in
+    body_tells (inside c.args.process.now) (body_of t) left more (sym (ap (λ ns. ns ++ left) (c.requires (known refl).0)) ∙ sym (known refl).1 ∙ e))

@@ -1,0 +1,31 @@
+use Rattle.std.proofs.Common.{◌≡◌, ◌∙◌, ◌+◌, ◌<◌, ◌++◌, ap, arith, drop, length, sym}
+use Rattle.std.specs.Prelude.{slice_index_or}
+use Rattle.std.specs.List.{flat_map}
+use Rattle.std.proofs.lemmas.List.{get_or_read, length-set}
+use Rattle.cp_machine.specs.declared.process.Process.{Process}
+use Rattle.cp_machine.specs.Machine.{no_thread, thread_at}
+use Rattle.cp_machine.proofs.CopyLemmas.{set_each}
+use Rattle.cp_key.specs.Key.{status_key}
+use Rattle.cp_key.specs.Known.{AreSameInside}
+use Rattle.cp_key.proofs.Lists.{next_of}
+use Rattle.cp_key.proofs.reading.thaw_statuses.Goals as goal
+
+pub loop-at-preserved : goal.loop-at-preserved
+loop-at-preserved c =
+    let at = c.loop-at.at in
+    let ps = c.loop-at.processes in
+    let old = c.index-processes-at.result in
+    let read : Process = slice_index_or ps at old in
+    let new : Process = record { status = c.thaw-in-loop-at.result; frame = read.frame; stack = read.stack; room = read.room } in
+    let here : c.loop-at.at < length c.loop-at.processes = omega arith in
+    let long = length-set ps at new in
+    let same : (d : Process) → read ≡ slice_index_or ps at d = λ d. sym c.index-processes-at.is ∙ get_or_read ps at old here c.index-processes-at.is d in
+    record {
+      read = λ ts more e count. (
+          let before = c.loop-at.invariant.read ts more e (omega (arith, count, long)) in
+          let lt : c.loop-at.at < length ts = omega (arith, count, long, here) in
+          let got = c.thaw-in-loop-at.ensures (thread_at ts at).status (flat_map (λ t. status_key t.status) (drop (at + 1) ts) ++ more) (before.1 ∙ next_of (λ t. status_key t.status) ts at no_thread more lt) in
+          (set_each (λ k d p. p.status ≡ (thread_at ts k).status) ps at new here (λ d. got.0) (at + 1) (λ k d l ne. before.0 k d (omega arith)), got.1)
+          );
+      insides = λ q d. set_each (λ k d p. AreSameInside p (slice_index_or c.args.processes.now k d)) ps at new here (λ d. (let past = c.loop-at.invariant.insides at d in record { frame = ap (λ p. p.frame) (same d) ∙ past.frame; stack = ap (λ p. p.stack) (same d) ∙ past.stack; room = ap (λ p. p.room) (same d) ∙ past.room })) (q + 1) (λ k d l ne. c.loop-at.invariant.insides k d) q d (omega arith);
+    }

@@ -1,0 +1,54 @@
+-- What is known of the bodies of processes: their bytes in a key.
+use Rattle.std.specs.Prelude.{◌≡◌, ◌+◌, ◌-◌, ◌<◌, ◌≤◌, ◌++◌, ℕ, List, [], length, drop, false, slice_index_or}
+use Rattle.cp_machine.specs.Bodies.{Body, body_of, has_moved}
+use Rattle.cp_machine.specs.Machine.{Machine, Thread, thread_at, thread_of}
+use Rattle.cp_machine.specs.declared.moved.Moved.{Moved}
+use Rattle.cp_machine.specs.declared.process.Process.{Process}
+use Rattle.cp_key.specs.declared.bodies.Bodies.{Bodies}
+use Rattle.cp_key.specs.Key.{body_key}
+
+-- what is left of a key from the body of a process on
+abbrev pub rest_at : Bodies → ℕ → List ℕ
+rest_at known pid = drop (length known.key.now - slice_index_or known.rests.items pid 0) known.key.now
+
+-- these are the bodies of threads, one after another
+abbrev pub AreBodies : Bodies → List Thread → Type 0
+AreBodies known ts = (pid : ℕ) → pid + 1 < length known.rests.items → rest_at known pid ≡ body_key (body_of (thread_at ts pid)) ++ rest_at known (pid + 1)
+
+-- these are the bodies of the processes of a machine, one after another
+abbrev pub AreBodiesOf : Bodies → Machine → Type 0
+AreBodiesOf known m = AreBodies known m.threads
+
+-- the body of each process that did not move is among them
+abbrev pub Cover : Bodies → Moved → Machine → Type 0
+Cover known moved m = (pid : ℕ) → pid < length m.threads → has_moved moved pid ≡ false → pid + 1 < length known.rests.items
+
+-- the body of each thread that did not move is known
+pub record KnowUnmoved (known : Bodies) (moved : Moved) (ts : List Thread) : Type 0 where
+  pub cover : (pid : ℕ) → pid < length ts → has_moved moved pid ≡ false → pid + 1 < length known.rests.items
+  pub bodies : (pid : ℕ) → pid < length ts → has_moved moved pid ≡ false → rest_at known pid ≡ body_key (body_of (thread_at ts pid)) ++ rest_at known (pid + 1)
+
+-- these bytes are the bodies of the processes from one on, up to another
+pub record IsRun (known : Bodies) (first end : ℕ) (bytes : List ℕ) : Type 0 where
+  pub none : end ≤ first → bytes ≡ []
+  pub cover : first < end → end < length known.rests.items
+  pub rest : rest_at known first ≡ bytes ++ rest_at known end
+
+-- the body of a process
+abbrev pub inside : Process → Body
+inside p = body_of (thread_of p)
+
+-- these are the bodies of the first of these processes
+abbrev pub AreBodiesIn : Bodies → List Process → Type 0
+AreBodiesIn known ps = (pid : ℕ) (d : Process) → pid < length ps → pid + 1 < length known.rests.items → rest_at known pid ≡ body_key (inside (slice_index_or ps pid d)) ++ rest_at known (pid + 1)
+
+-- two processes differ in their statuses at most
+pub record AreSameInside (p q : Process) : Type 0 where
+  pub frame : p.frame ≡ q.frame
+  pub stack : p.stack ≡ q.stack
+  pub room : p.room ≡ q.room
+
+-- the processes that did not move did not move before either, and have the same bodies
+pub record KeepUnmoved (before after : Moved) (old new : List Process) : Type 0 where
+  pub moved : (pid : ℕ) → has_moved after pid ≡ false → has_moved before pid ≡ false
+  pub bodies : (pid : ℕ) (d : Process) → has_moved after pid ≡ false → inside (slice_index_or new pid d) ≡ inside (slice_index_or old pid d)

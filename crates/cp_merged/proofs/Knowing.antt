@@ -1,0 +1,16 @@
+-- Where nothing is known of the processes yet.
+use Rattle.std.proofs.Common.{◌≡◌, ℕ, [], length, true, ap, arith}
+use Rattle.cp_machine.specs.Bodies.{has_moved, KeepBodies}
+use Rattle.cp_machine.specs.Machine.{Machine}
+use Rattle.cp_machine.specs.declared.moved.Moved.{Moved}
+use Rattle.cp_key.specs.Known.{AreBodiesOf, Cover}
+use Rattle.cp_key.specs.declared.bodies.Bodies.{Bodies}
+
+pub none_known : (known : Bodies) (m : Machine) → known.rests.items ≡ [] → AreBodiesOf known m
+none_known known m none = λ pid lt. (let e = ap length none in absurd (omega (arith, lt, e)))
+
+pub all_moved : (moved : Moved) (m n : Machine) → ((pid : ℕ) → has_moved moved pid ≡ true) → length n.threads ≡ length m.threads → KeepBodies (has_moved moved) m n
+all_moved moved m n all count = record { count = count; bodies = λ pid not. (let a = all pid in absurd (cc)) }
+
+pub none_wanted : (known : Bodies) (moved : Moved) (m : Machine) → ((pid : ℕ) → has_moved moved pid ≡ true) → Cover known moved m
+none_wanted known moved m all = λ pid lt not. (let a = all pid in absurd (cc))
