@@ -68,10 +68,11 @@ fn freeze_short<T: Keyed>(list: &[T], key: &mut Vec<u8>) -> usize
     ensures items { key.new.items ≡ key.old.items ++ flat_map T.key_of (take result list.now) }
     ensures within { result ≤ length list.now }
 {
-    for (done, x) in list.iter().enumerate() {
+    let begin = key.len();
+    for x in list {
         match x.short() {
             Some(byte) => key.push_reserved(byte),
-            None => return done,
+            None => return key.len() - begin,
         }
     }
     list.len()
