@@ -1,8 +1,0 @@
-use Rattle.std.proofs.Common.{◌≡◌, ◌++◌, take, map}
-use Rattle.std.specs.List.{flat_map}
-use Rattle.cp_machine.specs.Machine.{thread_of}
-use Rattle.cp_key.specs.Key.{thread_key}
-use Rattle.cp_key.proofs.writing.freeze_processes.Given as goal
-
-abbrev pub invariant-loop-process : goal.invariant-loop-process
-invariant-loop-process l = l.key.items ≡ l.initial.key.items ++ flat_map thread_key (map thread_of (take l.process-index l.processes))
