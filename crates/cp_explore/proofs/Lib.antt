@@ -1,3 +1,4 @@
+pub mod Alike
 pub mod Branches
 pub mod Calling
 pub mod Counted
@@ -13,11 +14,12 @@ pub mod Grouping
 pub mod Joining
 pub mod Leading
 pub mod Listed
-pub mod MemberTables
 pub mod Meant
+pub mod MemberTables
 pub mod Orders
 pub mod Parting
 pub mod Placing
+pub mod Repeats
 pub mod Replaying
 pub mod Starting
 pub mod Walks

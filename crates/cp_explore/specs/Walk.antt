@@ -1,5 +1,6 @@
 -- The walk over the tree of words.
 use Rattle.std.specs.Prelude.{◌≡◌, ℕ, zero, suc, true, List, [], ◌∷◌, ◌++◌, map, if◌then◌else◌}
+use Rattle.cp_machine.specs.declared.shown.Shown.{Shown}
 use Rattle.cp_run.specs.declared.outcome.OutcomeKind.TheVariants.{ChoiceLimit}
 use Rattle.cp_run.specs.System.{System}
 use Rattle.cp_run.specs.Run.{joined_below, Node, Halted, Choosing, may, chosen}
@@ -8,6 +9,10 @@ use Rattle.cp_run.specs.Table.{Line}
 -- a row, after more numbers
 abbrev pub behind : List ℕ → Line → Line
 behind word l = record { word = word ++ l.word; outcome = l.outcome }
+
+-- a row, with what was displayed changed
+abbrev pub shown_by : (List Shown → List Shown) → Line → Line
+shown_by g l = record { word = l.word; outcome = record { kind = l.outcome.kind; output = g l.outcome.output } }
 
 -- the rows from where a run stands, with this many choices left
 unfoldable pub walk : {S : Type 0} → System S → ℕ → ℕ → Node S → List Line

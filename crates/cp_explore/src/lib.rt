@@ -1,6 +1,7 @@
 //! The exploration of all schedules: the walk over the tree of words.
 #![tactic(auto)]
 
+mod again;
 pub mod beginning;
 mod children;
 mod collect;
@@ -22,6 +23,7 @@ pub mod text;
 pub mod threads;
 pub mod trace_reports;
 mod walk;
+mod walked;
 mod wanting;
 mod word;
 pub mod worker;

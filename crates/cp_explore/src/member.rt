@@ -9,6 +9,7 @@ use crate::fault::ExploreFault;
 use crate::one_thread::copies;
 use crate::row::Row;
 use crate::walk::walk_from;
+use crate::walked::Walked;
 use crate::word::word_of;
 use cp_machine::{State, Ticks, Unwatched};
 use cp_run::{Limits, choose, is_over, may, open};
@@ -66,6 +67,9 @@ pub fn member_rows<S: Ledger, C: Ledger>(
         return Err(ExploreFault::Memory);
     };
     let mut path = word_of(word);
+    let Ok(mut walked) = Walked::new(alloc, &state) else {
+        return Err(ExploreFault::Memory);
+    };
     walk_from(
         alloc,
         program,
@@ -75,6 +79,7 @@ pub fn member_rows<S: Ledger, C: Ledger>(
         kept.as_mut_slice(),
         &mut path,
         &mut rows,
+        &mut walked,
         &mut steps,
         &mut calls,
     )?;

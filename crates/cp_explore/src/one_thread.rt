@@ -12,6 +12,7 @@ use crate::fault::ExploreFault;
 use crate::job::Job;
 use crate::row::{Rows, Table};
 use crate::walk::walk_from;
+use crate::walked::Walked;
 use arrayvec::ArrayVec;
 use cp_machine::{State, Ticks};
 use cp_run::{Limits, open};
@@ -62,6 +63,9 @@ fn explore_counted<S: Ledger, C: Ledger>(
     let halt = open(program, limits, &mut first, &mut steps, calls);
     let mut word = ArrayVec::new();
     let mut rows = Vec::new(alloc);
+    let Ok(mut walked) = Walked::new(alloc, &first) else {
+        return Err(ExploreFault::Memory);
+    };
     walk_from(
         alloc,
         program,
@@ -71,6 +75,7 @@ fn explore_counted<S: Ledger, C: Ledger>(
         kept.as_mut_slice(),
         &mut word,
         &mut rows,
+        &mut walked,
         &mut steps,
         calls,
     )?;

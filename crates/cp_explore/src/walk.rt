@@ -8,10 +8,13 @@ ghost use Rattle.cp_run.specs.Slots.{slots};
 ghost use Rattle.cp_run.specs.Code.{node_of};
 ghost use Rattle.cp_explore.specs.Beginnings.{beginnings, words_in};
 ghost use Rattle.cp_explore.specs.Walk.{behind, walk, IsDue};
+ghost use Rattle.cp_explore.specs.Walked.{AreWalked};
 ghost use Rattle.cp_explore.specs.Rows.{line_of, IsTooMany};
 
+use crate::again::add_again;
 use crate::fault::ExploreFault;
 use crate::row::Row;
+use crate::walked::{Span, Walked};
 use crate::word::word_of;
 use arrayvec::ArrayVec;
 use cp_machine::{State, Ticks, Unwatched};
@@ -62,6 +65,7 @@ pub fn walk_from<S: Ledger, C: Ledger>(
     kept: &mut [State],
     word: &mut ArrayVec<u8, 20>,
     rows: &mut Vec<Row>,
+    walked: &mut Walked,
     steps: &mut Ticks<S>,
     calls: &mut Ticks<C>,
 ) -> Result<(), ExploreFault>
@@ -69,9 +73,12 @@ pub fn walk_from<S: Ledger, C: Ledger>(
     requires kept { All (IsStateOf program.now) kept.old }
     requires room { array_vec_len word.old + length kept.old ≤ 20 }
     requires rows { length rows.old.items ≤ 50000 }
+    requires deep { length word.old.items + length kept.old ≡ limits.choices }
+    requires walked { AreWalked (slots program.now limits.gates) limits.steps limits.choices (map line_of rows.old.items) walked.old.nodes.entries }
     requires due { IsDue (slots program.now limits.gates) (node_of halt (machine_of state.old)) }
     ensures rows { IfOk result (λ _. map line_of rows.new.items ≡ map line_of rows.old.items ++ map (behind word.old.items) (walk (slots program.now limits.gates) limits.steps (length kept.old) (node_of halt (machine_of state.old)))) }
     ensures word { IfOk result (λ _. word.new.items ≡ word.old.items) }
+    ensures walked { IfOk result (λ _. AreWalked (slots program.now limits.gates) limits.steps limits.choices (map line_of rows.new.items) walked.new.nodes.entries) }
     ensures own { IsStateOf program.now state.new }
     ensures kept { All (IsStateOf program.now) kept.new }
     ensures few { IfOk result (λ _. length rows.new.items ≤ 50000) }
@@ -92,12 +99,74 @@ pub fn walk_from<S: Ledger, C: Ledger>(
     for process in others {
         next.take_from(state);
         walk_child(
-            alloc, program, limits, next, *process, deeper, word, rows, steps, calls,
+            alloc, program, limits, next, *process, deeper, word, rows, walked, steps, calls,
         )?;
     }
     walk_child(
-        alloc, program, limits, state, *last, deeper, word, rows, steps, calls,
+        alloc, program, limits, state, *last, deeper, word, rows, walked, steps, calls,
     )
+}
+
+/// The same. Where a node like this one was walked, its rows are taken once more, with another beginning.
+#[cycle(walk_from)]
+fn walk_once<S: Ledger, C: Ledger>(
+    alloc: Global,
+    program: &Resolved,
+    limits: Limits,
+    state: &mut State,
+    halt: Halt,
+    kept: &mut [State],
+    word: &mut ArrayVec<u8, 20>,
+    rows: &mut Vec<Row>,
+    walked: &mut Walked,
+    steps: &mut Ticks<S>,
+    calls: &mut Ticks<C>,
+) -> Result<(), ExploreFault>
+    requires own { IsStateOf program.now state.old }
+    requires kept { All (IsStateOf program.now) kept.old }
+    requires room { array_vec_len word.old + length kept.old ≤ 20 }
+    requires rows { length rows.old.items ≤ 50000 }
+    requires deep { length word.old.items + length kept.old ≡ limits.choices }
+    requires walked { AreWalked (slots program.now limits.gates) limits.steps limits.choices (map line_of rows.old.items) walked.old.nodes.entries }
+    requires due { IsDue (slots program.now limits.gates) (node_of halt (machine_of state.old)) }
+    ensures rows { IfOk result (λ _. map line_of rows.new.items ≡ map line_of rows.old.items ++ map (behind word.old.items) (walk (slots program.now limits.gates) limits.steps (length kept.old) (node_of halt (machine_of state.old)))) }
+    ensures word { IfOk result (λ _. word.new.items ≡ word.old.items) }
+    ensures walked { IfOk result (λ _. AreWalked (slots program.now limits.gates) limits.steps limits.choices (map line_of rows.new.items) walked.new.nodes.entries) }
+    ensures own { IsStateOf program.now state.new }
+    ensures kept { All (IsStateOf program.now) kept.new }
+    ensures few { IfOk result (λ _. length rows.new.items ≤ 50000) }
+    ensures many { IfErr result (λ e. IsTooMany e → 50000 < length rows.old.items + length (walk (slots program.now limits.gates) limits.steps (length kept.old) (node_of halt (machine_of state.old)))) }
+    ensures some { IfOk result (λ _. 0 < length (walk (slots program.now limits.gates) limits.steps (length kept.old) (node_of halt (machine_of state.old)))) }
+    ensures calls { IfOk result (λ _. calls.new + 1 ≤ calls.old + beginnings (words_in (walk (slots program.now limits.gates) limits.steps (length kept.old) (node_of halt (machine_of state.old))))) }
+{
+    if let Halt::Ended(_) = halt {
+        return walk_from(
+            alloc, program, limits, state, halt, kept, word, rows, walked, steps, calls,
+        );
+    }
+    if kept.is_empty() {
+        return walk_from(
+            alloc, program, limits, state, halt, kept, word, rows, walked, steps, calls,
+        );
+    }
+    let Ok(key) = walked.key_of(state, kept.len() as u8) else {
+        return Err(ExploreFault::Memory);
+    };
+    let Some(key) = key else {
+        return walk_from(
+            alloc, program, limits, state, halt, kept, word, rows, walked, steps, calls,
+        );
+    };
+    if let Some(span) = walked.find(&key) {
+        return add_again(alloc, state, span, word.as_slice(), rows);
+    }
+    let first = rows.len();
+    walk_from(
+        alloc, program, limits, state, halt, kept, word, rows, walked, steps, calls,
+    )?;
+    let end = rows.len();
+    walked.add(key, Span { first, end });
+    Ok(())
 }
 
 /// Takes a due choice in a state, and walks from where it leads to.
@@ -111,6 +180,7 @@ fn walk_child<S: Ledger, C: Ledger>(
     deeper: &mut [State],
     word: &mut ArrayVec<u8, 20>,
     rows: &mut Vec<Row>,
+    walked: &mut Walked,
     steps: &mut Ticks<S>,
     calls: &mut Ticks<C>,
 ) -> Result<(), ExploreFault>
@@ -119,8 +189,11 @@ fn walk_child<S: Ledger, C: Ledger>(
     requires deeper { All (IsStateOf program.now) deeper.old }
     requires room { array_vec_len word.old + length deeper.old < 20 }
     requires rows { length rows.old.items ≤ 50000 }
+    requires deep { length word.old.items + length deeper.old + 1 ≡ limits.choices }
+    requires walked { AreWalked (slots program.now limits.gates) limits.steps limits.choices (map line_of rows.old.items) walked.old.nodes.entries }
     ensures rows { IfOk result (λ _. map line_of rows.new.items ≡ map line_of rows.old.items ++ map (behind (word.old.items ++ process ∷ [])) (walk (slots program.now limits.gates) limits.steps (length deeper.old) (chosen (slots program.now limits.gates) limits.steps (machine_of state.old) process))) }
     ensures word { IfOk result (λ _. word.new.items ≡ word.old.items) }
+    ensures walked { IfOk result (λ _. AreWalked (slots program.now limits.gates) limits.steps limits.choices (map line_of rows.new.items) walked.new.nodes.entries) }
     ensures own { IsStateOf program.now state.new }
     ensures deeper { All (IsStateOf program.now) deeper.new }
     ensures few { IfOk result (λ _. length rows.new.items ≤ 50000) }
@@ -138,8 +211,8 @@ fn walk_child<S: Ledger, C: Ledger>(
         calls,
     );
     word.push(process);
-    walk_from(
-        alloc, program, limits, state, halt, deeper, word, rows, steps, calls,
+    walk_once(
+        alloc, program, limits, state, halt, deeper, word, rows, walked, steps, calls,
     )?;
     let _ = word.pop();
     Ok(())

@@ -17,8 +17,9 @@ use Rattle.cp_machine.specs.declared.shown.Shown.TheVariants.{Integer, Char, Tru
 use Rattle.cp_machine.specs.declared.state.Phase.{Phase}
 use Rattle.cp_machine.specs.declared.state.Phase.TheVariants.{Uninitialised, Initialising, Initialised}
 use Rattle.cp_machine.specs.Bodies.{Body, body_of}
-use Rattle.cp_machine.specs.Machine.{Machine, Thread}
-use Rattle.cp_key.specs.Key.{option_key, address_key, frame_key, entry_key, status_key, phase_key, gates_key, shown_key, body_key, threads_key, monitor_key, rest_key, key_of}
+use Rattle.cp_machine.specs.Machine.{Machine, Monitor, Thread}
+use Rattle.cp_key.specs.Key.{option_key, address_key, frame_key, entry_key, status_key, phase_key, gates_key, shown_key, body_key, threads_key, monitor_key, rest_key, key_of, core_key}
+use Rattle.cp_key.specs.Known.{TellsItsEnd}
 use Rattle.cp_key.specs.Numbers.{byte_key, integer_key, number_key, list_key}
 use Rattle.cp_key.proofs.NumberKeys.{Code, byte, short, number, integer}
 
@@ -66,6 +67,18 @@ list {A} {w} a =
       read = λ ns. read_many a.read (number.read ns).0 (number.read ns).1;
       back = λ xs rest. ap (λ ns. read_many a.read (number.read ns).0 (number.read ns).1) (append_assoc (number_key (length xs)) (flat_map w xs) rest) ∙ ap (λ r. read_many a.read r.0 r.1) (number.back (length xs) (flat_map w xs ++ rest)) ∙ many_back w a xs rest;
     }
+
+-- no list of numbers begins another one
+list_tells : {A : Type 0} {w : A → List ℕ} → Code w → TellsItsEnd w
+list_tells code xs ys a b e =
+    let same = sym ((list code).back xs a) ∙ ap (list code).read e ∙ (list code).back ys b in
+    (ap (λ r. r.0) same, ap (λ r. r.1) same)
+
+pub integers_tell : TellsItsEnd integer_key
+integers_tell = list_tells integer
+
+pub numbers_tell : TellsItsEnd number_key
+numbers_tell = list_tells number
 
 -- what follows the number of a kind
 abbrev of_kind : {A B : Type 0} {w : A → List ℕ} → Code w → (A → B) → List ℕ → B × List ℕ
@@ -250,6 +263,25 @@ rest = both (list monitor) (both (option byte) gates)
 machine : Code key_of
 unfolding key_of rest_key
 machine = seen_as key_of (both (list shown) (both (list integer) (both (list number) (both (list phase) (both threads rest))))) (λ m. (m.output, (m.permanents, (m.bindings, (m.phases, (m.threads, (m.monitors, (m.pending, m.gates)))))))) (λ p. record { output = p.0; permanents = p.1.0; bindings = p.1.1.0; phases = p.1.1.1.0; threads = p.1.1.1.1.0; monitors = p.1.1.1.1.1.0; pending = p.1.1.1.1.1.1.0; gates = p.1.1.1.1.1.1.1 }) (λ m. refl) (λ m. refl)
+
+-- all that a machine has but what it displayed, after how much that is
+abbrev core_of : Machine → ℕ × (List ℤ × (List ℕ × (List Phase × (List Thread × (List Monitor × (Option ℕ × Gates))))))
+core_of m = (length m.output, (m.permanents, (m.bindings, (m.phases, (m.threads, (m.monitors, (m.pending, m.gates)))))))
+
+parts : Code (both_key number_key (both_key (list_key integer_key) (both_key (list_key number_key) (both_key (list_key phase_key) (both_key threads_key (both_key (list_key monitor_key) (both_key (option_key byte_key) gates_key)))))))
+parts = both number (both (list integer) (both (list number) (both (list phase) (both threads rest))))
+
+core_same : (m n : Machine) → core_key m ≡ core_key n → core_of m ≡ core_of n
+unfolding core_key rest_key
+core_same m n e = ap (λ r. r.0) (sym (parts.back (core_of m) []) ∙ ap parts.read (append-nil (core_key m) ∙ e ∙ sym (append-nil (core_key n))) ∙ parts.back (core_of n) [])
+
+-- states whose cores have one key are the same but for what they displayed
+pub core_tells : (m n : Machine) → core_key m ≡ core_key n → n ≡ record m { output = n.output }
+core_tells m n e = ap (λ p. record { permanents = p.1.0; bindings = p.1.1.0; phases = p.1.1.1.0; threads = p.1.1.1.1.0; monitors = p.1.1.1.1.1.0; pending = p.1.1.1.1.1.1.0; gates = p.1.1.1.1.1.1.1; output = n.output }) (sym (core_same m n e))
+
+-- and that is as much
+pub core_counts : (m n : Machine) → core_key m ≡ core_key n → length m.output ≡ length n.output
+core_counts m n e = ap (λ p. p.0) (core_same m n e)
 
 -- states of one key are one
 pub key_tells : (m n : Machine) → key_of m ≡ key_of n → m ≡ n

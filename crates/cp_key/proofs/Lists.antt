@@ -25,3 +25,8 @@ on_ok (Err e) ok h = absurd (cc)
 pub if_ok : {T E : Type 0} {P Q : T → Type 0} (r : Result T E) → ((x : T) → P x → Q x) → IfOk r P → IfOk r Q
 if_ok (Ok x) f h = f x h
 if_ok (Err e) f h = h
+
+-- what a list is where a call succeeds
+pub when_ok : {T E : Type 0} (r : Result T E) (new more same : List ℕ) → new ≡ (if is_ok r then more else same) → IfOk r (λ _. new ≡ more)
+when_ok (Ok x) new more same h = h
+when_ok (Err e) new more same h = tt

@@ -1,5 +1,5 @@
 -- A state as bytes: each list after its length, each choice of a kind after its number.
-use Rattle.std.specs.Prelude.{reverse, ℕ, ◌<◌, List, [], ◌∷◌, ◌++◌, true, false, Option, None, Some}
+use Rattle.std.specs.Prelude.{reverse, length, ℕ, ◌<◌, List, [], ◌∷◌, ◌++◌, true, false, Option, None, Some}
 use Rattle.std.specs.List.{flat_map}
 use Rattle.cp_store.specs.declared.memory.Address.{Address}
 use Rattle.cp_store.specs.declared.memory.Address.TheVariants.{Permanent, Local}
@@ -84,6 +84,14 @@ monitor_key m = option_key byte_key m.holder ++ list_key byte_key m.line
 unfoldable pub rest_key : Machine → List ℕ
 rest_key m = list_key monitor_key m.monitors ++ (option_key byte_key m.pending ++ gates_key m.gates)
 
+-- all but the output
+abbrev pub hidden_key : Machine → List ℕ
+hidden_key m = list_key integer_key m.permanents ++ (list_key number_key m.bindings ++ (list_key phase_key m.phases ++ (threads_key m.threads ++ rest_key m)))
+
 -- the output is first, so that it is read without the rest
 unfoldable pub key_of : Machine → List ℕ
-key_of m = list_key shown_key m.output ++ (list_key integer_key m.permanents ++ (list_key number_key m.bindings ++ (list_key phase_key m.phases ++ (threads_key m.threads ++ rest_key m))))
+key_of m = list_key shown_key m.output ++ hidden_key m
+
+-- the core of a state: of what it displayed only how much
+unfoldable pub core_key : Machine → List ℕ
+core_key m = number_key (length m.output) ++ hidden_key m

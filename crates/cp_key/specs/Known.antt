@@ -1,11 +1,21 @@
--- What is known of the bodies of processes: their bytes in a key.
+-- What is known of a state: parts of its key.
 use Rattle.std.specs.Prelude.{◌≡◌, ◌+◌, ◌-◌, ◌<◌, ◌≤◌, ◌++◌, ℕ, List, [], length, drop, false, slice_index_or}
 use Rattle.cp_machine.specs.Bodies.{Body, body_of, has_moved}
 use Rattle.cp_machine.specs.Machine.{Machine, Thread, thread_at, thread_of}
 use Rattle.cp_machine.specs.declared.moved.Moved.{Moved}
 use Rattle.cp_machine.specs.declared.process.Process.{Process}
 use Rattle.cp_key.specs.declared.bodies.Bodies.{Bodies}
+use Rattle.cp_key.specs.declared.bodies.Parts.{Parts}
 use Rattle.cp_key.specs.Key.{body_key}
+use Rattle.cp_key.specs.Numbers.{integer_key, list_key, number_key}
+
+-- these bytes are the key of a list, where there are any
+abbrev pub AreKeyOf : {A : Type 0} → (A → List ℕ) → List ℕ → List A → Type 0
+AreKeyOf key bytes xs = 0 < length bytes → bytes ≡ list_key key xs
+
+-- the key of a list tells where it ends
+abbrev pub TellsItsEnd : {A : Type 0} → (A → List ℕ) → Type 0
+TellsItsEnd {A} key = (xs ys : List A) (rest more : List ℕ) → list_key key xs ++ rest ≡ list_key key ys ++ more → (xs ≡ ys) × (rest ≡ more)
 
 -- what is left of a key from the body of a process on
 abbrev pub rest_at : Bodies → ℕ → List ℕ
@@ -15,9 +25,11 @@ rest_at known pid = drop (length known.key.now - slice_index_or known.rests.item
 abbrev pub AreBodies : Bodies → List Thread → Type 0
 AreBodies known ts = (pid : ℕ) → pid + 1 < length known.rests.items → rest_at known pid ≡ body_key (body_of (thread_at ts pid)) ++ rest_at known (pid + 1)
 
--- these are the bodies of the processes of a machine, one after another
-abbrev pub AreBodiesOf : Bodies → Machine → Type 0
-AreBodiesOf known m = AreBodies known m.threads
+-- these are parts of the key of a machine
+pub record ArePartsOf (known : Parts) (m : Machine) : Type 0 where
+  pub permanents : AreKeyOf integer_key known.permanents.now m.permanents
+  pub bindings : AreKeyOf number_key known.bindings.now m.bindings
+  pub bodies : AreBodies known.bodies m.threads
 
 -- the body of each process that did not move is among them
 abbrev pub Cover : Bodies → Moved → Machine → Type 0

@@ -1,6 +1,32 @@
-//! The bodies of the processes of a state, as they stand in its key.
+//! Parts of a state, as they stand in its key.
 
 use arrayvec::ArrayVec;
+
+/// What is known of a state: parts of its key. A list of which nothing is known has no bytes.
+#[derive(Drop)]
+pub struct Parts<'a> {
+    pub permanents: &'a [u8],
+    pub bindings: &'a [u8],
+    /// The bodies of its processes.
+    pub bodies: Bodies<'a>,
+}
+
+impl<'a> Parts<'a> {
+    ghost use Rattle.std.specs.Prelude.{◌≡◌, []};
+
+    /// Nothing is known.
+    pub fn none() -> Parts<'a>
+        ensures permanents { result.permanents.now ≡ [] }
+        ensures bindings { result.bindings.now ≡ [] }
+        ensures bodies { result.bodies.rests.items ≡ [] }
+    {
+        Parts {
+            permanents: &[],
+            bindings: &[],
+            bodies: Bodies::of(&[]),
+        }
+    }
+}
 
 /// The bodies of the processes of a state in its key, one after another.
 #[derive(Drop)]
@@ -14,13 +40,6 @@ pub struct Bodies<'a> {
 impl<'a> Bodies<'a> {
     ghost use Rattle.std.specs.Prelude.{◌≡◌, ◌<◌, ◌≤◌, ◌∷◌, ◌++◌, [], ℕ, List, length};
     ghost use Rattle.cp_key.specs.Known.{rest_at};
-
-    /// None is known.
-    pub fn none() -> Bodies<'a>
-        ensures { result.rests.items ≡ [] }
-    {
-        Bodies::of(&[])
-    }
 
     /// None is known yet, of a key from the first body on.
     #[inline(always)]

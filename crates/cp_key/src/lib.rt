@@ -10,7 +10,7 @@ mod reader;
 mod reading;
 mod writing;
 
-pub use bodies::Bodies;
-pub use law::law_key;
+pub use bodies::Parts;
+pub use law::{law_core, law_key};
 pub use reading::{thaw, thaw_output};
-pub use writing::freeze;
+pub use writing::{freeze, freeze_core, most_bytes};

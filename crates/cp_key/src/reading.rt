@@ -7,30 +7,26 @@ ghost use Rattle.cp_machine.specs.Bodies.{body_of, has_moved, KeepBodies};
 ghost use Rattle.cp_machine.specs.Fits.{HaveCells, HaveReferences, HaveStacks, IsReserved, IsStateOf};
 ghost use Rattle.cp_machine.specs.Machine.{Machine, Monitor, Thread, machine_of, monitor_of, output_of, thread_at, thread_of};
 ghost use Rattle.cp_key.specs.Key.{body_key, key_of, monitor_key, status_key, threads_key};
-ghost use Rattle.cp_key.specs.Known.{AreBodies, AreBodiesIn, AreBodiesOf, AreSameInside, KeepUnmoved, inside};
-ghost use Rattle.cp_key.specs.Numbers.{byte_key, list_key};
+ghost use Rattle.cp_key.specs.Known.{AreBodies, AreBodiesIn, AreKeyOf, ArePartsOf, AreSameInside, KeepUnmoved, TellsItsEnd, inside};
+ghost use Rattle.cp_key.specs.Numbers.{byte_key, integer_key, list_key, number_key};
 ghost use Rattle.cp_key.specs.Room.{AreShort, HasMachineRoom, HasThreadRoom, HaveThreadRoom, IsMachineOf};
 
-use crate::bodies::Bodies;
+use crate::bodies::{Bodies, Parts};
 use crate::keyed::{Keyed, thaw_list, thaw_numbers};
 use crate::reader::Reader;
 use arrayvec::ArrayVec;
 use cp_machine::{Gates, Guard, LIMIT, Moved, Process, State, Status, Watch};
 use cp_store::Frame;
 
-/// A state becomes the one of the same program that has a key. It takes no memory. Answers the bodies in the key. Those that are
-/// known of the state so far are passed over where the key has the same, and the other processes are added to those that moved.
-pub fn thaw<'a>(
-    key: &'a [u8],
-    known: &Bodies<'a>,
-    state: &mut State,
-    moved: &mut Moved,
-) -> Bodies<'a>
+/// A state becomes the one of the same program that has a key. It takes no memory. Answers the parts that are in the key. Those that
+/// are known of the state so far are passed over where the key has the same. The processes whose bodies are not are added to those that
+/// moved.
+pub fn thaw<'a>(key: &'a [u8], known: &Parts<'a>, state: &mut State, moved: &mut Moved) -> Parts<'a>
     requires key { (r : Tables) × (m : Machine) × IsStateOf r state.old × IsMachineOf r m × (key.now ≡ key_of m) }
-    requires known { AreBodiesOf known.now (machine_of state.old) }
+    requires known { ArePartsOf known.now (machine_of state.old) }
     ensures same { (m : Machine) → key.now ≡ key_of m → machine_of state.new ≡ m }
-    ensures bodies { AreBodiesOf result (machine_of state.new) }
-    ensures all { length result.rests.items ≡ length (machine_of state.new).threads + 1 }
+    ensures parts { ArePartsOf result (machine_of state.new) }
+    ensures all { length result.bodies.rests.items ≡ length (machine_of state.new).threads + 1 }
     ensures kept { (other : Machine) → KeepBodies (has_moved moved.old) (machine_of state.old) other → KeepBodies (has_moved moved.new) (machine_of state.new) other }
     ensures own { (r : Tables) (m : Machine) → IsStateOf r state.old → IsMachineOf r m → key.now ≡ key_of m → IsStateOf r state.new }
 {
@@ -49,26 +45,49 @@ pub fn thaw_output(key: &[u8], state: &mut State)
 #[inline(always)]
 fn thaw_state<'a>(
     key: &mut Reader<'a>,
-    known: &Bodies,
+    known: &Parts<'a>,
     state: &mut State,
     moved: &mut Moved,
-) -> Bodies<'a>
-    requires { AreBodiesIn known.now state.old.processes.items }
-    ensures same { (m : Machine) (more : List ℕ) → key.old.bytes.now ≡ key_of m ++ more → HasMachineRoom state.old m → (machine_of state.new ≡ m) × AreBodies result m.threads }
+) -> Parts<'a>
+    requires permanents { AreKeyOf integer_key known.now.permanents.now state.old.permanents.items }
+    requires bindings { AreKeyOf number_key known.now.bindings.now state.old.bindings.items }
+    requires bodies { AreBodiesIn known.now.bodies state.old.processes.items }
+    ensures same { (m : Machine) (more : List ℕ) → key.old.bytes.now ≡ key_of m ++ more → HasMachineRoom state.old m → (machine_of state.new ≡ m) × ArePartsOf result m }
     ensures count { length state.new.processes.items ≡ length state.old.processes.items }
-    ensures all { length result.rests.items ≡ length state.old.processes.items + 1 }
+    ensures all { length result.bodies.rests.items ≡ length state.old.processes.items + 1 }
     ensures kept { KeepUnmoved moved.old moved.new state.old.processes.items state.new.processes.items }
     ensures reserved { (r : Tables) → IsReserved r state.old → vec_len state.new.output ≤ LIMIT → IsReserved r state.new }
 {
     thaw_list(key, &mut state.output);
-    thaw_numbers(key, &mut state.permanents);
-    thaw_numbers(key, &mut state.bindings);
+    let permanents = thaw_same(key, known.permanents, &mut state.permanents);
+    let bindings = thaw_same(key, known.bindings, &mut state.bindings);
     thaw_numbers(key, &mut state.phases);
-    let bodies = thaw_processes(key, known, &mut state.processes, moved);
+    let bodies = thaw_processes(key, &known.bodies, &mut state.processes, moved);
     thaw_guards(key, &mut state.guards);
     state.pending = Option::thaw(key);
     state.gates = Gates::thaw(key);
-    bodies
+    Parts {
+        permanents,
+        bindings,
+        bodies,
+    }
+}
+
+// The list of numbers whose key is next, which is passed over where it is the known one. Answers its key.
+#[inline(always)]
+fn thaw_same<'a, T: Keyed>(key: &mut Reader<'a>, known: &'a [u8], list: &mut Vec<T>) -> &'a [u8]
+    requires known { AreKeyOf T.key_of known.now list.old.items }
+    requires ends { TellsItsEnd T.key_of }
+    ensures list { (xs : List T) (more : List ℕ) → key.old.bytes.now ≡ list_key T.key_of xs ++ more → length xs ≤ vec_capacity list.old → (list.new.items ≡ xs) × (key.new.bytes.now ≡ more) × AreKeyOf T.key_of result.now xs }
+    ensures room { vec_capacity list.old ≤ vec_capacity list.new }
+{
+    if thaw_known(key, known) {
+        return known;
+    }
+    let all = key.bytes;
+    thaw_numbers(key, list);
+    let (bytes, _) = all.split_at(all.len().saturating_sub(key.bytes.len()));
+    bytes
 }
 
 #[inline(always)]

@@ -4,45 +4,117 @@ ghost use Rattle.std.specs.Prelude.{◌≡◌, ◌++◌, ℕ, List, IfOk, map};
 ghost use Rattle.std.specs.List.{flat_map};
 ghost use Rattle.cp_machine.specs.Machine.{Machine, machine_of, monitor_of, thread_of};
 ghost use Rattle.cp_machine.specs.Bodies.{body_of, has_moved, KeepBodies};
-ghost use Rattle.cp_key.specs.Key.{body_key, frames_key, key_of, monitor_key, phase_key, rest_key, status_key, threads_key};
-ghost use Rattle.cp_key.specs.Known.{AreBodiesOf, Cover, IsRun, KnowUnmoved};
+ghost use Rattle.cp_key.specs.Key.{body_key, core_key, frames_key, hidden_key, key_of, monitor_key, phase_key, rest_key, status_key, threads_key};
+ghost use Rattle.cp_key.specs.Known.{AreKeyOf, ArePartsOf, Cover, IsRun, KnowUnmoved};
 ghost use Rattle.cp_key.specs.Numbers.{integer_key, list_key, number_key};
 
-use crate::bodies::Bodies;
+use crate::bodies::{Bodies, Parts};
 use crate::keyed::{Keyed, freeze_list, freeze_numbers};
 use cp_machine::{Guard, Moved, Process, State, Watch};
 use std::alloc::AllocError;
 
-/// Appends the key of a state. The bodies of the processes that did not move are known, and are copied.
+// The bytes of the longest number.
+const LONGEST: usize = 9;
+
+/// Appends the key of a state. What is known of the state before it is copied where it stayed the same: permanent cells, bindings, and
+/// the bodies of the processes that did not move.
 #[tactic(auto, unfolding(crate::specs::Key::key_of))]
 pub fn freeze(
     state: &State,
-    known: &Bodies,
+    before: &State,
+    known: &Parts,
     moved: &Moved,
     key: &mut Vec<u8>,
 ) -> Result<(), AllocError>
-    requires known { (before : Machine) × AreBodiesOf known.now before × KeepBodies (has_moved moved.now) before (machine_of state.now) }
-    requires cover { Cover known.now moved.now (machine_of state.now) }
+    requires known { ArePartsOf known.now (machine_of before.now) }
+    requires kept { KeepBodies (has_moved moved.now) (machine_of before.now) (machine_of state.now) }
+    requires cover { Cover known.now.bodies moved.now (machine_of state.now) }
     ensures { IfOk result (λ _. key.new.items ≡ key.old.items ++ key_of (machine_of state.now)) }
 {
     freeze_list(&state.output, key)?;
-    freeze_hidden(state, known, moved, key)
+    freeze_hidden(state, before, known, moved, key)
+}
+
+/// As many bytes as a key of a state of the same program can have, without the values that were displayed.
+pub fn most_bytes(state: &State) -> usize {
+    let mut bytes = 8 * LONGEST;
+    bytes = with_more(bytes, state.permanents.len(), 3);
+    bytes = with_more(bytes, state.bindings.len(), LONGEST);
+    bytes = with_more(bytes, state.phases.len(), 1);
+    bytes = with_more(bytes, state.guards.len(), 3 * LONGEST);
+    for process in &state.processes {
+        bytes = bytes.saturating_add(10 * LONGEST);
+        bytes = with_more(bytes, process.stack.capacity(), 8 * LONGEST);
+        bytes = with_more(bytes, process.room.cells.capacity(), 3);
+        bytes = with_more(bytes, process.room.references.capacity(), 2 * LONGEST);
+    }
+    bytes
+}
+
+fn with_more(bytes: usize, count: usize, each: usize) -> usize {
+    bytes.saturating_add(count.saturating_mul(each))
+}
+
+/// Appends the key of the core of a state.
+#[tactic(auto, unfolding(crate::specs::Key::core_key))]
+pub fn freeze_core(state: &State, key: &mut Vec<u8>) -> Result<(), AllocError>
+    ensures { IfOk result (λ _. key.new.items ≡ key.old.items ++ core_key (machine_of state.now)) }
+{
+    state.output.len().freeze(key)?;
+    freeze_hidden(state, state, &Parts::none(), &Moved::everybody(), key)
 }
 
 // All but the output.
 fn freeze_hidden(
     state: &State,
-    known: &Bodies,
+    before: &State,
+    known: &Parts,
     moved: &Moved,
     key: &mut Vec<u8>,
 ) -> Result<(), AllocError>
-    requires { KnowUnmoved known.now moved.now (machine_of state.now).threads }
-    ensures { IfOk result (λ _. key.new.items ≡ key.old.items ++ (list_key integer_key (machine_of state.now).permanents ++ (list_key number_key (machine_of state.now).bindings ++ (list_key phase_key (machine_of state.now).phases ++ (threads_key (machine_of state.now).threads ++ rest_key (machine_of state.now)))))) }
+    requires permanents { AreKeyOf integer_key known.now.permanents.now before.now.permanents.items }
+    requires bindings { AreKeyOf number_key known.now.bindings.now before.now.bindings.items }
+    requires bodies { KnowUnmoved known.now.bodies moved.now (machine_of state.now).threads }
+    ensures { IfOk result (λ _. key.new.items ≡ key.old.items ++ hidden_key (machine_of state.now)) }
 {
-    freeze_numbers(&state.permanents, key)?;
-    freeze_numbers(&state.bindings, key)?;
+    freeze_permanents(state, before, known.permanents, key)?;
+    freeze_bindings(state, before, known.bindings, key)?;
     freeze_numbers(&state.phases, key)?;
-    freeze_running(state, known, moved, key)
+    freeze_running(state, &known.bodies, moved, key)
+}
+
+// The permanent cells, whose key is copied where they are those of the state before and that is known.
+fn freeze_permanents(
+    state: &State,
+    before: &State,
+    known: &[u8],
+    key: &mut Vec<u8>,
+) -> Result<(), AllocError>
+    requires { AreKeyOf integer_key known.now before.now.permanents.items }
+    ensures { IfOk result (λ _. key.new.items ≡ key.old.items ++ list_key integer_key (machine_of state.now).permanents) }
+{
+    if !known.is_empty() && state.permanents.as_slice() == before.permanents.as_slice() {
+        key.extend_from_slice(known)
+    } else {
+        freeze_numbers(&state.permanents, key)
+    }
+}
+
+// The same of what components are bound to.
+fn freeze_bindings(
+    state: &State,
+    before: &State,
+    known: &[u8],
+    key: &mut Vec<u8>,
+) -> Result<(), AllocError>
+    requires { AreKeyOf number_key known.now before.now.bindings.items }
+    ensures { IfOk result (λ _. key.new.items ≡ key.old.items ++ list_key number_key (machine_of state.now).bindings) }
+{
+    if !known.is_empty() && state.bindings.as_slice() == before.bindings.as_slice() {
+        key.extend_from_slice(known)
+    } else {
+        freeze_numbers(&state.bindings, key)
+    }
 }
 
 // The processes and the monitors.

@@ -1,3 +1,4 @@
+pub mod Alike
 pub mod CallerLemmas
 pub mod CopyLemmas
 pub mod Covered

@@ -19,7 +19,7 @@ use crate::ordered::sorted;
 use crate::tallies::Tallies;
 use crate::word::Word;
 use cp_explore::Job;
-use cp_key::Bodies;
+use cp_key::Parts;
 use cp_machine::{Moved, State, Ticks};
 use cp_natural::Natural;
 use cp_run::{Limits, open};
@@ -82,8 +82,16 @@ fn ends_of<S: Ledger, C: Ledger>(
         count: Natural::one(),
         first: Word::new(),
     };
-    let none = Bodies::none();
-    let Ok(()) = front.arrive(alloc, &state, halt, &none, &Moved::everybody(), &one) else {
+    let none = Parts::none();
+    let Ok(()) = front.arrive(
+        alloc,
+        &state,
+        halt,
+        &state,
+        &none,
+        &Moved::everybody(),
+        &one,
+    ) else {
         return Err(MergeFault::Memory);
     };
     if front.layer.len() > most {

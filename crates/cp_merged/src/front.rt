@@ -4,7 +4,7 @@ ghost use Rattle.std.specs.Prelude.{◌≡◌, ◌+◌, ◌^◌, ◌<◌, [], Li
 ghost use Rattle.std.specs.Map.{lookup};
 ghost use lib.Pointwise.{pointwise};
 ghost use Rattle.cp_slots.specs.Tables.{Tables};
-ghost use Rattle.cp_key.specs.Known.{AreBodiesOf, Cover};
+ghost use Rattle.cp_key.specs.Known.{ArePartsOf, Cover};
 ghost use Rattle.cp_machine.specs.Bodies.{has_moved, KeepBodies};
 ghost use Rattle.cp_machine.specs.System.{Machine, machine_of, output_of, IsStateOf};
 ghost use Rattle.cp_machine.specs.declared.gates.Gates.{Gates};
@@ -21,7 +21,7 @@ use crate::end_key::EndKey;
 use crate::lead::Lead;
 use crate::state_key::StateKey;
 use crate::word::word_of;
-use cp_key::{Bodies, freeze};
+use cp_key::{Parts, freeze};
 use cp_machine::{Moved, State};
 use cp_natural::Natural;
 use cp_run::{Halt, OutcomeKind, outcome_at};
@@ -139,23 +139,25 @@ impl Front {
         Ok(())
     }
 
-    /// A choice is due in a state that words lead to. The bodies of the processes that did not move are known.
+    /// A choice is due in a state that words lead to. What is known of the state before holds of the processes that did not move.
     pub fn wait(
         &mut self,
         alloc: Global,
         state: &State,
-        known: &Bodies,
+        before: &State,
+        known: &Parts,
         moved: &Moved,
         lead: &Lead,
     ) -> Result<(), AllocError>
         requires small { (xs : List (layers.Lead Machine)) × (map keyed self.old.layer.entries ≡ map frozen xs) × (words_of xs + lead.now.count < 10 ^ 126) }
-        requires known { (before : Machine) × AreBodiesOf known.now before × KeepBodies (has_moved moved.now) before (machine_of state.now) }
-        requires cover { Cover known.now moved.now (machine_of state.now) }
+        requires known { ArePartsOf known.now (machine_of before.now) }
+        requires kept { KeepBodies (has_moved moved.now) (machine_of before.now) (machine_of state.now) }
+        requires cover { Cover known.now.bodies moved.now (machine_of state.now) }
         ensures layer { IfOk result (λ _. (r : Tables) (xs : List (layers.Lead Machine)) → IsStateOf r state.now → AreLeads r self.old.layer.entries xs → AreLeads r self.new.layer.entries (with_lead same_key xs (record { state = machine_of state.now; first = lead.now.first.items; count = lead.now.count }))) }
         ensures ended { self.new.ended.entries ≡ self.old.ended.entries }
     {
         self.scratch.bytes.clear();
-        freeze(state, known, moved, &mut self.scratch.bytes)?;
+        freeze(state, before, known, moved, &mut self.scratch.bytes)?;
         add_state(alloc, &mut self.layer, &self.scratch, lead)
     }
 
@@ -165,18 +167,20 @@ impl Front {
         alloc: Global,
         state: &State,
         halt: Halt,
-        known: &Bodies,
+        before: &State,
+        known: &Parts,
         moved: &Moved,
         lead: &Lead,
     ) -> Result<(), AllocError>
         requires small { (r : Tables) × (f : layers.Front Machine) × Holds r self.old.ended.entries self.old.layer.entries f × (total f + lead.now.count < 10 ^ 126) }
-        requires known { (before : Machine) × AreBodiesOf known.now before × KeepBodies (has_moved moved.now) before (machine_of state.now) }
-        requires cover { Cover known.now moved.now (machine_of state.now) }
+        requires known { ArePartsOf known.now (machine_of before.now) }
+        requires kept { KeepBodies (has_moved moved.now) (machine_of before.now) (machine_of state.now) }
+        requires cover { Cover known.now.bodies moved.now (machine_of state.now) }
         ensures { IfOk result (λ _. (r : Tables) (gates : Gates) (f : layers.Front Machine) → IsStateOf r state.now → Holds r self.old.ended.entries self.old.layer.entries f → Holds r self.new.ended.entries self.new.layer.entries (arrived (slots r gates) same_outcome same_key lead.now.first.items lead.now.count (node_of halt (machine_of state.now)) f)) }
     {
         match halt {
             Halt::Ended(kind) => self.end(alloc, kind, state, copy_of(lead)),
-            Halt::Choice => self.wait(alloc, state, known, moved, lead),
+            Halt::Choice => self.wait(alloc, state, before, known, moved, lead),
         }
     }
 }

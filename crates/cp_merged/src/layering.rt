@@ -1,7 +1,7 @@
 //! From layer to layer.
 
 ghost use Rattle.std.specs.Prelude.{◌≡◌, ◌+◌, ◌*◌, ◌^◌, ◌<◌, ◌≤◌, [], true, length, IfOk, IfErr};
-ghost use Rattle.cp_key.specs.Known.{AreBodiesOf};
+ghost use Rattle.cp_key.specs.Known.{ArePartsOf};
 ghost use Rattle.cp_machine.specs.Bodies.{has_moved, KeepBodies};
 ghost use Rattle.cp_machine.specs.System.{Machine, machine_of, IsStateOf};
 ghost use Rattle.cp_run.specs.Run.{may};
@@ -16,14 +16,14 @@ use crate::fault::MergeFault;
 use crate::front::{Front, Layer};
 use crate::lead::Lead;
 use crate::word::{longer, word_of};
-use cp_key::{Bodies, thaw, thaw_output};
+use cp_key::{Parts, thaw, thaw_output};
 use cp_machine::{Moved, State, Ticks};
 use cp_run::{Limits, OutcomeKind, choose, wanted};
 use cp_slots::Resolved;
 use std::alloc::{AllocError, Global};
 use std::sync::ledger::Ledger;
 
-/// A lead goes one choice on with a process that may be chosen.
+/// A lead goes one choice on with a process that may be chosen, in a copy of the state before.
 fn take_choice<S: Ledger, C: Ledger>(
     alloc: Global,
     program: &Resolved,
@@ -31,7 +31,8 @@ fn take_choice<S: Ledger, C: Ledger>(
     state: &mut State,
     lead: &Lead,
     process: u8,
-    known: &Bodies,
+    before: &State,
+    known: &Parts,
     moved: &mut Moved,
     front: &mut Front,
     steps: &mut Ticks<S>,
@@ -41,8 +42,9 @@ fn take_choice<S: Ledger, C: Ledger>(
     requires may { may (slots program.now limits.gates) (machine_of state.old) process ≡ true }
     requires room { length lead.now.first.items < 100 }
     requires small { (f : layers.Front Machine) × Holds program.now front.old.ended.entries front.old.layer.entries f × (total f + lead.now.count < 10 ^ 126) }
-    requires known { AreBodiesOf known.now (machine_of state.old) }
-    requires all { length known.now.rests.items ≡ length (machine_of state.old).threads + 1 }
+    requires copied { machine_of state.old ≡ machine_of before.now }
+    requires known { ArePartsOf known.now (machine_of before.now) }
+    requires all { length known.now.bodies.rests.items ≡ length (machine_of state.old).threads + 1 }
     ensures own { IsStateOf program.now state.new }
     ensures kept { KeepBodies (has_moved moved.new) (machine_of state.old) (machine_of state.new) }
     ensures front { IfOk result (λ _. (f : layers.Front Machine) → Holds program.now front.old.ended.entries front.old.layer.entries f → Holds program.now front.new.ended.entries front.new.layer.entries (layers.after_choice (slots program.now limits.gates) same_outcome same_key limits.steps (record { state = machine_of state.old; first = lead.now.first.items; count = lead.now.count }) process f)) }
@@ -52,7 +54,7 @@ fn take_choice<S: Ledger, C: Ledger>(
         count: lead.count,
         first: longer(lead.first.as_slice(), process),
     };
-    front.arrive(alloc, state, halt, known, moved, &arriving)
+    front.arrive(alloc, state, halt, before, known, moved, &arriving)
 }
 
 /// A lead goes one choice on with each process that may be chosen, in a copy of its state. `moved` are the processes whose bodies the
@@ -64,7 +66,7 @@ fn take_choices<S: Ledger, C: Ledger>(
     state: &State,
     lead: &Lead,
     next: &mut State,
-    known: &Bodies,
+    known: &Parts,
     moved: &mut Moved,
     front: &mut Front,
     steps: &mut Ticks<S>,
@@ -74,8 +76,8 @@ fn take_choices<S: Ledger, C: Ledger>(
     requires next { IsStateOf program.now next.old }
     requires room { length lead.now.first.items < 100 }
     requires small { (f : layers.Front Machine) × Holds program.now front.old.ended.entries front.old.layer.entries f × (total f + 16 * lead.now.count < 10 ^ 126) }
-    requires known { AreBodiesOf known.now (machine_of state.now) }
-    requires all { length known.now.rests.items ≡ length (machine_of state.now).threads + 1 }
+    requires known { ArePartsOf known.now (machine_of state.now) }
+    requires all { length known.now.bodies.rests.items ≡ length (machine_of state.now).threads + 1 }
     requires kept { KeepBodies (has_moved moved.old) (machine_of state.now) (machine_of next.old) }
     ensures next { IsStateOf program.now next.new }
     ensures kept { KeepBodies (has_moved moved.new) (machine_of state.now) (machine_of next.new) }
@@ -86,7 +88,7 @@ fn take_choices<S: Ledger, C: Ledger>(
         next.take_moved(state, moved);
         *moved = Moved::nobody();
         take_choice(
-            alloc, program, limits, next, lead, *process, known, moved, front, steps, calls,
+            alloc, program, limits, next, lead, *process, state, known, moved, front, steps, calls,
         )?;
     }
     Ok(())
@@ -118,7 +120,7 @@ pub fn next_layer<S: Ledger, C: Ledger>(
     ensures many { IfErr result (λ e. IsStates e (HasTooManyStates (slots program.now limits.gates) limits.steps most (depth + 1))) }
 {
     let _ = depth;
-    let mut known = Bodies::none();
+    let mut known = Parts::none();
     let mut moved = Moved::everybody();
     for (key, lead) in layer.iter() {
         known = thaw(key.bytes.as_slice(), &known, state, &mut moved);

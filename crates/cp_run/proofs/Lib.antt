@@ -1,3 +1,4 @@
+pub mod Alike
 pub mod Choosing
 pub mod Owning
 pub mod Prefixes

@@ -69,7 +69,7 @@ impl Model for Output {
 }
 
 impl Output {
-    ghost use Rattle.std.specs.Prelude.{IfOk};
+    ghost use Rattle.std.specs.Prelude.{◌++◌, IfOk};
 
     /// These values.
     pub fn new(values: Vec<Shown>) -> Output
@@ -92,6 +92,27 @@ impl Output {
         }
         let mut few = ArrayVec::new();
         let _ = few.try_extend_from_slice(values);
+        Ok(Output {
+            values: Values::Few(few),
+        })
+    }
+
+    /// Copies of these values and then of more.
+    pub fn joined(alloc: Global, values: &[Shown], more: &[Shown]) -> Result<Output, AllocError>
+        ensures { IfOk result (λ o. o ≡ values.now ++ more.now) }
+    {
+        if more.len() > FEW || values.len() > FEW - more.len() {
+            let count = values.len().saturating_add(more.len());
+            let mut many = Vec::with_capacity(alloc, count)?;
+            many.extend_from_slice(values)?;
+            many.extend_from_slice(more)?;
+            return Ok(Output {
+                values: Values::Many(many),
+            });
+        }
+        let mut few = ArrayVec::new();
+        let _ = few.try_extend_from_slice(values);
+        let _ = few.try_extend_from_slice(more);
         Ok(Output {
             values: Values::Few(few),
         })

@@ -1,9 +1,10 @@
-//! Readings of a state after the choices of a word, where each gate wants a choice.
+//! Readings of a state after the choices of a word, where each gate wants a choice, and the length of its key.
 
 ghost use Rattle.std.specs.Prelude.{◌≡◌};
 
 use crate::programs::{THREE_CALLERS, limits_of, program_of};
 use arrayvec::ArrayVec;
+use cp_key::{freeze_core, most_bytes};
 use cp_machine::{Gates, State, Ticks, Unwatched};
 use cp_run::{Halt, choose, may, open};
 use cp_slots::Resolved;
@@ -36,14 +37,14 @@ fn readings_of(state: &State) -> Readings {
     }
 }
 
-/// The readings after the choices of a word, under the gates Any.
-fn readings_after<S: Ledger, C: Ledger>(
+/// The state after the choices of a word, under the gates Any.
+fn state_after<S: Ledger, C: Ledger>(
     alloc: Global,
     program: &Resolved,
     word: &[u8],
     blank: Blank,
     other: Blank,
-) -> Result<Readings, Fail>
+) -> Result<State, Fail>
     requires name { blank.name ≡ S.name }
     requires parts { (blank.parts ≡ S.parts) × (S.parts ≡ 1) }
     requires other_name { other.name ≡ C.name }
@@ -71,7 +72,7 @@ fn readings_after<S: Ledger, C: Ledger>(
             &mut calls,
         );
     }
-    Ok(readings_of(&state))
+    Ok(state)
 }
 
 /// A word, and what is read off the state after it.
@@ -123,18 +124,50 @@ static READING_ROWS: [ReadingRow; 4] = [
 fn readings_of_a_state(rt: HostRuntime) -> Result<(), Fail> {
     let program = program_of(rt.alloc(), THREE_CALLERS)?;
     for (number, row) in READING_ROWS.iter().enumerate() {
-        let told = readings_after::<Brand, Brand>(
+        let state = state_after::<Brand, Brand>(
             rt.alloc(),
             &program,
             row.word,
             Blank::new(1),
             Blank::new(1),
         )?;
+        let told = readings_of(&state);
         assert_eq!(rt; told.pending, row.pending, "{number}");
         assert_eq!(rt; told.holder, row.holder, "{number}");
         assert_eq!(rt; told.ready.as_slice(), row.ready, "{number}");
         assert_eq!(rt; told.waiting.as_slice(), row.waiting, "{number}");
         assert_eq!(rt; told.waits, row.waits, "{number}");
+    }
+    Ok(())
+}
+
+/// Numbers of more than one byte in a monitor, in processes and in arguments, and calls inside of calls.
+const LONG_NUMBERS: &str =
+    "type m = monitor; var q: queue; t: array [1..3] of integer; procedure inner(var v: integer; n: integer); begin v := n; t[1] := n; display(n); if n < 0 then delay(q) end; procedure entry go(var v: integer; n: integer); begin inner(v, n) end; begin t[1] := -1; t[2] := -300; t[3] := 300 end; p = process(x: m; n: integer); var v, w: integer; begin for w := 1 to 2 do x.go(v, n) end; var x: m; a, b: p; begin init x, a(x, -1), b(x, 32767) end.";
+
+static WORDS: [(&str, &[u8]); 3] = [
+    (LONG_NUMBERS, &[0, 0, 1, 1, 1]),
+    (LONG_NUMBERS, &[0, 0, 2, 2, 2, 2, 1]),
+    (THREE_CALLERS, &[0, 0, 0, 1, 2, 3, 3]),
+];
+
+/// No clause says it: a key that outgrew its room would take memory in the middle of a walk.
+#[test]
+fn room_for_each_key(rt: HostRuntime) -> Result<(), Fail> {
+    for (source, word) in WORDS.iter() {
+        let program = program_of(rt.alloc(), source)?;
+        for count in 0..word.len() + 1 {
+            let state = state_after::<Brand, Brand>(
+                rt.alloc(),
+                &program,
+                &word[..count],
+                Blank::new(1),
+                Blank::new(1),
+            )?;
+            let mut key = Vec::new(rt.alloc());
+            freeze_core(&state, &mut key)?;
+            assert!(rt; key.len() <= most_bytes(&state), "{count}");
+        }
     }
     Ok(())
 }

@@ -16,7 +16,7 @@ returns-clause-table g c =
     let sys = slots c.args.program.now c.args.limits.gates in
     let n = length c.as_mut_slice.result.now in
     let deep : n ≡ c.args.limits.choices = ap length c.as_mut_slice.ensures.value ∙ c.in-Ok-copies.ensures.count in
-    ap (map line_of) c.new.ensures ∙ whole sys c.args.limits.choices c.args.limits.steps n (node_of c.open-halt.result (machine_of c.open-halt.new.state)) c.new-word.result.items (map line_of c.new-rows.result.items) (map line_of c.walk_from.new.rows.items) deep c.open-halt.ensures.node c.new-word.ensures (ap (map line_of) c.new-rows.ensures.items) c.in_ok-walk_from.ensures.rows
+    ap (map line_of) c.new-2.ensures ∙ whole sys c.args.limits.choices c.args.limits.steps n (node_of c.open-halt.result (machine_of c.open-halt.new.state)) c.new-word.result.items (map line_of c.new-rows.result.items) (map line_of c.walk_from.new.rows.items) deep c.open-halt.ensures.node c.new-word.ensures (ap (map line_of) c.new-rows.ensures.items) c.in_ok-walk_from.ensures.rows
 
 pub returns-in_err-walk_from-clause-many : goal.returns-in_err-walk_from-clause-many
 returns-in_err-walk_from-clause-many g c =
@@ -36,7 +36,7 @@ returns-clause-calls g c =
     let n = length c.as_mut_slice.result.now in
     let deep : n ≡ c.args.limits.choices = ap length c.as_mut_slice.ensures.value ∙ c.in-Ok-copies.ensures.count in
     let lines = whole_walk sys c.args.limits.choices c.args.limits.steps n (node_of c.open-halt.result (machine_of c.open-halt.new.state)) deep c.open-halt.ensures.node ∙ sym (returns-clause-table g c) in
-    let words = ap (λ ls. beginnings (words_in ls)) lines ∙ ap beginnings (rows_words c.new.result) in
+    let words = ap (λ ls. beginnings (words_in ls)) lines ∙ ap beginnings (rows_words c.new-2.result) in
     let opening = c.open-halt.ensures.calls in
     let walked = c.in_ok-walk_from.ensures.calls in
     omega (arith, words, opening, walked)

@@ -1,20 +1,24 @@
-use Rattle.std.proofs.Common.{rules, refl, true, false, ◌≡◌, ◌≤◌, ◌<◌, ◌+◌, ◌*◌, ◌∙◌, ap, sym, subst, arith, All, List, [], ◌∷◌, ◌++◌, length, get_or, map, take, take_all, ℕ}
-use Rattle.std.proofs.lemmas.List.{length-map}
+use Rattle.std.proofs.Common.{rules, refl, true, ◌≡◌, ◌≤◌, ◌<◌, ◌+◌, ◌∙◌, ap, sym, subst, arith, [], ◌∷◌, ◌++◌, length, get_or, map, take, take_all, ℕ}
+use Rattle.std.specs.Prelude.{IfSome}
+use Rattle.std.proofs.lemmas.List.{length-append, length-map}
 use Rattle.cp_run.specs.declared.outcome.OutcomeKind.TheVariants.{ChoiceLimit}
-use Rattle.cp_explore.specs.declared.row.Row.{Row}
 use Rattle.cp_machine.specs.System.{machine_of, IsStateOf}
 use Rattle.cp_run.specs.Code.{node_of}
 use Rattle.cp_run.specs.Slots.{slots}
-use Rattle.cp_run.specs.Run.{Choosing, Node, those_below, may, chosen}
+use Rattle.cp_run.specs.Run.{Choosing, those_below, may, chosen}
 use Rattle.cp_explore.specs.Beginnings.{beginnings, words_in}
 use Rattle.cp_explore.specs.Rows.{line_of, IsTooMany}
 use Rattle.cp_explore.specs.Walk.{behind, walk, IsDue}
+use Rattle.cp_explore.specs.Walked.{begun, within_span, AreWalked, IsWalked}
+use Rattle.cp_explore.specs.declared.walked.Span.{Span}
+use Rattle.cp_key.specs.Key.{core_key}
 use Rattle.cp_explore.proofs.Branches.{walk_over, walk_limit, one_behind, not_ended, append_none, all_parts}
 use Rattle.cp_explore.proofs.Calling.{calls_leaf, if_ok}
 use Rattle.cp_explore.proofs.Counted.{added}
 use Rattle.cp_explore.proofs.Errors.{err_more, err_as, err_then, ok_as, ok_both}
 use Rattle.cp_explore.proofs.Leading.{due_chosen}
 use Rattle.cp_explore.proofs.Listed.{behind_each, may_other, may_last, rows_other, calls_other, many_other, rows_last, some_last, calls_last, many_last, none_due}
+use Rattle.cp_explore.proofs.Repeats.{added_or_not, known_node, new_span, some_beginnings, walked_more}
 use Rattle.cp_explore.proofs.walk.+walk_from.Goals as goal
 
 pub walk_from-returns-in-Ended-clause-rows : goal.walk_from-returns-in-Ended-clause-rows
@@ -92,6 +96,7 @@ walk_from-loop-process-init g t c =
       rows = sym (append_none (map line_of c.args.rows.now.items));
       word = refl;
       few = c.requires.rows;
+      walked = c.requires.walked;
       next = parts.0;
       deeper = parts.1;
       calls = omega arith;
@@ -132,6 +137,7 @@ walk_from-loop-process-preserved g t c =
       rows = subst (λ (k : ℕ). new ≡ old ++ map (behind word) (behind_each sys steps k s (take (i + 1) others))) (sym more) (rows_other sys steps n s others last listed i p lt refl word old rows new c.loop-process.invariant.rows grown);
       word = c.in_ok-walk_child.ensures.word ∙ c.loop-process.invariant.word;
       few = c.in_ok-walk_child.ensures.few;
+      walked = c.in_ok-walk_child.ensures.walked;
       next = c.walk_child.ensures.own;
       deeper = c.walk_child.ensures.deeper;
       calls = subst (λ (k : ℕ). c.walk_child.new.calls ≤ c.args.calls.now + added [] (words_in (behind_each sys steps k s (take (i + 1) others)))) (sym more) (calls_other sys steps n s others last listed i p lt refl c.args.calls.now c.loop-process.calls c.walk_child.new.calls c.loop-process.invariant.calls called);
@@ -244,8 +250,8 @@ walk_from-returns-clause-calls g t c =
     let due = not_ended c.args.halt c.in_default.not-Ended in
     ok_both c.walk_child-2.result _ _ (λ _. new + 1 ≤ c.args.calls.now + beginnings (words_in (walk sys steps left (node_of c.args.halt s)))) c.walk_child-2.ensures.calls c.walk_child-2.ensures.some (λ a h some. subst (λ k. new + 1 ≤ c.args.calls.now + beginnings (words_in (walk sys steps left (node_of k s)))) (sym due) (calls_last sys steps n s others last listed left deep c.args.calls.now c.loop-process.calls new so_far h some))
 
-pub walk_child-walk_from-requires : goal.walk_child-walk_from-requires
-walk_child-walk_from-requires g t c =
+pub walk_child-walk_once-requires : goal.walk_child-walk_once-requires
+walk_child-walk_once-requires g t c =
     let due : IsDue (slots c.args.program.now c.args.limits.gates) (node_of c.choose-halt.result (machine_of c.choose-halt.new.state)) = due_chosen c.args.program.now c.args.limits.gates c.args.limits.steps (machine_of c.args.state.now) c.args.process c.choose-halt.result c.choose-halt.new.state c.choose-halt.ensures.own c.choose-halt.ensures.node in
     search (rules, due)
 
@@ -255,24 +261,203 @@ walk_child-returns-clause-rows g t c =
     let steps = c.args.limits.steps in
     let n = length c.args.deeper.now in
     let rows = map line_of c.args.rows.now.items in
-    c.in_ok-walk_from.ensures.rows ∙ ap (λ w. rows ++ map (behind w) (walk sys steps n (node_of c.choose-halt.result (machine_of c.choose-halt.new.state)))) c.push.ensures.items ∙ ap (λ x. rows ++ map (behind (c.args.word.now.items ++ c.args.process ∷ [])) (walk sys steps n x)) (sym c.choose-halt.ensures.node)
+    c.in_ok-walk_once.ensures.rows ∙ ap (λ w. rows ++ map (behind w) (walk sys steps n (node_of c.choose-halt.result (machine_of c.choose-halt.new.state)))) c.push.ensures.items ∙ ap (λ x. rows ++ map (behind (c.args.word.now.items ++ c.args.process ∷ [])) (walk sys steps n x)) (sym c.choose-halt.ensures.node)
 
 pub walk_child-returns-clause-some : goal.walk_child-returns-clause-some
 walk_child-returns-clause-some g t c =
     let sys = slots c.args.program.now c.args.limits.gates in
     let n = length c.args.deeper.now in
-    subst (λ x. 0 < length (walk sys c.args.limits.steps n x)) (sym c.choose-halt.ensures.node) c.in_ok-walk_from.ensures.some
+    subst (λ x. 0 < length (walk sys c.args.limits.steps n x)) (sym c.choose-halt.ensures.node) c.in_ok-walk_once.ensures.some
 
 pub walk_child-returns-clause-calls : goal.walk_child-returns-clause-calls
 walk_child-returns-clause-calls g t c =
     let sys = slots c.args.program.now c.args.limits.gates in
     let n = length c.args.deeper.now in
     let same = ap (λ x. beginnings (words_in (walk sys c.args.limits.steps n x))) c.choose-halt.ensures.node in
-    omega (arith, same, c.choose-halt.ensures.calls, c.in_ok-walk_from.ensures.calls)
+    omega (arith, same, c.choose-halt.ensures.calls, c.in_ok-walk_once.ensures.calls)
 
-pub walk_child-returns-in_err-walk_from-clause-many : goal.walk_child-returns-in_err-walk_from-clause-many
-walk_child-returns-in_err-walk_from-clause-many g t c =
+pub walk_child-returns-in_err-walk_once-clause-many : goal.walk_child-returns-in_err-walk_once-clause-many
+walk_child-returns-in_err-walk_once-clause-many g t c =
     let sys = slots c.args.program.now c.args.limits.gates in
     let n = length c.args.deeper.now in
     let same = ap (λ x. length (walk sys c.args.limits.steps n x)) c.choose-halt.ensures.node in
-    err_as c.from_residual.result _ (λ e. IsTooMany e → 50000 < length c.args.rows.now.items + length (walk sys c.args.limits.steps n (chosen sys c.args.limits.steps (machine_of c.args.state.now) c.args.process))) c.from_residual.ensures.1 (λ f h many. let more = c.in_err-walk_from.ensures.many (subst IsTooMany h many) in omega (arith, same, more))
+    err_as c.from_residual.result _ (λ e. IsTooMany e → 50000 < length c.args.rows.now.items + length (walk sys c.args.limits.steps n (chosen sys c.args.limits.steps (machine_of c.args.state.now) c.args.process))) c.from_residual.ensures.1 (λ f h many. let more = c.in_err-walk_once.ensures.many (subst IsTooMany h many) in omega (arith, same, more))
+
+pub walk_once-add_again-requires-clause-some : goal.walk_once-add_again-requires-clause-some
+walk_once-add_again-requires-clause-some g t c =
+    let s = machine_of c.args.state.now in
+    let r = c.args.program.now in
+    let gates = c.args.limits.gates in
+    let steps = c.args.limits.steps in
+    let choices = c.args.limits.choices in
+    let rows = map line_of c.args.rows.now.items in
+    let word = c.args.word.now.items in
+    let left = length c.args.kept.now in
+    let nodes = c.key_of.new.self.nodes.entries in
+    let span = c.in-Some-find.span in
+    let key = c.in-Some.key.bytes.items in
+    let keyed : key ≡ left ∷ core_key s = subst (λ o. IfSome o (λ k. k.bytes.items ≡ left ∷ core_key s)) c.in-Some.is c.in-Ok.ensures.key in
+    let walked : AreWalked (slots r gates) steps choices rows nodes = subst (AreWalked (slots r gates) steps choices rows) (sym c.key_of.ensures.nodes) c.requires.walked in
+    let known = known_node r gates steps choices rows nodes s left word span key keyed walked (sym c.find.ensures ∙ c.in-Some-find.is) c.requires.deep in
+    let some = known.some in
+    omega (arith, some)
+
+pub walk_once-add_again-requires-clause-within : goal.walk_once-add_again-requires-clause-within
+walk_once-add_again-requires-clause-within g t c =
+    let s = machine_of c.args.state.now in
+    let r = c.args.program.now in
+    let gates = c.args.limits.gates in
+    let steps = c.args.limits.steps in
+    let choices = c.args.limits.choices in
+    let rows = map line_of c.args.rows.now.items in
+    let word = c.args.word.now.items in
+    let left = length c.args.kept.now in
+    let nodes = c.key_of.new.self.nodes.entries in
+    let span = c.in-Some-find.span in
+    let key = c.in-Some.key.bytes.items in
+    let keyed : key ≡ left ∷ core_key s = subst (λ o. IfSome o (λ k. k.bytes.items ≡ left ∷ core_key s)) c.in-Some.is c.in-Ok.ensures.key in
+    let walked : AreWalked (slots r gates) steps choices rows nodes = subst (AreWalked (slots r gates) steps choices rows) (sym c.key_of.ensures.nodes) c.requires.walked in
+    let known = known_node r gates steps choices rows nodes s left word span key keyed walked (sym c.find.ensures ∙ c.in-Some-find.is) c.requires.deep in
+    let within = known.within in
+    let count = length-map c.args.rows.now.items line_of in
+    omega (arith, within, count)
+
+pub walk_once-returns-in-Some-find-clause-rows : goal.walk_once-returns-in-Some-find-clause-rows
+walk_once-returns-in-Some-find-clause-rows g t c =
+    let s = machine_of c.args.state.now in
+    let r = c.args.program.now in
+    let gates = c.args.limits.gates in
+    let steps = c.args.limits.steps in
+    let choices = c.args.limits.choices in
+    let rows = map line_of c.args.rows.now.items in
+    let word = c.args.word.now.items in
+    let left = length c.args.kept.now in
+    let nodes = c.key_of.new.self.nodes.entries in
+    let span = c.in-Some-find.span in
+    let key = c.in-Some.key.bytes.items in
+    let keyed : key ≡ left ∷ core_key s = subst (λ o. IfSome o (λ k. k.bytes.items ≡ left ∷ core_key s)) c.in-Some.is c.in-Ok.ensures.key in
+    let walked : AreWalked (slots r gates) steps choices rows nodes = subst (AreWalked (slots r gates) steps choices rows) (sym c.key_of.ensures.nodes) c.requires.walked in
+    let known = known_node r gates steps choices rows nodes s left word span key keyed walked (sym c.find.ensures ∙ c.in-Some-find.is) c.requires.deep in
+    let due = not_ended c.args.halt c.in_default.not-Ended in
+    ok_as c.add_again.result _ (λ _. map line_of c.add_again.new.rows.items ≡ rows ++ map (behind word) (walk (slots r gates) steps left (node_of c.args.halt s))) c.add_again.ensures.rows (λ a h. h ∙ ap (λ w. rows ++ map (begun w s.output) (within_span span rows)) c.as_slice.ensures.value ∙ ap (λ ls. rows ++ ls) known.same ∙ ap (λ k. rows ++ map (behind word) (walk (slots r gates) steps left (node_of k s))) (sym due))
+
+pub walk_once-returns-in-Some-find-clause-walked : goal.walk_once-returns-in-Some-find-clause-walked
+walk_once-returns-in-Some-find-clause-walked g t c =
+    let s = machine_of c.args.state.now in
+    let r = c.args.program.now in
+    let gates = c.args.limits.gates in
+    let steps = c.args.limits.steps in
+    let choices = c.args.limits.choices in
+    let rows = map line_of c.args.rows.now.items in
+    let word = c.args.word.now.items in
+    let left = length c.args.kept.now in
+    let nodes = c.key_of.new.self.nodes.entries in
+    let span = c.in-Some-find.span in
+    let key = c.in-Some.key.bytes.items in
+    let keyed : key ≡ left ∷ core_key s = subst (λ o. IfSome o (λ k. k.bytes.items ≡ left ∷ core_key s)) c.in-Some.is c.in-Ok.ensures.key in
+    let walked : AreWalked (slots r gates) steps choices rows nodes = subst (AreWalked (slots r gates) steps choices rows) (sym c.key_of.ensures.nodes) c.requires.walked in
+    let known = known_node r gates steps choices rows nodes s left word span key keyed walked (sym c.find.ensures ∙ c.in-Some-find.is) c.requires.deep in
+    ok_as c.add_again.result _ _ c.add_again.ensures.rows (λ a h. subst (λ ls. AreWalked (slots r gates) steps choices ls nodes) (sym h) (walked_more (slots r gates) steps choices rows _ nodes walked))
+
+pub walk_once-returns-in-Some-find-clause-many : goal.walk_once-returns-in-Some-find-clause-many
+walk_once-returns-in-Some-find-clause-many g t c =
+    let s = machine_of c.args.state.now in
+    let r = c.args.program.now in
+    let gates = c.args.limits.gates in
+    let steps = c.args.limits.steps in
+    let choices = c.args.limits.choices in
+    let rows = map line_of c.args.rows.now.items in
+    let word = c.args.word.now.items in
+    let left = length c.args.kept.now in
+    let nodes = c.key_of.new.self.nodes.entries in
+    let span = c.in-Some-find.span in
+    let key = c.in-Some.key.bytes.items in
+    let keyed : key ≡ left ∷ core_key s = subst (λ o. IfSome o (λ k. k.bytes.items ≡ left ∷ core_key s)) c.in-Some.is c.in-Ok.ensures.key in
+    let walked : AreWalked (slots r gates) steps choices rows nodes = subst (AreWalked (slots r gates) steps choices rows) (sym c.key_of.ensures.nodes) c.requires.walked in
+    let known = known_node r gates steps choices rows nodes s left word span key keyed walked (sym c.find.ensures ∙ c.in-Some-find.is) c.requires.deep in
+    let due = not_ended c.args.halt c.in_default.not-Ended in
+    let count = known.count in
+    let same = ap (λ h. length (walk (slots r gates) steps left (node_of h s))) due in
+    err_then c.add_again.result _ (λ e. IsTooMany e → 50000 < length c.args.rows.now.items + length (walk (slots r gates) steps left (node_of c.args.halt s))) c.add_again.ensures.many (λ e h many. let more = h many in omega (arith, more, count, same))
+
+pub walk_once-returns-in-Some-find-clause-some : goal.walk_once-returns-in-Some-find-clause-some
+walk_once-returns-in-Some-find-clause-some g t c =
+    let s = machine_of c.args.state.now in
+    let r = c.args.program.now in
+    let gates = c.args.limits.gates in
+    let steps = c.args.limits.steps in
+    let choices = c.args.limits.choices in
+    let rows = map line_of c.args.rows.now.items in
+    let word = c.args.word.now.items in
+    let left = length c.args.kept.now in
+    let nodes = c.key_of.new.self.nodes.entries in
+    let span = c.in-Some-find.span in
+    let key = c.in-Some.key.bytes.items in
+    let keyed : key ≡ left ∷ core_key s = subst (λ o. IfSome o (λ k. k.bytes.items ≡ left ∷ core_key s)) c.in-Some.is c.in-Ok.ensures.key in
+    let walked : AreWalked (slots r gates) steps choices rows nodes = subst (AreWalked (slots r gates) steps choices rows) (sym c.key_of.ensures.nodes) c.requires.walked in
+    let known = known_node r gates steps choices rows nodes s left word span key keyed walked (sym c.find.ensures ∙ c.in-Some-find.is) c.requires.deep in
+    let due = not_ended c.args.halt c.in_default.not-Ended in
+    let count = known.count in
+    let some = known.some in
+    let same = ap (λ h. length (walk (slots r gates) steps left (node_of h s))) due in
+    if_ok _ c.add_again.result (omega (arith, some, count, same))
+
+pub walk_once-returns-in-Some-find-clause-calls : goal.walk_once-returns-in-Some-find-clause-calls
+walk_once-returns-in-Some-find-clause-calls g t c =
+    let s = machine_of c.args.state.now in
+    let r = c.args.program.now in
+    let gates = c.args.limits.gates in
+    let steps = c.args.limits.steps in
+    let choices = c.args.limits.choices in
+    let rows = map line_of c.args.rows.now.items in
+    let word = c.args.word.now.items in
+    let left = length c.args.kept.now in
+    let nodes = c.key_of.new.self.nodes.entries in
+    let span = c.in-Some-find.span in
+    let key = c.in-Some.key.bytes.items in
+    let keyed : key ≡ left ∷ core_key s = subst (λ o. IfSome o (λ k. k.bytes.items ≡ left ∷ core_key s)) c.in-Some.is c.in-Ok.ensures.key in
+    let walked : AreWalked (slots r gates) steps choices rows nodes = subst (AreWalked (slots r gates) steps choices rows) (sym c.key_of.ensures.nodes) c.requires.walked in
+    let known = known_node r gates steps choices rows nodes s left word span key keyed walked (sym c.find.ensures ∙ c.in-Some-find.is) c.requires.deep in
+    let due = not_ended c.args.halt c.in_default.not-Ended in
+    let count = known.count in
+    let some = known.some in
+    let same = ap (λ h. length (walk (slots r gates) steps left (node_of h s))) due in
+    let begun_by = some_beginnings (walk (slots r gates) steps left (node_of c.args.halt s)) (omega (arith, some, count, same)) in
+    if_ok _ c.add_again.result (omega (arith, begun_by))
+
+pub walk_once-returns-clause-walked : goal.walk_once-returns-clause-walked
+walk_once-returns-clause-walked g t c =
+    let s = machine_of c.args.state.now in
+    let r = c.args.program.now in
+    let gates = c.args.limits.gates in
+    let steps = c.args.limits.steps in
+    let choices = c.args.limits.choices in
+    let rows = map line_of c.args.rows.now.items in
+    let word = c.args.word.now.items in
+    let left = length c.args.kept.now in
+    let key = c.in-Some.key.bytes.items in
+    let keyed : key ≡ left ∷ core_key s = subst (λ o. IfSome o (λ k. k.bytes.items ≡ left ∷ core_key s)) c.in-Some.is c.in-Ok.ensures.key in
+    let sys = slots r gates in
+    let new = map line_of c.walk_from-2.new.rows.items in
+    let span : Span = record { first = c.len-first.result; end = c.len-end.result } in
+    let due = not_ended c.args.halt c.in_default.not-Ended in
+    let before = c.walk_from-2.new.walked.nodes.entries in
+    let lines : new ≡ rows ++ map (behind word) (walk sys steps left (Choosing s)) = c.in_ok-walk_from.ensures.rows ∙ ap (λ h. rows ++ map (behind word) (walk sys steps left (node_of h s))) due in
+    let some : 0 < length (walk sys steps left (Choosing s)) = subst (λ h. 0 < length (walk sys steps left (node_of h s))) due c.in_ok-walk_from.ensures.some in
+    let old_count = length-map c.args.rows.now.items line_of in
+    let new_count = length-map c.walk_from-2.new.rows.items line_of in
+    let behind_count = length-map (walk sys steps left (Choosing s)) (behind word) in
+    let all = ap length lines ∙ length-append rows (map (behind word) (walk sys steps left (Choosing s))) in
+    let first : span.first ≡ length rows = omega (arith, old_count) in
+    let end : span.end ≡ length new = omega (arith, new_count) in
+    let is : IsWalked sys steps choices new (c.in-Some.key, span) = record {
+      state = s;
+      left = left;
+      before = word;
+      key = keyed;
+      word = c.requires.deep;
+      some = omega (arith, first, end, all, behind_count, some);
+      within = omega (arith, end);
+      same = new_span rows (map (behind word) (walk sys steps left (Choosing s))) new span lines first end;
+    } in
+    added_or_not sys steps choices new before c.add.new.self.nodes.entries c.in-Some.key span c.add.ensures c.in_ok-walk_from.ensures.walked is

@@ -6,7 +6,7 @@ use Rattle.cp_machine.specs.Fits.{LinesFit, MachineFits}
 use Rattle.cp_machine.specs.Machine.{thread_of}
 use Rattle.cp_machine.specs.Reach.{Reaches}
 use Rattle.cp_key.specs.Key.{key_of}
-use Rattle.cp_key.specs.Known.{AreBodiesOf}
+use Rattle.cp_key.specs.Known.{ArePartsOf}
 use Rattle.cp_key.proofs.Keys.{key_tells}
 use Rattle.cp_key.proofs.KnownBodies.{bodies_alike}
 use Rattle.cp_key.proofs.Owned.{machine_room}
@@ -19,12 +19,12 @@ returns-clause-same c = λ m e.
     let read = c.thaw_state.ensures.same one [] (key.4 ∙ sym (append-nil (key_of one))) (machine_room key.0 c.args.state.now one key.2 key.3) in
     read.0 ∙ key_tells one m (sym key.4 ∙ e))
 
-pub returns-clause-bodies : goal.returns-clause-bodies
-returns-clause-bodies c =
+pub returns-clause-parts : goal.returns-clause-parts
+returns-clause-parts c =
     let key = c.requires.key in
     let one = key.1 in
     let read = c.thaw_state.ensures.same one [] (key.4 ∙ sym (append-nil (key_of one))) (machine_room key.0 c.args.state.now one key.2 key.3) in
-    subst (AreBodiesOf c.thaw_state.result) (sym read.0) read.1
+    subst (ArePartsOf c.thaw_state.result) (sym read.0) read.1
 
 pub returns-clause-kept : goal.returns-clause-kept
 returns-clause-kept c = λ other h.

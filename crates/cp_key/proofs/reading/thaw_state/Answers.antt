@@ -6,24 +6,31 @@ use Rattle.cp_machine.specs.Machine.{monitor_of, thread_of}
 use Rattle.cp_key.specs.Key.{key_of, rest_key, gates_key, monitor_key, option_key, phase_key, shown_key, threads_key}
 use Rattle.cp_key.specs.Numbers.{byte_key, integer_key, list_key, number_key}
 use Rattle.cp_key.specs.Room.{HaveThreadRoom}
+use Rattle.cp_key.proofs.Keys.{integers_tell, numbers_tell}
 use Rattle.cp_key.proofs.Machines.{after_bindings, after_monitors, after_output, after_permanents, after_phases, of_parts}
 use Rattle.cp_key.proofs.reading.thaw_state.Goals as goal
+
+pub thaw_same-permanents-requires-clause-ends : goal.thaw_same-permanents-requires-clause-ends
+thaw_same-permanents-requires-clause-ends c = integers_tell
+
+pub thaw_same-bindings-requires-clause-ends : goal.thaw_same-bindings-requires-clause-ends
+thaw_same-bindings-requires-clause-ends c = numbers_tell
 
 pub returns-clause-same : goal.returns-clause-same
 unfolding key_of rest_key
 returns-clause-same c = λ m more e room.
     (let Room : List Process → Type 0 = λ ps. HaveThreadRoom ps m.threads in
     let o = c.thaw_list.ensures.list m.output (after_output m ++ more) (e ∙ append_assoc (list_key shown_key m.output) (after_output m) more) room.output in
-    let a = c.thaw_numbers.ensures.list m.permanents (after_permanents m ++ more) (o.1 ∙ append_assoc (list_key integer_key m.permanents) (after_permanents m) more) room.permanents in
-    let b = c.thaw_numbers-2.ensures.list m.bindings (after_bindings m ++ more) (a.1 ∙ append_assoc (list_key number_key m.bindings) (after_bindings m) more) room.bindings in
-    let d = c.thaw_numbers-3.ensures.list m.phases (after_phases m ++ more) (b.1 ∙ append_assoc (list_key phase_key m.phases) (after_phases m) more) room.phases in
+    let a = c.thaw_same-permanents.ensures.list m.permanents (after_permanents m ++ more) (o.1 ∙ append_assoc (list_key integer_key m.permanents) (after_permanents m) more) room.permanents in
+    let b = c.thaw_same-bindings.ensures.list m.bindings (after_bindings m ++ more) (a.1 ∙ append_assoc (list_key number_key m.bindings) (after_bindings m) more) room.bindings in
+    let d = c.thaw_numbers.ensures.list m.phases (after_phases m ++ more) (b.1 ∙ append_assoc (list_key phase_key m.phases) (after_phases m) more) room.phases in
     let t = c.thaw_processes-bodies.ensures.same m.threads (rest_key m ++ more) (d.1 ∙ append_assoc (threads_key m.threads) (rest_key m) more) (subst Room (sym c.deref_mut.ensures.value) room.threads) in
     let g = c.thaw_guards.ensures m.monitors (after_monitors m ++ more) (t.1 ∙ append_assoc (list_key monitor_key m.monitors) (after_monitors m) more) (room.monitors ∙ sym (ap length c.deref_mut-2.ensures.value)) room.short in
     let p = c.thaw-state.ensures m.pending (gates_key m.gates ++ more) (g.1 ∙ append_assoc (option_key byte_key m.pending) (gates_key m.gates) more) in
     let q = c.thaw-state-2.ensures m.gates more p.1 in
     let threads = ap (map thread_of) (with_items_is c.args.state.now.processes c.thaw_processes-bodies.new.processes (omega arith)) ∙ t.0 in
     let monitors = ap (map monitor_of) (with_items_is c.args.state.now.guards c.thaw_guards.new.guards (omega arith)) ∙ g.0 in
-    (of_parts m _ _ _ _ _ _ _ _ a.0 b.0 d.0 threads monitors p.0 q.0 o.0, t.2))
+    (of_parts m _ _ _ _ _ _ _ _ a.0 b.0 d.0 threads monitors p.0 q.0 o.0, record { permanents = a.2; bindings = b.2; bodies = t.2 }))
 
 pub returns-clause-reserved : goal.returns-clause-reserved
 returns-clause-reserved c = λ r h few.

@@ -20,11 +20,13 @@ arrive-requires-clause-small g c =
 
 pub arrive-requires-clause-known : goal.arrive-requires-clause-known
 arrive-requires-clause-known g c =
-    let m = machine_of c.open-halt.new.state in
-    (m, none_known c.none-none.result m c.none-none.ensures, all_moved c.everybody.result m m c.everybody.ensures refl)
+    none_known c.none-none.result (machine_of c.open-halt.new.state) c.none-none.ensures.permanents c.none-none.ensures.bindings c.none-none.ensures.bodies
+
+pub arrive-requires-clause-kept : goal.arrive-requires-clause-kept
+arrive-requires-clause-kept g c = let m = machine_of c.open-halt.new.state in all_moved c.everybody.result m m c.everybody.ensures refl
 
 pub arrive-requires-clause-cover : goal.arrive-requires-clause-cover
-arrive-requires-clause-cover g c = none_wanted c.none-none.result c.everybody.result (machine_of c.open-halt.new.state) c.everybody.ensures
+arrive-requires-clause-cover g c = none_wanted c.none-none.result.bodies c.everybody.result (machine_of c.open-halt.new.state) c.everybody.ensures
 
 pub returns-then-len-most-clause-fault : goal.returns-then-len-most-clause-fault
 returns-then-len-most-clause-fault g c =

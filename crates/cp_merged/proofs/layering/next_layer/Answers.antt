@@ -21,7 +21,7 @@ loop-key-init g c =
     record {
       own = c.requires.own;
       next = c.requires.next;
-      known = none_known c.none-known.result (machine_of c.args.state.now) c.none-known.ensures;
+      known = none_known c.none-known.result (machine_of c.args.state.now) c.none-known.ensures.permanents c.none-known.ensures.bindings c.none-known.ensures.bodies;
       kept = all_moved c.everybody-moved.result (machine_of c.args.state.now) (machine_of c.args.next.now) c.everybody-moved.ensures (c.requires.next.fits.threads ∙ sym c.requires.own.fits.threads);
       few = omega (arith, none);
       making = making_start r l.gates l.steps c.args.depth front.ended.entries front.layer.entries c.into_iter-key-iterator.result c.requires.own.sound.few (omega (arith, due, most)) (subst (λ es. AreLeads r es (front_at (slots r l.gates) same_outcome same_key l.steps c.args.depth).layer) (sym all) c.requires.layer) c.requires.front;
@@ -144,7 +144,7 @@ loop-key-preserved g c =
     record {
       own = c.thaw-known.ensures.own r n.lead.state c.loop-key.invariant.own n.own key;
       next = c.take_choices.ensures.next;
-      known = c.thaw-known.ensures.bodies;
+      known = c.thaw-known.ensures.parts;
       kept = c.take_choices.ensures.kept;
       few = omega arith;
       making = made;

@@ -1,6 +1,5 @@
 use Rattle.std.proofs.Common.{rules, ◌≡◌, ◌∙◌, ◌<◌, true, get_or, length, take, sym, ap, subst, arith}
 use Rattle.std.proofs.lemmas.List.{length-take-le, take_all, take_more}
-use Rattle.cp_key.specs.Known.{AreBodiesOf}
 use Rattle.cp_machine.specs.Bodies.{has_moved, KeepBodies}
 use Rattle.cp_machine.specs.System.{Machine, machine_of}
 use Rattle.cp_run.specs.Run.{may, those_below}
@@ -37,9 +36,6 @@ take_choice-requires-clause-small g c =
     let few = length_those sys.processes (may sys s) in
     let sixteen = c.requires.own.sound.few in
     (after_list sys same_outcome same_key c.args.limits.steps x (take i numbers) f, c.loop-process.invariant.front f c.requires.small.1, room_for_one sys same_outcome same_key c.args.limits.steps x (take i numbers) f (omega (arith, taken, lt, all, few, sixteen)) c.requires.small.2)
-
-pub take_choice-requires-clause-known : goal.take_choice-requires-clause-known
-take_choice-requires-clause-known g c = subst (AreBodiesOf c.args.known.now) (sym c.take_moved.ensures.same) c.requires.known
 
 pub loop-process-preserved : goal.loop-process-preserved
 loop-process-preserved g c =
