@@ -1,6 +1,6 @@
 //! The key of a state.
 
-ghost use Rattle.std.specs.Prelude.{◌≡◌, ◌++◌, ℕ, List, IfOk, map};
+ghost use Rattle.std.specs.Prelude.{◌≡◌, ◌++◌, ℕ, List, IfOk, map, true};
 ghost use Rattle.std.specs.List.{flat_map};
 ghost use Rattle.cp_machine.specs.Machine.{Machine, machine_of, monitor_of, thread_of};
 ghost use Rattle.cp_machine.specs.Bodies.{body_of, has_moved, KeepBodies};
@@ -110,11 +110,27 @@ fn freeze_bindings(
     requires { AreKeyOf number_key known.now before.now.bindings.items }
     ensures { IfOk result (λ _. key.new.items ≡ key.old.items ++ list_key number_key (machine_of state.now).bindings) }
 {
-    if !known.is_empty() && state.bindings.as_slice() == before.bindings.as_slice() {
+    if !known.is_empty() && are_same(&state.bindings, &before.bindings) {
         key.extend_from_slice(known)
     } else {
         freeze_numbers(&state.bindings, key)
     }
+}
+
+// Whether two lists of numbers are one. To look at all of them takes less than to stop where they differ, which is rare.
+#[inline(always)]
+fn are_same(numbers: &[usize], others: &[usize]) -> bool
+    ensures { result ≡ true → numbers.now ≡ others.now }
+{
+    let count = numbers.len();
+    if others.len() != count {
+        return false;
+    }
+    let mut is_same = true;
+    for at in 0..count {
+        is_same = is_same & (numbers[at] == others[at]);
+    }
+    is_same
 }
 
 // The processes and the monitors.
