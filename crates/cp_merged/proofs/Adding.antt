@@ -132,3 +132,30 @@ added_end (e ∷ es) new k z now x v put is none adds = ap (map end_of) put ∙ 
     by false q i on =
         let flip : same_outcome e.0.outcome k.outcome ≡ false = nat_list_eq_equiv.symm (outcome_numbers e.0.outcome) (outcome_numbers k.outcome) ∙ q in
         simp (q, flip) (ap (λ l. end_of e ∷ l) (on i))
+
+-- the end was known
+pub known_end : (es : List (EndKey × code.Lead)) (k : EndKey) (now x v : code.Lead) → lookup (λ j. same_outcome k.outcome j.outcome) es ≡ Some now → Adds now x v → map end_of (set_value (λ j. same_outcome k.outcome j.outcome) es v) ≡ with_tally same_outcome (map end_of es) (end_of (k, x))
+known_end [] k now x v is adds = absurd (cc)
+known_end (e ∷ es) k now x v is adds = by (same_outcome k.outcome e.0.outcome) refl is (λ i. known_end es k now x v i adds)
+  where
+    others : List (EndKey × code.Lead)
+    others = set_value (λ j. same_outcome k.outcome j.outcome) es v
+
+    by : (b : Bool) → same_outcome k.outcome e.0.outcome ≡ b → cond b (Some e.1) (lookup (λ j. same_outcome k.outcome j.outcome) es) ≡ Some now → (lookup (λ j. same_outcome k.outcome j.outcome) es ≡ Some now → map end_of others ≡ with_tally same_outcome (map end_of es) (end_of (k, x))) → map end_of (cond b ((e.0, v) ∷ es) (e ∷ others)) ≡ with_tally same_outcome (map end_of (e ∷ es)) (end_of (k, x))
+    by true q i on =
+        let flip : same_outcome e.0.outcome k.outcome ≡ true = nat_list_eq_equiv.symm (outcome_numbers e.0.outcome) (outcome_numbers k.outcome) ∙ q in
+        let same : e.1 ≡ now = ap (λ o. unwrap_or o e.1) i in
+        let count : v.count ≡ e.1.count + x.count = adds.0 ∙ ap (λ (y : code.Lead). y.count + x.count) (sym same) in
+        let first : v.first.items ≡ lesser e.1.first.items x.first.items = adds.1 ∙ ap (λ (y : code.Lead). lesser y.first.items x.first.items) (sym same) in
+        simp flip (ap (λ c. ended e.0 c v.first.items ∷ map end_of es) count ∙ ap (λ w. ended e.0 (e.1.count + x.count) w ∷ map end_of es) first)
+    by false q i on =
+        let flip : same_outcome e.0.outcome k.outcome ≡ false = nat_list_eq_equiv.symm (outcome_numbers e.0.outcome) (outcome_numbers k.outcome) ∙ q in
+        simp flip (ap (λ l. end_of e ∷ l) (on i))
+
+-- the end is new
+pub new_end : (es new : List (EndKey × code.Lead)) (k : EndKey) (x : code.Lead) → new ≡ insert_entry (λ a b. same_outcome a.outcome b.outcome) es k x → lookup (λ j. same_outcome k.outcome j.outcome) es ≡ None → map end_of new ≡ with_tally same_outcome (map end_of es) (end_of (k, x))
+new_end es new k x put none =
+    let z : code.Lead = record { count = 0; first = x.first } in
+    let now : z ≡ unwrap_or (lookup (λ j. same_outcome k.outcome j.outcome) es) z = sym (ap (λ o. unwrap_or o z) none) in
+    let count : x.count ≡ 0 + x.count = omega arith in
+    added_end es new k z z x x put now (refl, refl) (count, sym (lesser_self x.first.items))

@@ -23,7 +23,6 @@ use crate::state_key::StateKey;
 use crate::word::word_of;
 use cp_key::{Parts, freeze};
 use cp_machine::{Moved, State};
-use cp_natural::Natural;
 use cp_run::{Halt, OutcomeKind, outcome_at};
 use indexmap::IndexMap;
 use std::alloc::{AllocError, Global};
@@ -39,20 +38,29 @@ pub type Layer = IndexMap<StateKey, Lead>;
 pub type Ends = IndexMap<EndKey, Lead>;
 
 // A state that is known takes no memory.
-fn add_state(
-    alloc: Global,
-    layer: &mut Layer,
-    key: &StateKey,
-    lead: &Lead,
-) -> Result<(), AllocError>
-    requires { IfSome (lookup (λ k. pointwise nat_eq key.now.bytes.items k.bytes.items) layer.old.entries) (λ y. y.count + lead.now.count < 10 ^ 126) }
-    ensures { IfOk result (λ _. map keyed layer.new.entries ≡ with_lead (pointwise nat_eq) (map keyed layer.old.entries) (keyed (key.now, lead.now))) }
+fn add_state(alloc: Global, layer: &mut Layer, key: &StateKey, lead: Lead) -> Result<(), AllocError>
+    requires { IfSome (lookup (λ k. pointwise nat_eq key.now.bytes.items k.bytes.items) layer.old.entries) (λ y. y.count + lead.count < 10 ^ 126) }
+    ensures { IfOk result (λ _. map keyed layer.new.entries ≡ with_lead (pointwise nat_eq) (map keyed layer.old.entries) (keyed (key.now, lead))) }
 {
     match layer.get_mut(key) {
-        Some(known) => known.merge(lead),
+        Some(known) => known.merge(&lead),
         None => {
             let bytes = Vec::from_slice(alloc, key.bytes.as_slice())?;
-            layer.insert(StateKey { bytes }, copy_of(lead))?;
+            layer.insert(StateKey { bytes }, lead)?;
+        }
+    }
+    Ok(())
+}
+
+// An end that is known takes no memory.
+fn add_end(ended: &mut Ends, key: EndKey, lead: &Lead) -> Result<(), AllocError>
+    requires { IfSome (lookup (λ k. same_outcome key.outcome k.outcome) ended.old.entries) (λ y. y.count + lead.now.count < 10 ^ 126) }
+    ensures { IfOk result (λ _. map end_of ended.new.entries ≡ with_tally same_outcome (map end_of ended.old.entries) (end_of (key, lead.now))) }
+{
+    match ended.get_mut(&key) {
+        Some(known) => known.merge(lead),
+        None => {
+            ended.insert(key, copy_of(lead))?;
         }
     }
     Ok(())
@@ -65,18 +73,6 @@ fn copy_of(lead: &Lead) -> Lead
         count: lead.count,
         first: word_of(lead.first.as_slice()),
     }
-}
-
-fn add_end(ended: &mut Ends, key: EndKey, lead: Lead) -> Result<(), AllocError>
-    requires { IfSome (lookup (λ k. same_outcome key.outcome k.outcome) ended.old.entries) (λ y. y.count + lead.count < 10 ^ 126) }
-    ensures { IfOk result (λ _. map end_of ended.new.entries ≡ with_tally same_outcome (map end_of ended.old.entries) (end_of (key, lead))) }
-{
-    let known = ended.entry(key)?.or_insert(Lead {
-        count: Natural::zero(),
-        first: word_of(lead.first.as_slice()),
-    });
-    known.merge(&lead);
-    Ok(())
 }
 
 /// Where words have arrived: the outcomes of those that have ended, and the layer that is made.
@@ -125,10 +121,10 @@ impl Front {
         alloc: Global,
         kind: OutcomeKind,
         state: &State,
-        lead: Lead,
+        lead: &Lead,
     ) -> Result<(), AllocError>
-        requires { (ts : List Tally) × AreEnds self.old.ended.entries ts × (counts ts + lead.count < 10 ^ 126) }
-        ensures ended { IfOk result (λ _. (ts : List Tally) → AreEnds self.old.ended.entries ts → AreEnds self.new.ended.entries (with_tally same_outcome ts (record { first = record { word = lead.first.items; outcome = record { kind = kind; output = output_of (machine_of state.now) } }; count = lead.count }))) }
+        requires { (ts : List Tally) × AreEnds self.old.ended.entries ts × (counts ts + lead.now.count < 10 ^ 126) }
+        ensures ended { IfOk result (λ _. (ts : List Tally) → AreEnds self.old.ended.entries ts → AreEnds self.new.ended.entries (with_tally same_outcome ts (record { first = record { word = lead.now.first.items; outcome = record { kind = kind; output = output_of (machine_of state.now) } }; count = lead.now.count }))) }
         ensures layer { self.new.layer.entries ≡ self.old.layer.entries }
     {
         if self.ended.len() > MOST_OUTCOMES {
@@ -147,13 +143,13 @@ impl Front {
         before: &State,
         known: &Parts,
         moved: &Moved,
-        lead: &Lead,
+        lead: Lead,
     ) -> Result<(), AllocError>
-        requires small { (xs : List (layers.Lead Machine)) × (map keyed self.old.layer.entries ≡ map frozen xs) × (words_of xs + lead.now.count < 10 ^ 126) }
+        requires small { (xs : List (layers.Lead Machine)) × (map keyed self.old.layer.entries ≡ map frozen xs) × (words_of xs + lead.count < 10 ^ 126) }
         requires known { ArePartsOf known.now (machine_of before.now) }
         requires kept { KeepBodies (has_moved moved.now) (machine_of before.now) (machine_of state.now) }
         requires cover { Cover known.now.bodies moved.now (machine_of state.now) }
-        ensures layer { IfOk result (λ _. (r : Tables) (xs : List (layers.Lead Machine)) → IsStateOf r state.now → AreLeads r self.old.layer.entries xs → AreLeads r self.new.layer.entries (with_lead same_key xs (record { state = machine_of state.now; first = lead.now.first.items; count = lead.now.count }))) }
+        ensures layer { IfOk result (λ _. (r : Tables) (xs : List (layers.Lead Machine)) → IsStateOf r state.now → AreLeads r self.old.layer.entries xs → AreLeads r self.new.layer.entries (with_lead same_key xs (record { state = machine_of state.now; first = lead.first.items; count = lead.count }))) }
         ensures ended { self.new.ended.entries ≡ self.old.ended.entries }
     {
         self.scratch.bytes.clear();
@@ -170,16 +166,16 @@ impl Front {
         before: &State,
         known: &Parts,
         moved: &Moved,
-        lead: &Lead,
+        lead: Lead,
     ) -> Result<(), AllocError>
-        requires small { (r : Tables) × (f : layers.Front Machine) × Holds r self.old.ended.entries self.old.layer.entries f × (total f + lead.now.count < 10 ^ 126) }
+        requires small { (r : Tables) × (f : layers.Front Machine) × Holds r self.old.ended.entries self.old.layer.entries f × (total f + lead.count < 10 ^ 126) }
         requires known { ArePartsOf known.now (machine_of before.now) }
         requires kept { KeepBodies (has_moved moved.now) (machine_of before.now) (machine_of state.now) }
         requires cover { Cover known.now.bodies moved.now (machine_of state.now) }
-        ensures { IfOk result (λ _. (r : Tables) (gates : Gates) (f : layers.Front Machine) → IsStateOf r state.now → Holds r self.old.ended.entries self.old.layer.entries f → Holds r self.new.ended.entries self.new.layer.entries (arrived (slots r gates) same_outcome same_key lead.now.first.items lead.now.count (node_of halt (machine_of state.now)) f)) }
+        ensures { IfOk result (λ _. (r : Tables) (gates : Gates) (f : layers.Front Machine) → IsStateOf r state.now → Holds r self.old.ended.entries self.old.layer.entries f → Holds r self.new.ended.entries self.new.layer.entries (arrived (slots r gates) same_outcome same_key lead.first.items lead.count (node_of halt (machine_of state.now)) f)) }
     {
         match halt {
-            Halt::Ended(kind) => self.end(alloc, kind, state, copy_of(lead)),
+            Halt::Ended(kind) => self.end(alloc, kind, state, &lead),
             Halt::Choice => self.wait(alloc, state, before, known, moved, lead),
         }
     }

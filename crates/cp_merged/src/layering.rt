@@ -15,7 +15,7 @@ ghost use Rattle.cp_merged.specs.TooMany.{HasTooManyStates};
 use crate::fault::MergeFault;
 use crate::front::{Front, Layer};
 use crate::lead::Lead;
-use crate::word::{longer, word_of};
+use crate::word::longer;
 use cp_key::{Parts, thaw, thaw_output};
 use cp_machine::{Moved, State, Ticks};
 use cp_run::{Limits, OutcomeKind, choose, wanted};
@@ -54,7 +54,7 @@ fn take_choice<S: Ledger, C: Ledger>(
         count: lead.count,
         first: longer(lead.first.as_slice(), process),
     };
-    front.arrive(alloc, state, halt, before, known, moved, &arriving)
+    front.arrive(alloc, state, halt, before, known, moved, arriving)
 }
 
 /// A lead goes one choice on with each process that may be chosen, in a copy of its state. `moved` are the processes whose bodies the
@@ -154,11 +154,7 @@ pub fn end_layer(
     let _ = limits;
     for (key, lead) in layer.iter() {
         thaw_output(key.bytes.as_slice(), state);
-        let ending = Lead {
-            count: lead.count,
-            first: word_of(lead.first.as_slice()),
-        };
-        front.end(alloc, OutcomeKind::ChoiceLimit, state, ending)?;
+        front.end(alloc, OutcomeKind::ChoiceLimit, state, lead)?;
     }
     Ok(())
 }

@@ -1,4 +1,4 @@
-use Rattle.std.proofs.Common.{rules, ◌≡◌, ◌∙◌, ◌∷◌, sym, subst, arith}
+use Rattle.std.proofs.Common.{rules, ◌≡◌, ◌∙◌, ◌∷◌, refl, sym, subst, arith}
 use Rattle.cp_machine.specs.System.{machine_of, output_of}
 use Rattle.cp_key.specs.Key.{key_of}
 use Rattle.cp_run.specs.Slots.{slots}
@@ -60,7 +60,7 @@ loop-key-preserved c =
     let more = c.thaw_output.ensures.room in
     record {
       room = omega (arith, room, more);
-      ending = ending_more r l.gates l.steps l.choices old.ended.entries new.ended.entries es (c.in-Some.key.now, c.in-Some.lead.now) m (output_of (machine_of c.thaw_output.new.state)) c.word_of.result.items same (c.word_of.ensures ∙ c.as_slice-in-loop-key.ensures.value) (λ ts h. c.in_ok-end.ensures.ended ts h);
+      ending = ending_more r l.gates l.steps l.choices old.ended.entries new.ended.entries es (c.in-Some.key.now, c.in-Some.lead.now) m (output_of (machine_of c.thaw_output.new.state)) c.in-Some.lead.now.first.items same refl (λ ts h. c.in_ok-end.ensures.ended ts h);
     }
 
 pub returns : goal.returns
