@@ -28,15 +28,16 @@ is_less (q ∷ w) (p ∷ v) = by (is_less w v) (cases_order q p)
     by on (inr (inl l)) = let a = lt-ltb q p l in let b = le-ltb p q (omega (arith, l)) in let d = ne_eqb p q (λ e. omega (arith, e, l)) in simp (a, b, d) refl
     by on (inr (inr l)) = let a = le-ltb q p (omega (arith, l)) in let b = lt-ltb p q l in let c = ne_eqb q p (λ e. omega (arith, e, l)) in simp (a, b, c) refl
 
-pub lesser_new : (v w : List ℕ) → is_lt (slice_cmp nat_cmp w v) ≡ true → w ≡ lesser v w
-lesser_new v w h = by (up_to v w) (sym (is_less w v) ∙ h)
+-- the word that comes after another one is not the lesser of the two
+pub lesser_after : (v w : List ℕ) (after : Bool) → after ≡ not (up_to v w) → after ≡ true → w ≡ lesser v w
+lesser_after v w after is h = by (up_to v w) (sym is ∙ h)
   where
     by : (b : Bool) → not b ≡ true → w ≡ (if b then v else w)
     by true h = absurd (cc)
     by false h = refl
 
-pub lesser_old : (v w : List ℕ) → is_lt (slice_cmp nat_cmp w v) ≡ false → v ≡ lesser v w
-lesser_old v w h = by (up_to v w) (sym (is_less w v) ∙ h)
+pub lesser_up_to : (v w : List ℕ) (after : Bool) → after ≡ not (up_to v w) → after ≡ false → v ≡ lesser v w
+lesser_up_to v w after is h = by (up_to v w) (sym is ∙ h)
   where
     by : (b : Bool) → not b ≡ false → v ≡ (if b then v else w)
     by true h = refl

@@ -1,5 +1,5 @@
 -- Where nothing is known of a state yet.
-use Rattle.std.proofs.Common.{◌≡◌, ◌<◌, ℕ, List, [], length, true, ap, arith}
+use Rattle.std.proofs.Common.{◌≡◌, ℕ, [], length, true, ap, arith}
 use Rattle.cp_machine.specs.Bodies.{has_moved, KeepBodies}
 use Rattle.cp_machine.specs.Machine.{Machine}
 use Rattle.cp_machine.specs.declared.moved.Moved.{Moved}

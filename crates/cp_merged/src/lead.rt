@@ -1,7 +1,7 @@
 //! How many words lead to one place.
 
-ghost use Rattle.std.specs.Prelude.{◌≡◌, ◌+◌, ◌^◌, ◌<◌};
-ghost use Rattle.cp_merged.specs.Layers.{lesser};
+ghost use Rattle.std.specs.Prelude.{◌≡◌, ◌+◌, ◌^◌, ◌<◌, not};
+ghost use Rattle.cp_merged.specs.Layers.{lesser, up_to};
 
 use crate::word::{Word, word_of};
 use cp_natural::Natural;
@@ -21,8 +21,25 @@ impl Lead {
         ensures first { self.new.first.items ≡ lesser self.old.first.items other.now.first.items }
     {
         self.count = self.count.plus(&other.count);
-        if other.first.cmp(&self.first).is_lt() {
+        if is_after(self.first.as_slice(), other.first.as_slice()) {
             self.first = word_of(other.first.as_slice());
         }
     }
+}
+
+// Whether a word comes after another one in dictionary order. Words are short, and most differ soon.
+fn is_after(word: &[u8], other: &[u8]) -> bool
+    ensures { result ≡ not (up_to word.now other.now) }
+{
+    let count = if word.len() < other.len() {
+        word.len()
+    } else {
+        other.len()
+    };
+    for at in 0..count {
+        if word[at] != other[at] {
+            return other[at] < word[at];
+        }
+    }
+    other.len() < word.len()
 }

@@ -1,10 +1,18 @@
-use Rattle.std.proofs.Common.{◌∙◌, sym, ap}
-use Rattle.std.specs.Ordering.{is_lt}
-use Rattle.cp_merged.proofs.Adding.{lesser_new, lesser_old}
+use Rattle.std.proofs.Common.{◌≡◌, ◌∙◌, not, ap}
+use Rattle.cp_merged.specs.Layers.{up_to}
+use Rattle.cp_merged.proofs.Adding.{lesser_after, lesser_up_to}
 use Rattle.cp_merged.proofs.lead.Lead.merge.Goals as goal
 
-pub returns-then-is_lt-clause-first : goal.returns-then-is_lt-clause-first
-returns-then-is_lt-clause-first c = c.word_of-self.ensures ∙ c.as_slice.ensures.value ∙ lesser_new c.args.self.now.first.items c.args.other.now.first.items (sym (c.is_lt.ensures ∙ ap is_lt c.cmp.ensures) ∙ c.if-is_lt.true)
+pub returns-then-is_after-clause-first : goal.returns-then-is_after-clause-first
+returns-then-is_after-clause-first c =
+    let mine = c.args.self.now.first.items in
+    let theirs = c.args.other.now.first.items in
+    let compared : c.is_after.result ≡ not (up_to mine theirs) = c.is_after.ensures ∙ ap (λ v. not (up_to v c.as_slice-2.result.now)) c.as_slice.ensures.value ∙ ap (λ w. not (up_to mine w)) c.as_slice-2.ensures.value in
+    c.word_of-self.ensures ∙ c.as_slice-then-is_after.ensures.value ∙ lesser_after mine theirs c.is_after.result compared c.if-is_after.true
 
-pub returns-else-is_lt-clause-first : goal.returns-else-is_lt-clause-first
-returns-else-is_lt-clause-first c = lesser_old c.args.self.now.first.items c.args.other.now.first.items (sym (c.is_lt.ensures ∙ ap is_lt c.cmp.ensures) ∙ c.if-is_lt.false)
+pub returns-else-is_after-clause-first : goal.returns-else-is_after-clause-first
+returns-else-is_after-clause-first c =
+    let mine = c.args.self.now.first.items in
+    let theirs = c.args.other.now.first.items in
+    let compared : c.is_after.result ≡ not (up_to mine theirs) = c.is_after.ensures ∙ ap (λ v. not (up_to v c.as_slice-2.result.now)) c.as_slice.ensures.value ∙ ap (λ w. not (up_to mine w)) c.as_slice-2.ensures.value in
+    lesser_up_to mine theirs c.is_after.result compared c.if-is_after.false
