@@ -83,7 +83,15 @@ fn ends_of<S: Ledger, C: Ledger>(
         first: Word::new(),
     };
     let none = Parts::none();
-    let Ok(()) = front.arrive(alloc, &state, halt, &state, &none, &Moved::everybody(), one) else {
+    let Ok(()) = front.arrive(
+        alloc,
+        &state,
+        halt,
+        &state,
+        &none,
+        &Moved::everybody(),
+        &one,
+    ) else {
         return Err(MergeFault::Memory);
     };
     if front.layer.len() > most {

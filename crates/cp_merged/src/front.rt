@@ -38,15 +38,20 @@ pub type Layer = IndexMap<StateKey, Lead>;
 pub type Ends = IndexMap<EndKey, Lead>;
 
 // A state that is known takes no memory.
-fn add_state(alloc: Global, layer: &mut Layer, key: &StateKey, lead: Lead) -> Result<(), AllocError>
-    requires { IfSome (lookup (λ k. pointwise nat_eq key.now.bytes.items k.bytes.items) layer.old.entries) (λ y. y.count + lead.count < 10 ^ 126) }
-    ensures { IfOk result (λ _. map keyed layer.new.entries ≡ with_lead (pointwise nat_eq) (map keyed layer.old.entries) (keyed (key.now, lead))) }
+fn add_state(
+    alloc: Global,
+    layer: &mut Layer,
+    key: &StateKey,
+    lead: &Lead,
+) -> Result<(), AllocError>
+    requires { IfSome (lookup (λ k. pointwise nat_eq key.now.bytes.items k.bytes.items) layer.old.entries) (λ y. y.count + lead.now.count < 10 ^ 126) }
+    ensures { IfOk result (λ _. map keyed layer.new.entries ≡ with_lead (pointwise nat_eq) (map keyed layer.old.entries) (keyed (key.now, lead.now))) }
 {
     match layer.get_mut(key) {
-        Some(known) => known.merge(&lead),
+        Some(known) => known.merge(lead),
         None => {
             let bytes = Vec::from_slice(alloc, key.bytes.as_slice())?;
-            layer.insert(StateKey { bytes }, lead)?;
+            layer.insert(StateKey { bytes }, copy_of(lead))?;
         }
     }
     Ok(())
@@ -143,13 +148,13 @@ impl Front {
         before: &State,
         known: &Parts,
         moved: &Moved,
-        lead: Lead,
+        lead: &Lead,
     ) -> Result<(), AllocError>
-        requires small { (xs : List (layers.Lead Machine)) × (map keyed self.old.layer.entries ≡ map frozen xs) × (words_of xs + lead.count < 10 ^ 126) }
+        requires small { (xs : List (layers.Lead Machine)) × (map keyed self.old.layer.entries ≡ map frozen xs) × (words_of xs + lead.now.count < 10 ^ 126) }
         requires known { ArePartsOf known.now (machine_of before.now) }
         requires kept { KeepBodies (has_moved moved.now) (machine_of before.now) (machine_of state.now) }
         requires cover { Cover known.now.bodies moved.now (machine_of state.now) }
-        ensures layer { IfOk result (λ _. (r : Tables) (xs : List (layers.Lead Machine)) → IsStateOf r state.now → AreLeads r self.old.layer.entries xs → AreLeads r self.new.layer.entries (with_lead same_key xs (record { state = machine_of state.now; first = lead.first.items; count = lead.count }))) }
+        ensures layer { IfOk result (λ _. (r : Tables) (xs : List (layers.Lead Machine)) → IsStateOf r state.now → AreLeads r self.old.layer.entries xs → AreLeads r self.new.layer.entries (with_lead same_key xs (record { state = machine_of state.now; first = lead.now.first.items; count = lead.now.count }))) }
         ensures ended { self.new.ended.entries ≡ self.old.ended.entries }
     {
         self.scratch.bytes.clear();
@@ -166,16 +171,16 @@ impl Front {
         before: &State,
         known: &Parts,
         moved: &Moved,
-        lead: Lead,
+        lead: &Lead,
     ) -> Result<(), AllocError>
-        requires small { (r : Tables) × (f : layers.Front Machine) × Holds r self.old.ended.entries self.old.layer.entries f × (total f + lead.count < 10 ^ 126) }
+        requires small { (r : Tables) × (f : layers.Front Machine) × Holds r self.old.ended.entries self.old.layer.entries f × (total f + lead.now.count < 10 ^ 126) }
         requires known { ArePartsOf known.now (machine_of before.now) }
         requires kept { KeepBodies (has_moved moved.now) (machine_of before.now) (machine_of state.now) }
         requires cover { Cover known.now.bodies moved.now (machine_of state.now) }
-        ensures { IfOk result (λ _. (r : Tables) (gates : Gates) (f : layers.Front Machine) → IsStateOf r state.now → Holds r self.old.ended.entries self.old.layer.entries f → Holds r self.new.ended.entries self.new.layer.entries (arrived (slots r gates) same_outcome same_key lead.first.items lead.count (node_of halt (machine_of state.now)) f)) }
+        ensures { IfOk result (λ _. (r : Tables) (gates : Gates) (f : layers.Front Machine) → IsStateOf r state.now → Holds r self.old.ended.entries self.old.layer.entries f → Holds r self.new.ended.entries self.new.layer.entries (arrived (slots r gates) same_outcome same_key lead.now.first.items lead.now.count (node_of halt (machine_of state.now)) f)) }
     {
         match halt {
-            Halt::Ended(kind) => self.end(alloc, kind, state, &lead),
+            Halt::Ended(kind) => self.end(alloc, kind, state, lead),
             Halt::Choice => self.wait(alloc, state, before, known, moved, lead),
         }
     }

@@ -54,7 +54,7 @@ fn take_choice<S: Ledger, C: Ledger>(
         count: lead.count,
         first: longer(lead.first.as_slice(), process),
     };
-    front.arrive(alloc, state, halt, before, known, moved, arriving)
+    front.arrive(alloc, state, halt, before, known, moved, &arriving)
 }
 
 /// A lead goes one choice on with each process that may be chosen, in a copy of its state. `moved` are the processes whose bodies the
