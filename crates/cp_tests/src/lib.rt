@@ -15,6 +15,8 @@ mod fakes;
 #[cfg(test)]
 mod merged;
 #[cfg(test)]
+mod naturals;
+#[cfg(test)]
 mod parses;
 #[cfg(test)]
 mod programs;

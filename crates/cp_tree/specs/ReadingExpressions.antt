@@ -162,6 +162,13 @@ unfoldable mutual
 unfoldable pub factor_at : ℕ → Parser Factor
 factor_at b = factor_with (expression b) (deeper b)
 
+-- an expression between parentheses, after the first of them
+unfoldable pub grouped_at : ℕ → Parser Expression
+grouped_at b = do
+  e ← expression b
+  expect mark.CloseParenthesis
+  pure e
+
 unfoldable pub term_at : ℕ → Parser Term
 term_at b = term_with (factor_at b)
 

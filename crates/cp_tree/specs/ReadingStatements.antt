@@ -139,6 +139,10 @@ statement (suc b) = statement_with (expression b) (statement b)
 unfoldable pub statement_at : ℕ → Parser Statement
 statement_at b = statement_with (expression b) (statement b)
 
+-- the statement after a word, as `do`
+unfoldable pub statement_after : Mark → ℕ → Parser Statement
+statement_after m b = expect m >> statement b
+
 unfoldable pub statements_at : ℕ → Parser (List Statement)
 statements_at b = separated mark.Semicolon (statement b)
 

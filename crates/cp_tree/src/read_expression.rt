@@ -195,7 +195,7 @@ fn multiplied_factors(
 }
 
 #[cycle(expression)]
-#[tactic(auto, unfolding(crate::specs::ReadingExpressions::factor_at, crate::specs::ReadingExpressions::factor_with, crate::specs::ReadingExpressions::designator_at, crate::specs::ReadingExpressions::arguments_at, crate::specs::ReadingExpressions::elements_at))]
+#[tactic(auto, unfolding(crate::specs::ReadingExpressions::factor_at, crate::specs::ReadingExpressions::factor_with, crate::specs::ReadingExpressions::grouped_at, crate::specs::ReadingExpressions::designator_at, crate::specs::ReadingExpressions::arguments_at, crate::specs::ReadingExpressions::elements_at))]
 fn factor(alloc: Global, cursor: &mut Cursor<'_>, budget: usize) -> Result<Factor, ParseFault>
     ensures { Reads factor_view (spec.factor_at budget cursor.old) result cursor.new }
 {
@@ -215,9 +215,7 @@ fn factor(alloc: Global, cursor: &mut Cursor<'_>, budget: usize) -> Result<Facto
         }
         Some(Kind::Mark(Mark::OpenParenthesis)) => {
             cursor.advance();
-            let inner = expression(alloc, cursor, budget)?;
-            cursor.expect(Mark::CloseParenthesis)?;
-            FactorKind::Group(Box::new(alloc, inner)?)
+            FactorKind::Group(grouped(alloc, cursor, budget)?)
         }
         Some(Kind::Mark(Mark::OpenBracket)) => {
             cursor.advance();
@@ -225,12 +223,35 @@ fn factor(alloc: Global, cursor: &mut Cursor<'_>, budget: usize) -> Result<Facto
         }
         Some(Kind::Mark(Mark::Not)) => {
             cursor.advance();
-            let inner = deeper(alloc, cursor, budget)?;
-            FactorKind::Not(Box::new(alloc, inner)?)
+            FactorKind::Not(negated(alloc, cursor, budget)?)
         }
         _ => return Err(cursor.unexpected()),
     };
     Ok(Factor { at, kind })
+}
+
+// The expression between parentheses, after the first of them.
+#[cycle(expression)]
+#[tactic(auto, unfolding(crate::specs::ReadingExpressions::grouped_at))]
+fn grouped(
+    alloc: Global,
+    cursor: &mut Cursor<'_>,
+    budget: usize,
+) -> Result<Box<Expression>, ParseFault>
+    ensures { Reads (λ e. expression_view e.value) (spec.grouped_at budget cursor.old) result cursor.new }
+{
+    let inner = expression(alloc, cursor, budget)?;
+    cursor.expect(Mark::CloseParenthesis)?;
+    Ok(Box::new(alloc, inner)?)
+}
+
+// The factor after `not`.
+#[cycle(expression)]
+fn negated(alloc: Global, cursor: &mut Cursor<'_>, budget: usize) -> Result<Box<Factor>, ParseFault>
+    ensures { Reads (λ f. factor_view f.value) (spec.deeper budget cursor.old) result cursor.new }
+{
+    let inner = deeper(alloc, cursor, budget)?;
+    Ok(Box::new(alloc, inner)?)
 }
 
 // A factor after `not`.

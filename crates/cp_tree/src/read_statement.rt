@@ -154,21 +154,34 @@ fn repeat_loop(
     })
 }
 
+// The statement after a word, as `do`, in a box.
+#[cycle(statement)]
+#[tactic(auto, unfolding(crate::specs::ReadingStatements::statement_after))]
+fn statement_after(
+    alloc: Global,
+    cursor: &mut Cursor<'_>,
+    word: Mark,
+    budget: usize,
+) -> Result<Box<Statement>, ParseFault>
+    ensures { Reads (λ s. statement_view s.value) (spec.statement_after word budget cursor.old) result cursor.new }
+{
+    cursor.expect(word)?;
+    let inner = statement(alloc, cursor, budget)?;
+    Ok(Box::new(alloc, inner)?)
+}
+
 // `if .. then .. else`, whose word comes next.
 #[cycle(statement)]
-#[tactic(auto, unfolding(crate::specs::ReadingStatements::if_at, crate::specs::ReadingStatements::if_with))]
+#[tactic(auto, unfolding(crate::specs::ReadingStatements::if_at, crate::specs::ReadingStatements::if_with, crate::specs::ReadingStatements::statement_after, crate::specs::Input::expect, crate::specs::Input::after))]
 fn choice(alloc: Global, cursor: &mut Cursor<'_>, budget: usize) -> Result<Statement, ParseFault>
     ensures { Reads statement_view (spec.if_at budget cursor.old.at (advance cursor.old)) result cursor.new }
 {
     let at = cursor.at();
     cursor.advance();
     let test = expression(alloc, cursor, budget)?;
-    cursor.expect(Mark::Then)?;
-    let chosen = statement(alloc, cursor, budget)?;
-    let chosen = Box::new(alloc, chosen)?;
-    if cursor.eat(Mark::Else) {
-        let other = statement(alloc, cursor, budget)?;
-        let other = Box::new(alloc, other)?;
+    let chosen = statement_after(alloc, cursor, Mark::Then, budget)?;
+    if cursor.sees(Mark::Else) {
+        let other = statement_after(alloc, cursor, Mark::Else, budget)?;
         return Ok(Statement {
             at,
             kind: StatementKind::If(test, chosen, Some(other)),
@@ -182,7 +195,7 @@ fn choice(alloc: Global, cursor: &mut Cursor<'_>, budget: usize) -> Result<State
 
 // `while .. do`, whose word comes next.
 #[cycle(statement)]
-#[tactic(auto, unfolding(crate::specs::ReadingStatements::while_at, crate::specs::ReadingStatements::while_with))]
+#[tactic(auto, unfolding(crate::specs::ReadingStatements::while_at, crate::specs::ReadingStatements::while_with, crate::specs::ReadingStatements::statement_after))]
 fn while_loop(
     alloc: Global,
     cursor: &mut Cursor<'_>,
@@ -193,17 +206,16 @@ fn while_loop(
     let at = cursor.at();
     cursor.advance();
     let test = expression(alloc, cursor, budget)?;
-    cursor.expect(Mark::Do)?;
-    let body = statement(alloc, cursor, budget)?;
+    let body = statement_after(alloc, cursor, Mark::Do, budget)?;
     Ok(Statement {
         at,
-        kind: StatementKind::While(test, Box::new(alloc, body)?),
+        kind: StatementKind::While(test, body),
     })
 }
 
 // `for .. do`, whose word comes next.
 #[cycle(statement)]
-#[tactic(auto, unfolding(crate::specs::ReadingStatements::for_at, crate::specs::ReadingStatements::for_with))]
+#[tactic(auto, unfolding(crate::specs::ReadingStatements::for_at, crate::specs::ReadingStatements::for_with, crate::specs::ReadingStatements::statement_after))]
 fn for_loop(alloc: Global, cursor: &mut Cursor<'_>, budget: usize) -> Result<Statement, ParseFault>
     ensures { Reads statement_view (spec.for_at budget cursor.old.at (advance cursor.old)) result cursor.new }
 {
@@ -214,9 +226,7 @@ fn for_loop(alloc: Global, cursor: &mut Cursor<'_>, budget: usize) -> Result<Sta
     let first = expression(alloc, cursor, budget)?;
     let direction = direction(cursor)?;
     let last = expression(alloc, cursor, budget)?;
-    cursor.expect(Mark::Do)?;
-    let body = statement(alloc, cursor, budget)?;
-    let body = Box::new(alloc, body)?;
+    let body = statement_after(alloc, cursor, Mark::Do, budget)?;
     Ok(Statement {
         at,
         kind: StatementKind::For(variable, first, direction, last, body),

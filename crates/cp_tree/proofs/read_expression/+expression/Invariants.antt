@@ -11,6 +11,12 @@ decreases-expression l = 16 * l.budget
 abbrev pub decreases-deeper : goal.decreases-deeper
 decreases-deeper l = 16 * l.budget
 
+abbrev pub decreases-negated : goal.decreases-negated
+decreases-negated l = 16 * l.budget + 1
+
+abbrev pub decreases-grouped : goal.decreases-grouped
+decreases-grouped l = 16 * l.budget + 1
+
 abbrev pub decreases-expressions : goal.decreases-expressions
 decreases-expressions l = 16 * l.budget + 1
 

@@ -4,7 +4,8 @@ use Rattle.cp_text.specs.declared.token.Mark.TheVariants as mark
 use Rattle.cp_tree.specs.Reading.{many_from, many_after, behind, separated, ended_from, ended_after, ended_list}
 use Rattle.cp_tree.proofs.Turns as turns
 use Rattle.cp_tree.specs.declared.statement.StatementKind.{the_lemmas}
-use Rattle.cp_tree.specs.ReadingStatements.{statement, statement_at, statements_at, if_at, if_with, arm_at}
+use Rattle.cp_tree.specs.Input.{expect, after}
+use Rattle.cp_tree.specs.ReadingStatements.{statement, statement_at, statements_at, if_at, if_with, statement_after, arm_at}
 use Rattle.cp_tree.specs.View.{statements_view, arms_view}
 use Rattle.cp_tree.proofs.Views.{if_then_view, if_else_view}
 use Rattle.cp_tree.proofs.read_statement.+statement.Goals as goal
@@ -13,16 +14,16 @@ pub statement-returns : goal.statement-returns
 unfolding statement statement_at
 statement-returns t c = rw (turns.deeper (λ n. statement n c.args.cursor.now) c.args.budget (omega arith)) c.statement_within.ensures
 
-pub choice-returns-then-eat : goal.choice-returns-then-eat
-unfolding if_at if_with
-choice-returns-then-eat t c =
-    let v = if_else_view c.at-at.result c.in_ok-test.test c.in_ok-chosen-2.chosen c.in_ok-other-2.other in
+pub choice-returns-then-sees : goal.choice-returns-then-sees
+unfolding if_at if_with statement_after expect after
+choice-returns-then-sees t c =
+    let v = if_else_view c.at-at.result c.in_ok-test.test c.in_ok-chosen.chosen c.in_ok-other.other in
     rw v (first_of (search rules, grind (arith, common_steps)))
 
 pub choice-returns : goal.choice-returns
-unfolding if_at if_with
+unfolding if_at if_with statement_after expect after
 choice-returns t c =
-    let v = if_then_view c.at-at.result c.in_ok-test.test c.in_ok-chosen-2.chosen in
+    let v = if_then_view c.at-at.result c.in_ok-test.test c.in_ok-chosen.chosen in
     rw v (first_of (search rules, grind (arith, common_steps)))
 
 pub statements-loop-turn-init : goal.statements-loop-turn-init

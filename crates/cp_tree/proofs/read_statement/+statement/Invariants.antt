@@ -11,6 +11,9 @@ decreases-statement l = 8 * l.budget
 abbrev pub decreases-statements : goal.decreases-statements
 decreases-statements l = 8 * l.budget + 1
 
+abbrev pub decreases-statement_after : goal.decreases-statement_after
+decreases-statement_after l = 8 * l.budget + 1
+
 abbrev pub decreases-arm : goal.decreases-arm
 decreases-arm l = 8 * l.budget + 1
 
