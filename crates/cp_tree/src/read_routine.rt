@@ -1,6 +1,6 @@
 //! Reading bodies, parameters and routines.
 
-ghost use Rattle.std.specs.Prelude.{◌≡◌, map, option_map};
+ghost use Rattle.std.specs.Prelude.{◌≡◌, if◌then◌else◌, map, option_map};
 ghost use Rattle.cp_tree.specs.Input.{Reads};
 ghost use Rattle.cp_tree.specs.Reading as lists;
 ghost use Rattle.cp_tree.specs.ReadingDeclarations as spec;
@@ -122,34 +122,33 @@ fn function_kind(alloc: Global, cursor: &mut Cursor<'_>) -> Result<RoutineKind, 
     Ok(RoutineKind::Function(parameters, result_type))
 }
 
-#[tactic(auto, unfolding(crate::specs::ReadingDeclarations::routine_with))]
-fn procedure(alloc: Global, cursor: &mut Cursor<'_>, at: usize) -> Result<Routine, ParseFault>
-    ensures { Reads routine_view (spec.routine_with spec.procedure_kind at cursor.old) result cursor.new }
+fn routine_kind(
+    alloc: Global,
+    cursor: &mut Cursor<'_>,
+    is_function: bool,
+) -> Result<RoutineKind, ParseFault>
+    ensures { Reads routine_kind_view ((if is_function then spec.function_kind else spec.procedure_kind) cursor.old) result cursor.new }
 {
-    let is_entry = cursor.eat(Mark::Entry);
-    let name = identifier(alloc, cursor)?;
-    let kind = procedure_kind(alloc, cursor)?;
-    cursor.expect(Mark::Semicolon)?;
-    let parts = parts(alloc, cursor)?;
-    let body = body(alloc, cursor)?;
-    cursor.expect(Mark::Semicolon)?;
-    Ok(Routine {
-        at,
-        is_entry,
-        name,
-        kind,
-        parts,
-        body,
-    })
+    if is_function {
+        function_kind(alloc, cursor)
+    } else {
+        procedure_kind(alloc, cursor)
+    }
 }
 
+// A routine, after its first word.
 #[tactic(auto, unfolding(crate::specs::ReadingDeclarations::routine_with))]
-fn function(alloc: Global, cursor: &mut Cursor<'_>, at: usize) -> Result<Routine, ParseFault>
-    ensures { Reads routine_view (spec.routine_with spec.function_kind at cursor.old) result cursor.new }
+fn named_routine(
+    alloc: Global,
+    cursor: &mut Cursor<'_>,
+    at: usize,
+    is_function: bool,
+) -> Result<Routine, ParseFault>
+    ensures { Reads routine_view (spec.routine_with (if is_function then spec.function_kind else spec.procedure_kind) at cursor.old) result cursor.new }
 {
     let is_entry = cursor.eat(Mark::Entry);
     let name = identifier(alloc, cursor)?;
-    let kind = function_kind(alloc, cursor)?;
+    let kind = routine_kind(alloc, cursor, is_function)?;
     cursor.expect(Mark::Semicolon)?;
     let parts = parts(alloc, cursor)?;
     let body = body(alloc, cursor)?;
@@ -172,11 +171,11 @@ fn routine(alloc: Global, cursor: &mut Cursor<'_>) -> Result<Option<Routine>, Pa
     match cursor.mark() {
         Some(Mark::Procedure) => {
             cursor.advance();
-            Ok(Some(procedure(alloc, cursor, at)?))
+            Ok(Some(named_routine(alloc, cursor, at, false)?))
         }
         Some(Mark::Function) => {
             cursor.advance();
-            Ok(Some(function(alloc, cursor, at)?))
+            Ok(Some(named_routine(alloc, cursor, at, true)?))
         }
         _ => Ok(None),
     }
