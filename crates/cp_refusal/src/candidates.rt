@@ -7,7 +7,7 @@ use cp_tree::{ParseFault, parse};
 use std::alloc::{AllocError, Global};
 
 /// A kind of token that may be tried.
-#[derive(Clone, Copy, Debug, PartialEq, Eq)]
+#[derive(Clone, Copy, PartialEq, Eq)]
 pub enum Candidate {
     Name,
     Number,
@@ -103,7 +103,7 @@ pub fn may_stand(
 }
 
 /// Whether a word or sign begins a statement, an operand, or joins operands. Those are told by one word for all.
-#[derive(Clone, Copy, Debug, PartialEq, Eq)]
+#[derive(Clone, Copy, PartialEq, Eq)]
 enum Role {
     Statement,
     Operand,

@@ -6,7 +6,7 @@ use cp_tree::{
 };
 
 /// What a name was declared as.
-#[derive(Clone, Copy, Debug, PartialEq, Eq)]
+#[derive(Clone, Copy, PartialEq, Eq)]
 pub enum Declared {
     Constant,
     Type,
@@ -19,7 +19,7 @@ pub enum Declared {
 }
 
 /// A name, and the place where it is looked for.
-#[derive(Clone, Copy, Debug)]
+#[derive(Clone, Copy)]
 pub struct Looked<'a> {
     pub name: &'a str,
     pub at: usize,

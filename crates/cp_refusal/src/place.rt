@@ -3,7 +3,7 @@
 use cp_text::ScanCause;
 
 /// What a piece of a source is.
-#[derive(Clone, Copy, Debug, PartialEq, Eq)]
+#[derive(Clone, Copy, PartialEq, Eq)]
 pub enum Shape {
     Blank,
     Comment,
@@ -17,21 +17,21 @@ pub enum Shape {
 }
 
 /// A piece at the front of a text, and its length in bytes.
-#[derive(Clone, Copy, Debug)]
+#[derive(Clone, Copy)]
 pub struct Piece {
     pub shape: Shape,
     pub len: usize,
 }
 
 /// The bytes of a source from one place to another.
-#[derive(Clone, Copy, Debug)]
+#[derive(Clone, Copy)]
 pub struct Span {
     pub from: usize,
     pub len: usize,
 }
 
 /// What is looked for in a source.
-#[derive(Clone, Copy, Debug)]
+#[derive(Clone, Copy)]
 pub enum Sought {
     /// The token that so many tokens stand before.
     Token(usize),

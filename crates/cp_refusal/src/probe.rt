@@ -8,7 +8,7 @@ use cp_tree::{ParseFault, parse};
 use std::alloc::{AllocError, Global};
 
 /// Tokens that are put in.
-#[derive(Clone, Copy, Debug)]
+#[derive(Clone, Copy)]
 pub enum Piece {
     Mark(Mark),
     Number(u16),
@@ -22,7 +22,7 @@ pub enum Piece {
 }
 
 /// What the checker says of tokens that were put in.
-#[derive(Clone, Copy, Debug, PartialEq, Eq)]
+#[derive(Clone, Copy, PartialEq, Eq)]
 pub enum Reply {
     /// No rule is broken in them.
     Fine,

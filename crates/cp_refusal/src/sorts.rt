@@ -7,7 +7,7 @@ use cp_text::{Mark, Tokens};
 use std::alloc::{AllocError, Global};
 
 /// What sort of value an expression has.
-#[derive(Clone, Copy, Debug, PartialEq, Eq)]
+#[derive(Clone, Copy, PartialEq, Eq)]
 pub enum Sort {
     Integer,
     Boolean,

@@ -8,7 +8,7 @@ use cp_tree::{Body, PartKind, Program, ProgramPartKind, SystemKind, VariableGrou
 use std::alloc::{AllocError, Global};
 
 /// What is said of a component.
-#[derive(Clone, Copy, Debug, PartialEq, Eq)]
+#[derive(Clone, Copy, PartialEq, Eq)]
 pub enum Care {
     /// It is a process that is never started.
     NotStarted,
@@ -19,7 +19,7 @@ pub enum Care {
 }
 
 /// A remark on a component, at a token.
-#[derive(Clone, Copy, Debug, Drop)]
+#[derive(Clone, Copy, Drop)]
 pub struct Remark {
     pub at: usize,
     pub care: Care,

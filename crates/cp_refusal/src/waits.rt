@@ -16,7 +16,7 @@ struct Known<'a> {
 }
 
 /// A call, within a monitor, of another one in which it may wait.
-#[derive(Clone, Copy, Debug, Drop)]
+#[derive(Clone, Copy, Drop)]
 pub struct Inner<'a> {
     /// The name of the monitor type that is around.
     pub outer: &'a str,

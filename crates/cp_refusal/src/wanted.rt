@@ -4,7 +4,7 @@ use crate::sorts::Sort;
 use cp_text::Mark;
 
 /// Of which sorts a single value has to be.
-#[derive(Clone, Copy, Debug, PartialEq, Eq)]
+#[derive(Clone, Copy, PartialEq, Eq)]
 pub enum Wanted {
     Boolean,
     Integer,
@@ -36,7 +36,7 @@ impl Wanted {
 }
 
 /// Of which sorts the operands of an operation may be, both of one.
-#[derive(Clone, Copy, Debug, PartialEq, Eq)]
+#[derive(Clone, Copy, PartialEq, Eq)]
 pub enum Operands {
     Integers,
     IntegersOrSets,

@@ -23,118 +23,144 @@ fn fault(rt: &HostRuntime, source: &str) -> Result<CheckFault, Fail> {
     Ok(fault)
 }
 
-#[test]
-fn names_and_values(rt: HostRuntime) -> Result<(), Fail> {
-    for (source, at, rule) in [
-        ("begin x := 1; y := 2 end.", 1, Rule::C1),
-        ("var a, a: integer; begin end.", 3, Rule::C2),
-        ("type t = integer; const c = t; begin end.", 8, Rule::C3),
-        ("const c = 1; var x: c; begin end.", 8, Rule::C4),
-        ("var x: integer; begin x := true end.", 6, Rule::C5),
-        ("begin display('a' in [1]) end.", 3, Rule::C5),
-        ("const c = 1; begin c := 2 end.", 6, Rule::C6),
-        (
-            "type m = monitor; var a, b: array [1..2] of queue; begin b := a end; begin end.",
-            20,
-            Rule::C6,
-        ),
-        (
-            "type r = record a: integer end; var x: r; begin display(x) end.",
-            17,
-            Rule::C21,
-        ),
-    ] {
-        assert_eq!(rt;
-            fault(&rt, source)?,
-            CheckFault::Rule { at, rule },
-            "{source}"
-        );
-    }
-    Ok(())
+/// A program that breaks a rule, and the token that it is broken at.
+struct Broken {
+    source: &'static str,
+    at: usize,
+    rule: Rule,
 }
 
-#[test]
-fn routines(rt: HostRuntime) -> Result<(), Fail> {
-    for (source, at, rule) in [
-        (
-            "procedure f(a: integer); begin end; begin f end.",
-            12,
-            Rule::C7,
-        ),
-        (
-            "type c = class; begin end; var k: c; begin k.go end.",
-            16,
-            Rule::C8,
-        ),
-        ("procedure entry f; begin end; begin end.", 1, Rule::C9),
-        ("procedure f; begin f end; begin f end.", 4, Rule::C10),
-    ] {
-        assert_eq!(rt;
-            fault(&rt, source)?,
-            CheckFault::Rule { at, rule },
-            "{source}"
-        );
-    }
-    Ok(())
-}
+static BROKEN: [Broken; 24] = [
+    Broken {
+        source: "begin x := 1; y := 2 end.",
+        at: 1,
+        rule: Rule::C1,
+    },
+    Broken {
+        source: "var a, a: integer; begin end.",
+        at: 3,
+        rule: Rule::C2,
+    },
+    Broken {
+        source: "type t = integer; const c = t; begin end.",
+        at: 8,
+        rule: Rule::C3,
+    },
+    Broken {
+        source: "const c = 1; var x: c; begin end.",
+        at: 8,
+        rule: Rule::C4,
+    },
+    Broken {
+        source: "var x: integer; begin x := true end.",
+        at: 6,
+        rule: Rule::C5,
+    },
+    Broken {
+        source: "begin display('a' in [1]) end.",
+        at: 3,
+        rule: Rule::C5,
+    },
+    Broken {
+        source: "const c = 1; begin c := 2 end.",
+        at: 6,
+        rule: Rule::C6,
+    },
+    Broken {
+        source: "type m = monitor; var a, b: array [1..2] of queue; begin b := a end; begin end.",
+        at: 20,
+        rule: Rule::C6,
+    },
+    Broken {
+        source: "type r = record a: integer end; var x: r; begin display(x) end.",
+        at: 17,
+        rule: Rule::C21,
+    },
+    Broken {
+        source: "procedure f(a: integer); begin end; begin f end.",
+        at: 12,
+        rule: Rule::C7,
+    },
+    Broken {
+        source: "type c = class; begin end; var k: c; begin k.go end.",
+        at: 16,
+        rule: Rule::C8,
+    },
+    Broken {
+        source: "procedure entry f; begin end; begin end.",
+        at: 1,
+        rule: Rule::C9,
+    },
+    Broken {
+        source: "procedure f; begin f end; begin f end.",
+        at: 4,
+        rule: Rule::C10,
+    },
+    Broken {
+        source: "var q: queue; begin end.",
+        at: 3,
+        rule: Rule::C11,
+    },
+    Broken {
+        source: "type m = monitor; var q: queue; begin delay(q) end; begin end.",
+        at: 11,
+        rule: Rule::C12,
+    },
+    Broken {
+        source: "type p = process; begin end; m = monitor; var a: p; begin end; begin end.",
+        at: 15,
+        rule: Rule::C13,
+    },
+    Broken {
+        source: "type c = class; begin end; p = process(x: c); begin end; var k: c; a: p; begin init k, a(k) end.",
+        at: 14,
+        rule: Rule::C14,
+    },
+    Broken {
+        source: "type p = process; begin end; r = process(x: p); begin end; begin end.",
+        at: 14,
+        rule: Rule::C15,
+    },
+    Broken {
+        source: "type c = class; begin end; var k: c; procedure f; begin init k end; begin end.",
+        at: 17,
+        rule: Rule::C16,
+    },
+    Broken {
+        source: "var x: integer; begin init x end.",
+        at: 7,
+        rule: Rule::C17,
+    },
+    Broken {
+        source: "var x: 2..1; begin end.",
+        at: 3,
+        rule: Rule::C18,
+    },
+    Broken {
+        source: "begin case 1 of 1: ; 1: end end.",
+        at: 7,
+        rule: Rule::C19,
+    },
+    Broken {
+        source: "var a: array [0..8192] of integer; begin end.",
+        at: 3,
+        rule: Rule::C20,
+    },
+    Broken {
+        source: "var a: set of integer; begin end.",
+        at: 3,
+        rule: Rule::C20,
+    },
+];
 
 #[test]
-fn components(rt: HostRuntime) -> Result<(), Fail> {
-    for (source, at, rule) in [
-        ("var q: queue; begin end.", 3, Rule::C11),
-        (
-            "type m = monitor; var q: queue; begin delay(q) end; begin end.",
-            11,
-            Rule::C12,
-        ),
-        (
-            "type p = process; begin end; m = monitor; var a: p; begin end; begin end.",
-            15,
-            Rule::C13,
-        ),
-        (
-            "type c = class; begin end; p = process(x: c); begin end; var k: c; a: p; begin init k, a(k) end.",
-            14,
-            Rule::C14,
-        ),
-        (
-            "type p = process; begin end; r = process(x: p); begin end; begin end.",
-            14,
-            Rule::C15,
-        ),
-        (
-            "type c = class; begin end; var k: c; procedure f; begin init k end; begin end.",
-            17,
-            Rule::C16,
-        ),
-        ("var x: integer; begin init x end.", 7, Rule::C17),
-    ] {
-        assert_eq!(rt;
-            fault(&rt, source)?,
-            CheckFault::Rule { at, rule },
-            "{source}"
-        );
-    }
-    Ok(())
-}
-
-#[test]
-fn bounds_and_labels(rt: HostRuntime) -> Result<(), Fail> {
-    for (source, at, rule) in [
-        ("var x: 2..1; begin end.", 3, Rule::C18),
-        ("begin case 1 of 1: ; 1: end end.", 7, Rule::C19),
-        (
-            "var a: array [0..8192] of integer; begin end.",
-            3,
-            Rule::C20,
-        ),
-        ("var a: set of integer; begin end.", 3, Rule::C20),
-    ] {
-        assert_eq!(rt;
-            fault(&rt, source)?,
-            CheckFault::Rule { at, rule },
-            "{source}"
-        );
+fn broken_rules(rt: HostRuntime) -> Result<(), Fail> {
+    for broken in &BROKEN {
+        let wanted = CheckFault::Rule {
+            at: broken.at,
+            rule: broken.rule,
+        };
+        assert_eq!(rt; fault(&rt, broken.source)?, wanted, "{}", broken.source);
     }
     Ok(())
 }

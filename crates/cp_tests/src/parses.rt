@@ -16,13 +16,33 @@ fn scanned(rt: &HostRuntime, source: &str) -> Result<Tokens, Fail> {
     )
 }
 
-fn parsed(rt: &HostRuntime, source: &str) -> Result<Result<Tree, ParseFault>, Fail> {
+fn tree_of(rt: &HostRuntime, source: &str) -> Result<Tree, Fail> {
     let tokens = scanned(rt, source)?;
-    Ok(parse(rt.alloc(), &tokens))
+    Ok(parse(rt.alloc(), &tokens).ok().ok_or("it is a program")?)
 }
 
-fn fault(rt: &HostRuntime, source: &str) -> Result<ParseFault, Fail> {
-    Ok(parsed(rt, source)?.err().ok_or("it is refused")?)
+/// How the reading of a program ends.
+#[derive(Clone, Copy, Debug, PartialEq, Eq)]
+enum Ending {
+    Read,
+    Unexpected(usize),
+    OutsideProfile(usize),
+    TooDeep(usize),
+    Memory,
+}
+
+fn ending_after(rt: &HostRuntime, tokens: &Tokens) -> Ending {
+    match parse(rt.alloc(), tokens) {
+        Ok(_) => Ending::Read,
+        Err(ParseFault::Unexpected(at)) => Ending::Unexpected(at),
+        Err(ParseFault::OutsideProfile(at)) => Ending::OutsideProfile(at),
+        Err(ParseFault::TooDeep(at)) => Ending::TooDeep(at),
+        Err(ParseFault::Memory) => Ending::Memory,
+    }
+}
+
+fn ending_of(rt: &HostRuntime, source: &str) -> Result<Ending, Fail> {
+    Ok(ending_after(rt, &scanned(rt, source)?))
 }
 
 // The statements of `begin .. end.` with this many `begin` before as many `end`.
@@ -49,36 +69,25 @@ fn copied(rt: &HostRuntime, count: usize, at: usize) -> Result<Tokens, Fail> {
     scanned(rt, text.as_str())
 }
 
-#[test]
-fn worked_rows(rt: HostRuntime) -> Result<(), Fail> {
-    assert!(rt; matches!(fault(&rt, "")?, ParseFault::Unexpected(0)));
-    assert!(rt;
-        matches!(
-            fault(&rt, "begin with x do end.")?,
-            ParseFault::OutsideProfile(1)
-        )
-    );
-    assert!(rt; matches!(fault(&rt, "begin cycle end.")?, ParseFault::Unexpected(3)));
-    Ok(())
+// Whether the second statement has no `else`, and the `if` in it has one.
+fn has_inner_else(tree: &Tree) -> bool {
+    match tree.program.body.statements.get(1) {
+        Some(outer) => match &outer.kind {
+            StatementKind::If(_, chosen, None) => {
+                matches!(chosen.kind, StatementKind::If(_, _, Some(_)))
+            }
+            _ => false,
+        },
+        None => false,
+    }
 }
 
 #[test]
 fn dangling_else(rt: HostRuntime) -> Result<(), Fail> {
     let source =
         "var a, b: boolean; x: integer; begin a := true; if a then if b then x := 1 else x := 2; display(x) end.";
-    let tree = parsed(&rt, source)?.ok().ok_or("it is a program")?;
-    let outer = tree
-        .program
-        .body
-        .statements
-        .get(1)
-        .ok_or("the second statement")?;
-    match &outer.kind {
-        StatementKind::If(_, chosen, None) => {
-            assert!(rt; matches!(chosen.kind, StatementKind::If(_, _, Some(_))));
-        }
-        _ => assert!(rt; false),
-    }
+    let tree = tree_of(&rt, source)?;
+    assert!(rt; has_inner_else(&tree));
     assert_eq!(rt; tree.line(3), 1);
     Ok(())
 }
@@ -86,13 +95,10 @@ fn dangling_else(rt: HostRuntime) -> Result<(), Fail> {
 #[test]
 fn with_at_each_token(rt: HostRuntime) -> Result<(), Fail> {
     let tokens = scanned(&rt, BUFFER)?;
-    assert!(rt; parse(rt.alloc(), &tokens).is_ok());
+    assert_eq!(rt; ending_after(&rt, &tokens), Ending::Read);
     for at in 0..tokens.count() {
         let changed = copied(&rt, tokens.count(), at)?;
-        match parse(rt.alloc(), &changed) {
-            Err(ParseFault::OutsideProfile(place)) => assert_eq!(rt; place, at),
-            _ => assert_eq!(rt; at, tokens.count()),
-        }
+        assert_eq!(rt; ending_after(&rt, &changed), Ending::OutsideProfile(at));
     }
     Ok(())
 }
@@ -102,84 +108,73 @@ fn cut_at_each_token(rt: HostRuntime) -> Result<(), Fail> {
     let tokens = scanned(&rt, BUFFER)?;
     for count in 0..tokens.count() {
         let cut = copied(&rt, count, count)?;
-        match parse(rt.alloc(), &cut) {
-            Err(ParseFault::Unexpected(place)) => assert_eq!(rt; place, count),
-            _ => assert_eq!(rt; count, tokens.count()),
-        }
+        assert_eq!(rt; ending_after(&rt, &cut), Ending::Unexpected(count));
     }
     Ok(())
 }
 
 #[test]
 fn levels(rt: HostRuntime) -> Result<(), Fail> {
-    assert!(rt; parsed(&rt, nested(&rt, 50)?.as_str())?.is_ok());
-    assert!(rt;
-        matches!(
-            fault(&rt, nested(&rt, 51)?.as_str())?,
-            ParseFault::TooDeep(51)
-        )
-    );
+    let most = nested(&rt, 50)?;
+    assert_eq!(rt; ending_of(&rt, most.as_str())?, Ending::Read);
+    let more = nested(&rt, 51)?;
+    assert_eq!(rt; ending_of(&rt, more.as_str())?, Ending::TooDeep(51));
     Ok(())
 }
 
+static ENDINGS: [(&str, Ending); 21] = [
+    ("", Ending::Unexpected(0)),
+    ("begin with x do end.", Ending::OutsideProfile(1)),
+    ("begin cycle end.", Ending::Unexpected(3)),
+    ("begin end. with", Ending::OutsideProfile(3)),
+    ("const c = -'a'; begin end.", Ending::Unexpected(4)),
+    ("begin set end.", Ending::Unexpected(1)),
+    ("begin end. begin", Ending::Unexpected(3)),
+    ("begin x := 1 = 2 = 3 end.", Ending::Unexpected(6)),
+    ("begin x := - - 1 end.", Ending::Unexpected(4)),
+    ("begin if x then y; else z end.", Ending::Unexpected(6)),
+    ("begin case x of end end.", Ending::Unexpected(4)),
+    ("begin case x of 1: ; ; end end.", Ending::Unexpected(7)),
+    ("begin init end.", Ending::Unexpected(2)),
+    ("begin x.y[1, 2] := 1 end.", Ending::Unexpected(6)),
+    ("begin f() end.", Ending::Unexpected(3)),
+    ("type begin end.", Ending::Unexpected(1)),
+    ("type a = record end; begin end.", Ending::Unexpected(4)),
+    ("var x: +y; begin end.", Ending::Unexpected(5)),
+    ("var x: class; begin end.", Ending::Unexpected(3)),
+    ("procedure p begin end; begin end.", Ending::Unexpected(2)),
+    ("begin for i := 1 do end.", Ending::Unexpected(5)),
+];
+
 #[test]
-fn refused_elsewhere(rt: HostRuntime) -> Result<(), Fail> {
-    assert!(rt;
-        matches!(
-            fault(&rt, "begin end. with")?,
-            ParseFault::OutsideProfile(3)
-        )
-    );
-    let refused = [
-        ("const c = -'a'; begin end.", 4),
-        ("begin set end.", 1),
-        ("begin end. begin", 3),
-        ("begin x := 1 = 2 = 3 end.", 6),
-        ("begin x := - - 1 end.", 4),
-        ("begin if x then y; else z end.", 6),
-        ("begin case x of end end.", 4),
-        ("begin case x of 1: ; ; end end.", 7),
-        ("begin init end.", 2),
-        ("begin x.y[1, 2] := 1 end.", 6),
-        ("begin f() end.", 3),
-        ("type begin end.", 1),
-        ("type a = record end; begin end.", 4),
-        ("var x: +y; begin end.", 5),
-        ("var x: class; begin end.", 3),
-        ("procedure p begin end; begin end.", 2),
-        ("begin for i := 1 do end.", 5),
-    ];
-    for (source, place) in refused {
-        match fault(&rt, source)? {
-            ParseFault::Unexpected(at) => assert_eq!(rt; at, place),
-            _ => assert!(rt; false, "{source}"),
-        }
+fn refused(rt: HostRuntime) -> Result<(), Fail> {
+    for (source, wanted) in &ENDINGS {
+        assert_eq!(rt; ending_of(&rt, source)?, *wanted, "{source}");
     }
     Ok(())
+}
+
+// Whether the first statement assigns a negated group.
+fn negates_a_group(tree: &Tree) -> bool {
+    match tree.program.body.statements.get(0) {
+        Some(statement) => match &statement.kind {
+            StatementKind::Assign(_, value) => {
+                value.left.sign.is_some()
+                    && matches!(value.left.first.first.kind, FactorKind::Group(_))
+            }
+            _ => false,
+        },
+        None => false,
+    }
 }
 
 #[test]
 fn accepted_forms(rt: HostRuntime) -> Result<(), Fail> {
     let source =
         "const c = -1; d = 'a'; type t = (a, b); u = array [t] of set of 1..c; v = record x, y: t; z: 0..+9; end; var q: v; function f(n: t): t; begin end; begin case c of 1, -d: ; 'x': begin end; end; repeat until not [] = [1, 2] * [q.x]; for i := 1 downto 2 do while x in y do; if a then else begin end end.";
-    assert!(rt; parsed(&rt, source)?.is_ok());
-    let tree = parsed(&rt, "begin x := -(1) end.")?
-        .ok()
-        .ok_or("it is a program")?;
-    match &tree
-        .program
-        .body
-        .statements
-        .get(0)
-        .ok_or("a statement")?
-        .kind
-    {
-        StatementKind::Assign(_, value) => {
-            assert!(rt; value.left.sign.is_some());
-            assert!(rt; matches!(value.left.first.first.kind, FactorKind::Group(_)));
-        }
-        _ => assert!(rt; false),
-    }
+    assert_eq!(rt; ending_of(&rt, source)?, Ending::Read);
+    let tree = tree_of(&rt, "begin x := -(1) end.")?;
+    assert!(rt; negates_a_group(&tree));
     assert_eq!(rt; tree.program.period, 8);
     Ok(())
 }

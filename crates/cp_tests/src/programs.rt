@@ -4,9 +4,9 @@ ghost use Rattle.std.specs.Prelude.{◌≡◌, ◌≤◌, IfOk, length};
 
 use arrayvec::ArrayVec;
 use cp_check::check;
-use cp_machine::{Gates, Ticks};
+use cp_machine::{Gates, Shown, Ticks};
 use cp_resolved::resolve;
-use cp_run::{Limits, RunEnd, run};
+use cp_run::{Limits, OutcomeKind, RunEnd, run};
 use cp_slots::Resolved;
 use cp_text::scan;
 use cp_tree::parse;
@@ -92,6 +92,25 @@ fn end_counted<L: Ledger>(
             .ok()
             .ok_or("memory was refused")?,
     )
+}
+
+/// Whether a run ended in this way after this many numbers of its word, with this displayed.
+pub fn has_ended(end: &RunEnd, used: usize, kind: OutcomeKind, output: &[Shown]) -> bool {
+    match end {
+        RunEnd::Ended {
+            outcome,
+            used: found,
+        } => { *found == used && outcome.kind == kind && outcome.output.as_slice() == output }
+        _ => false,
+    }
+}
+
+/// Whether a run wants a choice among these processes.
+pub fn has_wanted(end: &RunEnd, wanted: &[u8]) -> bool {
+    match end {
+        RunEnd::Wants { ready } => ready.as_slice() == wanted,
+        _ => false,
+    }
 }
 
 /// The numbers of a word as it is printed: one digit each, joined by periods.

@@ -1,5 +1,6 @@
 //! The worked rows.
 use crate::fakes::Refusal;
+use crate::programs::TWO_DISPLAYS;
 use crate::streams::{NEVER, Refusals, answer_to};
 use std::test::Fail;
 
@@ -137,9 +138,6 @@ fn worked_rows(rt: HostRuntime) -> Result<(), Fail> {
     }
     Ok(())
 }
-
-pub static TWO_DISPLAYS: &str =
-    "type p = process(n: integer); begin display(n) end; var a, b: p; begin init a(1), b(2) end.";
 
 /// Each read in turn fails, and after the last the answer is that of a good reader.
 #[test]

@@ -1,8 +1,9 @@
 //! Runs that end by an error or a limit, and what they display before it.
 
-use crate::programs::{TWO_IN_A_QUEUE, end_of, program_of};
+use crate::programs::{TWO_IN_A_QUEUE, end_of, has_ended, program_of};
 use cp_machine::{ErrorName, Gates, Shown};
 use cp_run::{Limits, OutcomeKind, RunEnd};
+use std::alloc::Global;
 use std::test::Fail;
 
 /// A source, the steps of a stretch, a word that its run uses wholly, and how it ends, with this many times 1 displayed.
@@ -144,41 +145,46 @@ fn are_ones(output: &[Shown], count: usize) -> bool {
     output.len() == count && output.iter().all(|shown| *shown == Shown::Integer(1))
 }
 
+fn is_as_wanted(end: &RunEnd, ending: &Ending) -> bool {
+    match end {
+        RunEnd::Ended { outcome, used } => {
+            *used == ending.word.len()
+                && outcome.kind == ending.kind
+                && are_ones(outcome.output.as_slice(), ending.ones)
+        }
+        _ => false,
+    }
+}
+
 #[test]
 fn errors_and_limits(rt: HostRuntime) -> Result<(), Fail> {
     for ending in &ENDINGS {
         let program = program_of(rt.alloc(), ending.source)?;
         let limits = Limits::new(8, ending.steps, Gates::First).ok_or("no such limits")?;
         let end = end_of(rt.alloc(), &program, limits, ending.word)?;
-        let name = ending.source;
-        let RunEnd::Ended { outcome, used } = end else {
-            return Err(Fail::from("a run does not end"));
-        };
-        assert_eq!(rt; used, ending.word.len(), "{name}");
-        assert_eq!(rt; outcome.kind, ending.kind, "{name}");
-        assert!(rt; are_ones(outcome.output.as_slice(), ending.ones), "{name}");
+        assert!(rt; is_as_wanted(&end, ending), "{}", ending.source);
     }
     Ok(())
 }
 
 /// Thirty procedures, each of which calls the one before twice.
-#[test]
-fn doubling_calls(rt: HostRuntime) -> Result<(), Fail> {
-    let mut source = format!(in rt.alloc(); "procedure f1; begin end; ")?;
+fn doubling_source(alloc: Global) -> Result<String, Fail> {
+    let mut source = format!(in alloc; "procedure f1; begin end; ")?;
     for number in 2..31u32 {
         let before = number - 1;
-        let text = format!(in rt.alloc(); "procedure f{number}; begin f{before}; f{before} end; ")?;
+        let text = format!(in alloc; "procedure f{number}; begin f{before}; f{before} end; ")?;
         source.push_str(&text)?;
     }
     source.push_str("begin f30 end.")?;
+    Ok(source)
+}
+
+#[test]
+fn doubling_calls(rt: HostRuntime) -> Result<(), Fail> {
+    let source = doubling_source(rt.alloc())?;
     let program = program_of(rt.alloc(), &source)?;
     let limits = Limits::new(8, 100_000, Gates::First).ok_or("no such limits")?;
     let end = end_of(rt.alloc(), &program, limits, &[])?;
-    let RunEnd::Ended { outcome, used } = end else {
-        return Err(Fail::from("the run does not end"));
-    };
-    assert_eq!(rt; used, 0);
-    assert_eq!(rt; outcome.kind, OutcomeKind::StepLimit);
-    assert!(rt; outcome.output.as_slice().is_empty());
+    assert!(rt; has_ended(&end, 0, OutcomeKind::StepLimit, &[]));
     Ok(())
 }

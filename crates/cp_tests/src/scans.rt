@@ -1,3 +1,5 @@
+//! The worked rows of scanning: tokens, their lines, and faults.
+
 use cp_text::{Kind, Mark, ScanCause, ScanFault, Tokens, scan};
 use std::alloc::Global;
 use std::test::Fail;
@@ -6,16 +8,125 @@ fn tokens(alloc: Global, source: &[u8]) -> Result<Tokens, Fail> {
     Ok(scan(alloc, source).ok().ok_or("it has a fault")?)
 }
 
-fn marks_are(tokens: &Tokens, want: &[Mark]) -> bool {
-    if tokens.count() != want.len() {
+/// A token that is wanted.
+enum Wanted {
+    Number(u16),
+    Character(u8),
+    Name(&'static str),
+    Mark(Mark),
+}
+
+/// A source, and the tokens that it is read as, each with its line.
+struct Sample {
+    source: &'static [u8],
+    wanted: &'static [(Wanted, u32)],
+    last_line: u32,
+}
+
+static SAMPLES: [Sample; 11] = [
+    Sample {
+        source: b"x<=Y_1",
+        wanted: &[
+            (Wanted::Name("x"), 1),
+            (Wanted::Mark(Mark::AtMost), 1),
+            (Wanted::Name("y_1"), 1),
+        ],
+        last_line: 1,
+    },
+    Sample {
+        source: b"1..2",
+        wanted: &[
+            (Wanted::Number(1), 1),
+            (Wanted::Mark(Mark::DoublePeriod), 1),
+            (Wanted::Number(2), 1),
+        ],
+        last_line: 1,
+    },
+    Sample {
+        source: b"2END",
+        wanted: &[(Wanted::Number(2), 1), (Wanted::Mark(Mark::End), 1)],
+        last_line: 1,
+    },
+    Sample {
+        source: b"1.)",
+        wanted: &[
+            (Wanted::Number(1), 1),
+            (Wanted::Mark(Mark::CloseBracket), 1),
+        ],
+        last_line: 1,
+    },
+    Sample {
+        source: b"(.[",
+        wanted: &[
+            (Wanted::Mark(Mark::OpenBracket), 1),
+            (Wanted::Mark(Mark::OpenBracket), 1),
+        ],
+        last_line: 1,
+    },
+    Sample {
+        source: b"(..",
+        wanted: &[
+            (Wanted::Mark(Mark::OpenBracket), 1),
+            (Wanted::Mark(Mark::Period), 1),
+        ],
+        last_line: 1,
+    },
+    Sample {
+        source: b"..)",
+        wanted: &[
+            (Wanted::Mark(Mark::DoublePeriod), 1),
+            (Wanted::Mark(Mark::CloseParenthesis), 1),
+        ],
+        last_line: 1,
+    },
+    Sample {
+        source: b"& and",
+        wanted: &[(Wanted::Mark(Mark::And), 1), (Wanted::Mark(Mark::And), 1)],
+        last_line: 1,
+    },
+    Sample {
+        source: b"'(:0065:)' \"\n\" ' '\n000000001 32767 '(:127:)'",
+        wanted: &[
+            (Wanted::Character(65), 1),
+            (Wanted::Character(32), 2),
+            (Wanted::Number(1), 3),
+            (Wanted::Number(32767), 3),
+            (Wanted::Character(127), 3),
+        ],
+        last_line: 3,
+    },
+    Sample {
+        source: b"\n\t\"\n\"\r ",
+        wanted: &[],
+        last_line: 1,
+    },
+    Sample {
+        source: b"aaaaaaaaaaaaaaaaaaaaaaaaaaaaaaaaaaaaaaaa",
+        wanted: &[(Wanted::Name("aaaaaaaaaaaaaaaaaaaaaaaaaaaaaaaaaaaaaaaa"), 1)],
+        last_line: 1,
+    },
+];
+
+fn is_wanted(kind: Option<&Kind>, wanted: &Wanted) -> bool {
+    match (kind, wanted) {
+        (Some(Kind::Number(number)), Wanted::Number(other)) => *number == *other,
+        (Some(Kind::Character(code)), Wanted::Character(other)) => *code == *other,
+        (Some(Kind::Name(name)), Wanted::Name(other)) => name.as_str() == *other,
+        (Some(Kind::Mark(mark)), Wanted::Mark(other)) => *mark == *other,
+        _ => false,
+    }
+}
+
+fn are_wanted(tokens: &Tokens, sample: &Sample) -> bool {
+    let count = sample.wanted.len();
+    if tokens.count() != count
+        || tokens.get(count).is_some()
+        || tokens.line(count) != sample.last_line
+    {
         return false;
     }
-    for (at, mark) in want.iter().enumerate() {
-        let same = match tokens.get(at) {
-            Some(Kind::Mark(found)) => *found == *mark,
-            _ => false,
-        };
-        if !same {
+    for (at, (wanted, line)) in sample.wanted.iter().enumerate() {
+        if !is_wanted(tokens.get(at), wanted) || at > count || tokens.line(at) != *line {
             return false;
         }
     }
@@ -23,99 +134,48 @@ fn marks_are(tokens: &Tokens, want: &[Mark]) -> bool {
 }
 
 #[test]
-fn longest_pieces(rt: HostRuntime) -> Result<(), Fail> {
-    let ts = tokens(rt.alloc(), b"x<=Y_1")?;
-    assert_eq!(rt; ts.count(), 3);
-    assert!(rt; matches!(ts.get(1), Some(Kind::Mark(Mark::AtMost))));
-    assert!(rt; matches!(ts.get(2), Some(Kind::Name(name)) if name.as_str() == "y_1"));
-    let ts = tokens(rt.alloc(), b"1..2")?;
-    assert_eq!(rt; ts.count(), 3);
-    assert!(rt; matches!(ts.get(1), Some(Kind::Mark(Mark::DoublePeriod))));
-    let ts = tokens(rt.alloc(), b"2END")?;
-    assert_eq!(rt; ts.count(), 2);
-    assert!(rt; matches!(ts.get(0), Some(Kind::Number(2))));
-    assert!(rt; matches!(ts.get(1), Some(Kind::Mark(Mark::End))));
-    let ts = tokens(rt.alloc(), b"1.)")?;
-    assert!(rt; matches!(ts.get(1), Some(Kind::Mark(Mark::CloseBracket))));
-    assert!(rt;
-        marks_are(
-            &tokens(rt.alloc(), b"(.[")?,
-            &[Mark::OpenBracket, Mark::OpenBracket]
-        )
-    );
-    assert!(rt;
-        marks_are(
-            &tokens(rt.alloc(), b"(..")?,
-            &[Mark::OpenBracket, Mark::Period]
-        )
-    );
-    assert!(rt;
-        marks_are(
-            &tokens(rt.alloc(), b"..)")?,
-            &[Mark::DoublePeriod, Mark::CloseParenthesis]
-        )
-    );
-    assert!(rt; marks_are(&tokens(rt.alloc(), b"& and")?, &[Mark::And, Mark::And]));
-    Ok(())
-}
-
-fn fault_of(alloc: Global, source: &[u8]) -> Result<ScanFault, Fail> {
-    Ok(scan(alloc, source).err().ok_or("it has tokens")?)
-}
-
-#[test]
-fn each_fault_with_its_line(rt: HostRuntime) -> Result<(), Fail> {
-    let cases: [(&[u8], u32, ScanCause); 17] = [
-        (b"begin\n!", 2, ScanCause::BadByte),
-        (b"a / b", 1, ScanCause::BadByte),
-        (b"\x0c", 1, ScanCause::BadByte),
-        (b"begin \"abc", 1, ScanCause::OpenComment),
-        (b"\n\"\n\n", 2, ScanCause::OpenComment),
-        (b"'a\n", 1, ScanCause::OpenChar),
-        (b"\"\n\n\" 'a\n'", 3, ScanCause::OpenChar),
-        (b"'(:128:)'", 1, ScanCause::BadChar),
-        (b"'''", 1, ScanCause::BadChar),
-        (b"\n''", 2, ScanCause::BadChar),
-        (b"'ab'", 1, ScanCause::BadChar),
-        (b"'(::)'", 1, ScanCause::BadChar),
-        (b"'\r'", 1, ScanCause::BadChar),
-        (b"'\xff'", 1, ScanCause::BadChar),
-        (b"1\n32768", 2, ScanCause::NumberTooLarge),
-        (b"99999999999999999999999999", 1, ScanCause::NumberTooLarge),
-        (
-            b"aaaaaaaaaaaaaaaaaaaaaaaaaaaaaaaaaaaaaaaaa",
-            1,
-            ScanCause::NameTooLong,
-        ),
-    ];
-    for (source, line, cause) in cases {
-        assert_eq!(rt; fault_of(rt.alloc(), source)?, ScanFault { line, cause });
+fn pieces_and_lines(rt: HostRuntime) -> Result<(), Fail> {
+    for sample in &SAMPLES {
+        let tokens = tokens(rt.alloc(), sample.source)?;
+        assert!(rt; are_wanted(&tokens, sample));
     }
     Ok(())
 }
 
+fn has_fault(alloc: Global, source: &[u8], line: u32, cause: ScanCause) -> Result<bool, Fail> {
+    let fault = scan(alloc, source).err().ok_or("it has tokens")?;
+    Ok(fault == ScanFault { line, cause })
+}
+
+static FAULTS: [(&[u8], u32, ScanCause); 17] = [
+    (b"begin\n!", 2, ScanCause::BadByte),
+    (b"a / b", 1, ScanCause::BadByte),
+    (b"\x0c", 1, ScanCause::BadByte),
+    (b"begin \"abc", 1, ScanCause::OpenComment),
+    (b"\n\"\n\n", 2, ScanCause::OpenComment),
+    (b"'a\n", 1, ScanCause::OpenChar),
+    (b"\"\n\n\" 'a\n'", 3, ScanCause::OpenChar),
+    (b"'(:128:)'", 1, ScanCause::BadChar),
+    (b"'''", 1, ScanCause::BadChar),
+    (b"\n''", 2, ScanCause::BadChar),
+    (b"'ab'", 1, ScanCause::BadChar),
+    (b"'(::)'", 1, ScanCause::BadChar),
+    (b"'\r'", 1, ScanCause::BadChar),
+    (b"'\xff'", 1, ScanCause::BadChar),
+    (b"1\n32768", 2, ScanCause::NumberTooLarge),
+    (b"99999999999999999999999999", 1, ScanCause::NumberTooLarge),
+    (
+        b"aaaaaaaaaaaaaaaaaaaaaaaaaaaaaaaaaaaaaaaaa",
+        1,
+        ScanCause::NameTooLong,
+    ),
+];
+
 #[test]
-fn values_and_lines(rt: HostRuntime) -> Result<(), Fail> {
-    let ts = tokens(
-        rt.alloc(),
-        b"'(:0065:)' \"\n\" ' '\n000000001 32767 '(:127:)'",
-    )?;
-    assert!(rt; matches!(ts.get(0), Some(Kind::Character(65))));
-    assert!(rt; matches!(ts.get(1), Some(Kind::Character(32))));
-    assert!(rt; matches!(ts.get(2), Some(Kind::Number(1))));
-    assert!(rt; matches!(ts.get(3), Some(Kind::Number(32767))));
-    assert!(rt; matches!(ts.get(4), Some(Kind::Character(127))));
-    assert!(rt; ts.get(5).is_none());
-    assert!(rt; ts.count() == 5);
-    assert_eq!(rt; ts.line(0), 1);
-    assert_eq!(rt; ts.line(1), 2);
-    assert_eq!(rt; ts.line(4), 3);
-    assert_eq!(rt; ts.line(5), 3);
-    let none = tokens(rt.alloc(), b"\n\t\"\n\"\r ")?;
-    assert_eq!(rt; none.count(), 0);
-    assert_eq!(rt; none.line(0), 1);
-    let name = tokens(rt.alloc(), b"aaaaaaaaaaaaaaaaaaaaaaaaaaaaaaaaaaaaaaaa")?;
-    assert_eq!(rt; name.count(), 1);
+fn each_fault_with_its_line(rt: HostRuntime) -> Result<(), Fail> {
+    for (source, line, cause) in &FAULTS {
+        assert!(rt; has_fault(rt.alloc(), source, *line, *cause)?);
+    }
     Ok(())
 }
 
@@ -129,34 +189,29 @@ fn filled(alloc: Global, start: &[u8], next: u8, length: usize) -> Result<Vec<u8
 }
 
 #[test]
-fn limits(rt: HostRuntime) -> Result<(), Fail> {
+fn longest_source(rt: HostRuntime) -> Result<(), Fail> {
     let longest = filled(rt.alloc(), b"begin end.", b' ', 65535)?;
     assert_eq!(rt; tokens(rt.alloc(), longest.as_slice())?.count(), 3);
     let longer = filled(rt.alloc(), b"!", b' ', 65536)?;
-    assert_eq!(rt;
-        fault_of(rt.alloc(), longer.as_slice())?,
-        ScanFault {
-            line: 0,
-            cause: ScanCause::TooLong
-        }
-    );
+    assert!(rt; has_fault(rt.alloc(), longer.as_slice(), 0, ScanCause::TooLong)?);
+    Ok(())
+}
+
+// What may stand after 20,000 tokens, and its fault.
+static AFTER_MOST: [(u8, ScanCause); 4] = [
+    (b';', ScanCause::TooManyTokens),
+    (b'\'', ScanCause::TooManyTokens),
+    (b'!', ScanCause::BadByte),
+    (b'"', ScanCause::OpenComment),
+];
+
+#[test]
+fn most_tokens(rt: HostRuntime) -> Result<(), Fail> {
     let mut most = filled(rt.alloc(), b"\n", b';', 20001)?;
     assert_eq!(rt; tokens(rt.alloc(), most.as_slice())?.count(), 20000);
-    let too_many = ScanFault {
-        line: 2,
-        cause: ScanCause::TooManyTokens,
-    };
-    for (last, cause) in [
-        (b';', ScanCause::TooManyTokens),
-        (b'\'', ScanCause::TooManyTokens),
-        (b'!', ScanCause::BadByte),
-        (b'"', ScanCause::OpenComment),
-    ] {
-        most.push(last)?;
-        assert_eq!(rt;
-            fault_of(rt.alloc(), most.as_slice())?,
-            ScanFault { cause, ..too_many }
-        );
+    for (last, cause) in &AFTER_MOST {
+        most.push(*last)?;
+        assert!(rt; has_fault(rt.alloc(), most.as_slice(), 2, *cause)?);
         most.truncate(20001);
     }
     Ok(())

@@ -1,7 +1,8 @@
 //! Runs of single words: how they end, what they want, and where they are refused.
 
 use crate::programs::{
-    DELAYED, RESUMED, THREE_CALLERS, TWO_DISPLAYS, end_of, limits_of, numbers_of, program_of,
+    DELAYED, RESUMED, THREE_CALLERS, TWO_DISPLAYS, end_of, has_ended, has_wanted, limits_of,
+    numbers_of, program_of,
 };
 use cp_machine::{Gates, Shown};
 use cp_run::{OutcomeKind, RunEnd};
@@ -13,7 +14,7 @@ struct Ending {
     choices: u8,
     gates: Gates,
     word: &'static str,
-    output: [i16; 3],
+    output: &'static [Shown],
 }
 
 static ENDINGS: [Ending; 5] = [
@@ -22,45 +23,37 @@ static ENDINGS: [Ending; 5] = [
         choices: 12,
         gates: Gates::First,
         word: "0.0.0.1.2.3.2.2.3.3.1.2",
-        output: [1, 2, 3],
+        output: &[Shown::Integer(1), Shown::Integer(2), Shown::Integer(3)],
     },
     Ending {
         source: THREE_CALLERS,
         choices: 12,
         gates: Gates::First,
         word: "0.0.0.1.3.2.3.3.2.2.1.3",
-        output: [1, 3, 2],
+        output: &[Shown::Integer(1), Shown::Integer(3), Shown::Integer(2)],
     },
     Ending {
         source: THREE_CALLERS,
         choices: 13,
         gates: Gates::Any,
         word: "0.0.0.1.2.3.2.2.2.3.3.1.2",
-        output: [1, 2, 3],
+        output: &[Shown::Integer(1), Shown::Integer(2), Shown::Integer(3)],
     },
     Ending {
         source: THREE_CALLERS,
         choices: 13,
         gates: Gates::Any,
         word: "0.0.0.1.2.3.3.3.3.2.2.1.2",
-        output: [1, 3, 2],
+        output: &[Shown::Integer(1), Shown::Integer(3), Shown::Integer(2)],
     },
     Ending {
         source: RESUMED,
         choices: 13,
         gates: Gates::First,
         word: "0.0.0.1.1.2.3.1.1.3.3.1.2",
-        output: [2, 1, 3],
+        output: &[Shown::Integer(2), Shown::Integer(1), Shown::Integer(3)],
     },
 ];
-
-fn shows(output: &[Shown], wanted: &[i16]) -> bool {
-    output.len() == wanted.len()
-        && output
-            .iter()
-            .zip(wanted.iter())
-            .all(|(shown, number)| *shown == Shown::Integer(*number))
-}
 
 /// The order in the line decides under one gate, and the choice under the other. A process that is resumed goes before the line.
 #[test]
@@ -74,13 +67,8 @@ fn who_goes_first(rt: HostRuntime) -> Result<(), Fail> {
             limits_of(ending.choices, ending.gates)?,
             word.as_slice(),
         )?;
-        let name = ending.word;
-        let RunEnd::Ended { outcome, used } = end else {
-            return Err(Fail::from("a run does not end"));
-        };
-        assert_eq!(rt; used, word.len(), "{name}");
-        assert!(rt; outcome.kind == OutcomeKind::Finished, "{name}");
-        assert!(rt; shows(outcome.output.as_slice(), &ending.output), "{name}");
+        let as_wanted = has_ended(&end, word.len(), OutcomeKind::Finished, ending.output);
+        assert!(rt; as_wanted, "{}", ending.word);
     }
     Ok(())
 }
@@ -92,10 +80,7 @@ fn wanted_at_the_gate(rt: HostRuntime) -> Result<(), Fail> {
     for (gates, wanted) in [(Gates::Any, [2, 3]), (Gates::First, [1, 2])] {
         let word = numbers_of("0.0.0.1.2.3");
         let end = end_of(rt.alloc(), &program, limits_of(13, gates)?, word.as_slice())?;
-        let RunEnd::Wants { ready } = end else {
-            return Err(Fail::from("a run does not want"));
-        };
-        assert_eq!(rt; ready.as_slice(), wanted.as_slice());
+        assert!(rt; has_wanted(&end, &wanted));
     }
     let word = numbers_of("0.0.0.1.2.3.3.3.3.2.2.1.2");
     let end = end_of(
@@ -116,12 +101,8 @@ fn delayed_forever(rt: HostRuntime) -> Result<(), Fail> {
         for name in ["0", "1.0", "1.1"] {
             let word = numbers_of(name);
             let end = end_of(rt.alloc(), &program, limits_of(2, gates)?, word.as_slice())?;
-            let RunEnd::Ended { outcome, used } = end else {
-                return Err(Fail::from("a run does not end"));
-            };
-            assert_eq!(rt; used, word.len(), "{name}");
-            assert!(rt; outcome.kind == OutcomeKind::AllWaiting, "{name}");
-            assert!(rt; outcome.output.as_slice().is_empty(), "{name}");
+            let as_wanted = has_ended(&end, word.len(), OutcomeKind::AllWaiting, &[]);
+            assert!(rt; as_wanted, "{name}");
         }
     }
     Ok(())
@@ -133,10 +114,7 @@ fn wants_and_not_ready(rt: HostRuntime) -> Result<(), Fail> {
     let program = program_of(rt.alloc(), TWO_DISPLAYS)?;
     let limits = limits_of(8, Gates::First)?;
     let end = end_of(rt.alloc(), &program, limits, &[])?;
-    let RunEnd::Wants { ready } = end else {
-        return Err(Fail::from("the run does not want"));
-    };
-    assert_eq!(rt; ready.as_slice(), [0, 1].as_slice());
+    assert!(rt; has_wanted(&end, &[0, 1]));
     let end = end_of(rt.alloc(), &program, limits, &[2])?;
     assert!(rt; matches!(end, RunEnd::NotReady { place: 0 }));
     Ok(())

@@ -81,6 +81,14 @@ struct StepRow {
     output: &'static [Shown],
 }
 
+impl StepRow {
+    fn tells_of(&self, alone: &Alone) -> bool {
+        alone.steps == self.steps
+            && alone.last == self.last.event()
+            && alone.state.output() == self.output
+    }
+}
+
 /// The last event of process 0: this one, or its run error on this line.
 enum Last {
     Event(Event),
@@ -235,9 +243,7 @@ static STEPS: [StepRow; 20] = [
 fn steps_of_one_process(rt: HostRuntime) -> Result<(), Fail> {
     for row in &STEPS {
         let alone = stepped_alone(rt.alloc(), row.source)?;
-        assert_eq!(rt; alone.steps, row.steps, "{}", row.source);
-        assert_eq!(rt; alone.last, row.last.event(), "{}", row.source);
-        assert_eq!(rt; alone.state.output(), row.output, "{}", row.source);
+        assert!(rt; row.tells_of(&alone), "{}", row.source);
     }
     Ok(())
 }

@@ -3,7 +3,8 @@
 ghost use Rattle.std.specs.Prelude.{◌≡◌};
 
 use crate::programs::{
-    BUFFER, CONTINUED, INNER_DELAY, THREE_CALLERS, TWO_DISPLAYS, limits_of, numbers_of, program_of,
+    BUFFER, CONTINUED, INNER_DELAY, THREE_CALLERS, TWO_DISPLAYS, has_ended, has_wanted, limits_of,
+    numbers_of, program_of,
 };
 use cp_machine::{Gates, Kernel, Shown, Ticks};
 use cp_run::{Limits, OutcomeKind, RunEnd, TraceEvent, TraceLine, trace};
@@ -153,23 +154,51 @@ fn are_told(lines: &[TraceLine], told: &[Told]) -> bool {
             .all(|(line, told)| is_told(line, told))
 }
 
+/// How the run of a word ends whose trace has these lines.
+fn end_after(
+    alloc: Global,
+    program: &Resolved,
+    limits: Limits,
+    word: &[u8],
+    told: &[Told],
+) -> Result<RunEnd, Fail> {
+    let (lines, end) = trace_of(alloc, program, limits, word)?;
+    if are_told(&lines, told) {
+        Ok(end)
+    } else {
+        Err(Fail::from("a trace has other lines"))
+    }
+}
+
 #[test]
 fn worked_traces(rt: HostRuntime) -> Result<(), Fail> {
     for traced in &TRACES {
         let program = program_of(rt.alloc(), traced.source)?;
         let limits = limits_of(traced.choices, Gates::First)?;
         let word = numbers_of(traced.word);
-        let (lines, end) = trace_of(rt.alloc(), &program, limits, word.as_slice())?;
-        let name = traced.word;
-        assert!(rt; are_told(&lines, traced.lines), "{name}");
-        let RunEnd::Ended { outcome, used } = end else {
-            return Err(Fail::from("a run does not end"));
-        };
-        assert_eq!(rt; used, word.len(), "{name}");
-        assert_eq!(rt; outcome.kind, traced.kind, "{name}");
-        assert_eq!(rt; outcome.output.as_slice(), traced.output, "{name}");
+        let end = end_after(rt.alloc(), &program, limits, word.as_slice(), traced.lines)?;
+        let as_wanted = has_ended(&end, word.len(), traced.kind, traced.output);
+        assert!(rt; as_wanted, "{}", traced.word);
     }
     Ok(())
+}
+
+/// Whether one line tells of an admission, which is of this process and lets it in.
+fn is_admitted_once(lines: &[TraceLine], process: u8) -> bool {
+    let holders = [Some(process)];
+    let mut count = 0usize;
+    for line in lines {
+        if line.event == TraceEvent::Admit {
+            if line.process != process
+                || line.holders.as_slice() != holders.as_slice()
+                || count > 0
+            {
+                return false;
+            }
+            count = 1;
+        }
+    }
+    count == 1
 }
 
 /// Where the gate wants a choice, one line tells of it.
@@ -187,35 +216,21 @@ fn one_line_of_an_admission(rt: HostRuntime) -> Result<(), Fail> {
             limits_of(13, Gates::Any)?,
             word.as_slice(),
         )?;
-        let holders = [Some(process)];
-        for line in &lines {
-            if line.event == TraceEvent::Admit {
-                assert_eq!(rt; line.process, process);
-                assert_eq!(rt; line.holders.as_slice(), holders.as_slice());
-            }
-        }
-        let admissions = lines
-            .iter()
-            .filter(|line| line.event == TraceEvent::Admit)
-            .count();
-        assert_eq!(rt; admissions, 1);
+        assert!(rt; is_admitted_once(&lines, process), "{text}");
     }
     Ok(())
 }
+
+static FIRST_LINES: [Told; 1] = [(0, START, &[])];
 
 /// A trace stops where its word is used up, and where a number may not be chosen.
 #[test]
 fn wants_and_not_ready(rt: HostRuntime) -> Result<(), Fail> {
     let program = program_of(rt.alloc(), TWO_DISPLAYS)?;
     let limits = limits_of(8, Gates::First)?;
-    let (lines, end) = trace_of(rt.alloc(), &program, limits, &[])?;
-    assert!(rt; are_told(&lines, &[(0, START, &[])]));
-    let RunEnd::Wants { ready } = end else {
-        return Err(Fail::from("the run does not want"));
-    };
-    assert_eq!(rt; ready.as_slice(), [0, 1].as_slice());
-    let (lines, end) = trace_of(rt.alloc(), &program, limits, &[2])?;
-    assert!(rt; are_told(&lines, &[(0, START, &[])]));
+    let end = end_after(rt.alloc(), &program, limits, &[], &FIRST_LINES)?;
+    assert!(rt; has_wanted(&end, &[0, 1]));
+    let end = end_after(rt.alloc(), &program, limits, &[2], &FIRST_LINES)?;
     assert!(rt; matches!(end, RunEnd::NotReady { place: 0 }));
     Ok(())
 }

@@ -118,51 +118,63 @@ static HELP: [&[&str]; 8] = [
     &["cpx", "--merge", "--help", "--rows"],
 ];
 
+fn options_of(alloc: Global, words: &[&str]) -> Result<Options, Fail> {
+    Ok(read_options(alloc, words).ok().ok_or("refused")?)
+}
+
+fn has_word(options: &Options, numbers: &[u8]) -> bool {
+    match &options.schedule {
+        Some(word) => word.as_slice() == numbers,
+        None => false,
+    }
+}
+
+fn has_defaults(options: &Options) -> bool {
+    let has_numbers = options.choices == 8
+        && options.steps == 1_000
+        && options.workers == 2
+        && options.cut == 2
+        && options.states == 200_000;
+    let is_plain = !options.cut_is_given && !options.rows && !options.merge;
+    has_numbers && is_plain && options.schedule.is_none() && options.gates == Gates::First
+}
+
 #[test]
 fn without_words_each_option_has_its_default(rt: HostRuntime) -> Result<(), Fail> {
-    let Ok(options) = read_options(rt.alloc(), ["cpx"].as_slice()) else {
-        panic!(rt; "refused")
-    };
-    assert!(rt; options.choices == 8 && options.steps == 1_000 && options.workers == 2);
-    assert!(rt; options.cut == 2 && !options.cut_is_given);
-    assert!(rt; !options.rows && options.schedule.is_none());
-    assert!(rt; options.gates == Gates::First && !options.merge && options.states == 200_000);
+    let options = options_of(rt.alloc(), &["cpx"])?;
+    assert!(rt; has_defaults(&options));
     Ok(())
+}
+
+fn has_values_of_merged(options: &Options) -> bool {
+    let is_word = match &options.schedule {
+        Some(word) => word.len() == 21 && word.last() == Some(&15),
+        None => false,
+    };
+    options.merge && options.states == 10_000_000 && options.choices == 100 && is_word
 }
 
 #[test]
 fn merging_has_wider_ranges(rt: HostRuntime) -> Result<(), Fail> {
-    let Ok(options) = read_options(rt.alloc(), MERGED.as_slice()) else {
-        panic!(rt; "refused")
-    };
-    assert!(rt; options.merge && options.states == 10_000_000 && options.choices == 100);
-    let Some(word) = &options.schedule else {
-        panic!(rt; "no schedule")
-    };
-    assert!(rt; word.len() == 21 && word.last() == Some(&15));
-    Ok(())
-}
-
-#[test]
-fn each_option_has_the_value_of_its_words(rt: HostRuntime) -> Result<(), Fail> {
-    let Ok(options) = read_options(rt.alloc(), ALL.as_slice()) else {
-        panic!(rt; "refused")
-    };
-    assert!(rt; has_values_of_all(&options));
+    let options = options_of(rt.alloc(), &MERGED)?;
+    assert!(rt; has_values_of_merged(&options));
     Ok(())
 }
 
 fn has_values_of_all(options: &Options) -> bool {
-    let is_word = match &options.schedule {
-        Some(word) => word.as_slice() == [0, 0, 2, 15].as_slice(),
-        None => false,
-    };
     let has_numbers = options.choices == 5
         && options.steps == 100_000
         && options.workers == 16
         && options.cut == 0
         && options.cut_is_given;
-    has_numbers && options.rows && options.gates == Gates::Any && is_word
+    has_numbers && options.rows && options.gates == Gates::Any && has_word(options, &[0, 0, 2, 15])
+}
+
+#[test]
+fn each_option_has_the_value_of_its_words(rt: HostRuntime) -> Result<(), Fail> {
+    let options = options_of(rt.alloc(), &ALL)?;
+    assert!(rt; has_values_of_all(&options));
+    Ok(())
 }
 
 /// At most one growth of a run is refused, as by `rt try --test --fail-alloc N`: then one answer is
@@ -228,31 +240,31 @@ fn help_or_memory(alloc: Global) -> Answer {
     }
 }
 
+fn has_values_of_spellings(options: &Options) -> bool {
+    let has_numbers = options.choices == 5
+        && options.steps == 20
+        && options.workers == 1
+        && options.cut == 0;
+    has_numbers && options.gates == Gates::First && has_word(options, &[])
+}
+
 #[test]
 fn numbers_may_have_a_plus_and_leading_zeros(rt: HostRuntime) -> Result<(), Fail> {
-    let Ok(options) = read_options(rt.alloc(), SPELLINGS.as_slice()) else {
-        panic!(rt; "refused")
-    };
-    assert!(rt; options.choices == 5 && options.steps == 20 && options.workers == 1);
-    assert!(rt; options.cut == 0 && options.gates == Gates::First);
-    let is_empty = match &options.schedule {
-        Some(word) => word.is_empty(),
-        None => false,
-    };
-    assert!(rt; is_empty);
+    let options = options_of(rt.alloc(), &SPELLINGS)?;
+    assert!(rt; has_values_of_spellings(&options));
     Ok(())
 }
 
 #[test]
 fn a_schedule_may_have_twenty_numbers(rt: HostRuntime) -> Result<(), Fail> {
-    let Ok(options) = read_options(rt.alloc(), LONGEST.as_slice()) else {
-        panic!(rt; "refused")
-    };
-    let count = match &options.schedule {
-        Some(word) => word.len(),
-        None => 0,
-    };
-    assert_eq!(rt; count, 20);
+    let options = options_of(rt.alloc(), &LONGEST)?;
+    let is_longest = has_word(
+        &options,
+        &[
+            15, 0, 1, 2, 3, 4, 5, 6, 7, 8, 9, 10, 11, 12, 13, 14, 15, 0, 1, 2,
+        ],
+    );
+    assert!(rt; is_longest);
     Ok(())
 }
 
@@ -266,34 +278,44 @@ fn other_words_are_refused(rt: HostRuntime) -> Result<(), Fail> {
     Ok(())
 }
 
+/// What help says.
+static HELP_PARTS: [&str; 18] = [
+    "Usage: cpx [OPTIONS] < PROGRAM",
+    "--choices <K>",
+    "0 to 20, with --merge to 100 [default: 8]",
+    "--steps <L>",
+    "1 to 100000 [default: 1000]",
+    "--workers <N>",
+    "1 to 16 [default: 2]",
+    "--cut <D>",
+    "0 to 20 [default: by their number]",
+    "--rows",
+    "--merge",
+    "Count schedules that come to one state together, without rows",
+    "--states <N>",
+    "States that a layer may have with --merge, 1 to 10000000",
+    "--schedule <WORD>",
+    "--gates <WHO>",
+    "[default: first]",
+    "cpx --choices 5 < program.cp",
+];
+
+fn first_missing(text: &str) -> Option<&'static str> {
+    for part in &HELP_PARTS {
+        if !text.contains(part) {
+            return Some(part);
+        }
+    }
+    None
+}
+
 #[test]
 fn help_names_each_option_and_shows_a_call(rt: HostRuntime) -> Result<(), Fail> {
     for words in &HELP {
         let Err(OptionFault::Help(text)) = read_options(rt.alloc(), words) else {
             panic!(rt; "no help")
         };
-        for part in [
-            "Usage: cpx [OPTIONS] < PROGRAM",
-            "--choices <K>",
-            "0 to 20, with --merge to 100 [default: 8]",
-            "--steps <L>",
-            "1 to 100000 [default: 1000]",
-            "--workers <N>",
-            "1 to 16 [default: 2]",
-            "--cut <D>",
-            "0 to 20 [default: by their number]",
-            "--rows",
-            "--merge",
-            "Count schedules that come to one state together, without rows",
-            "--states <N>",
-            "States that a layer may have with --merge, 1 to 10000000",
-            "--schedule <WORD>",
-            "--gates <WHO>",
-            "[default: first]",
-            "cpx --choices 5 < program.cp",
-        ] {
-            assert!(rt; text.as_str().contains(part), "no {part}");
-        }
+        assert_eq!(rt; first_missing(text.as_str()), None);
     }
     Ok(())
 }
