@@ -1,6 +1,6 @@
 -- From layer to layer: what fits, and which fault is due.
 use Rattle.std.proofs.Common.{◌≡◌, ◌∙◌, ◌⊎◌, inl, ⊎_elim, lit<, ◌+◌, ◌<◌, ◌≤◌, ℕ, List, [], length, map, sym, ap, subst, arith}
-use Rattle.std.specs.Prelude.{Result, Ok, Err, IfErr, IsErrAnd, ◌^◌}
+use Rattle.std.specs.Prelude.{Result, Ok, Err, IfOk, IfErr, IsErrAnd, ◌^◌}
 use Rattle.std.proofs.Math.Nat.{pow-le-pow_right}
 use Rattle.std.proofs.lemmas.List.Elements.{All-nil}
 use Rattle.std.proofs.lemmas.Bool.{cases_order}
@@ -15,6 +15,7 @@ use Rattle.cp_merged.specs.Layers.{Front, arrived, front_at, by_layers}
 use Rattle.cp_merged.specs.Code.{keyed, end_of}
 use Rattle.cp_merged.specs.Told.{rows_in}
 use Rattle.cp_merged.specs.Holds.{same_key, AreEnds, Holds, IsStates, total}
+use Rattle.cp_merged.specs.Reached.{Reached}
 use Rattle.cp_merged.specs.TooMany.{HasTooManyStates, HasTooManyOutcomes, FitsBefore, IsDueFault}
 use Rattle.cp_merged.specs.declared.end_key.EndKey.{EndKey}
 use Rattle.cp_merged.specs.declared.fault.MergeFault.{MergeFault}
@@ -33,17 +34,19 @@ pub err_to : {A : Type 0} (r : Result A MergeFault) (P Q : MergeFault → Type 0
 err_to (Ok x) P Q h f = tt
 err_to (Err e) P Q h f = f e h
 
+pub err_on : {A : Type 0} (r : Result A MergeFault) (P Q : MergeFault → Type 0) → IfErr r P → ((e : MergeFault) → P e → Q e) → IfErr r Q
+err_on (Ok x) P Q h f = tt
+err_on (Err e) P Q h f = f e h
+
+pub ok_both : {A : Type 0} (r : Result A MergeFault) (P Q R : Type 0) → IfOk r (λ _. P) → IfOk r (λ _. Q) → (P → Q → R) → IfOk r (λ _. R)
+ok_both (Ok x) P Q R p q f = f p q
+ok_both (Err e) P Q R p q f = tt
+
 module _ (r : Tables) (gates : Gates) (choices steps most : ℕ) where
   abbrev made : ℕ → Front Machine
   made d = front_at (slots r gates) same_outcome same_key steps d
 
-  -- layer d is made, and all that came before fits
-  pub record Reached (d : ℕ) (ends : List (EndKey × code.Lead)) (states : List (StateKey × code.Lead)) : Type 0 where
-    pub holds : Holds r ends states (made d)
-    pub few : length states ≤ most
-    pub fits : FitsBefore (slots r gates) choices steps most d
-
-  not_many : (d : ℕ) (ends : List (EndKey × code.Lead)) (states : List (StateKey × code.Lead)) → Reached d ends states → HasTooManyStates (slots r gates) steps most d → ⊥
+  not_many : (d : ℕ) (ends : List (EndKey × code.Lead)) (states : List (StateKey × code.Lead)) → Reached r gates choices steps most d ends states → HasTooManyStates (slots r gates) steps most d → ⊥
   not_many d ends states h = let n = leads_length r states (made d).layer h.holds.layer in let few = h.few in states_few (slots r gates) same_outcome exact_outcomes same_key key_sound key_own steps most d (omega (arith, n, few))
 
   fits_more : (d : ℕ) → FitsBefore (slots r gates) choices steps most d → (HasTooManyStates (slots r gates) steps most d → ⊥) → (HasTooManyOutcomes (slots r gates) choices steps d → ⊥) → FitsBefore (slots r gates) choices steps most (d + 1)
@@ -57,13 +60,13 @@ module _ (r : Tables) (gates : Gates) (choices steps most : ℕ) where
       apart)
       (cases_order e d)
 
-  fits_next : (d : ℕ) (ends : List (EndKey × code.Lead)) (states : List (StateKey × code.Lead)) → d < choices → length ends ≤ 50000 → Reached d ends states → FitsBefore (slots r gates) choices steps most (d + 1)
+  fits_next : (d : ℕ) (ends : List (EndKey × code.Lead)) (states : List (StateKey × code.Lead)) → d < choices → length ends ≤ 50000 → Reached r gates choices steps most d ends states → FitsBefore (slots r gates) choices steps most (d + 1)
   fits_next d ends states lt few h = fits_more d h.fits (not_many d ends states h) (outcomes_few (slots r gates) same_outcome exact_outcomes same_key key_sound key_own steps choices d lt (ends_few ends (made d).ended few h.holds.ended))
 
-  pub reached_first : (ends : List (EndKey × code.Lead)) (states : List (StateKey × code.Lead)) → length states ≤ most → Holds r ends states (made 0) → Reached 0 ends states
+  pub reached_first : (ends : List (EndKey × code.Lead)) (states : List (StateKey × code.Lead)) → length states ≤ most → Holds r ends states (made 0) → Reached r gates choices steps most 0 ends states
   reached_first ends states few h = record { holds = h; few = few; fits = λ e lt. absurd (omega (arith, lt)) }
 
-  pub reached_next : (d : ℕ) (ends new_ends : List (EndKey × code.Lead)) (states new_states : List (StateKey × code.Lead)) → d < choices → length ends ≤ 50000 → Reached d ends states → length new_states ≤ most → Holds r new_ends new_states (made (d + 1)) → Reached (d + 1) new_ends new_states
+  pub reached_next : (d : ℕ) (ends new_ends : List (EndKey × code.Lead)) (states new_states : List (StateKey × code.Lead)) → d < choices → length ends ≤ 50000 → Reached r gates choices steps most d ends states → length new_states ≤ most → Holds r new_ends new_states (made (d + 1)) → Reached r gates choices steps most (d + 1) new_ends new_states
   reached_next d ends new_ends states new_states lt few h l holds = record { holds = holds; few = l; fits = fits_next d ends states lt few h }
 
   -- ---- faults
@@ -73,21 +76,21 @@ module _ (r : Tables) (gates : Gates) (choices steps most : ℕ) where
       let n = leads_length r states (made 0).layer h.layer in
       (0, omega arith, (λ e lt. absurd (omega (arith, lt))), states_many (slots r gates) same_outcome exact_outcomes same_key key_sound key_own steps most 0 (made 0).layer (omega (arith, l, n)) (is_front (slots r gates) same_outcome exact_outcomes same_key key_sound steps 0).1 (once_at (slots r gates) same_outcome exact_outcomes same_key key_sound steps 0))
 
-  states_fault : (d : ℕ) (ends : List (EndKey × code.Lead)) (states : List (StateKey × code.Lead)) → d < choices → length ends ≤ 50000 → Reached d ends states → HasTooManyStates (slots r gates) steps most (d + 1) → IsDueFault (slots r gates) choices steps most TooManyStates
+  states_fault : (d : ℕ) (ends : List (EndKey × code.Lead)) (states : List (StateKey × code.Lead)) → d < choices → length ends ≤ 50000 → Reached r gates choices steps most d ends states → HasTooManyStates (slots r gates) steps most (d + 1) → IsDueFault (slots r gates) choices steps most TooManyStates
   states_fault d ends states lt few h many = (d + 1, omega (arith, lt), fits_next d ends states lt few h, many)
 
-  pub layer_fault : (d : ℕ) (ends : List (EndKey × code.Lead)) (states : List (StateKey × code.Lead)) → d < choices → length ends ≤ 50000 → Reached d ends states → (e : MergeFault) → IsStates e (HasTooManyStates (slots r gates) steps most (d + 1)) → IsDueFault (slots r gates) choices steps most e
+  pub layer_fault : (d : ℕ) (ends : List (EndKey × code.Lead)) (states : List (StateKey × code.Lead)) → d < choices → length ends ≤ 50000 → Reached r gates choices steps most d ends states → (e : MergeFault) → IsStates e (HasTooManyStates (slots r gates) steps most (d + 1)) → IsDueFault (slots r gates) choices steps most e
   layer_fault d ends states lt few h Memory i = tt
   layer_fault d ends states lt few h TooManyStates i = states_fault d ends states lt few h i
   layer_fault d ends states lt few h TooManyOutcomes i = absurd i
 
-  pub outcomes_fault : (d : ℕ) (ends : List (EndKey × code.Lead)) (states : List (StateKey × code.Lead)) → d ≤ choices → 50000 < length ends → Reached d ends states → IsDueFault (slots r gates) choices steps most TooManyOutcomes
+  pub outcomes_fault : (d : ℕ) (ends : List (EndKey × code.Lead)) (states : List (StateKey × code.Lead)) → d ≤ choices → 50000 < length ends → Reached r gates choices steps most d ends states → IsDueFault (slots r gates) choices steps most TooManyOutcomes
   outcomes_fault d ends states le l h = (d, le, h.fits, not_many d ends states h, outcomes_many (slots r gates) same_outcome exact_outcomes same_key key_sound key_own steps choices d le (ends_many ends (made d).ended l h.holds.ended))
 
-  pub last_fault : (d : ℕ) (ends new_ends : List (EndKey × code.Lead)) (states : List (StateKey × code.Lead)) → d ≡ choices → Reached d ends states → 50000 < length new_ends → AreEnds new_ends (by_layers (slots r gates) same_outcome same_key choices steps) → IsDueFault (slots r gates) choices steps most TooManyOutcomes
+  pub last_fault : (d : ℕ) (ends new_ends : List (EndKey × code.Lead)) (states : List (StateKey × code.Lead)) → d ≡ choices → Reached r gates choices steps most d ends states → 50000 < length new_ends → AreEnds new_ends (by_layers (slots r gates) same_outcome same_key choices steps) → IsDueFault (slots r gates) choices steps most TooManyOutcomes
   last_fault d ends new_ends states same h l are = (choices, omega arith, subst (FitsBefore (slots r gates) choices steps most) same h.fits, subst (λ n. HasTooManyStates (slots r gates) steps most n → ⊥) same (not_many d ends states h), last_many (slots r gates) same_outcome exact_outcomes same_key key_sound key_own steps choices (ends_many new_ends (by_layers (slots r gates) same_outcome same_key choices steps) l are))
 
-  pub all_fits : (d : ℕ) (ends new_ends : List (EndKey × code.Lead)) (states : List (StateKey × code.Lead)) → d ≡ choices → Reached d ends states → length new_ends ≤ 50000 → AreEnds new_ends (by_layers (slots r gates) same_outcome same_key choices steps) → FitsBefore (slots r gates) choices steps most (choices + 1)
+  pub all_fits : (d : ℕ) (ends new_ends : List (EndKey × code.Lead)) (states : List (StateKey × code.Lead)) → d ≡ choices → Reached r gates choices steps most d ends states → length new_ends ≤ 50000 → AreEnds new_ends (by_layers (slots r gates) same_outcome same_key choices steps) → FitsBefore (slots r gates) choices steps most (choices + 1)
   all_fits d ends new_ends states same h l are = fits_more choices (subst (FitsBefore (slots r gates) choices steps most) same h.fits) (subst (λ n. HasTooManyStates (slots r gates) steps most n → ⊥) same (not_many d ends states h)) (last_few (slots r gates) same_outcome exact_outcomes same_key key_sound key_own steps choices (ends_few new_ends (by_layers (slots r gates) same_outcome same_key choices steps) l are))
 
   none : Front Machine

@@ -1,12 +1,14 @@
 //! The outcomes of all schedules.
 
-ghost use Rattle.std.specs.Prelude.{◌≡◌, ◌+◌, ◌^◌, ◌<◌, map, IfOk, IfErr};
+ghost use Rattle.std.specs.Prelude.{◌≡◌, ◌+◌, ◌^◌, ◌<◌, ◌≤◌, [], length, map, IfOk, IfErr};
+ghost use Rattle.cp_machine.specs.System.{IsStateOf};
 ghost use Rattle.cp_run.specs.Slots.{slots};
 ghost use Rattle.cp_run.specs.Table.{table};
 ghost use Rattle.cp_explore.specs.Report.{same_outcome};
 ghost use Rattle.cp_merged.specs.Code.{end_of, tally_of};
-ghost use Rattle.cp_merged.specs.Holds.{same_key};
+ghost use Rattle.cp_merged.specs.Holds.{same_key, AreEnds};
 ghost use Rattle.cp_merged.specs.Layers.{by_layers};
+ghost use Rattle.cp_merged.specs.Reached.{Reached};
 ghost use Rattle.cp_merged.specs.Tallies.{tally};
 ghost use Rattle.cp_merged.specs.Told.{rows_in};
 ghost use Rattle.cp_merged.specs.TooMany.{FitsBefore, IsDueFault};
@@ -70,14 +72,43 @@ fn ends_of<S: Ledger, C: Ledger>(
 {
     let mut steps: Ticks<S> = Ticks::new(steps);
     let mut calls: Ticks<C> = Ticks::new(calls);
-    let Ok(mut state) = State::start(alloc, program, limits.gates) else {
-        return Err(MergeFault::Memory);
-    };
+    let mut front = Front::new(alloc);
+    let mut state = first_layer(
+        alloc, program, limits, most, &mut front, &mut steps, &mut calls,
+    )?;
     let Ok(mut next) = state.copy(alloc) else {
         return Err(MergeFault::Memory);
     };
-    let halt = open(program, limits, &mut state, &mut steps, &mut calls);
-    let mut front = Front::new(alloc);
+    for depth in 0..limits.choices {
+        one_layer(
+            alloc, program, limits, most, depth, &mut state, &mut next, &mut front, &mut steps,
+            &mut calls,
+        )?;
+    }
+    last_layer(alloc, program, limits, most, &mut state, &mut front)?;
+    Ok(front.into_ends())
+}
+
+/// The layer of no choice, and the state that leads to it.
+fn first_layer<S: Ledger, C: Ledger>(
+    alloc: Global,
+    program: &Resolved,
+    limits: Limits,
+    most: usize,
+    front: &mut Front,
+    steps: &mut Ticks<S>,
+    calls: &mut Ticks<C>,
+) -> Result<State, MergeFault>
+    requires ended { front.old.ended.entries ≡ [] }
+    requires layer { front.old.layer.entries ≡ [] }
+    ensures own { IfOk result (λ state. IsStateOf program.now state) }
+    ensures reached { IfOk result (λ _. Reached program.now limits.gates limits.choices limits.steps most 0 front.new.ended.entries front.new.layer.entries) }
+    ensures fault { IfErr result (λ e. IsDueFault (slots program.now limits.gates) limits.choices limits.steps most e) }
+{
+    let Ok(mut state) = State::start(alloc, program, limits.gates) else {
+        return Err(MergeFault::Memory);
+    };
+    let halt = open(program, limits, &mut state, steps, calls);
     let one = Lead {
         count: Natural::one(),
         first: Word::new(),
@@ -97,22 +128,63 @@ fn ends_of<S: Ledger, C: Ledger>(
     if front.layer.len() > most {
         return Err(MergeFault::TooManyStates);
     }
-    for depth in 0..limits.choices {
-        if front.ended.len() > MOST_OUTCOMES {
-            return Err(MergeFault::TooManyOutcomes);
-        }
-        let layer = front.take_layer(alloc);
-        next_layer(
-            alloc, program, limits, most, depth, &layer, &mut state, &mut next, &mut front,
-            &mut steps, &mut calls,
-        )?;
+    Ok(state)
+}
+
+/// The layer after that of `depth` choices.
+fn one_layer<S: Ledger, C: Ledger>(
+    alloc: Global,
+    program: &Resolved,
+    limits: Limits,
+    most: usize,
+    depth: u8,
+    state: &mut State,
+    next: &mut State,
+    front: &mut Front,
+    steps: &mut Ticks<S>,
+    calls: &mut Ticks<C>,
+) -> Result<(), MergeFault>
+    requires own { IsStateOf program.now state.old }
+    requires next { IsStateOf program.now next.old }
+    requires due { depth < limits.choices }
+    requires reached { Reached program.now limits.gates limits.choices limits.steps most depth front.old.ended.entries front.old.layer.entries }
+    ensures own { IsStateOf program.now state.new }
+    ensures next { IsStateOf program.now next.new }
+    ensures reached { IfOk result (λ _. Reached program.now limits.gates limits.choices limits.steps most (depth + 1) front.new.ended.entries front.new.layer.entries) }
+    ensures fault { IfErr result (λ e. IsDueFault (slots program.now limits.gates) limits.choices limits.steps most e) }
+{
+    if front.ended.len() > MOST_OUTCOMES {
+        return Err(MergeFault::TooManyOutcomes);
     }
     let layer = front.take_layer(alloc);
-    let Ok(()) = end_layer(alloc, program, limits, &mut state, &layer, &mut front) else {
+    next_layer(
+        alloc, program, limits, most, depth, &layer, state, next, front, steps, calls,
+    )
+}
+
+/// Where no choice is left, each word ends.
+fn last_layer(
+    alloc: Global,
+    program: &Resolved,
+    limits: Limits,
+    most: usize,
+    state: &mut State,
+    front: &mut Front,
+) -> Result<(), MergeFault>
+    requires own { IsStateOf program.now state.old }
+    requires reached { Reached program.now limits.gates limits.choices limits.steps most limits.choices front.old.ended.entries front.old.layer.entries }
+    ensures ended { IfOk result (λ _. AreEnds front.new.ended.entries (by_layers (slots program.now limits.gates) same_outcome same_key limits.choices limits.steps)) }
+    ensures few { IfOk result (λ _. length front.new.ended.entries ≤ 50000) }
+    ensures within { IfOk result (λ _. FitsBefore (slots program.now limits.gates) limits.choices limits.steps most (limits.choices + 1)) }
+    ensures fault { IfErr result (λ e. IsDueFault (slots program.now limits.gates) limits.choices limits.steps most e) }
+{
+    let _ = most;
+    let layer = front.take_layer(alloc);
+    let Ok(()) = end_layer(alloc, program, limits, state, &layer, front) else {
         return Err(MergeFault::Memory);
     };
     if front.ended.len() > MOST_OUTCOMES {
         return Err(MergeFault::TooManyOutcomes);
     }
-    Ok(front.into_ends())
+    Ok(())
 }

@@ -1,5 +1,5 @@
 use Rattle.cp_machine.specs.System.{IsStateOf}
-use Rattle.cp_merged.proofs.Exploring.{Reached}
+use Rattle.cp_merged.specs.Reached.{Reached}
 use Rattle.cp_merged.proofs.explorer.ends_of.Given as goal
 
 abbrev pub invariant-loop-depth : goal.invariant-loop-depth

@@ -1,0 +1,35 @@
+use Rattle.std.proofs.Common.{◌<◌, ◌≤◌, length, refl, sym, subst, arith}
+use Rattle.cp_run.specs.Slots.{slots}
+use Rattle.cp_explore.specs.Report.{same_outcome}
+use Rattle.cp_merged.specs.Layers.{front_at}
+use Rattle.cp_merged.specs.Holds.{same_key, AreLeads, AreEnds}
+use Rattle.cp_merged.proofs.Exploring.{last_fault, all_fits}
+use Rattle.cp_merged.proofs.explorer.last_layer.Goals as goal
+
+pub end_layer-requires-clause-layer : goal.end_layer-requires-clause-layer
+end_layer-requires-clause-layer c =
+    let l = c.args.limits in
+    let r = c.args.program.now in
+    subst (λ es. AreLeads r es (front_at (slots r l.gates) same_outcome same_key l.steps l.choices).layer) (sym c.take_layer-layer.ensures.layer) c.requires.reached.holds.layer
+
+pub end_layer-requires-clause-ended : goal.end_layer-requires-clause-ended
+end_layer-requires-clause-ended c =
+    let l = c.args.limits in
+    let r = c.args.program.now in
+    subst (λ es. AreEnds es (front_at (slots r l.gates) same_outcome same_key l.steps l.choices).ended) (sym c.take_layer-layer.ensures.ended) c.requires.reached.holds.ended
+
+pub returns-then-len-gt-MOST_OUTCOMES-clause-fault : goal.returns-then-len-gt-MOST_OUTCOMES-clause-fault
+returns-then-len-gt-MOST_OUTCOMES-clause-fault c =
+    let l = c.args.limits in
+    let old = c.args.front.now in
+    let new = c.end_layer.new.front in
+    let many : 50000 < length new.ended.entries = omega arith in
+    last_fault c.args.program.now l.gates l.choices l.steps c.args.most l.choices old.ended.entries new.ended.entries old.layer.entries refl c.requires.reached many c.in-Ok.ensures
+
+pub returns-clause-within : goal.returns-clause-within
+returns-clause-within c =
+    let l = c.args.limits in
+    let old = c.args.front.now in
+    let new = c.end_layer.new.front in
+    let few : length new.ended.entries ≤ 50000 = omega arith in
+    all_fits c.args.program.now l.gates l.choices l.steps c.args.most l.choices old.ended.entries new.ended.entries old.layer.entries refl c.requires.reached few c.in-Ok.ensures

@@ -1,0 +1,51 @@
+use Rattle.std.proofs.Common.{◌<◌, ◌≤◌, ◌+◌, length, sym, subst, arith}
+use Rattle.cp_run.specs.Slots.{slots}
+use Rattle.cp_explore.specs.Report.{same_outcome}
+use Rattle.cp_merged.specs.Layers.{front_at}
+use Rattle.cp_merged.specs.Holds.{same_key, AreLeads, Holds, IsStates}
+use Rattle.cp_merged.specs.Reached.{Reached}
+use Rattle.cp_merged.specs.TooMany.{IsDueFault, HasTooManyStates}
+use Rattle.cp_merged.proofs.Exploring.{holds_taken, reached_next, outcomes_fault, layer_fault, err_on, ok_both}
+use Rattle.cp_merged.proofs.explorer.one_layer.Goals as goal
+
+pub returns-then-len-gt-MOST_OUTCOMES-clause-fault : goal.returns-then-len-gt-MOST_OUTCOMES-clause-fault
+returns-then-len-gt-MOST_OUTCOMES-clause-fault g c =
+    let l = c.args.limits in
+    let front = c.args.front.now in
+    let many : 50000 < length front.ended.entries = omega arith in
+    let due = c.requires.due in
+    let le : c.args.depth ≤ l.choices = omega (arith, due) in
+    outcomes_fault c.args.program.now l.gates l.choices l.steps c.args.most c.args.depth front.ended.entries front.layer.entries le many c.requires.reached
+
+pub next_layer-requires-clause-layer : goal.next_layer-requires-clause-layer
+next_layer-requires-clause-layer g c =
+    let l = c.args.limits in
+    subst (λ es. AreLeads c.args.program.now es (front_at (slots c.args.program.now l.gates) same_outcome same_key l.steps c.args.depth).layer) (sym c.take_layer-layer.ensures.layer) c.requires.reached.holds.layer
+
+pub next_layer-requires-clause-front : goal.next_layer-requires-clause-front
+next_layer-requires-clause-front g c =
+    let l = c.args.limits in
+    let old = c.args.front.now in
+    let new = c.take_layer-layer.new.self in
+    holds_taken c.args.program.now l.gates l.choices l.steps c.args.most c.args.depth old.ended.entries new.ended.entries old.layer.entries new.layer.entries c.take_layer-layer.ensures.ended c.take_layer-layer.ensures.empty c.requires.reached.holds
+
+pub returns-clause-reached : goal.returns-clause-reached
+returns-clause-reached g c =
+    let l = c.args.limits in
+    let r = c.args.program.now in
+    let old = c.args.front.now in
+    let new = c.next_layer.new.front in
+    let few : length old.ended.entries ≤ 50000 = omega arith in
+    ok_both c.next_layer.result (length new.layer.entries ≤ c.args.most) (Holds r new.ended.entries new.layer.entries (front_at (slots r l.gates) same_outcome same_key l.steps (c.args.depth + 1)))
+    (Reached r l.gates l.choices l.steps c.args.most (c.args.depth + 1) new.ended.entries new.layer.entries)
+    c.next_layer.ensures.few c.next_layer.ensures.front
+    (reached_next r l.gates l.choices l.steps c.args.most c.args.depth old.ended.entries new.ended.entries old.layer.entries new.layer.entries c.requires.due few c.requires.reached)
+
+pub returns-clause-fault : goal.returns-clause-fault
+returns-clause-fault g c =
+    let l = c.args.limits in
+    let r = c.args.program.now in
+    let old = c.args.front.now in
+    let few : length old.ended.entries ≤ 50000 = omega arith in
+    err_on c.next_layer.result (λ e. IsStates e (HasTooManyStates (slots r l.gates) l.steps c.args.most (c.args.depth + 1))) (λ e. IsDueFault (slots r l.gates) l.choices l.steps c.args.most e) c.next_layer.ensures.many
+    (layer_fault r l.gates l.choices l.steps c.args.most c.args.depth old.ended.entries old.layer.entries c.requires.due few c.requires.reached)
