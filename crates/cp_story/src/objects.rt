@@ -58,24 +58,49 @@ pub fn json(
     source: &[String],
 ) -> Result<String, AllocError> {
     let mut whole = Object::new(alloc);
+    put_story(alloc, legend, &mut whole, story)?;
+    put_outcome(alloc, legend, &mut whole, story, word)?;
+    whole.put("final", waits(alloc, legend, &story.waits)?)?;
+    whole.put("source", lines(alloc, source)?)?;
+    let mut text = whole.done().to_string(alloc)?;
+    text.push('\n')?;
+    Ok(text)
+}
+
+fn put_story(
+    alloc: Global,
+    legend: &Legend,
+    whole: &mut Object,
+    story: &Story,
+) -> Result<(), AllocError> {
     whole.put("processes", processes(alloc, legend)?)?;
     whole.put("monitors", monitors(alloc, legend)?)?;
     whole.put("events", events(alloc, legend, &story.events)?)?;
-    whole.put("end", end(alloc, story)?)?;
+    whole.put("end", end(alloc, story)?)
+}
+
+// What of the word was used, and what was displayed, where the run has ended.
+fn put_outcome(
+    alloc: Global,
+    legend: &Legend,
+    whole: &mut Object,
+    story: &Story,
+    word: &[u8],
+) -> Result<(), AllocError> {
     if let RunEnd::Ended { outcome, used } = &story.end {
         whole.put("used", numbers(alloc, word.get(..*used).unwrap_or(word))?)?;
         let output = output_words(alloc, legend, outcome.output.as_slice())?;
         whole.put("output", Value::String(output))?;
     }
-    whole.put("final", waits(alloc, legend, &story.waits)?)?;
+    Ok(())
+}
+
+fn lines(alloc: Global, source: &[String]) -> Result<Value, AllocError> {
     let mut lines = Vec::new(alloc);
     for line in source {
         lines.push(Value::String(line.clone()?))?;
     }
-    whole.put("source", Value::Array(lines))?;
-    let mut text = whole.done().to_string(alloc)?;
-    text.push('\n')?;
-    Ok(text)
+    Ok(Value::Array(lines))
 }
 
 /// The numbers of a word, or of monitors.
@@ -124,20 +149,36 @@ fn events(alloc: Global, legend: &Legend, events: &[Event]) -> Result<Value, All
 
 fn event_object(alloc: Global, legend: &Legend, event: &Event) -> Result<Value, AllocError> {
     let mut object = Object::new(alloc);
+    put_cause(alloc, &mut object, event)?;
+    put_happening(alloc, legend, &mut object, &event.happening)?;
+    put_effects(alloc, legend, &mut object, event)?;
+    Ok(object.done())
+}
+
+// Whose event it is, on which line, and after which choice.
+fn put_cause(alloc: Global, object: &mut Object, event: &Event) -> Result<(), AllocError> {
     object.number("process", u64::from(event.plain.process))?;
     if let Some(line) = event.line {
         object.number("line", u64::from(line))?;
     }
-    if let Some(choice) = &event.choice {
-        object.put("choice", choice_object(alloc, choice)?)?;
+    match &event.choice {
+        Some(choice) => object.put("choice", choice_object(alloc, choice)?),
+        None => Ok(()),
     }
-    put_happening(alloc, legend, &mut object, &event.happening)?;
+}
+
+// How the processes, the monitors and the variables stand after it.
+fn put_effects(
+    alloc: Global,
+    legend: &Legend,
+    object: &mut Object,
+    event: &Event,
+) -> Result<(), AllocError> {
     object.put("woken", numbers(alloc, event.woken.as_slice())?)?;
     object.put("let_in", numbers(alloc, event.let_in.as_slice())?)?;
     object.put("status", statuses(alloc, legend, &event.statuses)?)?;
     object.put("holders", holders(alloc, event.plain.holders.as_slice())?)?;
-    object.put("changes", changes(alloc, legend, &event.changes)?)?;
-    Ok(object.done())
+    object.put("changes", changes(alloc, legend, &event.changes)?)
 }
 
 fn choice_object(alloc: Global, choice: &Choice) -> Result<Value, AllocError> {
@@ -155,50 +196,46 @@ fn put_call(legend: &Legend, object: &mut Object, call: OpenCall) -> Result<(), 
     object.text("routine", legend.routine_name(call.routine))
 }
 
+fn event_word(happening: &Happening) -> &'static str {
+    match happening {
+        Happening::Enter { .. } => "enter",
+        Happening::Leave(_) => "leave",
+        Happening::Delay(..) => "delay",
+        Happening::Continue(..) => "continue",
+        Happening::Start(_) => "init",
+        Happening::Display(_) => "display",
+        Happening::End => "end",
+        Happening::Admit(_) => "admit",
+    }
+}
+
 fn put_happening(
     alloc: Global,
     legend: &Legend,
     object: &mut Object,
     happening: &Happening,
 ) -> Result<(), AllocError> {
+    object.text("event", event_word(happening))?;
     match happening {
         Happening::Enter {
             call,
             arguments,
             ..
         } => {
-            object.text("event", "enter")?;
             put_call(legend, object, *call)?;
             object.put("arguments", values(alloc, arguments)?)
         }
-        Happening::Leave(call) => {
-            object.text("event", "leave")?;
-            put_call(legend, object, *call)
-        }
-        Happening::Delay(queue, call) => {
-            object.text("event", "delay")?;
-            put_call(legend, object, *call)?;
-            object.text("queue", queue.name.as_str())
-        }
-        Happening::Continue(queue, call) => {
-            object.text("event", "continue")?;
+        Happening::Leave(call) | Happening::Admit(call) => put_call(legend, object, *call),
+        Happening::Delay(queue, call) | Happening::Continue(queue, call) => {
             put_call(legend, object, *call)?;
             object.text("queue", queue.name.as_str())
         }
         Happening::Start(process) => {
-            object.text("event", "init")?;
             object.text("target", legend.process_name(*process))?;
             object.number("target_process", u64::from(*process))
         }
-        Happening::Display(shown) => {
-            object.text("event", "display")?;
-            object.put("value", shown_value(alloc, legend, *shown)?)
-        }
-        Happening::End => object.text("event", "end"),
-        Happening::Admit(call) => {
-            object.text("event", "admit")?;
-            put_call(legend, object, *call)
-        }
+        Happening::Display(shown) => object.put("value", shown_value(alloc, legend, *shown)?),
+        Happening::End => Ok(()),
     }
 }
 
