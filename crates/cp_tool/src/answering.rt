@@ -1,5 +1,8 @@
 //! From the bytes of a source to the bytes of an answer.
-ghost use Rattle.std.specs.Prelude.{◌≡◌, ◌+◌, ◌<◌, ◌≤◌, false, length, max, min, IfOk, option_map};
+ghost use Rattle.std.specs.Prelude.{◌≡◌, ◌+◌, ◌<◌, ◌≤◌, false, length, map, max, min, IfOk, IfErr, option_map};
+ghost use Rattle.cp_run.specs.Slots.{slots};
+ghost use Rattle.cp_run.specs.Table.{table};
+ghost use Rattle.cp_explore.specs.Rows.{line_of, IsTooMany};
 ghost use Rattle.cp_tool.specs.Answered as spec;
 ghost use Rattle.cp_tool.specs.declared.answering.Ending.{Ending};
 
@@ -9,7 +12,7 @@ use crate::refusal::{check_reason, parse_reason, refusal, scan_reason};
 use crate::stream::{Sink, Source};
 use crate::transfer::{MOST_BYTES, ReadFault, read_source, write_text};
 use cp_check::check;
-use cp_explore::{Cutting, ExploreFault, Job, NoGate, Text, explore, report, trace_report};
+use cp_explore::{Cutting, ExploreFault, Job, NoGate, Table, Text, explore, report, trace_report};
 use cp_machine::Ticks;
 use cp_merged::{MergeFault, explore_merged, merged_report};
 use cp_resolved::resolve;
@@ -272,7 +275,7 @@ fn merged(alloc: Global, options: &Options, program: &Resolved) -> Result<Answer
     }
 }
 
-/// The report of a program's table, or that it has too many rows. The threads draw the members of a cutting.
+/// The report of a program's table, or that it has too many rows.
 fn counted<X: Threads + Sync>(
     rt: &X,
     alloc: Global,
@@ -285,10 +288,7 @@ fn counted<X: Threads + Sync>(
     let Some(limits) = Limits::new(options.choices, options.steps, options.gates) else {
         unreachable!()
     };
-    let mut cutting = Cutting::whole(alloc, Job { program, limits })?;
-    deal(alloc, &mut cutting, options)?;
-    let workers = needed(options.workers, cutting.members().len());
-    match explore(rt, alloc, &cutting, workers, &NoGate) {
+    match tabulated(rt, alloc, options, program, limits) {
         Ok(table) => Ok(Answer {
             verdict: Verdict::Reported,
             text: report(alloc, program, &table, options.rows)?.text,
@@ -299,6 +299,29 @@ fn counted<X: Threads + Sync>(
         }),
         Err(ExploreFault::Memory) => Err(AllocError),
     }
+}
+
+/// The table of a program. The threads draw the members of a cutting.
+fn tabulated<X: Threads + Sync>(
+    rt: &X,
+    alloc: Global,
+    options: &Options,
+    program: &Resolved,
+    limits: Limits,
+) -> Result<Table, ExploreFault>
+    requires { limits.choices ≤ 20 }
+    ensures table { IfOk result (λ t. map line_of t.rows ≡ table (slots program.now limits.gates) limits.choices limits.steps) }
+    ensures few { IfOk result (λ t. length t.rows ≤ 50000) }
+    ensures many { IfErr result (λ e. IsTooMany e → 50000 < length (table (slots program.now limits.gates) limits.choices limits.steps)) }
+{
+    let Ok(mut cutting) = Cutting::whole(alloc, Job { program, limits }) else {
+        return Err(ExploreFault::Memory);
+    };
+    let Ok(()) = deal(alloc, &mut cutting, options) else {
+        return Err(ExploreFault::Memory);
+    };
+    let workers = needed(options.workers, cutting.members().len());
+    explore(rt, alloc, &cutting, workers, &NoGate)
 }
 
 /// No more workers than there are members to draw: starting a thread costs more than a small exploration.
