@@ -4,7 +4,7 @@ use crate::draw::all_wait;
 use crate::labels::{bold_width, cut_bold, cut_plain, plain_width, points};
 use crate::palette::{GREEN, GREY, HUES, INK, RED, SLATE, hue_of};
 use crate::pictures::Subject;
-use crate::plan::{Plan, ROW, TOP, rows_end};
+use crate::plan::{Column, Plan, ROW, TOP, rows_end};
 use crate::svg::{Block, Style, Svg};
 use cp_run::{OutcomeKind, RunEnd};
 use cp_story::{Story, wait_words};
@@ -137,11 +137,7 @@ fn draw_lane_head(
     let lane = plan.lane(process);
     let name = subject.legend.process_name(process);
     let type_name = subject.legend.process_type(process);
-    let mut title = format!(in alloc; "process {process}: ")?;
-    title.push_str(name)?;
-    title.push(' ')?;
-    title.push_str(type_name)?;
-    svg.open(title.as_str().trim())?;
+    open_lane(alloc, svg, process, name, type_name)?;
     svg.block(Block {
         radius: 6.0,
         ..plain(lane.left, 52.0, lane.width, 30.0, "#eaeef2")
@@ -153,6 +149,32 @@ fn draw_lane_head(
         more: "text-anchor=\"middle\" font-weight=\"bold\"",
     };
     svg.number(lane.left + 17.0, 71.0, white, u32::from(process))?;
+    draw_names(alloc, svg, lane, name, type_name)?;
+    svg.close()
+}
+
+fn open_lane(
+    alloc: Global,
+    svg: &mut Svg,
+    process: u8,
+    name: &str,
+    type_name: &str,
+) -> Result<(), AllocError> {
+    let mut title = format!(in alloc; "process {process}: ")?;
+    title.push_str(name)?;
+    title.push(' ')?;
+    title.push_str(type_name)?;
+    svg.open(title.as_str().trim())
+}
+
+// The name of a process, and its type where there is room.
+fn draw_names(
+    alloc: Global,
+    svg: &mut Svg,
+    lane: Column,
+    name: &str,
+    type_name: &str,
+) -> Result<(), AllocError> {
     let room = lane.width - 40.0;
     let shown = cut_bold(alloc, name, room, 12.0)?;
     let bold = Style {
@@ -171,7 +193,7 @@ fn draw_lane_head(
         };
         svg.words(lane.left + 33.0 + used, 71.0, grey, kind.as_str())?;
     }
-    svg.close()
+    Ok(())
 }
 
 fn draw_bar_head(

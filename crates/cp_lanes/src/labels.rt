@@ -87,48 +87,49 @@ pub fn cut_fixed(alloc: Global, words: &str, room: f64, size: f64) -> Result<Str
 /// The label of an event.
 pub fn label_of(alloc: Global, legend: &Legend, event: &Event) -> Result<Label, AllocError> {
     let mut words = String::new(alloc);
-    let mut face = Face::Plain;
+    push_words(legend, &mut words, event)?;
+    let face = face_of(&event.happening);
     let mut pill = None;
+    if let Happening::Display(value) = &event.happening {
+        let mut shown = String::new(alloc);
+        push_shown(legend, &mut shown, *value)?;
+        pill = Some(shown);
+    }
+    Ok(Label { words, face, pill })
+}
+
+fn face_of(happening: &Happening) -> Face {
+    match happening {
+        Happening::Leave(_) | Happening::End => Face::Faint,
+        Happening::Delay(..) => Face::Bold,
+        _ => Face::Plain,
+    }
+}
+
+fn push_words(legend: &Legend, words: &mut String, event: &Event) -> Result<(), AllocError> {
     match &event.happening {
         Happening::Enter {
             call,
             arguments,
             waits,
         } => {
-            push_call(legend, &mut words, *call, arguments)?;
-            if *waits {
-                words.push_str(" — at the gate")?;
-            }
+            push_call(legend, words, *call, arguments)?;
+            words.push_str(if *waits { " — at the gate" } else { "" })
         }
-        Happening::Leave(_) => {
-            face = Face::Faint;
-            words.push_str("leaves")?;
-        }
-        Happening::Delay(queue, _) => {
-            face = Face::Bold;
-            push_queue(&mut words, "delay(", queue.name.as_str())?;
-        }
+        Happening::Leave(_) => words.push_str("leaves"),
+        Happening::Delay(queue, _) => push_queue(words, "delay(", queue.name.as_str()),
         Happening::Continue(queue, _) => {
-            push_queue(&mut words, "continue(", queue.name.as_str())?;
-            push_woken(&mut words, event.woken.as_slice())?;
+            push_queue(words, "continue(", queue.name.as_str())?;
+            push_woken(words, event.woken.as_slice())
         }
         Happening::Start(process) => {
             words.push_str("starts ")?;
-            words.push_str(legend.process_name(*process))?;
+            words.push_str(legend.process_name(*process))
         }
-        Happening::Display(value) => {
-            words.push_str("displays")?;
-            let mut shown = String::new(alloc);
-            push_shown(legend, &mut shown, *value)?;
-            pill = Some(shown);
-        }
-        Happening::End => {
-            face = Face::Faint;
-            words.push_str("ends")?;
-        }
-        Happening::Admit(_) => words.push_str("is let in")?,
+        Happening::Display(_) => words.push_str("displays"),
+        Happening::End => words.push_str("ends"),
+        Happening::Admit(_) => words.push_str("is let in"),
     }
-    Ok(Label { words, face, pill })
 }
 
 fn push_queue(words: &mut String, before: &str, name: &str) -> Result<(), AllocError> {

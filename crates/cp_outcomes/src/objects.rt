@@ -24,25 +24,40 @@ pub fn json<L: Ledger>(
     tallies: &Tallies,
     ticks: &mut Ticks<L>,
 ) -> Result<String, AllocError> {
-    let all = tallies.as_slice();
-    let whole = schedules_in(all);
+    let mut object = Object::new(alloc);
+    object.put("processes", processes(alloc, subject.legend)?)?;
+    object.put("monitors", monitors(alloc, subject.legend)?)?;
+    put_outcomes(alloc, subject, &mut object, tallies, ticks)?;
+    put_limits(alloc, &mut object, tallies)?;
+    line(alloc, object)
+}
+
+// How many schedules there are, and their outcomes: first those that no limit stopped.
+fn put_outcomes<L: Ledger>(
+    alloc: Global,
+    subject: Subject<'_>,
+    object: &mut Object,
+    tallies: &Tallies,
+    ticks: &mut Ticks<L>,
+) -> Result<(), AllocError> {
+    let whole = schedules_in(tallies.as_slice());
     let mut items = Vec::new(alloc);
     for stopped in [false, true] {
-        for tally in all {
+        for tally in tallies.as_slice() {
             if is_stopped(tally.outcome.kind) == stopped {
                 items.push(tally_object(alloc, subject, tally, &whole, ticks)?)?;
             }
         }
     }
-    let stops = stops(alloc, tallies)?;
-    let mut object = Object::new(alloc);
-    object.put("processes", processes(alloc, subject.legend)?)?;
-    object.put("monitors", monitors(alloc, subject.legend)?)?;
     object.put("schedules", count_value(alloc, &whole)?)?;
-    object.put("outcomes", Value::Array(items))?;
+    object.put("outcomes", Value::Array(items))
+}
+
+// Whether no schedule was stopped by a limit, or how many by which.
+fn put_limits(alloc: Global, object: &mut Object, tallies: &Tallies) -> Result<(), AllocError> {
+    let stops = stops(alloc, tallies)?;
     object.put("complete", Value::Bool(stops.is_empty()))?;
-    object.put("limits", Value::Array(stops))?;
-    line(alloc, object)
+    object.put("limits", Value::Array(stops))
 }
 
 // An object on a line of its own.
@@ -72,25 +87,54 @@ fn tally_object<L: Ledger>(
     requires { whole.now < 10 ^ 126 }
 {
     let mut object = Object::new(alloc);
+    put_count(alloc, &mut object, tally, whole)?;
+    put_outcome(alloc, subject, &mut object, tally)?;
+    put_end(alloc, subject, &mut object, tally, ticks)?;
+    Ok(object.done())
+}
+
+fn put_count(
+    alloc: Global,
+    object: &mut Object,
+    tally: &Tally,
+    whole: &Natural,
+) -> Result<(), AllocError>
+    requires { whole.now < 10 ^ 126 }
+{
     let mut share = String::new(alloc);
     share_of(&tally.count, whole).push_to(&mut share)?;
     object.put("share", Value::String(share))?;
-    object.put("count", count_value(alloc, &tally.count)?)?;
-    put_kind(&mut object, tally.outcome.kind)?;
+    object.put("count", count_value(alloc, &tally.count)?)
+}
+
+fn put_outcome(
+    alloc: Global,
+    subject: Subject<'_>,
+    object: &mut Object,
+    tally: &Tally,
+) -> Result<(), AllocError> {
+    put_kind(object, tally.outcome.kind)?;
     let output = output_words(alloc, subject.legend, tally.outcome.output.as_slice())?;
     object.put("output", Value::String(output))?;
-    object.put("first", numbers(alloc, tally.first.as_slice())?)?;
+    object.put("first", numbers(alloc, tally.first.as_slice())?)
+}
+
+// Who waits where at the end, or the line of a run error.
+fn put_end<L: Ledger>(
+    alloc: Global,
+    subject: Subject<'_>,
+    object: &mut Object,
+    tally: &Tally,
+    ticks: &mut Ticks<L>,
+) -> Result<(), AllocError> {
     match tally.outcome.kind {
         OutcomeKind::AllWaiting => {
             let waiting = waits_of(alloc, subject, tally.first.as_slice(), ticks)?;
-            object.put("final", waits(alloc, subject.legend, &waiting)?)?;
+            object.put("final", waits(alloc, subject.legend, &waiting)?)
         }
-        OutcomeKind::RunError { line, .. } => {
-            object.text("text", line_of(subject.source, line))?;
-        }
-        _ => {}
+        OutcomeKind::RunError { line, .. } => object.text("text", line_of(subject.source, line)),
+        _ => Ok(()),
     }
-    Ok(object.done())
 }
 
 // The limits at which schedules ended, and how many did.

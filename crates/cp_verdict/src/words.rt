@@ -90,44 +90,55 @@ pub fn verdict_text(
     verdict: Verdict,
 ) -> Result<String, AllocError> {
     let mut text = String::new(alloc);
-    let stopped = limits(alloc, seen)?;
     match verdict {
-        Verdict::Holds => {
-            text.push_str("holds\n")?;
-            if stopped.is_empty() {
-                text.push_str("complete: the same for every greater number of choices\n")?;
-            } else {
-                text.push_str(
-                    "shown by a schedule, for every greater number of choices too; others ended at ",
-                )?;
-                text.push_str(stopped.as_str())?;
-                text.push_str("\n")?;
-            }
-        }
+        Verdict::Holds => push_holds(&mut text, limits(alloc, seen)?.as_str())?,
         Verdict::Fails {
             expectation,
             against,
         } => {
             text.push_str("fails: ")?;
             push_expectation(&mut text, expectation)?;
-            match against {
-                Some(row) => {
-                    text.push_str("\nfirst against it: ")?;
-                    push_row(alloc, &mut text, program, row)?;
-                    text.push_str("\n")?;
-                }
-                None => text.push_str("\nthe table is complete and has no such schedule\n")?,
-            }
+            push_against(alloc, &mut text, program, against)?;
         }
         Verdict::Open { expectation } => {
             text.push_str("not settled: ")?;
             push_expectation(&mut text, expectation)?;
-            text.push_str("\nsome schedules ended at ")?;
-            text.push_str(stopped.as_str())?;
-            text.push_str(", and none so far is against it\n")?;
+            push_stopped(&mut text, limits(alloc, seen)?.as_str())?;
         }
     }
     Ok(text)
+}
+
+fn push_holds(text: &mut String, stopped: &str) -> Result<(), AllocError> {
+    text.push_str("holds\n")?;
+    if stopped.is_empty() {
+        return text.push_str("complete: the same for every greater number of choices\n");
+    }
+    text.push_str(
+        "shown by a schedule, for every greater number of choices too; others ended at ",
+    )?;
+    text.push_str(stopped)?;
+    text.push_str("\n")
+}
+
+fn push_against(
+    alloc: Global,
+    text: &mut String,
+    program: &Resolved,
+    against: Option<Seen<'_>>,
+) -> Result<(), AllocError> {
+    let Some(row) = against else {
+        return text.push_str("\nthe table is complete and has no such schedule\n");
+    };
+    text.push_str("\nfirst against it: ")?;
+    push_row(alloc, text, program, row)?;
+    text.push_str("\n")
+}
+
+fn push_stopped(text: &mut String, stopped: &str) -> Result<(), AllocError> {
+    text.push_str("\nsome schedules ended at ")?;
+    text.push_str(stopped)?;
+    text.push_str(", and none so far is against it\n")
 }
 
 /// What is said of a text that has no expectations: what was found, and what was wanted there.
