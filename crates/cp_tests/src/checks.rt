@@ -1,23 +1,12 @@
 //! The worked rows of the rules, each broken at a token, and a program that breaks none.
 
+use crate::programs::{BUFFER, tree_of};
 use cp_check::check;
 use cp_scope::{CheckFault, Rule};
-use cp_text::scan;
-use cp_tree::{Tree, parse};
 use std::test::Fail;
 
-const BUFFER: &str =
-    "type buffer = monitor; var full: boolean; slot: integer; sender, receiver: queue; procedure entry put(x: integer); begin if full then delay(sender); slot := x; full := true; continue(receiver) end; procedure entry get(var x: integer); begin if not full then delay(receiver); x := slot; full := false; continue(sender) end; begin full := false end; producer = process(b: buffer); begin b.put(7) end; consumer = process(b: buffer); var v: integer; begin b.get(v); display(v) end; var b: buffer; p: producer; c: consumer; begin init b, p(b), c(b) end.";
-
-fn parsed(rt: &HostRuntime, source: &str) -> Result<Tree, Fail> {
-    let tokens = scan(rt.alloc(), source.as_bytes())
-        .ok()
-        .ok_or("it is scanned")?;
-    Ok(parse(rt.alloc(), &tokens).ok().ok_or("it is parsed")?)
-}
-
 fn fault(rt: &HostRuntime, source: &str) -> Result<CheckFault, Fail> {
-    let (fault, _tree) = check(rt.alloc(), parsed(rt, source)?)
+    let (fault, _tree) = check(rt.alloc(), tree_of(rt.alloc(), source)?)
         .err()
         .ok_or("it is refused")?;
     Ok(fault)
@@ -167,7 +156,7 @@ fn broken_rules(rt: HostRuntime) -> Result<(), Fail> {
 
 #[test]
 fn no_rule_broken(rt: HostRuntime) -> Result<(), Fail> {
-    let checked = check(rt.alloc(), parsed(&rt, BUFFER)?)
+    let checked = check(rt.alloc(), tree_of(rt.alloc(), BUFFER)?)
         .ok()
         .ok_or("it breaks no rule")?;
     assert_eq!(rt; checked.tree().program.body.statements.len(), 1);

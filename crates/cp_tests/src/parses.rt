@@ -1,25 +1,13 @@
 //! The worked rows of the grammar, from source texts to trees and faults.
 
-use cp_text::{Tokens, scan};
+use crate::programs::{tokens_of, tree_of};
+use cp_text::Tokens;
 use cp_tree::{FactorKind, ParseFault, StatementKind, Tree, parse};
 use std::test::Fail;
 
 // A space stands between any two tokens.
 const BUFFER: &str =
     "type buffer = monitor ; var full : boolean ; slot : integer ; sender , receiver : queue ; procedure entry put ( x : integer ) ; begin if full then delay ( sender ) ; slot := x ; full := true ; continue ( receiver ) end ; procedure entry get ( var x : integer ) ; begin if not full then delay ( receiver ) ; x := slot ; full := false ; continue ( sender ) end ; begin full := false end ; producer = process ( b : buffer ) ; begin b . put ( 7 ) end ; consumer = process ( b : buffer ) ; var v : integer ; begin b . get ( v ) ; display ( v ) end ; var b : buffer ; p : producer ; c : consumer ; begin init b , p ( b ) , c ( b ) end .";
-
-fn scanned(rt: &HostRuntime, source: &str) -> Result<Tokens, Fail> {
-    Ok(
-        scan(rt.alloc(), source.as_bytes())
-            .ok()
-            .ok_or("it is scanned")?,
-    )
-}
-
-fn tree_of(rt: &HostRuntime, source: &str) -> Result<Tree, Fail> {
-    let tokens = scanned(rt, source)?;
-    Ok(parse(rt.alloc(), &tokens).ok().ok_or("it is a program")?)
-}
 
 /// How the reading of a program ends.
 #[derive(Clone, Copy, Debug, PartialEq, Eq)]
@@ -42,7 +30,7 @@ fn ending_after(rt: &HostRuntime, tokens: &Tokens) -> Ending {
 }
 
 fn ending_of(rt: &HostRuntime, source: &str) -> Result<Ending, Fail> {
-    Ok(ending_after(rt, &scanned(rt, source)?))
+    Ok(ending_after(rt, &tokens_of(rt.alloc(), source)?))
 }
 
 // The statements of `begin .. end.` with this many `begin` before as many `end`.
@@ -66,7 +54,7 @@ fn copied(rt: &HostRuntime, count: usize, at: usize) -> Result<Tokens, Fail> {
         text.push_str(if i == at { "with" } else { words[i] })?;
         text.push_str(" ")?;
     }
-    scanned(rt, text.as_str())
+    tokens_of(rt.alloc(), text.as_str())
 }
 
 // Whether the second statement has no `else`, and the `if` in it has one.
@@ -86,7 +74,7 @@ fn has_inner_else(tree: &Tree) -> bool {
 fn dangling_else(rt: HostRuntime) -> Result<(), Fail> {
     let source =
         "var a, b: boolean; x: integer; begin a := true; if a then if b then x := 1 else x := 2; display(x) end.";
-    let tree = tree_of(&rt, source)?;
+    let tree = tree_of(rt.alloc(), source)?;
     assert!(rt; has_inner_else(&tree));
     assert_eq!(rt; tree.line(3), 1);
     Ok(())
@@ -94,7 +82,7 @@ fn dangling_else(rt: HostRuntime) -> Result<(), Fail> {
 
 #[test]
 fn with_at_each_token(rt: HostRuntime) -> Result<(), Fail> {
-    let tokens = scanned(&rt, BUFFER)?;
+    let tokens = tokens_of(rt.alloc(), BUFFER)?;
     assert_eq!(rt; ending_after(&rt, &tokens), Ending::Read);
     for at in 0..tokens.count() {
         let changed = copied(&rt, tokens.count(), at)?;
@@ -105,7 +93,7 @@ fn with_at_each_token(rt: HostRuntime) -> Result<(), Fail> {
 
 #[test]
 fn cut_at_each_token(rt: HostRuntime) -> Result<(), Fail> {
-    let tokens = scanned(&rt, BUFFER)?;
+    let tokens = tokens_of(rt.alloc(), BUFFER)?;
     for count in 0..tokens.count() {
         let cut = copied(&rt, count, count)?;
         assert_eq!(rt; ending_after(&rt, &cut), Ending::Unexpected(count));
@@ -173,7 +161,7 @@ fn accepted_forms(rt: HostRuntime) -> Result<(), Fail> {
     let source =
         "const c = -1; d = 'a'; type t = (a, b); u = array [t] of set of 1..c; v = record x, y: t; z: 0..+9; end; var q: v; function f(n: t): t; begin end; begin case c of 1, -d: ; 'x': begin end; end; repeat until not [] = [1, 2] * [q.x]; for i := 1 downto 2 do while x in y do; if a then else begin end end.";
     assert_eq!(rt; ending_of(&rt, source)?, Ending::Read);
-    let tree = tree_of(&rt, "begin x := -(1) end.")?;
+    let tree = tree_of(rt.alloc(), "begin x := -(1) end.")?;
     assert!(rt; negates_a_group(&tree));
     assert_eq!(rt; tree.program.period, 8);
     Ok(())

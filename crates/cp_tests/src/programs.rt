@@ -8,8 +8,8 @@ use cp_machine::{Gates, Shown, Ticks};
 use cp_resolved::resolve;
 use cp_run::{Limits, OutcomeKind, RunEnd, run};
 use cp_slots::Resolved;
-use cp_text::scan;
-use cp_tree::parse;
+use cp_text::{Tokens, scan};
+use cp_tree::{Tree, parse};
 use std::alloc::Global;
 use std::marker::Brand;
 use std::sync::ledger::{Blank, Ledger};
@@ -42,12 +42,24 @@ pub const BUFFER: &str =
 pub const INNER_DELAY: &str =
     "type inner = monitor; var q: queue; procedure entry hold; begin delay(q) end; procedure entry free; begin continue(q) end; begin end; outer = monitor(i: inner); procedure entry go; begin i.hold end; begin end; a = process(o: outer); begin o.go end; b = process(i: inner); begin i.free end; var i: inner; o: outer; p, r: a; s: b; begin init i, o(i), p(o), r(o), s(i) end.";
 
+/// The tokens of a source without a fault.
+pub fn tokens_of(alloc: Global, source: &str) -> Result<Tokens, Fail> {
+    Ok(
+        scan(alloc, source.as_bytes())
+            .ok()
+            .ok_or("it is not scanned")?,
+    )
+}
+
+/// The tree of a source that is a program.
+pub fn tree_of(alloc: Global, source: &str) -> Result<Tree, Fail> {
+    let tokens = tokens_of(alloc, source)?;
+    Ok(parse(alloc, &tokens).ok().ok_or("it is not parsed")?)
+}
+
 /// The program of an accepted source.
 pub fn program_of(alloc: Global, source: &str) -> Result<Resolved, Fail> {
-    let tokens = scan(alloc, source.as_bytes())
-        .ok()
-        .ok_or("it is not scanned")?;
-    let tree = parse(alloc, &tokens).ok().ok_or("it is not parsed")?;
+    let tree = tree_of(alloc, source)?;
     let checked = check(alloc, tree).ok().ok_or("it is not accepted")?;
     Ok(resolve(alloc, &checked).ok().ok_or("it is not resolved")?)
 }
