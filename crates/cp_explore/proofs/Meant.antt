@@ -6,9 +6,9 @@ use Rattle.cp_run.specs.Slots.{slots}
 use Rattle.cp_run.specs.Table.{Line, table}
 use Rattle.cp_refine.proofs.Meaning.{runs_as_meant}
 use Rattle.cp_explore.specs.Meant.{AreMeant}
-use Rattle.cp_explore.specs.Rows.{line_of}
-use Rattle.cp_explore.specs.declared.fault.ExploreFault.{ExploreFault}
-use Rattle.cp_explore.specs.declared.row.Table.{Table}
+use Rattle.cp_walk.specs.Rows.{line_of}
+use Rattle.cp_walk.specs.declared.fault.ExploreFault.{ExploreFault}
+use Rattle.cp_walk.specs.declared.row.Table.{Table}
 
 pub meant : (r : Tables) (gates : Gates) (choices steps : ℕ) (lines : List Line) → lines ≡ table (slots r gates) choices steps → AreMeant r gates choices steps lines
 meant r gates choices steps lines e t read ok same = e ∙ sym (runs_as_meant t r gates read ok same choices steps).tables

@@ -1,17 +1,1 @@
-pub mod Beginnings
-pub mod Cutting
-pub mod CuttingProps
-pub mod Deepening
-pub mod Ends
-pub mod Gather
-pub mod Groups
-pub mod Hashing
-pub mod Members
 pub mod Meant
-pub mod Report
-pub mod Rows
-pub mod Tables
-pub mod Text
-pub mod TraceText
-pub mod Walk
-pub mod Walked

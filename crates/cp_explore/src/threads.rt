@@ -3,14 +3,10 @@
 ghost use Rattle.std.specs.Prelude.{◌≡◌, ◌<◌, ◌≤◌, length, map, IfOk};
 ghost use Rattle.cp_run.specs.Slots.{slots};
 ghost use Rattle.cp_run.specs.Table.{table};
+ghost use Rattle.cp_walk.specs.Rows.{line_of};
 ghost use Rattle.cp_explore.specs.Meant.{AreMeant};
-ghost use Rattle.cp_explore.specs.Rows.{line_of};
 
-use crate::cutting::Cutting;
-use crate::fault::ExploreFault;
-use crate::row::{Rows, Table};
-use crate::worker::Gate;
-use crate::workers::explore_tasks;
+use cp_walk::{Cutting, ExploreFault, Gate, Table, walk_on_threads};
 use std::alloc::Global;
 use std::thread::Threads;
 
@@ -28,17 +24,5 @@ pub fn explore<X: Threads + Sync, G: Gate + Sync>(
     ensures few { IfOk result (λ t. length t.rows ≤ 50000) }
     ensures many { result ≡ Err ExploreFault.TooManyRows → 50000 < length (table (slots cutting.now.job.program.now cutting.now.job.limits.gates) cutting.now.job.limits.choices cutting.now.job.limits.steps) }
 {
-    match explore_tasks(
-        rt,
-        alloc,
-        cutting,
-        cutting.words.len() as u32,
-        workers,
-        gate,
-    ) {
-        Ok(rows) => Ok(Table {
-            rows: Rows::new(rows),
-        }),
-        Err(fault) => Err(fault),
-    }
+    walk_on_threads(rt, alloc, cutting, workers, gate)
 }

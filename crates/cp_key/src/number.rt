@@ -70,10 +70,7 @@ fn freeze_two(number: usize, key: &mut Vec<u8>) -> Result<(), AllocError>
     requires { number < 65536 }
     ensures { IfOk result (λ _. key.new.items ≡ key.old.items ++ 254 ∷ digits 1 number) }
 {
-    key.push(254)?;
-    key.push((number % 256) as u8)?;
-    key.push((number / 256) as u8)?;
-    Ok(())
+    key.extend_from_slice(&[254, (number % 256) as u8, (number / 256) as u8])
 }
 
 #[cold]
@@ -81,16 +78,17 @@ fn freeze_two(number: usize, key: &mut Vec<u8>) -> Result<(), AllocError>
 fn freeze_eight(number: usize, key: &mut Vec<u8>) -> Result<(), AllocError>
     ensures { IfOk result (λ _. key.new.items ≡ key.old.items ++ 255 ∷ digits 7 number) }
 {
-    key.push(255)?;
-    key.push((number % 256) as u8)?;
-    key.push((number / 256 % 256) as u8)?;
-    key.push((number / 256 / 256 % 256) as u8)?;
-    key.push((number / 256 / 256 / 256 % 256) as u8)?;
-    key.push((number / 256 / 256 / 256 / 256 % 256) as u8)?;
-    key.push((number / 256 / 256 / 256 / 256 / 256 % 256) as u8)?;
-    key.push((number / 256 / 256 / 256 / 256 / 256 / 256 % 256) as u8)?;
-    key.push((number / 256 / 256 / 256 / 256 / 256 / 256 / 256) as u8)?;
-    Ok(())
+    key.extend_from_slice(&[
+        255,
+        (number % 256) as u8,
+        (number / 256 % 256) as u8,
+        (number / 256 / 256 % 256) as u8,
+        (number / 256 / 256 / 256 % 256) as u8,
+        (number / 256 / 256 / 256 / 256 % 256) as u8,
+        (number / 256 / 256 / 256 / 256 / 256 % 256) as u8,
+        (number / 256 / 256 / 256 / 256 / 256 / 256 % 256) as u8,
+        (number / 256 / 256 / 256 / 256 / 256 / 256 / 256) as u8,
+    ])
 }
 
 #[inline(always)]
@@ -193,10 +191,7 @@ pub fn freeze_short(number: u16, key: &mut Vec<u8>) -> Result<(), AllocError>
 fn freeze_pair(number: u16, key: &mut Vec<u8>) -> Result<(), AllocError>
     ensures { IfOk result (λ _. key.new.items ≡ key.old.items ++ 255 ∷ digits 1 number) }
 {
-    key.push(255)?;
-    key.push((number % 256) as u8)?;
-    key.push((number / 256) as u8)?;
-    Ok(())
+    key.extend_from_slice(&[255, (number % 256) as u8, (number / 256) as u8])
 }
 
 /// The number below 65536 whose key is next.

@@ -1,7 +1,7 @@
 //! The parts of a state as bytes.
 
 ghost use Rattle.std.specs.Prelude.{◌≡◌, ◌∷◌, ◌++◌, ℕ, List, IfOk, IsTrue};
-ghost use Rattle.cp_key.specs.Numbers.{number_key};
+ghost use Rattle.cp_key.specs.Numbers.{number_key, short_key};
 ghost use Rattle.cp_key.specs.Key.{IsSmall, address_key, entry_key, frame_key, gates_key, option_key, phase_key, shown_key, status_key};
 
 use crate::keyed::Keyed;
@@ -11,19 +11,24 @@ use cp_machine::{Entry, Gates, Phase, Shown, Status};
 use cp_store::{Address, Frame};
 use std::alloc::AllocError;
 
+// A byte that tells what follows, and then that.
+#[inline(always)]
+fn freeze_after<T: Keyed>(first: u8, rest: T, key: &mut Vec<u8>) -> Result<(), AllocError>
+    ensures { IfOk result (λ _. key.new.items ≡ key.old.items ++ first ∷ T.key_of rest) }
+{
+    key.push(first)?;
+    rest.freeze(key)
+}
+
 impl<T: Keyed> Keyed for Option<T> {
     ghost key_of = { option_key T.key_of };
 
     #[inline(always)]
     fn freeze(self, key: &mut Vec<u8>) -> Result<(), AllocError> {
         match self {
-            None => key.push(0)?,
-            Some(x) => {
-                key.push(1)?;
-                x.freeze(key)?;
-            }
+            None => 0u8.freeze(key),
+            Some(x) => freeze_after(1, x, key),
         }
-        Ok(())
     }
 
     #[inline(always)]
@@ -103,14 +108,8 @@ impl Keyed for Address {
     #[inline(always)]
     fn freeze(self, key: &mut Vec<u8>) -> Result<(), AllocError> {
         match self {
-            Address::Permanent(cell) => {
-                key.push(0)?;
-                cell.freeze(key)
-            }
-            Address::Local(cell) => {
-                key.push(1)?;
-                cell.freeze(key)
-            }
+            Address::Permanent(cell) => freeze_after(0, cell, key),
+            Address::Local(cell) => freeze_after(1, cell, key),
         }
     }
 
@@ -213,18 +212,15 @@ impl Keyed for Entry {
         match self {
             Entry::Rest(item) => freeze_rest(item, key),
             Entry::Successor(item, value, last) => {
-                key.push(1)?;
-                item.freeze(key)?;
+                freeze_after(1, item, key)?;
                 freeze_both(value, last, key)
             }
             Entry::Return(caller, slot, monitor) => {
-                key.push(2)?;
-                caller.freeze(key)?;
+                freeze_after(2, caller, key)?;
                 freeze_both(slot, monitor, key)
             }
             Entry::InitEnd(caller, component) => {
-                key.push(3)?;
-                caller.freeze(key)?;
+                freeze_after(3, caller, key)?;
                 component.freeze(key)
             }
         }
@@ -247,19 +243,12 @@ impl Keyed for Status {
     #[inline(always)]
     fn freeze(self, key: &mut Vec<u8>) -> Result<(), AllocError> {
         match self {
-            Status::Unstarted => key.push(0)?,
-            Status::Ready => key.push(1)?,
-            Status::Ended => key.push(2)?,
-            Status::AtGate(monitor) => {
-                key.push(3)?;
-                monitor.freeze(key)?;
-            }
-            Status::Delayed(cell) => {
-                key.push(4)?;
-                cell.freeze(key)?;
-            }
+            Status::Unstarted => 0u8.freeze(key),
+            Status::Ready => 1u8.freeze(key),
+            Status::Ended => 2u8.freeze(key),
+            Status::AtGate(monitor) => freeze_after(3, monitor, key),
+            Status::Delayed(cell) => freeze_after(4, cell, key),
         }
-        Ok(())
     }
 
     #[inline(always)]
@@ -274,27 +263,26 @@ impl Keyed for Status {
     }
 }
 
+#[inline(always)]
+fn freeze_constant(number: u16, key: &mut Vec<u8>) -> Result<(), AllocError>
+    ensures { IfOk result (λ _. key.new.items ≡ key.old.items ++ 4 ∷ short_key number) }
+{
+    key.push(4)?;
+    freeze_short(number, key)
+}
+
 impl Keyed for Shown {
     ghost key_of = { shown_key };
 
     #[inline(always)]
     fn freeze(self, key: &mut Vec<u8>) -> Result<(), AllocError> {
         match self {
-            Shown::Integer(number) => {
-                key.push(0)?;
-                number.freeze(key)?;
-            }
-            Shown::Char(code) => {
-                key.push(1)?;
-                code.freeze(key)?;
-            }
-            Shown::Truth(is_true) => key.push(if is_true { 3 } else { 2 })?,
-            Shown::Constant(number) => {
-                key.push(4)?;
-                freeze_short(number, key)?;
-            }
+            Shown::Integer(number) => freeze_after(0, number, key),
+            Shown::Char(code) => freeze_after(1, code, key),
+            Shown::Truth(false) => 2u8.freeze(key),
+            Shown::Truth(true) => 3u8.freeze(key),
+            Shown::Constant(number) => freeze_constant(number, key),
         }
-        Ok(())
     }
 
     #[inline(always)]

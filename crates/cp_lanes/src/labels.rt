@@ -14,7 +14,7 @@ const BOLD: f64 = 0.63;
 const FIXED: f64 = 0.605;
 
 /// The face of a label.
-#[derive(Clone, Copy, Debug, PartialEq, Eq)]
+#[derive(Clone, Copy, PartialEq, Eq)]
 pub enum Face {
     Plain,
     /// Of what matters less.

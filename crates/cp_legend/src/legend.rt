@@ -16,14 +16,14 @@ pub struct Variable {
 }
 
 /// How an argument is passed.
-#[derive(Clone, Copy, Debug, PartialEq, Eq)]
+#[derive(Clone, Copy, PartialEq, Eq)]
 pub enum Passing {
     Value,
     Reference,
 }
 
 /// A parameter of a routine, by its first cell, or by its number among the `var` parameters.
-#[derive(Clone, Copy, Debug)]
+#[derive(Clone, Copy)]
 pub struct Parameter {
     pub slot: usize,
     pub shape: Shape,

@@ -4,7 +4,7 @@ use crate::shape::{Base, Shape, values_of};
 use std::alloc::{AllocError, Global};
 
 /// What a name stands for.
-#[derive(Clone, Copy, Debug)]
+#[derive(Clone, Copy)]
 pub enum Meaning {
     Constant(Base, i16),
     Kind(Shape),

@@ -6,7 +6,7 @@ use std::alloc::{AllocError, Global};
 const SET_CELLS: usize = 8;
 
 /// What the values of an ordinal type are counted in.
-#[derive(Clone, Copy, Debug, PartialEq, Eq)]
+#[derive(Clone, Copy, PartialEq, Eq)]
 pub enum Base {
     Integer,
     Boolean,
@@ -16,7 +16,7 @@ pub enum Base {
 }
 
 /// The values of an ordinal type.
-#[derive(Clone, Copy, Debug, PartialEq, Eq)]
+#[derive(Clone, Copy, PartialEq, Eq)]
 pub struct Range {
     pub base: Base,
     pub low: i16,
@@ -24,7 +24,7 @@ pub struct Range {
 }
 
 /// A type. Arrays and records are told apart by their numbers among the compound types, and system types by theirs.
-#[derive(Clone, Copy, Debug, PartialEq, Eq)]
+#[derive(Clone, Copy, PartialEq, Eq)]
 pub enum Shape {
     Ordinal(Range),
     Queue,
@@ -36,7 +36,7 @@ pub enum Shape {
 }
 
 /// An array, by its index and its elements.
-#[derive(Clone, Copy, Debug)]
+#[derive(Clone, Copy)]
 pub struct ArrayShape {
     pub index: Range,
     pub element: Shape,

@@ -8,9 +8,10 @@ ghost use Rattle.cp_machine.specs.Machine.{machine_of, monitor_of, thread_at, th
 
 use crate::moved::{Moved, Unwatched, Watch};
 use crate::process::Process;
-use crate::state::{Guard, State};
+use crate::shown::Shown;
+use crate::state::{Guard, Phase, State};
 use arrayvec::ArrayVec;
-use cp_store::Room;
+use cp_store::{Bound, Room};
 use std::alloc::{AllocError, Global};
 
 impl State {
@@ -19,24 +20,19 @@ impl State {
         ensures same { IfOk result (λ s. machine_of s ≡ machine_of self.now) }
         ensures own { IfOk result (λ s. (r : Tables) → IsStateOf r self.now → IsStateOf r s) }
     {
-        let mut permanents = Vec::with_capacity(alloc, self.permanents.len())?;
-        permanents.extend_from_slice(&self.permanents)?;
-        let mut bindings = Vec::with_capacity(alloc, self.bindings.len())?;
-        bindings.extend_from_slice(&self.bindings)?;
-        let mut phases = Vec::with_capacity(alloc, self.phases.len())?;
-        phases.extend_from_slice(&self.phases)?;
-        let mut output = Vec::with_capacity(alloc, self.output.capacity())?;
-        output.extend_from_slice(&self.output)?;
+        let (permanents, bindings, phases) = copies_of_cells(alloc, self)?;
+        let (processes, guards) = copies_of_parties(alloc, self)?;
+        let (output, bounds) = copies_of_lists(alloc, self)?;
         Ok(State {
             permanents,
             bindings,
             phases,
-            processes: copies_of_processes(alloc, &self.processes)?,
-            guards: copies_of_guards(alloc, &self.guards)?,
+            processes,
+            guards,
             pending: self.pending,
             gates: self.gates,
             output,
-            bounds: Vec::with_capacity(alloc, self.bounds.capacity())?,
+            bounds,
         })
     }
 
@@ -80,10 +76,71 @@ fn take_state<W: Watch>(to: &mut State, from: &State, watch: &W)
     take_guards(&mut to.guards, &from.guards);
     to.pending = from.pending;
     to.gates = from.gates;
-    to.output.clear();
-    if !from.output.is_empty() {
-        let _ = to.output.extend_from_slice(&from.output);
+    take_list(&mut to.output, &from.output);
+}
+
+// Becomes the same as another list, for which there is room.
+#[inline(always)]
+fn take_list<T: Copy>(to: &mut Vec<T>, from: &[T])
+    requires { length from.now ≤ vec_capacity to.old }
+    ensures items { to.new.items ≡ from.now }
+    ensures room { vec_capacity to.old ≤ vec_capacity to.new }
+{
+    to.clear();
+    if !from.is_empty() {
+        let _ = to.extend_from_slice(from);
     }
+}
+
+/// A list once more, with room for this many.
+pub fn copy_of_list<T: Copy>(alloc: Global, from: &[T], room: usize) -> Result<Vec<T>, AllocError>
+    ensures same { IfOk result (λ list. list.items ≡ from.now) }
+    ensures len { IfOk result (λ list. vec_len list ≡ length from.now) }
+    ensures room { IfOk result (λ list. room ≤ vec_capacity list) }
+{
+    let mut list = Vec::with_capacity(alloc, room)?;
+    list.extend_from_slice(from)?;
+    Ok(list)
+}
+
+// What the components have: cells, bindings and phases.
+fn copies_of_cells(
+    alloc: Global,
+    from: &State,
+) -> Result<(Vec<i16>, Vec<usize>, Vec<Phase>), AllocError>
+    ensures permanents { IfOk result (λ t. t.0.items ≡ from.now.permanents.items) }
+    ensures bindings { IfOk result (λ t. t.1.items ≡ from.now.bindings.items) }
+    ensures phases { IfOk result (λ t. t.2.items ≡ from.now.phases.items) }
+{
+    let permanents = copy_of_list(alloc, &from.permanents, from.permanents.len())?;
+    let bindings = copy_of_list(alloc, &from.bindings, from.bindings.len())?;
+    let phases = copy_of_list(alloc, &from.phases, from.phases.len())?;
+    Ok((permanents, bindings, phases))
+}
+
+// The processes, and the monitors that they go into.
+fn copies_of_parties(alloc: Global, from: &State) -> Result<(Vec<Process>, Vec<Guard>), AllocError>
+    ensures threads { IfOk result (λ t. map thread_of t.0.items ≡ map thread_of from.now.processes.items) }
+    ensures stacks { IfOk result (λ t. (depth : ℕ) → HaveStacks depth from.now.processes.items → HaveStacks depth t.0.items) }
+    ensures cells { IfOk result (λ t. (cells : ℕ) → HaveCells cells from.now.processes.items → HaveCells cells t.0.items) }
+    ensures references { IfOk result (λ t. (references : ℕ) → HaveReferences references from.now.processes.items → HaveReferences references t.0.items) }
+    ensures monitors { IfOk result (λ t. map monitor_of t.1.items ≡ map monitor_of from.now.guards.items) }
+{
+    let processes = copies_of_processes(alloc, &from.processes)?;
+    let guards = copies_of_guards(alloc, &from.guards)?;
+    Ok((processes, guards))
+}
+
+// What was displayed, and room for evaluated arguments.
+fn copies_of_lists(alloc: Global, from: &State) -> Result<(Vec<Shown>, Vec<Bound>), AllocError>
+    ensures output { IfOk result (λ t. t.0.items ≡ from.now.output.items) }
+    ensures len { IfOk result (λ t. vec_len t.0 ≡ vec_len from.now.output) }
+    ensures room { IfOk result (λ t. vec_capacity from.now.output ≤ vec_capacity t.0) }
+    ensures bounds { IfOk result (λ t. vec_capacity from.now.bounds ≤ vec_capacity t.1) }
+{
+    let output = copy_of_list(alloc, &from.output, from.output.capacity())?;
+    let bounds = Vec::with_capacity(alloc, from.bounds.capacity())?;
+    Ok((output, bounds))
 }
 
 fn copies_of_processes(alloc: Global, from: &[Process]) -> Result<Vec<Process>, AllocError>
@@ -105,18 +162,25 @@ fn copy_of_process(alloc: Global, from: &Process) -> Result<Process, AllocError>
     ensures cells { IfOk result (λ p. vec_capacity from.now.room.cells ≤ vec_capacity p.room.cells) }
     ensures references { IfOk result (λ p. vec_capacity from.now.room.references ≤ vec_capacity p.room.references) }
 {
-    let mut stack = Vec::with_capacity(alloc, from.stack.capacity())?;
-    stack.extend_from_slice(&from.stack)?;
-    let mut cells = Vec::with_capacity(alloc, from.room.cells.capacity())?;
-    cells.extend_from_slice(&from.room.cells)?;
-    let mut references = Vec::with_capacity(alloc, from.room.references.capacity())?;
-    references.extend_from_slice(&from.room.references)?;
+    let stack = copy_of_list(alloc, &from.stack, from.stack.capacity())?;
+    let room = copy_of_room(alloc, &from.room)?;
     Ok(Process {
         status: from.status,
         frame: from.frame,
         stack,
-        room: Room { cells, references },
+        room,
     })
+}
+
+fn copy_of_room(alloc: Global, from: &Room) -> Result<Room, AllocError>
+    ensures cells { IfOk result (λ room. room.cells.items ≡ from.now.cells.items) }
+    ensures references { IfOk result (λ room. room.references.items ≡ from.now.references.items) }
+    ensures room { IfOk result (λ room. vec_capacity from.now.cells ≤ vec_capacity room.cells) }
+    ensures more { IfOk result (λ room. vec_capacity from.now.references ≤ vec_capacity room.references) }
+{
+    let cells = copy_of_list(alloc, &from.cells, from.cells.capacity())?;
+    let references = copy_of_list(alloc, &from.references, from.references.capacity())?;
+    Ok(Room { cells, references })
 }
 
 fn copies_of_guards(alloc: Global, from: &[Guard]) -> Result<Vec<Guard>, AllocError>
@@ -173,10 +237,7 @@ fn take_process(to: &mut Process, from: &Process)
 {
     to.status = from.status;
     to.frame = from.frame;
-    to.stack.clear();
-    if !from.stack.is_empty() {
-        let _ = to.stack.extend_from_slice(&from.stack);
-    }
+    take_list(&mut to.stack, &from.stack);
     take_room(&mut to.room, &from.room);
 }
 
@@ -188,14 +249,8 @@ fn take_room(to: &mut Room, from: &Room)
     ensures room { vec_capacity to.old.cells ≤ vec_capacity to.new.cells }
     ensures more { vec_capacity to.old.references ≤ vec_capacity to.new.references }
 {
-    to.cells.clear();
-    if !from.cells.is_empty() {
-        let _ = to.cells.extend_from_slice(&from.cells);
-    }
-    to.references.clear();
-    if !from.references.is_empty() {
-        let _ = to.references.extend_from_slice(&from.references);
-    }
+    take_list(&mut to.cells, &from.cells);
+    take_list(&mut to.references, &from.references);
 }
 
 fn take_guards(mine: &mut [Guard], theirs: &[Guard])

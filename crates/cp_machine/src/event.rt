@@ -3,7 +3,7 @@
 pub use cp_store::ErrorName;
 
 /// What a step was.
-#[derive(Clone, Copy, Debug, PartialEq, Eq)]
+#[derive(Clone, Copy, PartialEq, Eq)]
 pub enum Event {
     Local,
     Kernel(Kernel),
@@ -15,7 +15,7 @@ pub enum Event {
 }
 
 /// A kernel call.
-#[derive(Clone, Copy, Debug, PartialEq, Eq)]
+#[derive(Clone, Copy, PartialEq, Eq)]
 pub enum Kernel {
     Enter,
     Leave,
@@ -26,7 +26,7 @@ pub enum Kernel {
 }
 
 /// A run error, with the number of the process and the line of its item.
-#[derive(Clone, Copy, Debug, PartialEq, Eq)]
+#[derive(Clone, Copy, PartialEq, Eq)]
 pub struct RunError {
     pub name: ErrorName,
     pub process: u8,

@@ -1,7 +1,7 @@
 //! How a monitor's line is let in.
 
 /// Who goes in where several processes wait at a gate.
-#[derive(Clone, Copy, Debug, PartialEq, Eq)]
+#[derive(Clone, Copy, PartialEq, Eq)]
 pub enum Gates {
     /// The first of the line.
     First,

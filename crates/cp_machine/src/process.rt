@@ -2,7 +2,7 @@
 
 use cp_store::{Frame, Room};
 
-#[derive(Clone, Copy, Debug, PartialEq, Eq)]
+#[derive(Clone, Copy, PartialEq, Eq)]
 pub enum Status {
     Unstarted,
     Ready,

@@ -1,7 +1,7 @@
 //! Displayed values.
 
 /// A displayed value.
-#[derive(Clone, Copy, Debug, PartialEq, Eq)]
+#[derive(Clone, Copy, PartialEq, Eq)]
 pub enum Shown {
     Integer(i16),
     /// A character's code.

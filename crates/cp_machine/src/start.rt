@@ -1,19 +1,24 @@
 //! The opening state.
 
-ghost use Rattle.std.specs.Prelude.{◌≡◌, ◌<◌, ◌≤◌, length, IfOk, map, replicate, vec_capacity};
+ghost use Rattle.std.specs.Prelude.{◌≡◌, ◌<◌, ◌≤◌, [], length, IfOk, map, replicate, vec_capacity, vec_len};
 ghost use Rattle.cp_slots.specs.Fits.{IsSound};
 ghost use Rattle.cp_slots.specs.Tables.{process_at};
 ghost use Rattle.cp_machine.specs.Fits.{HaveCells, HaveReferences, HaveStacks, IsReserved, IsStateOf};
 ghost use Rattle.cp_machine.specs.Machine.{machine_of, monitor_of, no_monitor, thread_of};
+ghost use Rattle.cp_machine.specs.Memory.{no_bindings};
 ghost use Rattle.cp_machine.specs.Opening.{opening, still, unstarted_thread};
+ghost use Rattle.cp_machine.specs.Stack.{rest_of, top_first};
+ghost use Rattle.cp_machine.specs.declared.state.Phase.TheVariants.{Uninitialised};
 
+use crate::copy::copy_of_list;
 use crate::gates::Gates;
 use crate::memory::set_status;
 use crate::process::{Entry, Process, Status};
+use crate::shown::Shown;
 use crate::state::{Guard, LIMIT, Phase, State};
 use arrayvec::ArrayVec;
 use cp_slots::Resolved;
-use cp_store::{Frame, Room, open_frame};
+use cp_store::{Bound, Frame, Room, open_frame};
 use std::alloc::{AllocError, Global};
 
 impl State {
@@ -34,20 +39,64 @@ fn still_state(alloc: Global, program: &Resolved, gates: Gates) -> Result<State,
     ensures reserved { IfOk result (λ s. IsReserved program.now s) }
     ensures sound { IfOk result (λ s. IsSound program.now) }
 {
-    let processes = start_processes(alloc, program)?;
-    let mut permanents = Vec::with_capacity(alloc, program.permanents().len())?;
-    permanents.extend_from_slice(program.permanents())?;
+    let (permanents, bindings, phases) = still_cells(alloc, program)?;
+    let (processes, guards) = still_parties(alloc, program)?;
+    let (output, bounds) = empty_lists(alloc, program)?;
     Ok(State {
-        bindings: vec![in alloc; 0usize; permanents.len()]?,
         permanents,
-        phases: vec![in alloc; Phase::Uninitialised; program.components()]?,
+        bindings,
+        phases,
         processes,
-        guards: free_guards(alloc, program.monitors() as usize)?,
+        guards,
         pending: None,
         gates,
-        output: Vec::with_capacity(alloc, LIMIT)?,
-        bounds: Vec::with_capacity(alloc, program.arguments())?,
+        output,
+        bounds,
     })
+}
+
+// What the components have: cells, bindings and phases.
+fn still_cells(
+    alloc: Global,
+    program: &Resolved,
+) -> Result<(Vec<i16>, Vec<usize>, Vec<Phase>), AllocError>
+    ensures permanents { IfOk result (λ t. t.0.items ≡ program.now.permanents) }
+    ensures bindings { IfOk result (λ t. t.1.items ≡ no_bindings (length program.now.permanents)) }
+    ensures phases { IfOk result (λ t. t.2.items ≡ replicate (length program.now.components) Uninitialised) }
+{
+    let permanents = copy_of_list(alloc, program.permanents(), program.permanents().len())?;
+    let bindings = vec![in alloc; 0usize; program.permanents().len()]?;
+    let phases = vec![in alloc; Phase::Uninitialised; program.components()]?;
+    Ok((permanents, bindings, phases))
+}
+
+// The processes, and the monitors that they go into.
+fn still_parties(
+    alloc: Global,
+    program: &Resolved,
+) -> Result<(Vec<Process>, Vec<Guard>), AllocError>
+    ensures threads { IfOk result (λ t. map thread_of t.0.items ≡ map (unstarted_thread program.now) program.now.processes) }
+    ensures stacks { IfOk result (λ t. HaveStacks program.now.depth t.0.items) }
+    ensures cells { IfOk result (λ t. HaveCells program.now.cells t.0.items) }
+    ensures references { IfOk result (λ t. HaveReferences program.now.references t.0.items) }
+    ensures monitors { IfOk result (λ t. map monitor_of t.1.items ≡ replicate program.now.monitors no_monitor) }
+    ensures sound { IfOk result (λ t. IsSound program.now) }
+{
+    let processes = start_processes(alloc, program)?;
+    let guards = free_guards(alloc, program.monitors() as usize)?;
+    Ok((processes, guards))
+}
+
+// Room for what is displayed, and for evaluated arguments.
+fn empty_lists(alloc: Global, program: &Resolved) -> Result<(Vec<Shown>, Vec<Bound>), AllocError>
+    ensures output { IfOk result (λ t. t.0.items ≡ []) }
+    ensures len { IfOk result (λ t. vec_len t.0 ≡ 0) }
+    ensures room { IfOk result (λ t. LIMIT ≤ vec_capacity t.0) }
+    ensures bounds { IfOk result (λ t. program.now.arguments ≤ vec_capacity t.1) }
+{
+    let output = Vec::with_capacity(alloc, LIMIT)?;
+    let bounds = Vec::with_capacity(alloc, program.arguments())?;
+    Ok((output, bounds))
 }
 
 fn free_guards(alloc: Global, count: usize) -> Result<Vec<Guard>, AllocError>
@@ -87,14 +136,8 @@ fn start_process(alloc: Global, program: &Resolved, number: u8) -> Result<Proces
 {
     let process = program.process(number);
     let routine = program.routine(process.routine);
-    let mut stack = Vec::with_capacity(alloc, program.depth())?;
-    if let Some(at) = routine.body {
-        stack.push(Entry::Rest(at))?;
-    }
-    let mut room = Room {
-        cells: Vec::with_capacity(alloc, program.cells())?,
-        references: Vec::with_capacity(alloc, program.references())?,
-    };
+    let stack = start_stack(alloc, program, routine.body)?;
+    let mut room = empty_room(alloc, program)?;
     open_frame(&mut room, &routine.image, routine.references);
     Ok(Process {
         status: Status::Unstarted,
@@ -108,4 +151,33 @@ fn start_process(alloc: Global, program: &Resolved, number: u8) -> Result<Proces
         stack,
         room,
     })
+}
+
+// The control stack of a process that has a body to execute, or none.
+fn start_stack(
+    alloc: Global,
+    program: &Resolved,
+    body: Option<usize>,
+) -> Result<Vec<Entry>, AllocError>
+    ensures stack { IfOk result (λ stack. top_first stack ≡ rest_of body []) }
+    ensures room { IfOk result (λ stack. program.now.depth ≤ vec_capacity stack) }
+{
+    let mut stack = Vec::with_capacity(alloc, program.depth())?;
+    if let Some(at) = body {
+        stack.push(Entry::Rest(at))?;
+    }
+    Ok(stack)
+}
+
+// Room for the frames of a process.
+fn empty_room(alloc: Global, program: &Resolved) -> Result<Room, AllocError>
+    ensures no_cells { IfOk result (λ room. room.cells.items ≡ []) }
+    ensures no_references { IfOk result (λ room. room.references.items ≡ []) }
+    ensures len { IfOk result (λ room. (vec_len room.cells ≡ 0) × (vec_len room.references ≡ 0)) }
+    ensures cells { IfOk result (λ room. program.now.cells ≤ vec_capacity room.cells) }
+    ensures references { IfOk result (λ room. program.now.references ≤ vec_capacity room.references) }
+{
+    let cells = Vec::with_capacity(alloc, program.cells())?;
+    let references = Vec::with_capacity(alloc, program.references())?;
+    Ok(Room { cells, references })
 }

@@ -21,7 +21,7 @@ pub struct Guard {
 }
 
 /// How far a class or monitor is initialised.
-#[derive(Clone, Copy, Debug, PartialEq, Eq)]
+#[derive(Clone, Copy, PartialEq, Eq)]
 pub enum Phase {
     Uninitialised,
     Initialising,
@@ -29,7 +29,7 @@ pub enum Phase {
 }
 
 /// Which processes are ready: none, one alone, or several.
-#[derive(Clone, Copy, Debug, PartialEq, Eq)]
+#[derive(Clone, Copy)]
 pub enum Readiness {
     Nobody,
     One(u8),

@@ -9,7 +9,7 @@ use Rattle.cp_meaning.specs.Places.{content_of}
 use Rattle.cp_meaning.specs.Move.{Move, stays, enters, leaves, delays, continues, starts, shows, ends, Doing}
 use Rattle.cp_meaning.specs.LocalRules.{takes}
 use Rattle.cp_meaning.specs.Kernel.{line_of}
-use Rattle.cp_meaning.specs.Steps.{first_components, opening, settled, step_of, without, admitted_to, admitted, IsReached, at_first, by_step, by_admission}
+use Rattle.cp_meaning.specs.Steps.{first_components, opening, settled, step_of, without, admitted_to, admitted, IsReached, at_first, by_step, by_admission, by_forgetting}
 use Rattle.cp_meaning.specs.Ownership.{owner_of, IsStarted, HoldsComponent, HoldsPlace, HoldsCalls, below_or_same, CallsDescend, IsLawfulProcess, IsLawful, is_parameter, IsParameterOf, ChangesHeld, OthersKept, VariablesKept}
 use Rattle.cp_meaning.specs.Systems.{system_of}
 use Rattle.cp_meaning.specs.Exclusive.{IsExclusive}
@@ -167,8 +167,11 @@ module _ (p : Program) (ok : IsWellFormed p) where
   reached g _ (by_admission s m q before is member) =
       let old = reached g s before in
       ((admitted_keeps s q s.pending).owned old.0, admitted_law s m q s.pending old.1 is is member)
+  reached g _ (by_forgetting s before) =
+      let old = reached g s before in
+      (record { tree = old.0.tree; classes = old.0.classes; earlier = old.0.earlier; processes = old.0.processes }, record { orderly = old.1.orderly; pending = old.1.pending })
 
-  lawful : (g : Gates) (s : State) → IsReached p g s → IsLawful s
+  pub lawful : (g : Gates) (s : State) → IsReached p g s → IsLawful s
   lawful g s before = let old = reached g s before in lawful_from base s old.0 old.1
 
   pub exclusive : (g : Gates) (s : State) → IsReached p g s → IsExclusive s

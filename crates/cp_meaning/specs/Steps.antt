@@ -135,8 +135,9 @@ admitted s q = admitted_to s.pending s q
 
 -- ---- reached states
 
--- the opening state, and what steps of ready processes and admissions lead to
+-- the opening state, what steps of ready processes and admissions lead to, and all of these without what was displayed
 pub data IsReached (p : Program) (g : Gates) : State → Type 0 where
   at_first : IsReached p g (opening p g)
   by_step : (s : State) (pid : ℕ) → IsReached p g s → s.pending ≡ None → pid < length s.processes → (process_at s.processes pid).status ≡ ready → IsReached p g (step_of p s pid).state
   by_admission : (s : State) (m q : ℕ) → IsReached p g s → s.pending ≡ Some m → is_member q (line_of s m) ≡ true → IsReached p g (admitted s q)
+  by_forgetting : (s : State) → IsReached p g s → IsReached p g (record s { output = [] })

@@ -19,8 +19,8 @@ use Rattle.cp_key.specs.Key.{key_of}
 use Rattle.cp_key.specs.Room.{IsMachineOf}
 use Rattle.cp_key.proofs.Keys.{key_tells}
 use Rattle.cp_key.proofs.Owned.{machine_own}
-use Rattle.cp_explore.specs.Groups.{Tally}
-use Rattle.cp_explore.specs.Report.{same_outcome}
+use Rattle.cp_walk.specs.Groups.{Tally}
+use Rattle.cp_walk.specs.Report.{same_outcome}
 use Rattle.cp_merged.specs.Layers.{Lead, Front, IsSound, merged_lead, with_lead, merged_tally, with_tally, arrived}
 use Rattle.cp_merged.specs.Code.{keyed, end_of}
 use Rattle.cp_merged.specs.Holds.{same_key, frozen, AreLeads, AreEnds, Holds, words_of, counts, total}

@@ -3,7 +3,7 @@ use Rattle.std.specs.Prelude.{◌≡◌, ◌+◌, ℕ, List, [], ◌∷◌, true
 use Rattle.cp_run.specs.declared.outcome.Outcome.{Outcome}
 use Rattle.cp_run.specs.System.{System}
 use Rattle.cp_run.specs.Table.{Line, table}
-use Rattle.cp_explore.specs.Groups.{Tally}
+use Rattle.cp_walk.specs.Groups.{Tally}
 use Rattle.cp_merged.specs.Tallies.{Sameness}
 use Rattle.std.specs.List.{AllByRecursion as Each}
 use Rattle.cp_merged.specs.Layers.{up_to, lesser}

@@ -6,7 +6,7 @@ use Rattle.std.proofs.Math.Seq.{get_or-append_seam}
 use Rattle.std.proofs.lemmas.List.{length-append}
 use Rattle.cp_run.specs.System.{System}
 use Rattle.cp_run.specs.Run.{may, chosen, those_below}
-use Rattle.cp_explore.proofs.Branches.{append_none}
+use Rattle.cp_walk.proofs.Branches.{append_none}
 use Rattle.cp_merged.specs.Tallies.{Sameness}
 use Rattle.cp_merged.specs.Layers.{Lead, Front, arrived, after_choice, after_choices}
 use Rattle.cp_merged.specs.Holds.{total}

@@ -6,8 +6,8 @@ use Rattle.cp_run.specs.declared.outcome.OutcomeKind.TheVariants.{Finished, AllW
 use Rattle.cp_run.specs.System.{System}
 use Rattle.cp_run.specs.Run.{joined_below, Node, Halted, Choosing, may, chosen, opened}
 use Rattle.cp_run.specs.Table.{Line, table}
-use Rattle.cp_explore.specs.Walk.{behind, walk}
-use Rattle.cp_explore.proofs.Walks.{table_walk}
+use Rattle.cp_walk.specs.Walk.{behind, walk}
+use Rattle.cp_walk.proofs.Walks.{table_walk}
 use Rattle.std.specs.List.{AllByRecursion as Each}
 use Rattle.std.specs.Prelude.{All}
 use Rattle.std.proofs.lemmas.List.Elements.{All-from_recursion, recursion_from_All}

@@ -10,7 +10,7 @@ use Rattle.cp_machine.specs.declared.gates.Gates.{Gates}
 use Rattle.cp_run.specs.Slots.{slots, processes_of}
 use Rattle.cp_run.specs.Run.{Node, opened}
 use Rattle.cp_key.specs.Room.{IsMachineOf}
-use Rattle.cp_explore.specs.Report.{same_outcome}
+use Rattle.cp_walk.specs.Report.{same_outcome}
 use Rattle.cp_merged.specs.Layers.{Front, arrived, front_at, by_layers}
 use Rattle.cp_merged.specs.Code.{keyed, end_of}
 use Rattle.cp_merged.specs.Told.{rows_in}

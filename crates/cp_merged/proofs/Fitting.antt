@@ -7,7 +7,7 @@ use Rattle.cp_run.specs.declared.outcome.Outcome.{Outcome}
 use Rattle.cp_run.specs.System.{System}
 use Rattle.cp_run.specs.Run.{Choosing}
 use Rattle.cp_run.specs.Table.{Line, table}
-use Rattle.cp_explore.specs.Groups.{Tally}
+use Rattle.cp_walk.specs.Groups.{Tally}
 use Rattle.cp_merged.specs.Tallies.{Sameness, IsExact}
 use Rattle.cp_merged.specs.Layers.{Lead, IsSound, front_at, by_layers}
 use Rattle.cp_merged.specs.TooMany.{IsInLayer, IsEndWithin, HasTooManyStates, HasTooManyOutcomes}

@@ -7,7 +7,7 @@ use Rattle.cp_run.specs.declared.outcome.Outcome.{Outcome}
 use Rattle.cp_run.specs.declared.outcome.OutcomeKind.{OutcomeKind}
 use Rattle.cp_run.specs.System.{System}
 use Rattle.cp_run.specs.Run.{Node, Halted, Choosing, may, chosen, opened}
-use Rattle.cp_explore.specs.Groups.{Tally}
+use Rattle.cp_walk.specs.Groups.{Tally}
 use Rattle.cp_merged.specs.Tallies.{Sameness, IsExact}
 use Rattle.cp_merged.specs.Layers.{up_to, Lead, IsSound, merged_lead, with_lead, merged_tally, with_tally, Front, arrived, after_choice, after_choices, after_layer, front_at}
 use Rattle.cp_merged.specs.TooMany.{node_after}

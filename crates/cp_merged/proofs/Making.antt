@@ -12,8 +12,8 @@ use Rattle.cp_machine.specs.declared.gates.Gates.{Gates}
 use Rattle.cp_run.specs.Slots.{slots, processes_of}
 use Rattle.cp_key.specs.Key.{key_of}
 use Rattle.cp_key.specs.Room.{IsMachineOf}
-use Rattle.cp_explore.specs.Groups.{Tally}
-use Rattle.cp_explore.specs.Report.{same_outcome}
+use Rattle.cp_walk.specs.Groups.{Tally}
+use Rattle.cp_walk.specs.Report.{same_outcome}
 use Rattle.cp_merged.specs.Layers.{Lead, Front, after_choices, after_layer, at_limit, with_tally, front_at, by_layers}
 use Rattle.cp_merged.specs.Code.{keyed}
 use Rattle.cp_merged.specs.Holds.{same_key, frozen, AreLeads, AreEnds, Holds, words_of, counts, total}

@@ -7,8 +7,8 @@ use Rattle.cp_run.specs.declared.outcome.OutcomeKind.TheVariants.{ChoiceLimit}
 use Rattle.cp_run.specs.System.{System}
 use Rattle.cp_run.specs.Run.{joined_below, Node, Halted, Choosing, may, chosen, opened}
 use Rattle.cp_run.specs.Table.{Line, table}
-use Rattle.cp_explore.specs.Walk.{behind, walk}
-use Rattle.cp_explore.proofs.Walks.{table_walk}
+use Rattle.cp_walk.specs.Walk.{behind, walk}
+use Rattle.cp_walk.proofs.Walks.{table_walk}
 use Rattle.cp_merged.specs.TooMany.{node_after, IsEndWithin}
 use Rattle.cp_merged.proofs.Anywhere.{Has, has_left, has_right, has_either, has_map, from_map, has_from_contains, contains_from_has}
 

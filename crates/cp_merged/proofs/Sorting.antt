@@ -18,8 +18,8 @@ use Rattle.std.proofs.lemmas.Map.Keys.{IsDistinct-IsPermutation}
 use Rattle.cp_run.specs.System.{System}
 use Rattle.cp_run.specs.Table.{table}
 use Rattle.cp_run.specs.declared.outcome.Outcome.{Outcome}
-use Rattle.cp_explore.specs.Groups.{Tally}
-use Rattle.cp_explore.specs.Report.{same_outcome}
+use Rattle.cp_walk.specs.Groups.{Tally}
+use Rattle.cp_walk.specs.Report.{same_outcome}
 use Rattle.cp_merged.specs.Tallies.{IsSameness, tally}
 use Rattle.cp_merged.specs.Layers.{up_to, IsSound, by_layers}
 use Rattle.cp_merged.specs.Code.{tally_of, by_word}

@@ -8,11 +8,11 @@ use Rattle.indexmap.specs.IndexMap.{insert_entry}
 use lib.Pointwise.{pointwise}
 use Rattle.cp_natural.specs.Decimal.{number_text}
 use Rattle.cp_run.specs.Table.{Line, each}
-use Rattle.cp_explore.specs.Report.{outcome_numbers, same_outcome, outcomes_of, group_text, groups_text, report_text}
-use Rattle.cp_explore.specs.Groups as groups
-use Rattle.cp_explore.specs.Groups.{Tally, tally_text}
-use Rattle.cp_explore.specs.Text.{Spellings}
-use Rattle.cp_explore.proofs.Grouping.{tallies_more}
+use Rattle.cp_walk.specs.Report.{outcome_numbers, same_outcome, outcomes_of, group_text, groups_text, report_text}
+use Rattle.cp_walk.specs.Groups as groups
+use Rattle.cp_walk.specs.Groups.{Tally, tally_text}
+use Rattle.cp_walk.specs.Text.{Spellings}
+use Rattle.cp_walk.proofs.Grouping.{tallies_more}
 use Rattle.cp_merged.specs.Tallies.{one, more, noted, tally_onto, tally}
 use Rattle.cp_merged.specs.Code.{tally_of}
 use Rattle.cp_merged.specs.declared.tally.Tally as code

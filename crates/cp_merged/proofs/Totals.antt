@@ -3,7 +3,7 @@ use Rattle.std.proofs.Common.{◌≡◌, ◌+◌, ◌*◌, ◌≤◌, ◌^◌, �
 use Rattle.cp_run.specs.System.{System}
 use Rattle.cp_run.specs.declared.outcome.OutcomeKind.TheVariants.{ChoiceLimit}
 use Rattle.cp_run.specs.Run.{Node, Halted, Choosing, may, chosen, opened}
-use Rattle.cp_explore.specs.Groups.{Tally}
+use Rattle.cp_walk.specs.Groups.{Tally}
 use Rattle.cp_merged.specs.Tallies.{Sameness}
 use Rattle.cp_merged.specs.Layers.{Lead, merged_lead, with_lead, merged_tally, with_tally, Front, arrived, after_choices, after_layer, at_limit, front_at, by_layers}
 use Rattle.cp_merged.specs.Holds.{words_of, counts, total}

@@ -5,7 +5,7 @@ use Rattle.cp_slots.specs.Tables.{Tables}
 use Rattle.cp_machine.specs.System.{Machine}
 use Rattle.cp_key.specs.Key.{key_of}
 use Rattle.cp_key.specs.Room.{IsMachineOf}
-use Rattle.cp_explore.specs.Groups.{Tally}
+use Rattle.cp_walk.specs.Groups.{Tally}
 use Rattle.cp_merged.specs.Layers.{Lead, Front}
 use Rattle.cp_merged.specs.Code.{keyed, end_of}
 use Rattle.cp_merged.specs.declared.end_key.EndKey.{EndKey}

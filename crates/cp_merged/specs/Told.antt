@@ -2,8 +2,8 @@
 use Rattle.std.specs.Prelude.{ℕ, List, ◌++◌, length, sum_by, codes}
 use Rattle.cp_natural.specs.Decimal.{number_text}
 use Rattle.cp_run.specs.Table.{each}
-use Rattle.cp_explore.specs.Groups.{Tally, tally_text}
-use Rattle.cp_explore.specs.Text.{Spellings}
+use Rattle.cp_walk.specs.Groups.{Tally, tally_text}
+use Rattle.cp_walk.specs.Text.{Spellings}
 
 -- how many rows the tallies are of
 abbrev pub rows_in : List Tally → ℕ

@@ -5,10 +5,10 @@ ghost use Rattle.std.specs.Hash as fed;
 ghost use Rattle.std.specs.Cmp.Lexicographic.{bytes_decides, nat_list_eq_equiv};
 ghost use Rattle.std.specs.Cmp.{on_equiv, on_per, partial_equiv_from_equiv};
 ghost use Rattle.std.proofs.Common.{ap};
-ghost use Rattle.cp_explore.specs.Hashing.{hashed};
-ghost use Rattle.cp_explore.specs.Report.{outcome_numbers, same_outcome};
+ghost use Rattle.cp_walk.specs.Hashing.{hashed};
+ghost use Rattle.cp_walk.specs.Report.{outcome_numbers, same_outcome};
 
-use cp_explore::numbers::{feed_kind, feed_output, is_same};
+use cp_walk::numbers::{feed_kind, feed_output, is_same};
 use cp_run::Outcome;
 use std::hash::{Hash, Hasher};
 

@@ -4,7 +4,7 @@ ghost use Rattle.std.specs.Prelude.{◌≡◌, ◌+◌, ◌^◌, ◌<◌, ◌≤
 ghost use Rattle.cp_machine.specs.System.{IsStateOf};
 ghost use Rattle.cp_run.specs.Slots.{slots};
 ghost use Rattle.cp_run.specs.Table.{table};
-ghost use Rattle.cp_explore.specs.Report.{same_outcome};
+ghost use Rattle.cp_walk.specs.Report.{same_outcome};
 ghost use Rattle.cp_merged.specs.Code.{end_of, tally_of};
 ghost use Rattle.cp_merged.specs.Holds.{same_key, AreEnds};
 ghost use Rattle.cp_merged.specs.Layers.{by_layers};
@@ -20,7 +20,7 @@ use crate::lead::Lead;
 use crate::ordered::sorted;
 use crate::tallies::Tallies;
 use crate::word::Word;
-use cp_explore::Job;
+use cp_walk::Job;
 use cp_key::Parts;
 use cp_machine::{Moved, State, Ticks};
 use cp_natural::Natural;

@@ -10,8 +10,8 @@ ghost use Rattle.cp_machine.specs.System.{Machine, machine_of, output_of, IsStat
 ghost use Rattle.cp_machine.specs.declared.gates.Gates.{Gates};
 ghost use Rattle.cp_run.specs.Slots.{slots};
 ghost use Rattle.cp_run.specs.Code.{node_of};
-ghost use Rattle.cp_explore.specs.Groups.{Tally};
-ghost use Rattle.cp_explore.specs.Report.{same_outcome};
+ghost use Rattle.cp_walk.specs.Groups.{Tally};
+ghost use Rattle.cp_walk.specs.Report.{same_outcome};
 ghost use Rattle.cp_merged.specs.Layers as layers;
 ghost use Rattle.cp_merged.specs.Layers.{with_lead, with_tally, arrived};
 ghost use Rattle.cp_merged.specs.Code.{keyed, end_of};

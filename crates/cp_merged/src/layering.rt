@@ -6,7 +6,7 @@ ghost use Rattle.cp_machine.specs.Bodies.{has_moved, KeepBodies};
 ghost use Rattle.cp_machine.specs.System.{Machine, machine_of, IsStateOf};
 ghost use Rattle.cp_run.specs.Run.{may};
 ghost use Rattle.cp_run.specs.Slots.{slots, processes_of};
-ghost use Rattle.cp_explore.specs.Report.{same_outcome};
+ghost use Rattle.cp_walk.specs.Report.{same_outcome};
 ghost use Rattle.cp_merged.specs.Layers as layers;
 ghost use Rattle.cp_merged.specs.Layers.{front_at, by_layers};
 ghost use Rattle.cp_merged.specs.Holds.{same_key, AreLeads, AreEnds, Holds, total, IsStates};

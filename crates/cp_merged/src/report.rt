@@ -2,16 +2,16 @@
 
 ghost use Rattle.std.specs.Prelude.{◌≡◌, ◌<◌, ◌++◌, ◌^◌, List, false, map, IfOk, string_bytes};
 ghost use Rattle.cp_run.specs.Table.{Line, each};
-ghost use Rattle.cp_explore.specs.Groups.{tally_text};
-ghost use Rattle.cp_explore.specs.Report.{report_text, same_outcome};
+ghost use Rattle.cp_walk.specs.Groups.{tally_text};
+ghost use Rattle.cp_walk.specs.Report.{report_text, same_outcome};
 ghost use Rattle.cp_merged.specs.Code.{tally_of};
 ghost use Rattle.cp_merged.specs.Tallies.{tally};
 ghost use Rattle.cp_merged.specs.Told.{rows_in, told_text};
 
 use crate::tallies::Tallies;
 use crate::tally::Tally;
-use cp_explore::text::{push_count, push_outcome, push_word};
-use cp_explore::{Report, Text};
+use cp_walk::text::{push_count, push_outcome, push_word};
+use cp_walk::{Report, Text};
 use cp_natural::{Natural, push_natural};
 use cp_slots::Resolved;
 use std::alloc::{AllocError, Global};

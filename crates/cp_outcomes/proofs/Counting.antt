@@ -6,10 +6,10 @@ use Rattle.std.proofs.lemmas.List.Sums.{sum_by-cons}
 use Rattle.indexmap.specs.IndexMap.{insert_entry}
 use Rattle.cp_run.specs.Table.{Line}
 use Rattle.cp_run.specs.declared.outcome.Outcome.{Outcome}
-use Rattle.cp_explore.specs.Groups.{Tally}
-use Rattle.cp_explore.specs.Report.{outcome_numbers, same_outcome}
-use Rattle.cp_explore.specs.Rows.{line_of}
-use Rattle.cp_explore.specs.declared.row.Row.{Row}
+use Rattle.cp_walk.specs.Groups.{Tally}
+use Rattle.cp_walk.specs.Report.{outcome_numbers, same_outcome}
+use Rattle.cp_walk.specs.Rows.{line_of}
+use Rattle.cp_walk.specs.declared.row.Row.{Row}
 use Rattle.cp_merged.specs.Code.{end_of}
 use Rattle.cp_merged.specs.Tallies.{one, more, noted, tally, tally_onto}
 use Rattle.cp_merged.specs.Told.{rows_in}

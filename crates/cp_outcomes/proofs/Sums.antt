@@ -2,7 +2,7 @@
 use Rattle.std.proofs.Common.{◌≡◌, ◌+◌, ◌≤◌, ℕ, Bool, true, false, if◌then◌else◌, List, [], ◌∷◌, map, refl, arith}
 use Rattle.std.specs.Prelude.{sum_by}
 use Rattle.std.proofs.lemmas.List.Sums.{sum_by-cons}
-use Rattle.cp_explore.specs.Groups.{Tally}
+use Rattle.cp_walk.specs.Groups.{Tally}
 use Rattle.cp_merged.specs.Code.{tally_of}
 use Rattle.cp_merged.specs.Told.{rows_in}
 use Rattle.cp_merged.specs.declared.tally.Tally as code

@@ -2,7 +2,7 @@
 use Rattle.std.specs.Prelude.{ℕ, ◌≡◌, ◌<◌, map, length}
 use Rattle.cp_run.specs.System.{System}
 use Rattle.cp_run.specs.Table.{table}
-use Rattle.cp_explore.specs.Report.{same_outcome}
+use Rattle.cp_walk.specs.Report.{same_outcome}
 use Rattle.cp_merged.specs.Code.{tally_of}
 use Rattle.cp_merged.specs.Tallies.{tally}
 use Rattle.cp_merged.specs.TooMany.{IsDueFault}

@@ -2,7 +2,7 @@
 use Rattle.std.specs.Prelude.{ℕ, List, Bool, true, false, sum_by, if◌then◌else◌}
 use Rattle.cp_run.specs.declared.outcome.OutcomeKind.{OutcomeKind}
 use Rattle.cp_run.specs.declared.outcome.OutcomeKind.TheVariants.{ChoiceLimit, StepLimit, OutputLimit}
-use Rattle.cp_explore.specs.Groups.{Tally}
+use Rattle.cp_walk.specs.Groups.{Tally}
 use Rattle.cp_outcomes.specs.declared.stopped.Limit.{Limit}
 use Rattle.cp_outcomes.specs.declared.stopped.Limit.TheVariants.{Choices, Steps, Output}
 

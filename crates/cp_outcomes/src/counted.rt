@@ -2,18 +2,18 @@
 
 ghost use Rattle.std.specs.Prelude.{◌≡◌, ◌+◌, ◌<◌, ◌^◌, length, map, IfOk, IfSome};
 ghost use Rattle.std.specs.Map.{lookup};
-ghost use Rattle.cp_explore.specs.Report.{same_outcome};
-ghost use Rattle.cp_explore.specs.Rows.{line_of};
+ghost use Rattle.cp_walk.specs.Report.{same_outcome};
+ghost use Rattle.cp_walk.specs.Rows.{line_of};
 ghost use Rattle.cp_merged.specs.Code.{end_of, tally_of};
 ghost use Rattle.cp_merged.specs.Tallies.{tally, noted, one};
 ghost use Rattle.cp_merged.specs.Told.{rows_in};
 
-use cp_explore::{Row, Table};
 use cp_merged::end_key::EndKey;
 use cp_merged::lead::Lead;
 use cp_merged::word::word_of;
 use cp_merged::{Tallies, Tally};
 use cp_natural::Natural;
+use cp_walk::{Row, Table};
 use indexmap::IndexMap;
 use std::alloc::{AllocError, Global};
 

@@ -3,12 +3,12 @@
 ghost use Rattle.std.specs.Prelude.{◌≡◌, ◌≤◌};
 
 use crate::tables::table_of;
-use cp_explore::{ExploreFault, Job};
 use cp_run::Limits;
+use cp_walk::{ExploreFault, Job};
 use std::alloc::{AllocError, Global};
 
 /// A number of choices whose table fits.
-#[derive(Clone, Copy, Debug)]
+#[derive(Clone, Copy)]
 pub struct Fit {
     pub choices: u8,
     /// The rows of the table.

@@ -10,7 +10,7 @@ use cp_natural::Natural;
 use cp_run::OutcomeKind;
 
 /// What stops a run before its end.
-#[derive(Clone, Copy, Debug, PartialEq, Eq)]
+#[derive(Clone, Copy, PartialEq, Eq)]
 pub enum Limit {
     /// The choices of a schedule.
     Choices,

@@ -6,7 +6,7 @@ use cp_run::Limits;
 use cp_slots::Resolved;
 
 /// How the outcomes are found.
-#[derive(Clone, Copy, Debug, PartialEq, Eq)]
+#[derive(Clone, Copy, PartialEq, Eq)]
 pub enum Way {
     /// By a table with a row for each schedule.
     Rows,
@@ -15,7 +15,7 @@ pub enum Way {
 }
 
 /// How the outcomes are written.
-#[derive(Clone, Copy, Debug, PartialEq, Eq)]
+#[derive(Clone, Copy, PartialEq, Eq)]
 pub enum Form {
     Text,
     Json,
@@ -41,7 +41,7 @@ pub struct Told {
 }
 
 /// What there is too much of.
-#[derive(Clone, Copy, Debug)]
+#[derive(Clone, Copy)]
 pub enum Excess {
     /// Rows, with the greatest table that fits.
     Rows(Option<Fit>),

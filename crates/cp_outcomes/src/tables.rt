@@ -3,10 +3,10 @@
 ghost use Rattle.std.specs.Prelude.{◌≡◌, ◌≤◌, ◌<◌, IfOk, IfErr, length, map};
 ghost use Rattle.cp_run.specs.Slots.{slots};
 ghost use Rattle.cp_run.specs.Table.{table};
-ghost use Rattle.cp_explore.specs.Rows.{line_of, IsTooMany};
+ghost use Rattle.cp_walk.specs.Rows.{line_of, IsTooMany};
 
-use cp_explore::{ExploreFault, Job, Table, explore_one};
 use cp_machine::Ticks;
+use cp_walk::{ExploreFault, Job, Table, walk_on_one_thread};
 use std::alloc::Global;
 use std::marker::Brand;
 use std::sync::ledger::{Blank, Ledger};
@@ -29,5 +29,5 @@ fn counted<L: Ledger>(alloc: Global, job: Job, blank: Blank) -> Result<Table, Ex
     ensures many { IfErr result (λ e. IsTooMany e → 50000 < length (table (slots job.entry.program.now job.entry.limits.gates) job.entry.limits.choices job.entry.limits.steps)) }
 {
     let mut calls: Ticks<L> = Ticks::new(blank);
-    explore_one(alloc, job, &mut calls)
+    walk_on_one_thread(alloc, job, &mut calls)
 }

@@ -8,12 +8,12 @@ use crate::fitting::Fit;
 use crate::share::share_of;
 use crate::stopped::{LIMITS, Limit, is_stopped, schedules_in, stopped_at};
 use crate::subject::{Excess, Subject, Way};
-use cp_explore::text::{push_outcome, push_word};
 use cp_machine::Ticks;
 use cp_merged::{Tallies, Tally};
 use cp_natural::{Natural, push_natural};
 use cp_run::{Limits, MOST_CHOICES, MOST_STEPS, OutcomeKind};
 use cp_story::{Wait, kind_words, tell, wait_words};
+use cp_walk::text::{push_outcome, push_word};
 use std::alloc::{AllocError, Global};
 use std::sync::ledger::Ledger;
 

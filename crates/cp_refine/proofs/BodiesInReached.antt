@@ -7,7 +7,7 @@ use Rattle.cp_meaning.specs.LocalRules.{takes}
 use Rattle.cp_meaning.specs.Move.{Move, stays, enters, leaves, delays, continues, starts, shows, ends, Doing}
 use Rattle.cp_meaning.specs.Outcome.{Outcome}
 use Rattle.cp_meaning.specs.State.{Environment, Component, component_at, Call, Item, end, Status, unstarted, ready, at_gate, delayed, ended, Process, process_at, Gates, first_gates, any_gates, Shown, State, has_entry}
-use Rattle.cp_meaning.specs.Steps.{first_components, processes_from, own_begun, opening, settled, step_of, view_of, admitted_to, IsReached, at_first, by_step, by_admission}
+use Rattle.cp_meaning.specs.Steps.{first_components, processes_from, own_begun, opening, settled, step_of, view_of, admitted_to, IsReached, at_first, by_step, by_admission, by_forgetting}
 use Rattle.cp_meaning.specs.Systems.{system_of}
 use Rattle.cp_meaning.specs.WellFormed.{IsWellFormed}
 use Rattle.cp_meaning.specs.Lifting.{items_of_all}
@@ -178,3 +178,4 @@ module _ (p : Program) (l : Layouts) (f : Traits) (known : RoutinesKnown p l f) 
     reached_in_bodies _ at_first = opening_stands g
     reached_in_bodies _ (by_step s pid before none less was) = step_stands s pid before less was (reached_in_bodies s before)
     reached_in_bodies _ (by_admission s m q before is member) = admitted_stands s q s.pending (reached_in_bodies s before)
+    reached_in_bodies _ (by_forgetting s before) = reached_in_bodies s before

@@ -9,7 +9,7 @@ use Rattle.cp_meaning.specs.Ownership.{owner_from, owner_of, HoldsComponent, Hol
 use Rattle.cp_meaning.specs.Places.{component_with, component_there}
 use Rattle.cp_meaning.specs.Readings.{first_inside}
 use Rattle.cp_meaning.specs.State.{uninitialised, initialising, initialised, unstarted, ready, Component, component_at, CallKind, entry_routine, initial_statement, own_statement, local_routine, Call, current, Item, init_end, process_at, Gates, State, Place, has_entry, is_inside}
-use Rattle.cp_meaning.specs.Steps.{first_components, IsReached, at_first, by_step, by_admission, view_of}
+use Rattle.cp_meaning.specs.Steps.{first_components, IsReached, at_first, by_step, by_admission, by_forgetting, view_of}
 use Rattle.cp_meaning.specs.Values.{is_member}
 use Rattle.cp_meaning.specs.WellFormed.{IsWellFormed}
 use Rattle.cp_lawful.specs.Accepted.{IsAccepted}
@@ -17,7 +17,7 @@ use Rattle.cp_lawful.proofs.Accepting.{well_formed}
 use Rattle.cp_meaning.proofs.Frames.{Frame, frames, entry_in, initial_in, system_at, Descends, ItemsFit, TopStarts}
 use Rattle.cp_meaning.proofs.Good.{IsMonitor}
 use Rattle.cp_meaning.proofs.LineLaw.{OrderlyState}
-use Rattle.cp_meaning.proofs.OwnershipLemmas.{reached, ownership}
+use Rattle.cp_meaning.proofs.OwnershipLemmas.{reached, lawful as lawful_when_reached, ownership}
 use Rattle.cp_refine.proofs.ReachedCalls.{IsOuterKind, lies_lower, one_entry, none_open, entered_or_initial}
 use Rattle.cp_refine.proofs.ReachedInside.{some_call, executes_alone, pending_free}
 use Rattle.cp_refine.proofs.ReachedLines.{WaitsAtGate, in_line_waits, first_waits_so}
@@ -65,6 +65,7 @@ pub reached_lawful : (p : Program) → IsWellFormed p → (g : Gates) (s : State
 reached_lawful p ok g _ at_first = (ownership p ok g).opening_lawful
 reached_lawful p ok g _ (by_step s q before none less was) = (ownership p ok g).steps_lawful s q before (reached_lawful p ok g s before) none less was
 reached_lawful p ok g _ (by_admission s n q before is member) = (ownership p ok g).admissions_lawful s n q before (reached_lawful p ok g s before) is member
+reached_lawful p ok g _ (by_forgetting s before) = lawful_when_reached p ok g _ (by_forgetting s before)
 
 module _ (p : Program) (ok : IsWellFormed p) (g : Gates) (s : State) (before : IsReached p g s) where
   abbrev cs : List Component

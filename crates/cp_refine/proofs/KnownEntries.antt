@@ -2,7 +2,7 @@
 use Rattle.std.proofs.Common.{◌≡◌, ◌∙◌, ◌⊎◌, inl, inr, length, Some, ap, sym}
 use Rattle.cp_tree.specs.Syntax.{invoke, Program, Tree}
 use Rattle.cp_tree.specs.Read.{IsRead}
-use Rattle.cp_slots.specs.Laid.{PlainTables, plain, laid}
+use Rattle.cp_layout.specs.Laid.{PlainTables, plain, laid}
 use Rattle.cp_slots.specs.Tables.{Tables}
 use Rattle.cp_lawful.specs.Accepted.{IsAccepted}
 use Rattle.cp_meaning.specs.Declarations.{RoutineMeaning}

@@ -37,8 +37,10 @@ pub mod DesignatedPlaces
 pub mod DesignatedTypes
 pub mod Displaying
 pub mod Ending
+pub mod Excluding
 pub mod Executed
 pub mod Expressions
+pub mod Followed
 pub mod Found
 pub mod FramesBelow
 pub mod FreeParts
@@ -63,6 +65,7 @@ pub mod LettingIn
 pub mod Lists
 pub mod LocalBlocks
 pub mod Loops
+pub mod MachineStopping
 pub mod Meaning
 pub mod Members
 pub mod MonitorNumbers
@@ -120,6 +123,7 @@ pub mod StepOfQueue
 pub mod StepOfStart
 pub mod StepOfStatement
 pub mod StepOfSuccessor
+pub mod Stopping
 pub mod Storing
 pub mod SystemKinds
 pub mod SystemsOfTree

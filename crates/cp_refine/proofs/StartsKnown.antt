@@ -6,7 +6,7 @@ use Rattle.std.specs.Prelude.{map, Ok, Vec}
 use Rattle.cp_tree.specs.Read.{IsRead}
 use Rattle.cp_tree.specs.Syntax.{Designator, designator, init, Program, Start, Statement, Tree}
 use Rattle.cp_slots.specs.Code as code
-use Rattle.cp_slots.specs.Laid.{plain, laid}
+use Rattle.cp_layout.specs.Laid.{plain, laid}
 use Rattle.cp_slots.specs.declared.item.Action.TheVariants as action
 use Rattle.cp_slots.specs.declared.place.Argument.{Argument}
 use Rattle.cp_slots.specs.declared.place.ComponentPlace.{ComponentPlace}

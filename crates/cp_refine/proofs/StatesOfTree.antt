@@ -1,7 +1,7 @@
 -- What is known of the states that a tree reaches which was read and breaks no rule.
 use Rattle.std.proofs.Common.{◌≡◌, ℕ, ◌<◌, true, length}
 use Rattle.cp_tree.specs.Syntax.{Tree}
-use Rattle.cp_slots.specs.Laid.{plain, laid}
+use Rattle.cp_layout.specs.Laid.{plain, laid}
 use Rattle.cp_slots.specs.Tables.{Tables}
 use Rattle.cp_tree.specs.Read.{IsRead}
 use Rattle.cp_lawful.specs.Accepted.{IsAccepted}

@@ -1,8 +1,9 @@
 -- The step of a call, of a function or as a statement: it goes on slots as on names.
-use Rattle.std.proofs.Common.{◌≡◌, ◌∙◌, ℕ, true, false, List, [], ◌∷◌, Option, Some, None, ap, sym, subst}
+use Rattle.std.proofs.Common.{◌≡◌, ◌∙◌, ℕ, ◌<◌, true, false, List, [], ◌∷◌, ◌++◌, Option, Some, None, ap, sym, refl, subst, arith, length}
 use Rattle.std.specs.Global.{Global}
 use Rattle.std.specs.Prelude.{Bool, Result, Ok, Err, Vec, map, slice_index}
 use Rattle.cp_tree.specs.Syntax.{Tree, Program, Expressions, no_expressions, more_expressions, Designator, invoke}
+use Rattle.cp_tree.specs.declared.declaration.SystemKind.TheVariants as system_kind
 use Rattle.cp_slots.specs.Code as code
 use Rattle.cp_slots.specs.declared.item.Action.TheVariants as action
 use Rattle.cp_slots.specs.declared.place.Argument.{Argument}
@@ -20,9 +21,11 @@ use Rattle.cp_machine.specs.Step.{step_at}
 use Rattle.cp_store.specs.declared.error.ErrorName as slots
 use Rattle.cp_meaning.specs.Names.{Name, temporary}
 use Rattle.cp_meaning.specs.Outcome.{Outcome, ErrorName}
-use Rattle.cp_meaning.specs.Places.{Target, component_there}
+use Rattle.cp_meaning.specs.Places.{View, Target, component_there}
 use Rattle.cp_meaning.specs.Declarations.{Parameter, RoutineMeaning}
-use Rattle.cp_meaning.specs.Expressions.{name_of, target_value}
+use Rattle.cp_meaning.specs.Expressions.{name_of, routine_called, target_value}
+use Rattle.cp_refine.specs.Followed.{AreArguments, HasEntries, IsCallable, IsCall}
+use Rattle.cp_meaning.specs.Lifting.{designator_calls, expressions_calls}
 use Rattle.cp_meaning.specs.Scopes.{Meaning, constant_meaning, type_meaning, local_variable, permanent_variable, routine_meaning, standard_meaning, find}
 use Rattle.cp_meaning.specs.State as named
 use Rattle.cp_meaning.specs.State.{Place, Item, statement_item, function_call, State, has_entry}
@@ -31,20 +34,23 @@ use Rattle.cp_meaning.specs.Systems.{system_of}
 use Rattle.cp_meaning.specs.Types as types
 use Rattle.cp_meaning.specs.Types.{Ty, ordinal, queue_type, set_over, array_over, record_with}
 use Rattle.cp_resolved.specs.Compiled.{a_component, designator_form}
-use Rattle.cp_resolved.specs.Layouts.{Layouts, Here, here}
-use Rattle.cp_resolved.specs.Stands.{Ground, CallItem, CalleeIs, result_cell}
+use Rattle.cp_resolved.specs.Layouts.{Layouts, Here, here, cell_named}
+use Rattle.cp_resolved.specs.Stands.{Ground, AreGiven, CallItem, CalleeIs, result_cell}
 use Rattle.cp_resolved.specs.Standing.{is_free}
 use Rattle.cp_refine.specs.Given.{ComponentAgrees}
 use Rattle.cp_refine.specs.ItemsKnown.{VariablesGiven, CallIsKnown}
 use Rattle.cp_refine.specs.Law.{ground_of}
 use Rattle.cp_refine.specs.Parameters.{HaveValues}
 use Rattle.cp_refine.specs.Prepared.{Prepared}
+use Rattle.cp_refine.specs.Remaining.{AreKept}
+use Rattle.cp_refine.proofs.CallArguments.{call_component}
 use Rattle.cp_refine.proofs.Arguments.{ArgumentsKnown, IsNoComponent}
 use Rattle.cp_refine.proofs.CallFitting.{can_call}
 use Rattle.cp_refine.proofs.CallRuns.{CallFits, function_runs, invoke_runs}
 use Rattle.cp_refine.proofs.CallSteps.{is_call, IsFound, EntryKnown, NoStandard, scope_name, call_item}
 use Rattle.cp_refine.proofs.ComponentsNow.{components_now}
-use Rattle.cp_refine.proofs.Control.{Taken, StepIs}
+use Rattle.cp_refine.proofs.Control.{Taken, StepIs, scope_is}
+use Rattle.cp_refine.proofs.Kept.{kept_left}
 use Rattle.cp_refine.proofs.DesignatedTypes.{range_known}
 use Rattle.cp_refine.proofs.Executed.{executes}
 use Rattle.cp_refine.proofs.Found.{action_fits_here, action_names, found_of}
@@ -54,7 +60,7 @@ use Rattle.cp_refine.proofs.HoldsInReached.{HoldsInReached}
 use Rattle.cp_refine.proofs.ReadyInReached.{ReadyInReached}
 use Rattle.cp_refine.proofs.Running.{Executes}
 use Rattle.cp_refine.proofs.StepOfStatement.{below_fits}
-use Rattle.cp_refine.proofs.SystemKinds.{process_type}
+use Rattle.cp_refine.proofs.SystemKinds.{kind_is, process_type}
 
 no_component : (u : Ty) → is_free u ≡ true → IsNoComponent u
 no_component (types.component_of k) h = absurd (cc)
@@ -69,6 +75,23 @@ arguments_known h [] es v k = tt
 arguments_known h (q ∷ qs) no_expressions v k = tt
 arguments_known h (q ∷ qs) (more_expressions e es) v k =
     (record { variable = k.0; range = λ plain. (range_known q.ty (free_standing q.ty v.0), no_component q.ty v.0) }, arguments_known h qs es v.1 k.1)
+
+-- no parameter of a routine is a component
+value_type : (u : Ty) (k : ℕ) → u ≡ types.component_of k → is_free u ≡ true → ⊥
+value_type u k e h = (let bad : is_free (types.component_of k) ≡ true = subst (λ (w : Ty). is_free w ≡ true) e h in cc)
+
+-- the arguments of a call are those that its parameters want
+arguments_follow : (v : View) (h : Here) (slots : Name → ℕ) (qs : List Parameter) (es : Expressions) (xs : List code.Argument) → AreGiven h slots qs es xs → HaveValues qs → VariablesGiven h qs es → AreArguments v qs es
+arguments_follow v h slots [] no_expressions [] given values named = tt
+arguments_follow v h slots (q ∷ qs) (more_expressions e es) (x ∷ xs) given values named =
+    (record { variable = λ is. (let w = named.0 is in (w.0, w.1)); component = λ k is. absurd (value_type q.ty k is values.0) }, arguments_follow v h slots qs es xs given.2 values.1 named.1)
+arguments_follow v h slots qs es xs given values named = absurd given
+
+-- what a name leads to, where a place of the tables leads to a component
+pub leads_to : (v : View) (o : Outcome Target) (b : Result ℕ slots.ErrorName) → ComponentAgrees v o b → (x : Target) → o ≡ Ok x → (n : ℕ) × (b ≡ Ok n) × (component_there v x.place ≡ n)
+leads_to v (Ok u) (Ok n) h x e = (n, refl, (let same : x ≡ u = cc in ap (λ (w : Target). component_there v w.place) same ∙ h))
+leads_to v (Ok u) (Err d) h x e = absurd h
+leads_to v (Err d) b h x e = absurd (cc)
 
 -- an entry is named by its component
 entry_named : (h : Here) (d : Designator) (w : Option Meaning) (part : code.ComponentPlace) (b : Bool) (number : ℕ) → CalleeIs h d w part b number → b ≡ true → designator_form h d ≡ Some (a_component part (h.layouts.owners number))
@@ -147,6 +170,44 @@ module _ (t : Tree) (r : Tables) (l : Layouts) (prepared : Prepared t r l) (s : 
           components = components_now t r l prepared s known m ready fits reach q going;
           entry = entry_known;
         }
+
+    -- ---- the call is one by the rules
+
+    module _ (kept : AreKept this (designator_calls this.scope d ++ expressions_calls this.scope args)) where
+      scope : (named.current (named.process_at s.processes q).calls).scope ≡ this.scope
+      scope = scope_is g p l s m q at i mid es xs ys k
+
+      entry_follows : ci.is_entry ≡ true → (x : Target) → target_value (view_of p s q) d ≡ Ok x → HasEntries (view_of p s q) (component_there (view_of p s q) x.place)
+      entry_follows is x e =
+          let agrees = call_component g p l s m q at token i mid es xs ys k ex d args o ci (kept_left this (designator_calls this.scope d) (expressions_calls this.scope args) kept) (components_now t r l prepared s known m ready fits reach q going) is act_is.0 act_is.3 in
+          let to = leads_to (view_of p s q) (target_value (view_of p s q) d) (component_of m q act_is.0) agrees x e in
+          let f : IsFound g p l s m q at token i mid es xs ys k d args o ci to.0 = (act_is.0, act_is.3, to.1) in
+          let there : to.0 < length s.components = (let a = (found to.0 f).0 in let b = going.rep.component_count in omega (arith, a, b)) in
+          subst (HasEntries (view_of p s q)) (sym to.2) (
+            there,
+            λ (h : (named.component_at s.components to.0).kind ≡ system_kind.Process). rules.entries ci.part (l.owners ci.number) (entry_named this d (find (name_of d) this.scope) ci.part ci.is_entry ci.number ci.called.callee is)
+                (ap (λ a. (system_of p a).kind) (sym (found_system to.0 f)) ∙ (sym (kind_is t r l prepared s known m ready to.0 (found to.0 f).0) ∙ h)),
+          )
+
+      callable : (w : Option Meaning) → CalleeIs this d w ci.part ci.is_entry ci.number → IsCallable (view_of p s q) w d
+      callable (Some (routine_meaning y)) c = tt
+      callable (Some (constant_meaning b z)) c = entry_follows c.1
+      callable (Some (type_meaning u)) c = entry_follows c.1
+      callable (Some (local_variable u)) c = entry_follows c.1
+      callable (Some (permanent_variable u)) c = entry_follows c.1
+      callable (Some (standard_meaning u)) c = entry_follows c.1
+      callable None c = entry_follows c.1
+
+      pub call_follows : IsCall (view_of p s q) d args
+      call_follows =
+          record {
+            routine = l.meanings ci.number;
+            called = ap (λ c. routine_called p c d) scope ∙ (ci.called.called ∙ ap (λ (w : RoutineMeaning). Some w) ci.called.same);
+            arguments = arguments_follow (view_of p s q) this (cell_named (l.frames ci.number)) (l.meanings ci.number).parameters args ci.arguments
+                (subst (λ (w : RoutineMeaning). AreGiven this (cell_named (l.frames ci.number)) w.parameters args ci.arguments) ci.called.same ci.called.given)
+                (prepared.program.routines ci.number room.routine).parameters (rules.variables ci.number (ci.called.called ∙ ap (λ (w : RoutineMeaning). Some w) ci.called.same));
+            callable = subst (λ (w : Option Meaning). IsCallable (view_of p s q) w d) (sym (ap (find (name_of d)) scope)) (callable (find (name_of d) this.scope) ci.called.callee);
+          }
 
   -- ---- the steps
 

@@ -1,6 +1,6 @@
 -- The steps of `delay` and `continue`: they go on slots as on names.
-use Rattle.std.proofs.Common.{◌≡◌, ◌∙◌, ℕ, ◌<◌, true, List, ◌∷◌, ◌++◌, Option, Some, None, ap, sym, refl, subst, length}
-use Rattle.std.specs.Prelude.{slice_index}
+use Rattle.std.proofs.Common.{◌≡◌, ◌∙◌, ℕ, ◌+◌, ◌<◌, true, List, [], ◌∷◌, ◌++◌, Option, Some, None, ap, sym, refl, subst, length, eq-eqb}
+use Rattle.std.specs.Prelude.{Result, Ok, Err, slice_index}
 use Rattle.cp_tree.specs.declared.declaration.SystemKind.{SystemKind}
 use Rattle.cp_tree.specs.declared.declaration.SystemKind.TheVariants as system_kind
 use Rattle.cp_tree.specs.Syntax.{Tree, Program, Expression, Expressions, more_expressions, Designator, invoke}
@@ -12,30 +12,41 @@ use Rattle.cp_machine.specs.Fits.{MachineFits}
 use Rattle.cp_machine.specs.Machine.{Machine, thread_at}
 use Rattle.cp_machine.specs.Reach.{Reaches}
 use Rattle.cp_machine.specs.Step.{step_at}
+use Rattle.cp_store.specs.declared.error.ErrorName as slots
+use Rattle.cp_store.specs.declared.memory.Address.{Address}
+use Rattle.cp_store.specs.declared.memory.Address.TheVariants.{Permanent}
 use Rattle.cp_meaning.specs.Names.{Name}
-use Rattle.cp_meaning.specs.Expressions.{name_of}
+use Rattle.cp_meaning.specs.Expressions.{name_of, target_value}
+use Rattle.cp_refine.specs.Followed.{IsQueueNamed, WaitsThere}
+use Rattle.cp_meaning.specs.Kernel.{is_delayed_in}
 use Rattle.cp_meaning.specs.Lifting.{expression_calls, expressions_calls, designator_calls}
-use Rattle.cp_meaning.specs.Places.{this_component}
-use Rattle.cp_meaning.specs.Scopes.{standard_meaning, delay_procedure, continue_procedure, find}
+use Rattle.cp_meaning.specs.Outcome.{Outcome}
+use Rattle.cp_meaning.specs.Places.{Target, this_component, value_at}
+use Rattle.cp_meaning.specs.Scopes.{Meaning, standard_meaning, delay_procedure, continue_procedure, find}
 use Rattle.cp_meaning.specs.State as named
-use Rattle.cp_meaning.specs.State.{delayed, entry_routine, Call, current, Item, statement_item, State, has_entry}
+use Rattle.cp_meaning.specs.State.{Place, in_component, delayed, entry_routine, Call, current, Item, statement_item, State, has_entry}
 use Rattle.cp_meaning.specs.Steps.{view_of, step_of}
 use Rattle.cp_meaning.specs.Systems.{system_of}
 use Rattle.cp_meaning.specs.Types.{Ty, queue_type}
+use Rattle.cp_meaning.specs.Values.{Value, number_value, array_value, record_value, set_value, queue_value, waiting_in}
 use Rattle.cp_resolved.specs.Layouts.{Layouts, Here, here}
 use Rattle.cp_resolved.specs.Compiled.{as_place, expression_form}
-use Rattle.cp_resolved.specs.Stands.{Ground, result_cell, ResultGoes}
+use Rattle.cp_resolved.specs.Stands.{Ground, InvokedBy, QueueItem, result_cell, ResultGoes}
 use Rattle.cp_slots.specs.Code as code
+use Rattle.cp_machine.specs.Memory.{memory_at}
+use Rattle.cp_refine.specs.Agrees.{TargetAgrees}
 use Rattle.cp_refine.specs.ItemsKnown.{QueueKnown}
 use Rattle.cp_refine.specs.Kinds.{SameKind}
 use Rattle.cp_refine.specs.Law.{ground_of}
+use Rattle.cp_refine.specs.PlainValues.{plain_address}
 use Rattle.cp_refine.specs.Prepared.{Prepared}
+use Rattle.cp_refine.specs.Represents.{PlaceAt, frames_of}
 use Rattle.cp_refine.proofs.ComponentsNow.{executed_there, executed_system, current_component}
 use Rattle.cp_refine.proofs.Continuing.{MayContinue}
 use Rattle.cp_refine.proofs.ContinueSteps.{Ends, own_continue, continue_step}
 use Rattle.cp_refine.proofs.Control.{Taken, StepIs, scope_is}
 use Rattle.cp_refine.proofs.Delayed.{MayDelay}
-use Rattle.cp_refine.proofs.Delaying.{QueueNamed, own_delay, delay_step}
+use Rattle.cp_refine.proofs.Delaying.{QueueNamed, place_with, own_delay, delay_step}
 use Rattle.cp_refine.proofs.Executed.{executes, few_cells, variables_of_components}
 use Rattle.cp_refine.proofs.Going.{Going}
 use Rattle.cp_refine.proofs.HoldsInReached.{HoldsInReached}
@@ -58,6 +69,14 @@ no_result : (h : Here) (o : Option Name) (c : Option Ty) → c ≡ None → Resu
 no_result h None c e w = refl
 no_result h (Some x) None e w = absurd w
 no_result h (Some x) (Some u) e w = absurd (cc)
+
+-- the value of a queue in which a process waits
+queue_from : (w : Value) (i : ℕ) → waiting_in w ≡ Some i → w ≡ queue_value (Some i)
+queue_from (queue_value o) i e = ap queue_value e
+queue_from (number_value z) i e = absurd (cc)
+queue_from (array_value vs) i e = absurd (cc)
+queue_from (record_value vs) i e = absurd (cc)
+queue_from (set_value ns) i e = absurd (cc)
 
 module _ (t : Tree) (r : Tables) (l : Layouts) (prepared : Prepared t r l) (s : State) (known : HoldsInReached t.program s) (m : Machine) (ready : ReadyInReached (ground_of t r) t.program s m) (fits : MachineFits r m) (reach : Reaches r m) (q : ℕ) (going : Going (ground_of t r) t.program l s m q) (at : ℕ) (mid : Option ℕ) (es : List Entry) (xs ys : List Item)
     (token : ℕ) (d : Designator) (e : Expression) (more : Expressions) (k : Taken (ground_of t r) t.program l s m q at (statement_item (invoke token d (more_expressions e more))) mid es xs ys) (rules : QueueKnown (here t.program l (thread_at m.threads q).frame.routine) e) where
@@ -96,6 +115,41 @@ module _ (t : Tree) (r : Tables) (l : Layouts) (prepared : Prepared t r l) (s : 
       queue_named g p l s m q at item_now mid es xs ys k ex e spot
       (kept_left this (expression_calls this.scope e) (expressions_calls this.scope more) (kept_right this (designator_calls this.scope d) (expression_calls this.scope e ++ expressions_calls this.scope more) k.kept)) formed
       rules.designator rules.ty rules.is (ap (find (name_of rules.designator)) (scope_is g p l s m q at item_now mid es xs ys k) ∙ rules.permanent)
+
+  -- ---- both are by the rules
+
+  pub delay_follows : IsQueueNamed (more_expressions e more) (λ x. Unit {0})
+  delay_follows = (rules.designator, rules.is, tt)
+
+  -- a place of the component itself does not rest on frames
+  without_frames : (pl : Place) (a : Address) → PlaceAt r l (frames_of (thread_at m.threads q).frame es) (record { holder = in_component n; name = pl.name; choices = pl.choices }) queue_type a →
+      (cell : ℕ) × PlaceAt r l [] (record { holder = in_component n; name = pl.name; choices = pl.choices }) queue_type (Permanent cell)
+  without_frames pl a h = (
+    (component_at r n).base + (l.systems (component_at r n).system).slots pl.name + h.offset,
+    record { whole = h.whole; first = Permanent ((component_at r n).base + (l.systems (component_at r n).system).slots pl.name); offset = h.offset; begins = record { there = h.begins.there; known = h.begins.known; address = refl }; chosen = h.chosen; address = refl },
+  )
+
+  -- who is in a queue of the component is delayed in it
+  is_delayed : (pl : Place) (a : Address) (i : ℕ) → pl.holder ≡ in_component n → PlaceAt r l (frames_of (thread_at m.threads q).frame es) pl queue_type a → waiting_in (value_at (view_of p s q) pl) ≡ Some i → is_delayed_in n (named.process_at s.processes i).status ≡ true
+  is_delayed pl a i own h w =
+      let same : pl ≡ record { holder = in_component n; name = pl.name; choices = pl.choices } = ap (place_with pl) own in
+      let stands = without_frames pl a (subst (λ (x : Place). PlaceAt r l (frames_of (thread_at m.threads q).frame es) x queue_type a) same h) in
+      let value = queue_from (value_at (view_of p s q) (record { holder = in_component n; name = pl.name; choices = pl.choices })) i (subst (λ (x : Place). waiting_in (value_at (view_of p s q) x) ≡ Some i) same w) in
+      let found = going.rep.queues.queued (record { holder = in_component n; name = pl.name; choices = pl.choices }) i n stands.0 (view_of p s q) refl refl stands.1 value in
+      ap (is_delayed_in n) found.1 ∙ eq-eqb n n refl
+
+  by_target : (o : Outcome Target) → ((x : Target) → o ≡ Ok x → x.place.holder ≡ in_component n) → (b : Result Address slots.ErrorName) → TargetAgrees r l (frames_of (thread_at m.threads q).frame es) o queue_type b → (x : Target) → o ≡ Ok x → (i : ℕ) → waiting_in (value_at (view_of p s q) x.place) ≡ Some i → is_delayed_in n (named.process_at s.processes i).status ≡ true
+  by_target (Ok u) own (Ok a) h x f i w =
+      let same : x ≡ u = cc in
+      is_delayed u.place a i (own u refl) h.1 (subst (λ (z : Target). waiting_in (value_at (view_of p s q) z.place) ≡ Some i) same w)
+  by_target (Ok u) own (Err b) h x f i w = absurd h
+  by_target (Err b) own c h x f i w = absurd (cc)
+
+  pub continue_follows : find (name_of d) this.scope ≡ Some (standard_meaning continue_procedure) → IsQueueNamed (more_expressions e more) (WaitsThere s (view_of p s q))
+  continue_follows standard =
+      let own : QueueItem g this at token e mid code.continue_at = subst (λ (w : Option Meaning). InvokedBy g this at token w d (more_expressions e more) mid) standard k.own in
+      let queue = queue_is own.place own.formed in
+      (queue.designator, queue.is, by_target (target_value (view_of p s q) queue.designator) queue.own (plain_address (memory_at m q) (thread_at m.threads q).frame own.place) queue.agrees)
 
   -- ---- `delay`
 

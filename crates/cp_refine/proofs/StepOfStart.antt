@@ -1,10 +1,10 @@
 -- The step of a start, of a process or of a class or monitor: it goes on slots as on names.
-use Rattle.std.proofs.Common.{◌≡◌, ◌∙◌, ℕ, ◌<◌, List, ◌∷◌, ◌++◌, Option, Some, ap, sym, refl, subst, arith, length}
+use Rattle.std.proofs.Common.{◌≡◌, ◌∙◌, ℕ, ◌<◌, true, false, List, [], ◌∷◌, ◌++◌, Option, Some, ap, sym, refl, subst, arith, length}
 use Rattle.std.specs.Global.{Global}
 use Rattle.std.specs.Prelude.{Result, Ok, Err, Vec, map, slice_index}
 use Rattle.cp_tree.specs.declared.declaration.SystemKind.{SystemKind}
 use Rattle.cp_tree.specs.declared.declaration.SystemKind.TheVariants as system_kind
-use Rattle.cp_tree.specs.Syntax.{Tree, Program, Start}
+use Rattle.cp_tree.specs.Syntax.{Tree, Program, Expressions, no_expressions, more_expressions, Start}
 use Rattle.cp_slots.specs.Code as code
 use Rattle.cp_slots.specs.declared.item.Action.TheVariants as action
 use Rattle.cp_slots.specs.declared.place.Argument.{Argument}
@@ -16,6 +16,7 @@ use Rattle.cp_slots.specs.Systems.{ActionNames, StartNames, IsOf}
 use Rattle.cp_slots.specs.Tables.{Tables, item_at, component_at, process_at, routine_at, system_at}
 use Rattle.cp_store.specs.declared.argument.Bound.{Bound}
 use Rattle.cp_store.specs.declared.error.ErrorName as slots
+use Rattle.cp_store.specs.declared.memory.Frame.{Frame}
 use Rattle.cp_machine.specs.declared.process.Entry.{Entry}
 use Rattle.cp_machine.specs.Fits.{MachineFits}
 use Rattle.cp_machine.specs.Machine.{Machine, thread_at}
@@ -23,21 +24,25 @@ use Rattle.cp_machine.specs.Memory.{component_of, arguments_of}
 use Rattle.cp_machine.specs.Reach.{Reaches}
 use Rattle.cp_machine.specs.Step.{step_at}
 use Rattle.cp_meaning.specs.Calls.{bound}
+use Rattle.cp_meaning.specs.Declarations.{Parameter}
 use Rattle.cp_meaning.specs.Expressions.{target_value}
+use Rattle.cp_refine.specs.Followed.{AreArguments, IsStartable}
 use Rattle.cp_meaning.specs.Kernel.{process_of}
+use Rattle.cp_meaning.specs.Names.{Name}
 use Rattle.cp_meaning.specs.Outcome.{Outcome}
-use Rattle.cp_meaning.specs.Places.{Target, component_there}
+use Rattle.cp_meaning.specs.Places.{View, Target, component_there}
 use Rattle.cp_meaning.specs.State as named
 use Rattle.cp_meaning.specs.State.{Environment, Item, start_item, State}
 use Rattle.cp_meaning.specs.Steps.{view_of, step_of, at_designator}
 use Rattle.cp_meaning.specs.Systems.{system_of}
 use Rattle.cp_resolved.specs.Layouts.{Layouts, Here, here}
 use Rattle.cp_resolved.specs.Resolved.{SystemIs, initial_meaning}
-use Rattle.cp_resolved.specs.Stands.{Ground}
+use Rattle.cp_resolved.specs.Stands.{Ground, AreGiven}
 use Rattle.cp_refine.specs.Given.{BoundsAgree, ComponentAgrees}
 use Rattle.cp_refine.specs.ItemsKnown.{StartKnown}
 use Rattle.cp_refine.specs.Kinds.{SameKind}
 use Rattle.cp_refine.specs.Law.{ground_of}
+use Rattle.cp_refine.specs.Parameters.{HaveTypes}
 use Rattle.cp_refine.specs.Prepared.{Prepared}
 use Rattle.cp_refine.specs.Represents.{frames_of}
 use Rattle.cp_refine.specs.StatesKnown.{AreHandedSo, StateKnown}
@@ -56,6 +61,7 @@ use Rattle.cp_refine.proofs.ReadyInReached.{ReadyInReached}
 use Rattle.cp_refine.proofs.Running.{Executes}
 use Rattle.cp_refine.proofs.StartFitting.{start_arguments_known, can_start}
 use Rattle.cp_refine.proofs.StartNames.{start_component, start_arguments}
+use Rattle.cp_refine.proofs.StepOfCall.{leads_to}
 use Rattle.cp_refine.proofs.StepOfStatement.{below_fits}
 use Rattle.cp_refine.proofs.SystemKinds.{kind_is, process_type}
 
@@ -68,6 +74,13 @@ process_number system_kind.Process (kind.Process j) h e = refl
 process_number system_kind.Monitor (kind.Monitor j) h e = absurd (cc)
 process_number system_kind.Class kind.Class h e = absurd (cc)
 process_number a c h e = absurd h
+
+-- the arguments of a start are those that its parameters want
+arguments_follow : (r : Tables) (l : Layouts) (fs : List Frame) (v : View) (h : Here) (base own : ℕ) (slots : Name → ℕ) (qs : List Parameter) (es : Expressions) (xs : List code.Argument) → AreGiven h slots qs es xs → HaveTypes qs → AreHandedSo r l fs v base own qs es → AreArguments v qs es
+arguments_follow r l fs v h base own slots [] no_expressions [] given typed handed = tt
+arguments_follow r l fs v h base own slots (q ∷ qs) (more_expressions e es) (x ∷ xs) given typed handed =
+    (record { variable = λ is. absurd (let no : true ≡ false = sym is ∙ typed.0 in cc); component = handed.0.component }, arguments_follow r l fs v h base own slots qs es xs given.2 typed.2 handed.1)
+arguments_follow r l fs v h base own slots qs es xs given typed handed = absurd given
 
 -- what a name leads to, where a place of the tables leads to a component
 record Led (t : Tree) (s : State) (q n : ℕ) (o : Outcome Target) : Type 0 where
@@ -197,6 +210,26 @@ module _ (t : Tree) (r : Tables) (l : Layouts) (prepared : Prepared t r l) (s : 
         no_process = λ d j f e. never (ap (λ a. (system_of p a).kind) (sym (found_system d f)) ∙ process_type t r l prepared s known m ready d (found d f).0 j e);
         phases = λ d f. (let a = fits.phases in let b = (found d f).0 in omega (arith, a, b));
       })
+
+  -- ---- the start is one by the rules
+
+  startable : (d : ℕ) → IsFound g p l s m q at x mid es xs ys k d → IsStartable s (view_of p s q) x.arguments d
+  startable d f =
+      let there : d < length s.components = (let a = (found d f).0 in let b = going.rep.component_count in omega (arith, a, b)) in
+      let system : (named.component_at s.components d).system ≡ (component_at r d).system = ready.systems d (found d f).0 in
+      record {
+        there = there;
+        arguments = subst (λ a. AreArguments (view_of p s q) (system_of p a).parameters x.arguments) (sym system)
+            (arguments_follow r l (frames_of (thread_at m.threads q).frame es) (view_of p s q) this (component_at r d).base (system_at r (component_at r d).system).own (l.systems k.own.system).slots (system_of p (component_at r d).system).parameters x.arguments k.own.arguments
+            (subst (λ a. AreGiven this (l.systems k.own.system).slots (system_of p a).parameters x.arguments k.own.arguments) (sym (found_system d f)) k.own.given)
+            (prepared.program.systems.typed (component_at r d).system) (handed_so d f));
+        process = λ h. (number_of (component_at r d).kind, (numbered (ap (λ a. (system_of p a).kind) (sym (found_system d f)) ∙ (sym (kind_is t r l prepared s known m ready d (found d f).0) ∙ h)) d f).1);
+      }
+
+  pub start_follows : (u : Target) → target_value (view_of p s q) x.target ≡ Ok u → IsStartable s (view_of p s q) x.arguments (component_there (view_of p s q) u.place)
+  start_follows u e =
+      let to = leads_to (view_of p s q) (target_value (view_of p s q) x.target) (component_of m q act_is.0) (leads act_is.0 act_is.3) u e in
+      subst (IsStartable s (view_of p s q) x.arguments) (sym to.2) (startable to.0 (act_is.0, act_is.3, to.1))
 
   -- ---- both
 

@@ -2,6 +2,9 @@ pub mod Agrees
 pub mod AllKnown
 pub mod Bodies
 pub mod ComponentNames
+pub mod Excluding
+pub mod Followed
+pub mod Following
 pub mod Given
 pub mod InStep
 pub mod ItemsKnown
@@ -16,4 +19,6 @@ pub mod Remaining
 pub mod Represents
 pub mod RoutinesKnown
 pub mod Running
+pub mod States
 pub mod StatesKnown
+pub mod Stopped

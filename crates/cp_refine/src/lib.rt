@@ -3,4 +3,6 @@
 
 pub mod laws;
 
-pub use laws::{law_in_step, law_means, law_running, law_same_runs};
+pub use laws::{
+    law_in_step, law_means, law_never_passed_over, law_running, law_same_runs, law_state_as_before,
+};

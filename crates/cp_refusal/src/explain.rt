@@ -12,7 +12,7 @@ use cp_tree::{ParseFault, Program, parse};
 use std::alloc::{AllocError, Global};
 
 /// What is said of a source.
-#[derive(Debug, Drop)]
+#[derive(Drop)]
 pub enum Answer {
     /// It is a program; with hints, if there are any.
     Accepted(String),

@@ -2,8 +2,8 @@
 use Rattle.std.proofs.Common.{◌≡◌, ◌<◌, ◌≤◌, ℕ, zero, suc, List, [], ◌∷◌, length, Some, slice_get, refl, arith}
 use Rattle.std.proofs.lemmas.Option.{slice_get_within}
 use Rattle.cp_tree.specs.Syntax.{Tree}
-use Rattle.cp_slots.specs.Kinds.{most}
-use Rattle.cp_slots.specs.Layers.{Layer}
+use Rattle.cp_layout.specs.Kinds.{most}
+use Rattle.cp_layout.specs.Layers.{Layer}
 use Rattle.cp_lawful.specs.Accepted.{IsAccepted}
 use Rattle.cp_resolved.specs.Begun.{all_begun}
 use Rattle.cp_resolved.specs.BodiesFormed.{BodiesFormedLaw, ReadBodiesLaw}

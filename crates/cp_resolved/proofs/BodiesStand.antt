@@ -7,10 +7,10 @@ use Rattle.cp_tree.specs.Syntax as syntax
 use Rattle.cp_slots.specs.declared.item.Item as code_item
 use Rattle.cp_slots.specs.Code as code
 use Rattle.cp_slots.specs.Tables.{Tables, RoutineView, item_at, no_item, routine_at, no_routine}
-use Rattle.cp_slots.specs.Layers.{Layer, nothing_laid, routine_of}
-use Rattle.cp_slots.specs.Laid.{PlainTables, laid, tables_laid}
-use Rattle.cp_slots.specs.LaidStatements.{statements}
-use Rattle.cp_slots.specs.LaidDeclarations.{routines, program_parts, program}
+use Rattle.cp_layout.specs.Layers.{Layer, nothing_laid, routine_of}
+use Rattle.cp_layout.specs.Laid.{PlainTables, laid, tables_laid}
+use Rattle.cp_layout.specs.LaidStatements.{statements}
+use Rattle.cp_layout.specs.LaidDeclarations.{routines, program_parts, program}
 use Rattle.cp_meaning.specs.Names.{Name, same_name, temporary}
 use Rattle.cp_meaning.specs.Types.{Ty}
 use Rattle.cp_meaning.specs.Scopes.{Scope}

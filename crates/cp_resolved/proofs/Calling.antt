@@ -2,15 +2,15 @@
 use Rattle.std.proofs.Common.{◌≡◌, ℕ, ◌+◌, ◌*◌, ◌<◌, ◌≤◌, Bool, true, false, List, [], ◌∷◌, ◌++◌, length, Option, Some, None, slice_get, slice_index, refl, sym, ap, subst, ◌∙◌, ◌⊎◌, inl, inr, append_assoc, append-nil, arith, length-append}
 use Rattle.std.proofs.lemmas.Option.{slice_get_within}
 use Rattle.cp_tree.specs.Syntax as syntax
-use Rattle.cp_slots.specs.declared.lay_out.layer.FunctionResult.{FunctionResult}
+use Rattle.cp_layout.specs.declared.layer.FunctionResult.{FunctionResult}
 use Rattle.cp_slots.specs.Code as code
 use Rattle.cp_slots.specs.Code.{SetExpression, ComponentPlace, Argument, Arm, Action, Item}
-use Rattle.cp_slots.specs.Kinds.{plus}
+use Rattle.cp_layout.specs.Kinds.{plus}
 use Rattle.cp_slots.specs.Tables.{RoutineView}
-use Rattle.cp_slots.specs.Values.{Value, Designated, a_value, a_variable, a_contained, a_component, a_routine, an_entry, a_standard, no_designated, ordinal_of, multiplied, added}
-use Rattle.cp_slots.specs.Layers as layers
-use Rattle.cp_slots.specs.Layers.{Layer, Frame, Pending, with_cell, with_room, frame_with, body_of, call_need, need_of, need_inside, item_need, result_of}
-use Rattle.cp_slots.specs.LaidExpressions.{expression, sum, more_terms, term, more_factors, factor, elements, first_value, arguments_from, designator, selectors, selector, begun, signed, element_selected, with_count, counted, called, function_as, named_as}
+use Rattle.cp_layout.specs.Values.{Value, Designated, a_value, a_variable, a_contained, a_component, a_routine, an_entry, a_standard, no_designated, ordinal_of, multiplied, added}
+use Rattle.cp_layout.specs.Layers as layers
+use Rattle.cp_layout.specs.Layers.{Layer, Frame, Pending, with_cell, with_room, frame_with, body_of, call_need, need_of, need_inside, item_need, result_of}
+use Rattle.cp_layout.specs.LaidExpressions.{expression, sum, more_terms, term, more_factors, factor, elements, first_value, arguments_from, designator, selectors, selector, begun, signed, element_selected, with_count, counted, called, function_as, named_as}
 use Rattle.cp_resolved.proofs.Entries.{not_there, past_there}
 use Rattle.cp_resolved.proofs.Fitting.{ListFits, list_longer, need_longer}
 use Rattle.cp_resolved.proofs.Grown.{Grew, grew_trans, kept_grew}

@@ -5,19 +5,19 @@ use Rattle.std.specs.Str.{bytes_eq}
 use Rattle.std.proofs.lemmas.Option.{none-some, same_Some}
 use Rattle.cp_tree.specs.Syntax as syntax
 use Rattle.cp_slots.specs.declared.place.Origin.TheVariants as origin
-use Rattle.cp_slots.specs.declared.lay_out.kinds.Base.TheVariants as base
-use Rattle.cp_slots.specs.declared.lay_out.names.Meaning.{Meaning}
-use Rattle.cp_slots.specs.declared.lay_out.names.Meaning.TheVariants as meaning
+use Rattle.cp_layout.specs.declared.kinds.Base.TheVariants as base
+use Rattle.cp_layout.specs.declared.names.Meaning.{Meaning}
+use Rattle.cp_layout.specs.declared.names.Meaning.TheVariants as meaning
 use Rattle.cp_slots.specs.Code as code
-use Rattle.cp_slots.specs.Kinds.{most, values_of, least, copies, compound_below}
-use Rattle.cp_slots.specs.Layers as layers
-use Rattle.cp_slots.specs.Layers.{Names, Layer, outermost, nothing_laid}
+use Rattle.cp_layout.specs.Kinds.{most, values_of, least, copies, compound_below}
+use Rattle.cp_layout.specs.Layers as layers
+use Rattle.cp_layout.specs.Layers.{Names, Layer, outermost, nothing_laid}
 use Rattle.cp_slots.specs.Tables.{Tables, routine_at}
-use Rattle.cp_slots.specs.Laid.{plain, laid}
-use Rattle.cp_slots.specs.LaidTypes.{simple_type, written_type}
-use Rattle.cp_slots.specs.LaidExpressions.{expression, sum, more_terms, term, more_factors, factor, elements, first_value, arguments_from, designator, selectors, selector}
-use Rattle.cp_slots.specs.LaidStatements.{statements, statement, assigned}
-use Rattle.cp_slots.specs.LaidDeclarations.{variables, variables_of, local_parts, heading, parameter_groups, var_parameters_of, constant_groups, constant_parameters_of, routine, program_parts}
+use Rattle.cp_layout.specs.Laid.{plain, laid}
+use Rattle.cp_layout.specs.LaidTypes.{simple_type, written_type}
+use Rattle.cp_layout.specs.LaidExpressions.{expression, sum, more_terms, term, more_factors, factor, elements, first_value, arguments_from, designator, selectors, selector}
+use Rattle.cp_layout.specs.LaidStatements.{statements, statement, assigned}
+use Rattle.cp_layout.specs.LaidDeclarations.{variables, variables_of, local_parts, heading, parameter_groups, var_parameters_of, constant_groups, constant_parameters_of, routine, program_parts}
 use Rattle.cp_meaning.specs.Names.{Name, same_name}
 use Rattle.cp_meaning.specs.Types.{ordinal}
 use Rattle.cp_meaning.specs.Scopes as scopes

@@ -1,6 +1,6 @@
 -- The law of layouts is not empty: a program with a function, a procedure with a `var` parameter, a permanent variable and a call has what it asks.
 use Rattle.std.proofs.Common.{◌≤◌, ℕ, zero, suc, Bool, true, false, if◌then◌else◌, [], ◌∷◌, Some, refl, arith}
-use Rattle.cp_slots.specs.Kinds.{most}
+use Rattle.cp_layout.specs.Kinds.{most}
 use Rattle.cp_meaning.specs.Names.{same_name}
 use Rattle.cp_meaning.specs.Scopes.{Scope, find}
 use Rattle.cp_meaning.specs.Systems.{system_of}

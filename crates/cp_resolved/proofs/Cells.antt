@@ -4,9 +4,9 @@ use Rattle.std.specs.Prelude.{min, ◌+ℤ◌, ◌-ℤ◌}
 use Rattle.std.specs.Str.{bytes_eq}
 use Rattle.std.proofs.Math.Dec.{leb-zero}
 use Rattle.std.proofs.Math.Nat.{mul_comm}
-use Rattle.cp_slots.specs.declared.lay_out.kinds.ValueType.{ValueType}
-use Rattle.cp_slots.specs.Kinds as kinds
-use Rattle.cp_slots.specs.Kinds.{Compounds, Field, field_in, compound_cells, count_of, not_below_zero, most, times, plus}
+use Rattle.cp_layout.specs.declared.kinds.ValueType.{ValueType}
+use Rattle.cp_layout.specs.Kinds as kinds
+use Rattle.cp_layout.specs.Kinds.{Compounds, Field, field_in, compound_cells, count_of, not_below_zero, most, times, plus}
 use Rattle.cp_meaning.specs.Types as named
 use Rattle.cp_meaning.specs.Types.{Ty, FieldTypes, length_of_range, natural_of}
 use Rattle.cp_resolved.specs.InStep.{Numbering, range_on, TypeIs, FieldsAre}

@@ -2,9 +2,9 @@
 use Rattle.std.proofs.Common.{◌≡◌, ◌≤◌, ℕ, zero, suc, List, [], ◌∷◌, ◌++◌, Some, None, slice_get, refl, subst, arith}
 use Rattle.std.proofs.lemmas.Option.{none-some, same_Some}
 use Rattle.cp_tree.specs.Syntax as syntax
-use Rattle.cp_slots.specs.Layers.{Layer, nothing_laid, no_frame}
-use Rattle.cp_slots.specs.LaidTypes.{written_type}
-use Rattle.cp_slots.specs.LaidDeclarations.{Parameters, heading_with, with_new_frame, entered, system_groups, body, initial_statement, routine, routines, system, type_named, definition, system_definition, system_definitions, program_part, program_parts, program}
+use Rattle.cp_layout.specs.Layers.{Layer, nothing_laid, no_frame}
+use Rattle.cp_layout.specs.LaidTypes.{written_type}
+use Rattle.cp_layout.specs.LaidDeclarations.{Parameters, heading_with, with_new_frame, entered, system_groups, body, initial_statement, routine, routines, system, type_named, definition, system_definition, system_definitions, program_part, program_parts, program}
 use Rattle.cp_resolved.specs.Begun.{routine_begun, routines_begun, initial_begun, parameters_of, parts_begun, system_begun, definition_begun, definitions_begun, part_begun, program_parts_begun, all_begun}
 use Rattle.cp_resolved.specs.TreeLayouts.{whole_laid}
 use Rattle.cp_resolved.proofs.Declares.{type_declares, permanent_parts_declare, system_groups_declare}

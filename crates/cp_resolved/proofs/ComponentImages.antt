@@ -3,14 +3,14 @@ use Rattle.std.proofs.Common.{◌≡◌, ℕ, zero, suc, ◌+◌, ◌<◌, ℤ, 
 use Rattle.std.specs.Prelude.{min}
 use Rattle.std.proofs.lemmas.Option.{none-some, same_Some}
 use Rattle.std.proofs.lemmas.Slice.Eq.{bytes_eq-Decides}
-use Rattle.cp_slots.specs.declared.lay_out.layer.Content.{Content}
-use Rattle.cp_slots.specs.declared.lay_out.layer.Content.TheVariants as content
-use Rattle.cp_slots.specs.declared.lay_out.names.Meaning.{Meaning}
-use Rattle.cp_slots.specs.Kinds as kinds
-use Rattle.cp_slots.specs.Kinds.{Compounds, most, plus}
-use Rattle.cp_slots.specs.Layers as layers
-use Rattle.cp_slots.specs.Layers.{Layer, Owned}
-use Rattle.cp_slots.specs.LaidComponents.{contents_least}
+use Rattle.cp_layout.specs.declared.layer.Content.{Content}
+use Rattle.cp_layout.specs.declared.layer.Content.TheVariants as content
+use Rattle.cp_layout.specs.declared.names.Meaning.{Meaning}
+use Rattle.cp_layout.specs.Kinds as kinds
+use Rattle.cp_layout.specs.Kinds.{Compounds, most, plus}
+use Rattle.cp_layout.specs.Layers as layers
+use Rattle.cp_layout.specs.Layers.{Layer, Owned}
+use Rattle.cp_layout.specs.LaidComponents.{contents_least}
 use Rattle.cp_meaning.specs.Names.{Name, same_name}
 use Rattle.cp_meaning.specs.Types as named
 use Rattle.cp_meaning.specs.Types.{Ty, FieldTypes, has_components}

@@ -3,10 +3,10 @@ use Rattle.std.proofs.Common.{◌≡◌, ℕ, zero, suc, ◌<◌, ◌==◌, ℤ,
 use Rattle.std.proofs.lemmas.Bool.{eqb-true, eqb-false}
 use Rattle.cp_tree.specs.declared.declaration.SystemKind.TheVariants as system_kind
 use Rattle.cp_tree.specs.Syntax.{Program}
-use Rattle.cp_slots.specs.declared.lay_out.layer.Contained.{Contained}
-use Rattle.cp_slots.specs.Kinds.{Compounds}
-use Rattle.cp_slots.specs.Layers.{Owned, System}
-use Rattle.cp_slots.specs.LaidComponents.{Listing, nothing_listed, contents_least, next_kind, with_component, again_and_again, contained_by, system_by, listed_below, program_listed}
+use Rattle.cp_layout.specs.declared.layer.Contained.{Contained}
+use Rattle.cp_layout.specs.Kinds.{Compounds}
+use Rattle.cp_layout.specs.Layers.{Owned, System}
+use Rattle.cp_layout.specs.LaidComponents.{Listing, nothing_listed, contents_least, next_kind, with_component, again_and_again, contained_by, system_by, listed_below, program_listed}
 use Rattle.cp_meaning.specs.Names.{Name}
 use Rattle.cp_meaning.specs.Types.{Ty, ordinal, queue_type, set_over, array_over, record_with, component_of, length_of_range}
 use Rattle.cp_meaning.specs.Declarations.{Variable}

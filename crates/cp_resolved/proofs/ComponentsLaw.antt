@@ -5,15 +5,15 @@ use Rattle.std.proofs.lemmas.List.{length-map}
 use Rattle.std.proofs.lemmas.Option.{none-some}
 use Rattle.std.proofs.lemmas.Slice.Eq.{bytes_eq-Decides}
 use Rattle.cp_tree.specs.Syntax.{Program, Tree}
-use Rattle.cp_slots.specs.declared.lay_out.names.Meaning.{Meaning}
-use Rattle.cp_slots.specs.declared.lay_out.names.Meaning.TheVariants as meaning
+use Rattle.cp_layout.specs.declared.names.Meaning.{Meaning}
+use Rattle.cp_layout.specs.declared.names.Meaning.TheVariants as meaning
 use Rattle.cp_slots.specs.declared.tables.Component.{Component}
 use Rattle.cp_slots.specs.declared.tables.Process.{Process}
-use Rattle.cp_slots.specs.Kinds.{Compounds, most}
-use Rattle.cp_slots.specs.Laid.{plain, laid, PlainTables}
-use Rattle.cp_slots.specs.LaidComponents.{Listing, nothing_listed, contents_least}
-use Rattle.cp_slots.specs.Layers as layers
-use Rattle.cp_slots.specs.Layers.{System}
+use Rattle.cp_layout.specs.Kinds.{Compounds, most}
+use Rattle.cp_layout.specs.Laid.{plain, laid, PlainTables}
+use Rattle.cp_layout.specs.LaidComponents.{Listing, nothing_listed, contents_least}
+use Rattle.cp_layout.specs.Layers as layers
+use Rattle.cp_layout.specs.Layers.{System}
 use Rattle.cp_slots.specs.Tables.{Tables, component_at, process_at, no_component, no_process}
 use Rattle.cp_meaning.specs.Names.{Name, same_name}
 use Rattle.cp_meaning.specs.Types as named_types

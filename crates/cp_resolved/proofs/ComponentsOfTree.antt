@@ -4,11 +4,11 @@ use Rattle.std.specs.Prelude.{◌-◌}
 use Rattle.std.proofs.lemmas.Option.{slice_get_within}
 use Rattle.cp_tree.specs.declared.declaration.SystemKind.TheVariants as system_kind
 use Rattle.cp_tree.specs.Syntax.{Program, Tree}
-use Rattle.cp_slots.specs.declared.lay_out.layer.Contained.{Contained}
-use Rattle.cp_slots.specs.Laid.{plain, laid}
-use Rattle.cp_slots.specs.LaidDeclarations.{program_parts}
-use Rattle.cp_slots.specs.LaidComponents.{Listing, nothing_listed}
-use Rattle.cp_slots.specs.Layers.{Layer, Owned, System, nothing_laid}
+use Rattle.cp_layout.specs.declared.layer.Contained.{Contained}
+use Rattle.cp_layout.specs.Laid.{plain, laid}
+use Rattle.cp_layout.specs.LaidDeclarations.{program_parts}
+use Rattle.cp_layout.specs.LaidComponents.{Listing, nothing_listed}
+use Rattle.cp_layout.specs.Layers.{Layer, Owned, System, nothing_laid}
 use Rattle.cp_slots.specs.Tables.{Tables}
 use Rattle.cp_meaning.specs.Components.{listed, components_of}
 use Rattle.cp_meaning.specs.Systems.{SystemMeaning, declared, program_system, own_meaning, or_own, system_of}

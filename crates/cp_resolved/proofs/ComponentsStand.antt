@@ -8,9 +8,9 @@ use Rattle.cp_tree.specs.declared.declaration.SystemKind.TheVariants as system_k
 use Rattle.cp_tree.specs.Syntax.{Program}
 use Rattle.cp_slots.specs.declared.tables.Component.{Component}
 use Rattle.cp_slots.specs.declared.tables.Process.{Process}
-use Rattle.cp_slots.specs.Kinds.{Compounds}
-use Rattle.cp_slots.specs.Layers.{Owned, System}
-use Rattle.cp_slots.specs.LaidComponents.{Listing, nothing_listed, byte, process_at, next_kind, component_with, with_component}
+use Rattle.cp_layout.specs.Kinds.{Compounds}
+use Rattle.cp_layout.specs.Layers.{Owned, System}
+use Rattle.cp_layout.specs.LaidComponents.{Listing, nothing_listed, byte, process_at, next_kind, component_with, with_component}
 use Rattle.cp_slots.specs.Tables as tables
 use Rattle.cp_slots.specs.Tables.{Tables, component_at, no_component}
 use Rattle.cp_meaning.specs.Systems.{SystemMeaning, system_of, program_system}

@@ -6,10 +6,10 @@ use Rattle.std.proofs.lemmas.List.{length-map}
 use Rattle.std.proofs.lemmas.Option.{none-some, same_Some, slice_get_within}
 use Rattle.std.proofs.lemmas.Slice.Eq.{bytes_eq-Decides}
 use Rattle.cp_tree.specs.Syntax.{Program}
-use Rattle.cp_slots.specs.declared.lay_out.layer.Contained.{Contained}
-use Rattle.cp_slots.specs.Kinds.{most}
-use Rattle.cp_slots.specs.Layers.{System}
-use Rattle.cp_slots.specs.LaidExpressions.{count_in}
+use Rattle.cp_layout.specs.declared.layer.Contained.{Contained}
+use Rattle.cp_layout.specs.Kinds.{most}
+use Rattle.cp_layout.specs.Layers.{System}
+use Rattle.cp_layout.specs.LaidExpressions.{count_in}
 use Rattle.cp_meaning.specs.Names.{Name, same_name}
 use Rattle.cp_meaning.specs.Types.{Range, array_over, component_of, length_of_range}
 use Rattle.cp_meaning.specs.Declarations.{Variable}

@@ -15,7 +15,7 @@ use Rattle.cp_scope.specs.Counts.{plus, times}
 use Rattle.cp_scope.specs.Scopes.{Names, Scope, Heading, Shapes, system_shape, count_of, both_census, component_census, element_census, array_census, variable_census, census_of, census_from, census, no_census}
 use Rattle.cp_check.specs.declared.types.Spot.{Spot}
 use Rattle.cp_check.specs.declared.types.Spot.TheVariants as spot
-use Rattle.cp_slots.specs.declared.lay_out.layer.Contained.{Contained}
+use Rattle.cp_layout.specs.declared.layer.Contained.{Contained}
 use Rattle.cp_meaning.specs.Names.{Name}
 use Rattle.cp_meaning.specs.Types as named
 use Rattle.cp_meaning.specs.Types.{Ty, natural_of, length_of_range}

@@ -11,10 +11,10 @@ use Rattle.cp_scope.specs.declared.shape.Census.{Census}
 use Rattle.cp_scope.specs.Scopes.{Names, Scope, Heading, Shapes, system_shape, count_of, component_census, element_census, array_census, variable_census, census, no_census}
 use Rattle.cp_check.specs.declared.types.Spot.TheVariants as spot
 use Rattle.cp_check.specs.Types.{may_own}
-use Rattle.cp_slots.specs.declared.lay_out.layer.Contained.{Contained}
-use Rattle.cp_slots.specs.Kinds.{Compounds}
-use Rattle.cp_slots.specs.LaidComponents.{Listing, process_at, next_kind, with_component}
-use Rattle.cp_slots.specs.Layers.{Owned, System}
+use Rattle.cp_layout.specs.declared.layer.Contained.{Contained}
+use Rattle.cp_layout.specs.Kinds.{Compounds}
+use Rattle.cp_layout.specs.LaidComponents.{Listing, process_at, next_kind, with_component}
+use Rattle.cp_layout.specs.Layers.{Owned, System}
 use Rattle.cp_meaning.specs.Types as named
 use Rattle.cp_meaning.specs.Types.{Ty, length_of_range}
 use Rattle.cp_meaning.specs.Declarations.{Variable}

@@ -2,9 +2,9 @@
 use Rattle.std.proofs.Common.{◌≡◌, ℕ, zero, suc, List, [], ◌∷◌, ◌++◌, length, Some, slice_get, refl, sym, ap, subst, ◌∙◌, arith, length-append}
 use Rattle.cp_tree.specs.Syntax as syntax
 use Rattle.cp_slots.specs.Code as code
-use Rattle.cp_slots.specs.Layers.{Layer, nothing_laid}
-use Rattle.cp_slots.specs.LaidStatements.{statements}
-use Rattle.cp_slots.specs.LaidDeclarations.{heading, with_heading, opened, routine, routines, entered, system_groups, system, definition, system_definition, system_definitions, program_part, program_parts, program}
+use Rattle.cp_layout.specs.Layers.{Layer, nothing_laid}
+use Rattle.cp_layout.specs.LaidStatements.{statements}
+use Rattle.cp_layout.specs.LaidDeclarations.{heading, with_heading, opened, routine, routines, entered, system_groups, system, definition, system_definition, system_definitions, program_part, program_parts, program}
 use Rattle.cp_meaning.specs.Declarations.{routine_in}
 use Rattle.cp_meaning.specs.Scopes.{Scope, seen_inside}
 use Rattle.cp_meaning.specs.Systems.{Declared, definition_in, program_part_in, declared, program_system, own_meaning, system_in}

@@ -4,19 +4,19 @@ use Rattle.std.specs.Str.{bytes_eq}
 use Rattle.cp_tree.specs.declared.constant.Identifier.{Identifier}
 use Rattle.cp_tree.specs.Syntax as syntax
 use Rattle.cp_tree.specs.Syntax.{ConstantDefinition, TypeDefinition, VariableGroup, Part, Group, ParameterGroup, RoutineKind, Simple, TypeTerm, FieldGroup, FieldGroups}
-use Rattle.cp_slots.specs.declared.lay_out.kinds.Base.{Base}
-use Rattle.cp_slots.specs.declared.lay_out.kinds.Range.{Range}
-use Rattle.cp_slots.specs.declared.lay_out.kinds.ValueType.{ValueType}
-use Rattle.cp_slots.specs.declared.lay_out.kinds.ValueType.TheVariants as types
-use Rattle.cp_slots.specs.declared.lay_out.names.Meaning.{Meaning}
-use Rattle.cp_slots.specs.declared.lay_out.names.Meaning.TheVariants as meaning
-use Rattle.cp_slots.specs.declared.lay_out.layer.Contained.{Contained}
-use Rattle.cp_slots.specs.declared.lay_out.layer.Content.TheVariants as content
-use Rattle.cp_slots.specs.Kinds.{Compound, array, record_with, Fields, no_fields, cells_of, array_type}
-use Rattle.cp_slots.specs.Layers.{Layer, Names, find_type, with_name}
-use Rattle.cp_slots.specs.LaidExpressions.{as_integer}
-use Rattle.cp_slots.specs.LaidTypes.{type_meant, named_type, with_constant, enumerated, enumeration_base, simple_type, range_of, written_type, field_groups, field_group, with_array_type, with_record_type}
-use Rattle.cp_slots.specs.LaidDeclarations.{Parameters, constant, constants, type_named, type_definition, type_definitions, components_of, cell_variable, variable_with, variable, variables_of, variable_group, variables, local, local_at, locals_of, local_group, local_variables, permanent_part, permanent_parts, local_part, local_parts, constant_parameter, constant_parameters_of, constant_group, constant_groups, var_parameter, var_parameters_of, var_group, parameter_group, parameter_groups, heading, system_parameter, system_parameters_of, system_group, system_groups}
+use Rattle.cp_layout.specs.declared.kinds.Base.{Base}
+use Rattle.cp_layout.specs.declared.kinds.Range.{Range}
+use Rattle.cp_layout.specs.declared.kinds.ValueType.{ValueType}
+use Rattle.cp_layout.specs.declared.kinds.ValueType.TheVariants as types
+use Rattle.cp_layout.specs.declared.names.Meaning.{Meaning}
+use Rattle.cp_layout.specs.declared.names.Meaning.TheVariants as meaning
+use Rattle.cp_layout.specs.declared.layer.Contained.{Contained}
+use Rattle.cp_layout.specs.declared.layer.Content.TheVariants as content
+use Rattle.cp_layout.specs.Kinds.{Compound, array, record_with, Fields, no_fields, cells_of, array_type}
+use Rattle.cp_layout.specs.Layers.{Layer, Names, find_type, with_name}
+use Rattle.cp_layout.specs.LaidExpressions.{as_integer}
+use Rattle.cp_layout.specs.LaidTypes.{type_meant, named_type, with_constant, enumerated, enumeration_base, simple_type, range_of, written_type, field_groups, field_group, with_array_type, with_record_type}
+use Rattle.cp_layout.specs.LaidDeclarations.{Parameters, constant, constants, type_named, type_definition, type_definitions, components_of, cell_variable, variable_with, variable, variables_of, variable_group, variables, local, local_at, locals_of, local_group, local_variables, permanent_part, permanent_parts, local_part, local_parts, constant_parameter, constant_parameters_of, constant_group, constant_groups, var_parameter, var_parameters_of, var_group, parameter_group, parameter_groups, heading, system_parameter, system_parameters_of, system_group, system_groups}
 use Rattle.cp_resolved.proofs.Entries.{last_or_before}
 use Rattle.cp_resolved.proofs.Sized.{Resized, resized_same, resized_trans, resized_cells, resized_component, resized_type, FieldsFit, fields_resized, fields_of_fit}
 use Rattle.cp_resolved.proofs.Sizes.{Counts}

@@ -4,16 +4,16 @@ use Rattle.std.proofs.Common.{◌≡◌, ℕ, ◌+◌, Bool, true, false, if◌t
 use Rattle.std.proofs.lemmas.List.{append-nil}
 use Rattle.cp_tree.specs.declared.constant.Identifier.{Identifier}
 use Rattle.cp_tree.specs.Syntax as syntax
-use Rattle.cp_slots.specs.declared.lay_out.kinds.Base.{Base}
-use Rattle.cp_slots.specs.declared.lay_out.kinds.ValueType.{ValueType}
-use Rattle.cp_slots.specs.declared.lay_out.kinds.ValueType.TheVariants as types
-use Rattle.cp_slots.specs.declared.lay_out.layer.Contained.{Contained}
-use Rattle.cp_slots.specs.declared.lay_out.names.Meaning.TheVariants as meaning
-use Rattle.cp_slots.specs.Kinds.{Compounds, Fields, no_fields}
-use Rattle.cp_slots.specs.Layers.{Names, Layer, Owned, Frame}
-use Rattle.cp_slots.specs.LaidExpressions.{as_integer}
-use Rattle.cp_slots.specs.LaidTypes.{named_type, simple_type, enumerated, enumeration_base, with_constant, written_type, field_groups, field_group}
-use Rattle.cp_slots.specs.LaidDeclarations.{constant, constants, type_definition, type_definitions, components_of, variable, variable_with, variables_of, variable_group, variables, local, locals_of, local_group, local_variables, permanent_part, permanent_parts, local_part, local_parts, Parameters, constant_parameter, constant_parameters_of, constant_group, constant_groups, var_parameter, var_parameters_of, var_group, parameter_group, parameter_groups, heading, system_parameter, system_parameters_of, system_group, system_groups}
+use Rattle.cp_layout.specs.declared.kinds.Base.{Base}
+use Rattle.cp_layout.specs.declared.kinds.ValueType.{ValueType}
+use Rattle.cp_layout.specs.declared.kinds.ValueType.TheVariants as types
+use Rattle.cp_layout.specs.declared.layer.Contained.{Contained}
+use Rattle.cp_layout.specs.declared.names.Meaning.TheVariants as meaning
+use Rattle.cp_layout.specs.Kinds.{Compounds, Fields, no_fields}
+use Rattle.cp_layout.specs.Layers.{Names, Layer, Owned, Frame}
+use Rattle.cp_layout.specs.LaidExpressions.{as_integer}
+use Rattle.cp_layout.specs.LaidTypes.{named_type, simple_type, enumerated, enumeration_base, with_constant, written_type, field_groups, field_group}
+use Rattle.cp_layout.specs.LaidDeclarations.{constant, constants, type_definition, type_definitions, components_of, variable, variable_with, variables_of, variable_group, variables, local, locals_of, local_group, local_variables, permanent_part, permanent_parts, local_part, local_parts, Parameters, constant_parameter, constant_parameters_of, constant_group, constant_groups, var_parameter, var_parameters_of, var_group, parameter_group, parameter_groups, heading, system_parameter, system_parameters_of, system_group, system_groups}
 
 abbrev pub placed : Layer → Names → Compounds → List (List ℕ) → Owned → Frame → Layer
 placed l ns ts cs o f = record l { names = ns; types = ts; constants = cs; owned = o; frame = f }

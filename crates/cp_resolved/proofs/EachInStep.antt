@@ -1,8 +1,8 @@
 -- The names are in step where the statements of each routine and each initial statement begin.
 use Rattle.std.proofs.Common.{ℕ, sym, subst, List, [], ◌∷◌, ◌++◌, length, refl}
 use Rattle.cp_tree.specs.Syntax as syntax
-use Rattle.cp_slots.specs.Layers.{Layer, nothing_laid}
-use Rattle.cp_slots.specs.LaidDeclarations.{routine, routines, system_definition, program_part, program_parts}
+use Rattle.cp_layout.specs.Layers.{Layer, nothing_laid}
+use Rattle.cp_layout.specs.LaidDeclarations.{routine, routines, system_definition, program_part, program_parts}
 use Rattle.cp_meaning.specs.Scopes as scopes
 use Rattle.cp_meaning.specs.Scopes.{Scope}
 use Rattle.cp_meaning.specs.Systems.{Declared, definition_in, program_part_in, declared, program_system, own_meaning, system_in}

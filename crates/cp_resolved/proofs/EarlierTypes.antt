@@ -4,17 +4,17 @@ use Rattle.std.specs.Str.{bytes_eq}
 use Rattle.std.proofs.lemmas.Option.{none-some}
 use Rattle.cp_tree.specs.declared.constant.Identifier.{Identifier}
 use Rattle.cp_tree.specs.Syntax as syntax
-use Rattle.cp_slots.specs.declared.lay_out.kinds.Base.{Base}
-use Rattle.cp_slots.specs.declared.lay_out.kinds.ValueType.{ValueType}
-use Rattle.cp_slots.specs.declared.lay_out.kinds.ValueType.TheVariants as types
-use Rattle.cp_slots.specs.declared.lay_out.layer.Contained.{Contained}
-use Rattle.cp_slots.specs.declared.lay_out.names.Meaning.{Meaning}
-use Rattle.cp_slots.specs.declared.lay_out.names.Meaning.TheVariants as meaning
-use Rattle.cp_slots.specs.Kinds.{Field, Compound, array, record_with, Compounds, array_type, Fields, no_fields, cells_of, with_field}
-use Rattle.cp_slots.specs.Layers.{Names, Layer, find_type, seen_inside, is_open, with_name, nothing_laid}
-use Rattle.cp_slots.specs.LaidExpressions.{as_integer}
-use Rattle.cp_slots.specs.LaidTypes.{type_meant, named_type, simple_type, enumerated, enumeration_base, with_constant, fields_of_type, range_of, written_type, field_groups, field_group}
-use Rattle.cp_slots.specs.LaidDeclarations.{constant, constants, type_definition, type_definitions, components_of, variable, variable_with, variables_of, variable_group, variables, permanent_part, permanent_parts, local, locals_of, local_group, local_variables, local_part, local_parts, Parameters, constant_parameter, constant_parameters_of, constant_group, constant_groups, var_parameter, var_parameters_of, var_group, parameter_group, parameter_groups, heading, heading_with, body, with_new_frame, with_heading, opened, routine, routines, entered, system_parameter, system_parameters_of, system_group, system_groups, system, definition, system_definition, system_definitions, program_part, program_parts, program}
+use Rattle.cp_layout.specs.declared.kinds.Base.{Base}
+use Rattle.cp_layout.specs.declared.kinds.ValueType.{ValueType}
+use Rattle.cp_layout.specs.declared.kinds.ValueType.TheVariants as types
+use Rattle.cp_layout.specs.declared.layer.Contained.{Contained}
+use Rattle.cp_layout.specs.declared.names.Meaning.{Meaning}
+use Rattle.cp_layout.specs.declared.names.Meaning.TheVariants as meaning
+use Rattle.cp_layout.specs.Kinds.{Field, Compound, array, record_with, Compounds, array_type, Fields, no_fields, cells_of, with_field}
+use Rattle.cp_layout.specs.Layers.{Names, Layer, find_type, seen_inside, is_open, with_name, nothing_laid}
+use Rattle.cp_layout.specs.LaidExpressions.{as_integer}
+use Rattle.cp_layout.specs.LaidTypes.{type_meant, named_type, simple_type, enumerated, enumeration_base, with_constant, fields_of_type, range_of, written_type, field_groups, field_group}
+use Rattle.cp_layout.specs.LaidDeclarations.{constant, constants, type_definition, type_definitions, components_of, variable, variable_with, variables_of, variable_group, variables, permanent_part, permanent_parts, local, locals_of, local_group, local_variables, local_part, local_parts, Parameters, constant_parameter, constant_parameters_of, constant_group, constant_groups, var_parameter, var_parameters_of, var_group, parameter_group, parameter_groups, heading, heading_with, body, with_new_frame, with_heading, opened, routine, routines, entered, system_parameter, system_parameters_of, system_group, system_groups, system, definition, system_definition, system_definitions, program_part, program_parts, program}
 use Rattle.cp_resolved.specs.Begun.{routine_begun, system_begun}
 use Rattle.cp_resolved.specs.Small.{Each}
 use Rattle.cp_resolved.proofs.Entries.{last_or_before}

@@ -3,10 +3,10 @@ use Rattle.std.proofs.Common.{◌≡◌, ℕ, zero, suc, ◌+◌, ◌*◌, ◌<�
 use Rattle.std.specs.Prelude.{min, int_le, int_lt}
 use Rattle.std.proofs.lemmas.Bool.{eqb-true, eqb-false}
 use Rattle.std.proofs.lemmas.Option.{slice_get_within}
-use Rattle.cp_slots.specs.declared.lay_out.kinds.ValueType.{ValueType}
-use Rattle.cp_slots.specs.declared.lay_out.kinds.ValueType.TheVariants as types
-use Rattle.cp_slots.specs.Kinds as kinds
-use Rattle.cp_slots.specs.Kinds.{Field, Compound, array, record_with, Compounds, array_type, compound_cells, count_of, least_of, least_by, fields_least, compound_least, compound_below, most, plus, times}
+use Rattle.cp_layout.specs.declared.kinds.ValueType.{ValueType}
+use Rattle.cp_layout.specs.declared.kinds.ValueType.TheVariants as types
+use Rattle.cp_layout.specs.Kinds as kinds
+use Rattle.cp_layout.specs.Kinds.{Field, Compound, array, record_with, Compounds, array_type, compound_cells, count_of, least_of, least_by, fields_least, compound_least, compound_below, most, plus, times}
 use Rattle.cp_meaning.specs.Types as named
 use Rattle.cp_meaning.specs.Types.{Ty, FieldTypes, length_of_range}
 use Rattle.cp_meaning.specs.Values as values

@@ -3,9 +3,9 @@ use Rattle.std.proofs.Common.{◌≡◌, ◌+◌, ℕ, suc, List, [], ◌∷◌,
 use Rattle.cp_tree.specs.Syntax as syntax
 use Rattle.cp_slots.specs.Tables.{RoutineView}
 use Rattle.cp_slots.specs.Code as code
-use Rattle.cp_slots.specs.Layers.{Layer, added, settled, without_pending, nothing_laid, routine_of, with_routine}
-use Rattle.cp_slots.specs.LaidStatements.{statements, statement, arms, starts, started, assigned, invoked, chosen, selected, while_item, until_item, for_item, blocked, cycled, token_of}
-use Rattle.cp_slots.specs.LaidDeclarations.{Parameters, heading, with_heading, opened, routine, routines, initial_statement, entered, system_groups, system, definition, system_definition, system_definitions, program_part, program_parts, constants, variables, program}
+use Rattle.cp_layout.specs.Layers.{Layer, added, settled, without_pending, nothing_laid, routine_of, with_routine}
+use Rattle.cp_layout.specs.LaidStatements.{statements, statement, arms, starts, started, assigned, invoked, chosen, selected, while_item, until_item, for_item, blocked, cycled, token_of}
+use Rattle.cp_layout.specs.LaidDeclarations.{Parameters, heading, with_heading, opened, routine, routines, initial_statement, entered, system_groups, system, definition, system_definition, system_definitions, program_part, program_parts, constants, variables, program}
 use Rattle.cp_meaning.specs.Scopes.{Scope, seen_inside}
 use Rattle.cp_meaning.specs.Systems.{Declared, definition_in, program_part_in, declared, program_system, own_meaning, system_in}
 use Rattle.cp_resolved.specs.Begun.{routine_begun, routines_begun, initial_begun, parameters_of, parts_begun, system_begun, definition_begun, definitions_begun, part_begun, program_parts_begun, all_begun}

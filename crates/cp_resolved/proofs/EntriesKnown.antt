@@ -7,11 +7,11 @@ use Rattle.std.proofs.lemmas.List.{append-nil}
 use Rattle.std.proofs.lemmas.Option.{none-some}
 use Rattle.std.proofs.lemmas.Slice.Eq.{bytes_eq-Decides}
 use Rattle.cp_tree.specs.Syntax as syntax
-use Rattle.cp_slots.specs.declared.lay_out.layer.FunctionResult.{FunctionResult}
-use Rattle.cp_slots.specs.Kinds.{Compounds}
-use Rattle.cp_slots.specs.Layers.{Layer, Heading, System}
-use Rattle.cp_slots.specs.LaidExpressions.{entry_among}
-use Rattle.cp_slots.specs.LaidDeclarations.{heading, with_heading, opened, routine, routines, constant_groups}
+use Rattle.cp_layout.specs.declared.layer.FunctionResult.{FunctionResult}
+use Rattle.cp_layout.specs.Kinds.{Compounds}
+use Rattle.cp_layout.specs.Layers.{Layer, Heading, System}
+use Rattle.cp_layout.specs.LaidExpressions.{entry_among}
+use Rattle.cp_layout.specs.LaidDeclarations.{heading, with_heading, opened, routine, routines, constant_groups}
 use Rattle.cp_meaning.specs.Names.{Name, same_name}
 use Rattle.cp_meaning.specs.Types.{Ty}
 use Rattle.cp_meaning.specs.Scopes as scopes

@@ -3,18 +3,18 @@ use Rattle.std.proofs.Common.{◌≡◌, ◌+◌, ℕ, suc, nat_le, ℤ, pos, Bo
 use Rattle.cp_tree.specs.declared.constant.Identifier.{Identifier}
 use Rattle.cp_tree.specs.Syntax as syntax
 use Rattle.cp_slots.specs.declared.place.Origin.TheVariants as origin
-use Rattle.cp_slots.specs.declared.lay_out.kinds.Base.TheVariants as base
-use Rattle.cp_slots.specs.declared.lay_out.names.Meaning.{Meaning}
-use Rattle.cp_slots.specs.declared.lay_out.names.Meaning.TheVariants as meaning
-use Rattle.cp_slots.specs.declared.lay_out.layer.FunctionResult.{FunctionResult}
+use Rattle.cp_layout.specs.declared.kinds.Base.TheVariants as base
+use Rattle.cp_layout.specs.declared.names.Meaning.{Meaning}
+use Rattle.cp_layout.specs.declared.names.Meaning.TheVariants as meaning
+use Rattle.cp_layout.specs.declared.layer.FunctionResult.{FunctionResult}
 use Rattle.cp_slots.specs.Code as code
-use Rattle.cp_slots.specs.Values as values
-use Rattle.cp_slots.specs.Values.{Value, ordinal_value, set_value, number_value, loaded, place_at, ordinal_of}
+use Rattle.cp_layout.specs.Values as values
+use Rattle.cp_layout.specs.Values.{Value, ordinal_value, set_value, number_value, loaded, place_at, ordinal_of}
 use Rattle.cp_slots.specs.Tables.{RoutineView}
-use Rattle.cp_slots.specs.Layers as layers
-use Rattle.cp_slots.specs.Layers.{Layer, result_of}
-use Rattle.cp_slots.specs.LaidExpressions as laid
-use Rattle.cp_slots.specs.LaidExpressions.{begun, begun_as, field_selected, element_selected, entry_of, entry_found, named_as, function_as, called, counted, as_integer, expression, sum, more_terms, term, more_factors, factor, elements, first_value, arguments_from, designator, selectors, selector}
+use Rattle.cp_layout.specs.Layers as layers
+use Rattle.cp_layout.specs.Layers.{Layer, result_of}
+use Rattle.cp_layout.specs.LaidExpressions as laid
+use Rattle.cp_layout.specs.LaidExpressions.{begun, begun_as, field_selected, element_selected, entry_of, entry_found, named_as, function_as, called, counted, as_integer, expression, sum, more_terms, term, more_factors, factor, elements, first_value, arguments_from, designator, selectors, selector}
 use Rattle.cp_meaning.specs.Names.{Name, temporary}
 use Rattle.cp_meaning.specs.Types as named
 use Rattle.cp_meaning.specs.Types.{Base, Ty, has_components, is_within}

@@ -2,10 +2,10 @@
 use Rattle.std.proofs.Common.{◌≡◌, ℕ, zero, suc, ◌+◌, ◌*◌, ◌<◌, ◌≤◌, List, [], ◌∷◌, ◌++◌, ◌∙◌, length, Some, slice_get, slice_index_or, ap, sym, subst, refl, arith, le_trans}
 use Rattle.cp_tree.specs.Spelling.{spell}
 use Rattle.cp_tree.specs.Syntax.{Program, Tree}
-use Rattle.cp_slots.specs.Kinds.{Compounds}
-use Rattle.cp_slots.specs.Laid.{PlainTables, laid, tables_laid, no_room, room_from, system_type, types_of, system_types}
-use Rattle.cp_slots.specs.LaidComponents.{contents_least}
-use Rattle.cp_slots.specs.Layers.{Layer, Owned, System}
+use Rattle.cp_layout.specs.Kinds.{Compounds}
+use Rattle.cp_layout.specs.Laid.{PlainTables, laid, tables_laid, no_room, room_from, system_type, types_of, system_types}
+use Rattle.cp_layout.specs.LaidComponents.{contents_least}
+use Rattle.cp_layout.specs.Layers.{Layer, Owned, System}
 use Rattle.cp_slots.specs.Tables.{RoutineView, no_routine, SystemView, no_system}
 use Rattle.cp_lawful.specs.Accepted.{IsAccepted}
 use Rattle.cp_resolved.specs.Begun.{all_begun}

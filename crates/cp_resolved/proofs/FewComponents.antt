@@ -22,10 +22,10 @@ use Rattle.cp_check.specs.Routines.{need_of}
 use Rattle.cp_check.specs.Faults.{declarations, program_context, opened, is_too_large, limit_faults, faults_of}
 use Rattle.cp_slots.specs.declared.tables.Component.{Component}
 use Rattle.cp_slots.specs.declared.tables.Process.{Process}
-use Rattle.cp_slots.specs.Kinds.{most}
-use Rattle.cp_slots.specs.Laid.{plain, laid}
-use Rattle.cp_slots.specs.LaidComponents.{Listing, nothing_listed, process_at, next_kind, component_with, with_component, contents_least}
-use Rattle.cp_slots.specs.Layers.{Layer, System}
+use Rattle.cp_layout.specs.Kinds.{most}
+use Rattle.cp_layout.specs.Laid.{plain, laid}
+use Rattle.cp_layout.specs.LaidComponents.{Listing, nothing_listed, process_at, next_kind, component_with, with_component, contents_least}
+use Rattle.cp_layout.specs.Layers.{Layer, System}
 use Rattle.cp_slots.specs.Tables.{Tables}
 use Rattle.cp_lawful.proofs.Loud.{statements_loud}
 use Rattle.cp_lawful.specs.Accepted.{IsAccepted}

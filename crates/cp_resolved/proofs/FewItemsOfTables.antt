@@ -2,9 +2,9 @@
 use Rattle.std.proofs.Common.{◌≡◌, suc, List, [], ◌∷◌, ◌∙◌, map, length, ap, refl, arith}
 use Rattle.cp_slots.specs.declared.item.Item as code_item
 use Rattle.cp_slots.specs.Code.{Item, item_seen}
-use Rattle.cp_slots.specs.Laid.{PlainTables}
-use Rattle.cp_slots.specs.LaidDeclarations.{program}
-use Rattle.cp_slots.specs.Layers.{nothing_laid}
+use Rattle.cp_layout.specs.Laid.{PlainTables}
+use Rattle.cp_layout.specs.LaidDeclarations.{program}
+use Rattle.cp_layout.specs.Layers.{nothing_laid}
 use Rattle.cp_resolved.specs.Held.{FewItemsLaw}
 use Rattle.cp_resolved.proofs.FewItems.{program_few}
 use Rattle.cp_resolved.proofs.OwnCallsOfTables.{laid_items}

@@ -10,18 +10,18 @@ use Rattle.cp_tree.specs.Spelling.{put_optional, put_behind, put_all, put_parame
 use Rattle.cp_tree.proofs.Grows.{grows_all, grows_optional, grows_type, grows_constant_definition, grows_variable_group, grows_part, grows_group, grows_parameters, grows_body, grows_routine, grows_definition, grows_program_part}
 use Rattle.cp_slots.specs.declared.tables.Process.{Process}
 use Rattle.cp_resolved.proofs.Rooms.{Room}
-use Rattle.cp_slots.specs.declared.lay_out.kinds.Base.{Base}
-use Rattle.cp_slots.specs.declared.lay_out.kinds.ValueType.{ValueType}
-use Rattle.cp_slots.specs.declared.lay_out.names.Meaning.TheVariants as meaning
+use Rattle.cp_layout.specs.declared.kinds.Base.{Base}
+use Rattle.cp_layout.specs.declared.kinds.ValueType.{ValueType}
+use Rattle.cp_layout.specs.declared.names.Meaning.TheVariants as meaning
 use Rattle.cp_slots.specs.Tables.{RoutineView}
-use Rattle.cp_slots.specs.Kinds.{Fields, no_fields}
+use Rattle.cp_layout.specs.Kinds.{Fields, no_fields}
 use Rattle.cp_slots.specs.Code.{Action}
-use Rattle.cp_slots.specs.Layers.{Layer, Pending, frame_with, with_cell, with_room, settled_all, settled, without_pending, added, routine_of, nothing_laid}
-use Rattle.cp_slots.specs.Laid.{room_for, room_from}
-use Rattle.cp_slots.specs.LaidExpressions.{as_integer, with_count}
-use Rattle.cp_slots.specs.LaidStatements.{statements}
-use Rattle.cp_slots.specs.LaidTypes.{with_constant, enumerated, simple_type, written_type, field_groups, field_group, named_type}
-use Rattle.cp_slots.specs.LaidDeclarations.{constant, constants, type_definition, type_definitions, variables, local, locals_of, local_variables, local_part, local_parts, Parameters, constant_parameter, constant_parameters_of, constant_groups, var_parameter, var_parameters_of, parameter_group, parameter_groups, body, heading, heading_with, with_heading, with_new_frame, opened, permanent_parts, routine, routines, initial_statement, system_groups, entered, system, definition, system_definition, system_definitions, program_part, program_parts, program}
+use Rattle.cp_layout.specs.Layers.{Layer, Pending, frame_with, with_cell, with_room, settled_all, settled, without_pending, added, routine_of, nothing_laid}
+use Rattle.cp_layout.specs.Laid.{room_for, room_from}
+use Rattle.cp_layout.specs.LaidExpressions.{as_integer, with_count}
+use Rattle.cp_layout.specs.LaidStatements.{statements}
+use Rattle.cp_layout.specs.LaidTypes.{with_constant, enumerated, simple_type, written_type, field_groups, field_group, named_type}
+use Rattle.cp_layout.specs.LaidDeclarations.{constant, constants, type_definition, type_definitions, variables, local, locals_of, local_variables, local_part, local_parts, Parameters, constant_parameter, constant_parameters_of, constant_groups, var_parameter, var_parameters_of, parameter_group, parameter_groups, body, heading, heading_with, with_heading, with_new_frame, opened, permanent_parts, routine, routines, initial_statement, system_groups, entered, system, definition, system_definition, system_definitions, program_part, program_parts, program}
 use Rattle.cp_resolved.specs.Small.{Each}
 use Rattle.cp_resolved.proofs.Declares.{Declares, type_declares, constants_declare, variables_declare, permanent_parts_declare, local_parts_declare, heading_declares, system_groups_declare}
 use Rattle.cp_resolved.proofs.Foreign.{each_append}

@@ -2,9 +2,9 @@
 use Rattle.std.proofs.Common.{◌≡◌, ℕ, zero, suc, ◌+◌, ◌<◌, ◌≤◌, List, [], ◌∷◌, ◌∙◌, length, slice_index_or, ap, sym, subst, refl, arith}
 use Rattle.cp_tree.specs.Spelling.{spell}
 use Rattle.cp_tree.specs.Syntax.{Tree}
-use Rattle.cp_slots.specs.Laid.{PlainTables, laid, tables_laid, no_room, room_from}
-use Rattle.cp_slots.specs.LaidDeclarations.{program}
-use Rattle.cp_slots.specs.Layers.{Layer, nothing_laid}
+use Rattle.cp_layout.specs.Laid.{PlainTables, laid, tables_laid, no_room, room_from}
+use Rattle.cp_layout.specs.LaidDeclarations.{program}
+use Rattle.cp_layout.specs.Layers.{Layer, nothing_laid}
 use Rattle.cp_slots.specs.Tables.{RoutineView, no_routine}
 use Rattle.cp_resolved.specs.Held.{FewReferencesLaw}
 use Rattle.cp_resolved.specs.Small.{Each}

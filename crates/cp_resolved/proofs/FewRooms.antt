@@ -9,12 +9,12 @@ use Rattle.cp_tree.proofs.Grows.{grows_all, grows_optional, grows_type, grows_co
 use Rattle.cp_slots.specs.declared.tables.Process.{Process}
 use Rattle.cp_slots.specs.Code.{Action}
 use Rattle.cp_slots.specs.Tables.{RoutineView}
-use Rattle.cp_slots.specs.Layers.{Layer, frame_with, with_cell, with_room, settled, without_pending, added, routine_of, nothing_laid}
-use Rattle.cp_slots.specs.Laid.{room_for, room_from}
-use Rattle.cp_slots.specs.LaidExpressions.{with_count}
-use Rattle.cp_slots.specs.LaidStatements.{statements}
-use Rattle.cp_slots.specs.LaidTypes.{written_type}
-use Rattle.cp_slots.specs.LaidDeclarations.{constants, variables, Parameters, body, heading, heading_with, with_heading, with_new_frame, opened, local_parts, permanent_parts, routine, routines, initial_statement, system_groups, entered, system, definition, system_definition, system_definitions, program_part, program_parts, program}
+use Rattle.cp_layout.specs.Layers.{Layer, frame_with, with_cell, with_room, settled, without_pending, added, routine_of, nothing_laid}
+use Rattle.cp_layout.specs.Laid.{room_for, room_from}
+use Rattle.cp_layout.specs.LaidExpressions.{with_count}
+use Rattle.cp_layout.specs.LaidStatements.{statements}
+use Rattle.cp_layout.specs.LaidTypes.{written_type}
+use Rattle.cp_layout.specs.LaidDeclarations.{constants, variables, Parameters, body, heading, heading_with, with_heading, with_new_frame, opened, local_parts, permanent_parts, routine, routines, initial_statement, system_groups, entered, system, definition, system_definition, system_definitions, program_part, program_parts, program}
 use Rattle.cp_resolved.specs.Begun.{routine_begun, routines_begun, initial_begun, parameters_of, system_begun, definition_begun, definitions_begun, part_begun, program_parts_begun, all_begun}
 use Rattle.cp_resolved.specs.Small.{Each}
 use Rattle.cp_resolved.proofs.AgreeingWritten.{each_left, each_right}

@@ -1,7 +1,7 @@
 -- The items of statements have what they need: lists that are there, with their control stack entries counted, callees, and room for their frames.
 use Rattle.std.proofs.Common.{◌≡◌, ℕ, ◌+◌, ◌*◌, ◌≤◌, max, List, [], ◌∷◌, ◌++◌, length, Option, Some, None, slice_get, refl, sym, ap, subst, ◌∙◌, ◌⊎◌, inl, inr, arith, length-append}
 use Rattle.cp_slots.specs.Code.{Action, Item}
-use Rattle.cp_slots.specs.Layers.{Layer, Pending, settled, without_pending, again, need_of, need_inside, pending_need}
+use Rattle.cp_layout.specs.Layers.{Layer, Pending, settled, without_pending, again, need_of, need_inside, pending_need}
 use Rattle.cp_resolved.proofs.Calling.{ActionFits, InnerFits, PendingFits, AllFit, Onward, onward_trans, onward_items, onward_routines, action_onward, all_onward, inner_onward, Ran, ran_onward, ran_same, Ground, ground_kept, need_bounded}
 use Rattle.cp_resolved.proofs.Fitting.{Nests, ListFits, list_wider, list_longer, need_longer}
 use Rattle.cp_resolved.proofs.Grown.{kept_grew, settled_grew}

@@ -2,16 +2,16 @@
 use Rattle.std.proofs.Common.{◌≡◌, ℕ, ◌+◌, ◌*◌, ◌<◌, ◌≤◌, max, Bool, false, List, [], ◌∷◌, length, Option, Some, None, slice_index, refl, sym, ap, subst, arith}
 use Rattle.cp_tree.specs.declared.statement.Direction.{Direction}
 use Rattle.cp_tree.specs.Syntax as syntax
-use Rattle.cp_slots.specs.declared.lay_out.kinds.ValueType.{ValueType}
-use Rattle.cp_slots.specs.declared.lay_out.kinds.ValueType.TheVariants as types
-use Rattle.cp_slots.specs.declared.lay_out.names.Predeclared.{Predeclared}
-use Rattle.cp_slots.specs.declared.lay_out.names.Predeclared.TheVariants as predeclared
+use Rattle.cp_layout.specs.declared.kinds.ValueType.{ValueType}
+use Rattle.cp_layout.specs.declared.kinds.ValueType.TheVariants as types
+use Rattle.cp_layout.specs.declared.names.Predeclared.{Predeclared}
+use Rattle.cp_layout.specs.declared.names.Predeclared.TheVariants as predeclared
 use Rattle.cp_slots.specs.Code as code
 use Rattle.cp_slots.specs.Code.{Action, Arm, Argument, ComponentPlace, Item, Place}
-use Rattle.cp_slots.specs.Values.{Value, Designated, a_value, a_variable, a_contained, a_component, a_routine, an_entry, a_standard, no_designated, ordinal_of}
-use Rattle.cp_slots.specs.Layers.{Layer, Pending, settled, added, again, need_of, need_inside, call_need, with_room}
-use Rattle.cp_slots.specs.LaidExpressions.{expression, designator, first_value, arguments, arguments_from, counted, name_at}
-use Rattle.cp_slots.specs.LaidStatements.{target_of, assignment, assigned_as, assigned, invoked, invoked_as, Callee, a_standard_procedure, a_procedure, no_callee, callee_of, performed, standard, procedure, chosen, selected, arms_need, while_item, until_item, for_item, blocked, cycled, repeated, Placed, placed_of, begun_component, started_as, started, starts, initial_of, statement, statements, arms, one_arm, token_of}
+use Rattle.cp_layout.specs.Values.{Value, Designated, a_value, a_variable, a_contained, a_component, a_routine, an_entry, a_standard, no_designated, ordinal_of}
+use Rattle.cp_layout.specs.Layers.{Layer, Pending, settled, added, again, need_of, need_inside, call_need, with_room}
+use Rattle.cp_layout.specs.LaidExpressions.{expression, designator, first_value, arguments, arguments_from, counted, name_at}
+use Rattle.cp_layout.specs.LaidStatements.{target_of, assignment, assigned_as, assigned, invoked, invoked_as, Callee, a_standard_procedure, a_procedure, no_callee, callee_of, performed, standard, procedure, chosen, selected, arms_need, while_item, until_item, for_item, blocked, cycled, repeated, Placed, placed_of, begun_component, started_as, started, starts, initial_of, statement, statements, arms, one_arm, token_of}
 use Rattle.cp_resolved.proofs.Calling.{ActionFits, ArmsFit, IsNoLoop, Onward, onward_trans, onward_items, onward_routines, action_onward, Ran, ran_trans, then_ran, count_ran, call_step, Ground, ground_kept, designated_kept, expression_ran, first_ran, arguments_ran, designator_ran, designator_there}
 use Rattle.cp_resolved.proofs.Fitted.{Result, moved, alone, own_settled, loop_settled, inside_bounded, list_kept, onward_same}
 use Rattle.cp_resolved.proofs.Fitting.{ListFits, list_longer, need_longer}

@@ -2,21 +2,21 @@
 use Rattle.std.proofs.Common.{◌≡◌, ℕ, ◌+◌, ◌<◌, Bool, List, [], ◌∷◌, ◌++◌, length, Option, Some, None, sym, ap, subst, arith}
 use Rattle.cp_tree.specs.declared.statement.Direction.{Direction}
 use Rattle.cp_tree.specs.Syntax as syntax
-use Rattle.cp_slots.specs.declared.lay_out.kinds.ValueType.{ValueType}
-use Rattle.cp_slots.specs.declared.lay_out.kinds.ValueType.TheVariants as types
-use Rattle.cp_slots.specs.declared.lay_out.kinds.ArrayType.{ArrayType}
-use Rattle.cp_slots.specs.declared.lay_out.layer.FunctionResult.{FunctionResult}
-use Rattle.cp_slots.specs.declared.lay_out.names.Meaning.{Meaning}
-use Rattle.cp_slots.specs.declared.lay_out.names.Meaning.TheVariants as meaning
-use Rattle.cp_slots.specs.declared.lay_out.names.Predeclared.{Predeclared}
-use Rattle.cp_slots.specs.declared.lay_out.names.Predeclared.TheVariants as predeclared
+use Rattle.cp_layout.specs.declared.kinds.ValueType.{ValueType}
+use Rattle.cp_layout.specs.declared.kinds.ValueType.TheVariants as types
+use Rattle.cp_layout.specs.declared.kinds.ArrayType.{ArrayType}
+use Rattle.cp_layout.specs.declared.layer.FunctionResult.{FunctionResult}
+use Rattle.cp_layout.specs.declared.names.Meaning.{Meaning}
+use Rattle.cp_layout.specs.declared.names.Meaning.TheVariants as meaning
+use Rattle.cp_layout.specs.declared.names.Predeclared.{Predeclared}
+use Rattle.cp_layout.specs.declared.names.Predeclared.TheVariants as predeclared
 use Rattle.cp_slots.specs.Code as code
 use Rattle.cp_slots.specs.Code.{Place, Expression, SetExpression, ComponentPlace, Argument, Arm, Action, Item}
-use Rattle.cp_slots.specs.Kinds.{Field, field_of, array_of}
-use Rattle.cp_slots.specs.Values.{Value, Designated, a_value, a_variable, a_contained, a_component, a_routine, an_entry, a_standard, no_designated, added as values_added, multiplied as values_multiplied, ordinal_of}
-use Rattle.cp_slots.specs.Layers.{Layer, Frame, Pending, again, find, with_cell, with_room, settled_all, settled, without_pending, added, call_need, result_of}
-use Rattle.cp_slots.specs.LaidExpressions.{begun_as, begun, field_found, entry_found, entry_of, field_selected, element_found, component_of_array, component_found, element_selected, with_count, counted, function_as, named_as, signed, name_at, expression, sum, more_terms, term, more_factors, factor, elements, first_value, arguments_from, designator, selectors, selector, arguments}
-use Rattle.cp_slots.specs.LaidStatements.{Target, target_of, assigned_as, assignment, assigned, performed, procedure, standard, Callee, a_standard_procedure, a_procedure, no_callee, callee_of, invoked_as, invoked, blocked, cycled, chosen, while_item, until_item, token_of, repeated, selected, for_item, initial_of, begun_component, Placed, placed_of, started_as, started, starts, statements, statement, arms, one_arm}
+use Rattle.cp_layout.specs.Kinds.{Field, field_of, array_of}
+use Rattle.cp_layout.specs.Values.{Value, Designated, a_value, a_variable, a_contained, a_component, a_routine, an_entry, a_standard, no_designated, added as values_added, multiplied as values_multiplied, ordinal_of}
+use Rattle.cp_layout.specs.Layers.{Layer, Frame, Pending, again, find, with_cell, with_room, settled_all, settled, without_pending, added, call_need, result_of}
+use Rattle.cp_layout.specs.LaidExpressions.{begun_as, begun, field_found, entry_found, entry_of, field_selected, element_found, component_of_array, component_found, element_selected, with_count, counted, function_as, named_as, signed, name_at, expression, sum, more_terms, term, more_factors, factor, elements, first_value, arguments_from, designator, selectors, selector, arguments}
+use Rattle.cp_layout.specs.LaidStatements.{Target, target_of, assigned_as, assignment, assigned, performed, procedure, standard, Callee, a_standard_procedure, a_procedure, no_callee, callee_of, invoked_as, invoked, blocked, cycled, chosen, while_item, until_item, token_of, repeated, selected, for_item, initial_of, begun_component, Placed, placed_of, started_as, started, starts, statements, statement, arms, one_arm}
 use Rattle.cp_resolved.specs.Small.{Each}
 use Rattle.cp_resolved.proofs.Avoiding.{AvoidsExpression, AvoidsSum, AvoidTerms, AvoidsTerm, AvoidFactors, AvoidsFactor, AvoidExpressions, AvoidsCall, AvoidsDesignator, AvoidSelectors, AvoidsSelector, AvoidStarts, AvoidsStatement, AvoidStatements, AvoidArms, AvoidsArm}
 use Rattle.cp_resolved.proofs.Calling.{designator_there}

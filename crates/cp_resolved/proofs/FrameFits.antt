@@ -1,6 +1,6 @@
 -- The parameters, the result and the variables of a routine can be laid out one after the other: they have different names, few cells, and no array without elements.
 use Rattle.std.proofs.Common.{◌≡◌, ◌≤◌, false, List, [], ◌∷◌, ◌++◌, Option, Some, None, refl, sym, subst, arith, append_assoc}
-use Rattle.cp_slots.specs.Kinds.{Compounds, most}
+use Rattle.cp_layout.specs.Kinds.{Compounds, most}
 use Rattle.cp_meaning.specs.Names.{Name}
 use Rattle.cp_meaning.specs.Types as named
 use Rattle.cp_meaning.specs.Types.{Ty}

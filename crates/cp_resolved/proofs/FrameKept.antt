@@ -2,13 +2,13 @@
 use Rattle.std.proofs.Common.{◌≡◌, ◌+◌, ℕ, List, [], ◌∷◌, length, refl, ap, ◌∙◌}
 use Rattle.cp_tree.specs.declared.constant.Identifier.{Identifier}
 use Rattle.cp_tree.specs.Syntax as syntax
-use Rattle.cp_slots.specs.declared.lay_out.kinds.Base.{Base}
-use Rattle.cp_slots.specs.declared.lay_out.names.Meaning.TheVariants as meaning
-use Rattle.cp_slots.specs.Kinds.{Fields, no_fields}
-use Rattle.cp_slots.specs.Layers.{Layer, Frame, Owned}
-use Rattle.cp_slots.specs.LaidExpressions.{as_integer}
-use Rattle.cp_slots.specs.LaidTypes.{with_constant, simple_type, enumerated, enumeration_base, written_type, field_groups, field_group}
-use Rattle.cp_slots.specs.LaidDeclarations.{constant, constants, type_definition, type_definitions}
+use Rattle.cp_layout.specs.declared.kinds.Base.{Base}
+use Rattle.cp_layout.specs.declared.names.Meaning.TheVariants as meaning
+use Rattle.cp_layout.specs.Kinds.{Fields, no_fields}
+use Rattle.cp_layout.specs.Layers.{Layer, Frame, Owned}
+use Rattle.cp_layout.specs.LaidExpressions.{as_integer}
+use Rattle.cp_layout.specs.LaidTypes.{with_constant, simple_type, enumerated, enumeration_base, written_type, field_groups, field_group}
+use Rattle.cp_layout.specs.LaidDeclarations.{constant, constants, type_definition, type_definitions}
 
 abbrev pub Cells : Type 0
 Cells = Frame × Owned

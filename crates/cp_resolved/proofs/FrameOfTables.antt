@@ -3,9 +3,9 @@ use Rattle.std.proofs.Common.{◌≡◌, ◌+◌, ◌<◌, ◌≤◌, ◌⊎◌,
 use Rattle.std.proofs.lemmas.Option.{none-some}
 use Rattle.cp_tree.specs.Syntax as syntax
 use Rattle.cp_slots.specs.declared.place.Origin.TheVariants as origin
-use Rattle.cp_slots.specs.declared.lay_out.layer.FunctionResult.{FunctionResult}
-use Rattle.cp_slots.specs.Kinds.{Compounds}
-use Rattle.cp_slots.specs.Layers.{Layer, Heading, result_in, result_slot, own_result}
+use Rattle.cp_layout.specs.declared.layer.FunctionResult.{FunctionResult}
+use Rattle.cp_layout.specs.Kinds.{Compounds}
+use Rattle.cp_layout.specs.Layers.{Layer, Heading, result_in, result_slot, own_result}
 use Rattle.cp_slots.specs.Tables.{RoutineView}
 use Rattle.cp_meaning.specs.Names.{Name, same_name, temporary, result_name}
 use Rattle.cp_meaning.specs.Types.{Ty}

@@ -4,18 +4,18 @@ use Rattle.std.specs.Prelude.{pos}
 use Rattle.std.proofs.lemmas.Option.{same_Some}
 use Rattle.cp_tree.specs.declared.constant.Identifier.{Identifier}
 use Rattle.cp_tree.specs.Syntax as syntax
-use Rattle.cp_slots.specs.declared.lay_out.names.Meaning.{Meaning}
-use Rattle.cp_slots.specs.declared.lay_out.names.Meaning.TheVariants as meaning
-use Rattle.cp_slots.specs.declared.lay_out.layer.FunctionResult.{FunctionResult}
-use Rattle.cp_slots.specs.declared.lay_out.layer.Parameter as code_parameter
+use Rattle.cp_layout.specs.declared.names.Meaning.{Meaning}
+use Rattle.cp_layout.specs.declared.names.Meaning.TheVariants as meaning
+use Rattle.cp_layout.specs.declared.layer.FunctionResult.{FunctionResult}
+use Rattle.cp_layout.specs.declared.layer.Parameter as code_parameter
 use Rattle.cp_slots.specs.Code as code
 use Rattle.cp_slots.specs.Tables.{RoutineView}
-use Rattle.cp_slots.specs.Values as values
-use Rattle.cp_slots.specs.Values.{Value, ordinal_of, number_value}
-use Rattle.cp_slots.specs.Layers as layers
-use Rattle.cp_slots.specs.Layers.{Layer, Pending, parameter_at, parameter_of, result_of}
-use Rattle.cp_slots.specs.LaidExpressions as laid
-use Rattle.cp_slots.specs.LaidExpressions.{begun, element_selected, field_selected, entry_of, entry_found, passed, named_as, function_as, called, counted, expression, sum, more_terms, term, more_factors, factor, elements, first_value, arguments_from, designator, selectors, selector}
+use Rattle.cp_layout.specs.Values as values
+use Rattle.cp_layout.specs.Values.{Value, ordinal_of, number_value}
+use Rattle.cp_layout.specs.Layers as layers
+use Rattle.cp_layout.specs.Layers.{Layer, Pending, parameter_at, parameter_of, result_of}
+use Rattle.cp_layout.specs.LaidExpressions as laid
+use Rattle.cp_layout.specs.LaidExpressions.{begun, element_selected, field_selected, entry_of, entry_found, passed, named_as, function_as, called, counted, expression, sum, more_terms, term, more_factors, factor, elements, first_value, arguments_from, designator, selectors, selector}
 use Rattle.cp_meaning.specs.Names.{Name, temporary}
 use Rattle.cp_meaning.specs.Types.{Ty}
 use Rattle.cp_meaning.specs.Scopes as scopes

@@ -5,14 +5,14 @@ use Rattle.std.proofs.lemmas.Slice.Eq.{bytes_eq-Decides}
 use Rattle.cp_tree.specs.declared.constant.Identifier.{Identifier}
 use Rattle.cp_tree.specs.Syntax as syntax
 use Rattle.cp_slots.specs.declared.place.Origin.TheVariants.{Permanent}
-use Rattle.cp_slots.specs.declared.lay_out.kinds.ValueType.{ValueType}
-use Rattle.cp_slots.specs.declared.lay_out.kinds.ValueType.TheVariants as types
-use Rattle.cp_slots.specs.declared.lay_out.names.Meaning.{Meaning}
-use Rattle.cp_slots.specs.declared.lay_out.names.Meaning.TheVariants as meaning
+use Rattle.cp_layout.specs.declared.kinds.ValueType.{ValueType}
+use Rattle.cp_layout.specs.declared.kinds.ValueType.TheVariants as types
+use Rattle.cp_layout.specs.declared.names.Meaning.{Meaning}
+use Rattle.cp_layout.specs.declared.names.Meaning.TheVariants as meaning
 use Rattle.cp_slots.specs.declared.tables.ComponentParameter.{ComponentParameter}
-use Rattle.cp_slots.specs.Layers.{Names, Layer, Owned, find}
-use Rattle.cp_slots.specs.LaidTypes.{named_type}
-use Rattle.cp_slots.specs.LaidDeclarations.{component_cell, permanent_part, permanent_parts, Parameters, entered, system_parameter, system_parameters_of, system_group, system_groups}
+use Rattle.cp_layout.specs.Layers.{Names, Layer, Owned, find}
+use Rattle.cp_layout.specs.LaidTypes.{named_type}
+use Rattle.cp_layout.specs.LaidDeclarations.{component_cell, permanent_part, permanent_parts, Parameters, entered, system_parameter, system_parameters_of, system_group, system_groups}
 use Rattle.cp_meaning.specs.Names.{Name}
 use Rattle.cp_meaning.specs.Types as named
 use Rattle.cp_meaning.specs.Types.{Ty}

@@ -3,10 +3,10 @@ use Rattle.std.proofs.Common.{◌≡◌, ◌+◌, ◌<◌, ◌≤◌, ℕ, zero,
 use Rattle.std.proofs.lemmas.Bool.{leb-true, leb-false}
 use Rattle.std.proofs.lemmas.Option.{none-some, same_Some}
 use Rattle.cp_tree.specs.Syntax as syntax
-use Rattle.cp_slots.specs.Layers.{Layer, Heading, System, nothing_laid}
-use Rattle.cp_slots.specs.LaidTypes.{written_type}
-use Rattle.cp_slots.specs.LaidDeclarations as laid
-use Rattle.cp_slots.specs.LaidDeclarations.{Parameters, heading_with, with_new_frame, with_heading, routines, initial_statement, system, type_named, definition, system_definition, system_definitions, program_part, program_parts, constants, variables, program}
+use Rattle.cp_layout.specs.Layers.{Layer, Heading, System, nothing_laid}
+use Rattle.cp_layout.specs.LaidTypes.{written_type}
+use Rattle.cp_layout.specs.LaidDeclarations as laid
+use Rattle.cp_layout.specs.LaidDeclarations.{Parameters, heading_with, with_new_frame, with_heading, routines, initial_statement, system, type_named, definition, system_definition, system_definitions, program_part, program_parts, constants, variables, program}
 use Rattle.cp_meaning.specs.Scopes.{Scope, seen_inside}
 use Rattle.cp_meaning.specs.Systems.{SystemMeaning, system_in, Declared, definition_in, definitions_in, program_part_in, program_parts_in, declared, program_system, own_meaning, or_own, system_of}
 use Rattle.cp_resolved.specs.Begun.{routines_begun, initial_begun, parameters_of, parts_begun, system_begun, definition_begun, definitions_begun, part_begun, program_parts_begun, all_begun}

@@ -1,9 +1,9 @@
 -- The parameters of each routine of the tables: none is a component, the `var` parameters have their numbers in order, and a result is an ordinal.
 use Rattle.std.proofs.Common.{◌≡◌, ◌+◌, ◌<◌, ℕ, suc, Bool, true, false, if◌then◌else◌, List, [], ◌∷◌, ◌++◌, length, Option, Some, None, slice_get, refl, sym, ap, subst, ◌∙◌, append_assoc, append-nil, arith, length-append}
 use Rattle.cp_tree.specs.Syntax.{Program, Tree}
-use Rattle.cp_slots.specs.Laid.{PlainTables, plain, laid}
-use Rattle.cp_slots.specs.Layers.{Layer, nothing_laid, routine_of}
-use Rattle.cp_slots.specs.LaidStatements.{statements}
+use Rattle.cp_layout.specs.Laid.{PlainTables, plain, laid}
+use Rattle.cp_layout.specs.Layers.{Layer, nothing_laid, routine_of}
+use Rattle.cp_layout.specs.LaidStatements.{statements}
 use Rattle.cp_slots.specs.Tables.{Tables, RoutineView, routine_at, no_routine}
 use Rattle.cp_meaning.specs.Names.{Name}
 use Rattle.cp_meaning.specs.Types.{Ty, ordinal, queue_type, set_over, array_over, record_with, component_of}

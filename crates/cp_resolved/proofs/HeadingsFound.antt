@@ -5,16 +5,16 @@ use Rattle.cp_tree.specs.declared.constant.Identifier.{Identifier}
 use Rattle.cp_tree.specs.Syntax as syntax
 use Rattle.cp_slots.specs.declared.place.Origin.{Origin}
 use Rattle.cp_slots.specs.declared.place.Origin.TheVariants as origin
-use Rattle.cp_slots.specs.declared.lay_out.kinds.ValueType.{ValueType}
-use Rattle.cp_slots.specs.declared.lay_out.layer.Passing.{Passing}
-use Rattle.cp_slots.specs.declared.lay_out.layer.Passing.TheVariants as passing
-use Rattle.cp_slots.specs.declared.lay_out.layer.Parameter as code_parameter
-use Rattle.cp_slots.specs.declared.lay_out.names.Meaning.{Meaning}
-use Rattle.cp_slots.specs.declared.lay_out.names.Meaning.TheVariants as meaning
-use Rattle.cp_slots.specs.Kinds.{Compounds}
-use Rattle.cp_slots.specs.Layers.{Names, Layer, find}
-use Rattle.cp_slots.specs.LaidTypes.{named_type}
-use Rattle.cp_slots.specs.LaidDeclarations.{Parameters, value_parameter, constant_parameter, constant_parameters_of, constant_group, constant_groups, reference_parameter, var_parameter, var_parameters_of, var_group, parameter_group, parameter_groups, heading, with_heading, opened}
+use Rattle.cp_layout.specs.declared.kinds.ValueType.{ValueType}
+use Rattle.cp_layout.specs.declared.layer.Passing.{Passing}
+use Rattle.cp_layout.specs.declared.layer.Passing.TheVariants as passing
+use Rattle.cp_layout.specs.declared.layer.Parameter as code_parameter
+use Rattle.cp_layout.specs.declared.names.Meaning.{Meaning}
+use Rattle.cp_layout.specs.declared.names.Meaning.TheVariants as meaning
+use Rattle.cp_layout.specs.Kinds.{Compounds}
+use Rattle.cp_layout.specs.Layers.{Names, Layer, find}
+use Rattle.cp_layout.specs.LaidTypes.{named_type}
+use Rattle.cp_layout.specs.LaidDeclarations.{Parameters, value_parameter, constant_parameter, constant_parameters_of, constant_group, constant_groups, reference_parameter, var_parameter, var_parameters_of, var_group, parameter_group, parameter_groups, heading, with_heading, opened}
 use Rattle.cp_meaning.specs.Names.{Name, same_name}
 use Rattle.cp_meaning.specs.Types as named
 use Rattle.cp_meaning.specs.Types.{Ty}

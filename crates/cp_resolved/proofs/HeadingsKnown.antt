@@ -5,14 +5,14 @@ use Rattle.std.proofs.lemmas.Bool.{leb-true, ltb-true}
 use Rattle.std.proofs.lemmas.Option.{none-some, same_Some}
 use Rattle.cp_tree.specs.Syntax as syntax
 use Rattle.cp_slots.specs.declared.place.Origin.{Origin}
-use Rattle.cp_slots.specs.declared.lay_out.names.Meaning.TheVariants as meaning
+use Rattle.cp_layout.specs.declared.names.Meaning.TheVariants as meaning
 use Rattle.cp_slots.specs.Code as code
-use Rattle.cp_slots.specs.Kinds.{Compounds}
-use Rattle.cp_slots.specs.Layers as layers
-use Rattle.cp_slots.specs.Layers.{Names, Layer, Heading, System, nothing_laid}
-use Rattle.cp_slots.specs.LaidDeclarations.{Parameters}
-use Rattle.cp_slots.specs.LaidExpressions.{entry_among, entry_in, entry_of}
-use Rattle.cp_slots.specs.LaidStatements.{initial_in, initial_of}
+use Rattle.cp_layout.specs.Kinds.{Compounds}
+use Rattle.cp_layout.specs.Layers as layers
+use Rattle.cp_layout.specs.Layers.{Names, Layer, Heading, System, nothing_laid}
+use Rattle.cp_layout.specs.LaidDeclarations.{Parameters}
+use Rattle.cp_layout.specs.LaidExpressions.{entry_among, entry_in, entry_of}
+use Rattle.cp_layout.specs.LaidStatements.{initial_in, initial_of}
 use Rattle.cp_meaning.specs.Names.{Name}
 use Rattle.cp_meaning.specs.Types as named
 use Rattle.cp_meaning.specs.Types.{Ty}

@@ -1,8 +1,8 @@
 -- Tables that stand for an accepted tree have what the law on items inside wants of them.
 use Rattle.std.specs.Prelude.{◌≡◌, ℕ, Some, slice_get}
 use Rattle.cp_tree.specs.Syntax.{Tree}
-use Rattle.cp_slots.specs.Laid.{plain, laid}
-use Rattle.cp_slots.specs.Layers.{Layer}
+use Rattle.cp_layout.specs.Laid.{plain, laid}
+use Rattle.cp_layout.specs.Layers.{Layer}
 use Rattle.cp_slots.specs.Tables.{Tables}
 use Rattle.cp_lawful.specs.Accepted.{IsAccepted}
 use Rattle.cp_lawful.proofs.Accepting.{well_formed}

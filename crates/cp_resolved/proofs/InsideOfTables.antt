@@ -6,10 +6,10 @@ use Rattle.cp_slots.specs.declared.place.Origin.{Origin}
 use Rattle.cp_slots.specs.declared.place.Origin.TheVariants as origin
 use Rattle.cp_slots.specs.Code as code
 use Rattle.cp_slots.specs.Inside.{extent_at, room_from}
-use Rattle.cp_slots.specs.Kinds.{most}
-use Rattle.cp_slots.specs.Laid.{plain, system_types, laid}
-use Rattle.cp_slots.specs.Layers.{Layer}
-use Rattle.cp_slots.specs.LaidStatements.{statements}
+use Rattle.cp_layout.specs.Kinds.{most}
+use Rattle.cp_layout.specs.Laid.{plain, system_types, laid}
+use Rattle.cp_layout.specs.Layers.{Layer}
+use Rattle.cp_layout.specs.LaidStatements.{statements}
 use Rattle.cp_slots.specs.Systems.{ActionNames}
 use Rattle.cp_slots.specs.Tables.{Tables, RoutineView, SystemView, item_at, routine_at, system_at, no_system}
 use Rattle.cp_meaning.specs.Names.{Name, result_name}

@@ -1,7 +1,7 @@
 -- The items that are laid out of a statement mean something: the calls in it, and its own item.
 use Rattle.std.proofs.Common.{◌≡◌, ℕ, List, [], ◌∷◌, ◌++◌, length, Option, Some, refl, sym, ap, subst, ◌∙◌, append-nil, append_assoc}
 use Rattle.cp_slots.specs.Code as code
-use Rattle.cp_slots.specs.Layers.{Layer, Pending, added, without_pending, settled_all}
+use Rattle.cp_layout.specs.Layers.{Layer, Pending, added, without_pending, settled_all}
 use Rattle.cp_meaning.specs.Names.{temporary}
 use Rattle.cp_meaning.specs.State.{Item, function_call, statement_item, start_item, until, successor, return, init_end, end}
 use Rattle.cp_resolved.specs.Layouts.{Here}

@@ -2,11 +2,11 @@
 use Rattle.std.proofs.Common.{◌≡◌, ℕ, ◌+◌, Bool, true, false, List, Option, Some, None, ap, ◌∙◌, refl}
 use Rattle.cp_tree.specs.Syntax as syntax
 use Rattle.cp_slots.specs.Code.{SetExpression, ComponentPlace, Argument}
-use Rattle.cp_slots.specs.declared.lay_out.layer.FunctionResult.{FunctionResult}
-use Rattle.cp_slots.specs.Values.{Value, Designated, a_value, a_variable, a_contained, a_component, a_routine, an_entry, a_standard, no_designated, ordinal_of, multiplied, added}
+use Rattle.cp_layout.specs.declared.layer.FunctionResult.{FunctionResult}
+use Rattle.cp_layout.specs.Values.{Value, Designated, a_value, a_variable, a_contained, a_component, a_routine, an_entry, a_standard, no_designated, ordinal_of, multiplied, added}
 use Rattle.cp_slots.specs.Code as code
-use Rattle.cp_slots.specs.Layers.{Layer, Frame, Pending, result_of}
-use Rattle.cp_slots.specs.LaidExpressions.{expression, sum, more_terms, term, more_factors, factor, elements, first_value, arguments_from, designator, selectors, selector, begun, signed, counted, called, function_as, named_as}
+use Rattle.cp_layout.specs.Layers.{Layer, Frame, Pending, result_of}
+use Rattle.cp_layout.specs.LaidExpressions.{expression, sum, more_terms, term, more_factors, factor, elements, first_value, arguments_from, designator, selectors, selector, begun, signed, counted, called, function_as, named_as}
 
 abbrev pub changed : Layer → Frame → List Pending → ℕ → Layer
 changed l f ps n = record l { frame = f; pending = ps; arguments = n }

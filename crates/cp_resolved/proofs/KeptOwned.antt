@@ -2,14 +2,14 @@
 use Rattle.std.proofs.Common.{◌≡◌, ◌+◌, ℕ, Bool, true, false, if◌then◌else◌, List, [], ◌∷◌, length, refl, ap, ◌∙◌}
 use Rattle.cp_tree.specs.declared.constant.Identifier.{Identifier}
 use Rattle.cp_tree.specs.Syntax as syntax
-use Rattle.cp_slots.specs.declared.lay_out.kinds.Base.{Base}
-use Rattle.cp_slots.specs.declared.lay_out.kinds.ValueType.{ValueType}
-use Rattle.cp_slots.specs.declared.lay_out.names.Meaning.TheVariants as meaning
-use Rattle.cp_slots.specs.Kinds.{Fields, no_fields}
-use Rattle.cp_slots.specs.Layers.{Layer}
-use Rattle.cp_slots.specs.LaidExpressions.{as_integer}
-use Rattle.cp_slots.specs.LaidTypes.{named_type, simple_type, enumerated, enumeration_base, with_constant, written_type, field_groups, field_group}
-use Rattle.cp_slots.specs.LaidDeclarations.{constant, constants, type_definition, type_definitions, local, locals_of, local_group, local_variables, local_part, local_parts, Parameters, constant_parameter, constant_parameters_of, constant_group, constant_groups, var_parameter, var_parameters_of, var_group, parameter_group, parameter_groups, heading, body, with_heading, opened, routine, routines, system, definition}
+use Rattle.cp_layout.specs.declared.kinds.Base.{Base}
+use Rattle.cp_layout.specs.declared.kinds.ValueType.{ValueType}
+use Rattle.cp_layout.specs.declared.names.Meaning.TheVariants as meaning
+use Rattle.cp_layout.specs.Kinds.{Fields, no_fields}
+use Rattle.cp_layout.specs.Layers.{Layer}
+use Rattle.cp_layout.specs.LaidExpressions.{as_integer}
+use Rattle.cp_layout.specs.LaidTypes.{named_type, simple_type, enumerated, enumeration_base, with_constant, written_type, field_groups, field_group}
+use Rattle.cp_layout.specs.LaidDeclarations.{constant, constants, type_definition, type_definitions, local, locals_of, local_group, local_variables, local_part, local_parts, Parameters, constant_parameter, constant_parameters_of, constant_group, constant_groups, var_parameter, var_parameters_of, var_group, parameter_group, parameter_groups, heading, body, with_heading, opened, routine, routines, system, definition}
 use Rattle.cp_resolved.specs.Begun.{routine_begun}
 use Rattle.cp_resolved.proofs.Grown.{statements_grew}
 

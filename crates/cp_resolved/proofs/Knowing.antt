@@ -2,10 +2,10 @@
 use Rattle.std.proofs.Common.{◌≡◌, ◌+◌, ◌<◌, ◌≤◌, ℕ, suc, Bool, true, false, if◌then◌else◌, List, [], ◌∷◌, ◌++◌, length, Some, None, slice_get, refl, sym, ap, subst, ◌∙◌, arith, append-nil, length-append}
 use Rattle.std.proofs.lemmas.Option.{none-some}
 use Rattle.cp_tree.specs.Syntax as syntax
-use Rattle.cp_slots.specs.declared.lay_out.names.Meaning.TheVariants as meaning
-use Rattle.cp_slots.specs.Layers.{Layer, Heading, System}
-use Rattle.cp_slots.specs.LaidExpressions.{entry_among, entry_in, entry_of}
-use Rattle.cp_slots.specs.LaidDeclarations.{Parameters, heading, heading_with, body, with_heading, opened, routine, routines, entered, system_groups}
+use Rattle.cp_layout.specs.declared.names.Meaning.TheVariants as meaning
+use Rattle.cp_layout.specs.Layers.{Layer, Heading, System}
+use Rattle.cp_layout.specs.LaidExpressions.{entry_among, entry_in, entry_of}
+use Rattle.cp_layout.specs.LaidDeclarations.{Parameters, heading, heading_with, body, with_heading, opened, routine, routines, entered, system_groups}
 use Rattle.cp_meaning.specs.Names.{Name, same_name}
 use Rattle.cp_meaning.specs.Types.{component_of}
 use Rattle.cp_meaning.specs.Scopes as scopes

@@ -3,12 +3,12 @@ use Rattle.std.proofs.Common.{◌≡◌, ◌+◌, ◌<◌, ℕ, suc, List, [], �
 use Rattle.std.specs.Prelude.{◌⊎◌}
 use Rattle.std.proofs.lemmas.Option.{none-some, same_Some, slice_get_within}
 use Rattle.cp_tree.specs.Syntax as syntax
-use Rattle.cp_slots.specs.declared.lay_out.names.Meaning.TheVariants as meaning
-use Rattle.cp_slots.specs.declared.lay_out.names.Meaning.{Meaning}
-use Rattle.cp_slots.specs.Layers.{Layer, Heading, System, nothing_laid, with_name}
-use Rattle.cp_slots.specs.LaidExpressions.{entry_among, entry_in}
-use Rattle.cp_slots.specs.LaidTypes.{written_type}
-use Rattle.cp_slots.specs.LaidDeclarations.{heading_with, routine, routines, initial_statement, system_of, system, type_named, system_definition, system_definitions, program_part, program_parts, constants, variables, definition}
+use Rattle.cp_layout.specs.declared.names.Meaning.TheVariants as meaning
+use Rattle.cp_layout.specs.declared.names.Meaning.{Meaning}
+use Rattle.cp_layout.specs.Layers.{Layer, Heading, System, nothing_laid, with_name}
+use Rattle.cp_layout.specs.LaidExpressions.{entry_among, entry_in}
+use Rattle.cp_layout.specs.LaidTypes.{written_type}
+use Rattle.cp_layout.specs.LaidDeclarations.{heading_with, routine, routines, initial_statement, system_of, system, type_named, system_definition, system_definitions, program_part, program_parts, constants, variables, definition}
 use Rattle.cp_meaning.specs.Names.{Name}
 use Rattle.cp_meaning.specs.Types.{component_of}
 use Rattle.cp_meaning.specs.Scopes.{Scope, find, seen_inside}

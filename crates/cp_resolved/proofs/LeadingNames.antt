@@ -4,7 +4,7 @@ use Rattle.std.proofs.lemmas.List.{length-map}
 use Rattle.std.proofs.lemmas.Option.{slice_get_within}
 use Rattle.cp_tree.specs.Syntax.{Program, Tree}
 use Rattle.cp_slots.specs.declared.place.ComponentPlace.TheVariants as place_in
-use Rattle.cp_slots.specs.Laid.{plain, laid}
+use Rattle.cp_layout.specs.Laid.{plain, laid}
 use Rattle.cp_slots.specs.Systems.{IsOf, Names}
 use Rattle.cp_slots.specs.Tables.{Tables, component_at}
 use Rattle.cp_lawful.proofs.Earlier.{TyBelow, VariablesBelow, ParametersBelow, systems_below}

@@ -5,10 +5,10 @@ use Rattle.std.proofs.lemmas.Option.{slice_get_within}
 use Rattle.std.proofs.lemmas.Bool.{eqb-true}
 use Rattle.std.proofs.Math.Dec.{T, eqb_refl, leb-zero}
 use Rattle.std.proofs.Math.Nat.{mul_comm}
-use Rattle.cp_slots.specs.declared.lay_out.kinds.ValueType.{ValueType}
-use Rattle.cp_slots.specs.declared.lay_out.kinds.ValueType.TheVariants as types
-use Rattle.cp_slots.specs.Kinds as kinds
-use Rattle.cp_slots.specs.Kinds.{Compound, array, record_with, Compounds, Field, compound_cells, count_of, most, times, array_type, least_by, fields_least, elements_least, compound_least, compound_below, least_below}
+use Rattle.cp_layout.specs.declared.kinds.ValueType.{ValueType}
+use Rattle.cp_layout.specs.declared.kinds.ValueType.TheVariants as types
+use Rattle.cp_layout.specs.Kinds as kinds
+use Rattle.cp_layout.specs.Kinds.{Compound, array, record_with, Compounds, Field, compound_cells, count_of, most, times, array_type, least_by, fields_least, elements_least, compound_least, compound_below, least_below}
 use Rattle.cp_meaning.specs.Types as named
 use Rattle.cp_meaning.specs.Types.{Base, Range, Ty, FieldTypes, length_of_range, is_within, has_components}
 use Rattle.cp_meaning.specs.Operations.{range_of_base}

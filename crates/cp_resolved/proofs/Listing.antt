@@ -7,10 +7,10 @@ use Rattle.cp_slots.specs.declared.tables.Component.{Component}
 use Rattle.cp_slots.specs.declared.tables.ComponentKind.{ComponentKind}
 use Rattle.cp_slots.specs.declared.tables.ComponentKind.TheVariants as kind
 use Rattle.cp_slots.specs.declared.tables.Process.{Process}
-use Rattle.cp_slots.specs.declared.lay_out.layer.Contained.{Contained}
-use Rattle.cp_slots.specs.Kinds.{Compounds}
-use Rattle.cp_slots.specs.Layers.{Owned, System}
-use Rattle.cp_slots.specs.LaidComponents.{Listing, nothing_listed, contents_least, byte, process_at, next_kind, component_with, with_component, again_and_again, contained_by, system_by, listed_below, program_listed}
+use Rattle.cp_layout.specs.declared.layer.Contained.{Contained}
+use Rattle.cp_layout.specs.Kinds.{Compounds}
+use Rattle.cp_layout.specs.Layers.{Owned, System}
+use Rattle.cp_layout.specs.LaidComponents.{Listing, nothing_listed, contents_least, byte, process_at, next_kind, component_with, with_component, again_and_again, contained_by, system_by, listed_below, program_listed}
 use Rattle.cp_resolved.proofs.Entries.{still_there, last_entry, last_or_before}
 
 -- ---- what holds of a listing

@@ -1,6 +1,6 @@
 -- A loop begins again at the first item of its statement, which needs no more than the loop.
 use Rattle.std.proofs.Common.{◌≡◌, ℕ, ◌<◌, ◌≤◌, max, nat_lt, Bool, true, false, if◌then◌else◌, List, [], ◌∷◌, ◌++◌, refl, arith, rules}
-use Rattle.cp_slots.specs.Layers.{Pending, pending_need_from}
+use Rattle.cp_layout.specs.Layers.{Pending, pending_need_from}
 use Rattle.cp_resolved.proofs.Settled.{greatest}
 
 -- the greatest of two

@@ -1,7 +1,7 @@
 -- The tables of an accepted program that was read are modest: the program is inside its limits, and no count of it has stopped.
 use Rattle.std.proofs.Common.{◌≡◌, arith}
 use Rattle.cp_tree.specs.Syntax.{Tree}
-use Rattle.cp_slots.specs.Laid.{plain, laid}
+use Rattle.cp_layout.specs.Laid.{plain, laid}
 use Rattle.cp_slots.specs.Tables.{Tables}
 use Rattle.cp_lawful.specs.Accepted.{IsAccepted}
 use Rattle.cp_tree.specs.Read.{IsRead}

@@ -1,17 +1,17 @@
 -- What names, types and system types lead to is there: the numbers of system types and routines are below how many there are.
 use Rattle.std.proofs.Common.{◌≡◌, ℕ, suc, ◌+◌, ◌<◌, ◌≤◌, Bool, true, false, if◌then◌else◌, ◌&&◌, nat_le, nat_lt, List, [], ◌∷◌, drop, length, Option, Some, None, slice_get, refl, sym, subst, arith, rules}
 use Rattle.std.specs.Str.{bytes_eq}
-use Rattle.cp_slots.specs.declared.lay_out.kinds.ValueType.{ValueType}
-use Rattle.cp_slots.specs.declared.lay_out.kinds.ValueType.TheVariants as types
-use Rattle.cp_slots.specs.declared.lay_out.kinds.ArrayType.{ArrayType}
-use Rattle.cp_slots.specs.declared.lay_out.names.Meaning.{Meaning}
-use Rattle.cp_slots.specs.declared.lay_out.names.Meaning.TheVariants as meaning
+use Rattle.cp_layout.specs.declared.kinds.ValueType.{ValueType}
+use Rattle.cp_layout.specs.declared.kinds.ValueType.TheVariants as types
+use Rattle.cp_layout.specs.declared.kinds.ArrayType.{ArrayType}
+use Rattle.cp_layout.specs.declared.names.Meaning.{Meaning}
+use Rattle.cp_layout.specs.declared.names.Meaning.TheVariants as meaning
 use Rattle.cp_slots.specs.Code.{ComponentPlace, Expression, Place}
-use Rattle.cp_slots.specs.Kinds.{Compound, array, record_with, Compounds, array_of, as_array, field_of, Field}
-use Rattle.cp_slots.specs.Values.{Designated, a_value, a_variable, a_contained, a_component, a_routine, an_entry, a_standard, no_designated}
-use Rattle.cp_slots.specs.Layers.{Names, find, seen_inside, with_open, is_open, Layer, Heading, System}
-use Rattle.cp_slots.specs.LaidExpressions.{begun_as, begun, entry_among, entry_in, entry_of, entry_found, field_found, field_selected, element_found, component_of_array, component_found, element_selected}
-use Rattle.cp_slots.specs.LaidStatements.{initial_in, initial_of}
+use Rattle.cp_layout.specs.Kinds.{Compound, array, record_with, Compounds, array_of, as_array, field_of, Field}
+use Rattle.cp_layout.specs.Values.{Designated, a_value, a_variable, a_contained, a_component, a_routine, an_entry, a_standard, no_designated}
+use Rattle.cp_layout.specs.Layers.{Names, find, seen_inside, with_open, is_open, Layer, Heading, System}
+use Rattle.cp_layout.specs.LaidExpressions.{begun_as, begun, entry_among, entry_in, entry_of, entry_found, field_found, field_selected, element_found, component_of_array, component_found, element_selected}
+use Rattle.cp_layout.specs.LaidStatements.{initial_in, initial_of}
 use Rattle.cp_resolved.proofs.Entries.{there}
 
 -- ---- this many system types and routines

@@ -2,16 +2,16 @@
 use Rattle.std.proofs.Common.{◌≡◌, ◌+◌, ℕ, Bool, false, if◌then◌else◌, List, [], ◌∷◌, ◌++◌, length, Option, Some, None, refl, ap, ◌∙◌}
 use Rattle.cp_tree.specs.declared.constant.Identifier.{Identifier}
 use Rattle.cp_tree.specs.Syntax as syntax
-use Rattle.cp_slots.specs.declared.lay_out.kinds.Base.{Base}
-use Rattle.cp_slots.specs.declared.lay_out.kinds.ValueType.{ValueType}
-use Rattle.cp_slots.specs.declared.lay_out.layer.Contained.{Contained}
-use Rattle.cp_slots.specs.declared.lay_out.names.Meaning.{Meaning}
-use Rattle.cp_slots.specs.declared.lay_out.names.Meaning.TheVariants as meaning
-use Rattle.cp_slots.specs.Kinds.{Fields, no_fields}
-use Rattle.cp_slots.specs.Layers.{Names, Layer, find}
-use Rattle.cp_slots.specs.LaidExpressions.{as_integer}
-use Rattle.cp_slots.specs.LaidTypes.{with_constant, enumerated, enumeration_base, simple_type, written_type, field_groups, field_group}
-use Rattle.cp_slots.specs.LaidDeclarations.{constant, constants, type_definition, type_definitions, components_of, variable, variable_with, variables_of, variable_group, variables, local, locals_of, local_group, local_variables, permanent_part, permanent_parts, local_part, local_parts}
+use Rattle.cp_layout.specs.declared.kinds.Base.{Base}
+use Rattle.cp_layout.specs.declared.kinds.ValueType.{ValueType}
+use Rattle.cp_layout.specs.declared.layer.Contained.{Contained}
+use Rattle.cp_layout.specs.declared.names.Meaning.{Meaning}
+use Rattle.cp_layout.specs.declared.names.Meaning.TheVariants as meaning
+use Rattle.cp_layout.specs.Kinds.{Fields, no_fields}
+use Rattle.cp_layout.specs.Layers.{Names, Layer, find}
+use Rattle.cp_layout.specs.LaidExpressions.{as_integer}
+use Rattle.cp_layout.specs.LaidTypes.{with_constant, enumerated, enumeration_base, simple_type, written_type, field_groups, field_group}
+use Rattle.cp_layout.specs.LaidDeclarations.{constant, constants, type_definition, type_definitions, components_of, variable, variable_with, variables_of, variable_group, variables, local, locals_of, local_group, local_variables, permanent_part, permanent_parts, local_part, local_parts}
 use Rattle.cp_meaning.specs.Names.{Name, same_name}
 use Rattle.cp_meaning.specs.Declarations.{names_of}
 use Rattle.cp_resolved.specs.Distinct.{IsOther, all_names, simple_names, type_names, groups_names, part_names}

@@ -9,13 +9,13 @@ use Rattle.cp_tree.specs.declared.expression.Addition.{Addition}
 use Rattle.cp_tree.specs.declared.expression.Addition.TheVariants as addition
 use Rattle.cp_tree.specs.declared.expression.Multiplication.{Multiplication}
 use Rattle.cp_tree.specs.declared.expression.Multiplication.TheVariants as multiplication
-use Rattle.cp_slots.specs.declared.lay_out.kinds.Base as code_base
-use Rattle.cp_slots.specs.declared.lay_out.kinds.Base.TheVariants as base
-use Rattle.cp_slots.specs.Kinds.{Compounds}
+use Rattle.cp_layout.specs.declared.kinds.Base as code_base
+use Rattle.cp_layout.specs.declared.kinds.Base.TheVariants as base
+use Rattle.cp_layout.specs.Kinds.{Compounds}
 use Rattle.cp_slots.specs.Code as code
-use Rattle.cp_slots.specs.Values as values
-use Rattle.cp_slots.specs.Values.{Value, ordinal_value, set_value, ordinal_of, applied}
-use Rattle.cp_slots.specs.LaidExpressions.{signed}
+use Rattle.cp_layout.specs.Values as values
+use Rattle.cp_layout.specs.Values.{Value, ordinal_value, set_value, ordinal_of, applied}
+use Rattle.cp_layout.specs.LaidExpressions.{signed}
 use Rattle.cp_meaning.specs.Types as named
 use Rattle.cp_meaning.specs.Types.{Base, integers, Range, Ty, ordinal, all_integers, all_booleans, all_characters}
 use Rattle.cp_resolved.specs.Compiled.{Form, as_ordinal, as_set, as_place, as_component, Formed, integer_form, truth_form, set_form, is_integer_base, is_integer, is_boolean, compared_forms, added_ordinals, added_forms, multiplied_ordinals, multiplied_forms, signed_ordinal, signed_form, not_form_of, not_form, with_member_form}

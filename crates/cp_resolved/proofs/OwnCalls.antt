@@ -29,12 +29,12 @@ use Rattle.cp_lawful.proofs.Loud.{Loud, Heard}
 use Rattle.cp_lawful.proofs.Once.{no_left, no_right, no_first, none_before, inside_sound, defined_sound, declarations_sound, parts_sound}
 use Rattle.cp_lawful.proofs.Told as told
 use Rattle.cp_lawful.proofs.Told.{Told, heard}
-use Rattle.cp_slots.specs.declared.lay_out.names.Meaning as laid_meaning
-use Rattle.cp_slots.specs.declared.lay_out.names.Meaning.TheVariants as meaning
-use Rattle.cp_slots.specs.Layers as layers
-use Rattle.cp_slots.specs.Layers.{Layer, Pending, find, seen_inside, with_open, is_open, nothing_laid}
-use Rattle.cp_slots.specs.LaidDeclarations as lays
-use Rattle.cp_slots.specs.LaidDeclarations.{body, Parameters, heading, heading_with, with_heading, with_new_frame, opened, local_parts, permanent_parts, system_groups, entered, initial_statement, type_named, definition, system, system_definition, system_definitions, program_part, program_parts, program}
+use Rattle.cp_layout.specs.declared.names.Meaning as laid_meaning
+use Rattle.cp_layout.specs.declared.names.Meaning.TheVariants as meaning
+use Rattle.cp_layout.specs.Layers as layers
+use Rattle.cp_layout.specs.Layers.{Layer, Pending, find, seen_inside, with_open, is_open, nothing_laid}
+use Rattle.cp_layout.specs.LaidDeclarations as lays
+use Rattle.cp_layout.specs.LaidDeclarations.{body, Parameters, heading, heading_with, with_heading, with_new_frame, opened, local_parts, permanent_parts, system_groups, entered, initial_statement, type_named, definition, system, system_definition, system_definitions, program_part, program_parts, program}
 use Rattle.cp_resolved.specs.Small.{Each}
 use Rattle.cp_resolved.proofs.Avoiding.{statements_avoid}
 use Rattle.cp_resolved.proofs.Declared.{Declared, then_declared, heading_declared, local_parts_declared, permanent_declared, system_groups_declared, constants_declared, variables_declared, written_typed}

@@ -5,9 +5,9 @@ use Rattle.cp_slots.specs.declared.item.Item as code_item
 use Rattle.cp_slots.specs.declared.item.Action as code_action
 use Rattle.cp_slots.specs.declared.item.Action.TheVariants as action
 use Rattle.cp_slots.specs.Code.{action_seen, item_seen}
-use Rattle.cp_slots.specs.Laid.{PlainTables, laid, tables_laid}
-use Rattle.cp_slots.specs.LaidDeclarations.{program}
-use Rattle.cp_slots.specs.Layers.{nothing_laid}
+use Rattle.cp_layout.specs.Laid.{PlainTables, laid, tables_laid}
+use Rattle.cp_layout.specs.LaidDeclarations.{program}
+use Rattle.cp_layout.specs.Layers.{nothing_laid}
 use Rattle.cp_slots.specs.Tables.{no_item}
 use Rattle.cp_resolved.specs.OwnCalls.{OwnCallsLaw}
 use Rattle.cp_resolved.specs.Soundness.{IsOwnCall}

@@ -3,9 +3,9 @@ use Rattle.std.proofs.Common.{◌≡◌, ℕ, List, [], ◌∷◌, ◌++◌, len
 use Rattle.std.proofs.lemmas.Option.{none-some}
 use Rattle.cp_tree.specs.Syntax as syntax
 use Rattle.cp_slots.specs.Tables.{RoutineView}
-use Rattle.cp_slots.specs.Layers.{Layer, Owned, System, nothing_laid, routine_of, with_routine}
-use Rattle.cp_slots.specs.LaidStatements.{statements}
-use Rattle.cp_slots.specs.LaidDeclarations.{heading, with_heading, opened, routine, routines, initial_statement, system, system_of, definition, system_definition, system_definitions, program_part, program_parts, constants, variables, program}
+use Rattle.cp_layout.specs.Layers.{Layer, Owned, System, nothing_laid, routine_of, with_routine}
+use Rattle.cp_layout.specs.LaidStatements.{statements}
+use Rattle.cp_layout.specs.LaidDeclarations.{heading, with_heading, opened, routine, routines, initial_statement, system, system_of, definition, system_definition, system_definitions, program_part, program_parts, constants, variables, program}
 use Rattle.cp_resolved.specs.Begun.{routine_begun, initial_begun, parameters_of, parts_begun, system_begun}
 use Rattle.cp_resolved.specs.TreeLayouts.{whole_laid}
 use Rattle.cp_resolved.proofs.Declares.{heading_declares, local_parts_declare, type_declares, constants_declare, variables_declare}

@@ -22,18 +22,18 @@ use Rattle.cp_check.specs.Types.{Step, nothing, typed}
 use Rattle.cp_check.specs.Declarations.{reserve_name, reserve_names, add_names, add_all, add_one, constant_step, constant_steps, type_step, type_steps, variable_step, variable_steps, part_step, part_steps}
 use Rattle.cp_check.specs.Headings as headings
 use Rattle.cp_check.specs.Systems as systems
-use Rattle.cp_slots.specs.declared.lay_out.kinds.Base.{Base}
-use Rattle.cp_slots.specs.declared.lay_out.kinds.ValueType.{ValueType}
-use Rattle.cp_slots.specs.declared.lay_out.kinds.ValueType.TheVariants as types
-use Rattle.cp_slots.specs.declared.lay_out.layer.Contained.{Contained}
-use Rattle.cp_slots.specs.declared.lay_out.names.Meaning.{Meaning}
-use Rattle.cp_slots.specs.declared.lay_out.names.Meaning.TheVariants as meaning
-use Rattle.cp_slots.specs.Kinds.{Fields, no_fields}
-use Rattle.cp_slots.specs.LaidExpressions.{as_integer}
-use Rattle.cp_slots.specs.Layers as layers
-use Rattle.cp_slots.specs.Layers.{Layer, find}
-use Rattle.cp_slots.specs.LaidTypes.{with_constant, enumerated, simple_type, written_type, field_groups, field_group, named_type}
-use Rattle.cp_slots.specs.LaidDeclarations.{constant, constants, type_definition, type_definitions, components_of, variable_with, variable, variables_of, variables, local, locals_of, local_variables, permanent_part, permanent_parts, local_part, local_parts, Parameters, constant_parameter, constant_parameters_of, constant_groups, var_parameter, var_parameters_of, parameter_group, parameter_groups, heading, system_parameter, system_parameters_of, system_groups}
+use Rattle.cp_layout.specs.declared.kinds.Base.{Base}
+use Rattle.cp_layout.specs.declared.kinds.ValueType.{ValueType}
+use Rattle.cp_layout.specs.declared.kinds.ValueType.TheVariants as types
+use Rattle.cp_layout.specs.declared.layer.Contained.{Contained}
+use Rattle.cp_layout.specs.declared.names.Meaning.{Meaning}
+use Rattle.cp_layout.specs.declared.names.Meaning.TheVariants as meaning
+use Rattle.cp_layout.specs.Kinds.{Fields, no_fields}
+use Rattle.cp_layout.specs.LaidExpressions.{as_integer}
+use Rattle.cp_layout.specs.Layers as layers
+use Rattle.cp_layout.specs.Layers.{Layer, find}
+use Rattle.cp_layout.specs.LaidTypes.{with_constant, enumerated, simple_type, written_type, field_groups, field_group, named_type}
+use Rattle.cp_layout.specs.LaidDeclarations.{constant, constants, type_definition, type_definitions, components_of, variable_with, variable, variables_of, variables, local, locals_of, local_variables, permanent_part, permanent_parts, local_part, local_parts, Parameters, constant_parameter, constant_parameters_of, constant_groups, var_parameter, var_parameters_of, parameter_group, parameter_groups, heading, system_parameter, system_parameters_of, system_groups}
 use Rattle.cp_lawful.proofs.Classes as classes
 
 -- ---- one name

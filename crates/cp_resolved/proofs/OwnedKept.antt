@@ -2,10 +2,10 @@
 use Rattle.std.proofs.Common.{◌≡◌, ℕ, Bool, true, false, if◌then◌else◌, List, [], ◌∷◌, ap, refl, ◌∙◌}
 use Rattle.cp_tree.specs.declared.constant.Identifier.{Identifier}
 use Rattle.cp_tree.specs.Syntax as syntax
-use Rattle.cp_slots.specs.declared.lay_out.kinds.ValueType.{ValueType}
-use Rattle.cp_slots.specs.Layers.{Layer, Heading}
-use Rattle.cp_slots.specs.LaidTypes.{named_type, written_type}
-use Rattle.cp_slots.specs.LaidDeclarations.{constants, type_definitions, local, locals_of, local_group, local_variables, local_part, local_parts, Parameters, constant_parameter, constant_parameters_of, constant_group, constant_groups, var_parameter, var_parameters_of, var_group, parameter_group, parameter_groups, heading, with_heading, opened, body, routine, routines}
+use Rattle.cp_layout.specs.declared.kinds.ValueType.{ValueType}
+use Rattle.cp_layout.specs.Layers.{Layer, Heading}
+use Rattle.cp_layout.specs.LaidTypes.{named_type, written_type}
+use Rattle.cp_layout.specs.LaidDeclarations.{constants, type_definitions, local, locals_of, local_group, local_variables, local_part, local_parts, Parameters, constant_parameter, constant_parameters_of, constant_group, constant_groups, var_parameter, var_parameters_of, var_group, parameter_group, parameter_groups, heading, with_heading, opened, body, routine, routines}
 use Rattle.cp_resolved.specs.Begun.{routine_begun}
 use Rattle.cp_resolved.proofs.FrameKept.{constants_cells, definitions_cells, type_cells, owned_same}
 use Rattle.cp_resolved.proofs.Grown.{statements_grew}

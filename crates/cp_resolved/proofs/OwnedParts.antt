@@ -3,16 +3,16 @@ use Rattle.std.proofs.Common.{◌≡◌, ℕ, ◌<◌, true, List, [], ◌∷◌
 use Rattle.std.specs.Str.{bytes_eq}
 use Rattle.std.proofs.lemmas.Slice.Eq.{bytes_eq-Decides}
 use Rattle.cp_slots.specs.declared.place.Origin.TheVariants.{Permanent}
-use Rattle.cp_slots.specs.declared.lay_out.kinds.ValueType.{ValueType}
-use Rattle.cp_slots.specs.declared.lay_out.layer.Contained.{Contained}
-use Rattle.cp_slots.specs.declared.lay_out.layer.Content.{Content}
-use Rattle.cp_slots.specs.declared.lay_out.layer.Content.TheVariants as content
-use Rattle.cp_slots.specs.declared.lay_out.names.Meaning.{Meaning}
-use Rattle.cp_slots.specs.declared.lay_out.names.Meaning.TheVariants as meaning
-use Rattle.cp_slots.specs.Kinds.{Compounds, cells_of, plus, times}
-use Rattle.cp_slots.specs.Layers.{Names, Layer, Owned, System, find}
-use Rattle.cp_slots.specs.LaidExpressions.{count_in}
-use Rattle.cp_slots.specs.LaidDeclarations.{component_cell}
+use Rattle.cp_layout.specs.declared.kinds.ValueType.{ValueType}
+use Rattle.cp_layout.specs.declared.layer.Contained.{Contained}
+use Rattle.cp_layout.specs.declared.layer.Content.{Content}
+use Rattle.cp_layout.specs.declared.layer.Content.TheVariants as content
+use Rattle.cp_layout.specs.declared.names.Meaning.{Meaning}
+use Rattle.cp_layout.specs.declared.names.Meaning.TheVariants as meaning
+use Rattle.cp_layout.specs.Kinds.{Compounds, cells_of, plus, times}
+use Rattle.cp_layout.specs.Layers.{Names, Layer, Owned, System, find}
+use Rattle.cp_layout.specs.LaidExpressions.{count_in}
+use Rattle.cp_layout.specs.LaidDeclarations.{component_cell}
 use Rattle.cp_meaning.specs.Names.{Name}
 use Rattle.cp_meaning.specs.Types.{Ty, array_over, component_of, length_of_range}
 use Rattle.cp_meaning.specs.Declarations.{Variable}

@@ -3,12 +3,12 @@ use Rattle.std.proofs.Common.{◌≡◌, ◌+◌, ◌*◌, ◌<◌, ◌≤◌, �
 use Rattle.std.specs.Prelude.{min}
 use Rattle.std.proofs.lemmas.Option.{none-some, slice_get_within}
 use Rattle.cp_tree.specs.Syntax.{Tree}
-use Rattle.cp_slots.specs.declared.lay_out.names.Meaning.{Meaning}
-use Rattle.cp_slots.specs.declared.lay_out.names.Meaning.TheVariants as meaning
-use Rattle.cp_slots.specs.Kinds.{most}
-use Rattle.cp_slots.specs.Laid.{plain, laid}
-use Rattle.cp_slots.specs.Layers as layers
-use Rattle.cp_slots.specs.Layers.{Layer}
+use Rattle.cp_layout.specs.declared.names.Meaning.{Meaning}
+use Rattle.cp_layout.specs.declared.names.Meaning.TheVariants as meaning
+use Rattle.cp_layout.specs.Kinds.{most}
+use Rattle.cp_layout.specs.Laid.{plain, laid}
+use Rattle.cp_layout.specs.Layers as layers
+use Rattle.cp_layout.specs.Layers.{Layer}
 use Rattle.cp_slots.specs.Tables.{Tables, system_at}
 use Rattle.cp_lawful.specs.Accepted.{IsAccepted}
 use Rattle.cp_meaning.specs.Declarations.{Parameter, Variable}

@@ -4,15 +4,15 @@ use Rattle.std.proofs.lemmas.Option.{none-some, same_Some}
 use Rattle.cp_tree.specs.declared.constant.Identifier.{Identifier}
 use Rattle.cp_tree.specs.Syntax as syntax
 use Rattle.cp_slots.specs.declared.place.Origin.TheVariants.{Permanent}
-use Rattle.cp_slots.specs.declared.lay_out.kinds.ValueType.{ValueType}
-use Rattle.cp_slots.specs.declared.lay_out.kinds.ValueType.TheVariants as types
-use Rattle.cp_slots.specs.declared.lay_out.layer.Contained.{Contained}
-use Rattle.cp_slots.specs.declared.lay_out.names.Meaning.{Meaning}
-use Rattle.cp_slots.specs.declared.lay_out.names.Meaning.TheVariants as meaning
-use Rattle.cp_slots.specs.Kinds.{Compounds, array, array_type, as_array}
-use Rattle.cp_slots.specs.Layers.{Names, Layer, find, seen_inside, is_open, outermost, nothing_laid}
-use Rattle.cp_slots.specs.LaidTypes.{named_type, written_type}
-use Rattle.cp_slots.specs.LaidDeclarations.{array_components, components_in, components_of, constants, type_definitions, variable, variable_with, variables_of, variable_group, variables, permanent_part, permanent_parts, Parameters, entered, system_parameter, system_parameters_of, system_group, system_groups}
+use Rattle.cp_layout.specs.declared.kinds.ValueType.{ValueType}
+use Rattle.cp_layout.specs.declared.kinds.ValueType.TheVariants as types
+use Rattle.cp_layout.specs.declared.layer.Contained.{Contained}
+use Rattle.cp_layout.specs.declared.names.Meaning.{Meaning}
+use Rattle.cp_layout.specs.declared.names.Meaning.TheVariants as meaning
+use Rattle.cp_layout.specs.Kinds.{Compounds, array, array_type, as_array}
+use Rattle.cp_layout.specs.Layers.{Names, Layer, find, seen_inside, is_open, outermost, nothing_laid}
+use Rattle.cp_layout.specs.LaidTypes.{named_type, written_type}
+use Rattle.cp_layout.specs.LaidDeclarations.{array_components, components_in, components_of, constants, type_definitions, variable, variable_with, variables_of, variable_group, variables, permanent_part, permanent_parts, Parameters, entered, system_parameter, system_parameters_of, system_group, system_groups}
 use Rattle.cp_meaning.specs.Types as named
 use Rattle.cp_meaning.specs.Types.{Ty}
 use Rattle.cp_meaning.specs.Scopes as scopes

@@ -1,7 +1,7 @@
 -- A tree that was read and breaks no rule has what the laws on layouts and on bodies want of it.
 use Rattle.std.proofs.Common.{◌≤◌, ℕ, zero, suc, List, [], ◌∷◌, ◌++◌, Option, Some, None, slice_get, arith}
 use Rattle.cp_tree.specs.Syntax.{Program}
-use Rattle.cp_slots.specs.Kinds.{most}
+use Rattle.cp_layout.specs.Kinds.{most}
 use Rattle.cp_meaning.specs.Scopes.{Meaning, constant_meaning, type_meaning, local_variable, permanent_variable, routine_meaning, standard_meaning, find}
 use Rattle.cp_meaning.specs.Systems.{declared, own_meaning, program_system}
 use Rattle.cp_resolved.specs.Fit.{nothing_declared}

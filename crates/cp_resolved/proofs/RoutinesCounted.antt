@@ -1,8 +1,8 @@
 -- How many routines and system types a tree has.
 use Rattle.std.proofs.Common.{length-append, ◌≡◌, ◌+◌, suc, List, [], ◌∷◌, ◌++◌, length, None, refl, ap, ◌∙◌, arith}
 use Rattle.cp_tree.specs.Syntax as syntax
-use Rattle.cp_slots.specs.Layers.{Layer, System, nothing_laid}
-use Rattle.cp_slots.specs.LaidDeclarations.{routines, program_parts, program, heading_with, with_heading, with_new_frame}
+use Rattle.cp_layout.specs.Layers.{Layer, System, nothing_laid}
+use Rattle.cp_layout.specs.LaidDeclarations.{routines, program_parts, program, heading_with, with_heading, with_new_frame}
 use Rattle.cp_meaning.specs.Systems.{Declared, declared, program_system, own_meaning}
 use Rattle.cp_resolved.specs.Enumerations.{Enumerated, each_in, in_routine, in_program_part, enumerations_of}
 use Rattle.cp_resolved.specs.Fit.{AreFitParts, nothing_declared}

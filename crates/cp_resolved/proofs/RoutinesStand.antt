@@ -1,12 +1,12 @@
 -- The routines and initial statements of the tables of a tree stand for those of the tree.
 use Rattle.std.proofs.Common.{◌≡◌, ◌+◌, ◌<◌, ◌≤◌, ℕ, true, false, List, ◌++◌, length, Option, Some, None, slice_get, refl, sym, ap, subst, ◌∙◌, arith, length-append}
 use Rattle.cp_tree.specs.Syntax as syntax
-use Rattle.cp_slots.specs.declared.lay_out.names.Meaning.{Meaning}
-use Rattle.cp_slots.specs.Kinds.{most}
-use Rattle.cp_slots.specs.Laid.{PlainTables, plain, laid}
-use Rattle.cp_slots.specs.Layers as layers
-use Rattle.cp_slots.specs.Layers.{Layer, System, nothing_laid, own_result, routine_of}
-use Rattle.cp_slots.specs.LaidStatements.{statements}
+use Rattle.cp_layout.specs.declared.names.Meaning.{Meaning}
+use Rattle.cp_layout.specs.Kinds.{most}
+use Rattle.cp_layout.specs.Laid.{PlainTables, plain, laid}
+use Rattle.cp_layout.specs.Layers as layers
+use Rattle.cp_layout.specs.Layers.{Layer, System, nothing_laid, own_result, routine_of}
+use Rattle.cp_layout.specs.LaidStatements.{statements}
 use Rattle.cp_slots.specs.Tables.{Tables, RoutineView, routine_at, no_routine}
 use Rattle.cp_meaning.specs.Names.{Name, result_name}
 use Rattle.cp_meaning.specs.Types.{Ty, has_components}

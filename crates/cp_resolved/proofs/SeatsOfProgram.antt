@@ -1,12 +1,12 @@
 -- The seats of all routines, initial statements and system types of a tree.
 use Rattle.std.proofs.Common.{◌≡◌, ◌+◌, ◌-◌, ℕ, suc, false, List, [], ◌∷◌, ◌++◌, length, None, slice_get, slice_index_or, refl, sym, ap, subst, ◌∙◌, arith, append-nil}
 use Rattle.cp_tree.specs.Syntax as syntax
-use Rattle.cp_slots.specs.declared.lay_out.names.Meaning.TheVariants as meaning
-use Rattle.cp_slots.specs.Laid.{system_type, types_of, system_types}
-use Rattle.cp_slots.specs.Layers as layers
-use Rattle.cp_slots.specs.Layers.{Layer, System, nothing_laid}
-use Rattle.cp_slots.specs.LaidTypes.{written_type}
-use Rattle.cp_slots.specs.LaidDeclarations.{routines, system, system_definition, system_definitions, definition, type_named, program_part, program_parts, program, heading_with, with_heading, with_new_frame}
+use Rattle.cp_layout.specs.declared.names.Meaning.TheVariants as meaning
+use Rattle.cp_layout.specs.Laid.{system_type, types_of, system_types}
+use Rattle.cp_layout.specs.Layers as layers
+use Rattle.cp_layout.specs.Layers.{Layer, System, nothing_laid}
+use Rattle.cp_layout.specs.LaidTypes.{written_type}
+use Rattle.cp_layout.specs.LaidDeclarations.{routines, system, system_definition, system_definitions, definition, type_named, program_part, program_parts, program, heading_with, with_heading, with_new_frame}
 use Rattle.cp_slots.specs.Tables.{SystemView, no_system}
 use Rattle.cp_meaning.specs.Scopes.{permanent_variable, predeclared}
 use Rattle.cp_meaning.specs.Declarations.{Variable, Parameter}

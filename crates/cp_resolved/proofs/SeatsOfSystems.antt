@@ -1,11 +1,11 @@
 -- The seats of system types and of the whole program.
 use Rattle.std.proofs.Common.{◌≡◌, ◌+◌, ◌-◌, ℕ, zero, suc, false, List, [], ◌∷◌, ◌++◌, length, Some, slice_get, sym, ap, subst, ◌∙◌, arith, append-nil}
 use Rattle.cp_tree.specs.Syntax as syntax
-use Rattle.cp_slots.specs.Laid.{system_type, types_of, system_types}
-use Rattle.cp_slots.specs.Layers as layers
-use Rattle.cp_slots.specs.Layers.{Layer, System}
-use Rattle.cp_slots.specs.LaidDeclarations as laid
-use Rattle.cp_slots.specs.LaidDeclarations.{Parameters, routine, routines, entered, system_groups, system, initial_statement, system_definition, system_definitions, definition}
+use Rattle.cp_layout.specs.Laid.{system_type, types_of, system_types}
+use Rattle.cp_layout.specs.Layers as layers
+use Rattle.cp_layout.specs.Layers.{Layer, System}
+use Rattle.cp_layout.specs.LaidDeclarations as laid
+use Rattle.cp_layout.specs.LaidDeclarations.{Parameters, routine, routines, entered, system_groups, system, initial_statement, system_definition, system_definitions, definition}
 use Rattle.cp_slots.specs.Tables.{SystemView, no_system}
 use Rattle.cp_meaning.specs.Scopes.{Scope, permanent_variable, seen_inside}
 use Rattle.cp_meaning.specs.Declarations.{Parameter, Heading, with_groups}

@@ -2,14 +2,14 @@
 use Rattle.std.proofs.Common.{◌≡◌, ◌+◌, ◌*◌, ◌≤◌, ℕ, zero, suc, Bool, true, false, if◌then◌else◌, List, Option, Some, None, refl, sym, ap, subst, ◌∙◌, arith}
 use Rattle.std.specs.Str.{bytes_eq}
 use Rattle.cp_slots.specs.declared.place.Origin.{Origin}
-use Rattle.cp_slots.specs.declared.lay_out.kinds.ValueType.{ValueType}
-use Rattle.cp_slots.specs.declared.lay_out.kinds.ValueType.TheVariants as types
-use Rattle.cp_slots.specs.Kinds as kinds
-use Rattle.cp_slots.specs.Kinds.{Compounds, Field, as_field, field_of, as_array, array_of, most, plus}
+use Rattle.cp_layout.specs.declared.kinds.ValueType.{ValueType}
+use Rattle.cp_layout.specs.declared.kinds.ValueType.TheVariants as types
+use Rattle.cp_layout.specs.Kinds as kinds
+use Rattle.cp_layout.specs.Kinds.{Compounds, Field, as_field, field_of, as_array, array_of, most, plus}
 use Rattle.cp_slots.specs.Code as code
-use Rattle.cp_slots.specs.Values as values
-use Rattle.cp_slots.specs.Values.{Value, loaded, whole_value}
-use Rattle.cp_slots.specs.LaidExpressions.{with_last, with_offset, field_found, element_found}
+use Rattle.cp_layout.specs.Values as values
+use Rattle.cp_layout.specs.Values.{Value, loaded, whole_value}
+use Rattle.cp_layout.specs.LaidExpressions.{with_last, with_offset, field_found, element_found}
 use Rattle.cp_meaning.specs.Types as named
 use Rattle.cp_meaning.specs.Types.{Ty, FieldTypes, length_of_range}
 use Rattle.cp_resolved.specs.InStep.{Numbering, range_on, TypeIs}

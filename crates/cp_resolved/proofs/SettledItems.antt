@@ -1,7 +1,7 @@
 -- Once the items of a statement are in the tables, each call stands in one, followed by the next, and the statement's own item comes last.
 use Rattle.std.proofs.Common.{◌≡◌, ◌+◌, ◌<◌, max, ℕ, suc, List, [], ◌∷◌, ◌++◌, length, Option, Some, slice_get, slice_index, refl, sym, ap, subst, ◌∙◌, arith, length-append}
 use Rattle.cp_slots.specs.Code as code
-use Rattle.cp_slots.specs.Layers.{Layer, Pending, need_of, added, without_pending, settled_all, settled}
+use Rattle.cp_layout.specs.Layers.{Layer, Pending, need_of, added, without_pending, settled_all, settled}
 use Rattle.cp_meaning.specs.Names.{temporary}
 use Rattle.cp_meaning.specs.State.{Item, function_call, statement_item, start_item, until, successor, return, init_end, end}
 use Rattle.cp_resolved.specs.ItemsStand.{ItemIs, AreItems}

@@ -2,12 +2,12 @@
 use Rattle.std.proofs.Common.{◌≡◌, ℕ, zero, suc, ◌+◌, ◌*◌, ◌≤◌, ◌==◌, ℤ, Bool, true, false, if◌then◌else◌, List, [], ◌∷◌, ◌++◌, take, length, Option, Some, None, slice_get, refl, sym, ap, subst, ◌∙◌, ◌⊎◌, inl, inr, arith, length-append, le_trans}
 use Rattle.std.proofs.lemmas.Bool.{eqb-true, eqb-false}
 use Rattle.std.proofs.lemmas.Option.{slice_get_within}
-use Rattle.cp_slots.specs.declared.lay_out.kinds.ValueType.{ValueType}
-use Rattle.cp_slots.specs.declared.lay_out.kinds.ValueType.TheVariants as types
-use Rattle.cp_slots.specs.declared.lay_out.layer.Content.{Content}
-use Rattle.cp_slots.specs.declared.lay_out.layer.Content.TheVariants as content
-use Rattle.cp_slots.specs.Kinds.{Field, Compound, array, record_with, Compounds, compound_cells, cells_of, count_of, copies, least_by, fields_least, compound_least, compound_below, least}
-use Rattle.cp_slots.specs.LaidComponents.{contents_least}
+use Rattle.cp_layout.specs.declared.kinds.ValueType.{ValueType}
+use Rattle.cp_layout.specs.declared.kinds.ValueType.TheVariants as types
+use Rattle.cp_layout.specs.declared.layer.Content.{Content}
+use Rattle.cp_layout.specs.declared.layer.Content.TheVariants as content
+use Rattle.cp_layout.specs.Kinds.{Field, Compound, array, record_with, Compounds, compound_cells, cells_of, count_of, copies, least_by, fields_least, compound_least, compound_below, least}
+use Rattle.cp_layout.specs.LaidComponents.{contents_least}
 use Rattle.cp_resolved.proofs.Entries.{there, still_there, last_or_before}
 
 abbrev pub fields_cells : Compounds → List Field → ℕ

@@ -1,12 +1,12 @@
 -- Where names are in step with a scope of limited types, each variable begins with at most 8,192 cells. It does so where fewer names stand too.
 use Rattle.std.proofs.Common.{ℕ, ◌≤◌, Bool, true, false, if◌then◌else◌, List, [], ◌∷◌, ◌++◌, length, Some, sym, ap, subst, ◌⊎◌, inl, inr, arith, le_trans}
 use Rattle.std.specs.Str.{bytes_eq}
-use Rattle.cp_slots.specs.declared.lay_out.kinds.ValueType.{ValueType}
-use Rattle.cp_slots.specs.declared.lay_out.names.Meaning.{Meaning}
-use Rattle.cp_slots.specs.declared.lay_out.names.Meaning.TheVariants as meaning
-use Rattle.cp_slots.specs.Kinds.{Compounds, least}
-use Rattle.cp_slots.specs.Layers.{Names, Layer, find_type}
-use Rattle.cp_slots.specs.LaidTypes.{named_type, type_meant}
+use Rattle.cp_layout.specs.declared.kinds.ValueType.{ValueType}
+use Rattle.cp_layout.specs.declared.names.Meaning.{Meaning}
+use Rattle.cp_layout.specs.declared.names.Meaning.TheVariants as meaning
+use Rattle.cp_layout.specs.Kinds.{Compounds, least}
+use Rattle.cp_layout.specs.Layers.{Names, Layer, find_type}
+use Rattle.cp_layout.specs.LaidTypes.{named_type, type_meant}
 use Rattle.cp_meaning.specs.Types.{Ty}
 use Rattle.cp_meaning.specs.Scopes as scopes
 use Rattle.cp_meaning.specs.Scopes.{Scope}

@@ -2,11 +2,11 @@
 use Rattle.std.proofs.Common.{◌≡◌, ℕ, zero, suc, ◌<◌, IsTrue, length, refl, arith}
 use Rattle.cp_slots.specs.Fits.{IsSound}
 use Rattle.cp_slots.specs.Inside.{action_inside}
-use Rattle.cp_slots.specs.Kinds.{most}
-use Rattle.cp_slots.specs.Laid.{plain, laid, tables_laid, room_from}
-use Rattle.cp_slots.specs.LaidComponents.{program_listed, contained_by, contents_least}
-use Rattle.cp_slots.specs.LaidDeclarations.{program, program_parts, routines}
-use Rattle.cp_slots.specs.LaidStatements.{statements, statement}
+use Rattle.cp_layout.specs.Kinds.{most}
+use Rattle.cp_layout.specs.Laid.{plain, laid, tables_laid, room_from}
+use Rattle.cp_layout.specs.LaidComponents.{program_listed, contained_by, contents_least}
+use Rattle.cp_layout.specs.LaidDeclarations.{program, program_parts, routines}
+use Rattle.cp_layout.specs.LaidStatements.{statements, statement}
 use Rattle.cp_slots.specs.Systems.{ActionNames}
 use Rattle.cp_slots.specs.Tables.{item_at, routine_at, system_at}
 use Rattle.cp_resolved.specs.Soundness.{IsModest, IsOwnCall}

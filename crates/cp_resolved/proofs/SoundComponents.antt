@@ -9,11 +9,11 @@ use Rattle.cp_slots.specs.declared.tables.ComponentKind.TheVariants as kind
 use Rattle.cp_slots.specs.declared.tables.ComponentParameter.{ComponentParameter}
 use Rattle.cp_slots.specs.declared.tables.Process.{Process}
 use Rattle.cp_slots.specs.Fits as fits
-use Rattle.cp_slots.specs.Kinds.{plus}
-use Rattle.cp_slots.specs.Laid.{PlainTables, plain, system_type, types_of, system_types, room_from, no_room, tables_laid, laid}
-use Rattle.cp_slots.specs.LaidComponents.{Listing, byte, contents_least, program_listed}
-use Rattle.cp_slots.specs.LaidDeclarations.{program}
-use Rattle.cp_slots.specs.Layers.{Layer, System, need_of, nothing_laid}
+use Rattle.cp_layout.specs.Kinds.{plus}
+use Rattle.cp_layout.specs.Laid.{PlainTables, plain, system_type, types_of, system_types, room_from, no_room, tables_laid, laid}
+use Rattle.cp_layout.specs.LaidComponents.{Listing, byte, contents_least, program_listed}
+use Rattle.cp_layout.specs.LaidDeclarations.{program}
+use Rattle.cp_layout.specs.Layers.{Layer, System, need_of, nothing_laid}
 use Rattle.cp_slots.specs.Systems as systems
 use Rattle.cp_slots.specs.Systems.{own_of, parameter_count}
 use Rattle.cp_slots.specs.Tables.{Tables, RoutineView, SystemView, routine_at, no_routine, system_at, no_system, component_at, no_component, process_at, no_process}

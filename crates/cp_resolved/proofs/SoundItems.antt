@@ -8,8 +8,8 @@ use Rattle.cp_slots.specs.declared.item.Action.TheVariants as action
 use Rattle.cp_slots.specs.declared.place.Argument as code_argument
 use Rattle.cp_slots.specs.Code.{Item, item_seen, arm_seen, argument_seen, action_seen}
 use Rattle.cp_slots.specs.Fits as fits
-use Rattle.cp_slots.specs.Kinds.{most, plus}
-use Rattle.cp_slots.specs.Layers.{Layer, need_of}
+use Rattle.cp_layout.specs.Kinds.{most, plus}
+use Rattle.cp_layout.specs.Layers.{Layer, need_of}
 use Rattle.cp_slots.specs.Tables.{Tables, RoutineView, item_at, no_item, routine_at, no_routine}
 use Rattle.cp_resolved.specs.Soundness.{AreHeld, IsOwnCall}
 use Rattle.cp_resolved.proofs.Calling.{InnerFits, ArmsFit, ActionFits, CallFits, Calls, RoomFits, need_bounded}

@@ -2,10 +2,10 @@
 use Rattle.std.proofs.Common.{◌≡◌, ℕ, zero, suc, ◌<◌, List, [], ◌∷◌, length, Option, Some, None, slice_get, slice_index_or, refl, sym, ap, ◌∙◌, ◌⊎◌, inl, inr, arith}
 use Rattle.std.proofs.lemmas.Option.{none-some, same_Some}
 use Rattle.cp_slots.specs.declared.tables.ComponentParameter.{ComponentParameter}
-use Rattle.cp_slots.specs.Kinds.{most}
-use Rattle.cp_slots.specs.Laid.{system_type, types_of}
-use Rattle.cp_slots.specs.LaidComponents.{Listing}
-use Rattle.cp_slots.specs.Layers.{Layer, Owned, System}
+use Rattle.cp_layout.specs.Kinds.{most}
+use Rattle.cp_layout.specs.Laid.{system_type, types_of}
+use Rattle.cp_layout.specs.LaidComponents.{Listing}
+use Rattle.cp_layout.specs.Layers.{Layer, Owned, System}
 use Rattle.cp_slots.specs.Systems.{parameter_count}
 use Rattle.cp_slots.specs.Tables.{Tables, SystemView, system_at, no_system, parameter_at, no_parameter}
 use Rattle.cp_resolved.proofs.Entries.{there, entry_at, last_or_before}

@@ -8,21 +8,21 @@ use Rattle.cp_tree.specs.declared.statement.Direction.TheVariants as direction
 use Rattle.cp_tree.specs.Syntax as syntax
 use Rattle.cp_slots.specs.declared.place.Origin.TheVariants as origin
 use Rattle.cp_slots.specs.declared.item.ShownKind.TheVariants as shown
-use Rattle.cp_slots.specs.declared.lay_out.kinds.ValueType.TheVariants as types
-use Rattle.cp_slots.specs.declared.lay_out.names.Meaning.{Meaning}
-use Rattle.cp_slots.specs.declared.lay_out.names.Meaning.TheVariants as meaning
-use Rattle.cp_slots.specs.declared.lay_out.names.Predeclared.{Predeclared}
-use Rattle.cp_slots.specs.declared.lay_out.names.Predeclared.TheVariants as predeclared
+use Rattle.cp_layout.specs.declared.kinds.ValueType.TheVariants as types
+use Rattle.cp_layout.specs.declared.names.Meaning.{Meaning}
+use Rattle.cp_layout.specs.declared.names.Meaning.TheVariants as meaning
+use Rattle.cp_layout.specs.declared.names.Predeclared.{Predeclared}
+use Rattle.cp_layout.specs.declared.names.Predeclared.TheVariants as predeclared
 use Rattle.cp_slots.specs.Code as code
-use Rattle.cp_slots.specs.Kinds.{most}
-use Rattle.cp_slots.specs.Values as values
-use Rattle.cp_slots.specs.Values.{Value, place_at, place_of, ordinal_of}
-use Rattle.cp_slots.specs.Layers as layers
-use Rattle.cp_slots.specs.Layers.{Layer, Names, added, again, settled, need_inside, pending_need, without_pending}
-use Rattle.cp_slots.specs.LaidTypes as laid_types
-use Rattle.cp_slots.specs.LaidExpressions.{begun_as, begun, entry_found, counted, arguments_from, arguments, expression, designator, selectors, first_value}
-use Rattle.cp_slots.specs.LaidStatements as laid
-use Rattle.cp_slots.specs.LaidStatements.{statement, statements, arms, one_arm, arms_need, chosen, while_item, until_item, selected, for_item, blocked, cycled, repeated, assigned, invoked, standard, procedure, begun_component, started, starts, Target, target_of, result_target, low_of, high_of, origin_of, token_of}
+use Rattle.cp_layout.specs.Kinds.{most}
+use Rattle.cp_layout.specs.Values as values
+use Rattle.cp_layout.specs.Values.{Value, place_at, place_of, ordinal_of}
+use Rattle.cp_layout.specs.Layers as layers
+use Rattle.cp_layout.specs.Layers.{Layer, Names, added, again, settled, need_inside, pending_need, without_pending}
+use Rattle.cp_layout.specs.LaidTypes as laid_types
+use Rattle.cp_layout.specs.LaidExpressions.{begun_as, begun, entry_found, counted, arguments_from, arguments, expression, designator, selectors, first_value}
+use Rattle.cp_layout.specs.LaidStatements as laid
+use Rattle.cp_layout.specs.LaidStatements.{statement, statements, arms, one_arm, arms_need, chosen, while_item, until_item, selected, for_item, blocked, cycled, repeated, assigned, invoked, standard, procedure, begun_component, started, starts, Target, target_of, result_target, low_of, high_of, origin_of, token_of}
 use Rattle.cp_meaning.specs.Names.{Name, result_name}
 use Rattle.cp_meaning.specs.Types as named
 use Rattle.cp_meaning.specs.Types.{Ty}

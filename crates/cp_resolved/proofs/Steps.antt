@@ -7,11 +7,11 @@ use Rattle.std.proofs.lemmas.Bool.Decides.{same_from_decides}
 use Rattle.std.proofs.lemmas.Slice.Eq.{bytes_eq-Decides}
 use Rattle.std.proofs.lemmas.Option.{slice_get_within, slice_get-get_or, get_or_from_slice_get}
 use Rattle.std.proofs.lemmas.List.{get_or_append_left}
-use Rattle.cp_slots.specs.declared.lay_out.kinds.ValueType.{ValueType}
-use Rattle.cp_slots.specs.declared.lay_out.names.Meaning.{Meaning}
-use Rattle.cp_slots.specs.Kinds.{Compounds, Field, array, compound_cells, cells_of, plus, times, count_of}
-use Rattle.cp_slots.specs.Layers as layers
-use Rattle.cp_slots.specs.Layers.{is_open, with_open}
+use Rattle.cp_layout.specs.declared.kinds.ValueType.{ValueType}
+use Rattle.cp_layout.specs.declared.names.Meaning.{Meaning}
+use Rattle.cp_layout.specs.Kinds.{Compounds, Field, array, compound_cells, cells_of, plus, times, count_of}
+use Rattle.cp_layout.specs.Layers as layers
+use Rattle.cp_layout.specs.Layers.{is_open, with_open}
 use Rattle.cp_meaning.specs.Types as named
 use Rattle.cp_meaning.specs.Types.{Ty}
 use Rattle.cp_meaning.specs.Scopes as scopes

@@ -3,10 +3,10 @@ use Rattle.std.proofs.Common.{◌≡◌, ℕ, zero, suc, ◌+◌, ◌*◌, ◌<�
 use Rattle.std.specs.Prelude.{min}
 use Rattle.std.proofs.lemmas.Option.{none-some, same_Some}
 use Rattle.cp_tree.specs.Syntax.{Program}
-use Rattle.cp_slots.specs.declared.lay_out.layer.Contained.{Contained}
-use Rattle.cp_slots.specs.Kinds.{most, plus, times}
-use Rattle.cp_slots.specs.Layers.{System}
-use Rattle.cp_slots.specs.LaidExpressions.{count_in}
+use Rattle.cp_layout.specs.declared.layer.Contained.{Contained}
+use Rattle.cp_layout.specs.Kinds.{most, plus, times}
+use Rattle.cp_layout.specs.Layers.{System}
+use Rattle.cp_layout.specs.LaidExpressions.{count_in}
 use Rattle.cp_meaning.specs.Names.{Name}
 use Rattle.cp_meaning.specs.Types.{Ty, ordinal, queue_type, set_over, array_over, record_with, component_of, length_of_range}
 use Rattle.cp_meaning.specs.Declarations.{Variable}

@@ -3,13 +3,13 @@ use Rattle.std.proofs.Common.{◌≡◌, ◌+◌, ◌-◌, ◌<◌, ◌≤◌, i
 use Rattle.std.proofs.lemmas.Option.{none-some, same_Some, slice_get_within}
 use Rattle.cp_tree.specs.Syntax as syntax
 use Rattle.cp_slots.specs.declared.place.Origin.TheVariants as origin
-use Rattle.cp_slots.specs.declared.lay_out.kinds.ValueType.{ValueType}
-use Rattle.cp_slots.specs.declared.lay_out.names.Meaning.TheVariants as meaning
-use Rattle.cp_slots.specs.Kinds.{most}
-use Rattle.cp_slots.specs.Laid.{PlainTables, plain, laid, tables_laid, system_types}
-use Rattle.cp_slots.specs.Layers as layers
-use Rattle.cp_slots.specs.Layers.{Layer, System, nothing_laid, routine_of}
-use Rattle.cp_slots.specs.LaidStatements.{statements}
+use Rattle.cp_layout.specs.declared.kinds.ValueType.{ValueType}
+use Rattle.cp_layout.specs.declared.names.Meaning.TheVariants as meaning
+use Rattle.cp_layout.specs.Kinds.{most}
+use Rattle.cp_layout.specs.Laid.{PlainTables, plain, laid, tables_laid, system_types}
+use Rattle.cp_layout.specs.Layers as layers
+use Rattle.cp_layout.specs.Layers.{Layer, System, nothing_laid, routine_of}
+use Rattle.cp_layout.specs.LaidStatements.{statements}
 use Rattle.cp_slots.specs.Tables.{Tables, RoutineView, no_system, system_at}
 use Rattle.cp_meaning.specs.Names.{Name}
 use Rattle.cp_meaning.specs.Types as named

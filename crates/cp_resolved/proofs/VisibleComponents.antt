@@ -2,7 +2,7 @@
 use Rattle.std.proofs.Common.{◌≡◌, ◌<◌, ◌≤◌, ◌||◌, ℕ, Bool, true, false, List, [], ◌∷◌, ◌++◌, length, Option, Some, None, slice_get, refl, sym, ap, subst, ◌∙◌, ◌⊎◌, inl, inr, append_assoc, arith}
 use Rattle.std.proofs.lemmas.Option.{same_Some, slice_get_within}
 use Rattle.cp_tree.specs.Syntax.{Program, Tree}
-use Rattle.cp_slots.specs.Layers.{Layer}
+use Rattle.cp_layout.specs.Layers.{Layer}
 use Rattle.cp_slots.specs.Tables.{Tables}
 use Rattle.cp_meaning.specs.Names.{Name, same_name}
 use Rattle.cp_meaning.specs.Types.{Ty, Range, array_over, component_of, has_components}

@@ -2,13 +2,13 @@
 use Rattle.std.proofs.Common.{ℕ, ◌+◌, Bool, List, [], ◌∷◌, length, max, Option, Some, None}
 use Rattle.cp_tree.specs.declared.statement.Direction.{Direction}
 use Rattle.cp_tree.specs.Syntax as syntax
-use Rattle.cp_slots.specs.declared.lay_out.layer.FunctionResult.{FunctionResult}
+use Rattle.cp_layout.specs.declared.layer.FunctionResult.{FunctionResult}
 use Rattle.cp_slots.specs.Code as code
 use Rattle.cp_slots.specs.Code.{SetExpression, ComponentPlace, Argument, Arm, Action}
-use Rattle.cp_slots.specs.Values.{Value, Designated, a_value, a_variable, a_contained, a_component, a_routine, an_entry, a_standard, no_designated, added as values_added, multiplied as values_multiplied, ordinal_of}
-use Rattle.cp_slots.specs.Layers.{Layer, again, with_cell, with_room, settled, added, call_need, result_of, need_inside, pending_need}
-use Rattle.cp_slots.specs.LaidExpressions.{begun, with_count, counted, function_as, named_as, signed, name_at, expression, sum, more_terms, term, more_factors, factor, elements, first_value, arguments_from, designator, selectors, selector, arguments}
-use Rattle.cp_slots.specs.LaidStatements.{Target, target_of, assignment, assigned, performed, procedure, standard, Callee, a_standard_procedure, a_procedure, no_callee, callee_of, invoked_as, invoked, blocked, cycled, chosen, while_item, until_item, token_of, repeated, arms_need, selected, origin_of, low_of, high_of, is_down, for_item, initial_of, begun_component, Placed, placed_of, started_as, started, starts, statements, statement, arms, one_arm}
+use Rattle.cp_layout.specs.Values.{Value, Designated, a_value, a_variable, a_contained, a_component, a_routine, an_entry, a_standard, no_designated, added as values_added, multiplied as values_multiplied, ordinal_of}
+use Rattle.cp_layout.specs.Layers.{Layer, again, with_cell, with_room, settled, added, call_need, result_of, need_inside, pending_need}
+use Rattle.cp_layout.specs.LaidExpressions.{begun, with_count, counted, function_as, named_as, signed, name_at, expression, sum, more_terms, term, more_factors, factor, elements, first_value, arguments_from, designator, selectors, selector, arguments}
+use Rattle.cp_layout.specs.LaidStatements.{Target, target_of, assignment, assigned, performed, procedure, standard, Callee, a_standard_procedure, a_procedure, no_callee, callee_of, invoked_as, invoked, blocked, cycled, chosen, while_item, until_item, token_of, repeated, arms_need, selected, origin_of, low_of, high_of, is_down, for_item, initial_of, begun_component, Placed, placed_of, started_as, started, starts, statements, statement, arms, one_arm}
 
 module _ (F : Layer → Type 0) (call : (l : Layer) (r at : ℕ) (a : Action) (need : ℕ) → F l → F (added (with_room (with_cell l) r) at a need)) (counts : (l : Layer) (k : ℕ) → F l → F (with_count l k)) (room : (l : Layer) (r : ℕ) → F l → F (with_room l r)) (add : (l : Layer) (at : ℕ) (a : Action) (need : ℕ) → F l → F (added l at a need)) (settle : (l : Layer) (next : Option ℕ) → F l → F (settled l next).1) where
   function_walked : (l : Layer) (at : ℕ) (c : ComponentPlace) (b : Bool) (r : ℕ) (o : Option FunctionResult) (handed : Layer → ℕ → List Argument × Layer) → ((m : Layer) (k : ℕ) → F m → F (handed m k).1) → F l → F (function_as l at c b r o handed).1

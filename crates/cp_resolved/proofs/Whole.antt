@@ -4,16 +4,16 @@ use Rattle.std.proofs.lemmas.Option.{none-some}
 use Rattle.cp_tree.specs.declared.declaration.SystemKind.{SystemKind}
 use Rattle.cp_tree.specs.Syntax as syntax
 use Rattle.cp_tree.specs.Syntax.{Body, Routine, Definition, SystemDefinition, ProgramPart, Program}
-use Rattle.cp_slots.specs.declared.lay_out.kinds.ValueType.{ValueType}
-use Rattle.cp_slots.specs.declared.lay_out.names.Meaning.TheVariants as meaning
+use Rattle.cp_layout.specs.declared.kinds.ValueType.{ValueType}
+use Rattle.cp_layout.specs.declared.names.Meaning.TheVariants as meaning
 use Rattle.cp_slots.specs.Code as code
 use Rattle.cp_slots.specs.Code.{Action, Item}
-use Rattle.cp_slots.specs.Kinds.{Compounds, most, plus}
+use Rattle.cp_layout.specs.Kinds.{Compounds, most, plus}
 use Rattle.cp_slots.specs.Tables.{RoutineView}
-use Rattle.cp_slots.specs.Layers.{Layer, Frame, Heading, Owned, System, need_of, nothing_laid, routine_of, with_routine}
-use Rattle.cp_slots.specs.LaidTypes.{written_type}
-use Rattle.cp_slots.specs.LaidStatements.{statements}
-use Rattle.cp_slots.specs.LaidDeclarations.{Parameters, body, opened, closed, routine_inside, routine, routines, with_heading, with_new_frame, heading_with, initial_statement, heading, local_parts, permanent_parts, system_groups, entered, left, system_of, system_inside, system, constants, variables, definition, type_named, system_definition, system_definitions, program_part, program_parts, program}
+use Rattle.cp_layout.specs.Layers.{Layer, Frame, Heading, Owned, System, need_of, nothing_laid, routine_of, with_routine}
+use Rattle.cp_layout.specs.LaidTypes.{written_type}
+use Rattle.cp_layout.specs.LaidStatements.{statements}
+use Rattle.cp_layout.specs.LaidDeclarations.{Parameters, body, opened, closed, routine_inside, routine, routines, with_heading, with_new_frame, heading_with, initial_statement, heading, local_parts, permanent_parts, system_groups, entered, left, system_of, system_inside, system, constants, variables, definition, type_named, system_definition, system_definitions, program_part, program_parts, program}
 use Rattle.cp_resolved.proofs.Calling.{ActionFits, CallFits, Calls, RoomFits, onward_routines, Ground}
 use Rattle.cp_resolved.proofs.Declared.{Declared, declared_same, then_declared, Typed, name_declared, constants_declared, written_typed, variables_declared, permanent_declared, local_parts_declared, heading_declared, system_groups_declared}
 use Rattle.cp_resolved.proofs.Entries.{there, not_there, still_there, last_entry, last_or_before}

@@ -2,15 +2,15 @@
 use Rattle.std.proofs.Common.{◌≡◌, ℕ, ◌+◌, ℤ, pos, Bool, true, false, List, [], ◌∷◌, ◌++◌, Option, Some, None, slice_get, ap, ◌∙◌, refl, sym, append_assoc, append-nil}
 use Rattle.cp_tree.specs.declared.statement.Direction.{Direction}
 use Rattle.cp_tree.specs.Syntax as syntax
-use Rattle.cp_slots.specs.declared.lay_out.layer.FunctionResult.{FunctionResult}
-use Rattle.cp_slots.specs.declared.lay_out.names.Predeclared.{Predeclared}
+use Rattle.cp_layout.specs.declared.layer.FunctionResult.{FunctionResult}
+use Rattle.cp_layout.specs.declared.names.Predeclared.{Predeclared}
 use Rattle.cp_slots.specs.Code as code
 use Rattle.cp_slots.specs.Code.{SetExpression, ComponentPlace, Argument, Arm}
 use Rattle.cp_slots.specs.Tables.{RoutineView}
-use Rattle.cp_slots.specs.Values.{Value, Designated, a_value, a_variable, a_contained, a_component, a_routine, an_entry, a_standard, no_designated, ordinal_of, multiplied, added as sum_of}
-use Rattle.cp_slots.specs.Layers.{Layer, Frame, Pending, result_of, with_cell, frame_with, settled_all, settled, without_pending, added}
-use Rattle.cp_slots.specs.LaidExpressions.{expression, sum, more_terms, term, more_factors, factor, elements, first_value, arguments_from, arguments, designator, selectors, selector, begun, signed, counted, called, function_as, named_as, name_at}
-use Rattle.cp_slots.specs.LaidStatements.{assigned, invoked, invoked_as, Callee, a_standard_procedure, a_procedure, no_callee, callee_of, standard, procedure, chosen, selected, while_item, until_item, for_item, blocked, cycled, repeated, Placed, placed_of, begun_component, started_as, started, starts, initial_of, statement, statements, arms, one_arm, token_of}
+use Rattle.cp_layout.specs.Values.{Value, Designated, a_value, a_variable, a_contained, a_component, a_routine, an_entry, a_standard, no_designated, ordinal_of, multiplied, added as sum_of}
+use Rattle.cp_layout.specs.Layers.{Layer, Frame, Pending, result_of, with_cell, frame_with, settled_all, settled, without_pending, added}
+use Rattle.cp_layout.specs.LaidExpressions.{expression, sum, more_terms, term, more_factors, factor, elements, first_value, arguments_from, arguments, designator, selectors, selector, begun, signed, counted, called, function_as, named_as, name_at}
+use Rattle.cp_layout.specs.LaidStatements.{assigned, invoked, invoked_as, Callee, a_standard_procedure, a_procedure, no_callee, callee_of, standard, procedure, chosen, selected, while_item, until_item, for_item, blocked, cycled, repeated, Placed, placed_of, begun_component, started_as, started, starts, initial_of, statement, statements, arms, one_arm, token_of}
 
 abbrev pub AreZeros : List ℤ → Type 0
 AreZeros [] = Unit {0}

@@ -1,9 +1,9 @@
 -- The states of laying out in which the statements of routines begin, in the order in which the tables number the routines.
 use Rattle.std.specs.Prelude.{List, [], ◌∷◌, ◌++◌, None}
 use Rattle.cp_tree.specs.Syntax.{Routine, System, Definition, type_definition, system_definition, SystemDefinition, ProgramPart, program_constants, program_types, program_variables, Tree}
-use Rattle.cp_slots.specs.Layers.{Layer, nothing_laid}
-use Rattle.cp_slots.specs.LaidDeclarations as laid
-use Rattle.cp_slots.specs.LaidDeclarations.{Parameters, heading, heading_with, with_new_frame, with_heading, opened, local_parts, entered, system_groups, permanent_parts, system_inside}
+use Rattle.cp_layout.specs.Layers.{Layer, nothing_laid}
+use Rattle.cp_layout.specs.LaidDeclarations as laid
+use Rattle.cp_layout.specs.LaidDeclarations.{Parameters, heading, heading_with, with_new_frame, with_heading, opened, local_parts, entered, system_groups, permanent_parts, system_inside}
 
 -- of a routine: after its name, its heading and its parts
 abbrev pub routine_begun : Layer → Routine → Layer

@@ -2,8 +2,8 @@
 use Rattle.std.specs.Prelude.{◌≡◌, ◌<◌, ℕ, length, Some, None, slice_get}
 use Rattle.cp_tree.specs.Syntax.{Tree}
 use Rattle.cp_slots.specs.Tables.{Tables, routine_at}
-use Rattle.cp_slots.specs.Layers.{Layer}
-use Rattle.cp_slots.specs.Laid.{plain, laid}
+use Rattle.cp_layout.specs.Layers.{Layer}
+use Rattle.cp_layout.specs.Laid.{plain, laid}
 use Rattle.cp_lawful.specs.Accepted.{IsAccepted}
 use Rattle.cp_resolved.specs.Begun.{all_begun}
 use Rattle.cp_resolved.specs.BodiesStand.{ground_of, BodyFormed}

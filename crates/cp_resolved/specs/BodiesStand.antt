@@ -1,10 +1,10 @@
 -- That the items of each routine and of each initial statement stand for its statements, as a law.
 use Rattle.std.specs.Prelude.{◌≡◌, ◌≤◌, ℕ, List, [], ◌∷◌, length, Some, None, slice_get}
 use Rattle.cp_tree.specs.Syntax.{Tree}
-use Rattle.cp_slots.specs.Kinds.{most}
+use Rattle.cp_layout.specs.Kinds.{most}
 use Rattle.cp_slots.specs.Tables.{Tables, routine_at}
-use Rattle.cp_slots.specs.Layers.{Layer}
-use Rattle.cp_slots.specs.Laid.{plain, laid}
+use Rattle.cp_layout.specs.Layers.{Layer}
+use Rattle.cp_layout.specs.Laid.{plain, laid}
 use Rattle.cp_meaning.specs.State.{Item, function_call}
 use Rattle.cp_resolved.specs.Begun.{all_begun}
 use Rattle.cp_resolved.specs.Calls.{all_calls_laid}

@@ -1,7 +1,7 @@
 -- The components and processes of the tables of a tree as a law: they stand for those of the program.
 use Rattle.std.specs.Prelude.{◌≡◌, ℕ, ◌<◌, length}
 use Rattle.cp_tree.specs.Syntax.{Tree}
-use Rattle.cp_slots.specs.Laid.{plain, laid}
+use Rattle.cp_layout.specs.Laid.{plain, laid}
 use Rattle.cp_meaning.specs.Readings.{monitors_of}
 use Rattle.cp_meaning.specs.State.{first_gates}
 use Rattle.cp_meaning.specs.Steps.{opening, first_components}

@@ -2,16 +2,16 @@
 use Rattle.std.specs.Prelude.{◌≡◌, ◌≤◌, ℕ, suc, ℤ, pos, negsuc, Bool, true, false, List, [], ◌∷◌, Option, Some, None, slice_get}
 use Rattle.cp_tree.specs.Syntax.{Expression, Expressions, no_expressions, more_expressions, Designator}
 use Rattle.cp_slots.specs.declared.place.Origin.TheVariants.{Local}
-use Rattle.cp_slots.specs.declared.lay_out.kinds.ValueType.{ValueType}
-use Rattle.cp_slots.specs.declared.lay_out.layer.Passing.{Passing}
-use Rattle.cp_slots.specs.declared.lay_out.layer.Passing.TheVariants as passing
-use Rattle.cp_slots.specs.declared.lay_out.layer.Parameter as code_parameter
-use Rattle.cp_slots.specs.declared.lay_out.names.Meaning.TheVariants as meaning
+use Rattle.cp_layout.specs.declared.kinds.ValueType.{ValueType}
+use Rattle.cp_layout.specs.declared.layer.Passing.{Passing}
+use Rattle.cp_layout.specs.declared.layer.Passing.TheVariants as passing
+use Rattle.cp_layout.specs.declared.layer.Parameter as code_parameter
+use Rattle.cp_layout.specs.declared.names.Meaning.TheVariants as meaning
 use Rattle.cp_slots.specs.Code as code
-use Rattle.cp_slots.specs.Kinds.{Compounds, most}
-use Rattle.cp_slots.specs.Layers as layers
-use Rattle.cp_slots.specs.Layers.{Layer, Heading}
-use Rattle.cp_slots.specs.LaidExpressions.{entry_of}
+use Rattle.cp_layout.specs.Kinds.{Compounds, most}
+use Rattle.cp_layout.specs.Layers as layers
+use Rattle.cp_layout.specs.Layers.{Layer, Heading}
+use Rattle.cp_layout.specs.LaidExpressions.{entry_of}
 use Rattle.cp_meaning.specs.Names.{Name, temporary}
 use Rattle.cp_meaning.specs.Types.{Ty, set_over, component_of}
 use Rattle.cp_meaning.specs.Scopes.{permanent_variable, find}

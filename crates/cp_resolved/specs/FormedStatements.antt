@@ -4,12 +4,12 @@ use Rattle.cp_tree.specs.declared.constant.Identifier.{Identifier}
 use Rattle.cp_tree.specs.Syntax.{Expression, Expressions, Designator, designator, no_selectors, Start, Routine, Statement, empty, assign, invoke, block, if_then, if_else, case_of, while_do, repeat_until, for_do, cycle, init, Statements, no_statements, more_statements, Arms, no_arms, more_arms, Arm, arm}
 use Rattle.cp_slots.specs.declared.place.Origin.{Origin}
 use Rattle.cp_slots.specs.declared.place.Origin.TheVariants.{Local}
-use Rattle.cp_slots.specs.declared.lay_out.layer.FunctionResult.{FunctionResult}
-use Rattle.cp_slots.specs.declared.lay_out.names.Meaning.TheVariants as meaning
+use Rattle.cp_layout.specs.declared.layer.FunctionResult.{FunctionResult}
+use Rattle.cp_layout.specs.declared.names.Meaning.TheVariants as meaning
 use Rattle.cp_slots.specs.Code as code
-use Rattle.cp_slots.specs.Layers as layers
-use Rattle.cp_slots.specs.Layers.{Layer}
-use Rattle.cp_slots.specs.LaidStatements.{initial_of}
+use Rattle.cp_layout.specs.Layers as layers
+use Rattle.cp_layout.specs.Layers.{Layer}
+use Rattle.cp_layout.specs.LaidStatements.{initial_of}
 use Rattle.cp_meaning.specs.Names.{Name, result_name}
 use Rattle.cp_meaning.specs.Types.{Range, Ty, ordinal, queue_type}
 use Rattle.cp_meaning.specs.Scopes.{Meaning, routine_meaning, standard_meaning, Standard, delay_procedure, continue_procedure, display_procedure, find}

@@ -1,7 +1,7 @@
 -- The layouts of a tree know the headings of routines and of initial statements where the statements of each begin, as a law.
 use Rattle.std.specs.Prelude.{◌≡◌, ℕ, Some, slice_get}
 use Rattle.cp_tree.specs.Syntax.{Tree}
-use Rattle.cp_slots.specs.Layers.{Layer}
+use Rattle.cp_layout.specs.Layers.{Layer}
 use Rattle.cp_resolved.specs.Begun.{all_begun}
 use Rattle.cp_resolved.specs.Distinct.{IsDistinct}
 use Rattle.cp_resolved.specs.FormedParts.{KnowsHeadings}

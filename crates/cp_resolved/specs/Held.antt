@@ -1,7 +1,7 @@
 -- What the count of tokens says of the tables of a program that was read, and what rule C20 says of those of an accepted one, as laws.
 use Rattle.std.specs.Prelude.{◌≡◌, ℕ, ◌*◌, ◌<◌, ◌≤◌, length}
 use Rattle.cp_tree.specs.Syntax.{Tree}
-use Rattle.cp_slots.specs.Laid.{plain, laid}
+use Rattle.cp_layout.specs.Laid.{plain, laid}
 use Rattle.cp_slots.specs.Tables.{Tables, routine_at, system_at}
 use Rattle.cp_lawful.specs.Accepted.{IsAccepted}
 use Rattle.cp_tree.specs.Read.{IsRead}

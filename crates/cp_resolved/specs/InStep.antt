@@ -2,17 +2,17 @@
 use Rattle.std.specs.Prelude.{◌≡◌, ℕ, ◌-◌, ◌<◌, ◌≤◌, ◌⊎◌, ℤ, pos, negsuc, true, false, List, [], ◌∷◌, length, Option, Some, None, slice_get}
 use Rattle.cp_slots.specs.declared.place.Origin.{Origin}
 use Rattle.cp_slots.specs.declared.place.Origin.TheVariants as origin
-use Rattle.cp_slots.specs.declared.lay_out.kinds.Base.{Base}
-use Rattle.cp_slots.specs.declared.lay_out.kinds.Base.TheVariants as base
-use Rattle.cp_slots.specs.declared.lay_out.kinds.Range.{Range}
-use Rattle.cp_slots.specs.declared.lay_out.kinds.ValueType.{ValueType}
-use Rattle.cp_slots.specs.declared.lay_out.kinds.ValueType.TheVariants as types
-use Rattle.cp_slots.specs.declared.lay_out.names.Meaning.{Meaning}
-use Rattle.cp_slots.specs.declared.lay_out.names.Meaning.TheVariants as meaning
-use Rattle.cp_slots.specs.declared.lay_out.names.Predeclared.{Predeclared}
-use Rattle.cp_slots.specs.declared.lay_out.names.Predeclared.TheVariants as predeclared
-use Rattle.cp_slots.specs.Kinds.{Compounds, array, record_with, Field, cells_of, array_type, plus}
-use Rattle.cp_slots.specs.Layers as layers
+use Rattle.cp_layout.specs.declared.kinds.Base.{Base}
+use Rattle.cp_layout.specs.declared.kinds.Base.TheVariants as base
+use Rattle.cp_layout.specs.declared.kinds.Range.{Range}
+use Rattle.cp_layout.specs.declared.kinds.ValueType.{ValueType}
+use Rattle.cp_layout.specs.declared.kinds.ValueType.TheVariants as types
+use Rattle.cp_layout.specs.declared.names.Meaning.{Meaning}
+use Rattle.cp_layout.specs.declared.names.Meaning.TheVariants as meaning
+use Rattle.cp_layout.specs.declared.names.Predeclared.{Predeclared}
+use Rattle.cp_layout.specs.declared.names.Predeclared.TheVariants as predeclared
+use Rattle.cp_layout.specs.Kinds.{Compounds, array, record_with, Field, cells_of, array_type, plus}
+use Rattle.cp_layout.specs.Layers as layers
 use Rattle.cp_meaning.specs.Types as named
 use Rattle.cp_meaning.specs.Types.{Ty, has_components}
 use Rattle.cp_meaning.specs.Scopes as scopes

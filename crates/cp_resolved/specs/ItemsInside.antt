@@ -3,9 +3,9 @@ use Rattle.std.specs.Prelude.{IsTrue, ◌≡◌, ℕ, ◌+◌, ◌*◌, ◌<◌,
 use Rattle.cp_tree.specs.Syntax.{Tree}
 use Rattle.cp_slots.specs.declared.place.ComponentPlace.TheVariants.{Contained, Parameter}
 use Rattle.cp_slots.specs.Inside.{action_inside}
-use Rattle.cp_slots.specs.Kinds.{most}
-use Rattle.cp_slots.specs.Laid.{plain, laid}
-use Rattle.cp_slots.specs.Layers.{Layer}
+use Rattle.cp_layout.specs.Kinds.{most}
+use Rattle.cp_layout.specs.Laid.{plain, laid}
+use Rattle.cp_layout.specs.Layers.{Layer}
 use Rattle.cp_slots.specs.Systems.{IsOf, Names, ActionNames}
 use Rattle.cp_slots.specs.Tables.{Tables, item_at, routine_at}
 use Rattle.cp_meaning.specs.Names.{Name}

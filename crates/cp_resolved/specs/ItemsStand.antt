@@ -2,10 +2,10 @@
 use Rattle.std.specs.Prelude.{◌≡◌, ◌<◌, ◌≤◌, ◌+◌, ℕ, List, [], length, Some, None, slice_get}
 use Rattle.cp_tree.specs.Syntax.{Statements}
 use Rattle.cp_slots.specs.Code as code
-use Rattle.cp_slots.specs.Kinds.{most}
+use Rattle.cp_layout.specs.Kinds.{most}
 use Rattle.cp_slots.specs.Tables.{item_at}
-use Rattle.cp_slots.specs.Layers.{Layer}
-use Rattle.cp_slots.specs.LaidStatements.{statements}
+use Rattle.cp_layout.specs.Layers.{Layer}
+use Rattle.cp_layout.specs.LaidStatements.{statements}
 use Rattle.cp_resolved.specs.Calls.{all_calls_laid}
 use Rattle.cp_resolved.specs.FormedParts.{AreReady, KnowsHeadings}
 use Rattle.cp_resolved.specs.FormedStatements.{KnowsResult, KnowsStarts, AllFormed}

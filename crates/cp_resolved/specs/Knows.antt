@@ -2,14 +2,14 @@
 use Rattle.std.specs.Prelude.{◌≡◌, ◌≤◌, ℕ, true, false, Some, slice_get}
 use Rattle.cp_slots.specs.declared.place.Origin.{Origin}
 use Rattle.cp_slots.specs.declared.place.Origin.TheVariants.{Permanent}
-use Rattle.cp_slots.specs.declared.lay_out.kinds.ArrayType.{ArrayType}
-use Rattle.cp_slots.specs.declared.lay_out.kinds.ValueType.{ValueType}
-use Rattle.cp_slots.specs.declared.lay_out.kinds.ValueType.TheVariants as types
-use Rattle.cp_slots.specs.declared.lay_out.names.Meaning.TheVariants.{Variable, Contained, Bound}
-use Rattle.cp_slots.specs.Kinds.{array, most}
-use Rattle.cp_slots.specs.Layers as layers
-use Rattle.cp_slots.specs.Layers.{Layer}
-use Rattle.cp_slots.specs.LaidExpressions.{component_count}
+use Rattle.cp_layout.specs.declared.kinds.ArrayType.{ArrayType}
+use Rattle.cp_layout.specs.declared.kinds.ValueType.{ValueType}
+use Rattle.cp_layout.specs.declared.kinds.ValueType.TheVariants as types
+use Rattle.cp_layout.specs.declared.names.Meaning.TheVariants.{Variable, Contained, Bound}
+use Rattle.cp_layout.specs.Kinds.{array, most}
+use Rattle.cp_layout.specs.Layers as layers
+use Rattle.cp_layout.specs.Layers.{Layer}
+use Rattle.cp_layout.specs.LaidExpressions.{component_count}
 use Rattle.cp_meaning.specs.Names.{Name}
 use Rattle.cp_meaning.specs.Types.{Ty}
 use Rattle.cp_meaning.specs.Scopes.{local_variable, permanent_variable, find}

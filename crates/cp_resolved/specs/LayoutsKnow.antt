@@ -1,7 +1,7 @@
 -- The layouts of a tree know what stands where the statements of each routine and of each initial statement begin, as a law.
 use Rattle.std.specs.Prelude.{◌≡◌, ℕ, length, Some, slice_get}
 use Rattle.cp_tree.specs.Syntax.{Tree}
-use Rattle.cp_slots.specs.Layers.{Layer}
+use Rattle.cp_layout.specs.Layers.{Layer}
 use Rattle.cp_resolved.specs.Begun.{all_begun}
 use Rattle.cp_resolved.specs.Calls.{all_calls_laid, AreApart}
 use Rattle.cp_resolved.specs.Knows.{Knows}

@@ -1,8 +1,8 @@
 -- The names of the tables as laws: what `laid` makes of the names of a program.
 use Rattle.std.specs.Prelude.{◌≡◌, List, [], ◌∷◌}
 use Rattle.cp_tree.specs.Syntax.{Program, Tree}
-use Rattle.cp_slots.specs.Layers.{Layer}
-use Rattle.cp_slots.specs.Laid.{laid}
+use Rattle.cp_layout.specs.Layers.{Layer}
+use Rattle.cp_layout.specs.Laid.{laid}
 use Rattle.cp_resolved.specs.Begun.{all_begun}
 use Rattle.cp_resolved.specs.Enumerations.{enumerations_of, constants_before, constant_names}
 use Rattle.cp_resolved.specs.InStep.{Numbering, InStep}

@@ -2,12 +2,12 @@
 use Rattle.std.specs.Prelude.{◌≡◌, ℕ, suc, Bool, true, false, List, [], ◌∷◌, Option, Some, None}
 use Rattle.cp_tree.specs.Syntax.{Expression, alone, related, Sum, sum, Terms, no_terms, more_terms, Term, term, Factors, no_factors, more_factors, Factor, number, character, named, group, negated, set_of, Expressions, no_expressions, more_expressions, Designator, designator, Selectors, no_selectors, more_selectors, Selector, field, index}
 use Rattle.cp_slots.specs.declared.place.Origin.TheVariants.{Local}
-use Rattle.cp_slots.specs.declared.lay_out.layer.FunctionResult.{FunctionResult}
-use Rattle.cp_slots.specs.declared.lay_out.names.Meaning.TheVariants as meaning
-use Rattle.cp_slots.specs.Kinds.{Compounds}
-use Rattle.cp_slots.specs.Layers as layers
-use Rattle.cp_slots.specs.Layers.{Layer, result_of}
-use Rattle.cp_slots.specs.LaidExpressions.{entry_of}
+use Rattle.cp_layout.specs.declared.layer.FunctionResult.{FunctionResult}
+use Rattle.cp_layout.specs.declared.names.Meaning.TheVariants as meaning
+use Rattle.cp_layout.specs.Kinds.{Compounds}
+use Rattle.cp_layout.specs.Layers as layers
+use Rattle.cp_layout.specs.Layers.{Layer, result_of}
+use Rattle.cp_layout.specs.LaidExpressions.{entry_of}
 use Rattle.cp_meaning.specs.Names.{Name, temporary}
 use Rattle.cp_meaning.specs.Types.{Ty, array_over, component_of}
 use Rattle.cp_meaning.specs.Scopes.{Meaning, constant_meaning, permanent_variable, routine_meaning, standard_meaning, find}

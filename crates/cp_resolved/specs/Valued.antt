@@ -1,10 +1,10 @@
 -- When a value with slots is the form of an expression, and when a name with selectors is.
 use Rattle.std.specs.Prelude.{◌≡◌, ◌+◌, ◌≤◌, ℕ}
-use Rattle.cp_slots.specs.declared.lay_out.kinds.ValueType.{ValueType}
-use Rattle.cp_slots.specs.Kinds.{Compounds, most}
+use Rattle.cp_layout.specs.declared.kinds.ValueType.{ValueType}
+use Rattle.cp_layout.specs.Kinds.{Compounds, most}
 use Rattle.cp_slots.specs.Code as code
-use Rattle.cp_slots.specs.Values as values
-use Rattle.cp_slots.specs.Values.{Value, ordinal_value, set_value, whole_value, component_value}
+use Rattle.cp_layout.specs.Values as values
+use Rattle.cp_layout.specs.Values.{Value, ordinal_value, set_value, whole_value, component_value}
 use Rattle.cp_meaning.specs.Types.{Range, Ty, ordinal, queue_type, set_over, array_over, record_with, component_of, FieldTypes, no_field_types, more_field_types, length_of_range}
 use Rattle.cp_resolved.specs.Layouts.{cells_of}
 use Rattle.cp_resolved.specs.Compiled.{Form, as_ordinal, as_set, as_place, as_component, Formed, Designated, a_variable, some_components, a_component}

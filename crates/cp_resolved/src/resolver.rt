@@ -2,12 +2,12 @@
 
 ghost use Rattle.std.specs.Prelude.{◌≡◌, IfOk};
 ghost use Rattle.cp_tree.specs.TreeView.{tree_view};
-ghost use Rattle.cp_slots.specs.Laid.{plain, laid};
+ghost use Rattle.cp_layout.specs.Laid.{plain, laid};
 ghost use Rattle.cp_slots.specs.Tables.{tables_of};
 ghost use Rattle.cp_resolved.specs.Resolving.{IsProgramOf};
 
 use cp_check::Checked;
-use cp_slots::lay_out::lay_out;
+use cp_layout::lay_out;
 use cp_slots::{Layout, Resolved};
 use std::alloc::{AllocError, Global};
 

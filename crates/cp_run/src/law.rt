@@ -5,8 +5,6 @@ ghost use Rattle.cp_machine.specs.System.{Machine};
 ghost use Rattle.cp_run.specs.System.{System};
 ghost use Rattle.cp_run.specs.Table.{table, IsPrefixFree};
 
-pub use cp_lawful::{law_exclusive, law_ownership};
-
 /// No word of a table begins another word of it.
 pub fn law_prefix_free()
     ensures { (sys : System Machine) (choices steps : ℕ) → IsPrefixFree (table sys choices steps) }

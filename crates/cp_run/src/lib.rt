@@ -12,7 +12,7 @@ pub mod traces;
 pub mod turn;
 
 pub use choice::{choose, may, open, wanted};
-pub use law::{law_exclusive, law_ownership, law_prefix_free};
+pub use law::law_prefix_free;
 pub use limits::{Limits, MOST_CHOICES, MOST_STEPS};
 pub use line::{Holders, TraceEvent, TraceLine};
 pub use outcome::{Halt, Outcome, OutcomeKind, Output, RunEnd, Turn};

@@ -11,7 +11,7 @@ pub const MOST_CHOICES: u8 = 100;
 pub const MOST_STEPS: u32 = 100_000;
 
 /// The limits of a run: its choices, the steps of each stretch, and who goes into a monitor.
-#[derive(Clone, Copy, Debug)]
+#[derive(Clone, Copy)]
 pub struct Limits {
     pub choices: u8,
     pub steps: u32,

@@ -6,7 +6,7 @@ use cp_machine::Kernel;
 use std::marker::Model;
 
 /// What a line of a trace tells of.
-#[derive(Clone, Copy, Debug, PartialEq, Eq)]
+#[derive(Clone, Copy, PartialEq, Eq)]
 pub enum TraceEvent {
     Kernel(Kernel),
     /// The process has ended.
@@ -16,7 +16,7 @@ pub enum TraceEvent {
 }
 
 /// For each monitor the process inside it.
-#[derive(Debug, Drop)]
+#[derive(Drop)]
 pub struct Holders {
     holders: Vec<Option<u8>>,
 }
@@ -46,7 +46,7 @@ impl Holders {
 }
 
 /// A kernel event, a process end or an admission, with the holder of every monitor after it.
-#[derive(Debug, Drop)]
+#[derive(Drop)]
 pub struct TraceLine {
     pub process: u8,
     pub event: TraceEvent,

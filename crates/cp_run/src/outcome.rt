@@ -8,7 +8,7 @@ use std::alloc::{AllocError, Global};
 use std::marker::Model;
 
 /// The kind of a run's end.
-#[derive(Clone, Copy, Debug, PartialEq, Eq)]
+#[derive(Clone, Copy, PartialEq, Eq)]
 pub enum OutcomeKind {
     /// All processes have ended or were never started.
     Finished,
@@ -28,7 +28,7 @@ pub enum OutcomeKind {
 }
 
 /// What comes before the next step of a run: it is over, a choice is due, or a process goes on.
-#[derive(Clone, Copy, Debug)]
+#[derive(Clone, Copy)]
 pub enum Turn {
     Over(OutcomeKind),
     Due,
@@ -36,7 +36,7 @@ pub enum Turn {
 }
 
 /// Where a stretch came to: a choice is due, or the run is over for a cause other than the number of choices.
-#[derive(Clone, Copy, Debug)]
+#[derive(Clone, Copy)]
 pub enum Halt {
     Choice,
     Ended(OutcomeKind),
@@ -46,14 +46,14 @@ pub enum Halt {
 const FEW: usize = 6;
 
 // Displayed values: few of them in place, or any number in memory.
-#[derive(Debug, Drop)]
+#[derive(Drop)]
 enum Values {
     Few(ArrayVec<Shown, FEW>),
     Many(Vec<Shown>),
 }
 
 /// The values that a run displayed, in order.
-#[derive(Debug, Drop)]
+#[derive(Drop)]
 pub struct Output {
     values: Values,
 }
@@ -130,14 +130,14 @@ impl Output {
 }
 
 /// The kind of a run's end and what it displayed.
-#[derive(Debug, Drop)]
+#[derive(Drop)]
 pub struct Outcome {
     pub kind: OutcomeKind,
     pub output: Output,
 }
 
 /// How a run stands after its word.
-#[derive(Debug, Drop)]
+#[derive(Drop)]
 pub enum RunEnd {
     /// It is over, and used this many numbers of the word.
     Ended { outcome: Outcome, used: usize },

@@ -1,10 +1,1 @@
-pub mod Around
 pub mod Sharing
-pub mod NamesSeen
-pub mod Settling
-pub mod Laid
-pub mod LaidLists
-pub mod LaidParts
-pub mod Least
-pub mod Listed
-pub mod Systems

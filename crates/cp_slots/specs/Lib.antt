@@ -1,15 +1,5 @@
 pub mod Code
 pub mod Fits
 pub mod Inside
-pub mod Kinds
-pub mod Laid
-pub mod LaidComponents
-pub mod LaidDeclarations
-pub mod LaidExpressions
-pub mod LaidStatements
-pub mod LaidTypes
-pub mod Layers
-pub mod Parameters
 pub mod Systems
 pub mod Tables
-pub mod Values

@@ -1,8 +1,7 @@
-//! From names to slots: the tables of a tree, and the type of a resolved program.
+//! The resolved program: items, places, tables, and what makes them sound.
 #![tactic(auto)]
 
 pub mod item;
-pub mod lay_out;
 pub mod place;
 pub mod resolved;
 pub mod tables;

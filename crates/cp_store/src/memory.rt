@@ -14,7 +14,7 @@ pub enum Address {
 }
 
 /// A call, or the initial statement of a process: what it executes, and where its variables lie.
-#[derive(Clone, Copy, Debug, PartialEq, Eq)]
+#[derive(Clone, Copy, PartialEq, Eq)]
 pub struct Frame {
     pub routine: usize,
     pub component: usize,

@@ -13,7 +13,7 @@ use cp_slots::{Action, Item, Place, Resolved};
 use cp_store::{Address, address};
 
 /// The statement that a process comes to.
-#[derive(Clone, Copy, Debug)]
+#[derive(Clone, Copy)]
 pub struct Aim {
     /// The line of its first token, where it is no end of a call.
     pub line: Option<u32>,

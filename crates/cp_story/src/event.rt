@@ -16,7 +16,7 @@ pub struct Choice {
 }
 
 /// A call of a monitor's entry that a process has not returned from.
-#[derive(Clone, Copy, Debug)]
+#[derive(Clone, Copy)]
 pub struct OpenCall {
     pub monitor: u8,
     pub routine: usize,

@@ -8,7 +8,7 @@ use cp_run::{OutcomeKind, RunEnd};
 use std::alloc::{AllocError, Global};
 
 /// How a run stopped where no event tells of it.
-#[derive(Clone, Copy, Debug)]
+#[derive(Clone, Copy)]
 pub struct Stop {
     pub process: Option<u8>,
     pub line: Option<u32>,

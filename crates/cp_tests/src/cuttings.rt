@@ -3,7 +3,7 @@
 ghost use Rattle.std.specs.Prelude.{◌≡◌, ◌≤◌, map, IfOk};
 ghost use Rattle.cp_run.specs.Slots.{slots};
 ghost use Rattle.cp_run.specs.Table.{table};
-ghost use Rattle.cp_explore.specs.Rows.{line_of};
+ghost use Rattle.cp_walk.specs.Rows.{line_of};
 
 use crate::programs::{TWO_CYCLES, TWO_DISPLAYS, limits_of, program_of};
 use arrayvec::ArrayVec;
@@ -13,7 +13,7 @@ use cp_explore::{
 use cp_machine::{Gates, Ticks};
 use cp_run::{Limits, Outcome, OutcomeKind, Output};
 use cp_slots::Resolved;
-use std::alloc::Global;
+use std::alloc::{AllocError, Global};
 use std::marker::Brand;
 use std::sync::ledger::{Blank, Ledger};
 use std::test::Fail;
@@ -45,7 +45,8 @@ fn table_counted<L: Ledger>(
     }
 }
 
-fn are_members(cutting: &Cutting, words: &[&[u8]]) -> bool {
+/// Whether these are the members.
+pub fn are_members(cutting: &Cutting, words: &[&[u8]]) -> bool {
     let members = cutting.members();
     members.len() == words.len()
         && members
@@ -89,7 +90,8 @@ fn split_leaf(rt: HostRuntime) -> Result<(), Fail> {
     Ok(())
 }
 
-static MEMBERS: [&[u8]; 5] = [&[0, 0], &[0, 1], &[0, 2], &[1, 0], &[1, 1]];
+/// The members of depth 2 of `TWO_DISPLAYS`.
+pub static MEMBERS: [&[u8]; 5] = [&[0, 0], &[0, 1], &[0, 2], &[1, 0], &[1, 1]];
 
 #[test]
 fn to_depth_members(rt: HostRuntime) -> Result<(), Fail> {
@@ -181,7 +183,7 @@ fn gather_faults(rt: HostRuntime) -> Result<(), Fail> {
 }
 
 /// A row like this one.
-fn copy_of(alloc: Global, row: &Row) -> Result<Row, Fail> {
+fn copy_of(alloc: Global, row: &Row) -> Result<Row, AllocError> {
     let mut word = ArrayVec::new();
     for number in row.word.as_slice() {
         let _ = word.try_push(*number);
@@ -196,7 +198,7 @@ fn copy_of(alloc: Global, row: &Row) -> Result<Row, Fail> {
 }
 
 /// The rows of a table that begin with a member, as a piece; no rows where there is no such member.
-fn piece_of(alloc: Global, table: &Table, task: u32) -> Result<Piece, Fail> {
+fn piece_of(alloc: Global, table: &Table, task: u32) -> Result<Piece, AllocError> {
     let mut rows = Vec::new(alloc);
     if let Some(member) = MEMBERS.get(task as usize) {
         for row in table.rows.as_slice() {
@@ -211,7 +213,8 @@ fn piece_of(alloc: Global, table: &Table, task: u32) -> Result<Piece, Fail> {
     })
 }
 
-fn cut_pieces(alloc: Global, table: &Table, tasks: &[u32]) -> Result<Vec<Piece>, Fail> {
+/// The pieces of these tasks, cut from a table.
+pub fn cut_pieces(alloc: Global, table: &Table, tasks: &[u32]) -> Result<Vec<Piece>, AllocError> {
     let mut pieces = Vec::new(alloc);
     for task in tasks {
         pieces.push(piece_of(alloc, table, *task)?)?;
@@ -219,7 +222,8 @@ fn cut_pieces(alloc: Global, table: &Table, tasks: &[u32]) -> Result<Vec<Piece>,
     Ok(pieces)
 }
 
-fn are_same(rows: &[Row], others: &[Row]) -> bool {
+/// Whether these rows are the same.
+pub fn are_same(rows: &[Row], others: &[Row]) -> bool {
     rows.len() == others.len()
         && rows.iter().zip(others.iter()).all(|(row, other)| {
             row.word.as_slice() == other.word.as_slice()

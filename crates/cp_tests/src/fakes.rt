@@ -41,6 +41,17 @@ impl<'a> Read for OneByteReader<'a> {
     }
 }
 
+/// Gives blanks, as many as there is room for, and never ends.
+#[derive(Drop)]
+pub struct EndlessReader;
+
+impl Read for EndlessReader {
+    fn read(&mut self, buffer: &mut [u8]) -> Result<usize> {
+        buffer.fill(b' ');
+        Ok(buffer.len())
+    }
+}
+
 /// What a writer does at the call of its choice.
 #[derive(Clone, Copy, PartialEq, Eq)]
 pub enum Refusal {

@@ -23,6 +23,8 @@ mod programs;
 #[cfg(test)]
 mod readings;
 #[cfg(test)]
+mod refusals;
+#[cfg(test)]
 mod rows;
 #[cfg(test)]
 mod runs;

@@ -1,7 +1,8 @@
 //! The worked rows.
 use crate::fakes::Refusal;
 use crate::programs::TWO_DISPLAYS;
-use crate::streams::{NEVER, Refusals, answer_to};
+use crate::streams::{NEVER, Refusals, answer_to, answer_to_endless};
+use cp_tool::read_options;
 use std::test::Fail;
 
 /// A source, the words of the call, and what is written, with which status.
@@ -136,6 +137,18 @@ fn worked_rows(rt: HostRuntime) -> Result<(), Fail> {
         assert_eq!(rt; told.status.code, row.code, "{name}");
         assert_eq!(rt; told.text.as_slice(), row.text.as_bytes(), "{name}");
     }
+    Ok(())
+}
+
+/// The row endless-reader.
+#[test]
+fn endless_reader(rt: HostRuntime) -> Result<(), Fail> {
+    let Ok(options) = read_options(rt.alloc(), ["cpx"].as_slice()) else {
+        return Err(Fail::from("refused words"));
+    };
+    let told = answer_to_endless(&rt, rt.alloc(), &options);
+    assert_eq!(rt; told.status.code, 1);
+    assert_eq!(rt; told.text.as_slice(), "line 0 scan: too long\n".as_bytes());
     Ok(())
 }
 

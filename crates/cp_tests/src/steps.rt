@@ -7,17 +7,19 @@ use crate::programs::{limits_of, program_of};
 use cp_machine::{ErrorName, Event, Gates, RunError, Shown, State, Ticks, step};
 use cp_run::{Limits, may};
 use cp_slots::Resolved;
-use std::alloc::Global;
+use std::alloc::{AllocError, Global};
 use std::marker::Brand;
 use std::sync::ledger::{Blank, Ledger};
 use std::test::Fail;
 
-/// What process 0 does alone: how many of its steps succeed, the last event, and where the state is then.
+/// What process 0 does alone: how many of its steps succeed, the last event, and where the state is then. Before each step a copy of
+/// the state is made and dropped, or memory for it is refused.
 #[derive(Drop)]
-struct Alone {
+pub struct Alone {
     steps: u32,
     last: Event,
     state: State,
+    pub refused_copies: u32,
 }
 
 /// One step of process 0, where it is ready and nothing is pending.
@@ -43,17 +45,26 @@ fn is_over(event: Event) -> bool {
     matches!(event, Event::Ended | Event::Fault(_) | Event::OutputFull)
 }
 
-fn stepped<L: Ledger>(alloc: Global, program: &Resolved, blank: Blank) -> Result<Alone, Fail>
+/// What process 0 of a program does alone.
+pub fn stepped<L: Ledger>(
+    alloc: Global,
+    program: &Resolved,
+    limits: Limits,
+    blank: Blank,
+) -> Result<Alone, AllocError>
     requires name { blank.name ≡ L.name }
     requires parts { blank.parts ≡ L.parts }
     requires one { L.parts ≡ 1 }
 {
     let mut ticks: Ticks<L> = Ticks::new(blank);
-    let limits = limits_of(8, Gates::First)?;
     let mut state = State::start(alloc, program, limits.gates)?;
     let mut last = Event::Local;
     let mut steps = 0;
+    let mut refused_copies = 0u32;
     for turn in 0..1000u32 {
+        if state.copy(alloc).is_err() {
+            refused_copies = refused_copies.saturating_add(1);
+        }
         let Some(event) = step_of_first(program, limits, &mut state, &mut ticks) else {
             break;
         };
@@ -65,24 +76,30 @@ fn stepped<L: Ledger>(alloc: Global, program: &Resolved, blank: Blank) -> Result
             break;
         }
     }
-    Ok(Alone { steps, last, state })
+    Ok(Alone {
+        steps,
+        last,
+        state,
+        refused_copies,
+    })
 }
 
 fn stepped_alone(alloc: Global, source: &str) -> Result<Alone, Fail> {
     let program = program_of(alloc, source)?;
-    stepped::<Brand>(alloc, &program, Blank::new(1))
+    let limits = limits_of(8, Gates::First)?;
+    Ok(stepped::<Brand>(alloc, &program, limits, Blank::new(1))?)
 }
 
 /// A source, how many steps of process 0 succeed, its last event, and what is displayed.
-struct StepRow {
-    source: &'static str,
+pub struct StepRow {
+    pub source: &'static str,
     steps: u32,
     last: Last,
     output: &'static [Shown],
 }
 
 impl StepRow {
-    fn tells_of(&self, alone: &Alone) -> bool {
+    pub fn tells_of(&self, alone: &Alone) -> bool {
         alone.steps == self.steps
             && alone.last == self.last.event()
             && alone.state.output() == self.output
@@ -90,7 +107,7 @@ impl StepRow {
 }
 
 /// The last event of process 0: this one, or its run error on this line.
-enum Last {
+pub enum Last {
     Event(Event),
     Error(ErrorName, u32),
 }
@@ -108,7 +125,7 @@ impl Last {
     }
 }
 
-static STEPS: [StepRow; 20] = [
+static STEPS: [StepRow; 19] = [
     StepRow {
         source: "begin end.",
         steps: 2,
@@ -230,14 +247,15 @@ static STEPS: [StepRow; 20] = [
         last: Last::Event(Event::Local),
         output: &[],
     },
-    // Each item that a process meets without a monitor; its statements take 1, 1, 1, 1, 2, 2, 2, 3, 3, 5, 3, 3, 3 and 1 steps.
-    StepRow {
-        source: "type c = class; procedure entry e; begin end; begin end; var k: c; x, i: integer; a, b: array [1..2] of integer; s: set of 0..9; procedure f; begin end; begin ; x := 1; b := a; s := [1]; begin x := 2 end; if x = 2 then x := 3 else x := 4; case x of 3: x := 5; 4: end; while x > 4 do x := x - 1; repeat x := x + 1 until x = 5; for i := 1 to 2 do x := i; f; init k; k.e; display(x) end.",
-        steps: 32,
-        last: Last::Event(Event::Ended),
-        output: &[Shown::Integer(2)],
-    },
 ];
+
+/// Each item that a process meets without a monitor; its statements take 1, 1, 1, 1, 2, 2, 2, 3, 3, 5, 3, 3, 3 and 1 steps.
+pub static LAST_STEPS: StepRow = StepRow {
+    source: "type c = class; procedure entry e; begin end; begin end; var k: c; x, i: integer; a, b: array [1..2] of integer; s: set of 0..9; procedure f; begin end; begin ; x := 1; b := a; s := [1]; begin x := 2 end; if x = 2 then x := 3 else x := 4; case x of 3: x := 5; 4: end; while x > 4 do x := x - 1; repeat x := x + 1 until x = 5; for i := 1 to 2 do x := i; f; init k; k.e; display(x) end.",
+    steps: 32,
+    last: Last::Event(Event::Ended),
+    output: &[Shown::Integer(2)],
+};
 
 #[test]
 fn steps_of_one_process(rt: HostRuntime) -> Result<(), Fail> {
@@ -245,5 +263,7 @@ fn steps_of_one_process(rt: HostRuntime) -> Result<(), Fail> {
         let alone = stepped_alone(rt.alloc(), row.source)?;
         assert!(rt; row.tells_of(&alone), "{}", row.source);
     }
+    let alone = stepped_alone(rt.alloc(), LAST_STEPS.source)?;
+    assert!(rt; LAST_STEPS.tells_of(&alone));
     Ok(())
 }

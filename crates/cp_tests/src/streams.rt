@@ -1,9 +1,10 @@
 //! The program over memory: what it answers to words and a source.
 ghost use Rattle.std.specs.Prelude.{◌≡◌};
 
-use crate::fakes::{OneByteReader, OneByteWriter, Refusal};
+use crate::fakes::{EndlessReader, OneByteReader, OneByteWriter, Refusal};
 use cp_tool::{Options, Status, Wrapped, explore_stream, read_options};
 use std::alloc::Global;
+use std::io::Read;
 use std::marker::Brand;
 use std::sync::ledger::{Blank, Ledger};
 use std::test::Fail;
@@ -53,16 +54,33 @@ pub fn answer_by<X: Threads + Sync>(
     source: &[u8],
     refusals: Refusals,
 ) -> Told {
+    let reader = OneByteReader::new(source, refusals.read);
+    let writer = OneByteWriter::new(alloc, refusals.write, refusals.refusal);
     let (reads, writes) = (Blank::new(3), Blank::new(3));
-    told_by::<X, Brand, Brand>(rt, alloc, options, source, refusals, reads, writes)
+    told_by::<X, OneByteReader<'_>, Brand, Brand>(rt, alloc, options, reader, writer, reads, writes)
 }
 
-fn told_by<X: Threads + Sync, A: Ledger, B: Ledger>(
+/// What the program answers to a source that never ends.
+pub fn answer_to_endless<X: Threads + Sync>(rt: &X, alloc: Global, options: &Options) -> Told {
+    let writer = OneByteWriter::new(alloc, NEVER.write, NEVER.refusal);
+    let (reads, writes) = (Blank::new(3), Blank::new(3));
+    told_by::<X, EndlessReader, Brand, Brand>(
+        rt,
+        alloc,
+        options,
+        EndlessReader,
+        writer,
+        reads,
+        writes,
+    )
+}
+
+fn told_by<X: Threads + Sync, R: Read + Drop, A: Ledger, B: Ledger>(
     rt: &X,
     alloc: Global,
     options: &Options,
-    bytes: &[u8],
-    refusals: Refusals,
+    reader: R,
+    writer: OneByteWriter,
     reads: Blank,
     writes: Blank,
 ) -> Told
@@ -71,9 +89,7 @@ fn told_by<X: Threads + Sync, A: Ledger, B: Ledger>(
     requires write_name { writes.name ≡ B.name }
     requires write_parts { (writes.parts ≡ B.parts) × (B.parts ≡ 3) }
 {
-    let reader = OneByteReader::new(bytes, refusals.read);
-    let writer = OneByteWriter::new(alloc, refusals.write, refusals.refusal);
-    let mut source: Wrapped<OneByteReader<'_>, A> = Wrapped::new(reader, reads);
+    let mut source: Wrapped<R, A> = Wrapped::new(reader, reads);
     let mut sink: Wrapped<OneByteWriter, B> = Wrapped::new(writer, writes);
     let status = explore_stream(rt, alloc, options, &mut source, &mut sink);
     Told {

@@ -154,6 +154,11 @@ fn are_told(lines: &[TraceLine], told: &[Told]) -> bool {
             .all(|(line, told)| is_told(line, told))
 }
 
+/// Whether these are the lines of the first of `TRACES`.
+pub fn is_first_trace(lines: &[TraceLine]) -> bool {
+    are_told(lines, TRACES[0].lines)
+}
+
 /// How the run of a word ends whose trace has these lines.
 fn end_after(
     alloc: Global,

@@ -1,3 +1,4 @@
+use crate::refusals::{Answer, are_right, unrefused};
 use cp_machine::Gates;
 use cp_tool::{OptionFault, Options, read_options};
 use std::alloc::Global;
@@ -177,10 +178,9 @@ fn each_option_has_the_value_of_its_words(rt: HostRuntime) -> Result<(), Fail> {
     Ok(())
 }
 
-/// At most one growth of a run is refused, as by `rt try --test --fail-alloc N`: then one answer is
-/// Memory, and each other one is that of ample memory.
+/// Where a growth is refused, one answer is Memory, and each other one is that of ample memory.
 #[test]
-fn a_refused_growth_gives_memory_and_nothing_else(rt: HostRuntime) -> Result<(), Fail> {
+fn refused_growth_of_reading_options(rt: HostRuntime) -> Result<(), Fail> {
     let answers = [
         all_or_memory(rt.alloc()),
         refusal_or_memory(rt.alloc()),
@@ -189,26 +189,8 @@ fn a_refused_growth_gives_memory_and_nothing_else(rt: HostRuntime) -> Result<(),
         refusal_or_memory(rt.alloc()),
         help_or_memory(rt.alloc()),
     ];
-    let mut is_refused = false;
-    for answer in &answers {
-        match *answer {
-            Answer::Ample => {}
-            Answer::Memory => {
-                assert!(rt; !is_refused);
-                is_refused = true;
-            }
-            Answer::Other => panic!(rt; "another answer"),
-        }
-    }
+    assert!(rt; are_right(&answers));
     Ok(())
-}
-
-/// How an answer compares with that of ample memory.
-#[derive(Clone, Copy)]
-enum Answer {
-    Ample,
-    Memory,
-    Other,
 }
 
 fn all_or_memory(alloc: Global) -> Answer {
@@ -217,11 +199,7 @@ fn all_or_memory(alloc: Global) -> Answer {
         Err(OptionFault::Memory) => return Answer::Memory,
         Err(_fault) => return Answer::Other,
     };
-    if has_values_of_all(&options) {
-        Answer::Ample
-    } else {
-        Answer::Other
-    }
+    unrefused(has_values_of_all(&options))
 }
 
 fn refusal_or_memory(alloc: Global) -> Answer {

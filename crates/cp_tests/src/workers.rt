@@ -12,7 +12,7 @@ use std::thread;
 use std::thread::Threads;
 
 /// The report of `TWO_DISPLAYS` with five choices.
-static REPORT: &str =
+pub static REPORT: &str =
     "schedules 45\noutcomes 2\n30 first 0.0.1.1 finished output 1 2\n15 first 0.0.2.1.1 finished output 2 1\n";
 
 /// Whether workers that draw the words of this many choices give the report of `TWO_DISPLAYS`.

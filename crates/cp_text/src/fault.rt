@@ -7,7 +7,7 @@ ghost use Rattle.cp_text.specs.Faults.{out_of_memory};
 use std::alloc::{AllocError, AllocFailed};
 
 /// What is wrong with a text.
-#[derive(Clone, Copy, Debug, PartialEq, Eq)]
+#[derive(Clone, Copy, PartialEq, Eq)]
 pub enum ScanCause {
     /// The text has more than 65,535 bytes.
     TooLong,
@@ -30,7 +30,7 @@ pub enum ScanCause {
 }
 
 /// The first fault of a text.
-#[derive(Clone, Copy, Debug, PartialEq, Eq)]
+#[derive(Clone, Copy, PartialEq, Eq)]
 pub struct ScanFault {
     /// The line, counted from 1, in which the faulty piece begins; 0 for `TooLong` and `Memory`.
     pub line: u32,

@@ -9,7 +9,7 @@ use crate::fault::ScanCause;
 use crate::token::Mark;
 
 /// What a piece is by its shape, whatever its value, length or text.
-#[derive(Clone, Copy, Debug)]
+#[derive(Clone, Copy)]
 pub enum Shape {
     Separator,
     Comment,
@@ -21,14 +21,14 @@ pub enum Shape {
 }
 
 /// A shape, and a length in bytes.
-#[derive(Clone, Copy, Debug)]
+#[derive(Clone, Copy)]
 pub struct Piece {
     pub shape: Shape,
     pub len: usize,
 }
 
 /// The bytes that go on with a piece.
-#[derive(Clone, Copy, Debug)]
+#[derive(Clone, Copy)]
 enum Class {
     Digit,
     Word,

@@ -8,7 +8,7 @@ use std::alloc::{AllocError, Global};
 use std::marker::Model;
 
 /// The spelling of a name, in lower case.
-#[derive(Debug, Drop)]
+#[derive(Drop)]
 pub struct Name {
     text: String,
 }
@@ -45,7 +45,7 @@ impl Name {
 }
 
 /// A reserved word or a sign. `(.` and `[` are one sign, and so are `.)` and `]`; `&` is the word `and`.
-#[derive(Clone, Copy, Debug, PartialEq, Eq)]
+#[derive(Clone, Copy, PartialEq, Eq)]
 pub enum Mark {
     And,
     Array,
@@ -109,7 +109,7 @@ pub enum Mark {
 }
 
 /// A token's kind, with its value.
-#[derive(Debug, Drop)]
+#[derive(Drop)]
 pub enum Kind {
     /// At most 32,767.
     Number(u16),
@@ -120,14 +120,14 @@ pub enum Kind {
 }
 
 /// A lexeme and the number of its line, counted from 1.
-#[derive(Debug, Drop)]
+#[derive(Drop)]
 pub struct Token {
     pub kind: Kind,
     pub line: u32,
 }
 
 /// The tokens of a text, in order.
-#[derive(Debug, Drop)]
+#[derive(Drop)]
 pub struct Tokens {
     items: Vec<Token>,
 }

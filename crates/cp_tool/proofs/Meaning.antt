@@ -18,8 +18,8 @@ use Rattle.cp_refine.specs.Law.{SameRuns}
 use Rattle.cp_refine.specs.Named.{named, named_gates}
 use Rattle.cp_refine.proofs.Meaning.{runs_as_meant}
 use Rattle.cp_resolved.proofs.Resolving.{read_names}
-use Rattle.cp_explore.specs.Text.{Spellings}
-use Rattle.cp_explore.specs.TraceText.{trace_text}
+use Rattle.cp_walk.specs.Text.{Spellings}
+use Rattle.cp_walk.specs.TraceText.{trace_text}
 use Rattle.cp_tool.specs.Answered.{IsReported, IsMerged, IsTraced, IsExplored, IsExploredOf, machine}
 use Rattle.cp_tool.specs.declared.options.Options.{Options}
 use Rattle.cp_tool.specs.declared.answering.Verdict.{Verdict}

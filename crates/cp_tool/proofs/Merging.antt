@@ -5,7 +5,7 @@ use Rattle.cp_machine.specs.declared.gates.Gates.{Gates}
 use Rattle.cp_run.specs.Slots.{slots}
 use Rattle.cp_run.specs.Table.{table}
 use Rattle.cp_run.specs.declared.limits.Limits.{Limits}
-use Rattle.cp_explore.specs.Report.{report_text}
+use Rattle.cp_walk.specs.Report.{report_text}
 use Rattle.cp_merged.specs.TooMany.{FitsBefore, IsDueFault}
 use Rattle.cp_merged.specs.declared.fault.MergeFault.TheVariants as fault
 use Rattle.cp_tool.specs.Answered.{IsMerged, machine, machine_rows}

@@ -5,7 +5,7 @@ use Rattle.cp_run.specs.Run.{Node, Halted, Choosing, Answer, Ended, Wants, NotRe
 use Rattle.cp_run.specs.Code.{answer_of}
 use Rattle.cp_run.specs.declared.outcome.RunEnd.{RunEnd}
 use Rattle.cp_run.specs.declared.outcome.RunEnd.TheVariants as end
-use Rattle.cp_explore.specs.Rows.{UsedWithin}
+use Rattle.cp_walk.specs.Rows.{UsedWithin}
 
 abbrev pub UsesAtMost : ℕ → Answer → Type 0
 UsesAtMost n (Ended outcome used) = used ≤ n

@@ -25,9 +25,9 @@ use Rattle.cp_run.specs.Run.{run}
 use Rattle.cp_run.specs.Table.{Line, table}
 use Rattle.cp_run.specs.Trace.{trace}
 use Rattle.cp_refine.specs.Named.{named, named_gates}
-use Rattle.cp_explore.specs.Text.{Spellings}
-use Rattle.cp_explore.specs.Report.{report_text}
-use Rattle.cp_explore.specs.TraceText.{trace_text}
+use Rattle.cp_walk.specs.Text.{Spellings}
+use Rattle.cp_walk.specs.Report.{report_text}
+use Rattle.cp_walk.specs.TraceText.{trace_text}
 use Rattle.cp_merged.specs.TooMany.{FitsBefore, IsDueFault}
 use Rattle.cp_merged.specs.declared.fault.MergeFault.TheVariants as fault
 use Rattle.cp_tool.specs.Refusals.{refusal, scan_reason, parse_reason, check_reason}

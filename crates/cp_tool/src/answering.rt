@@ -2,7 +2,7 @@
 ghost use Rattle.std.specs.Prelude.{◌≡◌, ◌+◌, ◌<◌, ◌≤◌, false, length, map, max, min, IfOk, IfErr, option_map};
 ghost use Rattle.cp_run.specs.Slots.{slots};
 ghost use Rattle.cp_run.specs.Table.{table};
-ghost use Rattle.cp_explore.specs.Rows.{line_of, IsTooMany};
+ghost use Rattle.cp_walk.specs.Rows.{line_of, IsTooMany};
 ghost use Rattle.cp_tool.specs.Answered as spec;
 ghost use Rattle.cp_tool.specs.declared.answering.Ending.{Ending};
 
@@ -26,7 +26,7 @@ use std::sync::ledger::{Blank, Ledger};
 use std::thread::Threads;
 
 /// How a call of the program ended, as its exit code.
-#[derive(Clone, Copy, Debug, PartialEq, Eq)]
+#[derive(Clone, Copy, PartialEq, Eq)]
 pub struct Status {
     /// 0 reported, 1 source refused, 3 memory refused, 4 read or write fault, 5 too many rows, states or outcomes.
     pub code: u8,

@@ -11,7 +11,7 @@ use std::alloc::{AllocError, Global};
 pub const MOST_BYTES: usize = 65_536;
 
 /// Why no source came.
-#[derive(Debug, Drop)]
+#[derive(Drop)]
 pub enum ReadFault {
     Memory,
     Failed,

@@ -76,7 +76,7 @@ pub struct Body {
     pub statements: Vec<Statement>,
 }
 
-#[derive(Clone, Copy, Debug, PartialEq, Eq)]
+#[derive(Clone, Copy, PartialEq, Eq)]
 pub enum SystemKind {
     Class,
     Monitor,

@@ -2,7 +2,7 @@
 
 use crate::constant::{Identifier, Sign};
 
-#[derive(Clone, Copy, Debug, PartialEq, Eq)]
+#[derive(Clone, Copy, PartialEq, Eq)]
 pub enum Relation {
     Equal,
     NotEqual,
@@ -14,7 +14,7 @@ pub enum Relation {
 }
 
 /// An operator between the terms of a sum.
-#[derive(Clone, Copy, Debug, PartialEq, Eq)]
+#[derive(Clone, Copy, PartialEq, Eq)]
 pub enum Addition {
     Plus,
     Minus,
@@ -22,7 +22,7 @@ pub enum Addition {
 }
 
 /// An operator between the factors of a term.
-#[derive(Clone, Copy, Debug, PartialEq, Eq)]
+#[derive(Clone, Copy, PartialEq, Eq)]
 pub enum Multiplication {
     Times,
     Div,

@@ -6,7 +6,7 @@ ghost use Rattle.cp_tree.specs.declared.fault.ParseFault.TheVariants.{Memory};
 use std::alloc::{AllocError, AllocFailed};
 
 /// Why tokens are no program. The number of a token is the count of the tokens before it.
-#[derive(Debug, Drop)]
+#[derive(Drop)]
 pub enum ParseFault {
     /// The token of this number, or the end of the tokens, can't stand there.
     Unexpected(usize),

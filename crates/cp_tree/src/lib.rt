@@ -6,6 +6,7 @@ mod cursor;
 pub mod declaration;
 pub mod expression;
 pub mod fault;
+mod held;
 pub mod parser;
 mod read_constant;
 mod read_expression;

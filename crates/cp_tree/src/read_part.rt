@@ -8,6 +8,7 @@ ghost use Rattle.cp_tree.specs.View.{constant_definition_view, type_definition_v
 use crate::cursor::Cursor;
 use crate::declaration::{ConstantDefinition, Part, PartKind, TypeDefinition, VariableGroup};
 use crate::fault::ParseFault;
+use crate::held::value_before;
 use crate::read_constant::{constant, identifier, identifiers};
 use crate::read_type::type_term;
 use cp_text::Mark;
@@ -37,8 +38,8 @@ fn type_definition(alloc: Global, cursor: &mut Cursor<'_>) -> Result<TypeDefinit
     let name = identifier(alloc, cursor)?;
     cursor.expect(Mark::Equal)?;
     let value = type_term(alloc, cursor, MAX_LEVEL)?;
-    cursor.expect(Mark::Semicolon)?;
-    Ok(TypeDefinition { name, value })
+    let definition = TypeDefinition { name, value };
+    Ok(value_before(cursor, definition, Mark::Semicolon)?)
 }
 
 #[tactic(auto, unfolding(crate::specs::ReadingDeclarations::variable_item))]
@@ -48,11 +49,11 @@ fn variable_group(alloc: Global, cursor: &mut Cursor<'_>) -> Result<VariableGrou
     let names = identifiers(alloc, cursor)?;
     cursor.expect(Mark::Colon)?;
     let variable_type = type_term(alloc, cursor, MAX_LEVEL)?;
-    cursor.expect(Mark::Semicolon)?;
-    Ok(VariableGroup {
+    let group = VariableGroup {
         names,
         variable_type,
-    })
+    };
+    Ok(value_before(cursor, group, Mark::Semicolon)?)
 }
 
 /// Constant definitions, as long as a name comes next.

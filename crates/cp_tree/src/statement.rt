@@ -4,7 +4,7 @@ use crate::constant::{Constant, Identifier};
 use crate::expression::{Designator, Expression};
 
 /// The order in which a `for` goes through its values.
-#[derive(Clone, Copy, Debug, PartialEq, Eq)]
+#[derive(Clone, Copy, PartialEq, Eq)]
 pub enum Direction {
     To,
     Downto,

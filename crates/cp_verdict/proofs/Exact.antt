@@ -12,7 +12,7 @@ use Rattle.cp_run.specs.Table.{each}
 use Rattle.cp_run.specs.declared.outcome.Outcome.{Outcome}
 use Rattle.cp_run.specs.declared.outcome.OutcomeKind.{OutcomeKind}
 use Rattle.cp_run.specs.declared.outcome.OutcomeKind.TheVariants.{Finished, AllWaiting, RunError, ChoiceLimit, StepLimit, OutputLimit}
-use Rattle.cp_explore.specs.Report.{shown_numbers, number_of, kind_numbers, outcome_numbers, same_outcome}
+use Rattle.cp_walk.specs.Report.{shown_numbers, number_of, kind_numbers, outcome_numbers, same_outcome}
 
 -- ---- back from the numbers
 

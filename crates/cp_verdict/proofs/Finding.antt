@@ -4,7 +4,7 @@ use Rattle.std.specs.Prelude.{find, option_map, is_some, is_none}
 use Rattle.std.specs.List.{list_any, list_all}
 use Rattle.cp_run.specs.Table.{Line}
 use Rattle.cp_run.specs.declared.outcome.Outcome.{Outcome}
-use Rattle.cp_explore.specs.Report.{same_outcome, firsts, outcomes_of}
+use Rattle.cp_walk.specs.Report.{same_outcome, firsts, outcomes_of}
 use Rattle.cp_verdict.specs.Expectations.{is_limit, settles_by}
 use Rattle.cp_verdict.specs.Judged.{line_of, is_whole, first_settling, judgement_of, IsJudgedBy}
 use Rattle.cp_verdict.specs.declared.expectation.Claim.{Claim}

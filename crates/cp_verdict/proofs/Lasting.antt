@@ -3,7 +3,7 @@ use Rattle.std.proofs.Common.{◌≡◌, ◌⊎◌, inl, inr, ◌∙◌, ◌+◌
 use Rattle.std.specs.List.{list_any, AllByRecursion as Each}
 use Rattle.std.proofs.lemmas.List.Elements.{All-from_recursion}
 use native.Mathlib.Numerals.{unary_clauses}
-use Rattle.cp_explore.specs.Text.{Spellings}
+use Rattle.cp_walk.specs.Text.{Spellings}
 use Rattle.cp_machine.specs.declared.shown.Shown.{Shown}
 use Rattle.cp_run.specs.declared.outcome.Outcome.{Outcome}
 use Rattle.cp_run.specs.declared.outcome.OutcomeKind.{OutcomeKind}
@@ -11,8 +11,8 @@ use Rattle.cp_run.specs.declared.outcome.OutcomeKind.TheVariants.{Finished, AllW
 use Rattle.cp_run.specs.System.{System}
 use Rattle.cp_run.specs.Run.{joined_below, Node, Halted, Choosing, may, chosen, opened}
 use Rattle.cp_run.specs.Table.{Line, table}
-use Rattle.cp_explore.specs.Walk.{behind, walk}
-use Rattle.cp_explore.proofs.Walks.{table_walk}
+use Rattle.cp_walk.specs.Walk.{behind, walk}
+use Rattle.cp_walk.proofs.Walks.{table_walk}
 use Rattle.cp_merged.specs.Complete.{IsOver}
 use Rattle.cp_merged.proofs.Completing.{complete}
 use Rattle.cp_verdict.specs.Expectations.{is_limit, is_of_kind, has_output, fits, is_one_of, is_true_by, is_true_of}

@@ -2,8 +2,8 @@
 use Rattle.std.proofs.Common.{◌≡◌, ◌∙◌, Bool, true, false, ◌||◌, if◌then◌else◌, List, [], ◌∷◌, ◌++◌, map, refl, ap}
 use Rattle.std.specs.List.{list_any}
 use Rattle.cp_run.specs.Table.{Line}
-use Rattle.cp_explore.specs.Groups.{Tally}
-use Rattle.cp_explore.specs.Report.{same_outcome, firsts, outcomes_of}
+use Rattle.cp_walk.specs.Groups.{Tally}
+use Rattle.cp_walk.specs.Report.{same_outcome, firsts, outcomes_of}
 use Rattle.cp_merged.specs.Tallies.{one, more, noted, tally_onto, tally}
 
 abbrev pub heads : List Tally → List Line

@@ -1,9 +1,9 @@
 -- Verdicts on some expectations, from the judgement of each.
 use Rattle.std.proofs.Common.{◌≡◌, ◌⊎◌, inl, inr, List, [], ◌∷◌, map, sym, subst}
 use Rattle.std.specs.Borrow.{Bor}
-use Rattle.cp_explore.specs.Text.{Spellings}
+use Rattle.cp_walk.specs.Text.{Spellings}
 use Rattle.cp_run.specs.Table.{Line, Here, There}
-use Rattle.cp_explore.specs.Report.{outcomes_of}
+use Rattle.cp_walk.specs.Report.{outcomes_of}
 use Rattle.cp_verdict.specs.Judged.{line_of, IsJudged}
 use Rattle.cp_verdict.specs.Marked.{HoldsOf, OpenOf, Each, IsMarked, verdict_of}
 use Rattle.cp_verdict.specs.declared.expectation.Expectation.{Expectation}

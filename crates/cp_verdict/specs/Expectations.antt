@@ -9,7 +9,7 @@ use Rattle.cp_run.specs.declared.outcome.Outcome.{Outcome}
 use Rattle.cp_run.specs.declared.outcome.OutcomeKind.{OutcomeKind}
 use Rattle.cp_run.specs.declared.outcome.OutcomeKind.TheVariants.{Finished, AllWaiting, RunError, ChoiceLimit, StepLimit, OutputLimit}
 use Rattle.cp_run.specs.Table.{Line}
-use Rattle.cp_explore.specs.Text.{Spellings, output_text}
+use Rattle.cp_walk.specs.Text.{Spellings, output_text}
 use Rattle.cp_verdict.specs.declared.expectation.Claim.{Claim}
 use Rattle.cp_verdict.specs.declared.expectation.Claim.TheVariants.{Never, Sometimes, Only}
 use Rattle.cp_verdict.specs.declared.expectation.KindPattern.{KindPattern}

@@ -1,7 +1,7 @@
 -- What a table says of an expectation.
 use Rattle.std.specs.Prelude.{◌≡◌, ◌≢◌, List, Bool, true, false, not, Option, None, Some, find}
 use Rattle.std.specs.List.{list_all}
-use Rattle.cp_explore.specs.Text.{Spellings}
+use Rattle.cp_walk.specs.Text.{Spellings}
 use Rattle.cp_run.specs.declared.outcome.Outcome.{Outcome}
 use Rattle.cp_run.specs.Table.{Line}
 use Rattle.cp_verdict.specs.Expectations.{is_limit, is_one_of, is_true_by, settles_by}

@@ -1,7 +1,7 @@
 -- What a table says of some expectations together.
 use Rattle.std.specs.Prelude.{◌≡◌, ◌≢◌, ◌⊎◌, List, [], ◌∷◌, true, false, Option, None, Some}
 use Rattle.std.specs.Borrow.{Bor}
-use Rattle.cp_explore.specs.Text.{Spellings}
+use Rattle.cp_walk.specs.Text.{Spellings}
 use Rattle.cp_run.specs.Table.{Line, IsAmong}
 use Rattle.cp_verdict.specs.Expectations.{is_one_of, is_true_of}
 use Rattle.cp_verdict.specs.Judged.{line_of, is_whole, first_settling}

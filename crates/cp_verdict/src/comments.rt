@@ -6,7 +6,7 @@ use std::alloc::{AllocError, Global};
 const OPENING: &str = "(* expect ";
 
 /// What a byte of a source belongs to.
-#[derive(Clone, Copy, Debug, PartialEq, Eq)]
+#[derive(Clone, Copy, PartialEq, Eq)]
 enum Within {
     Code,
     Character,

@@ -3,7 +3,7 @@
 use cp_machine::ErrorName;
 
 /// What an expectation says of some outcomes.
-#[derive(Clone, Copy, Debug)]
+#[derive(Clone, Copy)]
 pub enum Claim {
     /// No schedule ends in one of them.
     Never,
@@ -14,7 +14,7 @@ pub enum Claim {
 }
 
 /// The kind of an expected outcome.
-#[derive(Clone, Copy, Debug)]
+#[derive(Clone, Copy)]
 pub enum KindPattern {
     Finished,
     AllWaiting,
@@ -23,7 +23,7 @@ pub enum KindPattern {
 }
 
 /// An expected output, or its beginning.
-#[derive(Debug, Drop)]
+#[derive(Drop)]
 pub struct OutputPattern {
     /// The values as a report prints them, with a space after each.
     pub text: String,
@@ -32,14 +32,14 @@ pub struct OutputPattern {
 }
 
 /// The outcomes of one kind, and of one output where that is given.
-#[derive(Debug, Drop)]
+#[derive(Drop)]
 pub struct OutcomePattern {
     pub kind: KindPattern,
     pub output: Option<OutputPattern>,
 }
 
 /// A claim about the outcomes that fit one of the patterns.
-#[derive(Debug, Drop)]
+#[derive(Drop)]
 pub struct Expectation {
     pub claim: Claim,
     pub outcomes: Vec<OutcomePattern>,

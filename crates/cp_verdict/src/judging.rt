@@ -2,7 +2,7 @@
 
 ghost use Rattle.std.specs.Prelude.{◌≡◌, List, map, IfOk, option_map};
 ghost use Rattle.cp_run.specs.Table.{Line};
-ghost use Rattle.cp_explore.specs.Report.{outcomes_of};
+ghost use Rattle.cp_walk.specs.Report.{outcomes_of};
 ghost use Rattle.cp_verdict.specs.Expectations.{is_one_of};
 ghost use Rattle.cp_verdict.specs.Judged as spec;
 

@@ -4,7 +4,7 @@ ghost use Rattle.std.specs.Prelude.{◌≡◌, ◌+◌, ℕ, true};
 ghost use Rattle.cp_machine.specs.System.{Machine};
 ghost use Rattle.cp_run.specs.System.{System};
 ghost use Rattle.cp_run.specs.Table.{table};
-ghost use Rattle.cp_explore.specs.Text.{Spellings};
+ghost use Rattle.cp_walk.specs.Text.{Spellings};
 ghost use Rattle.cp_verdict.specs.Expectations.{is_true_of};
 ghost use Rattle.cp_verdict.specs.Marked.{HoldsOf};
 ghost use Rattle.cp_verdict.specs.declared.expectation.Expectation.{Expectation};

@@ -2,7 +2,7 @@
 
 ghost use Rattle.std.specs.Prelude.{◌≡◌, List, map, IfOk};
 ghost use Rattle.cp_run.specs.Table.{Line};
-ghost use Rattle.cp_explore.specs.Report.{outcomes_of};
+ghost use Rattle.cp_walk.specs.Report.{outcomes_of};
 ghost use Rattle.cp_verdict.specs.Judged.{line_of};
 ghost use Rattle.cp_verdict.specs.Marked.{IsMarked, verdict_of};
 

@@ -5,7 +5,7 @@ ghost use Rattle.std.specs.Option.{option_copied};
 ghost use Rattle.cp_verdict.specs.Expectations as spec;
 
 use crate::expectation::{Claim, Expectation, KindPattern, OutcomePattern, OutputPattern};
-use cp_explore::text::push_output;
+use cp_walk::text::push_output;
 use cp_machine::{ErrorName, Shown};
 use cp_run::{Outcome, OutcomeKind};
 use cp_slots::Resolved;

@@ -3,7 +3,7 @@
 ghost use Rattle.std.specs.Prelude.{◌≡◌, List, map, IfOk};
 ghost use Rattle.cp_run.specs.Slots.{slots};
 ghost use Rattle.cp_run.specs.Table.{Line, table};
-ghost use Rattle.cp_explore.specs.Report.{same_outcome};
+ghost use Rattle.cp_walk.specs.Report.{same_outcome};
 ghost use Rattle.cp_merged.specs.Code.{tally_of};
 ghost use Rattle.cp_merged.specs.Tallies.{tally};
 ghost use Rattle.cp_verdict.specs.Judged.{line_of};
@@ -13,7 +13,7 @@ use crate::expectation::Expectation;
 use crate::marking::{Verdict, mark};
 use crate::seen::Seen;
 use crate::words::verdict_text;
-use cp_explore::Job;
+use cp_walk::Job;
 use cp_merged::{MergeFault, Tallies, Tally, explore_merged};
 use cp_natural::push_natural;
 use cp_slots::Resolved;
@@ -23,7 +23,7 @@ use std::alloc::{AllocError, AllocFailed, Global};
 const MOST_ROWS: u32 = 50_000;
 
 /// How large a table may be.
-#[derive(Clone, Copy, Debug, PartialEq, Eq)]
+#[derive(Clone, Copy, PartialEq, Eq)]
 pub enum Most {
     /// It has no more rows than a table that is listed.
     Rows,
@@ -32,7 +32,7 @@ pub enum Most {
 }
 
 /// Why a program has no mark.
-#[derive(Clone, Copy, Debug, PartialEq, Eq)]
+#[derive(Clone, Copy, PartialEq, Eq)]
 pub enum MarkFault {
     TooManyRows,
     TooManyStates,
@@ -53,7 +53,7 @@ impl<T: Drop> From<AllocFailed<T>> for MarkFault {
 }
 
 /// What is said of some expectations together.
-#[derive(Clone, Copy, Debug, PartialEq, Eq)]
+#[derive(Clone, Copy, PartialEq, Eq)]
 pub enum Mark {
     /// Each of them is true of the whole table, and no run that a limit stopped could change that.
     Holds,
@@ -64,7 +64,7 @@ pub enum Mark {
 }
 
 /// A mark, and what is said with it.
-#[derive(Debug, Drop)]
+#[derive(Drop)]
 pub struct Marked {
     pub mark: Mark,
     pub text: String,

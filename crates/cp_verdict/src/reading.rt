@@ -5,7 +5,7 @@ use cp_machine::ErrorName;
 use std::alloc::{AllocError, AllocFailed, Global};
 
 /// What could have stood where a text of expectations goes wrong.
-#[derive(Clone, Copy, Debug, PartialEq, Eq)]
+#[derive(Clone, Copy, PartialEq, Eq)]
 pub enum Wanted {
     /// `never`, `some` or `only`.
     Claim,
@@ -20,7 +20,7 @@ pub enum Wanted {
 }
 
 /// Why a text has no expectations.
-#[derive(Clone, Copy, Debug, PartialEq, Eq)]
+#[derive(Clone, Copy, PartialEq, Eq)]
 pub enum Misread {
     /// This was wanted in place of the word with this number, counted from 0, or of the end.
     Unexpected { wanted: Wanted, place: usize },
@@ -40,7 +40,7 @@ impl<T: Drop> From<AllocFailed<T>> for Misread {
 }
 
 /// What may come next.
-#[derive(Clone, Copy, Debug, PartialEq, Eq)]
+#[derive(Clone, Copy, PartialEq, Eq)]
 enum Next {
     Claim,
     Kind,

@@ -5,7 +5,7 @@ use crate::marking::Verdict;
 use crate::matching::is_limit;
 use crate::reading::Wanted;
 use crate::seen::Seen;
-use cp_explore::text::{error_name, push_outcome, push_word};
+use cp_walk::text::{error_name, push_outcome, push_word};
 use cp_run::OutcomeKind;
 use cp_slots::Resolved;
 use std::alloc::{AllocError, Global};

@@ -1,6 +1,6 @@
 -- What the program tells its caller.
 use Rattle.std.specs.Prelude.{◌≡◌, ◌⊎◌, ℕ, List}
-use Rattle.cp_explore.specs.Text.{Spellings}
+use Rattle.cp_walk.specs.Text.{Spellings}
 use Rattle.cp_run.specs.Table.{Line}
 use Rattle.cp_verdict.specs.Marked.{IsMarkOf}
 use Rattle.cp_verdict.specs.declared.expectation.Expectation.{Expectation}

@@ -1,14 +1,14 @@
 //! From the bytes of a source to the bytes of what is shown.
 
 ghost use Rattle.std.specs.Prelude.{◌≡◌, ◌+◌, ◌≤◌, IfOk, length};
-ghost use Rattle.cp_explore.specs.Rows.{UsedWithin};
+ghost use Rattle.cp_walk.specs.Rows.{UsedWithin};
 ghost use Rattle.cp_outcomes.specs.Ways.{IsWithin};
 ghost use Rattle.cpx_show.specs.Showing as spec;
 
 use crate::marks::marked;
 use crate::parts::{Asked, Part};
 use cp_check::check;
-use cp_explore::trace_report;
+use cp_walk::trace_report;
 use cp_lanes::{Subject, picture};
 use cp_legend::{Legend, legend_of};
 use cp_machine::Ticks;

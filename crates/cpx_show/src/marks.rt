@@ -7,7 +7,7 @@ ghost use Rattle.cpx_show.specs.Showing as spec;
 ghost use Rattle.cpx_show.specs.declared.answering.Verdict.TheVariants.{TooMany};
 
 use crate::answering::{Answer, Verdict};
-use cp_explore::Job;
+use cp_walk::Job;
 use cp_run::Limits;
 use cp_slots::Resolved;
 use cp_tool::Options;

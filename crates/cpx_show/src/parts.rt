@@ -10,7 +10,7 @@ use std::alloc::{AllocError, Global};
 const SHARED: [&str; 5] = ["choices", "steps", "gates", "states", "schedule"];
 
 /// What is to be shown.
-#[derive(Debug, Drop)]
+#[derive(Drop)]
 pub enum Part {
     /// The schedule in names, as lines or as JSON.
     Trace { json: bool },

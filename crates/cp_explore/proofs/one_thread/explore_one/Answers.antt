@@ -2,4 +2,4 @@ use Rattle.cp_explore.proofs.Meant.{meant_rows}
 use Rattle.cp_explore.proofs.one_thread.explore_one.Goals as goal
 
 pub returns-clause-meaning : goal.returns-clause-meaning
-returns-clause-meaning g c = (let job = c.args.job in meant_rows c.explore_counted.result job.program.now job.limits.gates job.limits.choices job.limits.steps c.explore_counted.ensures.table)
+returns-clause-meaning g c = (let job = c.args.job in meant_rows c.walk_on_one_thread.result job.program.now job.limits.gates job.limits.choices job.limits.steps c.walk_on_one_thread.ensures.table)

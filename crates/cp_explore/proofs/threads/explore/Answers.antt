@@ -1,28 +1,5 @@
-use denote.Param.Send.{sendable}
-use Rattle.std.proofs.Common.{◌≡◌, ◌∙◌, ap, arith, map, Err}
-use Rattle.std.proofs.Crossing.{crosses}
-use Rattle.cp_slots.proofs.Sharing.{resolved_sync}
-use Rattle.cp_explore.specs.declared.fault.ExploreFault.TheVariants.{TooManyRows}
-use Rattle.cp_explore.specs.Rows.{line_of}
-use Rattle.cp_explore.proofs.Meant.{meant}
-use Rattle.cp_explore.proofs.MemberTables.{members_table, members_length}
+use Rattle.cp_explore.proofs.Meant.{meant_rows}
 use Rattle.cp_explore.proofs.threads.explore.Goals as goal
 
-pub explore_tasks-requires-sync-W : goal.explore_tasks-requires-sync-W
-explore_tasks-requires-sync-W g c κs = search (sendable, crosses, resolved_sync) depth 20
-
-pub returns-in-Ok-clause-table : goal.returns-in-Ok-clause-table
-returns-in-Ok-clause-table g c =
-    let cut = c.args.cutting.now in
-    ap (map line_of) c.new.ensures ∙ members_table cut.job.program.now cut.job.limits cut.words.items c.len.result c.in-Ok.rows.items cut.cuts (c.len.ensures ∙ cut.words.ok.0) c.in-Ok.ensures.table
-
-pub returns-in-Ok-clause-meaning : goal.returns-in-Ok-clause-meaning
-returns-in-Ok-clause-meaning g c = (let job = c.args.cutting.now.job in meant job.program.now job.limits.gates job.limits.choices job.limits.steps _ (returns-in-Ok-clause-table g c))
-
-pub returns-in-Err-clause-many : goal.returns-in-Err-clause-many
-returns-in-Err-clause-many g c h =
-    let cut = c.args.cutting.now in
-    let same = members_length cut.job.program.now cut.job.limits cut.words.items c.len.result cut.cuts (c.len.ensures ∙ cut.words.ok.0) in
-    let over : c.in-Err.fault ≡ TooManyRows = cc in
-    let more = c.in-Err.ensures.many (ap Err over) in
-    omega (arith, same, more)
+pub returns-clause-meaning : goal.returns-clause-meaning
+returns-clause-meaning g c = (let job = c.args.cutting.now.job in meant_rows c.walk_on_threads.result job.program.now job.limits.gates job.limits.choices job.limits.steps c.walk_on_threads.ensures.table)

@@ -1,6 +1,6 @@
 use Rattle.std.proofs.Common.{◌≡◌, ◌∙◌, map, ap, sym, subst, arith}
 use Rattle.cp_run.specs.Slots.{slots}
-use Rattle.cp_explore.specs.Report.{same_outcome}
+use Rattle.cp_walk.specs.Report.{same_outcome}
 use Rattle.cp_merged.specs.Layers.{by_layers}
 use Rattle.cp_merged.specs.Code.{end_of}
 use Rattle.cp_merged.specs.Holds.{same_key}

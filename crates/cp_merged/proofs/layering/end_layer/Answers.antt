@@ -2,7 +2,7 @@ use Rattle.std.proofs.Common.{rules, ◌≡◌, ◌∙◌, ◌∷◌, refl, sym,
 use Rattle.cp_machine.specs.System.{machine_of, output_of}
 use Rattle.cp_key.specs.Key.{key_of}
 use Rattle.cp_run.specs.Slots.{slots}
-use Rattle.cp_explore.specs.Report.{same_outcome}
+use Rattle.cp_walk.specs.Report.{same_outcome}
 use Rattle.cp_merged.specs.Layers.{front_at}
 use Rattle.cp_merged.specs.Holds.{same_key, AreLeads}
 use Rattle.cp_merged.proofs.Making.{Ending, ending_start, ending_next, ending_more, ending_done, ending_small}

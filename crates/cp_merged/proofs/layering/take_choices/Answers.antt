@@ -4,7 +4,7 @@ use Rattle.cp_machine.specs.Bodies.{has_moved, KeepBodies}
 use Rattle.cp_machine.specs.System.{Machine, machine_of}
 use Rattle.cp_run.specs.Run.{may, those_below}
 use Rattle.cp_run.specs.Slots.{slots}
-use Rattle.cp_explore.specs.Report.{same_outcome}
+use Rattle.cp_walk.specs.Report.{same_outcome}
 use Rattle.cp_merged.specs.Layers as layers
 use Rattle.cp_merged.specs.Holds.{same_key, Holds}
 use Rattle.cp_merged.proofs.Choosing.{after_list, length_those, list_more, list_those, may_those, room_for_one}

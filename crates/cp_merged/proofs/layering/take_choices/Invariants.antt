@@ -2,7 +2,7 @@ use Rattle.std.proofs.Common.{take}
 use Rattle.cp_machine.specs.Bodies.{has_moved, KeepBodies}
 use Rattle.cp_machine.specs.System.{Machine, machine_of, IsStateOf}
 use Rattle.cp_run.specs.Slots.{slots}
-use Rattle.cp_explore.specs.Report.{same_outcome}
+use Rattle.cp_walk.specs.Report.{same_outcome}
 use Rattle.cp_merged.specs.Layers as layers
 use Rattle.cp_merged.specs.Holds.{same_key, Holds}
 use Rattle.cp_merged.proofs.Choosing.{after_list}

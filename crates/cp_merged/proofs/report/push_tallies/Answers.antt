@@ -1,7 +1,7 @@
 use Rattle.std.proofs.Common.{string_bytes, arith}
-use Rattle.cp_explore.specs.Groups.{tally_text}
+use Rattle.cp_walk.specs.Groups.{tally_text}
 use Rattle.cp_merged.specs.Code.{tally_of}
-use Rattle.cp_explore.proofs.Joining.{each_whole}
+use Rattle.cp_walk.proofs.Joining.{each_whole}
 use Rattle.cp_merged.proofs.report.push_tallies.Goals as goal
 
 pub returns : goal.returns

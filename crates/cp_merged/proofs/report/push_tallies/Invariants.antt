@@ -1,6 +1,6 @@
 use Rattle.std.proofs.Common.{◌≡◌, ◌++◌, string_bytes, take}
 use Rattle.cp_run.specs.Table.{each}
-use Rattle.cp_explore.specs.Groups.{tally_text}
+use Rattle.cp_walk.specs.Groups.{tally_text}
 use Rattle.cp_merged.specs.Code.{tally_of}
 use Rattle.cp_merged.proofs.report.push_tallies.Given as goal
 

@@ -1,7 +1,7 @@
 use Rattle.std.proofs.Common.{◌∙◌, ◌<◌, length, ap, sym, arith}
 use Rattle.std.specs.Prelude.{sum_by}
 use Rattle.std.proofs.lemmas.List.Sums.{sum_by_more_le}
-use Rattle.cp_explore.proofs.Joining.{take_whole}
+use Rattle.cp_walk.proofs.Joining.{take_whole}
 use Rattle.cp_merged.specs.declared.tally.Tally.{Tally}
 use Rattle.cp_merged.proofs.Telling.{rows_sum}
 use Rattle.cp_merged.proofs.report.words_in.Goals as goal

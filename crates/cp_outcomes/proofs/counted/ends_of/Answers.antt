@@ -1,7 +1,7 @@
 use Rattle.std.proofs.Common.{◌≡◌, ◌∙◌, ◌∷◌, length, map, ap, sym, arith}
 use Rattle.std.specs.Vec.Iter.{into_iter_items}
-use Rattle.cp_explore.specs.Report.{same_outcome}
-use Rattle.cp_explore.specs.Rows.{line_of}
+use Rattle.cp_walk.specs.Report.{same_outcome}
+use Rattle.cp_walk.specs.Rows.{line_of}
 use Rattle.cp_merged.specs.Tallies.{tally}
 use Rattle.cp_outcomes.proofs.Counting.{counts_room, counts_more, counts_all, counts_small}
 use Rattle.cp_outcomes.proofs.counted.ends_of.Goals as goal

@@ -1,6 +1,6 @@
 use Rattle.std.proofs.Common.{◌≡◌, ◌∙◌, ap}
 use Rattle.cp_tree.specs.TreeView.{tree_view}
-use Rattle.cp_slots.specs.Laid.{plain}
+use Rattle.cp_layout.specs.Laid.{plain}
 use Rattle.cp_slots.specs.Tables.{tables_of}
 use Rattle.cp_resolved.proofs.Resolving.{read_sound, read_program}
 use Rattle.cp_resolved.proofs.resolver.resolved.Goals as goal

@@ -1,7 +1,7 @@
 use Rattle.std.proofs.Common.{◌∙◌, ap, fold, flat_map}
 use Rattle.std.specs.Hash as fed
-use Rattle.cp_explore.specs.Hashing.{shown_code}
-use Rattle.cp_explore.proofs.Feeding.{fed_outcome}
+use Rattle.cp_walk.specs.Hashing.{shown_code}
+use Rattle.cp_walk.proofs.Feeding.{fed_outcome}
 use Rattle.cp_merged.proofs.end_key.EndKeyHash.hash.Goals as goal
 
 pub returns : goal.returns

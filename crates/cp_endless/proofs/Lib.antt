@@ -1,0 +1,6 @@
+mod Basics
+pub mod possible
+pub mod steps
+pub mod waiting
+pub mod slots
+pub mod names

@@ -1,0 +1,9 @@
+use Rattle.std.specs.Prelude.{Contains}
+use Rattle.cp_run.specs.Slots.{slots}
+use Rattle.cp_endless.specs.Silent.{without_output, ShowsLess}
+use Rattle.cp_endless.proofs.possible.Tables.{tables_known}
+use Rattle.cp_endless.proofs.slots.Output.{slots_forget}
+use Rattle.cp_endless.proofs.laws.law_tables.Goals as goal
+
+pub returns : goal.returns
+returns c = λ r gates states. tables_known (slots r gates) without_output ShowsLess (slots_forget r gates) (Contains states)

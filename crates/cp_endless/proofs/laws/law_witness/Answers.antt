@@ -1,0 +1,8 @@
+use Rattle.cp_run.specs.Slots.{slots}
+use Rattle.cp_endless.specs.Silent.{without_output, ShowsLess}
+use Rattle.cp_endless.proofs.possible.Tables.{witnesses}
+use Rattle.cp_endless.proofs.slots.Output.{slots_forget}
+use Rattle.cp_endless.proofs.laws.law_witness.Goals as goal
+
+pub returns : goal.returns
+returns c = λ r gates. witnesses (slots r gates) without_output ShowsLess (slots_forget r gates)

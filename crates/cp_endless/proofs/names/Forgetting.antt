@@ -1,0 +1,111 @@
+-- A machine without what it displayed stands for the state without what it displayed.
+use Rattle.std.proofs.Common.{ℕ, List, [], ◌∷◌, refl}
+use Rattle.cp_tree.specs.Syntax.{Tree, Program}
+use Rattle.cp_slots.specs.Tables.{Tables, component_at}
+use Rattle.cp_slots.specs.declared.tables.ComponentKind.{ComponentKind}
+use Rattle.cp_store.specs.declared.memory.Frame.{Frame}
+use Rattle.cp_machine.specs.declared.process.Entry.{Entry}
+use Rattle.cp_machine.specs.declared.process.Entry.TheVariants.{Rest, Successor, Return, InitEnd}
+use Rattle.cp_machine.specs.Fits.{MachineFits, LinesFit}
+use Rattle.cp_machine.specs.Machine.{Machine, thread_at}
+use Rattle.cp_machine.specs.Reach.{Reaches, HasBegunAs, ExecutesAs, StackExecutes, EndsBegun}
+use Rattle.cp_meaning.specs.State.{ComponentStatus, uninitialised, initialising, initialised, State}
+use Rattle.cp_meaning.specs.Steps.{by_forgetting}
+use Rattle.cp_resolved.specs.Layouts.{Layouts}
+use Rattle.cp_resolved.specs.Stands.{Ground}
+use Rattle.cp_refine.specs.Law.{ground_of, Simulates}
+use Rattle.cp_refine.specs.Represents.{Represents, ComponentIs, MonitorIs}
+use Rattle.cp_slots.specs.declared.tables.ComponentKind.TheVariants as kind
+use Rattle.cp_meaning.specs.State as named
+use Rattle.cp_refine.specs.Represents as represents
+use Rattle.cp_endless.specs.Silent.{named_without_output, without_output}
+
+-- ---- what the machine reaches
+
+executes_as : (m : Machine) (pid component : ℕ) (k : ComponentKind) → ExecutesAs m pid component k → ExecutesAs (without_output m) pid component k
+executes_as m pid component (kind.Process number) h = h
+executes_as m pid component kind.Class h = h
+executes_as m pid component (kind.Monitor number) h = h
+
+stack_executes : (r : Tables) (m : Machine) (pid : ℕ) (f : Frame) (es : List Entry) → StackExecutes r m pid f es → StackExecutes r (without_output m) pid f es
+stack_executes r m pid f [] h = executes_as m pid f.component (component_at r f.component).kind h
+stack_executes r m pid f (Rest at ∷ es) h = stack_executes r m pid f es h
+stack_executes r m pid f (Successor at value last ∷ es) h = stack_executes r m pid f es h
+stack_executes r m pid f (Return caller slot monitor ∷ es) h = (executes_as m pid f.component (component_at r f.component).kind h.0, stack_executes r m pid caller es h.1)
+stack_executes r m pid f (InitEnd caller component ∷ es) h = (executes_as m pid f.component (component_at r f.component).kind h.0, stack_executes r m pid caller es h.1)
+
+ends_begun : (m : Machine) (es : List Entry) → EndsBegun m es → EndsBegun (without_output m) es
+ends_begun m [] h = tt
+ends_begun m (Rest at ∷ es) h = ends_begun m es h
+ends_begun m (Successor at value last ∷ es) h = ends_begun m es h
+ends_begun m (Return caller slot monitor ∷ es) h = ends_begun m es h
+ends_begun m (InitEnd caller component ∷ es) h = (h.0, ends_begun m es h.1)
+
+begun_before : (m : Machine) (component : ℕ) (k : ComponentKind) → HasBegunAs (without_output m) component k → HasBegunAs m component k
+begun_before m component (kind.Process number) h = h
+begun_before m component kind.Class h = h
+begun_before m component (kind.Monitor number) h = h
+
+reaches : (r : Tables) (m : Machine) → Reaches r m → Reaches r (without_output m)
+reaches r m h =
+    record {
+      frames = h.frames;
+      executes = λ q less. stack_executes r m q (thread_at m.threads q).frame (thread_at m.threads q).stack (h.executes q less);
+      ends = λ q less. ends_begun m (thread_at m.threads q).stack (h.ends q less);
+      bound = λ component number less has few. h.bound component number less (begun_before m component (component_at r component).kind has) few;
+    }
+
+fits : (r : Tables) (m : Machine) → MachineFits r m → MachineFits r (without_output m)
+fits r m h = record { threads = h.threads; permanents = h.permanents; bindings = h.bindings; phases = h.phases; monitors = h.monitors; pending = h.pending; each = h.each }
+
+lines : (m : Machine) → LinesFit m → LinesFit (without_output m)
+lines m h = record { gate = h.gate; once = h.once; pending = h.pending }
+
+-- ---- what it stands for
+
+begun_of : (s : State) (k : ComponentKind) (u : ComponentStatus) → represents.HasBegun (named_without_output s) k u → represents.HasBegun s k u
+begun_of s (kind.Process q) u h = h
+begun_of s kind.Class uninitialised h = h
+begun_of s kind.Class initialising h = h
+begun_of s kind.Class initialised h = h
+begun_of s (kind.Monitor n) uninitialised h = h
+begun_of s (kind.Monitor n) initialising h = h
+begun_of s (kind.Monitor n) initialised h = h
+
+component_is : (g : Ground) (p : Program) (l : Layouts) (s : State) (m : Machine) (n : ℕ) → ComponentIs g p l s m n → ComponentIs g p l (named_without_output s) (without_output m) n
+component_is g p l s m n h =
+    record {
+      phase = h.phase;
+      variables = h.variables;
+      parts = λ x t e has. h.parts x t e (begun_of s (component_at g.tables n).kind (named.component_at s.components n).status has);
+      others = h.others;
+    }
+
+monitor_is : (s : State) (m : Machine) (n : ℕ) (k : ComponentKind) → MonitorIs s m n k → MonitorIs (named_without_output s) (without_output m) n k
+monitor_is s m n (kind.Monitor k) h = h
+monitor_is s m n kind.Class h = tt
+monitor_is s m n (kind.Process q) h = tt
+
+represented : (g : Ground) (p : Program) (l : Layouts) (s : State) (m : Machine) → Represents g p l s m → Represents g p l (named_without_output s) (without_output m)
+represented g p l s m h =
+    record {
+      process_count = h.process_count;
+      component_count = h.component_count;
+      processes = h.processes;
+      components = λ n less. component_is g p l s m n (h.components n less);
+      monitors = λ n less. monitor_is s m n (component_at g.tables n).kind (h.monitors n less);
+      queues = record { waiting = h.queues.waiting; queued = h.queues.queued };
+      pending = h.pending;
+      gates = h.gates;
+      output = refl;
+    }
+
+pub forgets : (t : Tree) (r : Tables) (l : Layouts) (g : named.Gates) (s : State) (m : Machine) → Simulates t r l g s m → Simulates t r l g (named_without_output s) (without_output m)
+forgets t r l g s m h =
+    record {
+      reached = by_forgetting s h.reached;
+      fits = fits r m h.fits;
+      lines = lines m h.lines;
+      reach = reaches r m h.reach;
+      represents = represented (ground_of t r) t.program l s m h.represents;
+    }

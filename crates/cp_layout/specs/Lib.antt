@@ -1,0 +1,9 @@
+pub mod Kinds
+pub mod Laid
+pub mod LaidComponents
+pub mod LaidDeclarations
+pub mod LaidExpressions
+pub mod LaidStatements
+pub mod LaidTypes
+pub mod Layers
+pub mod Values

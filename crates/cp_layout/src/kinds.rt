@@ -1,0 +1,326 @@
+//! The types of a program, with the cells of their values.
+
+ghost use Rattle.std.specs.Prelude.{◌≡◌, ◌++◌, [], map, option_map, slice_get, IfOk, OnOk};
+ghost use Rattle.cp_layout.specs.Kinds as spec;
+ghost use Rattle.cp_layout.specs.Kinds.{types_seen, compound_seen, field_seen, fields_seen};
+
+use cp_text::Name;
+use std::alloc::{AllocError, Global};
+
+/// The cells of a set.
+const SET_CELLS: usize = 8;
+
+/// What the values of an ordinal type are counted in.
+#[derive(Clone, Copy, Drop)]
+pub enum Base {
+    Integer,
+    Boolean,
+    Char,
+    /// With the number of the first constant among those of all enumerations, and the `ord` of the last.
+    Enumeration(u16, i16),
+}
+
+impl Base {
+    /// All values.
+    pub fn whole(self) -> Range
+        ensures { result ≡ spec.whole self }
+    {
+        let (low, high) = match self {
+            Base::Integer => (i16::MIN, i16::MAX),
+            Base::Boolean => (0, 1),
+            Base::Char => (0, 127),
+            Base::Enumeration(_, last) => (0, last),
+        };
+        Range {
+            base: self,
+            low,
+            high,
+        }
+    }
+}
+
+/// The values of an ordinal type.
+#[derive(Clone, Copy, Drop)]
+pub struct Range {
+    pub base: Base,
+    pub low: i16,
+    pub high: i16,
+}
+
+impl Range {
+    /// How many values there are.
+    pub fn count(self) -> usize
+        ensures { result ≡ spec.count_of self }
+    {
+        let distance = i64::from(self.high) - i64::from(self.low) + 1;
+        if 0 <= distance { distance as usize } else { 0 }
+    }
+
+    /// The value with which a variable begins: 0 for all integers, else the least.
+    pub fn least(self) -> i16
+        ensures { result ≡ spec.least_of self }
+    {
+        if self.low <= i16::MIN { 0 } else { self.low }
+    }
+}
+
+/// A type. Arrays and records are told apart by their numbers among the compound types, and system types by theirs.
+#[derive(Clone, Copy, Drop)]
+pub enum ValueType {
+    Ordinal(Range),
+    Queue,
+    /// By the values of the base.
+    Set(Range),
+    Array(usize),
+    Record(usize),
+    System(usize),
+}
+
+/// The type of all values of a base.
+pub fn values_of(base: Base) -> ValueType
+    ensures { result ≡ spec.values_of base }
+{
+    ValueType::Ordinal(base.whole())
+}
+
+#[derive(Clone, Copy, Drop)]
+pub struct ArrayType {
+    pub index: Range,
+    pub element: ValueType,
+    pub element_cells: usize,
+    pub cells: usize,
+}
+
+/// A field of a record, with the cells before it.
+#[derive(Clone, Copy, Drop)]
+pub struct Field<'a> {
+    pub name: &'a Name,
+    pub value_type: ValueType,
+    pub offset: usize,
+}
+
+#[derive(Drop)]
+pub struct RecordType<'a> {
+    pub fields: Vec<Field<'a>>,
+    pub cells: usize,
+}
+
+#[derive(Drop)]
+enum Compound<'a> {
+    Array(ArrayType),
+    Record(RecordType<'a>),
+}
+
+fn field_named<'a>(fields: &[Field<'a>], name: &Name) -> Option<Field<'a>>
+    ensures { option_map field_seen result ≡ spec.field_in name.now (map field_seen fields.now) }
+{
+    for field in fields {
+        if field.name.as_str() == name.as_str() {
+            return Some(*field);
+        }
+    }
+    None
+}
+
+/// The arrays and records of a program. Each holds earlier ones alone.
+#[derive(Drop)]
+pub struct Types<'a> {
+    compounds: Vec<Compound<'a>>,
+}
+
+impl<'a> RecordType<'a> {
+    /// The record of no fields.
+    pub fn new(alloc: Global) -> RecordType<'a>
+        ensures { fields_seen result ≡ spec.no_fields }
+    {
+        RecordType {
+            fields: Vec::new(alloc),
+            cells: 0,
+        }
+    }
+
+    /// Adds a field that takes this many cells.
+    pub fn add(
+        &mut self,
+        name: &'a Name,
+        value_type: ValueType,
+        cells: usize,
+    ) -> Result<(), AllocError>
+        ensures { OnOk result (fields_seen self.new ≡ spec.with_field (fields_seen self.old) name.now value_type cells) }
+    {
+        self.fields.push(Field {
+            name,
+            value_type,
+            offset: self.cells,
+        })?;
+        self.cells = self.cells.saturating_add(cells);
+        Ok(())
+    }
+}
+
+impl<'a> Types<'a> {
+    #[tactic(auto, unfolding(crate::specs::Kinds::types_seen))]
+    pub fn new(alloc: Global) -> Types<'a>
+        ensures { types_seen result ≡ [] }
+    {
+        Types {
+            compounds: Vec::new(alloc),
+        }
+    }
+
+    /// How many cells a value has. A component has none.
+    #[tactic(auto, unfolding(crate::specs::Kinds::types_seen))]
+    pub fn cells_of(&self, value_type: ValueType) -> usize
+        ensures { result ≡ spec.cells_of (types_seen self.now) value_type }
+    {
+        match value_type {
+            ValueType::Ordinal(_) | ValueType::Queue => 1,
+            ValueType::Set(_) => SET_CELLS,
+            ValueType::Array(number) | ValueType::Record(number) => {
+                match self.compounds.get(number) {
+                    Some(Compound::Array(array)) => array.cells,
+                    Some(Compound::Record(record)) => record.cells,
+                    None => 0,
+                }
+            }
+            ValueType::System(_) => 0,
+        }
+    }
+
+    /// An array's index and elements.
+    #[tactic(auto, unfolding(crate::specs::Kinds::types_seen))]
+    pub fn array(&self, value_type: ValueType) -> Option<ArrayType>
+        ensures { result ≡ spec.array_of (types_seen self.now) value_type }
+    {
+        let ValueType::Array(number) = value_type else {
+            return None;
+        };
+        match self.compounds.get(number) {
+            Some(Compound::Array(array)) => Some(*array),
+            _ => None,
+        }
+    }
+
+    /// A field of a record.
+    #[tactic(auto, unfolding(crate::specs::Kinds::types_seen))]
+    pub fn field(&self, value_type: ValueType, name: &Name) -> Option<Field<'a>>
+        ensures { option_map field_seen result ≡ spec.field_of (types_seen self.now) value_type name.now }
+    {
+        let ValueType::Record(number) = value_type else {
+            return None;
+        };
+        let Some(Compound::Record(record)) = self.compounds.get(number) else {
+            return None;
+        };
+        field_named(&record.fields, name)
+    }
+
+    /// A new array type.
+    #[tactic(auto, unfolding(crate::specs::Kinds::types_seen))]
+    pub fn add_array(&mut self, index: Range, element: ValueType) -> Result<ValueType, AllocError>
+        ensures { IfOk result (λ t. (t, types_seen self.new) ≡ spec.with_array (types_seen self.old) index element) }
+    {
+        let element_cells = self.cells_of(element);
+        let number = self.compounds.len();
+        self.compounds.push(Compound::Array(ArrayType {
+            index,
+            element,
+            element_cells,
+            cells: element_cells.saturating_mul(index.count()),
+        }))?;
+        Ok(ValueType::Array(number))
+    }
+
+    /// A new record type.
+    #[tactic(auto, unfolding(crate::specs::Kinds::types_seen))]
+    pub fn add_record(&mut self, whole: RecordType<'a>) -> Result<ValueType, AllocError>
+        ensures { IfOk result (λ t. (t, types_seen self.new) ≡ spec.with_record (types_seen self.old) (fields_seen whole.entry)) }
+    {
+        let number = self.compounds.len();
+        self.compounds.push(Compound::Record(whole))?;
+        Ok(ValueType::Record(number))
+    }
+
+    /// Adds the cells with which a variable begins.
+    #[tactic(auto, unfolding(crate::specs::Kinds::types_seen, crate::specs::Kinds::least))]
+    pub fn add_least(&self, cells: &mut Vec<i16>, value_type: ValueType) -> Result<(), AllocError>
+        ensures { OnOk result (cells.new.items ≡ cells.old.items ++ spec.least (types_seen self.now) value_type) }
+    {
+        self.add_least_below(cells, value_type, self.compounds.len())
+    }
+
+    // The same for a type that holds only this many of the first compound types.
+    #[cycle(least)]
+    #[tactic(auto, using(crate::proofs::Least::compound_inside, crate::proofs::Least::compound_outside, crate::proofs::Least::nothing_more))]
+    fn add_least_below(
+        &self,
+        cells: &mut Vec<i16>,
+        value_type: ValueType,
+        bound: usize,
+    ) -> Result<(), AllocError>
+        ensures { OnOk result (cells.new.items ≡ cells.old.items ++ spec.least_below (types_seen self.now) bound value_type) }
+    {
+        match value_type {
+            ValueType::Ordinal(range) => cells.push(range.least())?,
+            ValueType::Queue => cells.push(0)?,
+            ValueType::Set(_) => cells.extend_from_slice(&[0; SET_CELLS])?,
+            ValueType::Array(number) | ValueType::Record(number) => {
+                if number < bound {
+                    self.add_compound(cells, number)?;
+                }
+            }
+            ValueType::System(_) => {}
+        }
+        Ok(())
+    }
+
+    #[tactic(auto, unfolding(crate::specs::Kinds::types_seen))]
+    fn compound(&self, number: usize) -> Option<&Compound<'a>>
+        ensures { option_map (λ c. compound_seen c.now) result ≡ slice_get (types_seen self.now) number }
+    {
+        self.compounds.get(number)
+    }
+
+    #[cycle(least)]
+    fn add_compound(&self, cells: &mut Vec<i16>, number: usize) -> Result<(), AllocError>
+        ensures { OnOk result (cells.new.items ≡ cells.old.items ++ spec.compound_least (spec.compound_below (types_seen self.now) number) (slice_get (types_seen self.now) number)) }
+    {
+        match self.compound(number) {
+            Some(Compound::Array(array)) => self.add_elements(cells, array, number),
+            Some(Compound::Record(record)) => self.add_fields(cells, &record.fields, number),
+            None => Ok(()),
+        }
+    }
+
+    #[cycle(least)]
+    #[tactic(auto, using(crate::proofs::Least::copies_step, crate::proofs::Least::copies_none))]
+    fn add_elements(
+        &self,
+        cells: &mut Vec<i16>,
+        array: &ArrayType,
+        bound: usize,
+    ) -> Result<(), AllocError>
+        ensures { OnOk result (cells.new.items ≡ cells.old.items ++ spec.elements_least (spec.compound_below (types_seen self.now) bound) array.now) }
+    {
+        for _ in 0..array.index.count() {
+            self.add_least_below(cells, array.element, bound)?;
+        }
+        Ok(())
+    }
+
+    #[cycle(least)]
+    #[tactic(auto, using(crate::proofs::Least::fields_step, crate::proofs::Least::fields_none))]
+    fn add_fields(
+        &self,
+        cells: &mut Vec<i16>,
+        fields: &[Field<'a>],
+        bound: usize,
+    ) -> Result<(), AllocError>
+        ensures { OnOk result (cells.new.items ≡ cells.old.items ++ spec.fields_least (spec.compound_below (types_seen self.now) bound) (map field_seen fields.now)) }
+    {
+        for field in fields {
+            self.add_least_below(cells, field.value_type, bound)?;
+        }
+        Ok(())
+    }
+}

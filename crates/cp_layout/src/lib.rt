@@ -1,0 +1,21 @@
+//! From names to slots: the tables of a tree.
+#![tactic(auto)]
+
+mod component;
+mod declaration;
+mod designator;
+mod expression;
+mod frame;
+mod heading;
+mod kinds;
+mod layer;
+mod lists;
+mod names;
+mod part;
+mod statement;
+mod surroundings;
+mod tables;
+mod types;
+mod value;
+
+pub use tables::lay_out;

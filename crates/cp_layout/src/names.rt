@@ -1,0 +1,195 @@
+//! What names stand for, with slots.
+
+ghost use Rattle.std.specs.Prelude.{◌≡◌, ◌∷◌, ◌-◌, length, drop, IfOk, OnOk};
+ghost use Rattle.cp_layout.specs.Layers as spec;
+ghost use Rattle.cp_layout.specs.Layers.{names_seen, declared_seen};
+
+use crate::kinds::{Base, ValueType, values_of};
+use cp_slots::Origin;
+use std::alloc::{AllocError, Global};
+
+/// A routine that each program has.
+#[derive(Clone, Copy, Drop)]
+pub enum Predeclared {
+    Succ,
+    Pred,
+    Chr,
+    Ord,
+    Abs,
+    Empty,
+    Delay,
+    Continue,
+    Display,
+}
+
+/// What a name stands for.
+#[derive(Clone, Copy, Drop)]
+pub enum Meaning {
+    Constant(Base, i16),
+    Kind(ValueType),
+    /// A variable or a parameter.
+    Variable(Origin, ValueType),
+    /// A component variable, or an array of these, by the number of the first above that of its container.
+    Contained(usize, ValueType),
+    /// A component parameter, by its permanent cell, with its system type.
+    Bound(usize, usize),
+    Routine(usize),
+    Predeclared(Predeclared),
+}
+
+impl Meaning {
+    // Whether a system type sees it where it is the program's.
+    fn is_open(self) -> bool
+        ensures { result ≡ spec.is_open self }
+    {
+        match self {
+            Meaning::Constant(..) | Meaning::Kind(_) | Meaning::Predeclared(_) => true,
+            _ => false,
+        }
+    }
+}
+
+#[derive(Clone, Copy, Drop)]
+struct Declared<'a> {
+    name: &'a str,
+    meaning: Meaning,
+}
+
+/// The names that are visible, the latest last.
+#[derive(Drop)]
+pub struct Names<'a> {
+    items: Vec<Declared<'a>>,
+}
+
+impl<'a> Names<'a> {
+    #[tactic(auto, unfolding(crate::specs::Layers::names_seen))]
+    fn empty(alloc: Global) -> Names<'a>
+        ensures { names_seen result ≡ spec.no_names }
+    {
+        Names {
+            items: Vec::new(alloc),
+        }
+    }
+
+    /// The predeclared names.
+    pub fn new(alloc: Global) -> Result<Names<'a>, AllocError>
+        ensures { IfOk result (λ n. names_seen n ≡ spec.outermost) }
+    {
+        let mut names = Names::empty(alloc);
+        names.add_procedures()?;
+        names.add_functions()?;
+        names.add("true", Meaning::Constant(Base::Boolean, 1))?;
+        names.add("false", Meaning::Constant(Base::Boolean, 0))?;
+        names.add_types()?;
+        Ok(names)
+    }
+
+    fn add_procedures(&mut self) -> Result<(), AllocError>
+        ensures { OnOk result (names_seen self.new ≡ spec.with_procedures (names_seen self.old)) }
+    {
+        self.add("display", Meaning::Predeclared(Predeclared::Display))?;
+        self.add("continue", Meaning::Predeclared(Predeclared::Continue))?;
+        self.add("delay", Meaning::Predeclared(Predeclared::Delay))
+    }
+
+    fn add_functions(&mut self) -> Result<(), AllocError>
+        ensures { OnOk result (names_seen self.new ≡ spec.with_functions (names_seen self.old)) }
+    {
+        self.add("empty", Meaning::Predeclared(Predeclared::Empty))?;
+        self.add("abs", Meaning::Predeclared(Predeclared::Abs))?;
+        self.add("ord", Meaning::Predeclared(Predeclared::Ord))?;
+        self.add("chr", Meaning::Predeclared(Predeclared::Chr))?;
+        self.add("pred", Meaning::Predeclared(Predeclared::Pred))?;
+        self.add("succ", Meaning::Predeclared(Predeclared::Succ))
+    }
+
+    fn add_types(&mut self) -> Result<(), AllocError>
+        ensures { OnOk result (names_seen self.new ≡ spec.with_types (names_seen self.old)) }
+    {
+        self.add("queue", Meaning::Kind(ValueType::Queue))?;
+        self.add("char", Meaning::Kind(values_of(Base::Char)))?;
+        self.add("boolean", Meaning::Kind(values_of(Base::Boolean)))?;
+        self.add("integer", Meaning::Kind(values_of(Base::Integer)))
+    }
+
+    /// Declares a name.
+    #[tactic(auto, unfolding(crate::specs::Layers::names_seen), using(crate::proofs::NamesSeen::seen_push))]
+    pub fn add(&mut self, name: &'a str, meaning: Meaning) -> Result<(), AllocError>
+        ensures { OnOk result (names_seen self.new ≡ (name.now, meaning) ∷ names_seen self.old) }
+    {
+        self.items.push(Declared { name, meaning })?;
+        Ok(())
+    }
+
+    /// What a name stands for: its latest declaration.
+    #[tactic(auto, unfolding(crate::specs::Layers::names_seen), using(crate::proofs::NamesSeen::seen_all, crate::proofs::NamesSeen::seen_none, crate::proofs::NamesSeen::seen_last))]
+    pub fn look(&self, name: &str) -> Option<Meaning>
+        ensures { result ≡ spec.find name.now (names_seen self.now) }
+    {
+        let mut left = self.items.len();
+        while 0 < left {
+            left -= 1;
+            let declared = self.items[left];
+            if declared.name == name {
+                return Some(declared.meaning);
+            }
+        }
+        None
+    }
+
+    /// The type that a name stands for where a type is written: the latest of that name, past what is no type.
+    #[tactic(auto, unfolding(crate::specs::Layers::names_seen), using(crate::proofs::NamesSeen::seen_all, crate::proofs::NamesSeen::seen_none, crate::proofs::NamesSeen::seen_last))]
+    pub fn look_type(&self, name: &str) -> Option<ValueType>
+        ensures { result ≡ spec.find_type name.now (names_seen self.now) }
+    {
+        let mut left = self.items.len();
+        while 0 < left {
+            left -= 1;
+            let declared = self.items[left];
+            if let Meaning::Kind(value_type) = declared.meaning {
+                if declared.name == name {
+                    return Some(value_type);
+                }
+            }
+        }
+        None
+    }
+
+    /// How many names there are, as a scope begins.
+    #[tactic(auto, unfolding(crate::specs::Layers::names_seen), using(crate::proofs::NamesSeen::seen_length))]
+    pub fn open(&self) -> usize
+        ensures { result ≡ length (names_seen self.now) }
+    {
+        self.items.len()
+    }
+
+    /// Closes the scope that began with this many names.
+    #[tactic(auto, unfolding(crate::specs::Layers::names_seen), using(crate::proofs::NamesSeen::seen_first))]
+    pub fn close(&mut self, count: usize)
+        ensures { names_seen self.new ≡ drop (length (names_seen self.old) - count) (names_seen self.old) }
+    {
+        self.items.truncate(count);
+    }
+
+    // Declares a name again, if a system type sees it.
+    fn add_open(&mut self, declared: Declared<'a>) -> Result<(), AllocError>
+        ensures { OnOk result (names_seen self.new ≡ spec.with_open (declared_seen declared.entry) (names_seen self.old)) }
+    {
+        if declared.meaning.is_open() {
+            return self.add(declared.name, declared.meaning);
+        }
+        Ok(())
+    }
+
+    /// What a system type sees of these names: no variables and no routines.
+    #[tactic(auto, unfolding(crate::specs::Layers::names_seen), using(crate::proofs::NamesSeen::open_more, crate::proofs::NamesSeen::open_all))]
+    pub fn inside(&self, alloc: Global) -> Result<Names<'a>, AllocError>
+        ensures { IfOk result (λ n. names_seen n ≡ spec.seen_inside (names_seen self.now)) }
+    {
+        let mut names = Names::empty(alloc);
+        for declared in &self.items {
+            names.add_open(*declared)?;
+        }
+        Ok(names)
+    }
+}

@@ -1,0 +1,62 @@
+//! What expressions and types read: what is declared around them.
+
+ghost use Rattle.std.specs.Prelude.{◌≡◌};
+ghost use Rattle.cp_layout.specs.Layers as spec;
+ghost use Rattle.cp_layout.specs.Layers.{around_seen};
+ghost use Rattle.cp_layout.specs.LaidExpressions as expressions;
+ghost use Rattle.cp_layout.specs.LaidStatements as statements;
+
+use crate::kinds::Types;
+use crate::layer::{FunctionResult, Heading, Owned, Parameter, System};
+use crate::names::Names;
+use cp_tree::Tree;
+
+/// What is declared around a statement.
+#[derive(Drop)]
+pub struct Surroundings<'a> {
+    pub tree: &'a Tree,
+    pub types: Types<'a>,
+    pub names: Names<'a>,
+    pub systems: Vec<System>,
+    /// Of each routine, and of the one that is laid out.
+    pub headings: Vec<Heading<'a>>,
+    /// The cells and components of the system type that is laid out, or of the program.
+    pub owned: Owned,
+}
+
+impl<'a> Surroundings<'a> {
+    /// A parameter of a routine.
+    pub fn parameter(&self, routine: usize, place: usize) -> Option<Parameter>
+        ensures { result ≡ spec.parameter_of (around_seen self.now) routine place }
+    {
+        let heading = self.headings.get(routine)?;
+        heading.parameters.get(place).copied()
+    }
+
+    /// A function's result.
+    pub fn result(&self, routine: usize) -> Option<FunctionResult>
+        ensures { result ≡ spec.result_of (around_seen self.now) routine }
+    {
+        self.headings.get(routine)?.result
+    }
+
+    /// How many components one of a system type is, with those that it contains.
+    pub fn component_count(&self, system: usize) -> usize
+        ensures { result ≡ expressions.component_count (around_seen self.now) system }
+    {
+        match self.systems.get(system) {
+            Some(system) => system.owned.count,
+            None => 0,
+        }
+    }
+
+    /// The initial statement of a system type.
+    pub fn initial(&self, system: usize) -> usize
+        ensures { result ≡ statements.initial_of (around_seen self.now) system }
+    {
+        match self.systems.get(system) {
+            Some(system) => system.initial,
+            None => 0,
+        }
+    }
+}

@@ -1,0 +1,285 @@
+//! Values and variables with slots, and the operations on values.
+
+ghost use Rattle.std.specs.Prelude.{◌≡◌, IfOk};
+ghost use Rattle.cp_slots.specs.Code.{place_seen, expression_seen, set_seen};
+ghost use Rattle.cp_layout.specs.Values as spec;
+ghost use Rattle.cp_layout.specs.Values.{value_seen};
+
+use crate::kinds::{Base, ValueType};
+use crate::names::Predeclared;
+use cp_slots::{
+    Arithmetic, Comparison, ComponentPlace, Expression, Logic, Origin, Place, SetExpression,
+    SetOperation,
+};
+use cp_tree::{Addition, Multiplication, Relation};
+use std::alloc::{AllocError, Global};
+
+/// The value of an expression.
+#[derive(Drop)]
+pub enum Value {
+    Ordinal(Expression, Base),
+    Set(SetExpression),
+    /// An array, a record or a queue.
+    Whole(Place, ValueType),
+    Component(ComponentPlace),
+}
+
+/// What a name with selectors stands for.
+#[derive(Drop)]
+pub enum Designated {
+    Value(Value),
+    Variable(Place, ValueType),
+    /// A component, or an array of these, by the number of the first above that of its container.
+    Contained(usize, ValueType),
+    /// A component of a system type.
+    Component(ComponentPlace, usize),
+    Routine(usize),
+    Entry(ComponentPlace, usize),
+    Predeclared(Predeclared),
+    Nothing,
+}
+
+/// A number.
+pub fn number(number: i16, base: Base) -> Value
+    ensures { value_seen result ≡ spec.number_value number base }
+{
+    Value::Ordinal(Expression::Number(number), base)
+}
+
+/// What stands for a value that cannot be.
+pub fn no_value() -> Value
+    ensures { value_seen result ≡ spec.no_value }
+{
+    number(0, Base::Integer)
+}
+
+/// A whole variable.
+pub fn place_at(alloc: Global, origin: Origin) -> Place
+    ensures { place_seen result ≡ spec.place_at origin }
+{
+    Place {
+        origin,
+        offset: 0,
+        indices: Vec::new(alloc),
+    }
+}
+
+/// The value of a variable.
+pub fn load(place: Place, value_type: ValueType) -> Value
+    ensures { value_seen result ≡ spec.loaded (place_seen place) value_type }
+{
+    match value_type {
+        ValueType::Ordinal(range) => Value::Ordinal(Expression::Load(place), range.base),
+        ValueType::Set(_) => Value::Set(SetExpression::Load(place)),
+        _ => Value::Whole(place, value_type),
+    }
+}
+
+/// The variable whose value it is.
+pub fn place_of(alloc: Global, value: Value) -> Place
+    ensures { place_seen result ≡ spec.place_of (value_seen value) }
+{
+    match value {
+        Value::Ordinal(Expression::Load(place), _) => place,
+        Value::Set(SetExpression::Load(place)) => place,
+        Value::Whole(place, _) => place,
+        _ => place_at(alloc, Origin::Local(0)),
+    }
+}
+
+/// The expression of an ordinal value.
+pub fn ordinal(value: Value) -> Expression
+    ensures { expression_seen result ≡ spec.ordinal_of (value_seen value) }
+{
+    match value {
+        Value::Ordinal(expression, _) => expression,
+        _ => Expression::Number(0),
+    }
+}
+
+/// The expression of a set.
+pub fn set(value: Value) -> SetExpression
+    ensures { set_seen result ≡ spec.set_of (value_seen value) }
+{
+    match value {
+        Value::Set(expression) => expression,
+        _ => SetExpression::Empty,
+    }
+}
+
+/// `not` of a value.
+pub fn negated(alloc: Global, value: Value) -> Result<Value, AllocError>
+    ensures { IfOk result (λ v. value_seen v ≡ spec.negated (value_seen value)) }
+{
+    let inner = Box::new(alloc, ordinal(value))?;
+    Ok(Value::Ordinal(Expression::Not(inner), Base::Boolean))
+}
+
+/// A value with the sign `-`.
+pub fn opposite(alloc: Global, value: Value) -> Result<Value, AllocError>
+    ensures { IfOk result (λ v. value_seen v ≡ spec.opposite (value_seen value)) }
+{
+    let inner = Box::new(alloc, ordinal(value))?;
+    Ok(Value::Ordinal(Expression::Negate(inner), Base::Integer))
+}
+
+fn arithmetic(
+    alloc: Global,
+    operation: Arithmetic,
+    left: Value,
+    right: Value,
+) -> Result<Value, AllocError>
+    ensures { IfOk result (λ v. value_seen v ≡ spec.arithmetic_of operation (value_seen left) (value_seen right)) }
+{
+    let left = Box::new(alloc, ordinal(left))?;
+    let right = Box::new(alloc, ordinal(right))?;
+    Ok(Value::Ordinal(
+        Expression::Arithmetic(operation, left, right),
+        Base::Integer,
+    ))
+}
+
+fn logic(alloc: Global, operation: Logic, left: Value, right: Value) -> Result<Value, AllocError>
+    ensures { IfOk result (λ v. value_seen v ≡ spec.logic_of operation (value_seen left) (value_seen right)) }
+{
+    let left = Box::new(alloc, ordinal(left))?;
+    let right = Box::new(alloc, ordinal(right))?;
+    Ok(Value::Ordinal(Expression::Logic(operation, left, right), Base::Boolean))
+}
+
+fn combined(
+    alloc: Global,
+    operation: SetOperation,
+    left: Value,
+    right: Value,
+) -> Result<Value, AllocError>
+    ensures { IfOk result (λ v. value_seen v ≡ spec.combined operation (value_seen left) (value_seen right)) }
+{
+    let left = Box::new(alloc, set(left))?;
+    let right = Box::new(alloc, set(right))?;
+    Ok(Value::Set(SetExpression::Combine(operation, left, right)))
+}
+
+/// Two terms added, subtracted or joined.
+pub fn added(
+    alloc: Global,
+    operation: Addition,
+    left: Value,
+    right: Value,
+) -> Result<Value, AllocError>
+    ensures { IfOk result (λ v. value_seen v ≡ spec.added operation (value_seen left) (value_seen right)) }
+{
+    match (operation, &left) {
+        (Addition::Plus, _) => arithmetic(alloc, Arithmetic::Add, left, right),
+        (Addition::Minus, Value::Set(_)) => combined(alloc, SetOperation::Difference, left, right),
+        (Addition::Minus, _) => arithmetic(alloc, Arithmetic::Subtract, left, right),
+        (Addition::Or, Value::Set(_)) => combined(alloc, SetOperation::Union, left, right),
+        (Addition::Or, _) => logic(alloc, Logic::Or, left, right),
+    }
+}
+
+/// Two factors multiplied, divided or met.
+pub fn multiplied(
+    alloc: Global,
+    operation: Multiplication,
+    left: Value,
+    right: Value,
+) -> Result<Value, AllocError>
+    ensures { IfOk result (λ v. value_seen v ≡ spec.multiplied operation (value_seen left) (value_seen right)) }
+{
+    match (operation, &left) {
+        (Multiplication::Times, _) => arithmetic(alloc, Arithmetic::Multiply, left, right),
+        (Multiplication::Div, _) => arithmetic(alloc, Arithmetic::Divide, left, right),
+        (Multiplication::Mod, _) => arithmetic(alloc, Arithmetic::Modulo, left, right),
+        (Multiplication::And, Value::Set(_)) => {
+            combined(alloc, SetOperation::Intersection, left, right)
+        }
+        (Multiplication::And, _) => logic(alloc, Logic::And, left, right),
+    }
+}
+
+fn member(alloc: Global, left: Value, right: Value) -> Result<Value, AllocError>
+    ensures { IfOk result (λ v. value_seen v ≡ spec.member_of (value_seen left) (value_seen right)) }
+{
+    let element = Box::new(alloc, ordinal(left))?;
+    let set = Box::new(alloc, set(right))?;
+    Ok(Value::Ordinal(Expression::Member(element, set), Base::Boolean))
+}
+
+fn same_set(alloc: Global, is_same: bool, left: Value, right: Value) -> Result<Value, AllocError>
+    ensures { IfOk result (λ v. value_seen v ≡ spec.same_sets is_same (value_seen left) (value_seen right)) }
+{
+    let left = Box::new(alloc, set(left))?;
+    let right = Box::new(alloc, set(right))?;
+    Ok(Value::Ordinal(Expression::SameSet(is_same, left, right), Base::Boolean))
+}
+
+fn comparison(
+    alloc: Global,
+    relation: Comparison,
+    left: Value,
+    right: Value,
+) -> Result<Value, AllocError>
+    ensures { IfOk result (λ v. value_seen v ≡ spec.compared relation (value_seen left) (value_seen right)) }
+{
+    let left = Box::new(alloc, ordinal(left))?;
+    let right = Box::new(alloc, ordinal(right))?;
+    Ok(Value::Ordinal(Expression::Compare(relation, left, right), Base::Boolean))
+}
+
+/// Two sums compared.
+pub fn related(
+    alloc: Global,
+    relation: Relation,
+    left: Value,
+    right: Value,
+) -> Result<Value, AllocError>
+    ensures { IfOk result (λ v. value_seen v ≡ spec.related relation (value_seen left) (value_seen right)) }
+{
+    match (relation, &left) {
+        (Relation::In, _) => member(alloc, left, right),
+        (Relation::Equal, Value::Set(_)) => same_set(alloc, true, left, right),
+        (Relation::NotEqual, Value::Set(_)) => same_set(alloc, false, left, right),
+        (Relation::Equal, _) => comparison(alloc, Comparison::Equal, left, right),
+        (Relation::NotEqual, _) => comparison(alloc, Comparison::NotEqual, left, right),
+        (Relation::Less, _) => comparison(alloc, Comparison::Less, left, right),
+        (Relation::Greater, _) => comparison(alloc, Comparison::Greater, left, right),
+        (Relation::AtMost, _) => comparison(alloc, Comparison::AtMost, left, right),
+        (Relation::AtLeast, _) => comparison(alloc, Comparison::AtLeast, left, right),
+    }
+}
+
+/// What a predeclared function answers for an argument.
+pub fn applied(alloc: Global, function: Predeclared, value: Value) -> Result<Value, AllocError>
+    ensures { IfOk result (λ v. value_seen v ≡ spec.applied function (value_seen value)) }
+{
+    let (inner, base) = match value {
+        Value::Ordinal(inner, base) => (inner, base),
+        Value::Whole(place, _) => return Ok(is_empty(place)),
+        _ => return Ok(no_value()),
+    };
+    let range = base.whole();
+    Ok(match function {
+        Predeclared::Succ => Value::Ordinal(
+            Expression::Successor(Box::new(alloc, inner)?, range.high),
+            base,
+        ),
+        Predeclared::Pred => Value::Ordinal(
+            Expression::Predecessor(Box::new(alloc, inner)?, range.low),
+            base,
+        ),
+        Predeclared::Chr => {
+            Value::Ordinal(Expression::Character(Box::new(alloc, inner)?), Base::Char)
+        }
+        Predeclared::Abs => {
+            Value::Ordinal(Expression::Absolute(Box::new(alloc, inner)?), Base::Integer)
+        }
+        _ => Value::Ordinal(inner, Base::Integer),
+    })
+}
+
+fn is_empty(place: Place) -> Value
+    ensures { value_seen result ≡ spec.empty_queue (place_seen place) }
+{
+    Value::Ordinal(Expression::IsEmpty(place), Base::Boolean)
+}

@@ -1,8 +1,0 @@
-use Rattle.std.proofs.Common.{◌≡◌, drop}
-use Rattle.cp_slots.specs.Layers.{layer_seen}
-use Rattle.cp_slots.specs.Laid.{no_room, room_from}
-use Rattle.cp_slots.proofs.lay_out.room_of.Given as goal
-
--- what is left leads where all lead
-abbrev pub invariant-loop-process : goal.invariant-loop-process
-invariant-loop-process l = room_from (layer_seen l.layer) no_room l.processes ≡ room_from (layer_seen l.layer) l.room (drop l.process-index l.processes)

@@ -1,0 +1,402 @@
+//! What a call answers where memory is refused, and what stands after it: the call that comes next answers as with ample memory.
+//! `tools/check-memory` refuses each growth of memory of these tests in turn. With ample memory none is refused.
+
+ghost use Rattle.std.specs.Prelude.{◌≡◌, ◌≤◌};
+
+use crate::cuttings::{MEMBERS, are_members, are_same, cut_pieces};
+use crate::programs::{BUFFER, TWO_DISPLAYS, has_ended, limits_of};
+use crate::steps::{LAST_STEPS, stepped};
+use crate::traces::is_first_trace;
+use crate::workers::REPORT;
+use cp_check::{Checked, check};
+use cp_explore::{
+    Cutting, ExploreFault, GatherFault, Job, NoGate, SplitFault, Table, explore, explore_one,
+    gather, report,
+};
+use cp_machine::{Gates, Shown, Ticks};
+use cp_resolved::resolve;
+use cp_run::{Limits, OutcomeKind, RunEnd, run, trace};
+use cp_scope::{CheckFault, Rule};
+use cp_slots::Resolved;
+use cp_text::scan;
+use cp_tree::{Tree, parse};
+use std::alloc::Global;
+use std::marker::Brand;
+use std::sync::ledger::{Blank, Ledger};
+use std::test::Fail;
+use std::thread::Threads;
+
+/// How an answer compares with that of ample memory.
+#[derive(Clone, Copy)]
+pub enum Answer {
+    Ample,
+    Memory,
+    Other,
+}
+
+/// The answer of a call that was not refused memory.
+pub fn unrefused(is_wanted: bool) -> Answer {
+    if is_wanted {
+        Answer::Ample
+    } else {
+        Answer::Other
+    }
+}
+
+/// The answer of a call that was refused memory.
+fn refused(stands: bool) -> Answer {
+    if stands {
+        Answer::Memory
+    } else {
+        Answer::Other
+    }
+}
+
+/// Whether one answer at most is Memory, and each other one that of ample memory.
+pub fn are_right(answers: &[Answer]) -> bool {
+    let mut is_refused = false;
+    for answer in answers {
+        match *answer {
+            Answer::Ample => {}
+            Answer::Memory => {
+                if is_refused {
+                    return false;
+                }
+                is_refused = true;
+            }
+            Answer::Other => return false,
+        }
+    }
+    true
+}
+
+fn tree_of(alloc: Global, source: &str) -> Option<Tree> {
+    let tokens = scan(alloc, source.as_bytes()).ok()?;
+    parse(alloc, &tokens).ok()
+}
+
+fn program_of(alloc: Global, source: &str) -> Option<Resolved> {
+    let checked = check(alloc, tree_of(alloc, source)?).ok()?;
+    resolve(alloc, &checked).ok()
+}
+
+/// The tree of a source. It is made again where memory was refused.
+fn tree_at_last(alloc: Global, source: &str) -> Result<Tree, Fail> {
+    if let Some(tree) = tree_of(alloc, source) {
+        return Ok(tree);
+    }
+    Ok(tree_of(alloc, source).ok_or("there is no tree")?)
+}
+
+/// The program of a source. It is made again where memory was refused.
+fn program_at_last(alloc: Global, source: &str) -> Result<Resolved, Fail> {
+    if let Some(program) = program_of(alloc, source) {
+        return Ok(program);
+    }
+    Ok(program_of(alloc, source).ok_or("there is no program")?)
+}
+
+/// A table as a report of `TWO_DISPLAYS`.
+fn reported(alloc: Global, program: &Resolved, table: &Table) -> Answer {
+    match report(alloc, program, table, false) {
+        Ok(told) => unrefused(told.text.as_str() == REPORT),
+        Err(_) => Answer::Memory,
+    }
+}
+
+/// The table by one walk.
+fn explored<L: Ledger>(alloc: Global, job: Job, calls: &mut Ticks<L>) -> Answer
+    requires { job.limits.choices ≤ 20 }
+{
+    match explore_one(alloc, job, calls) {
+        Ok(table) => reported(alloc, job.program, &table),
+        Err(ExploreFault::Memory) => Answer::Memory,
+        Err(ExploreFault::TooManyRows) => Answer::Other,
+    }
+}
+
+fn explored_twice<L: Ledger>(alloc: Global, job: Job, blank: Blank) -> [Answer; 2]
+    requires name { blank.name ≡ L.name }
+    requires parts { blank.parts ≡ L.parts }
+    requires one { L.parts ≡ 1 }
+    requires few { job.limits.choices ≤ 20 }
+{
+    let mut calls: Ticks<L> = Ticks::new(blank);
+    [
+        explored(alloc, job, &mut calls),
+        explored(alloc, job, &mut calls),
+    ]
+}
+
+#[test]
+fn refused_growth_of_a_walk(rt: HostRuntime) -> Result<(), Fail> {
+    let program = program_at_last(rt.alloc(), TWO_DISPLAYS)?;
+    let limits = limits_of(5, Gates::First)?;
+    let job = Job {
+        program: &program,
+        limits,
+    };
+    let answers = explored_twice::<Brand>(rt.alloc(), job, Blank::new(1));
+    assert!(rt; are_right(&answers));
+    Ok(())
+}
+
+/// The pieces of a table, put together.
+fn gathered(alloc: Global, table: &Table) -> Answer {
+    let Ok(pieces) = cut_pieces(alloc, table, &[3, 0, 4, 2, 1]) else {
+        return Answer::Memory;
+    };
+    match gather(alloc, 5, pieces) {
+        Ok(all) => unrefused(are_same(all.rows.as_slice(), table.rows.as_slice())),
+        Err(GatherFault::Memory) => Answer::Memory,
+        Err(_) => Answer::Other,
+    }
+}
+
+fn explored_and_gathered<L: Ledger>(alloc: Global, job: Job, blank: Blank) -> [Answer; 2]
+    requires name { blank.name ≡ L.name }
+    requires parts { blank.parts ≡ L.parts }
+    requires one { L.parts ≡ 1 }
+    requires few { job.limits.choices ≤ 20 }
+{
+    let mut calls: Ticks<L> = Ticks::new(blank);
+    for _ in 0..2u8 {
+        if let Ok(table) = explore_one(alloc, job, &mut calls) {
+            return [gathered(alloc, &table), gathered(alloc, &table)];
+        }
+    }
+    [Answer::Other, Answer::Other]
+}
+
+#[test]
+fn refused_growth_of_gathering(rt: HostRuntime) -> Result<(), Fail> {
+    let program = program_at_last(rt.alloc(), TWO_DISPLAYS)?;
+    let limits = limits_of(5, Gates::First)?;
+    let job = Job {
+        program: &program,
+        limits,
+    };
+    let answers = explored_and_gathered::<Brand>(rt.alloc(), job, Blank::new(1));
+    assert!(rt; are_right(&answers));
+    Ok(())
+}
+
+static WORD: [u8; 5] = [0, 0, 2, 2, 1];
+
+fn is_end(end: &RunEnd) -> bool {
+    has_ended(end, 5, OutcomeKind::Finished, &[Shown::Integer(7)])
+}
+
+/// The end of a run of the buffer.
+fn run_to_its_end<L: Ledger>(
+    alloc: Global,
+    program: &Resolved,
+    limits: Limits,
+    word: &[u8],
+    ticks: &mut Ticks<L>,
+) -> Answer {
+    if word.len() > 20 {
+        return Answer::Other;
+    }
+    match run(alloc, program, limits, word, ticks) {
+        Ok(end) => unrefused(is_end(&end)),
+        Err(_) => Answer::Memory,
+    }
+}
+
+/// The trace of that run.
+fn traced<L: Ledger>(
+    alloc: Global,
+    program: &Resolved,
+    limits: Limits,
+    word: &[u8],
+    ticks: &mut Ticks<L>,
+) -> Answer {
+    if word.len() > 20 {
+        return Answer::Other;
+    }
+    match trace(alloc, program, limits, word, ticks) {
+        Ok((lines, end)) => unrefused(is_first_trace(&lines) && is_end(&end)),
+        Err(_) => Answer::Memory,
+    }
+}
+
+fn run_and_traced<L: Ledger>(
+    alloc: Global,
+    program: &Resolved,
+    limits: Limits,
+    blank: Blank,
+) -> [Answer; 4]
+    requires name { blank.name ≡ L.name }
+    requires parts { blank.parts ≡ L.parts }
+    requires one { L.parts ≡ 1 }
+{
+    let mut ticks: Ticks<L> = Ticks::new(blank);
+    [
+        run_to_its_end(alloc, program, limits, &WORD, &mut ticks),
+        traced(alloc, program, limits, &WORD, &mut ticks),
+        run_to_its_end(alloc, program, limits, &WORD, &mut ticks),
+        traced(alloc, program, limits, &WORD, &mut ticks),
+    ]
+}
+
+#[test]
+fn refused_growth_of_a_run_and_its_trace(rt: HostRuntime) -> Result<(), Fail> {
+    let program = program_at_last(rt.alloc(), BUFFER)?;
+    let limits = limits_of(8, Gates::First)?;
+    let answers = run_and_traced::<Brand>(rt.alloc(), &program, limits, Blank::new(1));
+    assert!(rt; are_right(&answers));
+    Ok(())
+}
+
+/// The cutting of one empty word. It is made again where memory was refused.
+fn whole_at_last<'a>(alloc: Global, job: Job<'a>) -> Result<Cutting<'a>, Fail>
+    requires { job.limits.choices ≤ 20 }
+{
+    match Cutting::whole(alloc, job) {
+        Ok(cutting) => Ok(cutting),
+        Err(_) => Ok(Cutting::whole(alloc, job)?),
+    }
+}
+
+/// The first member is split. Where memory is refused, the members are as before.
+fn split_first(alloc: Global, cutting: &mut Cutting, before: &[&[u8]], after: &[&[u8]]) -> Answer {
+    if cutting.members().is_empty() {
+        return Answer::Other;
+    }
+    match cutting.split(alloc, 0) {
+        Ok(()) => unrefused(are_members(cutting, after)),
+        Err(SplitFault::Memory) => refused(are_members(cutting, before)),
+        Err(_) => Answer::Other,
+    }
+}
+
+/// The first member is split, and split again where memory was refused.
+fn split_at_last(
+    alloc: Global,
+    cutting: &mut Cutting,
+    before: &[&[u8]],
+    after: &[&[u8]],
+) -> Answer {
+    match split_first(alloc, cutting, before, after) {
+        Answer::Memory => match split_first(alloc, cutting, before, after) {
+            Answer::Ample => Answer::Memory,
+            _ => Answer::Other,
+        },
+        other => other,
+    }
+}
+
+#[test]
+fn refused_growth_of_a_split(rt: HostRuntime) -> Result<(), Fail> {
+    let program = program_at_last(rt.alloc(), TWO_DISPLAYS)?;
+    let limits = limits_of(5, Gates::First)?;
+    let job = Job {
+        program: &program,
+        limits,
+    };
+    let mut cutting = whole_at_last(rt.alloc(), job)?;
+    let two: [&[u8]; 2] = [&[0], &[1]];
+    let four: [&[u8]; 4] = [&[0, 0], &[0, 1], &[0, 2], &[1]];
+    let answers = [
+        split_at_last(rt.alloc(), &mut cutting, &[&[]], &two),
+        split_at_last(rt.alloc(), &mut cutting, &two, &four),
+    ];
+    assert!(rt; are_right(&answers));
+    Ok(())
+}
+
+/// A cutting's members are split to a depth.
+fn deepened(alloc: Global, cutting: &mut Cutting) -> Answer {
+    match cutting.to_depth(alloc, 2) {
+        Ok(()) => unrefused(are_members(cutting, &MEMBERS)),
+        Err(_) => Answer::Memory,
+    }
+}
+
+/// The table of a cutting, by two workers.
+fn explored_by_two<X: Threads + Sync>(rt: &X, alloc: Global, cutting: &Cutting) -> Answer {
+    match explore(rt, alloc, cutting, 2, &NoGate) {
+        Ok(table) => reported(alloc, cutting.job.program, &table),
+        Err(ExploreFault::Memory) => Answer::Memory,
+        Err(ExploreFault::TooManyRows) => Answer::Other,
+    }
+}
+
+/// Where a depth was not reached for want of memory, the cutting is explored all the same.
+#[test]
+fn refused_growth_of_a_cutting(rt: HostRuntime) -> Result<(), Fail> {
+    let program = program_at_last(rt.alloc(), TWO_DISPLAYS)?;
+    let limits = limits_of(5, Gates::First)?;
+    let job = Job {
+        program: &program,
+        limits,
+    };
+    let mut cutting = whole_at_last(rt.alloc(), job)?;
+    let answers = [
+        deepened(rt.alloc(), &mut cutting),
+        explored_by_two(&rt, rt.alloc(), &cutting),
+        deepened(rt.alloc(), &mut cutting),
+        explored_by_two(&rt, rt.alloc(), &cutting),
+    ];
+    assert!(rt; are_right(&answers));
+    Ok(())
+}
+
+fn fault_of(checked: Result<Checked, (CheckFault, Tree)>) -> Option<CheckFault> {
+    match checked {
+        Ok(_) => None,
+        Err((fault, _tree)) => Some(fault),
+    }
+}
+
+/// A tree is checked. Where memory is refused, it comes back, and is checked again.
+fn checked(alloc: Global, tree: Tree, wanted: Option<CheckFault>) -> Answer {
+    match check(alloc, tree) {
+        Err((CheckFault::Memory, back)) => refused(fault_of(check(alloc, back)) == wanted),
+        other => unrefused(fault_of(other) == wanted),
+    }
+}
+
+#[test]
+fn refused_growth_of_a_check(rt: HostRuntime) -> Result<(), Fail> {
+    let good = tree_at_last(rt.alloc(), BUFFER)?;
+    let bad = tree_at_last(rt.alloc(), "begin x := 1; y := 2 end.")?;
+    let broken = CheckFault::Rule {
+        at: 1,
+        rule: Rule::C1,
+    };
+    let answers = [
+        checked(rt.alloc(), good, None),
+        checked(rt.alloc(), bad, Some(broken)),
+    ];
+    assert!(rt; are_right(&answers));
+    Ok(())
+}
+
+/// A process goes its steps, though the copy of its state before one of them is refused.
+fn stepped_beside_copies(alloc: Global, program: &Resolved, limits: Limits) -> Answer {
+    match stepped::<Brand>(alloc, program, limits, Blank::new(1)) {
+        Ok(alone) => {
+            let is_told = LAST_STEPS.tells_of(&alone);
+            match alone.refused_copies {
+                0 => unrefused(is_told),
+                1 => refused(is_told),
+                _ => Answer::Other,
+            }
+        }
+        Err(_) => Answer::Memory,
+    }
+}
+
+#[test]
+fn refused_growth_of_a_copy(rt: HostRuntime) -> Result<(), Fail> {
+    let program = program_at_last(rt.alloc(), LAST_STEPS.source)?;
+    let limits = limits_of(8, Gates::First)?;
+    let answers = [
+        stepped_beside_copies(rt.alloc(), &program, limits),
+        stepped_beside_copies(rt.alloc(), &program, limits),
+    ];
+    assert!(rt; are_right(&answers));
+    Ok(())
+}

@@ -1,0 +1,70 @@
+use Rattle.std.proofs.Common.{◌≡◌, ◌∙◌, ◌+◌, ◌-◌, ◌<◌, ap, sym, arith, subst, length, map, take, drop, get_or, ◌++◌, []}
+use Rattle.cp_machine.specs.System.{machine_of}
+use Rattle.cp_run.specs.Code.{node_of}
+use Rattle.cp_run.specs.Slots.{slots}
+use Rattle.cp_run.proofs.Running.{drop_next}
+use Rattle.cp_run.proofs.TraceRuns.{some_left}
+use Rattle.cp_walk.specs.Cutting.{rows_behind, rows_from}
+use Rattle.cp_walk.specs.Rows.{line_of, IsTooMany}
+use Rattle.cp_walk.specs.Walk.{behind, walk}
+use Rattle.std.proofs.lemmas.List.{length-map}
+use Rattle.cp_walk.proofs.Errors.{err_as}
+use Rattle.cp_walk.proofs.Leading.{due_opened, due_chosen}
+use Rattle.cp_walk.proofs.Replaying.{none_over, refused_rows, replayed, replayed_all, nothing_replayed}
+use Rattle.cp_walk.proofs.member.member_rows.Goals as goal
+
+pub loop-place-init : goal.loop-place-init
+loop-place-init g c =
+    record {
+      own = c.open-halt.ensures.own;
+      within = omega arith;
+      due = due_opened c.args.program.now c.args.limits.gates c.args.limits.steps c.open-halt.result c.open-halt.new.state c.open-halt.ensures.own c.open-halt.ensures.node;
+      same = let e : c.args.limits.choices - 0 ≡ c.args.limits.choices = omega arith in nothing_replayed (slots c.args.program.now c.args.limits.gates) c.args.limits.choices c.args.limits.steps c.args.word.now (node_of c.open-halt.result (machine_of c.open-halt.new.state)) c.open-halt.ensures.node ∙ ap (λ k. map (behind []) (rows_from (slots c.args.program.now c.args.limits.gates) c.args.limits.steps k c.args.word.now (node_of c.open-halt.result (machine_of c.open-halt.new.state)))) (sym e);
+    }
+
+pub returns-then-is_over-clause-rows : goal.returns-then-is_over-clause-rows
+returns-then-is_over-clause-rows g c =
+    let n = c.loop-place.place in
+    let sys = slots c.args.program.now c.args.limits.gates in
+    ap (map line_of) c.new-rows.ensures.items ∙ sym (c.loop-place.invariant.same ∙ ap (map (behind (take n c.args.word.now))) (none_over sys c.args.limits.steps (c.args.limits.choices - n) (get_or c.args.word.now n 0) (drop n c.args.word.now) (drop (n + 1) c.args.word.now) c.loop-place.halt (machine_of c.loop-place.state) (drop_next c.args.word.now n (omega arith)) (sym c.is_over.ensures ∙ c.if-is_over.true)))
+
+pub returns-then-not-may-clause-rows : goal.returns-then-not-may-clause-rows
+returns-then-not-may-clause-rows g c =
+    let n = c.loop-place.place in
+    let sys = slots c.args.program.now c.args.limits.gates in
+    ap (map line_of) c.new-rows.ensures.items ∙ sym (c.loop-place.invariant.same ∙ ap (map (behind (take n c.args.word.now))) (refused_rows sys c.args.limits.steps (c.args.limits.choices - n) (get_or c.args.word.now n 0) (drop n c.args.word.now) (drop (n + 1) c.args.word.now) c.loop-place.halt (machine_of c.loop-place.state) (drop_next c.args.word.now n (omega arith)) (sym c.is_over.ensures ∙ c.if-is_over.false) (sym c.may.ensures ∙ c.if-not-may.true)))
+
+pub loop-place-preserved : goal.loop-place-preserved
+loop-place-preserved g c =
+    let n = c.loop-place.place in
+    let sys = slots c.args.program.now c.args.limits.gates in
+    let going = sym c.is_over.ensures ∙ c.if-is_over.false in
+    let more = some_left (c.args.limits.choices - n) c.loop-place.halt going in
+    record {
+      own = c.choose-halt.ensures.own;
+      within = omega (arith, more);
+      due = due_chosen c.args.program.now c.args.limits.gates c.args.limits.steps (machine_of c.loop-place.state) (get_or c.args.word.now n 0) c.choose-halt.result c.choose-halt.new.state c.choose-halt.ensures.own c.choose-halt.ensures.node;
+      same = c.loop-place.invariant.same ∙ replayed sys c.args.limits.steps c.args.limits.choices n c.args.word.now c.loop-place.halt (machine_of c.loop-place.state) (node_of c.choose-halt.result (machine_of c.choose-halt.new.state)) (omega arith) going (sym c.may.ensures ∙ c.if-not-may.false) c.choose-halt.ensures.node;
+    }
+
+pub returns-clause-rows : goal.returns-clause-rows
+returns-clause-rows g c =
+    let sys = slots c.args.program.now c.args.limits.gates in
+    let n = c.loop-place.place in
+    let all : n ≡ length c.args.word.now = omega arith in
+    let node = node_of c.loop-place.halt (machine_of c.loop-place.state) in
+    let deep : length c.as_mut_slice.result.now ≡ c.args.limits.choices - n = ap length c.as_mut_slice.ensures.value ∙ c.in-Ok-copies.ensures.count ∙ omega arith in
+    c.in_ok-walk_from.ensures.rows ∙ ap (λ l. map line_of l ++ map (behind c.word_of-path.result.items) (walk sys c.args.limits.steps (length c.as_mut_slice.result.now) node)) c.new-rows.ensures.items ∙ ap (λ w. map (behind w) (walk sys c.args.limits.steps (length c.as_mut_slice.result.now) node)) c.word_of-path.ensures ∙ ap (λ k. map (behind c.args.word.now) (walk sys c.args.limits.steps k node)) deep ∙ sym (c.loop-place.invariant.same ∙ replayed_all sys c.args.limits.steps (c.args.limits.choices - n) n c.args.word.now node all)
+
+pub returns-in_err-walk_from-clause-many : goal.returns-in_err-walk_from-clause-many
+returns-in_err-walk_from-clause-many g c =
+    let sys = slots c.args.program.now c.args.limits.gates in
+    let n = c.loop-place.place in
+    let all : n ≡ length c.args.word.now = omega arith in
+    let node = node_of c.loop-place.halt (machine_of c.loop-place.state) in
+    let deep : length c.as_mut_slice.result.now ≡ c.args.limits.choices - n = ap length c.as_mut_slice.ensures.value ∙ c.in-Ok-copies.ensures.count ∙ omega arith in
+    let same = ap length (c.loop-place.invariant.same ∙ replayed_all sys c.args.limits.steps (c.args.limits.choices - n) n c.args.word.now node all) in
+    let as_many = length-map (walk sys c.args.limits.steps (c.args.limits.choices - n) node) (behind c.args.word.now) in
+    let none = ap length c.new-rows.ensures.items in
+    let depth = ap (λ k. length (walk sys c.args.limits.steps k node)) deep in
+    err_as c.from_residual.result _ (λ e. IsTooMany e → 50000 < length (rows_behind sys c.args.limits.choices c.args.limits.steps c.args.word.now)) c.from_residual.ensures.1 (λ f h many. let more = c.in_err-walk_from.ensures.many (subst IsTooMany h many) in omega (arith, same, as_many, none, depth, more))

@@ -1,0 +1,66 @@
+//! The loop of one worker.
+
+ghost use Rattle.std.specs.Prelude.{◌≡◌, []};
+ghost use Rattle.cp_board.specs.Views.{view};
+ghost use Rattle.cp_board.specs.Seats.{IsSeatOf, view_of, tasks_of};
+ghost use Rattle.cp_walk.specs.Ends.{HasWorked};
+
+use crate::fault::ExploreFault;
+use crate::worker::{EXCESS, End, Gate, MOST_NOTED, Part, Work, Worked};
+use cp_board::{Board, Seat};
+use std::alloc::Global;
+
+/// Draws until there is nothing more, until there are too many rows, or until memory is refused.
+pub fn worked<W: Work, G: Gate>(
+    alloc: Global,
+    board: &Board,
+    work: &W,
+    gate: &G,
+    mut seat: Seat,
+) -> Worked
+    requires { IsSeatOf board.now seat × (view_of seat ≡ view 1 (tasks_of board.now) [] [] 0) }
+    ensures { HasWorked (W.rows work.now) board.now result }
+{
+    let mut parts = Vec::new(alloc);
+    while let Some(task) = board.claim(&mut seat) {
+        gate.pass(task);
+        let rows = match work.rows_of(alloc, task) {
+            Ok(rows) => rows,
+            Err(ExploreFault::TooManyRows) => {
+                board.note(&mut seat, EXCESS);
+                return Worked {
+                    seat,
+                    parts,
+                    end: End::Excess,
+                };
+            }
+            Err(ExploreFault::Memory) => {
+                return Worked {
+                    seat,
+                    parts,
+                    end: End::Refused,
+                };
+            }
+        };
+        let count = rows.len() as u32;
+        if parts.push(Part { task, rows }).is_err() {
+            return Worked {
+                seat,
+                parts,
+                end: End::Refused,
+            };
+        }
+        if board.note(&mut seat, count) > MOST_NOTED {
+            return Worked {
+                seat,
+                parts,
+                end: End::Excess,
+            };
+        }
+    }
+    Worked {
+        seat,
+        parts,
+        end: End::Dry,
+    }
+}

@@ -1,0 +1,30 @@
+//! The members of a cutting as tasks.
+
+ghost use Rattle.cp_walk.specs.Members.{member_rows};
+
+use crate::cutting::Cutting;
+use crate::fault::ExploreFault;
+use crate::member::member_rows;
+use crate::row::Row;
+use crate::worker::Work;
+use std::alloc::Global;
+use std::marker::Brand;
+use std::sync::ledger::Blank;
+
+impl Work for Cutting<'_> {
+    ghost rows = { λ c i. member_rows c.job.program.now c.job.limits c.words.items i };
+
+    fn rows_of(&self, alloc: Global, task: u32) -> Result<Vec<Row>, ExploreFault> {
+        let Some(word) = self.words.get(task as usize) else {
+            return Ok(Vec::new(alloc));
+        };
+        member_rows::<Brand, Brand>(
+            alloc,
+            self.job.program,
+            self.job.limits,
+            word.as_slice(),
+            Blank::new(1),
+            Blank::new(1),
+        )
+    }
+}
