@@ -1,4 +1,3 @@
-pub mod Forgetting
 pub mod Going
 pub mod InCalls
 pub mod Meant

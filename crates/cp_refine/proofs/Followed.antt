@@ -18,7 +18,7 @@ use Rattle.cp_meaning.specs.Readings.{is_ready}
 use Rattle.cp_meaning.specs.Scopes.{Meaning, constant_meaning, type_meaning, local_variable, permanent_variable, routine_meaning, standard_meaning, Standard, succ_function, pred_function, chr_function, ord_function, abs_function, empty_function, delay_procedure, continue_procedure, display_procedure, find}
 use Rattle.cp_meaning.specs.State as named
 use Rattle.cp_meaning.specs.State.{ready, Item, statement_item, function_call, start_item, until, successor, return, init_end, end, Gates, State}
-use Rattle.cp_meaning.specs.Steps.{view_of, IsReached, at_first, by_step, by_admission}
+use Rattle.cp_meaning.specs.Steps.{view_of, IsReached, at_first, by_step, by_admission, by_forgetting}
 use Rattle.cp_resolved.specs.Layouts.{Layouts, Here, here}
 use Rattle.cp_resolved.specs.Resolving.{AreTablesOf}
 use Rattle.cp_resolved.specs.Stands.{Ground, InvokedBy}
@@ -35,6 +35,7 @@ use Rattle.cp_refine.specs.Represents.{StackIs}
 use Rattle.cp_refine.specs.StatesKnown.{StateKnown}
 use Rattle.cp_refine.proofs.Beginning.{same_count}
 use Rattle.cp_refine.proofs.Control.{Taken, scope_is}
+use Rattle.cp_refine.proofs.Forgetting.{forgets}
 use Rattle.cp_refine.proofs.Going.{Going, going, takes_one}
 use Rattle.cp_refine.proofs.HoldsInReached.{HoldsInReached, reached_stands}
 use Rattle.cp_refine.proofs.Meaning.{it, known, goes_in_step}
@@ -163,6 +164,9 @@ module _ (t : Tree) (r : Tables) (g : Gates) (read : IsRead t.program) (ok : IsA
       let x = stood_for s before in
       let less = (reached_stands t ok g s before).line n q member in
       ((slots r (gates_of g)).admit x.0 q, go.admit s x.0 q x.1 (record { below = below s x.0 q x.1 less.there; due = ap is_some is; lined = ap (λ o. in_line_of o s q) is ∙ member }))
+  stood_for _ (by_forgetting s before) =
+      let x = stood_for s before in
+      (record x.0 { output = [] }, forgets t r l g s x.0 x.1)
 
   pub following : (s : State) (q : ℕ) → IsReached t.program g s → s.pending ≡ None → q < length s.processes → (named.process_at s.processes q).status ≡ ready → StepFollows t.program s q
   following s q reached none less was =

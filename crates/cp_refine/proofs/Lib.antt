@@ -41,6 +41,7 @@ pub mod Excluding
 pub mod Executed
 pub mod Expressions
 pub mod Followed
+pub mod Forgetting
 pub mod Found
 pub mod FramesBelow
 pub mod FreeParts

@@ -22,7 +22,7 @@ use Rattle.cp_meaning.specs.State as named
 use Rattle.cp_endless.specs.Meaning.{EndlessMeaningLaw, MeansTheSame, SettledMeaningLaw}
 use Rattle.cp_endless.specs.Silent.{ShowsLess, in_call_on_names, in_call_on_slots, named_without_output, silent_named, silent_slots, waits_on_names, waits_on_slots, without_output}
 use Rattle.cp_endless.specs.Tables.{HasKnownEnds}
-use Rattle.cp_endless.proofs.names.Forgetting.{forgets}
+use Rattle.cp_refine.proofs.Forgetting.{forgets}
 use Rattle.cp_endless.proofs.names.Going.{Leaves, in_choices, silent_in_step}
 use Rattle.cp_endless.proofs.names.InCalls.{in_call_so}
 use Rattle.cp_endless.proofs.names.Processes.{waits_so}

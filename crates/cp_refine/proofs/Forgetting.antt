@@ -18,7 +18,12 @@ use Rattle.cp_refine.specs.Represents.{Represents, ComponentIs, MonitorIs}
 use Rattle.cp_slots.specs.declared.tables.ComponentKind.TheVariants as kind
 use Rattle.cp_meaning.specs.State as named
 use Rattle.cp_refine.specs.Represents as represents
-use Rattle.cp_endless.specs.Silent.{named_without_output, without_output}
+
+abbrev without_output : Machine → Machine
+without_output m = record m { output = [] }
+
+abbrev named_without_output : State → State
+named_without_output s = record s { output = [] }
 
 -- ---- what the machine reaches
 
