@@ -8,8 +8,8 @@ ghost use Rattle.std.proofs.Common.{ap};
 ghost use Rattle.cp_walk.specs.Hashing.{hashed};
 ghost use Rattle.cp_walk.specs.Report.{outcome_numbers, same_outcome};
 
-use cp_walk::numbers::{feed_kind, feed_output, is_same};
 use cp_run::Outcome;
+use cp_walk::numbers::{feed_kind, feed_output, is_same};
 use std::hash::{Hash, Hasher};
 
 /// An outcome as a key.

@@ -10,10 +10,10 @@ ghost use Rattle.cp_merged.specs.Told.{rows_in, told_text};
 
 use crate::tallies::Tallies;
 use crate::tally::Tally;
-use cp_walk::text::{push_count, push_outcome, push_word};
-use cp_walk::{Report, Text};
 use cp_natural::{Natural, push_natural};
 use cp_slots::Resolved;
+use cp_walk::text::{push_count, push_outcome, push_word};
+use cp_walk::{Report, Text};
 use std::alloc::{AllocError, Global};
 
 /// How many words the tallies are of.

@@ -5,10 +5,10 @@ ghost use Rattle.std.specs.Option.{option_copied};
 ghost use Rattle.cp_verdict.specs.Expectations as spec;
 
 use crate::expectation::{Claim, Expectation, KindPattern, OutcomePattern, OutputPattern};
-use cp_walk::text::push_output;
 use cp_machine::{ErrorName, Shown};
 use cp_run::{Outcome, OutcomeKind};
 use cp_slots::Resolved;
+use cp_walk::text::push_output;
 use std::alloc::{AllocError, Global};
 
 fn is_same_error(wanted: ErrorName, name: ErrorName) -> bool

@@ -13,10 +13,10 @@ use crate::expectation::Expectation;
 use crate::marking::{Verdict, mark};
 use crate::seen::Seen;
 use crate::words::verdict_text;
-use cp_walk::Job;
 use cp_merged::{MergeFault, Tallies, Tally, explore_merged};
 use cp_natural::push_natural;
 use cp_slots::Resolved;
+use cp_walk::Job;
 use std::alloc::{AllocError, AllocFailed, Global};
 
 /// The most rows of a table that is listed.

@@ -5,9 +5,9 @@ use crate::marking::Verdict;
 use crate::matching::is_limit;
 use crate::reading::Wanted;
 use crate::seen::Seen;
-use cp_walk::text::{error_name, push_outcome, push_word};
 use cp_run::OutcomeKind;
 use cp_slots::Resolved;
+use cp_walk::text::{error_name, push_outcome, push_word};
 use std::alloc::{AllocError, Global};
 
 fn push_kind(text: &mut String, kind: KindPattern) -> Result<(), AllocError> {

@@ -7,13 +7,13 @@ ghost use Rattle.cpx_show.specs.Showing as spec;
 ghost use Rattle.cpx_show.specs.declared.answering.Verdict.TheVariants.{TooMany};
 
 use crate::answering::{Answer, Verdict};
-use cp_walk::Job;
 use cp_run::Limits;
 use cp_slots::Resolved;
 use cp_tool::Options;
 use cp_verdict::{
     Expectation, Mark, MarkFault, Misread, Most, expectations, expected, mark_program, misread_text,
 };
+use cp_walk::Job;
 use std::alloc::{AllocError, Global};
 
 /// What is said of a program by the expectations of the words, or of the source where there are no words.
