@@ -18,68 +18,58 @@ const NOTES: &str =
 pub fn command<'a>(alloc: Global) -> Result<Command<'a>, AllocError>
     ensures { IfOk result (λ c. app_of c ≡ cpx) }
 {
-    let choices = option(
+    let command = described(alloc).arg(option(
         alloc,
         "choices",
         "K",
         "Choices of a schedule, 0 to 20, with --merge to 100 [default: 8]",
-    );
-    let steps = option(
+    ))?;
+    let command = command.arg(option(
         alloc,
         "steps",
         "L",
         "Steps of a stretch between choices, 1 to 100000 [default: 1000]",
-    );
-    let workers = option(
+    ))?;
+    let command = command.arg(option(
         alloc,
         "workers",
         "N",
         "Threads that explore, 1 to 16 [default: 2]",
-    );
-    let cut = option(
+    ))?;
+    let command = command.arg(option(
         alloc,
         "cut",
         "D",
         "Choices that are dealt out to the threads, 0 to 20 [default: by their number]",
-    );
-    let rows = switch(
+    ))?;
+    let command = command.arg(switch(
         alloc,
         "rows",
         "Write a line for each schedule, before the report",
-    );
-    let merge = switch(
+    ))?;
+    let command = command.arg(switch(
         alloc,
         "merge",
         "Count schedules that come to one state together, without rows",
-    );
-    let states = option(
+    ))?;
+    let command = command.arg(option(
         alloc,
         "states",
         "N",
         "States that a layer may have with --merge, 1 to 10000000 [default: 200000]",
-    );
-    let schedule = option(
+    ))?;
+    let command = command.arg(option(
         alloc,
         "schedule",
         "WORD",
         "Trace this one schedule: `none`, or up to 20 numbers 0 to 15 joined by periods, with --merge up to 100",
-    );
-    let gates = option(
+    ))?;
+    let command = command.arg(option(
         alloc,
         "gates",
         "WHO",
         "Who enters a monitor that becomes free: `first` in line, or `any` [default: first]",
-    );
-    let command = described(alloc)
-        .arg(choices)?
-        .arg(steps)?
-        .arg(workers)?
-        .arg(cut)?
-        .arg(rows)?
-        .arg(merge)?
-        .arg(states)?
-        .arg(schedule)?
-        .arg(gates)?;
+    ))?;
     Ok(command)
 }
 
