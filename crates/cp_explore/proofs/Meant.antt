@@ -1,11 +1,16 @@
--- The rows of the machine are those of the meaning.
-use Rattle.std.proofs.Common.{◌≡◌, ◌∙◌, ℕ, List, map, Result, Ok, Err, IfOk, sym}
+-- The rows of the machine are those of the meaning, of which no run lets two processes into one monitor.
+use Rattle.std.proofs.Common.{◌≡◌, ◌∙◌, ℕ, List, map, Result, Ok, Err, IfOk, ap, sym}
 use Rattle.cp_slots.specs.Tables.{Tables}
 use Rattle.cp_machine.specs.declared.gates.Gates.{Gates}
 use Rattle.cp_run.specs.Slots.{slots}
 use Rattle.cp_run.specs.Table.{Line, table}
+use Rattle.cp_refine.specs.Named.{named_gates}
+use Rattle.cp_refine.proofs.Excluding.{runs_exclude}
 use Rattle.cp_refine.proofs.Meaning.{runs_as_meant}
-use Rattle.cp_explore.specs.Meant.{AreMeant}
+use Rattle.cp_explore.specs.Meant.{AreExclusive, AreMeant, AreTallied}
+use Rattle.cp_merged.specs.Tallies.{tally}
+use Rattle.cp_walk.specs.Groups.{Tally}
+use Rattle.cp_walk.specs.Report.{same_outcome}
 use Rattle.cp_walk.specs.Rows.{line_of}
 use Rattle.cp_walk.specs.declared.fault.ExploreFault.{ExploreFault}
 use Rattle.cp_walk.specs.declared.row.Table.{Table}
@@ -17,3 +22,9 @@ meant r gates choices steps lines e t read ok same = e ∙ sym (runs_as_meant t 
 pub meant_rows : (answer : Result Table ExploreFault) (r : Tables) (gates : Gates) (choices steps : ℕ) → IfOk answer (λ t. map line_of t.rows ≡ table (slots r gates) choices steps) → IfOk answer (λ t. AreMeant r gates choices steps (map line_of t.rows))
 meant_rows (Ok t) r gates choices steps h = meant r gates choices steps (map line_of t.rows) h
 meant_rows (Err fault) r gates choices steps h = tt
+
+pub tallied : (r : Tables) (gates : Gates) (choices steps : ℕ) (tallies : List Tally) → tallies ≡ tally same_outcome (table (slots r gates) choices steps) → AreTallied r gates choices steps tallies
+tallied r gates choices steps tallies e t read ok same = e ∙ sym (ap (λ (lines : List Line). tally same_outcome lines) (runs_as_meant t r gates read ok same choices steps).tables)
+
+pub are_exclusive : (r : Tables) (gates : Gates) (choices steps : ℕ) → AreExclusive r gates choices steps
+are_exclusive r gates choices steps t read ok same = runs_exclude t r (named_gates gates) read ok same choices steps

@@ -1,4 +1,4 @@
--- What rows are in the terms of the program's own names.
+-- What a table is in the terms of the program's own names.
 use Rattle.std.specs.Prelude.{◌≡◌, ℕ, List}
 use Rattle.cp_tree.specs.Read.{IsRead}
 use Rattle.cp_tree.specs.Syntax.{Tree}
@@ -7,8 +7,24 @@ use Rattle.cp_slots.specs.Tables.{Tables}
 use Rattle.cp_lawful.specs.Accepted.{IsAccepted}
 use Rattle.cp_machine.specs.declared.gates.Gates.{Gates}
 use Rattle.cp_run.specs.Table.{Line, table}
+use Rattle.cp_refine.specs.Excluding.{RunsExclude}
 use Rattle.cp_refine.specs.Named.{named, named_gates}
+use Rattle.cp_walk.specs.Groups.{Tally}
+use Rattle.cp_walk.specs.Report.{same_outcome}
+use Rattle.cp_merged.specs.Tallies.{tally}
 
--- the table of the meaning of whatever program was read, is accepted, and has these tables
+-- it holds of whatever program was read, is accepted, and has these tables
+abbrev pub OfPrograms : Tables → (Tree → Type 0) → Type 0
+OfPrograms r P = (t : Tree) → ∥ IsRead t.program ∥₁ → IsAccepted t → plain r ≡ laid t → P t
+
+-- the rows are the table of its meaning
 abbrev pub AreMeant : Tables → Gates → (choices steps : ℕ) → List Line → Type 0
-AreMeant r gates choices steps lines = (t : Tree) → ∥ IsRead t.program ∥₁ → IsAccepted t → plain r ≡ laid t → lines ≡ table (named t (named_gates gates)) choices steps
+AreMeant r gates choices steps lines = OfPrograms r (λ t. lines ≡ table (named t (named_gates gates)) choices steps)
+
+-- the tallies are those of this table
+abbrev pub AreTallied : Tables → Gates → (choices steps : ℕ) → List Tally → Type 0
+AreTallied r gates choices steps tallies = OfPrograms r (λ t. tallies ≡ tally same_outcome (table (named t (named_gates gates)) choices steps))
+
+-- in every state that a run of the meaning passes through, at most one process is inside each monitor
+abbrev pub AreExclusive : Tables → Gates → (choices steps : ℕ) → Type 0
+AreExclusive r gates choices steps = OfPrograms r (λ t. RunsExclude (named t (named_gates gates)) choices steps)

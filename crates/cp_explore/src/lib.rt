@@ -1,14 +1,17 @@
 //! The exploration of all schedules: tables and reports, in the terms of the program's own names.
 #![tactic(auto)]
 
+pub mod merged;
 pub mod one_thread;
 pub mod threads;
 
 pub use cp_lawful::{law_exclusive, law_ownership};
+pub use cp_merged::{MergeFault, Tallies, merged_report};
 pub use cp_run::law_prefix_free;
 pub use cp_walk::{
     Cutting, ExploreFault, Gate, GatherFault, Job, MOST_MEMBERS, NoGate, Piece, Report, Row, Rows,
     SplitFault, Table, Text, beginnings, gather, report, trace_report,
 };
+pub use merged::explore_merged;
 pub use one_thread::explore_one;
 pub use threads::explore;

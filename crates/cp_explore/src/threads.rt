@@ -4,7 +4,7 @@ ghost use Rattle.std.specs.Prelude.{◌≡◌, ◌<◌, ◌≤◌, length, map, 
 ghost use Rattle.cp_run.specs.Slots.{slots};
 ghost use Rattle.cp_run.specs.Table.{table};
 ghost use Rattle.cp_walk.specs.Rows.{line_of};
-ghost use Rattle.cp_explore.specs.Meant.{AreMeant};
+ghost use Rattle.cp_explore.specs.Meant.{AreExclusive, AreMeant};
 
 use cp_walk::{Cutting, ExploreFault, Gate, Table, walk_on_threads};
 use std::alloc::Global;
@@ -21,6 +21,7 @@ pub fn explore<X: Threads + Sync, G: Gate + Sync>(
     requires workers { (0 < workers) × (workers ≤ 16) }
     ensures table { IfOk result (λ t. map line_of t.rows ≡ table (slots cutting.now.job.program.now cutting.now.job.limits.gates) cutting.now.job.limits.choices cutting.now.job.limits.steps) }
     ensures meaning { IfOk result (λ t. AreMeant cutting.now.job.program.now cutting.now.job.limits.gates cutting.now.job.limits.choices cutting.now.job.limits.steps (map line_of t.rows)) }
+    ensures exclusive { AreExclusive cutting.now.job.program.now cutting.now.job.limits.gates cutting.now.job.limits.choices cutting.now.job.limits.steps }
     ensures few { IfOk result (λ t. length t.rows ≤ 50000) }
     ensures many { result ≡ Err ExploreFault.TooManyRows → 50000 < length (table (slots cutting.now.job.program.now cutting.now.job.limits.gates) cutting.now.job.limits.choices cutting.now.job.limits.steps) }
 {

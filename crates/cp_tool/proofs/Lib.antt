@@ -4,3 +4,4 @@ mod Matched
 mod WordLemmas
 pub mod Meaning
 pub mod Merging
+pub mod Parsing

@@ -8,7 +8,8 @@ use Rattle.cp_run.specs.declared.limits.Limits.{Limits}
 use Rattle.cp_walk.specs.Report.{report_text}
 use Rattle.cp_merged.specs.TooMany.{FitsBefore, IsDueFault}
 use Rattle.cp_merged.specs.declared.fault.MergeFault.TheVariants as fault
-use Rattle.cp_tool.specs.Answered.{IsMerged, machine, machine_rows}
+use Rattle.cp_tool.specs.Merged.{IsMerged}
+use Rattle.cp_tool.specs.OnSlots.{machine, machine_rows}
 use Rattle.cp_tool.specs.declared.options.Options.{Options}
 use Rattle.cp_tool.specs.declared.answering.Verdict.{Verdict}
 use Rattle.cp_tool.specs.declared.answering.Verdict.TheVariants.{Reported, TooManyStates, TooManyOutcomes}

@@ -1,35 +1,31 @@
 -- What is answered to a source: a verdict and a text. Refused memory is no answer.
-use Rattle.std.specs.Prelude.{◌≡◌, ℕ, ◌<◌, ◌≤◌, ◌⊎◌, ◌+◌, ◌++◌, false, take, List, [], length, min, Result, Ok, Err, Option, Some, None, MatchOption, codes}
+use Rattle.std.specs.Prelude.{◌≡◌, ◌≢◌, ℕ, ◌<◌, ◌≤◌, ◌⊎◌, ◌++◌, take, List, [], length, min, Result, Ok, Err, Option, Some, None, MatchOption, codes}
 use Rattle.std.specs.Bool.{MatchBool}
 use Rattle.std.specs.Io.KnownBytes.{Appends}
 use Rattle.cp_text.specs.Kinds.{kinds}
-use Rattle.cp_text.specs.Lines.{line_of}
+use Rattle.cp_text.specs.Lines as texts
 use Rattle.cp_text.specs.Reading.{Reading}
 use Rattle.cp_text.specs.declared.fault.ScanFault.{ScanFault}
 use Rattle.cp_text.specs.declared.token.Token.{Token}
-use Rattle.cp_tree.specs.Answer.{Answers}
-use Rattle.cp_tree.specs.Syntax as syntax
-use Rattle.cp_tree.specs.TreeView.{tree_view}
+use Rattle.cp_tree.specs.Answer.{answer}
+use Rattle.cp_tree.specs.Spelling.{spell}
+use Rattle.cp_tree.specs.SpellingLevel.{IsProper}
+use Rattle.cp_tree.specs.Syntax.{Program, Tree}
 use Rattle.cp_tree.specs.declared.fault.ParseFault.{ParseFault}
-use Rattle.cp_tree.specs.declared.tree.Tree as tree
 use Rattle.cp_scope.specs.declared.fault.CheckFault.{CheckFault}
 use Rattle.cp_scope.specs.Judged.{RefusesList}
 use Rattle.cp_check.specs.Faults.{faults_of}
-use Rattle.cp_slots.specs.Tables.{Tables}
-use Rattle.cp_resolved.specs.Resolving.{IsProgramOf}
 use Rattle.cp_resolved.specs.Enumerations.{constant_names}
-use Rattle.cp_machine.specs.System.{Machine}
-use Rattle.cp_run.specs.Slots.{slots}
 use Rattle.cp_run.specs.System.{System}
 use Rattle.cp_run.specs.Run.{run}
 use Rattle.cp_run.specs.Table.{Line, table}
 use Rattle.cp_run.specs.Trace.{trace}
+use Rattle.cp_refine.specs.Excluding.{RunsExclude}
 use Rattle.cp_refine.specs.Named.{named, named_gates}
 use Rattle.cp_walk.specs.Text.{Spellings}
 use Rattle.cp_walk.specs.Report.{report_text}
 use Rattle.cp_walk.specs.TraceText.{trace_text}
-use Rattle.cp_merged.specs.TooMany.{FitsBefore, IsDueFault}
-use Rattle.cp_merged.specs.declared.fault.MergeFault.TheVariants as fault
+use Rattle.cp_tool.specs.Merged.{IsMergedOf}
 use Rattle.cp_tool.specs.Refusals.{refusal, scan_reason, parse_reason, check_reason}
 use Rattle.cp_tool.specs.declared.options.Options.{Options}
 use Rattle.cp_tool.specs.declared.answering.Verdict.{Verdict}
@@ -40,7 +36,7 @@ use Rattle.cp_tool.specs.declared.answering.Ending.TheVariants.{Told, OutOfMemor
 -- refused with the line of the token of this number, if there is a reason
 abbrev pub IsRefusedAt : List Token → Option (ℕ × List ℕ) → Verdict → List ℕ → Type 0
 IsRefusedAt tokens None verdict text = ⊥
-IsRefusedAt tokens (Some r) verdict text = (verdict ≡ Refused) × (text ≡ refusal (line_of tokens (min r.0 (length tokens))) r.1)
+IsRefusedAt tokens (Some r) verdict text = (verdict ≡ Refused) × (text ≡ refusal (texts.line_of tokens (min r.0 (length tokens))) r.1)
 
 abbrev pub IsRefusedIn : ℕ → Option (List ℕ) → Verdict → List ℕ → Type 0
 IsRefusedIn line None verdict text = ⊥
@@ -51,47 +47,40 @@ abbrev pub IsReported : Options → Spellings → List Line → Verdict → List
 IsReported o names rows verdict text =
     ((verdict ≡ Reported) × (length rows ≤ 50000) × (text ≡ report_text names rows o.rows)) ⊎ ((verdict ≡ TooManyRows) × (50000 < length rows) × (text ≡ codes "too many rows\n"))
 
--- the report of any number of rows, or what of the machine is too many first
-abbrev pub IsMerged : Options → System Machine → Spellings → List Line → Verdict → List ℕ → Type 0
-IsMerged o machine names rows verdict text =
-    ((verdict ≡ Reported) × FitsBefore machine o.choices o.steps o.states (o.choices + 1) × (text ≡ report_text names rows false))
-    ⊎ (((verdict ≡ TooManyStates) × IsDueFault machine o.choices o.steps o.states fault.TooManyStates × (text ≡ codes "too many states\n"))
-    ⊎ ((verdict ≡ TooManyOutcomes) × IsDueFault machine o.choices o.steps o.states fault.TooManyOutcomes × (text ≡ codes "too many outcomes\n")))
-
 -- the trace of this schedule
 abbrev pub IsTraced : {S : Type 0} → Options → System S → Spellings → List ℕ → Verdict → List ℕ → Type 0
 IsTraced o sys names word verdict text = (verdict ≡ Reported) × (text ≡ trace_text names (trace sys o.choices o.steps word) (run sys o.choices o.steps word) word)
 
--- One schedule of a system is traced, or all are reported. Where equal states are merged, it is those of the machine that are counted.
-abbrev pub IsExplored : {S : Type 0} → Options → System Machine → System S → Spellings → Verdict → List ℕ → Type 0
-IsExplored o machine sys names verdict text =
-    let rows = table sys o.choices o.steps in
-    MatchOption o.schedule (MatchBool o.merge (IsMerged o machine names rows verdict text) (IsReported o names rows verdict text)) (λ word. IsTraced o sys names word.items verdict text)
+-- What is explored of a program, which is its meaning on its own names: one schedule is traced, or all are reported.
+abbrev pub IsExplored : Options → Tree → Verdict → List ℕ → Type 0
+IsExplored o t verdict text =
+    let meaning = named t (named_gates o.gates) in
+    let names = constant_names t.program in
+    let rows = table meaning o.choices o.steps in
+    MatchOption o.schedule (MatchBool o.merge (IsMergedOf o t names rows verdict text) (IsReported o names rows verdict text)) (λ word. IsTraced o meaning names word.items verdict text)
 
--- the slot machine of tables, by the rule of admission that the options name, and its rows
-abbrev pub machine : Options → Tables → System Machine
-machine o r = slots r o.gates
-
-abbrev pub machine_rows : Options → Tables → List Line
-machine_rows o r = table (machine o r) o.choices o.steps
-
--- what is explored of a program: its meaning on its own names, for which a slot machine of its tables stands
-abbrev pub IsExploredOf : Options → syntax.Tree → Verdict → List ℕ → Type 0
-IsExploredOf o t verdict text = (program : Tables) × IsProgramOf t program × IsExplored o (machine o program) (named t (named_gates o.gates)) (constant_names t.program) verdict text
-
--- A tree is refused for the first rule that it breaks, or the outcomes of its schedules are reported.
-abbrev pub AnswersTree : Options → List Token → tree.Tree → Verdict → List ℕ → Type 0
+-- A tree is refused for the first rule that it breaks, or its program is explored, of which no run lets two processes into one monitor.
+abbrev pub AnswersTree : Options → List Token → Tree → Verdict → List ℕ → Type 0
 AnswersTree o tokens t verdict text =
-    ((faults_of (tree_view t) ≡ []) × IsExploredOf o (tree_view t) verdict text)
-    ⊎ ((fault : CheckFault) × RefusesList fault (faults_of (tree_view t)) × IsRefusedAt tokens (check_reason fault) verdict text)
+    ((faults_of t ≡ []) × IsExplored o t verdict text × RunsExclude (named t (named_gates o.gates)) o.choices o.steps)
+    ⊎ ((fault : CheckFault) × RefusesList fault (faults_of t) × IsRefusedAt tokens (check_reason fault) verdict text)
 
-abbrev pub AnswersParsed : Options → List Token → Result tree.Tree ParseFault → Verdict → List ℕ → Type 0
-AnswersParsed o tokens (Ok t) verdict text = AnswersTree o tokens t verdict text
-AnswersParsed o tokens (Err fault) verdict text = IsRefusedAt tokens (parse_reason fault) verdict text
+-- the tree of these tokens: a proper one that spells them, with their lines
+pub record IsTreeOf (tokens : List Token) (t : Tree) : Type 0 where
+  pub proper : IsProper t.program
+  pub spelled : kinds tokens ≡ spell t.program
+  pub lines : t.lines ≡ texts.lines tokens
 
--- Tokens are refused as no program, or their tree is answered.
+-- No proper tree spells these tokens. The fault is that of reading them from left to right.
+pub record HaveNoTree (tokens : List Token) (fault : ParseFault) : Type 0 where
+  pub none : (p : Program) → IsProper p → kinds tokens ≢ spell p
+  pub read : answer (kinds tokens) ≡ Err fault
+
+-- The tree of the tokens is answered, or they are refused as no program.
 abbrev pub AnswersTokens : Options → List Token → Verdict → List ℕ → Type 0
-AnswersTokens o tokens verdict text = (read : Result tree.Tree ParseFault) × Answers (kinds tokens) read × AnswersParsed o tokens read verdict text
+AnswersTokens o tokens verdict text =
+    ((t : Tree) × IsTreeOf tokens t × AnswersTree o tokens t verdict text)
+    ⊎ ((fault : ParseFault) × HaveNoTree tokens fault × IsRefusedAt tokens (parse_reason fault) verdict text)
 
 abbrev pub AnswersScanned : Options → Result (List Token) ScanFault → Verdict → List ℕ → Type 0
 AnswersScanned o (Ok tokens) verdict text = AnswersTokens o tokens verdict text

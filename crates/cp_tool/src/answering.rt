@@ -3,7 +3,10 @@ ghost use Rattle.std.specs.Prelude.{◌≡◌, ◌+◌, ◌<◌, ◌≤◌, fals
 ghost use Rattle.cp_run.specs.Slots.{slots};
 ghost use Rattle.cp_run.specs.Table.{table};
 ghost use Rattle.cp_walk.specs.Rows.{line_of, IsTooMany};
+ghost use Rattle.cp_tree.specs.TreeView.{tree_view};
 ghost use Rattle.cp_tool.specs.Answered as spec;
+ghost use Rattle.cp_tool.specs.Merged as merging;
+ghost use Rattle.cp_tool.specs.OnSlots as on_slots;
 ghost use Rattle.cp_tool.specs.declared.answering.Ending.{Ending};
 
 use crate::dealing::deal;
@@ -12,9 +15,11 @@ use crate::refusal::{check_reason, parse_reason, refusal, scan_reason};
 use crate::stream::{Sink, Source};
 use crate::transfer::{MOST_BYTES, ReadFault, read_source, write_text};
 use cp_check::check;
-use cp_explore::{Cutting, ExploreFault, Job, NoGate, Table, Text, explore, report, trace_report};
+use cp_explore::{
+    Cutting, ExploreFault, Job, MergeFault, NoGate, Table, Text, explore, explore_merged,
+    merged_report, report, trace_report,
+};
 use cp_machine::Ticks;
-use cp_merged::{MergeFault, explore_merged, merged_report};
 use cp_resolved::resolve;
 use cp_run::{Limits, trace};
 use cp_slots::Resolved;
@@ -145,6 +150,7 @@ fn answered<X: Threads + Sync>(
 }
 
 /// What is answered to the tokens of a source.
+#[tactic(auto, using(crate::proofs::Parsing::without_tree))]
 fn parsed<X: Threads + Sync>(
     rt: &X,
     alloc: Global,
@@ -167,7 +173,7 @@ fn checked<X: Threads + Sync>(
     tokens: &Tokens,
     tree: Tree,
 ) -> Result<Answer, AllocError>
-    ensures { IfOk result (λ a. spec.AnswersTree options.now tokens.now tree a.verdict a.text) }
+    ensures { IfOk result (λ a. spec.AnswersTree options.now tokens.now (tree_view tree) a.verdict a.text) }
 {
     match check(alloc, tree) {
         Ok(checked) => explored(rt, alloc, options, &resolve(alloc, &checked)?),
@@ -212,7 +218,7 @@ fn explored<X: Threads + Sync>(
     options: &Options,
     program: &Resolved,
 ) -> Result<Answer, AllocError>
-    ensures { IfOk result (λ a. spec.IsExplored options.now (spec.machine options.now program.now) (spec.machine options.now program.now) program.now.names a.verdict a.text) }
+    ensures { IfOk result (λ a. on_slots.IsExploredOn options.now program.now a.verdict a.text) }
 {
     match &options.schedule {
         Some(word) => traced::<Brand>(alloc, options, program, word.as_slice(), Blank::new(1)),
@@ -237,7 +243,7 @@ fn traced<L: Ledger>(
     requires parts { blank.parts ≡ L.parts }
     requires one { L.parts ≡ 1 }
     requires word { length word.now ≤ 100 }
-    ensures { IfOk result (λ a. spec.IsTraced options.now (spec.machine options.now program.now) program.now.names word.now a.verdict a.text) }
+    ensures { IfOk result (λ a. spec.IsTraced options.now (on_slots.machine options.now program.now) program.now.names word.now a.verdict a.text) }
 {
     let Some(limits) = Limits::new(options.choices, options.steps, options.gates) else {
         unreachable!()
@@ -253,7 +259,7 @@ fn traced<L: Ledger>(
 
 /// The report of a program's table by its outcomes alone, or what there are too many of.
 fn merged(alloc: Global, options: &Options, program: &Resolved) -> Result<Answer, AllocError>
-    ensures { IfOk result (λ a. spec.IsMerged options.now (spec.machine options.now program.now) program.now.names (spec.machine_rows options.now program.now) a.verdict a.text) }
+    ensures { IfOk result (λ a. merging.IsMerged options.now (on_slots.machine options.now program.now) program.now.names (on_slots.machine_rows options.now program.now) a.verdict a.text) }
 {
     let Some(limits) = Limits::new(options.choices, options.steps, options.gates) else {
         unreachable!()
@@ -283,7 +289,7 @@ fn counted<X: Threads + Sync>(
     program: &Resolved,
 ) -> Result<Answer, AllocError>
     requires { options.now.merge ≡ false }
-    ensures { IfOk result (λ a. spec.IsReported options.now program.now.names (spec.machine_rows options.now program.now) a.verdict a.text) }
+    ensures { IfOk result (λ a. spec.IsReported options.now program.now.names (on_slots.machine_rows options.now program.now) a.verdict a.text) }
 {
     let Some(limits) = Limits::new(options.choices, options.steps, options.gates) else {
         unreachable!()
