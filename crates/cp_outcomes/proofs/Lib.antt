@@ -1,3 +1,4 @@
 pub mod Counting
+pub mod Meant
 pub mod Sums
 pub mod Tenths

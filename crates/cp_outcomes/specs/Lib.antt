@@ -1,4 +1,5 @@
 pub mod Findings
+pub mod Meant
 pub mod Shares
 pub mod Stops
 pub mod Ways

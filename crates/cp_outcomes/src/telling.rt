@@ -3,6 +3,7 @@
 ghost use Rattle.std.specs.Prelude.{◌≡◌, ◌≤◌, IfOk};
 ghost use Rattle.cp_run.specs.Slots.{slots};
 ghost use Rattle.cp_outcomes.specs.Findings.{IsFoundOf};
+ghost use Rattle.cp_outcomes.specs.Meant.{IsMeantFinding};
 ghost use Rattle.cp_outcomes.specs.Ways.{IsWithin};
 
 use crate::counted::tallies_of;
@@ -65,7 +66,8 @@ fn written<L: Ledger>(
 // The outcomes, or what there is too much of.
 fn found(alloc: Global, subject: Subject<'_>) -> Result<Finding, AllocError>
     requires { IsWithin subject.way subject.limits.choices }
-    ensures { IfOk result (λ f. IsFoundOf (slots subject.entry.program.now subject.entry.limits.gates) subject.entry.limits.choices subject.entry.limits.steps f) }
+    ensures found { IfOk result (λ f. IsFoundOf (slots subject.entry.program.now subject.entry.limits.gates) subject.entry.limits.choices subject.entry.limits.steps f) }
+    ensures meaning { IfOk result (λ f. IsMeantFinding subject.entry.program.now subject.entry.limits.gates subject.entry.limits.choices subject.entry.limits.steps f) }
 {
     let job = Job {
         program: subject.program,

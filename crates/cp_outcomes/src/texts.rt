@@ -178,7 +178,7 @@ fn push_last(subject: Subject<'_>, text: &mut String, tallies: &[Tally]) -> Resu
         }
     }
     if is_complete {
-        text.push_str("\ncomplete: the same for every greater number of choices")?;
+        text.push_str("\ncomplete: the same for every greater number of choices and of steps")?;
     }
     text.push('\n')
 }

@@ -8,6 +8,7 @@ ghost use Rattle.cp_merged.specs.Code.{tally_of};
 ghost use Rattle.cp_merged.specs.Tallies.{tally};
 ghost use Rattle.cp_verdict.specs.Judged.{line_of};
 ghost use Rattle.cp_verdict.specs.Marked as spec;
+ghost use Rattle.cp_verdict.specs.Meant.{IsMeantMark};
 
 use crate::expectation::Expectation;
 use crate::marking::{Verdict, mark};
@@ -156,7 +157,8 @@ pub fn mark_program(
     most: Most,
     expectations: &[Expectation],
 ) -> Result<Marked, MarkFault>
-    ensures { IfOk result (λ m. spec.IsMarkOf job.entry.program.now.names expectations.entry.now (table (slots job.entry.program.now job.entry.limits.gates) job.entry.limits.choices job.entry.limits.steps) m.mark) }
+    ensures mark { IfOk result (λ m. spec.IsMarkOf job.entry.program.now.names expectations.entry.now (table (slots job.entry.program.now job.entry.limits.gates) job.entry.limits.choices job.entry.limits.steps) m.mark) }
+    ensures meaning { IfOk result (λ m. IsMeantMark job.entry.program.now job.entry.limits.gates job.entry.limits.choices job.entry.limits.steps expectations.entry.now m.mark) }
 {
     let tallies = explored(alloc, job, most)?;
     let marked = marked_by(alloc, job.program, expectations, tallies.as_slice())?;

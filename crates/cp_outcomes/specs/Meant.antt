@@ -1,0 +1,28 @@
+-- What is found, in the terms of the program's own names.
+use Rattle.std.specs.Prelude.{◌≡◌, ◌<◌, ℕ, List, length, map, Contains}
+use Rattle.cp_tree.specs.Read.{IsRead}
+use Rattle.cp_tree.specs.Syntax.{Tree}
+use Rattle.cp_layout.specs.Laid.{plain, laid}
+use Rattle.cp_slots.specs.Tables.{Tables}
+use Rattle.cp_lawful.specs.Accepted.{IsAccepted}
+use Rattle.cp_machine.specs.declared.gates.Gates.{Gates}
+use Rattle.cp_run.specs.Table.{Line, table}
+use Rattle.cp_walk.specs.Report.{same_outcome}
+use Rattle.cp_merged.specs.Code.{tally_of}
+use Rattle.cp_merged.specs.Tallies.{tally}
+use Rattle.cp_merged.specs.TooMany.{MoreThan}
+use Rattle.cp_refine.specs.Named.{named, named_gates}
+use Rattle.cp_outcomes.specs.declared.subject.Excess.TheVariants.{Rows, States, Outcomes}
+use Rattle.cp_outcomes.specs.declared.telling.Finding.{Finding}
+use Rattle.cp_outcomes.specs.declared.telling.Finding.TheVariants.{Whole, TooMany}
+
+-- what is found of these rows; how many states lead to them is said of the slot machine alone
+abbrev pub IsFoundIn : List Line → Finding → Type 0
+IsFoundIn lines (Whole tallies) = map tally_of tallies ≡ tally same_outcome lines
+IsFoundIn lines (TooMany (Rows fit)) = 50000 < length lines
+IsFoundIn lines (TooMany (States most)) = Unit {0}
+IsFoundIn lines (TooMany Outcomes) = MoreThan 50000 (λ o. (l : Line) × Contains lines l × (l.outcome ≡ o))
+
+-- of whatever program was read, is accepted, and has these tables: it is found in the table of its meaning
+abbrev pub IsMeantFinding : Tables → Gates → (choices steps : ℕ) → Finding → Type 0
+IsMeantFinding r gates choices steps f = (t : Tree) → ∥ IsRead t.program ∥₁ → IsAccepted t → plain r ≡ laid t → IsFoundIn (table (named t (named_gates gates)) choices steps) f
