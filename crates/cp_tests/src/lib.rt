@@ -1,19 +1,14 @@
-//! The tests of all crates: what no clause says, which is printed texts, readers and writers that give little or fail, threads that run, and
-//! the worked rows. They stand in a crate of their own, since a crate with tests is proved once more together with them.
+//! The tests of the crates below the program: what no clause says, which is threads that run, printed texts, and worked values. They stand in a
+//! crate of their own, since a crate with tests is proved once more together with them.
 #![tactic(auto)]
 
+pub mod answers;
 #[cfg(test)]
 mod boards;
 #[cfg(test)]
 mod checks;
 #[cfg(test)]
 mod cuttings;
-#[cfg(test)]
-mod expectations;
-#[cfg(test)]
-mod fakes;
-#[cfg(test)]
-mod merged;
 #[cfg(test)]
 mod naturals;
 #[cfg(test)]
@@ -25,8 +20,6 @@ mod readings;
 #[cfg(test)]
 mod refusals;
 #[cfg(test)]
-mod rows;
-#[cfg(test)]
 mod runs;
 #[cfg(test)]
 mod scans;
@@ -35,12 +28,8 @@ mod schedules;
 #[cfg(test)]
 mod steps;
 #[cfg(test)]
-mod streams;
-#[cfg(test)]
 mod traces;
 #[cfg(test)]
 mod values;
-#[cfg(test)]
-mod words;
 #[cfg(test)]
 mod workers;

@@ -3,6 +3,7 @@
 
 ghost use Rattle.std.specs.Prelude.{◌≡◌, ◌≤◌};
 
+use crate::answers::{Answer, are_right, refused, unrefused};
 use crate::cuttings::{MEMBERS, are_members, are_same, cut_pieces};
 use crate::programs::{BUFFER, TWO_DISPLAYS, has_ended, limits_of};
 use crate::steps::{LAST_STEPS, stepped};
@@ -25,50 +26,6 @@ use std::marker::Brand;
 use std::sync::ledger::{Blank, Ledger};
 use std::test::Fail;
 use std::thread::Threads;
-
-/// How an answer compares with that of ample memory.
-#[derive(Clone, Copy)]
-pub enum Answer {
-    Ample,
-    Memory,
-    Other,
-}
-
-/// The answer of a call that was not refused memory.
-pub fn unrefused(is_wanted: bool) -> Answer {
-    if is_wanted {
-        Answer::Ample
-    } else {
-        Answer::Other
-    }
-}
-
-/// The answer of a call that was refused memory.
-fn refused(stands: bool) -> Answer {
-    if stands {
-        Answer::Memory
-    } else {
-        Answer::Other
-    }
-}
-
-/// Whether one answer at most is Memory, and each other one that of ample memory.
-pub fn are_right(answers: &[Answer]) -> bool {
-    let mut is_refused = false;
-    for answer in answers {
-        match *answer {
-            Answer::Ample => {}
-            Answer::Memory => {
-                if is_refused {
-                    return false;
-                }
-                is_refused = true;
-            }
-            Answer::Other => return false,
-        }
-    }
-    true
-}
 
 fn tree_of(alloc: Global, source: &str) -> Option<Tree> {
     let tokens = scan(alloc, source.as_bytes()).ok()?;

@@ -1,5 +1,5 @@
-use crate::refusals::{Answer, are_right, unrefused};
 use cp_machine::Gates;
+use cp_tests::answers::{Answer, are_right, unrefused};
 use cp_tool::{OptionFault, Options, read_options};
 use std::alloc::Global;
 use std::test::Fail;

@@ -1,9 +1,11 @@
 //! The worked rows.
 use crate::fakes::Refusal;
-use crate::programs::TWO_DISPLAYS;
 use crate::streams::{NEVER, Refusals, answer_to, answer_to_endless};
 use cp_tool::read_options;
 use std::test::Fail;
+
+const TWO_DISPLAYS: &str =
+    "type p = process(n: integer); begin display(n) end; var a, b: p; begin init a(1), b(2) end.";
 
 /// A source, the words of the call, and what is written, with which status.
 pub struct Row {
@@ -18,28 +20,28 @@ static ROWS: [Row; 16] = [
     Row {
         name: "two-displays",
         words: &["cpx", "--choices", "5"],
-        source: "type p = process(n: integer); begin display(n) end; var a, b: p; begin init a(1), b(2) end.",
+        source: TWO_DISPLAYS,
         code: 0,
         text: "schedules 45\noutcomes 2\n30 first 0.0.1.1 finished output 1 2\n15 first 0.0.2.1.1 finished output 2 1\n",
     },
     Row {
         name: "two-displays-default",
         words: &["cpx"],
-        source: "type p = process(n: integer); begin display(n) end; var a, b: p; begin init a(1), b(2) end.",
+        source: TWO_DISPLAYS,
         code: 0,
         text: "schedules 45\noutcomes 2\n30 first 0.0.1.1 finished output 1 2\n15 first 0.0.2.1.1 finished output 2 1\n",
     },
     Row {
         name: "two-displays-no-choice",
         words: &["cpx", "--choices", "0"],
-        source: "type p = process(n: integer); begin display(n) end; var a, b: p; begin init a(1), b(2) end.",
+        source: TWO_DISPLAYS,
         code: 0,
         text: "schedules 1\noutcomes 1\n1 first - choice-limit output -\n",
     },
     Row {
         name: "two-displays-rows",
         words: &["cpx", "--choices", "1", "--rows"],
-        source: "type p = process(n: integer); begin display(n) end; var a, b: p; begin init a(1), b(2) end.",
+        source: TWO_DISPLAYS,
         code: 0,
         text: "row 0 choice-limit output -\nrow 1 choice-limit output 1\nschedules 2\noutcomes 2\n1 first 0 choice-limit output -\n1 first 1 choice-limit output 1\n",
     },
@@ -123,7 +125,7 @@ static ROWS: [Row; 16] = [
     Row {
         name: "gates-any-two-displays",
         words: &["cpx", "--choices", "5", "--gates", "any"],
-        source: "type p = process(n: integer); begin display(n) end; var a, b: p; begin init a(1), b(2) end.",
+        source: TWO_DISPLAYS,
         code: 0,
         text: "schedules 45\noutcomes 2\n30 first 0.0.1.1 finished output 1 2\n15 first 0.0.2.1.1 finished output 2 1\n",
     },

@@ -1,4 +1,4 @@
-use Rattle.cp_tests.proofs.streams.answer_by.Given as goal
+use Rattle.cp_tool_tests.proofs.streams.answer_to_endless.Given as goal
 
 abbrev pub ghosts-told_by-A-Ledger : goal.ghosts-told_by-A-Ledger
 ghosts-told_by-A-Ledger g a = record { name = a.reads.name; parts = a.reads.parts }
