@@ -150,7 +150,6 @@ fn answered<X: Threads + Sync>(
 }
 
 /// What is answered to the tokens of a source.
-#[tactic(auto, using(crate::proofs::Parsing::without_tree))]
 fn parsed<X: Threads + Sync>(
     rt: &X,
     alloc: Global,
