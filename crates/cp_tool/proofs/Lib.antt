@@ -1,5 +1,6 @@
 pub mod Telling
 pub mod Using
+mod Together
 mod Matched
 mod WordLemmas
 pub mod Meaning

@@ -1,5 +1,5 @@
 -- What the options have of the words, and which fault the words have.
-use Rattle.std.specs.Prelude.{◌≡◌, ℕ, Bool, false, List, [], ◌∷◌, Some, None, codes, IsSomeAnd, MatchOption, Option, is_some, take}
+use Rattle.std.specs.Prelude.{◌≡◌, ◌&&◌, ◌||◌, ℕ, Bool, false, List, [], ◌∷◌, Some, None, codes, IsSomeAnd, MatchOption, Option, is_some, take}
 use Rattle.arrayvec.specs.ArrayVec.{ArrayVec}
 use Rattle.clap.specs.Words.{IsAmong, Row, Text, first_of}
 use Rattle.std.specs.Str.{bytes_eq}
@@ -8,7 +8,8 @@ use Rattle.cp_machine.specs.declared.gates.Gates.{Gates}
 use Rattle.cp_machine.specs.declared.gates.Gates.TheVariants.{First, Any}
 use Rattle.cp_tool.specs.Command.{faults_for, rows_for}
 use Rattle.cp_tool.specs.Numbers.{IsChosen}
-use Rattle.cp_tool.specs.Words.{IsWord, most_choices, spelled}
+use Rattle.cp_tool.specs.Words.{IsWord, default_choices, most_choices, spelled}
+use Rattle.cp_tool.specs.declared.command_line.Kind.{Kind}
 use Rattle.cp_tool.specs.declared.options.Options.{Options}
 use Rattle.cp_tool.specs.declared.options.OptionFault.{OptionFault}
 use Rattle.cp_tool.specs.declared.options.OptionFault.TheVariants.{Refused, Memory, Help}
@@ -30,10 +31,25 @@ abbrev pub is_asked : Option Text → Bool
 is_asked None = false
 is_asked (Some text) = bytes_eq text (codes "true")
 
--- each option has the value that the matches have for it; where states are merged there are no rows
+-- whether schedules are to be counted together, and whether their ends are asked for in any length
+abbrev pub asks_merge : List Row → Bool
+asks_merge rows = is_asked (first_of (codes "merge") rows)
+
+abbrev pub asks_ends : List Row → Bool
+asks_ends rows = is_asked (first_of (codes "ends") rows)
+
+-- so it is told: whether schedules are taken together, whether in any length, and whether both are asked for
+pub record IsKind (rows : List Row) (k : Kind) : Type 0 where
+  pub merge : k.merge ≡ (asks_merge rows || asks_ends rows)
+  pub ends : k.ends ≡ asks_ends rows
+  pub both : k.both ≡ (asks_merge rows && asks_ends rows)
+
+-- each option has the value that the matches have for it; where schedules are taken together there are no rows, and they are so in one way
 pub record HasOptions (rows : List Row) (o : Options) : Type 0 where
-  pub merge : o.merge ≡ is_asked (first_of (codes "merge") rows)
-  pub choices : IsChosen 8 0 (most_choices o.merge) (first_of (codes "choices") rows) o.choices
+  pub merge : o.merge ≡ (asks_merge rows || asks_ends rows)
+  pub ends : o.ends ≡ asks_ends rows
+  pub one : (asks_merge rows && asks_ends rows) ≡ false
+  pub choices : IsChosen (default_choices o.ends) 0 (most_choices o.merge) (first_of (codes "choices") rows) o.choices
   pub steps : IsChosen 1000 1 100000 (first_of (codes "steps") rows) o.steps
   pub workers : IsChosen 2 1 16 (first_of (codes "workers") rows) o.workers
   pub cut : IsChosen 2 0 20 (first_of (codes "cut") rows) o.cut

@@ -5,6 +5,10 @@ use Rattle.std.specs.Prelude.{ℕ, Bool, if◌then◌else◌, ◌≤◌, List, [
 abbrev pub most_choices : Bool → ℕ
 most_choices merge = if merge then 100 else 20
 
+-- the choices of a schedule, where the words say none: with ends and without
+abbrev pub default_choices : Bool → ℕ
+default_choices ends = if ends then 100 else 8
+
 -- at most so many numbers of at most 15
 abbrev pub IsWord : ℕ → List ℕ → Type 0
 IsWord most w = (length w ≤ most) × All (λ n. n ≤ 15) w

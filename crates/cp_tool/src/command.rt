@@ -14,7 +14,7 @@ const USAGE: &str = "cpx [OPTIONS] < PROGRAM";
 const NOTES: &str =
     "Example: cpx --choices 5 < program.cp\n\nStatus: 0 reported, 1 source refused, 2 options refused, 3 no memory, 4 read or write fault,\n5 too many rows, states or outcomes";
 
-/// Nine options, each with a long name alone; `clap` adds `--help` and `-h`.
+/// Ten options, each with a long name alone; `clap` adds `--help` and `-h`.
 pub fn command<'a>(alloc: Global) -> Result<Command<'a>, AllocError>
     ensures { IfOk result (λ c. app_of c ≡ cpx) }
 {
@@ -52,11 +52,16 @@ pub fn command<'a>(alloc: Global) -> Result<Command<'a>, AllocError>
         "merge",
         "Count schedules that come to one state together, without rows",
     ))?;
+    let command = command.arg(switch(
+        alloc,
+        "ends",
+        "Which ends are possible, in schedules of any length",
+    ))?;
     let command = command.arg(option(
         alloc,
         "states",
         "N",
-        "States that a layer may have with --merge, 1 to 10000000 [default: 200000]",
+        "States of a layer with --merge, in all with --ends, 1 to 10000000 [default: 200000]",
     ))?;
     let command = command.arg(option(
         alloc,

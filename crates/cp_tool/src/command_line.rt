@@ -2,8 +2,8 @@
 ghost use Rattle.std.specs.Prelude.{◌≡◌, ◌≤◌, IfErr, IfOk, codes, is_some, length, map, option_map, true};
 ghost use Rattle.clap.specs.Words.{first_of, found_of, rows_of};
 ghost use Rattle.cp_tool.specs.Finds.{Finds};
-ghost use Rattle.cp_tool.specs.Options.{Gives, HasOptions, HasRefusedValue, IsScheduled, IsFaultFor, IsGated, is_asked};
-ghost use Rattle.cp_tool.specs.Words.{most_choices};
+ghost use Rattle.cp_tool.specs.Options.{Gives, HasOptions, HasRefusedValue, IsScheduled, IsFaultFor, IsGated, IsKind, is_asked};
+ghost use Rattle.cp_tool.specs.Words.{default_choices, most_choices};
 
 use crate::command::command;
 use crate::numbers::chosen;
@@ -71,32 +71,57 @@ fn has_refused_value<'a>(alloc: Global, words: &'a [&'a str]) -> Result<bool, Al
 fn options_of(alloc: Global, matches: &ArgMatches<'_>) -> Result<Option<Options>, AllocError>
     ensures { IfOk result (Finds (HasOptions (rows_of (found_of matches.now)))) }
 {
+    let kind = kind_of(matches);
+    let schedule = schedule_of(alloc, matches.get_str("schedule"), most_choices(kind.merge))?;
+    Ok(options_with(matches, kind, schedule))
+}
+
+// Whether schedules are taken together, whether in any length, and whether both words stand there.
+#[derive(Clone, Copy)]
+struct Kind {
+    merge: bool,
+    ends: bool,
+    both: bool,
+}
+
+fn kind_of(matches: &ArgMatches<'_>) -> Kind
+    ensures { IsKind (rows_of (found_of matches.now)) result }
+{
     let merge = is_asked(matches.get_str("merge"));
-    let schedule = schedule_of(alloc, matches.get_str("schedule"), most_choices(merge))?;
-    Ok(options_with(matches, merge, schedule))
+    let ends = is_asked(matches.get_str("ends"));
+    Kind {
+        merge: merge | ends,
+        ends,
+        both: merge & ends,
+    }
 }
 
 fn options_with(
     matches: &ArgMatches<'_>,
-    merge: bool,
+    kind: Kind,
     schedule: Option<Option<ArrayVec<u8, 100>>>,
 ) -> Option<Options>
-    requires merge { merge ≡ is_asked (first_of (codes "merge") (rows_of (found_of matches.now))) }
-    requires schedule { Finds (IsScheduled (most_choices merge) (first_of (codes "schedule") (rows_of (found_of matches.now)))) schedule }
+    requires kind { IsKind (rows_of (found_of matches.now)) kind }
+    requires schedule { Finds (IsScheduled (most_choices kind.merge) (first_of (codes "schedule") (rows_of (found_of matches.now)))) schedule }
     ensures { Finds (HasOptions (rows_of (found_of matches.now))) result }
 {
-    let rows = is_asked(matches.get_str("rows"));
-    if merge && rows {
+    if kind.both {
         return None;
     }
-    let most = u32::from(most_choices(merge));
+    let rows = is_asked(matches.get_str("rows"));
+    if kind.merge && rows {
+        return None;
+    }
+    let usual = default_choices(kind.ends);
+    let most = u32::from(most_choices(kind.merge));
     Some(Options {
-        choices: chosen(matches.get_str("choices"), 8, 0, most)? as u8,
+        choices: chosen(matches.get_str("choices"), usual, 0, most)? as u8,
         steps: chosen(matches.get_str("steps"), 1_000, 1, 100_000)?,
         workers: chosen(matches.get_str("workers"), 2, 1, 16)? as u8,
         cut: chosen(matches.get_str("cut"), 2, 0, 20)? as u8,
         rows,
-        merge,
+        merge: kind.merge,
+        ends: kind.ends,
         states: chosen(matches.get_str("states"), 200_000, 1, 10_000_000)?,
         schedule: schedule?,
         gates: gates_of(matches.get_str("gates"))?,
@@ -109,6 +134,13 @@ fn most_choices(merge: bool) -> u8
     ensures { result ≡ most_choices merge }
 {
     if merge { 100 } else { 20 }
+}
+
+/// How many choices a schedule has where the words do not say so.
+fn default_choices(ends: bool) -> u32
+    ensures { result ≡ default_choices ends }
+{
+    if ends { 100 } else { 8 }
 }
 
 /// Whether there is a text.

@@ -1,5 +1,5 @@
 //! The options and their ranges, and why there are none.
-ghost use Rattle.std.specs.Prelude.{◌≡◌, ◌≤◌, ◌&&◌, false};
+ghost use Rattle.std.specs.Prelude.{◌≡◌, ◌≤◌, ◌&&◌, false, true};
 ghost use Rattle.std.specs.Option.{ForSome};
 ghost use Rattle.cp_tool.specs.Words.{IsWord, most_choices};
 
@@ -22,9 +22,11 @@ pub struct Options {
     pub cut_is_given: bool,
     /// Whether the report has a line for each row.
     pub rows: bool,
-    /// Whether schedules that come to one state are counted together.
+    /// Whether schedules that come to one state are taken together.
     pub merge: bool,
-    /// The most states of a layer, where they are.
+    /// Whether they are so in any length, for the ends that are possible.
+    pub ends: bool,
+    /// The most states, of a layer or in all, where they are.
     pub states: u32,
     /// The one schedule to be traced, if any.
     pub schedule: Option<ArrayVec<u8, 100>>,
@@ -37,6 +39,7 @@ pub struct Options {
     ghost some_worker: { 1 ≤ workers },
     ghost cut_range: { cut ≤ 20 },
     ghost rows_or_merge: { (merge && rows) ≡ false },
+    ghost ends_merge: { ends ≡ true → merge ≡ true },
     ghost states_range: { states ≤ 10000000 },
     ghost some_state: { 1 ≤ states },
     ghost schedule_range: { ForSome schedule (λ w. IsWord (most_choices merge) w.items) },

@@ -46,6 +46,15 @@ static MERGED: [&str; 8] = [
     "--workers=1",
 ];
 
+/// Words that ask for the ends of schedules of any length, with numbers that only then, or with merging, are in their ranges.
+static ENDS: [&str; 5] = [
+    "cpx",
+    "--schedule",
+    "0.0.0.0.0.0.0.0.0.0.0.0.0.0.0.0.0.0.0.0.15",
+    "--ends",
+    "--steps=7",
+];
+
 static LONGEST: [&str; 3] = [
     "cpx",
     "--schedule",
@@ -53,7 +62,7 @@ static LONGEST: [&str; 3] = [
 ];
 
 /// Words that are refused.
-static REFUSED: [&[&str]; 42] = [
+static REFUSED: [&[&str]; 49] = [
     &["cpx", "--choices", "21"],
     &["cpx", "--steps", "0"],
     &["cpx", "--steps", "100001"],
@@ -99,6 +108,13 @@ static REFUSED: [&[&str]; 42] = [
     &["cpx", "--merge", "--rows", "--schedule", "none"],
     &["cpx", "--rows", "--merge", "--help"],
     &["cpx", "--merge", "--merge"],
+    &["cpx", "--ends", "--rows"],
+    &["cpx", "--merge", "--ends"],
+    &["cpx", "--ends", "--ends"],
+    &["cpx", "--ends", "--choices", "101"],
+    &["cpx", "--ends", "--states", "0"],
+    &["cpx", "--ends", "--waits"],
+    &["cpx", "--ends", "--at-once"],
     &[
         "cpx",
         "--merge",
@@ -108,7 +124,7 @@ static REFUSED: [&[&str]; 42] = [
 ];
 
 /// Words that ask for help.
-static HELP: [&[&str]; 8] = [
+static HELP: [&[&str]; 9] = [
     &["cpx", "--help"],
     &["cpx", "-h"],
     &["cpx", "--rows", "--help"],
@@ -117,6 +133,7 @@ static HELP: [&[&str]; 8] = [
     &["cpx", "-h", "--choices", "99"],
     &["cpx", "--merge", "--choices", "99", "--help"],
     &["cpx", "--merge", "--help", "--rows"],
+    &["cpx", "--ends", "--choices", "99", "--help"],
 ];
 
 fn options_of(alloc: Global, words: &[&str]) -> Result<Options, Fail> {
@@ -136,7 +153,7 @@ fn has_defaults(options: &Options) -> bool {
         && options.workers == 2
         && options.cut == 2
         && options.states == 200_000;
-    let is_plain = !options.cut_is_given && !options.rows && !options.merge;
+    let is_plain = !options.cut_is_given && !options.rows && !options.merge && !options.ends;
     has_numbers && is_plain && options.schedule.is_none() && options.gates == Gates::First
 }
 
@@ -152,13 +169,29 @@ fn has_values_of_merged(options: &Options) -> bool {
         Some(word) => word.len() == 21 && word.last() == Some(&15),
         None => false,
     };
-    options.merge && options.states == 10_000_000 && options.choices == 100 && is_word
+    let is_merged = options.merge && !options.ends;
+    is_merged && options.states == 10_000_000 && options.choices == 100 && is_word
 }
 
 #[test]
 fn merging_has_wider_ranges(rt: HostRuntime) -> Result<(), Fail> {
     let options = options_of(rt.alloc(), &MERGED)?;
     assert!(rt; has_values_of_merged(&options));
+    Ok(())
+}
+
+fn has_values_of_ends(options: &Options) -> bool {
+    let is_word = match &options.schedule {
+        Some(word) => word.len() == 21,
+        None => false,
+    };
+    options.ends && options.choices == 100 && options.steps == 7 && is_word
+}
+
+#[test]
+fn ends_have_the_choices_of_a_long_trace(rt: HostRuntime) -> Result<(), Fail> {
+    let options = options_of(rt.alloc(), &ENDS)?;
+    assert!(rt; has_values_of_ends(&options));
     Ok(())
 }
 
@@ -257,7 +290,7 @@ fn other_words_are_refused(rt: HostRuntime) -> Result<(), Fail> {
 }
 
 /// What help says.
-static HELP_PARTS: [&str; 18] = [
+static HELP_PARTS: [&str; 20] = [
     "Usage: cpx [OPTIONS] < PROGRAM",
     "--choices <K>",
     "0 to 20, with --merge to 100 [default: 8]",
@@ -270,8 +303,10 @@ static HELP_PARTS: [&str; 18] = [
     "--rows",
     "--merge",
     "Count schedules that come to one state together, without rows",
+    "--ends",
+    "Which ends are possible, in schedules of any length",
     "--states <N>",
-    "States that a layer may have with --merge, 1 to 10000000",
+    "States of a layer with --merge, in all with --ends, 1 to 10000000",
     "--schedule <WORD>",
     "--gates <WHO>",
     "[default: first]",

@@ -3,6 +3,7 @@
 
 ghost use Rattle.std.specs.Prelude.{◌≡◌};
 
+use cp_ends_tool::ends_stream;
 use cp_tool::{OptionFault, Options, Wrapped, explore_stream, read_options};
 use std::alloc::Global;
 use std::env;
@@ -76,5 +77,8 @@ fn explored<X: Threads + Sync, A: Ledger, B: Ledger>(
 {
     let mut source: Wrapped<Stdin, A> = Wrapped::new(input, reads);
     let mut sink: Wrapped<Stdout, B> = Wrapped::new(output, writes);
+    if options.ends && options.schedule.is_none() {
+        return ends_stream(alloc, options, &mut source, &mut sink).code;
+    }
     explore_stream(rt, alloc, options, &mut source, &mut sink).code
 }

@@ -1,0 +1,11 @@
+use Rattle.cp_machine.specs.System.{IsStateOf}
+use Rattle.cp_ends.specs.Kept.{AreKept}
+use Rattle.cp_ends.proofs.search.Search.go_on.Given as goal
+
+abbrev pub invariant-loop-number : goal.invariant-loop-number
+invariant-loop-number g l =
+    record {
+      own : IsStateOf l.program l.state;
+      next : IsStateOf l.program l.next;
+      kept : AreKept l.program l.self.found.states.known.entries;
+    }

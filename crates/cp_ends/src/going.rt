@@ -1,0 +1,63 @@
+//! Steps that leave nothing displayed.
+
+ghost use Rattle.std.specs.Prelude.{◌≡◌, ℕ, IfOk, true, false};
+ghost use Rattle.cp_machine.specs.System.{machine_of, is_ready, is_pending, IsStateOf};
+ghost use Rattle.cp_run.specs.Code.{IfGoes};
+
+use cp_machine::{Event, Shown, State, Ticks, local_step, step};
+use cp_run::turn::turn_of;
+use cp_run::{Limits, Turn};
+use cp_slots::Resolved;
+use std::alloc::AllocError;
+use std::sync::ledger::Ledger;
+
+/// What comes after a step, and whether it was a kernel call.
+#[derive(Clone, Copy)]
+pub struct Stepped {
+    pub turn: Turn,
+    pub is_call: bool,
+}
+
+// What a state has displayed goes to the end of what was told.
+fn forget(program: &Resolved, state: &mut State, told: &mut Vec<Shown>) -> Result<(), AllocError>
+    requires own { IsStateOf program.now state.old }
+    ensures own { IsStateOf program.now state.new }
+    ensures ready { (q : ℕ) → is_ready (machine_of state.new) q ≡ is_ready (machine_of state.old) q }
+    ensures pending { is_pending (machine_of state.new) ≡ is_pending (machine_of state.old) }
+{
+    let _ = program;
+    told.extend_from_slice(state.output())?;
+    state.output.clear();
+    Ok(())
+}
+
+/// One step of a process. What it displays is told, and taken away from the state.
+pub fn take_step<S: Ledger>(
+    program: &Resolved,
+    limits: Limits,
+    state: &mut State,
+    pid: u8,
+    told: &mut Vec<Shown>,
+    steps: &mut Ticks<S>,
+) -> Result<Stepped, AllocError>
+    requires own { IsStateOf program.now state.old }
+    requires ready { is_ready (machine_of state.old) pid ≡ true }
+    requires free { is_pending (machine_of state.old) ≡ false }
+    ensures own { IsStateOf program.now state.new }
+    ensures ready { IfOk result (λ s. IfGoes s.turn (λ q. is_ready (machine_of state.new) q ≡ true)) }
+    ensures free { IfOk result (λ s. IfGoes s.turn (λ q. is_pending (machine_of state.new) ≡ false)) }
+{
+    if local_step(program, state, pid, steps) {
+        return Ok(Stepped {
+            turn: Turn::Goes(pid),
+            is_call: false,
+        });
+    }
+    let event = step(program, state, pid, steps);
+    let turn = turn_of(program, limits, state, pid, event);
+    forget(program, state, told)?;
+    Ok(Stepped {
+        turn,
+        is_call: matches!(event, Event::Kernel(_)),
+    })
+}

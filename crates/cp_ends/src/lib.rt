@@ -1,0 +1,18 @@
+//! Which ends are possible, in schedules of any length: a search that goes on from each state once, and has no word too long.
+#![tactic(auto)]
+
+pub mod choosing;
+pub mod end;
+pub mod found;
+pub mod going;
+pub mod origin;
+pub mod report;
+pub mod round;
+pub mod search;
+pub mod state_key;
+pub mod states;
+
+pub use end::End;
+pub use found::Found;
+pub use report::ends_report;
+pub use search::search_ends;

@@ -1,0 +1,86 @@
+//! Stretches that are cut: whether they repeat.
+
+ghost use Rattle.std.specs.Prelude.{◌≡◌, true, false};
+ghost use Rattle.cp_machine.specs.System.{machine_of, is_ready, is_pending, IsStateOf};
+
+use crate::end::End;
+use crate::going::take_step;
+use crate::state_key::StateKey;
+use cp_machine::{Shown, State, Ticks};
+use cp_run::{Limits, OutcomeKind, Turn};
+use cp_slots::Resolved;
+use std::alloc::{AllocError, Global};
+use std::sync::ledger::Ledger;
+
+/// How a stretch ends of which all steps are made, where this process would make the next one: if the state comes back within as many
+/// steps, before a choice is due or the run ends, it goes on for ever. What is displayed is told if it does.
+pub fn end_of_cut<S: Ledger>(
+    alloc: Global,
+    program: &Resolved,
+    limits: Limits,
+    state: &mut State,
+    pid: u8,
+    told: &mut Vec<Shown>,
+    steps: &mut Ticks<S>,
+) -> Result<End, AllocError>
+    requires own { IsStateOf program.now state.old }
+    requires ready { is_ready (machine_of state.old) pid ≡ true }
+    requires free { is_pending (machine_of state.old) ≡ false }
+    ensures own { IsStateOf program.now state.new }
+{
+    let count = told.len();
+    let round = round_of(alloc, program, limits, state, pid, told, steps)?;
+    let Some(end) = round else {
+        told.truncate(count);
+        return Ok(End::Over(OutcomeKind::StepLimit));
+    };
+    Ok(end)
+}
+
+// The round in which a stretch goes, if there is one.
+fn round_of<S: Ledger>(
+    alloc: Global,
+    program: &Resolved,
+    limits: Limits,
+    state: &mut State,
+    pid: u8,
+    told: &mut Vec<Shown>,
+    steps: &mut Ticks<S>,
+) -> Result<Option<End>, AllocError>
+    requires own { IsStateOf program.now state.old }
+    requires ready { is_ready (machine_of state.old) pid ≡ true }
+    requires free { is_pending (machine_of state.old) ≡ false }
+    ensures own { IsStateOf program.now state.new }
+{
+    let mut first = StateKey {
+        bytes: Vec::new(alloc),
+    };
+    first.take_from(state)?;
+    let mut key = StateKey {
+        bytes: Vec::new(alloc),
+    };
+    let mut going = pid;
+    let mut is_called = false;
+    for _ in 0..limits.steps {
+        let stepped = take_step(program, limits, state, going, told, steps)?;
+        let Turn::Goes(next) = stepped.turn else {
+            return Ok(None);
+        };
+        going = next;
+        is_called = is_called || stepped.is_call;
+        if going == pid && is_at(state, &first, &mut key)? {
+            return Ok(Some(if is_called {
+                End::Alone(pid)
+            } else {
+                End::Spins(pid)
+            }));
+        }
+    }
+    Ok(None)
+}
+
+// Whether this is the state of a key. There is room for another one.
+fn is_at(state: &State, first: &StateKey, key: &mut StateKey) -> Result<bool, AllocError> {
+    key.take_from(state)?;
+    Ok(*key == *first)
+}

@@ -1,0 +1,225 @@
+//! The search through all states.
+
+ghost use Rattle.std.specs.Prelude.{◌≡◌, true};
+ghost use Rattle.cp_slots.specs.Tables.{Tables};
+ghost use Rattle.cp_machine.specs.System.{machine_of, IsStateOf};
+ghost use Rattle.cp_run.specs.Run.{may};
+ghost use Rattle.cp_run.specs.Slots.{slots};
+ghost use Rattle.cp_ends.specs.Kept.{AreKept};
+
+use crate::choosing::{choose, open};
+use crate::end::Arrival;
+use crate::found::Found;
+use crate::origin::Origin;
+use crate::state_key::StateKey;
+use cp_machine::{Shown, State, Ticks};
+use cp_run::{Limits, wanted};
+use cp_slots::Resolved;
+use std::alloc::{AllocError, Global};
+use std::marker::Brand;
+use std::sync::ledger::{Blank, Ledger};
+
+// What is found so far, with room for a key and for displayed values.
+#[derive(Drop)]
+struct Search {
+    found: Found,
+    key: StateKey,
+    told: Vec<Shown>,
+}
+
+/// Goes on from the opening state, and from each state that is found, with each number that may be chosen there, in the order in which
+/// states are found. So the first word that leads to a state, an end or a value is the shortest, and of the shortest the first in
+/// dictionary order. Stops where there are more than so many states.
+pub fn search_ends(
+    alloc: Global,
+    program: &Resolved,
+    limits: Limits,
+    most: u32,
+) -> Result<Found, AllocError> {
+    searched::<Brand>(alloc, program, limits, most, Blank::new(1))
+}
+
+fn searched<S: Ledger>(
+    alloc: Global,
+    program: &Resolved,
+    limits: Limits,
+    most: u32,
+    blank: Blank,
+) -> Result<Found, AllocError>
+    requires name { blank.name ≡ S.name }
+    requires parts { blank.parts ≡ S.parts }
+    requires one { S.parts ≡ 1 }
+{
+    let mut steps: Ticks<S> = Ticks::new(blank);
+    let mut search = Search::new(alloc);
+    let mut state = State::start(alloc, program, limits.gates)?;
+    let arrival = open(
+        alloc,
+        program,
+        limits,
+        &mut state,
+        &mut search.told,
+        &mut steps,
+    )?;
+    search.arrive(alloc, program, most, &state, arrival, Origin::Start)?;
+    let mut next = state.copy(alloc)?;
+    let stopped = search.go_on(
+        alloc, program, limits, most, &mut state, &mut next, &mut steps,
+    )?;
+    search.found.stopped = stopped;
+    Ok(search.found)
+}
+
+impl Search {
+    fn new(alloc: Global) -> Search
+        ensures { (r : Tables) → AreKept r result.found.states.known.entries }
+    {
+        Search {
+            found: Found::new(alloc),
+            key: StateKey {
+                bytes: Vec::new(alloc),
+            },
+            told: Vec::new(alloc),
+        }
+    }
+
+    // Goes on from each state. Answers the one from which there is a state too many.
+    fn go_on<S: Ledger>(
+        &mut self,
+        alloc: Global,
+        program: &Resolved,
+        limits: Limits,
+        most: u32,
+        state: &mut State,
+        next: &mut State,
+        steps: &mut Ticks<S>,
+    ) -> Result<Option<u32>, AllocError>
+        requires own { IsStateOf program.now state.old }
+        requires next { IsStateOf program.now next.old }
+        requires kept { AreKept program.now self.old.found.states.known.entries }
+    {
+        for number in 0..most {
+            if !self.found.states.thaw_at(program, number, state) {
+                return Ok(None);
+            }
+            let is_room = self.take_choices(
+                alloc, program, limits, most, number, state, next, steps,
+            )?;
+            if !is_room {
+                return Ok(Some(number));
+            }
+        }
+        Ok(None)
+    }
+
+    // Goes on from a state with each number that may be chosen. `false` where there is a state too many.
+    fn take_choices<S: Ledger>(
+        &mut self,
+        alloc: Global,
+        program: &Resolved,
+        limits: Limits,
+        most: u32,
+        number: u32,
+        state: &State,
+        next: &mut State,
+        steps: &mut Ticks<S>,
+    ) -> Result<bool, AllocError>
+        requires own { IsStateOf program.now state.now }
+        requires next { IsStateOf program.now next.old }
+        requires kept { AreKept program.now self.old.found.states.known.entries }
+        ensures next { IsStateOf program.now next.new }
+        ensures kept { AreKept program.now self.new.found.states.known.entries }
+    {
+        let numbers = wanted(program, limits, state);
+        for process in numbers.as_slice() {
+            next.take_from(state);
+            let origin = Origin::Choice {
+                state: number,
+                number: *process,
+            };
+            if !self.take_choice(alloc, program, limits, most, next, *process, origin, steps)? {
+                return Ok(false);
+            }
+        }
+        Ok(true)
+    }
+
+    // Takes a choice. `false` where it leads to a state too many.
+    fn take_choice<S: Ledger>(
+        &mut self,
+        alloc: Global,
+        program: &Resolved,
+        limits: Limits,
+        most: u32,
+        state: &mut State,
+        process: u8,
+        origin: Origin,
+        steps: &mut Ticks<S>,
+    ) -> Result<bool, AllocError>
+        requires own { IsStateOf program.now state.old }
+        requires may { may (slots program.now limits.gates) (machine_of state.old) process ≡ true }
+        requires kept { AreKept program.now self.old.found.states.known.entries }
+        ensures own { IsStateOf program.now state.new }
+        ensures kept { AreKept program.now self.new.found.states.known.entries }
+    {
+        self.told.clear();
+        let arrival = choose(
+            alloc,
+            program,
+            limits,
+            state,
+            process,
+            &mut self.told,
+            steps,
+        )?;
+        self.arrive(alloc, program, most, state, arrival, origin)
+    }
+
+    // A word leads to where a stretch came to. `false` where that is a state too many.
+    fn arrive(
+        &mut self,
+        alloc: Global,
+        program: &Resolved,
+        most: u32,
+        state: &State,
+        arrival: Arrival,
+        origin: Origin,
+    ) -> Result<bool, AllocError>
+        requires own { IsStateOf program.now state.now }
+        requires kept { AreKept program.now self.old.found.states.known.entries }
+        ensures kept { AreKept program.now self.new.found.states.known.entries }
+    {
+        self.found.add_values(self.told.as_slice(), origin)?;
+        match arrival {
+            Arrival::End(end) => {
+                self.found.add_end(end, origin)?;
+                Ok(true)
+            }
+            Arrival::Choice => self.add_state(alloc, program, most, state, origin),
+        }
+    }
+
+    // A word leads to a state, where a choice is due. `false` where it is one too many.
+    fn add_state(
+        &mut self,
+        alloc: Global,
+        program: &Resolved,
+        most: u32,
+        state: &State,
+        origin: Origin,
+    ) -> Result<bool, AllocError>
+        requires own { IsStateOf program.now state.now }
+        requires kept { AreKept program.now self.old.found.states.known.entries }
+        ensures kept { AreKept program.now self.new.found.states.known.entries }
+    {
+        self.key.take_from(state)?;
+        if self.found.states.contains(&self.key) {
+            return Ok(true);
+        }
+        if self.found.states.len() >= most as usize {
+            return Ok(false);
+        }
+        self.found.states.add(alloc, program, &self.key, origin)?;
+        Ok(true)
+    }
+}
