@@ -29,18 +29,27 @@ const EXPECTATIONS: &str =
 
 /// The command with all its parts; `clap` adds `--help` and `-h` to each.
 pub fn command<'a>(alloc: Global) -> Result<Command<'a>, AllocError> {
-    let command = Command::new(alloc, "cpx_show")
+    let command = with_part(described(alloc), trace(alloc))?;
+    let command = with_part(command, lanes(alloc))?;
+    let command = with_part(command, outcomes(alloc))?;
+    let command = with_part(command, refusal(alloc))?;
+    with_part(command, mark(alloc))
+}
+
+fn with_part<'a>(
+    command: Command<'a>,
+    part: Result<Command<'a>, AllocError>,
+) -> Result<Command<'a>, AllocError> {
+    command.subcommand(part?)
+}
+
+fn described<'a>(alloc: Global) -> Command<'a> {
+    Command::new(alloc, "cpx_show")
         .about(ABOUT)
         .override_usage(USAGE)
         .after_help(NOTES)
         .subcommand_required(true)
         .disable_help_subcommand(true)
-        .subcommand(trace(alloc)?)?
-        .subcommand(lanes(alloc)?)?
-        .subcommand(outcomes(alloc)?)?
-        .subcommand(refusal(alloc)?)?
-        .subcommand(mark(alloc)?)?;
-    Ok(command)
 }
 
 fn trace<'a>(alloc: Global) -> Result<Command<'a>, AllocError> {
@@ -104,36 +113,38 @@ fn with_schedule<'a>(alloc: Global, command: Command<'a>) -> Result<Command<'a>,
 }
 
 fn with_limits<'a>(alloc: Global, command: Command<'a>) -> Result<Command<'a>, AllocError> {
-    let choices = option(
+    let command = command.arg(option(
         alloc,
         "choices",
         "K",
         "Choices of a schedule, 0 to 20, with --merge to 100 [default: 8]",
-    );
-    let steps = option(
+    ))?;
+    let command = command.arg(option(
         alloc,
         "steps",
         "L",
         "Steps of a stretch between choices, 1 to 100000 [default: 1000]",
-    );
-    let gates = option(
+    ))?;
+    let command = command.arg(option(
         alloc,
         "gates",
         "WHO",
         "Who enters a monitor that becomes free: `first` in line, or `any` [default: first]",
-    );
-    let merge = Arg::new(alloc, "merge")
-        .long("merge")
-        .action(ArgAction::SetTrue)
-        .help("Take schedules of up to 100 choices; count those that come to one state together");
-    let states = option(
+    ))?;
+    let command = command.arg(merge(alloc))?;
+    command.arg(option(
         alloc,
         "states",
         "N",
         "States that a layer may have with --merge, 1 to 10000000 [default: 200000]",
-    );
-    let command = command.arg(choices)?.arg(steps)?.arg(gates)?;
-    Ok(command.arg(merge)?.arg(states)?)
+    ))
+}
+
+fn merge<'a>(alloc: Global) -> Arg<'a> {
+    Arg::new(alloc, "merge")
+        .long("merge")
+        .action(ArgAction::SetTrue)
+        .help("Take schedules of up to 100 choices; count those that come to one state together")
 }
 
 fn option<'a>(alloc: Global, name: &'a str, value: &'a str, help: &'a str) -> Arg<'a> {
