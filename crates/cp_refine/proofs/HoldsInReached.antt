@@ -18,10 +18,10 @@ use Rattle.cp_meaning.proofs.Frames.{Frame, frames, entry_in, initial_in, system
 use Rattle.cp_meaning.proofs.Good.{IsMonitor}
 use Rattle.cp_meaning.proofs.LineLaw.{OrderlyState}
 use Rattle.cp_meaning.proofs.OwnershipLemmas.{reached, lawful as lawful_when_reached, ownership}
-use Rattle.cp_refine.proofs.ReachedCalls.{IsOuterKind, lies_lower, one_entry, none_open, entered_or_initial}
-use Rattle.cp_refine.proofs.ReachedInside.{some_call, executes_alone, pending_free}
-use Rattle.cp_refine.proofs.ReachedLines.{WaitsAtGate, in_line_waits, first_waits_so}
-use Rattle.cp_refine.proofs.ReachedNames.{not_process_within, named_earlier}
+use Rattle.cp_refine.proofs.reached.ReachedCalls.{IsOuterKind, lies_lower, one_entry, none_open, entered_or_initial}
+use Rattle.cp_refine.proofs.reached.ReachedInside.{some_call, executes_alone, pending_free}
+use Rattle.cp_refine.proofs.reached.ReachedLines.{WaitsAtGate, in_line_waits, first_waits_so}
+use Rattle.cp_refine.proofs.reached.ReachedNames.{not_process_within, named_earlier}
 
 -- the component is of kind process
 abbrev pub IsProcess : State → ℕ → Type 0

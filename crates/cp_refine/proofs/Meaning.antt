@@ -17,11 +17,11 @@ use Rattle.cp_refine.specs.AllKnown.{AllKnown}
 use Rattle.cp_refine.specs.InStep.{GoInStep}
 use Rattle.cp_refine.specs.Law.{Simulates, SameRuns, MeansTheSame}
 use Rattle.cp_refine.specs.Named.{named, gates_of, named_gates}
-use Rattle.cp_refine.proofs.GoingInStep.{in_step}
-use Rattle.cp_refine.proofs.ProgramOfTree.{program_known}
-use Rattle.cp_refine.proofs.Propositions.{means_once}
-use Rattle.cp_refine.proofs.SameRuns.{same_runs}
-use Rattle.cp_refine.proofs.StatesOfTree.{states_known}
+use Rattle.cp_refine.proofs.steps.GoingInStep.{in_step}
+use Rattle.cp_refine.proofs.trees.ProgramOfTree.{program_known}
+use Rattle.cp_refine.proofs.steps.Propositions.{means_once}
+use Rattle.cp_refine.proofs.steps.SameRuns.{same_runs}
+use Rattle.cp_refine.proofs.reached.StatesOfTree.{states_known}
 
 module _ (t : Tree) (r : Tables) (g : Gates) (read : IsRead t.program) (ok : IsAccepted t) (same : plain r ≡ laid t) where
   pub it : AreTablesOf t r

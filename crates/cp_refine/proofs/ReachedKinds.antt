@@ -21,8 +21,8 @@ use Rattle.cp_resolved.specs.Layouts.{Layouts}
 use Rattle.cp_resolved.specs.Resolved.{KindIs, Stands}
 use Rattle.cp_refine.specs.Kinds.{SameKind, KindsAgree}
 use Rattle.cp_refine.specs.Law.{ground_of}
-use Rattle.cp_refine.proofs.Gates.{OwnNumbers}
-use Rattle.cp_refine.proofs.OpeningState.{processes_are}
+use Rattle.cp_refine.proofs.gates.Gates.{OwnNumbers}
+use Rattle.cp_refine.proofs.steps.OpeningState.{processes_are}
 
 -- ---- lists
 

@@ -28,12 +28,12 @@ use Rattle.cp_resolved.specs.Openings.{Opening, openings_of, meaning_in, meaning
 use Rattle.cp_resolved.specs.Stands.{OwnAll}
 use Rattle.cp_resolved.specs.TreeLayouts.{call_variables, result_variables, parameters_by, whole_laid}
 use Rattle.cp_resolved.specs.Used.{AreNext}
-use Rattle.cp_resolved.proofs.Ended.{Ends, AreEnded, all_end}
-use Rattle.cp_resolved.proofs.Entries.{still_there, entry_at}
-use Rattle.cp_resolved.proofs.Extends.{Longer, routines_extend, initial_extends, program_parts_extend}
-use Rattle.cp_resolved.proofs.ResultKnown.{result_known}
-use Rattle.cp_resolved.proofs.StatementsStand.{statements_law}
-use Rattle.cp_resolved.proofs.TreeKnown.{layouts_law}
+use Rattle.cp_resolved.proofs.items.Ended.{Ends, AreEnded, all_end}
+use Rattle.cp_resolved.proofs.names.Entries.{still_there, entry_at}
+use Rattle.cp_resolved.proofs.laid.Extends.{Longer, routines_extend, initial_extends, program_parts_extend}
+use Rattle.cp_resolved.proofs.names.ResultKnown.{result_known}
+use Rattle.cp_resolved.proofs.items.StatementsStand.{statements_law}
+use Rattle.cp_resolved.proofs.names.TreeKnown.{layouts_law}
 
 -- ---- temporary names are variables of the frame
 

@@ -42,18 +42,18 @@ use Rattle.cp_resolved.specs.TreeLayouts.{layouts_of}
 use Rattle.cp_resolved.specs.Typed.{Tokens, is_entry_in, IsOrdinalResult, ResultIs, HeadingIs, IsMarked, RoutineIs, StandardIs, predeclared_of, ConstantIs, ScopesAgree, AreSmallSelectors}
 use Rattle.cp_resolved.specs.Used.{IsBare}
 use Rattle.cp_resolved.proofs.CalleesKnown.{At, at_number, numbered, routine_entry, CalleeKnown}
-use Rattle.cp_resolved.proofs.CallsJudged.{OwnCall, CalledAs, GivesResult, IsValue}
+use Rattle.cp_resolved.proofs.forms.CallsJudged.{OwnCall, CalledAs, GivesResult, IsValue}
 use Rattle.cp_resolved.proofs.ExpressionsJudged.{FunctionSaid}
-use Rattle.cp_resolved.proofs.FormedStatements.{Right, right_of}
-use Rattle.cp_resolved.proofs.FormedTargets.{begun_routine}
-use Rattle.cp_resolved.proofs.FormsOfTrees.{all_heard}
+use Rattle.cp_resolved.proofs.forms.FormedStatements.{Right, right_of}
+use Rattle.cp_resolved.proofs.forms.FormedTargets.{begun_routine}
+use Rattle.cp_resolved.proofs.forms.FormsOfTrees.{all_heard}
 use Rattle.cp_resolved.proofs.RoutinesNoted.{is_monitor, delays_in, entry_with, entry_at, waits_at, Done, Numbered}
 use Rattle.cp_resolved.proofs.StatementsJudged.{InvokedAs, IsInvoked, InvokeSaid, StatementsSaid, statements_said}
-use Rattle.cp_resolved.proofs.TypingExpressions.{designator_typed}
-use Rattle.cp_resolved.proofs.TypingNames.{IsComponentMeaning, written, IsCalled, NamedIs, HasDesignated}
-use Rattle.cp_resolved.proofs.TypingValues.{IsValue as IsPlainValue, held_value}
-use Rattle.cp_resolved.proofs.UsedNames.{IsVariableMeaning, other_bare, EntryUsed, entry_used, known_is}
-use Rattle.cp_resolved.proofs.WithoutFaults.{Then, then_of}
+use Rattle.cp_resolved.proofs.forms.TypingExpressions.{designator_typed}
+use Rattle.cp_resolved.proofs.forms.TypingNames.{IsComponentMeaning, written, IsCalled, NamedIs, HasDesignated}
+use Rattle.cp_resolved.proofs.forms.TypingValues.{IsValue as IsPlainValue, held_value}
+use Rattle.cp_resolved.proofs.forms.UsedNames.{IsVariableMeaning, other_bare, EntryUsed, entry_used, known_is}
+use Rattle.cp_resolved.proofs.agreeing.WithoutFaults.{Then, then_of}
 
 -- ---- who waits
 

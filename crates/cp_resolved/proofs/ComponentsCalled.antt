@@ -28,12 +28,12 @@ use Rattle.cp_resolved.specs.Judging.{tokens_of}
 use Rattle.cp_resolved.specs.Layouts.{Layouts, Here, is_own, is_parameter}
 use Rattle.cp_resolved.specs.Typed.{Tokens, Written, HeadingIs, ConstantIs, RoutineIs, StandardIs, ScopesAgree, AreSmallSelectors}
 use Rattle.cp_resolved.proofs.CalleesKnown.{numbered, routine_entry}
-use Rattle.cp_resolved.proofs.CallsJudged.{IsValue, CalledAs}
+use Rattle.cp_resolved.proofs.forms.CallsJudged.{IsValue, CalledAs}
 use Rattle.cp_resolved.proofs.ExpressionsJudged.{FunctionSaid}
 use Rattle.cp_resolved.proofs.StatementsJudged.{IsInvoked, InvokedAs, InvokeSaid}
-use Rattle.cp_resolved.proofs.TypingExpressions.{designator_typed}
-use Rattle.cp_resolved.proofs.TypingNames.{OfSystem, IsComponentMeaning, Holds, written, NamedIs, HasDesignated}
-use Rattle.cp_resolved.proofs.TypingValues.{IsValue as IsPlainValue, held_value}
+use Rattle.cp_resolved.proofs.forms.TypingExpressions.{designator_typed}
+use Rattle.cp_resolved.proofs.forms.TypingNames.{OfSystem, IsComponentMeaning, Holds, written, NamedIs, HasDesignated}
+use Rattle.cp_resolved.proofs.forms.TypingValues.{IsValue as IsPlainValue, held_value}
 
 -- ---- components by their names
 

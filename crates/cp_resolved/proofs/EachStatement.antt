@@ -13,7 +13,7 @@ use Rattle.cp_check.specs.Expressions.{expression}
 use Rattle.cp_check.specs.Statements as statements
 use Rattle.cp_check.specs.Statements.{statement}
 use Rattle.cp_resolved.specs.SmallStatements.{IsSmallStatement, AreSmallStatements, AreSmallArms}
-use Rattle.cp_resolved.proofs.WithoutFaults.{Then, then_of, both_of}
+use Rattle.cp_resolved.proofs.agreeing.WithoutFaults.{Then, then_of, both_of}
 
 -- ---- each statement
 

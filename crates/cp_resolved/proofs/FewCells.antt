@@ -7,7 +7,7 @@ use Rattle.cp_meaning.specs.Operations.{range_of_base}
 use Rattle.cp_resolved.specs.Layouts.{cells_of, cells_in}
 use Rattle.cp_resolved.specs.Standing.{is_bounded, are_few, is_indexed, is_free, are_free, is_element, is_standing}
 use Rattle.cp_resolved.specs.Valued.{IsFull, AreFull}
-use Rattle.cp_resolved.proofs.Reserving.{or_left, or_right}
+use Rattle.cp_resolved.proofs.declarations.Reserving.{or_left, or_right}
 
 pub left_of : (a b : Bool) → (a && b) ≡ true → a ≡ true
 left_of true b h = refl

@@ -11,7 +11,7 @@ use Rattle.cp_resolved.specs.Layouts.{cells_of, look}
 use Rattle.cp_resolved.specs.Resolved.{StandsAt}
 use Rattle.cp_resolved.specs.Small.{Each}
 use Rattle.cp_resolved.specs.Standing.{IsFreeVariable}
-use Rattle.cp_resolved.proofs.LeastCells.{least_length}
+use Rattle.cp_resolved.proofs.frames.LeastCells.{least_length}
 
 -- ---- names
 
@@ -20,13 +20,6 @@ itself x = (bytes_eq-Decides x x).1 refl
 
 pub same_is : (x y : Name) → same_name x y ≡ true → x ≡ y
 same_is x y h = (bytes_eq-Decides x y).0 h
-
-pub other_turned : (x y : Name) → same_name x y ≡ false → same_name y x ≡ false
-other_turned x y h = go (same_name y x) refl
-  where
-    go : (b : Bool) → same_name y x ≡ b → b ≡ false
-    go false e = refl
-    go true e = absurd (let bad : true ≡ false = sym (itself x) ∙ subst (λ z. same_name x z ≡ false) (same_is y x e) h in cc)
 
 -- ---- variables of lists
 
@@ -115,10 +108,6 @@ images_length (v ∷ vs) h =
 pub images_append : (vs ws : List Variable) → images (vs ++ ws) ≡ images vs ++ images ws
 images_append [] ws = refl
 images_append (v ∷ vs) ws = ap (λ ys. encode (least v.ty) ++ ys) (images_append vs ws) ∙ sym (append_assoc (encode (least v.ty)) (images vs) (images ws))
-
-pub total_append : (vs ws : List Variable) → total (vs ++ ws) ≡ total vs + total ws
-total_append [] ws = omega arith
-total_append (v ∷ vs) ws = let e = total_append vs ws in omega (arith, e)
 
 pub before_left : (x : Name) (t : Ty) (vs ws : List Variable) → look x vs ≡ Some t → cells_before x (vs ++ ws) ≡ cells_before x vs
 before_left x t [] ws h = absurd (none-some t h)

@@ -3,9 +3,9 @@ use Rattle.cp_tree.specs.Read.{IsRead}
 use Rattle.cp_tree.specs.Syntax.{Tree}
 use Rattle.cp_lawful.specs.Accepted.{IsAccepted}
 use Rattle.cp_resolved.specs.Framed.{IsFramed}
-use Rattle.cp_resolved.proofs.CalledResults.{accepted_result, accepted_calls}
-use Rattle.cp_resolved.proofs.RoutineVariables.{accepted_locals, accepted_free}
-use Rattle.cp_resolved.proofs.SystemVariables.{accepted_permanents, accepted_standing}
+use Rattle.cp_resolved.proofs.declarations.CalledResults.{accepted_result, accepted_calls}
+use Rattle.cp_resolved.proofs.declarations.RoutineVariables.{accepted_locals, accepted_free}
+use Rattle.cp_resolved.proofs.declarations.SystemVariables.{accepted_permanents, accepted_standing}
 
 pub accepted_framed : (t : Tree) → IsRead t.program → IsAccepted t → IsFramed t
 accepted_framed t read ok =

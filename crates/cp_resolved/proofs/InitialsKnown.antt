@@ -16,7 +16,7 @@ use Rattle.cp_resolved.specs.Openings.{meaning_at}
 use Rattle.cp_resolved.specs.TreeLayouts.{layouts_of}
 use Rattle.cp_tree.specs.Read.{IsRead}
 use Rattle.cp_resolved.proofs.EachStatement.{EachIn, EachOf, EachArm}
-use Rattle.cp_resolved.proofs.FormedOfTrees.{formed_law}
+use Rattle.cp_resolved.proofs.forms.FormedOfTrees.{formed_law}
 use Rattle.cp_resolved.proofs.KnownOfTrees.{some_opening}
 use Rattle.cp_resolved.proofs.Placed.{placed_law}
 use Rattle.cp_resolved.proofs.ScopeVariables.{AreOf, of_local}

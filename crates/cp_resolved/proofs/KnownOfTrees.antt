@@ -25,19 +25,19 @@ use Rattle.cp_resolved.specs.Resolved.{initial_meaning}
 use Rattle.cp_resolved.specs.Small.{Each}
 use Rattle.cp_resolved.specs.Tokens.{all_tokens, definition_types, program_part_types, token_in, constants_among}
 use Rattle.cp_resolved.specs.TreeLayouts.{owner_in, layouts_of}
-use Rattle.cp_resolved.proofs.DifferentTokens.{all_numbered}
+use Rattle.cp_resolved.proofs.agreeing.DifferentTokens.{all_numbered}
 use Rattle.cp_resolved.proofs.EachStatement.{EachOf, each_of, IsSound, Inside, sound_of}
-use Rattle.cp_resolved.proofs.FormedStatements.{Right, right_of}
-use Rattle.cp_resolved.proofs.FormsOfTrees.{all_heard}
+use Rattle.cp_resolved.proofs.forms.FormedStatements.{Right, right_of}
+use Rattle.cp_resolved.proofs.forms.FormsOfTrees.{all_heard}
 use Rattle.cp_resolved.proofs.KnownStatements.{StatementKnown, statement_known}
-use Rattle.cp_resolved.proofs.Numbered.{AreInOrder, program_ordered}
+use Rattle.cp_resolved.proofs.declarations.Numbered.{AreInOrder, program_ordered}
 use Rattle.cp_resolved.proofs.OwnersKnown.{IsOwned, AreOwned, all_owned}
 use Rattle.cp_resolved.proofs.ScopeMeasures.{measure}
 use Rattle.cp_resolved.proofs.ScopesOfTrees.{scopes_law}
-use Rattle.cp_resolved.proofs.SmallBodies.{IsSmallOpening, read_opens}
-use Rattle.cp_resolved.proofs.SmallTexts.{read_few}
-use Rattle.cp_resolved.proofs.StepsOfTypes.{slice_end}
-use Rattle.cp_resolved.proofs.DifferentIndexed.{tokens_different}
+use Rattle.cp_resolved.proofs.declarations.SmallBodies.{IsSmallOpening, read_opens}
+use Rattle.cp_resolved.proofs.declarations.SmallTexts.{read_few}
+use Rattle.cp_resolved.proofs.names.StepsOfTypes.{slice_end}
+use Rattle.cp_resolved.proofs.agreeing.DifferentIndexed.{tokens_different}
 
 -- in a routine of a system type with a scope
 abbrev pub here_in : Tree → (system routine : ℕ) → Scope → Here

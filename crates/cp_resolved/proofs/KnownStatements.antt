@@ -52,17 +52,17 @@ use Rattle.cp_resolved.specs.SmallStatements.{IsSmallStart, IsSmallStatement}
 use Rattle.cp_resolved.specs.Stands.{IsOrdinal}
 use Rattle.cp_resolved.specs.Typed.{Tokens, Written, BaseIs, TypeIs, HeadingIs, RoutineIs, predeclared_of, StandardIs, ScopesAgree, Expressed, HasForm, AreSmallExpressions, AreSmallSelectors}
 use Rattle.cp_resolved.specs.Used.{IsBare}
-use Rattle.cp_resolved.proofs.Agreeing.{none_left, none_right}
-use Rattle.cp_resolved.proofs.AssignableForms.{free_place}
+use Rattle.cp_resolved.proofs.agreeing.Agreeing.{none_left, none_right}
+use Rattle.cp_resolved.proofs.forms.AssignableForms.{free_place}
 use Rattle.cp_resolved.proofs.EachStatement.{IsSound}
-use Rattle.cp_resolved.proofs.FormedStatements.{performed_formed}
-use Rattle.cp_resolved.proofs.GivenArguments.{AreArguments, passed, plain_arguments, var_arguments, called_passed, Passed}
+use Rattle.cp_resolved.proofs.forms.FormedStatements.{performed_formed}
+use Rattle.cp_resolved.proofs.forms.GivenArguments.{AreArguments, passed, plain_arguments, var_arguments, called_passed, Passed}
 use Rattle.cp_resolved.proofs.NamedArguments.{IsVariable, AreVariables, is_stored, stored_variable, given_variables}
-use Rattle.cp_resolved.proofs.TypingExpressions.{expression_typed, designator_typed}
-use Rattle.cp_resolved.proofs.TypingNames.{Holds, written, NamedIs, HasDesignated}
-use Rattle.cp_resolved.proofs.TypingValues.{own_called}
-use Rattle.cp_resolved.proofs.UsedNames.{IsVariableMeaning, other_bare}
-use Rattle.cp_resolved.proofs.WithoutFaults.{ok_same, Then, then_of, both_of}
+use Rattle.cp_resolved.proofs.forms.TypingExpressions.{expression_typed, designator_typed}
+use Rattle.cp_resolved.proofs.forms.TypingNames.{Holds, written, NamedIs, HasDesignated}
+use Rattle.cp_resolved.proofs.forms.TypingValues.{own_called}
+use Rattle.cp_resolved.proofs.forms.UsedNames.{IsVariableMeaning, other_bare}
+use Rattle.cp_resolved.proofs.agreeing.WithoutFaults.{ok_same, Then, then_of, both_of}
 
 -- ---- what is said
 

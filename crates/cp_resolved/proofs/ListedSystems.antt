@@ -15,9 +15,9 @@ use Rattle.cp_meaning.specs.Steps.{first_component, first_components}
 use Rattle.cp_resolved.specs.BodiesStand.{ground_of}
 use Rattle.cp_resolved.specs.Resolved.{Stands}
 use Rattle.cp_resolved.specs.TreeLayouts.{layouts_of}
-use Rattle.cp_resolved.proofs.ComponentsStand.{map_there}
-use Rattle.cp_resolved.proofs.Entries.{there, entry_at}
-use Rattle.cp_resolved.proofs.Subtrees.{either_place}
+use Rattle.cp_resolved.proofs.components.ComponentsStand.{map_there}
+use Rattle.cp_resolved.proofs.names.Entries.{there, entry_at}
+use Rattle.cp_resolved.proofs.components.Subtrees.{either_place}
 
 -- those that are listed here are of system types before one
 abbrev AreBelow : ℕ → List Listed → Type 0

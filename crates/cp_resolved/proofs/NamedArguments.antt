@@ -29,12 +29,12 @@ use Rattle.cp_meaning.specs.Expressions.{variable_in, variable_in_sum, variable_
 use Rattle.cp_resolved.specs.Layouts.{Here}
 use Rattle.cp_resolved.specs.Compiled.{Designated, designator_form}
 use Rattle.cp_resolved.specs.Typed.{Tokens, AreParameters, ScopesAgree, IsSmallExpression, IsSmallSum, IsSmallTerm, IsSmallFactor, AreSmallExpressions}
-use Rattle.cp_resolved.proofs.Agreeing.{none_left, none_right}
-use Rattle.cp_resolved.proofs.MadeValues.{IsMade, agreed_made, sum_made, product_made, signed_made, related_made, negated_made, group_made, constructed_made, applied_made, alone_made, call_made, terms_made, factors_made}
-use Rattle.cp_resolved.proofs.GivenArguments.{AreArguments, Argument}
-use Rattle.cp_resolved.proofs.TypingExpressions.{designator_typed}
-use Rattle.cp_resolved.proofs.TypingNames.{written, NamedIs, HasDesignated}
-use Rattle.cp_resolved.proofs.TypingValues.{IsValue, held_value}
+use Rattle.cp_resolved.proofs.agreeing.Agreeing.{none_left, none_right}
+use Rattle.cp_resolved.proofs.forms.MadeValues.{IsMade, agreed_made, sum_made, product_made, signed_made, related_made, negated_made, group_made, constructed_made, applied_made, alone_made, call_made, terms_made, factors_made}
+use Rattle.cp_resolved.proofs.forms.GivenArguments.{AreArguments, Argument}
+use Rattle.cp_resolved.proofs.forms.TypingExpressions.{designator_typed}
+use Rattle.cp_resolved.proofs.forms.TypingNames.{written, NamedIs, HasDesignated}
+use Rattle.cp_resolved.proofs.forms.TypingValues.{IsValue, held_value}
 
 -- ---- names alone
 

@@ -19,22 +19,22 @@ use Rattle.cp_resolved.specs.Resolved.{Stands}
 use Rattle.cp_resolved.specs.Resolving.{ResolvingLaw, IsProgramOf}
 use Rattle.cp_resolved.specs.Soundness.{NamesHold}
 use Rattle.cp_resolved.specs.TreeLayouts.{layouts_of}
-use Rattle.cp_resolved.proofs.BodiesFormed.{bodies_formed}
-use Rattle.cp_resolved.proofs.FewComponents.{accepted_few}
+use Rattle.cp_resolved.proofs.forms.BodiesFormed.{bodies_formed}
+use Rattle.cp_resolved.proofs.counts.FewComponents.{accepted_few}
 use Rattle.cp_resolved.proofs.FramedOfTrees.{accepted_framed}
-use Rattle.cp_resolved.proofs.HoldingTables.{can_hold}
-use Rattle.cp_resolved.proofs.ModestTables.{accepted_modest}
+use Rattle.cp_resolved.proofs.inside.HoldingTables.{can_hold}
+use Rattle.cp_resolved.proofs.counts.ModestTables.{accepted_modest}
 use Rattle.cp_resolved.proofs.Placed.{placed_law}
-use Rattle.cp_resolved.proofs.Propositions.{sound_once}
-use Rattle.cp_resolved.proofs.RoutinesStand.{routines_law}
-use Rattle.cp_resolved.proofs.SoundTables.{laid_sound}
-use Rattle.cp_resolved.proofs.SystemVariables.{accepted_components}
-use Rattle.cp_resolved.proofs.FewItemsOfTables.{few_items_law}
-use Rattle.cp_resolved.proofs.FewCellsOfTables.{few_cells_law}
-use Rattle.cp_resolved.proofs.OwnCallsOfTables.{own_calls_law}
-use Rattle.cp_resolved.proofs.SystemsStand.{systems_law}
-use Rattle.cp_resolved.proofs.ComponentsLaw.{components_law}
-use Rattle.cp_resolved.proofs.InsideOfTables.{inside_law}
+use Rattle.cp_resolved.proofs.sound.Propositions.{sound_once}
+use Rattle.cp_resolved.proofs.frames.RoutinesStand.{routines_law}
+use Rattle.cp_resolved.proofs.sound.SoundTables.{laid_sound}
+use Rattle.cp_resolved.proofs.declarations.SystemVariables.{accepted_components}
+use Rattle.cp_resolved.proofs.counts.FewItemsOfTables.{few_items_law}
+use Rattle.cp_resolved.proofs.counts.FewCellsOfTables.{few_cells_law}
+use Rattle.cp_resolved.proofs.sound.OwnCallsOfTables.{own_calls_law}
+use Rattle.cp_resolved.proofs.systems.SystemsStand.{systems_law}
+use Rattle.cp_resolved.proofs.components.ComponentsLaw.{components_law}
+use Rattle.cp_resolved.proofs.inside.InsideOfTables.{inside_law}
 
 module _ (t : Tree) (r : Tables) (read : IsRead t.program) (ok : IsAccepted t) (same : plain r ≡ laid t) where
   placed : IsPlaced t

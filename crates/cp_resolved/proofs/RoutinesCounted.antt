@@ -10,10 +10,10 @@ use Rattle.cp_resolved.specs.InStep.{Numbering}
 use Rattle.cp_resolved.specs.Openings.{Opening, routine_openings, initial_opening, parts_openings, openings_of, AreOpened}
 use Rattle.cp_resolved.specs.Small.{IsSmallProgram, AreNumbered}
 use Rattle.cp_resolved.specs.TreeLayouts.{whole_laid}
-use Rattle.cp_resolved.proofs.Steps.{outermost_in}
-use Rattle.cp_resolved.proofs.StepsOfProgram.{Stood, parts_stood, all_outer}
-use Rattle.cp_resolved.proofs.StepsOfRoutines.{body_count, body_systems, routines_systems, routines_count, openings_count, opened_left}
-use Rattle.cp_resolved.proofs.StepsOfTypes.{numbered_left}
+use Rattle.cp_resolved.proofs.names.Steps.{outermost_in}
+use Rattle.cp_resolved.proofs.names.StepsOfProgram.{Stood, parts_stood, all_outer}
+use Rattle.cp_resolved.proofs.names.StepsOfRoutines.{body_count, body_systems, routines_systems, routines_count, openings_count, opened_left}
+use Rattle.cp_resolved.proofs.names.StepsOfTypes.{numbered_left}
 
 pub record Many (t : syntax.Tree) : Type 0 where
   pub routines : length (openings_of t.program) ≡ length (whole_laid t).routines

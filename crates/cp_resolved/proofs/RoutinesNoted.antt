@@ -23,14 +23,14 @@ use Rattle.cp_resolved.specs.Resolved.{initial_meaning}
 use Rattle.cp_resolved.specs.Small.{Each, IsSmallRoutine, IsSmallSystem}
 use Rattle.cp_resolved.specs.Tokens.{all_tokens, routine_tokens}
 use Rattle.cp_resolved.specs.Typed.{Tokens, is_entry_in}
-use Rattle.cp_resolved.proofs.Agreeing.{none_left, none_right, More}
-use Rattle.cp_resolved.proofs.AgreeingNames.{Agree}
-use Rattle.cp_resolved.proofs.AgreeingTypes.{IsFew}
-use Rattle.cp_resolved.proofs.AgreeingWritten.{each_left, each_right}
-use Rattle.cp_resolved.proofs.AgreeingBodies.{BodyWritten, RoutineResult, routine_agrees, RoutinesResult, routines_agree}
-use Rattle.cp_resolved.proofs.AgreeingSystems.{InsideResult}
+use Rattle.cp_resolved.proofs.agreeing.Agreeing.{none_left, none_right, More}
+use Rattle.cp_resolved.proofs.agreeing.AgreeingNames.{Agree}
+use Rattle.cp_resolved.proofs.agreeing.AgreeingTypes.{IsFew}
+use Rattle.cp_resolved.proofs.agreeing.AgreeingWritten.{each_left, each_right}
+use Rattle.cp_resolved.proofs.agreeing.AgreeingBodies.{BodyWritten, RoutineResult, routine_agrees, RoutinesResult, routines_agree}
+use Rattle.cp_resolved.proofs.agreeing.AgreeingSystems.{InsideResult}
 use Rattle.cp_resolved.proofs.Opened.{slice_seam}
-use Rattle.cp_resolved.proofs.RoutinesSeen.{IsNoRoutine, parts, groups, body_entry, body_finds, routine_or}
+use Rattle.cp_resolved.proofs.agreeing.RoutinesSeen.{IsNoRoutine, parts, groups, body_entry, body_finds, routine_or}
 
 -- ---- what is asked of each number
 

@@ -12,8 +12,8 @@ use Rattle.cp_resolved.specs.Layouts.{look}
 use Rattle.cp_resolved.specs.Small.{Each}
 use Rattle.cp_resolved.specs.TreeLayouts.{components_among}
 use Rattle.cp_resolved.proofs.FrameCells.{itself, same_is}
-use Rattle.cp_resolved.proofs.FrameSteps.{one_variable}
-use Rattle.cp_resolved.proofs.FramesBegun.{variables_append, named_parameters}
+use Rattle.cp_resolved.proofs.frames.FrameSteps.{one_variable}
+use Rattle.cp_resolved.proofs.frames.FramesBegun.{variables_append, named_parameters}
 
 -- ---- variables among others
 

@@ -9,11 +9,11 @@ use Rattle.cp_resolved.specs.Small.{Each, IsSmallProgram}
 use Rattle.cp_resolved.specs.Standing.{IsStandingVariable, IsStandingParameter}
 use Rattle.cp_resolved.specs.Tokens.{AreDifferent, program_tokens, token_of_type, tokens_of_enumerations, HasFew}
 use Rattle.cp_resolved.specs.Typed.{IsSystemParameter}
-use Rattle.cp_resolved.proofs.AgreeingProgram.{ProgramResult, program_agrees}
-use Rattle.cp_resolved.proofs.DifferentIndexed.{tokens_different}
-use Rattle.cp_resolved.proofs.DifferentTokens.{all_numbered, all_few}
-use Rattle.cp_resolved.proofs.EnumerationsRead.{read_few, read_different}
-use Rattle.cp_resolved.proofs.SmallTexts.{read_small}
+use Rattle.cp_resolved.proofs.agreeing.AgreeingProgram.{ProgramResult, program_agrees}
+use Rattle.cp_resolved.proofs.agreeing.DifferentIndexed.{tokens_different}
+use Rattle.cp_resolved.proofs.agreeing.DifferentTokens.{all_numbered, all_few}
+use Rattle.cp_resolved.proofs.declarations.EnumerationsRead.{read_few, read_different}
+use Rattle.cp_resolved.proofs.declarations.SmallTexts.{read_small}
 
 -- numbers are small, enumerations have some constants and few, and what is written stands at different tokens
 pub record IsTidy (p : Program) : Type 0 where

@@ -18,16 +18,16 @@ use Rattle.cp_resolved.specs.LayoutsKnow.{IsPlaced}
 use Rattle.cp_resolved.specs.Openings.{Opening, routine_openings, initial_opening, parts_openings, openings_of, meaning_in, meaning_at, numbering_of}
 use Rattle.cp_resolved.specs.Resolved.{SystemParameterIs, SystemParametersAre, initial_meaning, Stands}
 use Rattle.cp_resolved.specs.TreeLayouts.{components_among, owner_in, layouts_of, whole_laid}
-use Rattle.cp_resolved.proofs.Entries.{there, last_entry}
+use Rattle.cp_resolved.proofs.names.Entries.{there, last_entry}
 use Rattle.cp_resolved.proofs.FrameCells.{itself, same_is, look_each}
 use Rattle.cp_resolved.proofs.Opened.{opened_all}
 use Rattle.cp_resolved.proofs.ScopeVariables.{Among, among_left, look_among, among_look, among_all, among_some, AreOf, of_permanent}
-use Rattle.cp_resolved.proofs.Seats.{Seated, AreSeated}
-use Rattle.cp_resolved.proofs.SeatsOfProgram.{all_seated}
-use Rattle.cp_resolved.proofs.Sizes.{Counted}
-use Rattle.cp_resolved.proofs.SystemKnown.{found_among, among_either}
-use Rattle.cp_resolved.proofs.SystemsStand.{SeatAt, seat_at, seats_many}
-use Rattle.cp_resolved.proofs.Whole.{program_laid}
+use Rattle.cp_resolved.proofs.frames.Seats.{Seated, AreSeated}
+use Rattle.cp_resolved.proofs.frames.SeatsOfProgram.{all_seated}
+use Rattle.cp_resolved.proofs.systems.Sizes.{Counted}
+use Rattle.cp_resolved.proofs.systems.SystemKnown.{found_among, among_either}
+use Rattle.cp_resolved.proofs.systems.SystemsStand.{SeatAt, seat_at, seats_many}
+use Rattle.cp_resolved.proofs.laid.Whole.{program_laid}
 
 -- ---- parameters by their names
 

@@ -1,4 +1,4 @@
-use Rattle.cp_refine.proofs.RunningMachine.{running_law}
+use Rattle.cp_refine.proofs.reached.RunningMachine.{running_law}
 use Rattle.cp_refine.proofs.laws.law_running.Goals as goal
 
 pub returns : goal.returns

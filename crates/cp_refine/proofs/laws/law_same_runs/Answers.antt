@@ -1,4 +1,4 @@
-use Rattle.cp_refine.proofs.SameRuns.{same_runs}
+use Rattle.cp_refine.proofs.steps.SameRuns.{same_runs}
 use Rattle.cp_refine.proofs.laws.law_same_runs.Goals as goal
 
 pub returns : goal.returns

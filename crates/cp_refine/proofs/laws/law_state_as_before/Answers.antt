@@ -1,5 +1,5 @@
-use Rattle.cp_refine.proofs.MachineStopping.{machine_as_before}
-use Rattle.cp_refine.proofs.Stopping.{state_as_before}
+use Rattle.cp_refine.proofs.steps.MachineStopping.{machine_as_before}
+use Rattle.cp_refine.proofs.steps.Stopping.{state_as_before}
 use Rattle.cp_refine.proofs.laws.law_state_as_before.Goals as goal
 
 pub returns-clause-meaning : goal.returns-clause-meaning

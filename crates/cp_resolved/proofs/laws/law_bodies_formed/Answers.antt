@@ -1,4 +1,4 @@
-use Rattle.cp_resolved.proofs.BodiesFormed.{bodies_formed}
+use Rattle.cp_resolved.proofs.forms.BodiesFormed.{bodies_formed}
 use Rattle.cp_resolved.proofs.laws.law_bodies_formed.Goals as goal
 
 pub returns : goal.returns

@@ -1,4 +1,4 @@
-use Rattle.cp_resolved.proofs.ComponentsLaw.{components_law}
+use Rattle.cp_resolved.proofs.components.ComponentsLaw.{components_law}
 use Rattle.cp_resolved.proofs.laws.law_components.Goals as goal
 
 pub returns : goal.returns

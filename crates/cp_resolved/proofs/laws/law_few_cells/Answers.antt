@@ -1,4 +1,4 @@
-use Rattle.cp_resolved.proofs.FewCellsOfTables.{few_cells_law}
+use Rattle.cp_resolved.proofs.counts.FewCellsOfTables.{few_cells_law}
 use Rattle.cp_resolved.proofs.laws.law_few_cells.Goals as goal
 
 pub returns : goal.returns

@@ -1,4 +1,4 @@
-use Rattle.cp_resolved.proofs.FewReferencesOfTables.{few_references_law}
+use Rattle.cp_resolved.proofs.counts.FewReferencesOfTables.{few_references_law}
 use Rattle.cp_resolved.proofs.laws.law_few_references.Goals as goal
 
 pub returns : goal.returns

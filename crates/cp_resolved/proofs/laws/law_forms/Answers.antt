@@ -1,4 +1,4 @@
-use Rattle.cp_resolved.proofs.FormsOfTrees.{forms_law}
+use Rattle.cp_resolved.proofs.forms.FormsOfTrees.{forms_law}
 use Rattle.cp_resolved.proofs.laws.law_forms.Goals as goal
 
 pub returns : goal.returns

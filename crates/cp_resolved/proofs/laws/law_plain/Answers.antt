@@ -1,4 +1,4 @@
-use Rattle.cp_resolved.proofs.Plain.{plain_law}
+use Rattle.cp_resolved.proofs.declarations.Plain.{plain_law}
 use Rattle.cp_resolved.proofs.laws.law_plain.Goals as goal
 
 pub returns : goal.returns

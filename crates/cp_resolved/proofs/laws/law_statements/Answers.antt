@@ -1,4 +1,4 @@
-use Rattle.cp_resolved.proofs.StatementsStand.{statements_law}
+use Rattle.cp_resolved.proofs.items.StatementsStand.{statements_law}
 use Rattle.cp_resolved.proofs.laws.law_statements.Goals as goal
 
 pub returns : goal.returns

@@ -1,4 +1,4 @@
-use Rattle.std.proofs.Common.{◌≡◌, ◌∙◌, ap}
+use Rattle.std.proofs.Common.{◌∙◌, ap}
 use Rattle.cp_tree.specs.TreeView.{tree_view}
 use Rattle.cp_layout.specs.Laid.{plain}
 use Rattle.cp_slots.specs.Tables.{tables_of}

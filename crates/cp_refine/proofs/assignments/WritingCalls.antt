@@ -1,0 +1,150 @@
+-- A number that is written into a variable of an open call, or a part of one: all open calls hold what they hold then.
+use Rattle.std.proofs.Common.{◌≡◌, ◌∙◌, ℕ, ◌+◌, ◌<◌, ◌≤◌, ◌==◌, ◌⊎◌, inl, inr, Bool, true, false, if◌then◌else◌, List, [], ◌∷◌, Option, Some, ap, sym, refl, subst, arith, length}
+use Rattle.std.specs.Prelude.{ℤ}
+use Rattle.std.proofs.lemmas.Slice.Eq.{bytes_eq-Decides}
+use Rattle.cp_slots.specs.Tables.{Tables}
+use Rattle.cp_store.specs.declared.memory.Address.TheVariants.{Local}
+use Rattle.cp_store.specs.declared.memory.Frame.{Frame}
+use Rattle.cp_store.specs.Memory.{Memory}
+use Rattle.cp_store.specs.Places.{referred}
+use Rattle.cp_meaning.specs.Names.{Name, same_name}
+use Rattle.cp_meaning.specs.Types.{Range, Ty, ordinal}
+use Rattle.cp_meaning.specs.Values.{number_value, Choice, with_part}
+use Rattle.cp_meaning.specs.State.{Content, holds, refers, Place, Environment, Call}
+use Rattle.cp_meaning.specs.Places.{content_of, with_content, value_held, call_above, with_environment, with_call_environment}
+use Rattle.cp_resolved.specs.Layouts.{cells_of, Layouts, cell_named, look}
+use Rattle.cp_resolved.specs.Encoded.{HasType, chosen_at}
+use Rattle.cp_refine.specs.Represents.{LiesAt, frame_above, PlaceAt, CallHolds, CallsHold}
+use Rattle.cp_refine.proofs.expressions.Reading.{calls_frames}
+use Rattle.cp_refine.proofs.assignments.Writing.{WritesCell, lies_kept, lies_new, content_here, content_there}
+
+-- the cells of a frame's variables are inside its size, and those of different names apart; no name is a variable and a `var` parameter
+pub record FrameApart (l : Layouts) (size : ℕ → ℕ) (routine : ℕ) : Type 0 where
+  pub inside : (x : Name) (t : Ty) → look x (l.frames routine).variables ≡ Some t → cell_named (l.frames routine) x + cells_of t ≤ size routine
+  pub apart : (x y : Name) (t u : Ty) → same_name x y ≡ false → look x (l.frames routine).variables ≡ Some t → look y (l.frames routine).variables ≡ Some u →
+      (cell_named (l.frames routine) x + cells_of t ≤ cell_named (l.frames routine) y) ⊎ (cell_named (l.frames routine) y + cells_of u ≤ cell_named (l.frames routine) x)
+  pub different : (x y : Name) (t u : Ty) → look x (l.frames routine).references ≡ Some t → look y (l.frames routine).variables ≡ Some u → same_name x y ≡ false
+
+-- all frames of a list lie below a cell
+abbrev pub Below : (size : ℕ → ℕ) → ℕ → List Frame → Type 0
+Below size base [] = Unit {0}
+Below size base (f ∷ fs) = (f.base + size f.routine ≤ base) × Below size f.base fs
+
+abbrev pub FramesApart : (size : ℕ → ℕ) → List Frame → Type 0
+FramesApart size [] = Unit {0}
+FramesApart size (f ∷ fs) = Below size f.base fs
+
+local_is : (a b : ℕ) → Local a ≡ Local b → a ≡ b
+local_is a b e = cc
+
+frame_is : (f g : Frame) → Some f ≡ Some g → f ≡ g
+frame_is f g e = cc
+
+type_is : (a b : Ty) → Some a ≡ Some b → a ≡ b
+type_is a b e = cc
+
+-- a frame of a list lies where the list does
+pub below_in : (size : ℕ → ℕ) (base below : ℕ) (fs : List Frame) (f : Frame) → Below size base fs → frame_above fs below ≡ Some f → f.base + size f.routine ≤ base
+below_in size base below [] f b e = absurd (cc)
+below_in size base below (g ∷ fs) f b e = go (length fs == below) (λ d. below_in size g.base below fs f b.1 d) e
+  where
+    go : (c : Bool) → (frame_above fs below ≡ Some f → f.base + size f.routine ≤ g.base) → (if c then Some g else frame_above fs below) ≡ Some f → f.base + size f.routine ≤ base
+    go true ih d = subst (λ (x : Frame). x.base + size x.routine ≤ base) (frame_is g f d) b.0
+    go false ih d = let w = ih d in let v = b.0 in omega (arith, w, v)
+
+pub apart_below : (size : ℕ → ℕ) (base : ℕ) (fs : List Frame) → Below size base fs → FramesApart size fs
+apart_below size base [] b = tt
+apart_below size base (f ∷ fs) b = b.1
+
+module _ (r : Tables) (l : Layouts) (size : ℕ → ℕ) (m m2 : Memory) (apart : (n : ℕ) → n < length r.routines → FrameApart l size n) (a : ℕ) (z : ℤ) (writes : WritesCell m m2 (Local a) z) where
+  -- nothing that lies below the written cell, or above it, changes
+  held_elsewhere : (c : Call) (f : Frame) (fs : List Frame) → f.routine < length r.routines → (a < f.base) ⊎ (f.base + size f.routine ≤ a) → CallHolds r l m c f fs → CallHolds r l m2 c f fs
+  held_elsewhere c f fs there out h =
+      record {
+        variables = λ x t e. lies_kept m m2 (Local a) z t (value_held (content_of x c.environment)) (Local (f.base + cell_named (l.frames f.routine) x)) writes (h.variables x t e)
+            (λ k less d. outside (cell_named (l.frames f.routine) x) k (cells_of t) out ((apart f.routine there).inside x t e) less (local_is _ _ d));
+        plain = h.plain;
+        references = λ x t e. (let w = h.references x t e in (w.0, w.1, subst (λ rs. PlaceAt r l fs w.0 t (referred rs (f.references + cell_named (l.frames f.routine) x))) (sym writes.references) w.2));
+      }
+    where
+      outside : (n k c : ℕ) → (a < f.base) ⊎ (f.base + size f.routine ≤ a) → n + c ≤ size f.routine → k < c → f.base + n + k ≡ a → ⊥
+      outside n k c (inl o) i less e = omega (arith, o, i, less, e)
+      outside n k c (inr o) i less e = omega (arith, o, i, less, e)
+
+  -- the calls of frames below the written cell
+  calls_below : (cs : List Call) (fs : List Frame) (base : ℕ) → base ≤ a → Below size base fs → CallsHold r l m cs fs → CallsHold r l m2 cs fs
+  calls_below [] [] base le b h = tt
+  calls_below (c ∷ cs) (f ∷ fs) base le b h = (h.0, held_elsewhere c f fs h.0.routine (inr (let w = b.0 in omega (arith, w, le))) h.1, calls_below cs fs f.base (let w = b.0 in omega (arith, w, le)) b.1 h.2)
+  calls_below [] (f ∷ fs) base le b h = absurd h
+  calls_below (c ∷ cs) [] base le b h = absurd h
+
+  module _ (below : ℕ) (y : Name) (u : Ty) (choices : List Choice) (offset : ℕ) (range : Range) (chosen : chosen_at u choices ≡ Some (offset, ordinal range)) (typed : HasType (ordinal range) (number_value z)) (fits : offset < cells_of u) where
+    abbrev pub new_for : Environment → Environment
+    new_for e = with_content y (holds (with_part (value_held (content_of y e)) choices (number_value z))) e
+
+    -- the call whose variable it is
+    held_here : (c : Call) (f : Frame) (fs : List Frame) → f.routine < length r.routines → look y (l.frames f.routine).variables ≡ Some u → a ≡ f.base + cell_named (l.frames f.routine) y + offset → CallHolds r l m c f fs → CallHolds r l m2 (with_environment c (new_for c.environment)) f fs
+    held_here c f fs there known at h =
+        record {
+          variables = λ x t e. variable x t e (same_name x y) refl;
+          plain = λ x t q e d. plain x t q e (same_name x y) refl d;
+          references = λ x t e.
+              (let w = h.references x t e in
+              (w.0, content_there x y (holds (with_part (value_held (content_of y c.environment)) choices (number_value z))) c.environment ((apart f.routine there).different x y t u e known) ∙ w.1, subst (λ rs. PlaceAt r l fs w.0 t (referred rs (f.references + cell_named (l.frames f.routine) x))) (sym writes.references) w.2));
+        }
+      where
+        plain : (x : Name) (t : Ty) (q : Place) → look x (l.frames f.routine).variables ≡ Some t → (b : Bool) → same_name x y ≡ b → content_of x (new_for c.environment) ≡ Some (refers q) → ⊥
+        plain x t q e true s d = (let w = content_here x y (holds (with_part (value_held (content_of y c.environment)) choices (number_value z))) c.environment s in cc)
+        plain x t q e false s d = h.plain x t q e (sym (content_there x y (holds (with_part (value_held (content_of y c.environment)) choices (number_value z))) c.environment s) ∙ d)
+
+        variable : (x : Name) (t : Ty) → look x (l.frames f.routine).variables ≡ Some t → (b : Bool) → same_name x y ≡ b → LiesAt m2 t (value_held (content_of x (new_for c.environment))) (Local (f.base + cell_named (l.frames f.routine) x))
+        variable x t e true s =
+            let ex : x ≡ y = (bytes_eq-Decides x y).0 s in
+            let et : t ≡ u = type_is t u (sym e ∙ (ap (λ w. look w (l.frames f.routine).variables) ex ∙ known)) in
+            subst (λ (o : Option Content). LiesAt m2 t (value_held o) (Local (f.base + cell_named (l.frames f.routine) x))) (sym (content_here x y (holds (with_part (value_held (content_of y c.environment)) choices (number_value z))) c.environment s))
+            (subst (λ w. LiesAt m2 w (with_part (value_held (content_of y c.environment)) choices (number_value z)) (Local (f.base + cell_named (l.frames f.routine) x))) (sym et)
+            (subst (λ w. LiesAt m2 u (with_part (value_held (content_of y c.environment)) choices (number_value z)) (Local (f.base + cell_named (l.frames f.routine) w))) (sym ex)
+            (lies_new m m2 z u (value_held (content_of y c.environment)) (Local (f.base + cell_named (l.frames f.routine) y)) choices offset range (subst (λ w. WritesCell m m2 (Local w) z) at writes) (h.variables y u known) chosen typed)))
+        variable x t e false s =
+            subst (λ (o : Option Content). LiesAt m2 t (value_held o) (Local (f.base + cell_named (l.frames f.routine) x))) (sym (content_there x y (holds (with_part (value_held (content_of y c.environment)) choices (number_value z))) c.environment s))
+            (lies_kept m m2 (Local a) z t (value_held (content_of x c.environment)) (Local (f.base + cell_named (l.frames f.routine) x)) writes (h.variables x t e) (λ k less d. other k less (local_is _ _ d) ((apart f.routine there).apart x y t u s e known)))
+          where
+            other : (k : ℕ) → k < cells_of t → f.base + cell_named (l.frames f.routine) x + k ≡ a → (cell_named (l.frames f.routine) x + cells_of t ≤ cell_named (l.frames f.routine) y) ⊎ (cell_named (l.frames f.routine) y + cells_of u ≤ cell_named (l.frames f.routine) x) → ⊥
+            other k less e (inl o) = omega (arith, o, less, e, at)
+            other k less e (inr o) = omega (arith, o, less, e, at, fits)
+
+    -- a frame of an open call has a routine
+    routine_above : (cs : List Call) (fs : List Frame) (f : Frame) → CallsHold r l m cs fs → frame_above fs below ≡ Some f → f.routine < length r.routines
+    routine_above [] [] f h e = absurd (cc)
+    routine_above [] (g ∷ fs) f h e = absurd h
+    routine_above (c ∷ cs) [] f h e = absurd h
+    routine_above (c ∷ cs) (g ∷ fs) f h e = go (length fs == below) (routine_above cs fs f h.2) e
+      where
+        go : (b : Bool) → (frame_above fs below ≡ Some f → f.routine < length r.routines) → (if b then Some g else frame_above fs below) ≡ Some f → f.routine < length r.routines
+        go true ih d = subst (λ (x : Frame). x.routine < length r.routines) (frame_is g f d) h.0.routine
+        go false ih d = ih d
+
+    -- all calls, of which one is written
+    pub calls_written : (cs : List Call) (fs : List Frame) (f : Frame) → frame_above fs below ≡ Some f → look y (l.frames f.routine).variables ≡ Some u → a ≡ f.base + cell_named (l.frames f.routine) y + offset → FramesApart size fs → CallsHold r l m cs fs →
+        CallsHold r l m2 (with_call_environment cs below (new_for (call_above cs below).environment)) fs
+    calls_written [] [] f e known at below_them h = absurd (cc)
+    calls_written [] (g ∷ fs) f e known at below_them h = absurd h
+    calls_written (c ∷ cs) [] f e known at below_them h = absurd h
+    calls_written (c ∷ cs) (g ∷ fs) f e known at below_them h =
+        subst (λ n. CallsHold r l m2 (if n == below then with_environment c (new_for (if n == below then c else call_above cs below).environment) ∷ cs else c ∷ with_call_environment cs below (new_for (if n == below then c else call_above cs below).environment)) (g ∷ fs)) (sym (calls_frames r l m cs fs h.2))
+        (go (length fs == below) (λ d. calls_written cs fs f d known at (apart_below size g.base fs below_them) h.2) e)
+      where
+        go : (b : Bool) → (frame_above fs below ≡ Some f → CallsHold r l m2 (with_call_environment cs below (new_for (call_above cs below).environment)) fs) → (if b then Some g else frame_above fs below) ≡ Some f →
+            CallsHold r l m2 (if b then with_environment c (new_for (if b then c else call_above cs below).environment) ∷ cs else c ∷ with_call_environment cs below (new_for (if b then c else call_above cs below).environment)) (g ∷ fs)
+        go true ih d =
+            let same : g ≡ f = frame_is g f d in
+            let known_here : look y (l.frames g.routine).variables ≡ Some u = subst (λ (x : Frame). look y (l.frames x.routine).variables ≡ Some u) (sym same) known in
+            let at_here : a ≡ g.base + cell_named (l.frames g.routine) y + offset = subst (λ (x : Frame). a ≡ x.base + cell_named (l.frames x.routine) y + offset) (sym same) at in (
+              record { routine = h.0.routine; component = h.0.component; there = h.0.there; own = h.0.own; owner = h.0.owner; scope = h.0.scope },
+              held_here c g fs h.0.routine known_here at_here h.1,
+              calls_below cs fs g.base (omega (arith, at_here)) below_them h.2,
+            )
+        go false ih d =
+            let w = below_in size g.base below fs f below_them d in
+            let i = (apart f.routine (routine_above cs fs f h.2 d)).inside y u known in
+            (h.0, held_elsewhere c g fs h.0.routine (inl (omega (arith, w, i, at, fits))) h.1, ih d)

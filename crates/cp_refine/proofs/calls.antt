@@ -1,0 +1,12 @@
+pub mod Binding
+pub mod CallArguments
+pub mod CallFitting
+pub mod CallRuns
+pub mod CallSteps
+pub mod Calling
+pub mod FramesBelow
+pub mod FunctionParameters
+pub mod GivenUp
+pub mod Kept
+pub mod NewFrame
+pub mod Returning

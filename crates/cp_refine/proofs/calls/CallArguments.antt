@@ -1,0 +1,63 @@
+-- What the arguments of a call give, and the component that it names, at the item of the call: premises of the whole step of a call.
+use Rattle.std.proofs.Common.{◌≡◌, ℕ, List, ◌∷◌, Option, sym, subst, true, false, Some, None}
+use Rattle.std.specs.Prelude.{map}
+use Rattle.cp_tree.specs.Syntax.{Program, Expressions, Designator}
+use Rattle.cp_slots.specs.Code as code
+use Rattle.cp_slots.specs.declared.place.Argument.{Argument}
+use Rattle.cp_slots.specs.declared.place.ComponentPlace.{ComponentPlace}
+use Rattle.cp_store.specs.declared.argument.Bound.{Bound}
+use Rattle.cp_store.specs.declared.memory.Frame.{Frame}
+use Rattle.cp_machine.specs.declared.process.Entry.{Entry}
+use Rattle.cp_machine.specs.Machine.{Machine, thread_at}
+use Rattle.cp_machine.specs.Memory.{memory_at, component_of, arguments_of}
+use Rattle.cp_meaning.specs.Names.{Name}
+use Rattle.cp_meaning.specs.Calls.{bound}
+use Rattle.cp_meaning.specs.Declarations.{RoutineMeaning}
+use Rattle.cp_meaning.specs.Expressions.{name_of, target_value}
+use Rattle.cp_meaning.specs.Lifting.{expressions_calls, designator_calls}
+use Rattle.cp_meaning.specs.Scopes.{Meaning, constant_meaning, type_meaning, local_variable, permanent_variable, routine_meaning, standard_meaning, find}
+use Rattle.cp_meaning.specs.State.{Environment, Item, State}
+use Rattle.cp_meaning.specs.Steps.{view_of}
+use Rattle.cp_resolved.specs.Compiled.{a_component, designator_form}
+use Rattle.cp_resolved.specs.Layouts.{cell_named, Layouts, Here, here}
+use Rattle.cp_resolved.specs.Stands.{Ground, AreGiven, CalleeIs, CallItem}
+use Rattle.cp_refine.specs.Given.{AreBound, BoundsAgree, ComponentAgrees}
+use Rattle.cp_refine.specs.Remaining.{AreKept}
+use Rattle.cp_refine.specs.Represents.{frames_of}
+use Rattle.cp_refine.proofs.expressions.Arguments.{ArgumentsKnown, arguments_agree}
+use Rattle.cp_refine.proofs.expressions.ComponentPlaces.{ComponentsKnown, component_agrees}
+use Rattle.cp_refine.proofs.control.Control.{Taken, top_frame}
+use Rattle.cp_refine.proofs.control.Running.{Executes, frames_below, sees_now}
+
+pub call_arguments : (g : Ground) (p : Program) (l : Layouts) (s : State) (m : Machine) (q at token : ℕ) (i : Item) (mid : Option ℕ) (es : List Entry) (xs ys : List Item) (k : Taken g p l s m q at i mid es xs ys) → Executes g p l m q →
+    (d : Designator) (args : Expressions) (o : Option Name) (ci : CallItem g (here p l (thread_at m.threads q).frame.routine) at token d args o mid) →
+    AreKept (here p l (thread_at m.threads q).frame.routine) (expressions_calls (l.meanings (thread_at m.threads q).frame.routine).scope args) →
+    ArgumentsKnown (here p l (thread_at m.threads q).frame.routine) (l.meanings ci.number).parameters args → (as' : List Argument) → map code.argument_seen as' ≡ ci.arguments →
+    BoundsAgree (λ (e : Environment) (bs : List Bound). AreBound g.tables l (frames_of (thread_at m.threads q).frame es) (memory_at m q) (cell_named (l.frames ci.number)) (l.meanings ci.number).parameters e as' bs) (bound (view_of p s q) (l.meanings ci.number).parameters args) (arguments_of m q as')
+call_arguments g p l s m q at token i mid es xs ys k ex d args o ci kept known as' seen =
+    subst (λ (fs : List Frame). BoundsAgree (λ e bs. AreBound g.tables l fs (memory_at m q) (cell_named (l.frames ci.number)) (l.meanings ci.number).parameters e as' bs) (bound (view_of p s q) (l.meanings ci.number).parameters args) (arguments_of m q as')) (sym (top_frame (thread_at m.threads q).frame es).1)
+    (arguments_agree g.tables l ((thread_at m.threads q).frame ∷ frames_below g p l s m q at i mid es xs ys k ex) (view_of p s q) (memory_at m q) (thread_at m.threads q).frame (here p l (thread_at m.threads q).frame.routine) (sees_now g p l s m q at i mid es xs ys k ex) m.bindings
+    (cell_named (l.frames ci.number)) (l.meanings ci.number).parameters args ci.arguments as' seen
+    (subst (λ (r : RoutineMeaning). AreGiven (here p l (thread_at m.threads q).frame.routine) (cell_named (l.frames ci.number)) r.parameters args ci.arguments) ci.called.same ci.called.given) kept known)
+
+-- the component whose entry is called
+pub call_component : (g : Ground) (p : Program) (l : Layouts) (s : State) (m : Machine) (q at token : ℕ) (i : Item) (mid : Option ℕ) (es : List Entry) (xs ys : List Item) (k : Taken g p l s m q at i mid es xs ys) → Executes g p l m q →
+    (d : Designator) (args : Expressions) (o : Option Name) (ci : CallItem g (here p l (thread_at m.threads q).frame.routine) at token d args o mid) →
+    AreKept (here p l (thread_at m.threads q).frame.routine) (designator_calls (l.meanings (thread_at m.threads q).frame.routine).scope d) →
+    ComponentsKnown (view_of p s q) (thread_at m.threads q).frame (here p l (thread_at m.threads q).frame.routine) m.bindings → ci.is_entry ≡ true → (place : ComponentPlace) → code.component_seen place ≡ ci.part →
+    ComponentAgrees (view_of p s q) (target_value (view_of p s q) d) (component_of m q place)
+call_component g p l s m q at token i mid es xs ys k ex d args o ci kept known is place seen =
+    component_agrees g.tables l ((thread_at m.threads q).frame ∷ frames_below g p l s m q at i mid es xs ys k ex) (view_of p s q) (memory_at m q) (thread_at m.threads q).frame this (sees_now g p l s m q at i mid es xs ys k ex) m.bindings known d ci.part (l.owners ci.number) place kept
+    (named_part (find (name_of d) this.scope) ci.called.callee) seen
+  where
+    this : Here
+    this = here p l (thread_at m.threads q).frame.routine
+
+    named_part : (w : Option Meaning) → CalleeIs this d w ci.part ci.is_entry ci.number → designator_form this d ≡ Some (a_component ci.part (l.owners ci.number))
+    named_part (Some (routine_meaning r)) c = (let other : ci.is_entry ≡ false = c.1 in absurd (cc))
+    named_part (Some (constant_meaning b z)) c = c.0
+    named_part (Some (type_meaning t)) c = c.0
+    named_part (Some (local_variable t)) c = c.0
+    named_part (Some (permanent_variable t)) c = c.0
+    named_part (Some (standard_meaning t)) c = c.0
+    named_part None c = c.0

@@ -1,0 +1,54 @@
+-- A call of a component that is found fits: there is room for the frame, and the routine is one of the component's system type.
+use Rattle.std.proofs.Common.{◌∙◌, ℕ, ◌<◌, List, sym, refl, arith, length}
+use Rattle.cp_tree.specs.Syntax.{Tree}
+use Rattle.cp_slots.specs.declared.place.Argument.{Argument}
+use Rattle.cp_slots.specs.Fits.{CallFits, RoutineFits}
+use Rattle.cp_slots.specs.Systems.{IsOf}
+use Rattle.cp_slots.specs.Tables.{Tables, routine_at}
+use Rattle.cp_machine.specs.declared.process.Entry.{Entry}
+use Rattle.cp_machine.specs.Calls.{frame_behind}
+use Rattle.cp_machine.specs.Fits.{FrameFits, StackFits, MachineFits}
+use Rattle.cp_machine.specs.Machine.{Machine, thread_at}
+use Rattle.cp_machine.specs.Memory.{memory_at}
+use Rattle.cp_resolved.specs.Layouts.{Layouts}
+use Rattle.cp_refine.specs.Law.{ground_of}
+use Rattle.cp_refine.specs.Prepared.{Prepared}
+use Rattle.cp_refine.proofs.calls.Calling.{CanCall}
+use Rattle.cp_refine.proofs.steps.Executed.{own_frame, thread_fits, few_permanents}
+use Rattle.cp_refine.proofs.calls.NewFrame.{CanOpen}
+
+module _ (t : Tree) (r : Tables) (l : Layouts) (prepared : Prepared t r l) (m : Machine) (q : ℕ) (fits : MachineFits r m) (many : q < length m.threads) (need number : ℕ) (arguments : List Argument) (call : CallFits r (thread_at m.threads q).frame.routine need number arguments) where
+  own : FrameFits r (thread_at m.threads q).frame
+  own = own_frame t r l prepared m q fits many
+
+  callee : RoutineFits (routine_at r number)
+  callee = prepared.sound.routines number call.routine
+
+  pub can_open : (n : ℕ) → CanOpen (ground_of t r) t.program l (memory_at m q) (frame_behind r (thread_at m.threads q) number n)
+  can_open n =
+      let thread = thread_fits t r l prepared m q fits many in
+      let words = prepared.sound.typed.words in
+      let known = prepared.program.routines number call.routine in
+      record {
+        routine = prepared.stands.routines number call.routine;
+        base = refl;
+        first = refl;
+        few = (let a = thread.cells in let b = own.cells in let c = call.cells in let d = callee.cells in let w = words.cells in omega (arith, a, b, c, d, w));
+        few_permanents = few_permanents t r l prepared m q fits many;
+        few_references = (let a = thread.references in let b = own.references in let c = call.references in let d = callee.references in let w = words.references in omega (arith, a, b, c, d, w));
+        different = known.different;
+        closed = known.closed;
+      }
+
+  pub can_call : (es : List Entry) → StackFits r (thread_at m.threads q).frame es → (n : ℕ) → IsOf r (routine_at r number).system n → CanCall (ground_of t r) t.program l m q number n es
+  can_call es below n found =
+      record {
+        routines = prepared.stands.routines;
+        known = call.routine;
+        there = found.0;
+        owner = sym (prepared.stands.routines number call.routine).system ∙ sym found.1;
+        opens = can_open n;
+        fits = below;
+        cells = (thread_fits t r l prepared m q fits many).cells;
+        references = (thread_fits t r l prepared m q fits many).references;
+      }

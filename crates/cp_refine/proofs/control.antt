@@ -1,0 +1,9 @@
+pub mod Cases
+pub mod Control
+pub mod Counting
+pub mod Displaying
+pub mod Ending
+pub mod Lists
+pub mod Loops
+pub mod Moving
+pub mod Running

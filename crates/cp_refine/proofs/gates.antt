@@ -1,0 +1,4 @@
+pub mod Admitting
+pub mod Gates
+pub mod LettingIn
+pub mod MonitorNumbers

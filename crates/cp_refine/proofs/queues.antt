@@ -1,0 +1,9 @@
+pub mod ContinueSteps
+pub mod Continuing
+pub mod Delayed
+pub mod Delaying
+pub mod QueueNames
+pub mod QueueParts
+pub mod QueueWriting
+pub mod QueuesKnown
+pub mod Resumed

@@ -1,0 +1,205 @@
+-- The whole step of `continue`, in an entry procedure of a monitor.
+use Rattle.std.proofs.Common.{◌≡◌, ◌∙◌, ℕ, ◌<◌, List, ◌∷◌, ◌++◌, Option, Some, None, ap, sym, refl, subst, length}
+use Rattle.std.specs.Prelude.{Result, Ok, Err, slice_index, slice_set}
+use Rattle.cp_tree.specs.Syntax.{Program, Expression, Expressions, more_expressions, Designator, invoke}
+use Rattle.cp_slots.specs.declared.item.Action.{Action}
+use Rattle.cp_slots.specs.declared.item.Action.TheVariants as action
+use Rattle.cp_slots.specs.declared.place.Place as code_place
+use Rattle.cp_slots.specs.declared.tables.ComponentKind.TheVariants as kind
+use Rattle.cp_slots.specs.Code as code
+use Rattle.cp_slots.specs.Tables.{component_at, item_at}
+use Rattle.cp_store.specs.declared.error.ErrorName as slots
+use Rattle.cp_store.specs.declared.memory.Address.{Address}
+use Rattle.cp_store.specs.declared.memory.Address.TheVariants.{Permanent}
+use Rattle.cp_machine.specs.declared.event.Event.TheVariants as event
+use Rattle.cp_machine.specs.declared.event.Kernel.TheVariants as event_call
+use Rattle.cp_machine.specs.declared.process.Entry.{Entry}
+use Rattle.cp_machine.specs.declared.process.Entry.TheVariants.{Return}
+use Rattle.cp_machine.specs.Calls as slot_calls
+use Rattle.cp_machine.specs.Kernel as machine
+use Rattle.cp_machine.specs.Machine.{Machine, Thread, thread_at}
+use Rattle.cp_machine.specs.Memory.{memory_at}
+use Rattle.cp_machine.specs.Statements as statements
+use Rattle.cp_machine.specs.Step.{act, step_at}
+use Rattle.cp_meaning.specs.Outcome.{Outcome, ◌>>=◌}
+use Rattle.cp_meaning.specs.Types.{queue_type}
+use Rattle.cp_meaning.specs.Values.{Value, queue_value, waiting_in}
+use Rattle.cp_meaning.specs.Scopes.{Meaning, standard_meaning, continue_procedure, find}
+use Rattle.cp_meaning.specs.State as named
+use Rattle.cp_meaning.specs.State.{Holder, in_component, Place, ready, CallKind, entry_routine, Call, current, callers, Item, statement_item, return, Process, State}
+use Rattle.cp_meaning.specs.Places.{View, Target, this_component, content_of, value_held}
+use Rattle.cp_meaning.specs.Kernel as meaning
+use Rattle.cp_meaning.specs.Kernel.{Stepped}
+use Rattle.cp_meaning.specs.Move.{Doing}
+use Rattle.cp_meaning.specs.Expressions.{target_value, name_of}
+use Rattle.cp_meaning.specs.LocalRules.{after_return, continued_from, in_place_of, invoked}
+use Rattle.cp_meaning.specs.Steps.{view_of, step_of, settled}
+use Rattle.cp_resolved.specs.Layouts.{Layouts, here}
+use Rattle.cp_resolved.specs.Stands.{Ground, QueueItem, InvokedBy}
+use Rattle.cp_refine.specs.Agrees.{TargetAgrees}
+use Rattle.cp_refine.specs.PlainValues.{plain_address}
+use Rattle.cp_refine.specs.Represents.{further, PlaceAt, monitor_left, frames_of, Represents}
+use Rattle.cp_refine.proofs.assignments.Assigning.{set_set}
+use Rattle.cp_refine.proofs.queues.Continuing as continuing
+use Rattle.cp_refine.proofs.queues.Continuing.{MayContinue, EndsWith, ends, no_return, returns, process_ends, state_ends, here_process, call_is, machine_ends, state_left, machine_left, old_queue, continues_on}
+use Rattle.cp_refine.proofs.control.Control.{Taken, Goes, StepIs, goes, takes_item, acts, fails, scope_is}
+use Rattle.cp_refine.proofs.queues.Delaying.{QueueNamed, place_with, queue_is}
+use Rattle.cp_refine.proofs.expressions.Parts.{part_stands}
+use Rattle.cp_refine.proofs.calls.Returning.{Returns, process_back, calls_were, items_were, return_is}
+use Rattle.cp_refine.proofs.expressions.Views.{views_agree}
+
+is_continue : (a : Action) (p : code.Place) → code.action_seen a ≡ code.continue_at p → (x : code_place.Place) × (a ≡ action.Continue x) × (code.place_seen x ≡ p)
+is_continue (action.Continue x) p e = (x, refl, cc)
+is_continue a p e = absurd (cc)
+
+-- what follows the item, and its stack, end as the item and its stack do
+module _ (g : Ground) (p : Program) (l : Layouts) (s : State) (m : Machine) (q at token : ℕ) (d : Designator) (e : Expression) (more : Expressions) (mid : Option ℕ) (es : List Entry) (xs ys : List Item) (k : Taken g p l s m q at (statement_item (invoke token d (more_expressions e more))) mid es xs ys)
+    (j : ℕ) (may : MayContinue g p l s m q (this_component (view_of p s q)) j es)
+    (c : Call) (cs : List Call) (calls_are : (named.process_at s.processes q).calls ≡ c ∷ cs) (entry : c.kind ≡ entry_routine) where
+  abbrev item_here : Item
+  item_here = statement_item (invoke token d (more_expressions e more))
+
+  abbrev line : ℕ
+  line = slice_index g.lines token
+
+  abbrev view : View
+  view = view_of p s q
+
+  abbrev n : ℕ
+  n = this_component view
+
+  abbrev before : Process
+  before = named.process_at s.processes q
+
+  abbrev thread : Thread
+  thread = thread_at m.threads q
+
+  pub component_is : c.component ≡ n
+  component_is = sym (ap (λ (a : List Call). (current a).component) calls_are)
+
+  abbrev going : Goes g p l s m q es
+  going = goes g p l s m q at item_here mid es xs ys k
+
+  abbrev pub Ends : EndsWith g p l thread.frame (c ∷ cs) ys es
+  Ends = ends g p l s m q es (goes g p l s m q at item_here mid es xs ys k) n j may c cs calls_are entry component_is ys k.below
+
+  -- the state in which the call is given up is that of the meaning
+  abbrev process_after : Process
+  process_after = record { component = before.component; status = ready; calls = callers before.calls; items = after_return (xs ++ ys) }
+
+  abbrev Returning : Returns g p l (state_ends g p l s m q es going n j may c cs calls_are entry component_is ys k.below) (machine_ends g p l s m q es going n j may c cs calls_are entry component_is ys k.below) q Ends.caller Ends.slot Ends.monitor Ends.entries
+  Returning = returns g p l s m q es going n j may c cs calls_are entry component_is ys k.below
+
+  abbrev with_parts : ℕ → List Call → List Item → Process
+  with_parts component calls items = record { component = component; status = ready; calls = calls; items = items }
+
+  abbrev ended : Process
+  ended = named.process_at (state_ends g p l s m q es going n j may c cs calls_are entry component_is ys k.below).processes q
+
+  ended_is : ended ≡ process_ends g p l s m q es going n j may c cs calls_are entry component_is ys k.below
+  ended_is = here_process g p l s m q es going n j may c cs calls_are entry component_is ys k.below
+
+  abbrev back : Process
+  back = process_back g p l (state_ends g p l s m q es going n j may c cs calls_are entry component_is ys k.below) (machine_ends g p l s m q es going n j may c cs calls_are entry component_is ys k.below) q Ends.caller Ends.slot Ends.monitor Ends.entries Returning None
+
+  back_calls : back.calls ≡ callers before.calls
+  back_calls = ap callers (sym (calls_were g p l (state_ends g p l s m q es going n j may c cs calls_are entry component_is ys k.below) (machine_ends g p l s m q es going n j may c cs calls_are entry component_is ys k.below) q Ends.caller Ends.slot Ends.monitor Ends.entries Returning)) ∙ ap (λ (x : Process). callers x.calls) ended_is
+
+  back_items : back.items ≡ after_return (xs ++ ys)
+  back_items =
+      ap after_return (sym (items_were g p l (state_ends g p l s m q es going n j may c cs calls_are entry component_is ys k.below) (machine_ends g p l s m q es going n j may c cs calls_are entry component_is ys k.below) q Ends.caller Ends.slot Ends.monitor Ends.entries Returning))
+      ∙ (ap (λ (x : Process). after_return x.items) ended_is ∙ (sym Ends.items_are ∙ sym (no_return g (here p l thread.frame.routine) mid None xs ys k.after)))
+
+  back_is : back ≡ process_after
+  back_is = ap (λ i. with_parts i back.calls back.items) (ap (λ (x : Process). x.component) ended_is) ∙ (ap (λ a. with_parts before.component a back.items) back_calls ∙ ap (λ a. with_parts before.component (callers before.calls) a) back_items)
+
+  processes_same : (state_left g p l s m q es going n j may c cs calls_are entry component_is ys k.below).processes ≡ slice_set s.processes q process_after
+  processes_same = set_set s.processes q (process_ends g p l s m q es going n j may c cs calls_are entry component_is ys k.below) back ∙ ap (λ (x : Process). slice_set s.processes q x) back_is
+
+  -- the monitor of the entry
+  monitor_is : Ends.monitor ≡ Some j
+  monitor_is =
+      (return_is g p l (state_ends g p l s m q es going n j may c cs calls_are entry component_is ys k.below) (machine_ends g p l s m q es going n j may c cs calls_are entry component_is ys k.below) q Ends.caller Ends.slot Ends.monitor Ends.entries Returning).2
+      ∙ (ap (λ (b : Call). monitor_left g.tables b b.kind (component_at g.tables b.component).kind) (call_is g p l s m q es going n j may c cs calls_are entry component_is ys k.below)
+      ∙ (ap (λ i. monitor_left g.tables c c.kind (component_at g.tables i).kind) component_is ∙ (ap (monitor_left g.tables c c.kind) may.is ∙ ap (λ b. monitor_left g.tables c b (kind.Monitor j)) entry)))
+
+  -- ---- a queue of the component
+
+  module _ (procedure : Ends.slot ≡ None) (pl : Place) (a : Address) (h : PlaceAt g.tables l (frames_of thread.frame es) (record { holder = in_component n; name = pl.name; choices = pl.choices }) queue_type a) where
+    abbrev place : Place
+    place = record { holder = in_component n; name = pl.name; choices = pl.choices }
+
+    abbrev cell : ℕ
+    cell = continuing.at g p l s m q es going n j may c cs calls_are entry component_is ys k.below pl.name h.whole pl.choices h.offset h.begins.there h.begins.known h.chosen
+
+    abbrev held : Value
+    held = old_queue g p l s m q es going n j may c cs calls_are entry component_is ys k.below pl.name h.whole pl.choices h.offset h.begins.there h.begins.known h.chosen
+
+    there_component : n < length s.components
+    there_component = subst (λ i. n < i) (sym k.rep.component_count) h.begins.there
+
+    queue : (o : Option ℕ) × (held ≡ queue_value o)
+    queue =
+        queue_is held
+        (part_stands h.whole (value_held (content_of pl.name (named.component_at s.components n).environment)) pl.choices (h.offset, queue_type) ((k.rep.components n there_component).variables pl.name h.whole h.begins.known).typed h.chosen).typed
+
+    address_is : a ≡ Permanent cell
+    address_is = h.address ∙ ap (λ b. further b h.offset) h.begins.address
+
+    abbrev doing : Doing
+    doing = continued_from view entry_routine (xs ++ ys) place
+
+    goes_on : (o : Option ℕ) → held ≡ queue_value o → Represents g p l (meaning.continuing (meaning.moved_to ready s q doing) n o) (machine.continued (machine_left g p l s m q es going n j may c cs calls_are entry component_is ys k.below) j cell)
+    goes_on o w =
+        subst (λ (ps : List Process). Represents g p l (meaning.continuing (record s { processes = ps; components = doing.components }) n o) (machine.continued (machine_left g p l s m q es going n j may c cs calls_are entry component_is ys k.below) j cell)) processes_same
+        (continues_on g p l s m q es going n j may c cs calls_are entry component_is ys k.below pl.name h.whole pl.choices h.offset h.begins.there h.begins.known h.chosen o w)
+
+    continued : StepIs g p l q line (settled p s q (Ok doing)) (record { machine = machine.continued (slot_calls.left g.tables (machine_ends g p l s m q es going n j may c cs calls_are entry component_is ys k.below) q Ends.caller Ends.slot Ends.entries) j cell; event = event.Kernel event_call.Continue })
+    continued =
+        record {
+          state = subst (λ r. Represents g p l (meaning.continuing (meaning.moved_to ready s q doing) n (waiting_in held)) (machine.continued (slot_calls.left g.tables (machine_ends g p l s m q es going n j may c cs calls_are entry component_is ys k.below) q Ends.caller r Ends.entries) j cell)) (sym procedure)
+              (subst (λ (v : Value). Represents g p l (meaning.continuing (meaning.moved_to ready s q doing) n (waiting_in v)) (machine.continued (machine_left g p l s m q es going n j may c cs calls_are entry component_is ys k.below) j cell)) (sym queue.1) (goes_on queue.0 queue.1));
+          event = refl;
+        }
+
+    in_queue : (next : Option ℕ) → StepIs g p l q line (settled p s q (Ok doing)) (slot_calls.continue_at g.tables m q next es a)
+    in_queue next =
+        subst (λ b. StepIs g p l q line (settled p s q (Ok doing)) (slot_calls.continue_at g.tables m q next es b)) (sym address_is)
+        (subst (λ (fs : List Entry). StepIs g p l q line (settled p s q (Ok doing)) (slot_calls.continued_from g.tables (machine_ends g p l s m q es going n j may c cs calls_are entry component_is ys k.below) q cell fs)) (sym Ends.stack)
+        (subst (λ w. StepIs g p l q line (settled p s q (Ok doing)) (slot_calls.continued_from g.tables (machine_ends g p l s m q es going n j may c cs calls_are entry component_is ys k.below) q cell (Return Ends.caller Ends.slot w ∷ Ends.entries))) (sym monitor_is) continued))
+
+  -- ---- the outcomes
+
+  by_target : Ends.slot ≡ None → (next : Option ℕ) → (t : Outcome Target) → ((x : Target) → t ≡ Ok x → x.place.holder ≡ in_component n) → (r : Result Address slots.ErrorName) → TargetAgrees g.tables l (frames_of thread.frame es) t queue_type r →
+      StepIs g p l q line (settled p s q (t >>= λ x. Ok (continued_from view entry_routine (xs ++ ys) x.place))) (statements.with_value r (statements.fault m q line) (slot_calls.continue_at g.tables m q next es))
+  by_target procedure next (Err b) own (Err f) h = fails g p l s m q at item_here mid es xs ys k line b f h
+  by_target procedure next (Err b) own (Ok a) h = absurd h
+  by_target procedure next (Ok x) own (Err f) h = absurd h
+  by_target procedure next (Ok x) own (Ok a) h =
+      let same : x.place ≡ record { holder = in_component n; name = x.place.name; choices = x.place.choices } = ap (λ (w : Holder). place_with x.place w) (own x refl) in
+      subst (λ (w : Place). StepIs g p l q line (settled p s q (Ok (continued_from view entry_routine (xs ++ ys) w))) (slot_calls.continue_at g.tables m q next es a)) (sym same)
+      (in_queue procedure x.place a (subst (λ (w : Place). PlaceAt g.tables l (frames_of thread.frame es) w queue_type a) same h.1) next)
+
+  module _ (standard : find (name_of d) (l.meanings thread.frame.routine).scope ≡ Some (standard_meaning continue_procedure)) where
+    -- what the item does
+    abbrev pub own_continue : QueueItem g (here p l thread.frame.routine) at token e mid code.continue_at
+    own_continue = subst (λ (w : Option Meaning). InvokedBy g (here p l thread.frame.routine) at token w d (more_expressions e more) mid) standard k.own
+
+    -- the entry is a procedure, so that its end takes no result
+    pub continue_step : QueueNamed g p l s m q es e own_continue.place → Ends.slot ≡ None → StepIs g p l q line (step_of p s q) (step_at g.tables m q)
+    continue_step named_queue procedure =
+        takes_item g p l s m q at item_here mid es xs ys k line
+        (subst (λ (w : Option Meaning). StepIs g p l q line (settled p s q (invoked view q w d (more_expressions e more) (xs ++ ys))) (act g.tables m q at (item_at g.tables at) (item_at g.tables at).action es))
+        (sym (ap (find (name_of d)) (scope_is g p l s m q at item_here mid es xs ys k) ∙ standard))
+        (subst (λ (w : Option Designator). StepIs g p l q line (settled p s q (in_place_of view w (λ x. Ok (continued_from view (current before.calls).kind (xs ++ ys) x)) (xs ++ ys))) (act g.tables m q at (item_at g.tables at) (item_at g.tables at).action es)) (sym named_queue.is)
+        (subst (λ (b : CallKind). StepIs g p l q line (settled p s q (target_value view named_queue.designator >>= λ x. Ok (continued_from view b (xs ++ ys) x.place))) (act g.tables m q at (item_at g.tables at) (item_at g.tables at).action es)) (sym (ap (λ (a : List Call). (current a).kind) calls_are ∙ entry))
+        (let a = is_continue (item_at g.tables at).action own_continue.place own_continue.item.action in
+        acts g p l s m q at item_here mid es xs ys k line token (code.continue_at own_continue.place) (action.Continue a.0) _ own_continue.item a.1
+        (λ item o w.
+        subst (λ (i : ℕ). StepIs g p l q line result (slot_calls.continue g.tables m q i a.0 item.next es)) (sym w)
+        (subst (λ (r : Result Address slots.ErrorName). StepIs g p l q line result (statements.with_value r (statements.fault m q line) (slot_calls.continue_at g.tables m q item.next es)))
+        (sym (views_agree.place (memory_at m q) thread.frame a.0 ∙ ap (plain_address (memory_at m q) thread.frame) a.2))
+        (by_target procedure item.next (target_value view named_queue.designator) named_queue.own (plain_address (memory_at m q) thread.frame own_continue.place) named_queue.agrees)))))))
+      where
+        result : Stepped
+        result = settled p s q (target_value view named_queue.designator >>= λ x. Ok (continued_from view entry_routine (xs ++ ys) x.place))

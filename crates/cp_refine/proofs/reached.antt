@@ -1,0 +1,16 @@
+pub mod BodiesInReached
+pub mod BodiesKept
+pub mod BodyItems
+pub mod Followed
+pub mod KnownEntries
+pub mod KnownItems
+pub mod KnownRoutines
+pub mod NextInReached
+pub mod ReachedCalls
+pub mod ReachedInside
+pub mod ReachedLines
+pub mod ReachedNames
+pub mod ReadyInReached
+pub mod RunningMachine
+pub mod StatesOfTree
+pub mod SystemKinds

@@ -1,0 +1,15 @@
+pub mod Begun
+pub mod BegunProcess
+pub mod Handed
+pub mod Handing
+pub mod InitialEnding
+pub mod InitialOpened
+pub mod InitialStarts
+pub mod Phases
+pub mod ProcessStarts
+pub mod StartArguments
+pub mod StartComponents
+pub mod StartFitting
+pub mod StartNames
+pub mod StartsKnown
+pub mod StartsOutside

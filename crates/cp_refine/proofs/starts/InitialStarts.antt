@@ -1,0 +1,306 @@
+-- The whole step that starts a class or monitor: its parameters are bound, and its initial statement is executed.
+use Rattle.std.proofs.Common.{◌≡◌, ◌∙◌, ℕ, ◌<◌, Bool, true, false, if◌then◌else◌, List, ◌++◌, Option, ap, sym, refl, subst, arith, length}
+use Rattle.std.specs.Prelude.{ℤ, Result, Ok, Err, map, replicate, slice_index, slice_set}
+use Rattle.std.proofs.lemmas.List.{length-append, length-replicate}
+use Rattle.cp_tree.specs.declared.declaration.SystemKind.{SystemKind}
+use Rattle.cp_tree.specs.declared.declaration.SystemKind.TheVariants as system_kind
+use Rattle.cp_tree.specs.Syntax.{Program, Start}
+use Rattle.cp_slots.specs.declared.item.Action.TheVariants as action
+use Rattle.cp_slots.specs.declared.place.Argument.{Argument}
+use Rattle.cp_slots.specs.declared.place.ComponentPlace.{ComponentPlace}
+use Rattle.cp_slots.specs.declared.tables.ComponentKind.{ComponentKind}
+use Rattle.cp_slots.specs.declared.tables.ComponentKind.TheVariants as kind
+use Rattle.cp_slots.specs.Code as code
+use Rattle.cp_slots.specs.Tables.{component_at, item_at, routine_at, system_at}
+use Rattle.cp_store.specs.declared.argument.Bound.{Bound}
+use Rattle.cp_store.specs.declared.error.ErrorName as slots
+use Rattle.cp_store.specs.declared.error.ErrorName.TheVariants as error
+use Rattle.cp_store.specs.Arguments.{bound_in_component, bindings_after}
+use Rattle.cp_store.specs.Memory.{Memory, nowhere}
+use Rattle.cp_machine.specs.declared.process.Entry.{Entry}
+use Rattle.cp_machine.specs.declared.process.Entry.TheVariants.{InitEnd}
+use Rattle.cp_machine.specs.declared.state.Phase.{Phase}
+use Rattle.cp_machine.specs.declared.state.Phase.TheVariants as phase
+use Rattle.cp_machine.specs.Calls as calls
+use Rattle.cp_machine.specs.Calls.{frame_behind}
+use Rattle.cp_machine.specs.Machine as slot_machine
+use Rattle.cp_machine.specs.Machine.{Machine, Thread, no_thread, thread_at, phase_at, with_phase, with_bindings, with_thread}
+use Rattle.cp_machine.specs.Memory.{memory_at, component_of, arguments_of, with_memory, parameters_bound}
+use Rattle.cp_machine.specs.Stack.{rest_of}
+use Rattle.cp_machine.specs.Statements as statements
+use Rattle.cp_machine.specs.Step.{step_at}
+use Rattle.cp_meaning.specs.Outcome.{Outcome, ◌>>=◌, init_twice}
+use Rattle.cp_meaning.specs.Declarations.{Parameter}
+use Rattle.cp_meaning.specs.Systems.{system_of}
+use Rattle.cp_meaning.specs.State as named
+use Rattle.cp_meaning.specs.State.{in_component, Place, Environment, ComponentStatus, uninitialised, initialising, initialised, Item, start_item, Process, State}
+use Rattle.cp_meaning.specs.Places.{View, Target, component_there}
+use Rattle.cp_meaning.specs.Kernel.{Stepped}
+use Rattle.cp_meaning.specs.Calls.{bound, initial, is_uninitialised, initialised_in, started_as, started_at}
+use Rattle.cp_meaning.specs.Expressions.{target_value}
+use Rattle.cp_meaning.specs.Steps.{at_designator, view_of, step_of, settled}
+use Rattle.cp_resolved.specs.Layouts.{Layouts}
+use Rattle.cp_resolved.specs.Resolved.{initial_meaning}
+use Rattle.cp_resolved.specs.Stands.{Ground}
+use Rattle.cp_refine.specs.Given.{AreHanded, BoundsAgree, ComponentAgrees}
+use Rattle.cp_refine.specs.Kinds.{SameKind, KindsAgree}
+use Rattle.cp_refine.specs.Represents.{PhaseIs, HasBegun, MonitorIs, frames_of, Represents}
+use Rattle.cp_refine.proofs.assignments.Assigning.{set_set}
+use Rattle.cp_refine.proofs.calls.Calling.{CanCall}
+use Rattle.cp_refine.proofs.control.Control.{Taken, Goes, StepIs, goes, stack_after, takes_item, acts, fails}
+use Rattle.cp_refine.proofs.starts.Handed as handed
+use Rattle.cp_refine.proofs.starts.Handed.{CanStart, hands}
+use Rattle.cp_refine.proofs.starts.InitialOpened.{HasMore, all_more, process_in, thread_in, initial_opened, has_more}
+use Rattle.cp_refine.proofs.control.Lists.{frames_rest}
+use Rattle.cp_refine.proofs.control.Moving.{set_here, set_there}
+use Rattle.cp_refine.proofs.calls.NewFrame.{new_memory}
+use Rattle.cp_refine.proofs.starts.ProcessStarts.{is_start, memory_with}
+
+module _ (g : Ground) (p : Program) (l : Layouts) (s : State) (m : Machine) (q at : ℕ) (t : Start) (mid : Option ℕ) (es : List Entry) (xs ys : List Item) (k : Taken g p l s m q at (start_item t) mid es xs ys) where
+  abbrev view : View
+  view = view_of p s q
+
+  abbrev line : ℕ
+  line = slice_index g.lines (at_designator t.target)
+
+  abbrev routine : ℕ
+  routine = (l.systems k.own.system).initial
+
+  abbrev pub IsFound : ℕ → Type 0
+  IsFound d = (place : ComponentPlace) × (code.component_seen place ≡ k.own.part) × (component_of m q place ≡ Ok d)
+
+  abbrev pub parameters_of : ℕ → List Parameter
+  parameters_of d = (system_of p (component_at g.tables d).system).parameters
+
+  abbrev pub AreGivenTo : Memory → ℕ → Environment → List Argument → List Bound → Type 0
+  AreGivenTo mem d e as' bs = AreHanded mem (component_at g.tables d).base (system_at g.tables (component_at g.tables d).system).own (l.systems (component_at g.tables d).system).slots (parameters_of d) e as' bs
+
+  -- what has to be known of the component that is started, which is a class or a monitor
+  pub record InitialKnown : Type 0 where
+    pub component : (place : ComponentPlace) → code.component_seen place ≡ k.own.part → ComponentAgrees view (target_value view t.target) (component_of m q place)
+    pub arguments : (d : ℕ) → IsFound d → (as' : List Argument) → map code.argument_seen as' ≡ k.own.arguments → BoundsAgree (λ e bs. AreGivenTo (memory_at m q) d e as' bs) (bound view (parameters_of d) t.arguments) (arguments_of m q as')
+    pub kinds : KindsAgree g.tables s
+    pub can : (d : ℕ) → IsFound d → CanStart g l s m (memory_at m q) d (parameters_of d)
+    pub call : (d : ℕ) → IsFound d → CanCall g p l m q routine d es
+    pub system : (d : ℕ) → IsFound d → (named.component_at s.components d).system ≡ (component_at g.tables d).system
+    pub statement : (d : ℕ) → IsFound d → l.meanings routine ≡ initial_meaning (system_of p (component_at g.tables d).system)
+    pub no_process : (d r : ℕ) → IsFound d → (component_at g.tables d).kind ≡ kind.Process r → ⊥
+    pub phases : (d : ℕ) → IsFound d → d < length m.phases
+
+  module _ (start : InitialKnown) (as' : List Argument) (args_are : map code.argument_seen as' ≡ k.own.arguments) (d : ℕ) (is_found : IsFound d) where
+    abbrev rest : List Entry
+    rest = rest_of mid es
+
+    abbrev thread : Thread
+    thread = thread_at m.threads q
+
+    abbrev going : Goes g p l s m q es
+    going = goes g p l s m q at (start_item t) mid es xs ys k
+
+    abbrev can_call : CanCall g p l m q routine d es
+    can_call = start.call d is_found
+
+    abbrev Inside : Process
+    Inside = process_in g p l s m q es going (xs ++ ys) rest (stack_after g p l s m q at (start_item t) mid es xs ys k) (frames_rest thread.frame mid es) routine d (component_at g.tables d).system can_call (start.statement d is_found)
+
+    abbrev Above : Thread
+    Above = thread_in g p l s m q es going (xs ++ ys) rest (stack_after g p l s m q at (start_item t) mid es xs ys k) (frames_rest thread.frame mid es) routine d (component_at g.tables d).system can_call (start.statement d is_found)
+
+    abbrev state_in : State
+    state_in = record s { processes = slice_set s.processes q Inside }
+
+    abbrev machine_in : Machine
+    machine_in = with_thread m q Above
+
+    rep_in : Represents g p l state_in machine_in
+    rep_in = initial_opened g p l s m q es going (xs ++ ys) rest (stack_after g p l s m q at (start_item t) mid es xs ys k) (frames_rest thread.frame mid es) routine d (component_at g.tables d).system can_call (start.statement d is_found)
+
+    abbrev mem : Memory
+    mem = new_memory g p l (frames_of thread.frame es) (memory_at m q) (frame_behind g.tables thread routine d) can_call.opens
+
+    more : HasMore (memory_at m q) mem
+    more = has_more g p l s m q es going (xs ++ ys) rest (stack_after g p l s m q at (start_item t) mid es xs ys k) (frames_rest thread.frame mid es) routine d (component_at g.tables d).system can_call (start.statement d is_found)
+
+    can_in : CanStart g l state_in machine_in mem d (parameters_of d)
+    can_in =
+        let c = start.can d is_found in
+        record {
+          there = c.there;
+          permanents = refl;
+          typed = c.typed;
+          hand = record {
+            cells = c.hand.cells;
+            apart = c.hand.apart;
+            inside = c.hand.inside;
+            different = c.hand.different;
+            few = record {
+              permanents = c.hand.few.permanents;
+              cells = (let a = length-append thread.cells (routine_at g.tables routine).image in let b = can_call.opens.few in omega (arith, a, b));
+              references = (let a = length-append thread.references (replicate (routine_at g.tables routine).references nowhere) in let n = length-replicate (routine_at g.tables routine).references nowhere in let b = can_call.opens.few_references in omega (arith, a, n, b));
+            };
+            room = c.hand.room;
+            numbers = c.hand.numbers;
+          };
+          cells = c.cells;
+          inside = c.inside;
+          parameters = c.parameters;
+          distinct = c.distinct;
+          not_both = c.not_both;
+          closed = c.closed;
+          unqueued = c.unqueued;
+        }
+
+    there_d : d < length s.components
+    there_d = subst (λ n. d < n) (sym k.rep.component_count) can_call.there
+
+    module _ (e : Environment) (bs : List Bound) (given : AreGivenTo (memory_at m q) d e as' bs) where
+      given_in : AreGivenTo mem d e as' bs
+      given_in = all_more (memory_at m q) mem (component_at g.tables d).base (system_at g.tables (component_at g.tables d).system).own (l.systems (component_at g.tables d).system).slots (parameters_of d) e as' bs more given
+
+      abbrev bound_memory : Memory
+      bound_memory = bound_in_component mem (component_at g.tables d).base as' bs
+
+      abbrev numbers : List ℕ
+      numbers = bindings_after m.bindings (component_at g.tables d).base as' bs
+
+      abbrev state_started : State
+      state_started = record state_in { components = handed.components_after g p l state_in machine_in rep_in mem d (parameters_of d) can_in e as' bs given_in initialising }
+
+      abbrev machine_with : List ℤ → List Thread → Machine
+      machine_with cells threads = record m { permanents = cells; bindings = numbers; phases = slice_set m.phases d phase.Initialising; threads = threads }
+
+      abbrev machine_started : Machine
+      machine_started = machine_with bound_memory.permanents machine_in.threads
+
+      phase_agrees : (c : ComponentKind) → PhaseIs c initialising phase.Initialising
+      phase_agrees (kind.Process r) = tt
+      phase_agrees (kind.Monitor j) = tt
+      phase_agrees kind.Class = tt
+
+      begun_same : (c : ComponentKind) (w : ComponentStatus) → HasBegun state_started c w → HasBegun state_in c w
+      begun_same (kind.Process i) w b = b
+      begun_same (kind.Monitor i) uninitialised b = b
+      begun_same (kind.Monitor i) initialising b = b
+      begun_same (kind.Monitor i) initialised b = b
+      begun_same kind.Class uninitialised b = b
+      begun_same kind.Class initialising b = b
+      begun_same kind.Class initialised b = b
+
+      monitor_kept : (i : ℕ) (c : ComponentKind) → MonitorIs state_in machine_in i c → MonitorIs state_started machine_started i c
+      monitor_kept i (kind.Process j) h = tt
+      monitor_kept i kind.Class h = tt
+      monitor_kept i (kind.Monitor j) h = (h.0 ∙ sym (handed.line_same g p l state_in machine_in rep_in mem d (parameters_of d) can_in e as' bs given_in initialising i), h.1)
+
+      started_stands : Represents g p l state_started machine_started
+      started_stands =
+          record {
+            process_count = rep_in.process_count;
+            component_count = handed.count g p l state_in machine_in rep_in mem d (parameters_of d) can_in e as' bs given_in initialising ∙ rep_in.component_count;
+            processes = rep_in.processes;
+            components = handed.components_stand g p l state_in machine_in rep_in mem d (parameters_of d) can_in e as' bs given_in initialising state_started machine_started refl refl refl
+                (subst (λ w. PhaseIs (component_at g.tables d).kind initialising w) (sym (set_here m.phases d phase.Initialising phase.Uninitialised (start.phases d is_found))) (phase_agrees (component_at g.tables d).kind))
+                (λ i f. set_there m.phases d i phase.Initialising phase.Uninitialised f) (λ i less f w b. begun_same (component_at g.tables i).kind w b);
+            monitors = λ i h. monitor_kept i (component_at g.tables i).kind (rep_in.monitors i (let a = handed.count g p l state_in machine_in rep_in mem d (parameters_of d) can_in e as' bs given_in initialising in omega (arith, a, h)));
+            queues = record {
+              waiting = λ r i a v h f z c.
+                  (let w = rep_in.queues.waiting r i a (record { program = v.program; calls = v.calls; components = s.components }) h f z refl in
+                  (w.0, w.1, w.2, handed.queue_kept g p l state_in machine_in rep_in mem d (parameters_of d) can_in e as' bs given_in initialising v w.0 i a c w.1 w.2 ∙ w.3));
+              queued = λ x r i a v c f h w.
+                  rep_in.queues.queued x r i a (record { program = v.program; calls = v.calls; components = s.components }) refl f h (sym (handed.queue_kept g p l state_in machine_in rep_in mem d (parameters_of d) can_in e as' bs given_in initialising v x i a c f h) ∙ w);
+            };
+            pending = rep_in.pending;
+            gates = rep_in.gates;
+            output = rep_in.output;
+          }
+
+      many : q < length m.threads
+      many = let a = k.rep.process_count in let b = k.there in omega (arith, a, b)
+
+      here_thread : thread_at machine_in.threads q ≡ Above
+      here_thread = set_here m.threads q Above no_thread many
+
+      machine_is : with_phase (parameters_bound machine_in q (component_at g.tables d).base as' bs) d phase.Initialising ≡ machine_started
+      machine_is =
+          let h = hands g p l state_in machine_in rep_in mem d (parameters_of d) can_in e as' bs given_in initialising in
+          let same_memory : memory_at machine_in q ≡ mem = ap (λ (w : Thread). memory_with m.permanents w.cells w.references) here_thread in
+          ap (λ (x : Memory). with_phase (with_bindings (with_memory machine_in q (bound_in_component x (component_at g.tables d).base as' bs)) numbers) d phase.Initialising) same_memory
+          ∙ (ap (λ (w : Thread). machine_with bound_memory.permanents (slice_set machine_in.threads q (record w { cells = bound_memory.cells; references = bound_memory.references }))) here_thread
+          ∙ (ap (λ cells. machine_with bound_memory.permanents (slice_set machine_in.threads q (record Above { cells = cells; references = bound_memory.references }))) h.cells
+          ∙ (ap (λ refs. machine_with bound_memory.permanents (slice_set machine_in.threads q (record Above { references = refs }))) h.references
+          ∙ ap (λ threads. machine_with bound_memory.permanents threads) (set_set m.threads q Above Above))))
+
+      started_so : StepIs g p l q line (settled p s q (Ok (initial view d (system_of p (named.component_at s.components d).system) (xs ++ ys) e)))
+          (statements.local (with_phase (parameters_bound (calls.opened g.tables m q routine d (InitEnd thread.frame d) rest) q (component_at g.tables d).base as' bs) d phase.Initialising))
+      started_so =
+          subst (λ n. StepIs g p l q line (settled p s q (Ok (initial view d (system_of p n) (xs ++ ys) e))) (statements.local (with_phase (parameters_bound machine_in q (component_at g.tables d).base as' bs) d phase.Initialising))) (sym (start.system d is_found))
+          (record { state = subst (λ w. Represents g p l state_started w) (sym machine_is) started_stands; event = refl })
+
+      -- whether it was started before
+      status_same : (c : ComponentKind) (u : ComponentStatus) (w : Phase) → ((r : ℕ) → c ≡ kind.Process r → ⊥) → PhaseIs c u w → is_uninitialised u ≡ slot_machine.is_uninitialised w
+      status_same (kind.Process j) u w never h = absurd (never j refl)
+      status_same (kind.Monitor j) uninitialised phase.Uninitialised never h = refl
+      status_same (kind.Monitor j) initialising phase.Initialising never h = refl
+      status_same (kind.Monitor j) initialised phase.Initialised never h = refl
+      status_same (kind.Monitor j) u w never h = absurd h
+      status_same kind.Class uninitialised phase.Uninitialised never h = refl
+      status_same kind.Class initialising phase.Initialising never h = refl
+      status_same kind.Class initialised phase.Initialised never h = refl
+      status_same kind.Class u w never h = absurd h
+
+      inside_so : StepIs g p l q line (settled p s q (initialised_in view d (system_of p (named.component_at s.components d).system) (xs ++ ys) e)) (calls.start_inside g.tables m q line routine d as' bs rest)
+      inside_so =
+          subst (λ b. StepIs g p l q line (settled p s q (if b then Ok (initial view d (system_of p (named.component_at s.components d).system) (xs ++ ys) e) else Err init_twice)) (calls.start_inside g.tables m q line routine d as' bs rest))
+          (sym (status_same (component_at g.tables d).kind (named.component_at s.components d).status (phase_at m d) (λ r f. start.no_process d r is_found f) (k.rep.components d there_d).phase)) (go (slot_machine.is_uninitialised (phase_at m d)))
+        where
+          go : (b : Bool) → StepIs g p l q line (settled p s q (if b then Ok (initial view d (system_of p (named.component_at s.components d).system) (xs ++ ys) e) else Err init_twice))
+              (if b then statements.local (with_phase (parameters_bound (calls.opened g.tables m q routine d (InitEnd thread.frame d) rest) q (component_at g.tables d).base as' bs) d phase.Initialising) else statements.fault m q line error.InitTwice)
+          go true = started_so
+          go false = fails g p l s m q at (start_item t) mid es xs ys k line init_twice error.InitTwice refl
+
+      by_kind : (c : ComponentKind) → (component_at g.tables d).kind ≡ c → (a : SystemKind) → SameKind a c →
+          StepIs g p l q line (settled p s q (started_as a view d (system_of p (named.component_at s.components d).system) (xs ++ ys) e)) (calls.started g.tables m q line c routine d as' bs rest)
+      by_kind (kind.Monitor j) f system_kind.Monitor w = inside_so
+      by_kind kind.Class f system_kind.Class w = inside_so
+      by_kind (kind.Process r) f a w = absurd (start.no_process d r is_found f)
+      by_kind c f a w = absurd w
+
+    -- ---- the arguments
+
+    by_bounds : (o : Outcome Environment) (b : Result (List Bound) slots.ErrorName) → BoundsAgree (λ e bs. AreGivenTo (memory_at m q) d e as' bs) o b →
+        StepIs g p l q line (settled p s q (o >>= λ e. started_as (named.component_at s.components d).kind view d (system_of p (named.component_at s.components d).system) (xs ++ ys) e))
+        (statements.with_value b (statements.fault m q line) (λ bs. calls.started g.tables m q line (component_at g.tables d).kind routine d as' bs rest))
+    by_bounds (Err e) (Err f) h = fails g p l s m q at (start_item t) mid es xs ys k line e f h
+    by_bounds (Err e) (Ok bs) h = absurd h
+    by_bounds (Ok e) (Err f) h = absurd h
+    by_bounds (Ok e) (Ok bs) h = by_kind e bs h (component_at g.tables d).kind refl (named.component_at s.components d).kind (start.kinds d can_call.there)
+
+    found_so : StepIs g p l q line (settled p s q (started_at view d (system_of p (named.component_at s.components d).system) t.arguments (xs ++ ys)))
+        (statements.with_value (arguments_of m q as') (statements.fault m q line) (λ bs. calls.started g.tables m q line (component_at g.tables d).kind routine d as' bs rest))
+    found_so =
+        by_bounds (bound view (system_of p (named.component_at s.components d).system).parameters t.arguments) (arguments_of m q as')
+        (subst (λ n. BoundsAgree (λ e bs. AreGivenTo (memory_at m q) d e as' bs) (bound view (system_of p n).parameters t.arguments) (arguments_of m q as')) (sym (start.system d is_found)) (start.arguments d is_found as' args_are))
+
+  -- ---- the component's place
+
+  by_place : (start : InitialKnown) (place : ComponentPlace) (as' : List Argument) → code.component_seen place ≡ k.own.part → map code.argument_seen as' ≡ k.own.arguments → (o : Outcome Target) (b : Result ℕ slots.ErrorName) → component_of m q place ≡ b → ComponentAgrees view o b →
+      StepIs g p l q line (settled p s q (o >>= λ u. started_at view (component_there view u.place) (system_of p (named.component_at s.components (component_there view u.place)).system) t.arguments (xs ++ ys)))
+      (statements.with_value b (statements.fault m q line) (λ component. statements.with_value (arguments_of m q as') (statements.fault m q line) (λ bs. calls.started g.tables m q line (component_at g.tables component).kind routine component as' bs (rest_of mid es))))
+  by_place start place as' place_is args_are (Err e) (Err f) same h = fails g p l s m q at (start_item t) mid es xs ys k line e f h
+  by_place start place as' place_is args_are (Err e) (Ok d) same h = absurd h
+  by_place start place as' place_is args_are (Ok u) (Err f) same h = absurd h
+  by_place start place as' place_is args_are (Ok u) (Ok d) same h =
+      subst (λ c. StepIs g p l q line (settled p s q (started_at view c (system_of p (named.component_at s.components c).system) t.arguments (xs ++ ys))) (statements.with_value (arguments_of m q as') (statements.fault m q line) (λ bs. calls.started g.tables m q line (component_at g.tables d).kind routine d as' bs (rest_of mid es)))) (sym h)
+      (found_so start as' args_are d (place, place_is, same))
+
+  pub start_initial_step : InitialKnown → StepIs g p l q line (step_of p s q) (step_at g.tables m q)
+  start_initial_step start =
+      takes_item g p l s m q at (start_item t) mid es xs ys k line
+      (let a = is_start (item_at g.tables at).action k.own.part routine k.own.arguments k.own.item.action in
+      acts g p l s m q at (start_item t) mid es xs ys k line (at_designator t.target) (code.start k.own.part routine k.own.arguments) (action.Start a.0 routine a.1) _ k.own.item a.2
+      (λ item o w.
+      subst (λ (i : ℕ). StepIs g p l q line result (calls.start g.tables m q i a.0 routine a.1.items (rest_of item.next es))) (sym w)
+      (subst (λ (i : Option ℕ). StepIs g p l q line result (calls.start g.tables m q line a.0 routine a.1.items (rest_of i es))) (sym o)
+      (by_place start a.0 a.1.items a.3 a.4 (target_value view t.target) (component_of m q a.0) refl (start.component a.0 a.3)))))
+    where
+      result : Stepped
+      result = settled p s q (target_value view t.target >>= λ u. started_at view (component_there view u.place) (system_of p (named.component_at s.components (component_there view u.place)).system) t.arguments (xs ++ ys))

@@ -1,0 +1,62 @@
+-- A component that is started can be handed its parameters: they lie in its own cells, apart from all others.
+use Rattle.std.proofs.Common.{◌≡◌, ◌∙◌, ℕ, ◌<◌, true, false, List, [], ◌∷◌, sym, refl, arith, length}
+use Rattle.std.proofs.lemmas.Slice.Eq.{bytes_eq-Decides}
+use Rattle.cp_tree.specs.Syntax.{Tree, Expressions, no_expressions, more_expressions}
+use Rattle.cp_slots.specs.Tables.{Tables, component_at}
+use Rattle.cp_store.specs.declared.memory.Frame.{Frame}
+use Rattle.cp_machine.specs.Fits.{MachineFits}
+use Rattle.cp_machine.specs.Machine.{Machine}
+use Rattle.cp_machine.specs.Memory.{memory_at}
+use Rattle.cp_meaning.specs.Declarations.{Parameter}
+use Rattle.cp_meaning.specs.Names.{Name, same_name}
+use Rattle.cp_meaning.specs.Places.{View}
+use Rattle.cp_meaning.specs.State.{State}
+use Rattle.cp_meaning.specs.Systems.{system_of}
+use Rattle.cp_meaning.specs.Types.{queue_type}
+use Rattle.cp_resolved.specs.Layouts.{Layouts}
+use Rattle.cp_resolved.proofs.StandingParts.{free_part}
+use Rattle.cp_refine.specs.Law.{ground_of}
+use Rattle.cp_refine.specs.Parameters.{HaveTypes}
+use Rattle.cp_refine.specs.Prepared.{Prepared}
+use Rattle.cp_refine.specs.StatesKnown.{AreHandedSo}
+use Rattle.cp_refine.proofs.expressions.DesignatedTypes.{range_known}
+use Rattle.cp_refine.proofs.steps.Executed.{systems_stand, few_permanents, few_cells, few_references}
+use Rattle.cp_refine.proofs.starts.Handed.{CanStart}
+use Rattle.cp_refine.proofs.starts.StartArguments.{StartArgumentsKnown}
+
+pub start_arguments_known : (r : Tables) (l : Layouts) (fs : List Frame) (v : View) (base own : ℕ) (qs : List Parameter) (es : Expressions) → HaveTypes qs → AreHandedSo r l fs v base own qs es → StartArgumentsKnown r l fs v base own qs es
+start_arguments_known r l fs v base own [] es typed h = tt
+start_arguments_known r l fs v base own (q ∷ qs) no_expressions typed h = tt
+start_arguments_known r l fs v base own (q ∷ qs) (more_expressions e es) typed h =
+    (record { plain = typed.0; range = range_known q.ty typed.1; component = h.0.component; outside = h.0.outside }, start_arguments_known r l fs v base own qs es typed.2 h.1)
+
+itself : (x : Name) → same_name x x ≡ true
+itself x = (bytes_eq-Decides x x).1 refl
+
+pub can_start : (t : Tree) (r : Tables) (l : Layouts) → Prepared t r l → (s : State) (m : Machine) (q : ℕ) → MachineFits r m → q < length m.threads → (d : ℕ) → d < length r.components →
+    CanStart (ground_of t r) l s m (memory_at m q) d (system_of t.program (component_at r d).system).parameters
+can_start t r l prepared s m q fits many d there =
+    let own = systems_stand t r l prepared d there in
+    let k = (component_at r d).system in
+    let owns = prepared.sound.typed.components d there in
+    record {
+      there = there;
+      permanents = refl;
+      typed = prepared.sound.typed;
+      hand = record {
+        cells = own.cells;
+        apart = own.apart;
+        inside = λ x u e. prepared.program.systems.parts k x u (prepared.program.below d there) e;
+        different = prepared.program.systems.parts_apart k;
+        few = record { permanents = few_permanents t r l prepared m q fits many; cells = few_cells t r l prepared m q fits many; references = few_references t r l prepared m q fits many };
+        room = (let a = owns.cells in let b = fits.permanents in omega (arith, a, b));
+        numbers = (let a = owns.cells in let b = fits.bindings in omega (arith, a, b));
+      };
+      cells = λ i less. (systems_stand t r l prepared i less).cells;
+      inside = λ i less x u e. prepared.program.systems.parts (component_at r i).system x u (prepared.program.below i less) e;
+      parameters = own.parameters;
+      distinct = prepared.program.systems.different k;
+      not_both = λ x u v e f. (let bad : true ≡ false = sym (itself x) ∙ prepared.program.systems.apart k x x u v e f in cc);
+      closed = prepared.program.systems.closed k;
+      unqueued = λ x u v cs o e f h. (let free = prepared.program.systems.free k x u v e f in let bad : false ≡ true = free_part u cs (o, queue_type) free h in cc);
+    }

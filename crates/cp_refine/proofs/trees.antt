@@ -1,0 +1,4 @@
+pub mod NamesOfTree
+pub mod ProgramOfTree
+pub mod RoutinesOfTree
+pub mod SystemsOfTree

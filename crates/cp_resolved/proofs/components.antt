@@ -1,0 +1,11 @@
+pub mod ComponentImages
+pub mod ComponentOrder
+pub mod ComponentsLaw
+pub mod ComponentsOfTree
+pub mod ComponentsStand
+pub mod Contained
+pub mod CountedComponents
+pub mod CountedProcesses
+pub mod Handed
+pub mod Listing
+pub mod Subtrees

@@ -1,0 +1,11 @@
+pub mod FewCellsOfTables
+pub mod FewComponents
+pub mod FewContents
+pub mod FewItems
+pub mod FewItemsOfTables
+pub mod FewLocals
+pub mod FewReferences
+pub mod FewReferencesOfTables
+pub mod FewRooms
+pub mod ModestTables
+pub mod Rooms

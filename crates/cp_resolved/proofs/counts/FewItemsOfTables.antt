@@ -1,0 +1,23 @@
+-- The tables of a program that was read have at most 20,000 items.
+use Rattle.std.proofs.Common.{◌≡◌, suc, List, [], ◌∷◌, ◌∙◌, map, length, ap, refl, arith}
+use Rattle.cp_slots.specs.declared.item.Item as code_item
+use Rattle.cp_slots.specs.Code.{Item, item_seen}
+use Rattle.cp_layout.specs.Laid.{PlainTables}
+use Rattle.cp_layout.specs.LaidDeclarations.{program}
+use Rattle.cp_layout.specs.Layers.{nothing_laid}
+use Rattle.cp_resolved.specs.Held.{FewItemsLaw}
+use Rattle.cp_resolved.proofs.counts.FewItems.{program_few}
+use Rattle.cp_resolved.proofs.sound.OwnCallsOfTables.{laid_items}
+use Rattle.cp_resolved.proofs.declarations.SmallTexts.{read_few}
+
+seen_length : (is : List code_item.Item) → length (map item_seen is) ≡ length is
+seen_length [] = refl
+seen_length (i ∷ is) = ap suc (seen_length is)
+
+pub few_items_law : FewItemsLaw
+few_items_law t tree is read =
+    let items : length (map item_seen t.items) ≡ length (program (nothing_laid tree.lines) tree.program).items = ap (λ (js : List Item). length js) (ap (λ (p : PlainTables). p.items) is ∙ laid_items tree) in
+    let same = seen_length t.items in
+    let few = program_few tree.lines tree.program in
+    let tokens = read_few tree.program read in
+    omega (arith, items, same, few, tokens)

@@ -1,0 +1,40 @@
+-- What is wanted of the variables and parameters of the system types of an accepted tree that was read, so that its components stand.
+use Rattle.std.specs.Prelude.{ℕ, List, [], ◌∷◌}
+use Rattle.cp_tree.specs.Syntax.{Tree}
+use Rattle.cp_lawful.specs.Accepted.{IsAccepted}
+use Rattle.cp_lawful.proofs.Accepting.{well_formed}
+use Rattle.cp_meaning.specs.Declarations.{Parameter}
+use Rattle.cp_meaning.specs.Scopes.{permanent_variable}
+use Rattle.cp_meaning.specs.Steps.{parameter_variables}
+use Rattle.cp_meaning.specs.Systems.{system_of}
+use Rattle.cp_resolved.specs.ComponentsAre.{HasComponents}
+use Rattle.cp_resolved.specs.Declared.{AreOwn}
+use Rattle.cp_resolved.specs.Framed.{AreDeclared, system_variables}
+use Rattle.cp_resolved.specs.Judging.{ScopesAre}
+use Rattle.cp_tree.specs.Read.{IsRead}
+use Rattle.cp_resolved.specs.Small.{Each}
+use Rattle.cp_resolved.specs.Standing.{IsStandingVariable, IsStandingParameter}
+use Rattle.cp_resolved.proofs.FrameCells.{each_both}
+use Rattle.cp_resolved.proofs.declarations.OwnVariables.{accepted_declares}
+use Rattle.cp_resolved.proofs.declarations.Plain.{plain_law}
+use Rattle.cp_resolved.proofs.ScopesOfTrees.{scopes_law}
+
+-- `permanents` of `IsFramed`
+pub accepted_permanents : (t : Tree) → IsAccepted t → (k : ℕ) → AreDeclared permanent_variable (system_of t.program k).scope (system_variables (system_of t.program k))
+accepted_permanents t accepted k = accepted_declares t accepted k
+
+parameters_stand : (qs : List Parameter) → Each IsStandingParameter qs → Each IsStandingVariable (parameter_variables qs)
+parameters_stand [] h = tt
+parameters_stand (q ∷ qs) h = (h.0, parameters_stand qs h.1)
+
+-- and `standing`
+pub accepted_standing : (t : Tree) → IsRead t.program → IsAccepted t → (k : ℕ) → Each IsStandingVariable (system_variables (system_of t.program k))
+accepted_standing t read accepted k =
+    let s : ScopesAre t.program = scopes_law t read accepted in
+    each_both IsStandingVariable (parameter_variables (system_of t.program k).parameters) (system_of t.program k).variables (parameters_stand (system_of t.program k).parameters (s.parameters k)) (s.variables k)
+
+pub accepted_own : (t : Tree) → IsRead t.program → IsAccepted t → AreOwn t.program
+accepted_own t read accepted = record { visible = λ k. (accepted_permanents t accepted k).visible; standing = λ k. accepted_standing t read accepted k }
+
+pub accepted_components : (t : Tree) → IsRead t.program → IsAccepted t → HasComponents t
+accepted_components t read accepted = record { plain = plain_law t read accepted; formed = well_formed t accepted; own = accepted_own t read accepted }

@@ -1,0 +1,416 @@
+-- Expressions that break no rule use names as the rules want it, and the arguments of their function calls fit the parameters.
+use Rattle.std.proofs.Common.{◌≡◌, ℕ, ◌+◌, ℤ, Bool, true, false, ◌&&◌, if◌then◌else◌, List, [], ◌∷◌, ◌++◌, Option, Some, None, Ok, Err, refl, sym, ap, subst, ◌∙◌}
+use Rattle.cp_tree.specs.declared.constant.Identifier.{Identifier}
+use Rattle.cp_tree.specs.declared.constant.Sign.{Sign}
+use Rattle.cp_tree.specs.Syntax.{Expression, alone, related, Sum, sum, Terms, no_terms, more_terms as terms_more, Term, term, Factors, no_factors, more_factors as factors_more, Factor, number, character, named as factor_named, group, negated, set_of, Expressions, no_expressions, more_expressions, Designator, designator as name_with, Selectors, no_selectors, more_selectors, field, index}
+use Rattle.cp_scope.specs.declared.fault.Rule.TheVariants.{C5}
+use Rattle.cp_scope.specs.declared.types.Base as check_base
+use Rattle.cp_scope.specs.declared.types.ValueType.{ValueType}
+use Rattle.cp_scope.specs.declared.types.ValueType.TheVariants as types
+use Rattle.cp_scope.specs.declared.types.Predeclared.{Predeclared}
+use Rattle.cp_scope.specs.declared.count.Use.{Use}
+use Rattle.cp_scope.specs.Types.{values_of}
+use Rattle.cp_scope.specs.Judged.{Judged, broken, both, ◌>>=◌}
+use Rattle.cp_scope.specs.Scopes.{Heading, Scopes, heading_at}
+use Rattle.cp_check.specs.declared.operand.Context.{Context}
+use Rattle.cp_check.specs.declared.operand.Operand.{Operand}
+use Rattle.cp_check.specs.declared.operand.Place.TheVariants as place
+use Rattle.cp_check.specs.declared.operand.Designated as check_designated
+use Rattle.cp_check.specs.declared.operand.Named.{Named}
+use Rattle.cp_check.specs.declared.operand.Named.TheVariants.{Nothing, Constant, Variable, Parameter, Kind, Routine, Entry, Predeclared as Predeclared'}
+use Rattle.cp_check.specs.Operands.{value, is_function}
+use Rattle.cp_check.specs.Operations as operations
+use Rattle.cp_check.specs.Names as names
+use Rattle.cp_check.specs.Calls as calls
+use Rattle.cp_check.specs.Expressions.{expression, sum_value, more_terms, term_value, more_factors, factor, designator, selectors, selector, arguments, is_unsigned, has_no_terms, has_no_factors, has_none}
+use Rattle.cp_check.specs.Expressions as expressions
+use Rattle.cp_meaning.specs.Names.{Name}
+use Rattle.cp_meaning.specs.Types as named
+use Rattle.cp_meaning.specs.Types.{Ty}
+use Rattle.cp_meaning.specs.Scopes as scopes
+use Rattle.cp_meaning.specs.Scopes.{find}
+use Rattle.cp_meaning.specs.Declarations as meant
+use Rattle.cp_meaning.specs.Declarations.{RoutineMeaning}
+use Rattle.cp_meaning.specs.Expressions.{routine_called}
+use Rattle.cp_meaning.specs.State.{Item, statement_item, function_call, start_item, until, successor, return, init_end, end}
+use Rattle.cp_meaning.specs.Lifting.{last_field, is_call_meant, own_call, expression_calls, sum_calls, terms_calls, term_calls, factors_calls, factor_calls, expressions_calls, selectors_calls}
+use Rattle.cp_resolved.specs.BodiesStand.{CallsFormed}
+use Rattle.cp_resolved.specs.Compiled.{Designated, a_variable, some_components, a_component, designator_form}
+use Rattle.cp_resolved.specs.FormedParts.{CanGiveAll, CallFormed}
+use Rattle.cp_resolved.specs.Layouts.{Here}
+use Rattle.cp_resolved.specs.Typed.{Tokens, IsOrdinalResult, HeadingIs, ResultIs, RoutineIs, ConstantIs, StandardIs, ScopesAgree, IsSmallExpression, IsSmallSum, AreSmallTerms, IsSmallTerm, AreSmallFactors, IsSmallFactor, AreSmallExpressions, AreSmallSelectors}
+use Rattle.cp_resolved.specs.Used.{IsBare, AreNone, IsOne, IsFunction, HasResult, AreFormed, UsedAs, IsUsed, SumUsed, TermsUsed, TermUsed, FactorsUsed, FactorUsed, AreUsed, SelectorsUsed}
+use Rattle.cp_resolved.proofs.forms.GivenArguments.{plain_arguments, call_given}
+use Rattle.cp_resolved.proofs.Typing.{second_true}
+use Rattle.cp_resolved.proofs.forms.TypingNames.{Holds, written, IsCalled, NamedIs, HasDesignated}
+use Rattle.cp_resolved.proofs.forms.TypingValues.{IsValue, held_value, own_called}
+use Rattle.cp_resolved.proofs.forms.TypingExpressions.{designator_typed}
+use Rattle.cp_resolved.proofs.forms.UsedNames.{IsVariableMeaning, other_bare, EntryUsed, entry_used}
+use Rattle.cp_resolved.proofs.agreeing.WithoutFaults.{ok_same, Then, then_of, both_of}
+
+-- ---- what is called
+
+pub calls_both : (h : Here) (xs ys : List Item) → CallsFormed h xs → CallsFormed h ys → CallsFormed h (xs ++ ys)
+calls_both h [] ys f g = g
+calls_both h (function_call at d es ∷ xs) ys f g = (f.0, calls_both h xs ys f.1 g)
+calls_both h (statement_item t ∷ xs) ys f g = absurd f
+calls_both h (start_item t ∷ xs) ys f g = absurd f
+calls_both h (until ts e ∷ xs) ys f g = absurd f
+calls_both h (successor n i z d y t ∷ xs) ys f g = absurd f
+calls_both h (return x ∷ xs) ys f g = absurd f
+calls_both h (init_end n ∷ xs) ys f g = absurd f
+calls_both h (end ∷ xs) ys f g = absurd f
+
+ordinal_result : (k : Tokens) (v : ValueType) (o : Option Ty) → IsOrdinalResult k v o → HasResult o
+ordinal_result k v (Some t) i = tt
+ordinal_result k v None i = absurd i
+
+arguments_formed : (h : Here) (qs : List meant.Parameter) (es : Expressions) → CanGiveAll h qs es → AreFormed h es
+arguments_formed h [] no_expressions g = tt
+arguments_formed h (q ∷ qs) (more_expressions e es) g = ((g.0.given.form, g.0.given.formed), arguments_formed h qs es g.1)
+arguments_formed h [] (more_expressions e es) g = absurd g
+arguments_formed h (q ∷ qs) no_expressions g = absurd g
+
+none_given : (s : Scopes) (w : Context) (es : Expressions) → arguments s w [] 0 es ≡ Ok [] → AreNone es
+unfolding expression
+none_given s w no_expressions is = tt
+none_given s w (more_expressions e es) is = absurd (let t = then_of (both (expression s w false e) (arguments s w [] (0 + 1) es)) expressions.before [] is in let bad : t.value.0 ∷ t.value.1 ≡ [] = ok_same (t.value.0 ∷ t.value.1) [] t.rest in cc)
+
+none_after : (s : Scopes) (w : Context) (k : ℕ) (es : Expressions) → arguments s w [] k es ≡ Ok [] → AreNone es
+unfolding expression
+none_after s w k no_expressions is = tt
+none_after s w k (more_expressions e es) is = absurd (let t = then_of (both (expression s w false e) (arguments s w [] (k + 1) es)) expressions.before [] is in let bad : t.value.0 ∷ t.value.1 ≡ [] = ok_same (t.value.0 ∷ t.value.1) [] t.rest in cc)
+
+one_given : (s : Scopes) (w : Context) (es : Expressions) (o : Operand) → arguments s w [] 0 es ≡ Ok (o ∷ []) → IsOne es
+unfolding expression
+one_given s w no_expressions o is = absurd (let bad : [] ≡ o ∷ [] = ok_same [] (o ∷ []) is in cc)
+one_given s w (more_expressions e es) o is =
+    let t = then_of (both (expression s w false e) (arguments s w [] (0 + 1) es)) expressions.before (o ∷ []) is in
+    let p = both_of (expression s w false e) (arguments s w [] (0 + 1) es) t.value t.is in
+    let same : t.value.0 ∷ t.value.1 ≡ o ∷ [] = ok_same (t.value.0 ∷ t.value.1) (o ∷ []) t.rest in
+    let rest : t.value.1 ≡ [] = cc in
+    none_after s w (0 + 1) es (p.second ∙ ap (λ (z : List Operand). Ok z) rest)
+
+alone_none : (o p : Operand) (os : List Operand) → calls.alone o os ≡ Ok p → os ≡ []
+alone_none o p [] is = refl
+alone_none o p (q ∷ os) is = absurd (cc)
+
+-- the one argument of a standard function
+record Single (os : List Operand) : Type 0 where
+  pub operand : Operand
+  pub is : os ≡ operand ∷ []
+
+applied_one : (at : ℕ) (p : Predeclared) (os : List Operand) (u : Use) (r : Operand) → operations.applied at p os u ≡ Ok r → Single os
+applied_one at p os u r is = go (operations.is_function p) is
+  where
+    inner : (os : List Operand) → operations.applied_all at p os u ≡ Ok r → Single os
+    inner [] i = absurd (cc)
+    inner (o ∷ []) i = record { operand = o; is = refl }
+    inner (o ∷ q ∷ os) i = absurd (cc)
+
+    go : (b : Bool) → (if b then operations.applied_all at p os u else broken at C5) ≡ Ok r → Single os
+    go true i = inner os i
+    go false i = absurd (cc)
+
+module _ (tokens : Tokens) (s : Scopes) (h : Here) (w : Context) (agrees : ScopesAgree tokens s h) where
+  -- ---- calls of functions
+
+  pub record Called (d : Designator) (es : Expressions) : Type 0 where
+    pub function : IsFunction (routine_called h.program h.scope d)
+    pub formed : AreFormed h es
+    pub call : CallFormed h d es
+
+  result_function : (v : ValueType) (o : Option RoutineMeaning) (d : Heading) → d.result ≡ Some v → HeadingIs (written tokens s h) d o → IsFunction o
+  result_function v (Some m) d is i = ordinal_result tokens v m.result (subst (λ (z : Option ValueType). ResultIs tokens z (Some m)) is i.0)
+  result_function v None d is i = absurd i
+
+  called_function : (at name_at : ℕ) (b : Bool) (n : ℕ) (os : List Operand) (u : Use) (d : Designator) (es : Expressions) (v : Option ValueType) (p : Operand) → (heading_at n s).result ≡ v → HeadingIs (written tokens s h) (heading_at n s) (routine_called h.program h.scope d) → AreSmallExpressions es → arguments s w [] 0 es ≡ Ok os → calls.function_of s w at name_at b n os u v ≡ Ok p → Called d es
+  called_function at name_at b n os u d es None p result i small a is = absurd (cc)
+  called_function at name_at b n os u d es (Some v) p result i small a is =
+      let t : Then (calls.called s w at name_at b n os u) (calls.with_result at v) p = then_of (calls.called s w at name_at b n os u) (calls.with_result at v) p is in
+      let c : CallFormed h d es = call_given tokens s h w agrees at name_at b n os u t.value d es (routine_called h.program h.scope d) refl i small (λ many. plain_arguments tokens s h w agrees (heading_at n s).parameters 0 es os a many) t.is in
+      record { function = result_function v (routine_called h.program h.scope d) (heading_at n s) result i; formed = arguments_formed h c.routine.parameters es c.arguments; call = c }
+
+  function_called : (at name_at : ℕ) (b : Bool) (n : ℕ) (os : List Operand) (u : Use) (d : Designator) (es : Expressions) (p : Operand) → HeadingIs (written tokens s h) (heading_at n s) (routine_called h.program h.scope d) → AreSmallExpressions es → arguments s w [] 0 es ≡ Ok os → calls.function_value s w at name_at b n os u ≡ Ok p → Called d es
+  unfolding calls.function_value
+  function_called at name_at b n os u d es p i small a is = called_function at name_at b n os u d es (heading_at n s).result p refl i small a is
+
+  -- ---- a name with its arguments
+
+  abbrev NameUsed : ℕ → Designator → Expressions → Bool → Option scopes.Meaning → Type 0
+  NameUsed at d es b m = UsedAs h d es b m × CallsFormed h (own_call b at d es)
+
+  constant_used : (at : ℕ) (d : Designator) (es : Expressions) (b : check_base.Base) (z : ℤ) (m : Option scopes.Meaning) (x : Option Name) → ConstantIs tokens b z m → ((IsVariableMeaning m → ⊥) → IsBare d) → AreNone es → NameUsed at d es (is_call_meant m x) m
+  constant_used at d es b z (Some (scopes.constant_meaning c y)) x i bare none = ((bare (λ k. k), none), tt)
+  constant_used at d es b z (Some (scopes.standard_meaning q)) x i bare none = absurd i
+  constant_used at d es b z (Some (scopes.type_meaning t)) x i bare none = absurd i
+  constant_used at d es b z (Some (scopes.local_variable t)) x i bare none = absurd i
+  constant_used at d es b z (Some (scopes.permanent_variable t)) x i bare none = absurd i
+  constant_used at d es b z (Some (scopes.routine_meaning r)) x i bare none = absurd i
+  constant_used at d es b z None x i bare none = absurd i
+
+  standard_used : (at : ℕ) (d : Designator) (es : Expressions) (p : Predeclared) (m : Option scopes.Meaning) (x : Option Name) → StandardIs p m → ((IsVariableMeaning m → ⊥) → IsBare d) → IsOne es → NameUsed at d es (is_call_meant m x) m
+  standard_used at d es p (Some (scopes.standard_meaning q)) x i bare one = ((bare (λ k. k), one), tt)
+  standard_used at d es p (Some (scopes.constant_meaning b z)) x i bare one = absurd i
+  standard_used at d es p (Some (scopes.type_meaning t)) x i bare one = absurd i
+  standard_used at d es p (Some (scopes.local_variable t)) x i bare one = absurd i
+  standard_used at d es p (Some (scopes.permanent_variable t)) x i bare one = absurd i
+  standard_used at d es p (Some (scopes.routine_meaning r)) x i bare one = absurd i
+  standard_used at d es p None x i bare one = absurd i
+
+  holds_no_constant : (b : named.Base) (z : ℤ) (x : Option Name) (v : ValueType) (o : Option Designated) → Holds (written tokens s h) (Some (scopes.constant_meaning b z)) x v o → ⊥
+  holds_no_constant b z x v (Some (a_variable p t)) i = i.2
+  holds_no_constant b z x v (Some (some_components first q k)) i = i.1
+  holds_no_constant b z x v (Some (a_component c k)) i = i.1
+  holds_no_constant b z x v None i = i
+
+  holds_no_standard : (q : scopes.Standard) (x : Option Name) (v : ValueType) (o : Option Designated) → Holds (written tokens s h) (Some (scopes.standard_meaning q)) x v o → ⊥
+  holds_no_standard r x v (Some (a_variable p t)) i = i.2
+  holds_no_standard r x v (Some (some_components first q k)) i = i.1
+  holds_no_standard r x v (Some (a_component c k)) i = i.1
+  holds_no_standard r x v None i = i
+
+  variable_used : (at : ℕ) (d : Designator) (es : Expressions) (m : Option scopes.Meaning) (x : Option Name) (v : ValueType) (o : Option Designated) → Holds (written tokens s h) m x v o → AreNone es → NameUsed at d es (is_call_meant m x) m
+  variable_used at d es m x v o i none =
+      let k : IsValue tokens s h w m x = held_value tokens s h w m x v o i in
+      subst (λ (b : Bool). NameUsed at d es b m) (sym k.call) (go m i, tt)
+    where
+      go : (m : Option scopes.Meaning) → Holds (written tokens s h) m x v o → UsedAs h d es false m
+      go (Some (scopes.local_variable t)) i = none
+      go (Some (scopes.permanent_variable t)) i = none
+      go (Some (scopes.type_meaning t)) i = none
+      go (Some (scopes.routine_meaning r)) i = none
+      go None i = none
+      go (Some (scopes.constant_meaning b z)) i = absurd (holds_no_constant b z x v o i)
+      go (Some (scopes.standard_meaning q)) i = absurd (holds_no_standard q x v o i)
+
+  routine_used : (at : ℕ) (d : Designator) (es : Expressions) (i : Name) (m : Option scopes.Meaning) (x : Option Name) (n : ℕ) → RoutineIs (written tokens s h) (heading_at n s) i h.scope m → ((IsVariableMeaning m → ⊥) → IsBare d) → Called d es → NameUsed at d es (is_call_meant m x) m
+  routine_used at d es i (Some (scopes.routine_meaning r)) x n k bare c = ((bare (λ z. z), c.function, c.formed), (c.call, tt))
+  routine_used at d es i (Some (scopes.constant_meaning b z)) x n k bare c = absurd k
+  routine_used at d es i (Some (scopes.standard_meaning q)) x n k bare c = absurd k
+  routine_used at d es i (Some (scopes.type_meaning t)) x n k bare c = absurd k
+  routine_used at d es i (Some (scopes.local_variable t)) x n k bare c = absurd k
+  routine_used at d es i (Some (scopes.permanent_variable t)) x n k bare c = absurd k
+  routine_used at d es i None x n k bare c = absurd k
+
+  entry_meant : (at : ℕ) (i : Identifier) (ss : Selectors) (es : Expressions) (r : ℕ) (m : Option scopes.Meaning) → is_call_meant m (last_field ss) ≡ true → ((IsVariableMeaning m → ⊥) → IsBare (name_with i ss)) → EntryUsed tokens s h w agrees i ss r → Called (name_with i ss) es → NameUsed at (name_with i ss) es (is_call_meant m (last_field ss)) m
+  entry_meant at i ss es r (Some (scopes.routine_meaning f)) call bare e c = ((bare (λ z. z), c.function, c.formed), (c.call, tt))
+  entry_meant at i ss es r (Some (scopes.permanent_variable t)) call bare e c =
+      subst (λ (b : Bool). NameUsed at (name_with i ss) es b (Some (scopes.permanent_variable t))) (sym call)
+      ((e.found.entry, c.function, c.formed, (a_component e.found.part e.system, e.found.formed)), (c.call, tt))
+  entry_meant at i ss es r (Some (scopes.local_variable t)) call bare e c = absurd (cc)
+  entry_meant at i ss es r (Some (scopes.constant_meaning b z)) call bare e c = absurd (cc)
+  entry_meant at i ss es r (Some (scopes.standard_meaning q)) call bare e c = absurd (cc)
+  entry_meant at i ss es r (Some (scopes.type_meaning t)) call bare e c = absurd (cc)
+  entry_meant at i ss es r None call bare e c = absurd (cc)
+
+  value_used : (at : ℕ) (i : Identifier) (ss : Selectors) (es : Expressions) (d : check_designated.Designated) (n : Named) (os : List Operand) (o : Option Designated) (p : Operand) → d.named ≡ n → NamedIs tokens s h i.name (find i.name h.scope) (last_field ss) n o → AreSmallSelectors ss → AreSmallExpressions es →
+      designator s w (name_with i ss) ≡ Ok d → arguments s w [] 0 es ≡ Ok os → calls.value_named s w at d os n ≡ Ok p → NameUsed at (name_with i ss) es (is_call_meant (find i.name h.scope) (last_field ss)) (find i.name h.scope)
+  value_used at i ss es d (Constant b) os o p same k small less is a g =
+      constant_used at (name_with i ss) es b k.0 (find i.name h.scope) (last_field ss) k.1 (λ other. other_bare tokens s h w agrees i ss d other is) (none_given s w es (a ∙ ap (λ (z : List Operand). Ok z) (alone_none (value at (values_of b) d.uses) p os g)))
+  value_used at i ss es d (Variable v) os o p same k small less is a g =
+      variable_used at (name_with i ss) es (find i.name h.scope) (last_field ss) v o k (none_given s w es (a ∙ ap (λ (z : List Operand). Ok z) (alone_none (calls.placed at v (calls.place_of s v) d.uses) p os g)))
+  value_used at i ss es d (Parameter v) os o p same k small less is a g =
+      variable_used at (name_with i ss) es (find i.name h.scope) (last_field ss) v o k (none_given s w es (a ∙ ap (λ (z : List Operand). Ok z) (alone_none (calls.placed at v place.Fixed d.uses) p os g)))
+  value_used at i ss es d (Predeclared' q) os o p same k small less is a g =
+      let one : Single os = applied_one at q os (calls.total_use d.uses os) p g in
+      standard_used at (name_with i ss) es q (find i.name h.scope) (last_field ss) k (λ other. other_bare tokens s h w agrees i ss d other is) (one_given s w es one.operand (a ∙ ap (λ (z : List Operand). Ok z) one.is))
+  value_used at i ss es d (Routine n) os o p same k small less is a g =
+      let c : IsCalled tokens s h n i.name (find i.name h.scope) (last_field ss) = own_called tokens s h w i.name n (find i.name h.scope) (last_field ss) k in
+      routine_used at (name_with i ss) es i.name (find i.name h.scope) (last_field ss) n k (λ other. other_bare tokens s h w agrees i ss d other is)
+      (function_called at d.name_at true n os d.uses (name_with i ss) es p c.heading less a g)
+  value_used at i ss es d (Entry n) os o p same k small less is a g =
+      entry_meant at i ss es n (find i.name h.scope) k.is (λ other. other_bare tokens s h w agrees i ss d other is) (entry_used tokens s h w agrees i ss d n small k.is same is)
+      (function_called at d.name_at false n os d.uses (name_with i ss) es p k.heading less a g)
+  value_used at i ss es d Kind os o p same k small less is a g = absurd (cc)
+  value_used at i ss es d Nothing os o p same k small less is a g = absurd (cc)
+
+  -- a name alone or with its arguments
+  record NameParts (d : Designator) (es : Expressions) (at : ℕ) (p : Operand) : Type 0 where
+    pub value : check_designated.Designated
+    pub is : designator s w d ≡ Ok value
+    pub operands : List Operand
+    pub arguments : arguments s w [] 0 es ≡ Ok operands
+    pub rest : calls.value_named s w at value operands value.named ≡ Ok p
+
+  name_parts : (b : Bool) (d : Designator) (es : Expressions) (at : ℕ) (p : Operand) → (b ≡ true → (es ≡ no_expressions) × (is_function p.place ≡ false)) → expressions.named_value s w b at (designator s w d) (arguments s w [] 0 es) ≡ Ok p → NameParts d es at p
+  unfolding calls.value_of expression
+  name_parts false d es at p only is =
+      let t : Then (both (designator s w d) (arguments s w [] 0 es)) (calls.value_of s w at) p = then_of (both (designator s w d) (arguments s w [] 0 es)) (calls.value_of s w at) p is in
+      let q = both_of (designator s w d) (arguments s w [] 0 es) t.value t.is in
+      record { value = t.value.0; is = q.first; operands = t.value.1; arguments = q.second; rest = t.rest }
+  name_parts true d es at p only is =
+      let t : Then (designator s w d) (calls.variable_of s w at) p = then_of (designator s w d) (calls.variable_of s w at) p is in
+      let k : (es ≡ no_expressions) × (is_function p.place ≡ false) = only refl in
+      record { value = t.value; is = t.is; operands = []; arguments = subst (λ (fs : Expressions). arguments s w [] 0 fs ≡ Ok []) (sym k.0) none; rest = go t.value (calls.is_other_function s w t.value.named) k.1 t.rest }
+    where
+      none : arguments s w [] 0 no_expressions ≡ Ok []
+      none = refl
+
+      go : (c : check_designated.Designated) (b : Bool) → is_function p.place ≡ false → (if b then Ok (calls.placed at types.Queue place.Function c.uses) else calls.value_of s w at (c, [])) ≡ Ok p → calls.value_named s w at c [] c.named ≡ Ok p
+      go c true k z = absurd (let one : calls.placed at types.Queue place.Function c.uses ≡ p = ok_same (calls.placed at types.Queue place.Function c.uses) p z in let bad : true ≡ false = ap (λ (x : Operand). is_function x.place) one ∙ k in cc)
+      go c false k z = z
+
+  -- ---- expressions
+
+  -- the first part of a sum or a term, and those after it
+  record Walked (j : Judged (Option Operand)) (U : Type 0) : Type 0 where
+    pub value : Option Operand
+    pub is : j ≡ Ok value
+    pub rest : U
+
+  agreed_some : (at : ℕ) (j : Judged (Option Operand)) (p : Operand) → (j >>= operations.agreed at) ≡ Ok p → j ≡ Ok (Some p)
+  agreed_some at (Ok (Some o)) p e = ap (λ (z : Operand). Ok (Some z)) (ok_same o p e)
+  agreed_some at (Ok None) p e = absurd (cc)
+  agreed_some at (Err fs) p e = absurd (cc)
+
+  no_more : (v b : Bool) → b ≡ false → (v && b) ≡ true → ⊥
+  no_more v b e i = (let bad : false ≡ true = sym e ∙ second_true v b i in cc)
+
+  first_of : (v b : Bool) → (v && b) ≡ true → v ≡ true
+  first_of true b i = refl
+  first_of false b i = absurd (cc)
+
+  some_same : (a b : Operand) → (let j : Judged (Option Operand) = Ok (Some a) in j) ≡ Ok (Some b) → a ≡ b
+  some_same a b e = cc
+
+  -- a term alone is the whole sum
+  sum_only : (at : ℕ) (v : Bool) (o : Option Sign) (ts : Terms) (q : Judged Operand) (a p : Operand) → q ≡ Ok a → (v ≡ true → is_function p.place ≡ false) → more_terms s w at (q >>= expressions.signed at o) ts ≡ Ok (Some p) → (v && (is_unsigned o && has_no_terms ts)) ≡ true → is_function a.place ≡ false
+  unfolding expression
+  sum_only at v None no_terms q a p x only is i =
+      let one : a ≡ p = some_same a p (sym (ap (λ (z : Judged Operand). z >>= expressions.signed at None) x) ∙ is) in
+      ap (λ (z : Operand). is_function z.place) one ∙ only (first_of v true i)
+  sum_only at v None (terms_more b t ts) q a p x only is i = absurd (no_more v false refl i)
+  sum_only at v (Some g) ts q a p x only is i = absurd (no_more v false refl i)
+
+  term_only : (at : ℕ) (v : Bool) (fs : Factors) (q : Judged Operand) (a p : Operand) → q ≡ Ok a → (v ≡ true → is_function p.place ≡ false) → more_factors s w at (q >>= expressions.some_operand) fs ≡ Ok (Some p) → (v && has_no_factors fs) ≡ true → is_function a.place ≡ false
+  unfolding expression
+  term_only at v no_factors q a p x only is i =
+      let one : a ≡ p = some_same a p (sym (ap (λ (z : Judged Operand). z >>= expressions.some_operand) x) ∙ is) in
+      ap (λ (z : Operand). is_function z.place) one ∙ only (first_of v true i)
+  term_only at v (factors_more m f fs) q a p x only is i = absurd (no_more v false refl i)
+
+  name_only : (v : Bool) (es : Expressions) (p : Operand) → (v ≡ true → is_function p.place ≡ false) → (v && has_none es) ≡ true → (es ≡ no_expressions) × (is_function p.place ≡ false)
+  name_only v no_expressions p only i = (refl, only (first_of v true i))
+  name_only v (more_expressions e es) p only i = absurd (no_more v false refl i)
+
+  never : (p : Operand) → false ≡ true → is_function p.place ≡ false
+  never p i = absurd (cc)
+
+  -- what selectors begin with is judged without a fault
+  record Begun (j : Judged check_designated.Designated) : Type 0 where
+    pub value : check_designated.Designated
+    pub is : j ≡ Ok value
+
+  selectors_first : (ss : Selectors) (j : Judged check_designated.Designated) (d : check_designated.Designated) → selectors s w j ss ≡ Ok d → Begun j
+  unfolding expression
+  selectors_first no_selectors j d is = record { value = d; is = is }
+  selectors_first (more_selectors (field i) ss) j d is =
+      let k : Begun (j >>= names.selected s i) = selectors_first ss (j >>= names.selected s i) d is in
+      let t : Then j (names.selected s i) k.value = then_of j (names.selected s i) k.value k.is in
+      record { value = t.value; is = t.is }
+  selectors_first (more_selectors (index e) ss) j d is =
+      let k : Begun (both j (expression s w false e) >>= expressions.at_index s) = selectors_first ss (both j (expression s w false e) >>= expressions.at_index s) d is in
+      let t : Then (both j (expression s w false e)) (expressions.at_index s) k.value = then_of (both j (expression s w false e)) (expressions.at_index s) k.value k.is in
+      record { value = t.value.0; is = (both_of j (expression s w false e) t.value t.is).first }
+
+  record Chosen (j : Judged check_designated.Designated) (e : Expression) : Type 0 where
+    pub operand : Operand
+    pub is : expression s w false e ≡ Ok operand
+
+  chosen_index : (j : Judged check_designated.Designated) (e : Expression) → Begun (both j (expression s w false e) >>= expressions.at_index s) → Chosen j e
+  chosen_index j e k =
+      let t : Then (both j (expression s w false e)) (expressions.at_index s) k.value = then_of (both j (expression s w false e)) (expressions.at_index s) k.value k.is in
+      record { operand = t.value.1; is = (both_of j (expression s w false e) t.value t.is).second }
+
+  mutual
+    unfolding expression
+
+    -- v: in the place of a `var` argument, which is no function
+    pub expression_used : (v : Bool) (e : Expression) → IsSmallExpression e → (p : Operand) → (v ≡ true → is_function p.place ≡ false) → expression s w v e ≡ Ok p → IsUsed h e × CallsFormed h (expression_calls h.scope e)
+    expression_used v (alone at a) m p only is = sum_used v a m p only is
+    expression_used v (related at a r b) m p only is =
+        let t : Then (both (sum_value s w false a) (sum_value s w false b)) (operations.related at r) p = then_of (both (sum_value s w false a) (sum_value s w false b)) (operations.related at r) p is in
+        let q = both_of (sum_value s w false a) (sum_value s w false b) t.value t.is in
+        let x = sum_used false a m.0 t.value.0 (never t.value.0) q.first in
+        let y = sum_used false b m.1 t.value.1 (never t.value.1) q.second in
+        ((x.0, y.0), calls_both h (sum_calls h.scope a) (sum_calls h.scope b) x.1 y.1)
+
+    sum_used : (v : Bool) (a : Sum) → IsSmallSum a → (p : Operand) → (v ≡ true → is_function p.place ≡ false) → sum_value s w v a ≡ Ok p → SumUsed h a × CallsFormed h (sum_calls h.scope a)
+    sum_used v (sum at o t ts) m p only is =
+        let b : Bool = v && (is_unsigned o && has_no_terms ts) in
+        let all : more_terms s w at (term_value s w b t >>= expressions.signed at o) ts ≡ Ok (Some p) = agreed_some at (more_terms s w at (term_value s w b t >>= expressions.signed at o) ts) p is in
+        let rest = terms_used at ts m.1 (term_value s w b t >>= expressions.signed at o) (Some p) all in
+        let one : Then (term_value s w b t) (expressions.signed at o) rest.value = then_of (term_value s w b t) (expressions.signed at o) rest.value rest.is in
+        let x = term_used b t m.0 one.value (sum_only at v o ts (term_value s w b t) one.value p one.is only all) one.is in
+        ((x.0, rest.rest.0), calls_both h (term_calls h.scope t) (terms_calls h.scope ts) x.1 rest.rest.1)
+
+    terms_used : (at : ℕ) (ts : Terms) → AreSmallTerms ts → (j : Judged (Option Operand)) (r : Option Operand) → more_terms s w at j ts ≡ Ok r → Walked j (TermsUsed h ts × CallsFormed h (terms_calls h.scope ts))
+    terms_used at no_terms m j r is = record { value = r; is = is; rest = (tt, tt) }
+    terms_used at (terms_more a t ts) m j r is =
+        let rest = terms_used at ts m.1 (both j (term_value s w false t) >>= expressions.added at a) r is in
+        let k : Then (both j (term_value s w false t)) (expressions.added at a) rest.value = then_of (both j (term_value s w false t)) (expressions.added at a) rest.value rest.is in
+        let q = both_of j (term_value s w false t) k.value k.is in
+        let x = term_used false t m.0 k.value.1 (never k.value.1) q.second in
+        record { value = k.value.0; is = q.first; rest = ((x.0, rest.rest.0), calls_both h (term_calls h.scope t) (terms_calls h.scope ts) x.1 rest.rest.1) }
+
+    term_used : (v : Bool) (t : Term) → IsSmallTerm t → (p : Operand) → (v ≡ true → is_function p.place ≡ false) → term_value s w v t ≡ Ok p → TermUsed h t × CallsFormed h (term_calls h.scope t)
+    term_used v (term at f fs) m p only is =
+        let b : Bool = v && has_no_factors fs in
+        let all : more_factors s w at (factor s w b f >>= expressions.some_operand) fs ≡ Ok (Some p) = agreed_some at (more_factors s w at (factor s w b f >>= expressions.some_operand) fs) p is in
+        let rest = factors_used at fs m.1 (factor s w b f >>= expressions.some_operand) (Some p) all in
+        let one : Then (factor s w b f) expressions.some_operand rest.value = then_of (factor s w b f) expressions.some_operand rest.value rest.is in
+        let x = factor_used b f m.0 one.value (term_only at v fs (factor s w b f) one.value p one.is only all) one.is in
+        ((x.0, rest.rest.0), calls_both h (factor_calls h.scope f) (factors_calls h.scope fs) x.1 rest.rest.1)
+
+    factors_used : (at : ℕ) (fs : Factors) → AreSmallFactors fs → (j : Judged (Option Operand)) (r : Option Operand) → more_factors s w at j fs ≡ Ok r → Walked j (FactorsUsed h fs × CallsFormed h (factors_calls h.scope fs))
+    factors_used at no_factors m j r is = record { value = r; is = is; rest = (tt, tt) }
+    factors_used at (factors_more o f fs) m j r is =
+        let rest = factors_used at fs m.1 (both j (factor s w false f) >>= expressions.multiplied at o) r is in
+        let k : Then (both j (factor s w false f)) (expressions.multiplied at o) rest.value = then_of (both j (factor s w false f)) (expressions.multiplied at o) rest.value rest.is in
+        let q = both_of j (factor s w false f) k.value k.is in
+        let x = factor_used false f m.0 k.value.1 (never k.value.1) q.second in
+        record { value = k.value.0; is = q.first; rest = ((x.0, rest.rest.0), calls_both h (factor_calls h.scope f) (factors_calls h.scope fs) x.1 rest.rest.1) }
+
+    factor_used : (v : Bool) (f : Factor) → IsSmallFactor f → (p : Operand) → (v ≡ true → is_function p.place ≡ false) → factor s w v f ≡ Ok p → FactorUsed h f × CallsFormed h (factor_calls h.scope f)
+    factor_used v (number at n) m p only is = (tt, tt)
+    factor_used v (character at c) m p only is = (tt, tt)
+    factor_used v (factor_named at (name_with i ss) es) m p only is =
+        let d : Designator = name_with i ss in
+        let k : NameParts d es at p = name_parts (v && has_none es) d es at p (name_only v es p only) is in
+        let t : Then (selectors s w (names.begun s i) ss) (names.known i.at) k.value = then_of (selectors s w (names.begun s i) ss) (names.known i.at) k.value k.is in
+        let x = selectors_used ss m.0 (names.begun s i) t.value t.is in
+        let y = arguments_used 0 es m.1 k.operands k.arguments in
+        let typed : NamedIs tokens s h i.name (find i.name h.scope) (last_field ss) k.value.named (designator_form h d) = subst (λ (j : Judged check_designated.Designated). HasDesignated tokens s h i.name (find i.name h.scope) (last_field ss) j (designator_form h d)) k.is (designator_typed tokens s h w agrees i ss m.0) in
+        let z = value_used at i ss es k.value k.value.named k.operands (designator_form h d) p refl typed m.0 m.1 k.is k.arguments k.rest in
+        ((x.0, y.0, z.0), calls_both h (selectors_calls h.scope ss ++ expressions_calls h.scope es) (own_call (is_call_meant (find i.name h.scope) (last_field ss)) at d es) (calls_both h (selectors_calls h.scope ss) (expressions_calls h.scope es) x.1 y.1) z.1)
+    factor_used v (group at e) m p only is =
+        let t : Then (expression s w false e) (expressions.to_group at) p = then_of (expression s w false e) (expressions.to_group at) p is in
+        expression_used false e m t.value (never t.value) t.is
+    factor_used v (negated at f) m p only is =
+        let t : Then (factor s w false f) (operations.negated at) p = then_of (factor s w false f) (operations.negated at) p is in
+        factor_used false f m t.value (never t.value) t.is
+    factor_used v (set_of at es) m p only is =
+        let t : Then (arguments s w [] 0 es) (expressions.constructed at) p = then_of (arguments s w [] 0 es) (expressions.constructed at) p is in
+        arguments_used 0 es m t.value t.is
+
+    -- where no parameter is said to be `var`
+    pub arguments_used : (k : ℕ) (es : Expressions) → AreSmallExpressions es → (os : List Operand) → arguments s w [] k es ≡ Ok os → AreUsed h es × CallsFormed h (expressions_calls h.scope es)
+    arguments_used k no_expressions m os is = (tt, tt)
+    arguments_used k (more_expressions e es) m os is =
+        let t : Then (both (expression s w false e) (arguments s w [] (k + 1) es)) expressions.before os = then_of (both (expression s w false e) (arguments s w [] (k + 1) es)) expressions.before os is in
+        let q = both_of (expression s w false e) (arguments s w [] (k + 1) es) t.value t.is in
+        let x = expression_used false e m.0 t.value.0 (never t.value.0) q.first in
+        let y = arguments_used (k + 1) es m.1 t.value.1 q.second in
+        ((x.0, y.0), calls_both h (expression_calls h.scope e) (expressions_calls h.scope es) x.1 y.1)
+
+    pub selectors_used : (ss : Selectors) → AreSmallSelectors ss → (j : Judged check_designated.Designated) (d : check_designated.Designated) → selectors s w j ss ≡ Ok d → SelectorsUsed h ss × CallsFormed h (selectors_calls h.scope ss)
+    selectors_used no_selectors m j d is = (tt, tt)
+    selectors_used (more_selectors (field i) ss) m j d is =
+        let x = selectors_used ss m.1 (j >>= names.selected s i) d is in
+        ((tt, x.0), x.1)
+    selectors_used (more_selectors (index e) ss) m j d is =
+        let x = selectors_used ss m.1 (both j (expression s w false e) >>= expressions.at_index s) d is in
+        let k : Chosen j e = chosen_index j e (selectors_first ss (both j (expression s w false e) >>= expressions.at_index s) d is) in
+        let y = expression_used false e m.0 k.operand (never k.operand) k.is in
+        ((y.0, x.0), calls_both h (expression_calls h.scope e) (selectors_calls h.scope ss) y.1 x.1)

@@ -1,0 +1,16 @@
+pub mod Cells
+pub mod EncodedCells
+pub mod FrameFits
+pub mod FrameKept
+pub mod FrameKnown
+pub mod FrameOfTables
+pub mod FrameStands
+pub mod FrameSteps
+pub mod FrameValues
+pub mod FramesBegun
+pub mod LeastCells
+pub mod LeastLengths
+pub mod RoutinesStand
+pub mod Seats
+pub mod SeatsOfProgram
+pub mod SeatsOfSystems

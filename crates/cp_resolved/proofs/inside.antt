@@ -1,0 +1,10 @@
+pub mod HoldingTables
+pub mod InsideArguments
+pub mod InsideExpressions
+pub mod InsideForms
+pub mod InsideItems
+pub mod InsideOfTables
+pub mod InsidePlaces
+pub mod InsideViews
+pub mod PlainActions
+pub mod PlainInside

@@ -1,0 +1,28 @@
+-- Tables that stand for an accepted tree have what the law on items inside wants of them.
+use Rattle.std.specs.Prelude.{◌≡◌, ℕ, Some, slice_get}
+use Rattle.cp_tree.specs.Syntax.{Tree}
+use Rattle.cp_layout.specs.Laid.{plain, laid}
+use Rattle.cp_layout.specs.Layers.{Layer}
+use Rattle.cp_slots.specs.Tables.{Tables}
+use Rattle.cp_lawful.specs.Accepted.{IsAccepted}
+use Rattle.cp_lawful.proofs.Accepting.{well_formed}
+use Rattle.cp_resolved.specs.Begun.{all_begun}
+use Rattle.cp_resolved.specs.BodiesStand.{ground_of, BodyFormed}
+use Rattle.cp_resolved.specs.Framed.{IsFramed}
+use Rattle.cp_resolved.specs.ItemsInside.{CanHold}
+use Rattle.cp_resolved.specs.LayoutsKnow.{IsPlaced}
+use Rattle.cp_resolved.specs.Resolved.{Stands}
+use Rattle.cp_resolved.specs.TreeLayouts.{layouts_of}
+use Rattle.cp_resolved.proofs.HandedOfTrees.{entrance_fits}
+use Rattle.cp_resolved.proofs.names.HeadingsFit.{heading_fits}
+use Rattle.cp_resolved.proofs.names.LeadingNames.{components_lead}
+
+pub can_hold : (t : Tree) (r : Tables) → plain r ≡ laid t → IsAccepted t → IsPlaced t → IsFramed t → ((n : ℕ) (l : Layer) → slice_get (all_begun t) n ≡ Some l → BodyFormed t n l) → Stands (ground_of r t) t (layouts_of t) → CanHold t r
+can_hold t r same ok place framed bodies stands =
+    record {
+      placed = place;
+      bodies = bodies;
+      headings = λ n lt. heading_fits t r same place framed n lt;
+      entrances = λ k le. entrance_fits t r same place.plain framed k le;
+      components = λ n lt. components_lead t r same place framed (well_formed t ok) stands n lt;
+    }

@@ -1,0 +1,5 @@
+pub mod Ended
+pub mod Expressions
+pub mod Going
+pub mod ItemsMean
+pub mod StatementsStand

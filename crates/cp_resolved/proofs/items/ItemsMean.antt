@@ -1,0 +1,87 @@
+-- The items that are laid out of a statement mean something: the calls in it, and its own item.
+use Rattle.std.proofs.Common.{◌≡◌, ℕ, List, [], ◌∷◌, ◌++◌, length, Option, Some, refl, sym, ap, subst, ◌∙◌, append-nil, append_assoc}
+use Rattle.cp_slots.specs.Code as code
+use Rattle.cp_layout.specs.Layers.{Layer, Pending, added, without_pending, settled_all}
+use Rattle.cp_meaning.specs.Names.{temporary}
+use Rattle.cp_meaning.specs.State.{Item, function_call, statement_item, start_item, until, successor, return, init_end, end}
+use Rattle.cp_resolved.specs.Layouts.{Here}
+use Rattle.cp_resolved.specs.Meant.{Calls, Means}
+use Rattle.cp_resolved.specs.Stands.{Ground}
+use Rattle.cp_resolved.proofs.items.Going.{CallPending, PendingAre, Goes}
+use Rattle.cp_resolved.proofs.laid.Kept.{Kept}
+use Rattle.cp_resolved.proofs.laid.SettledItems.{made, ended}
+
+-- an item of the routine of this number
+pub record IsMeant (h : Here) (n : ℕ) (i : code.Item) : Type 0 where
+  pub means : Means h i.action
+  pub routine : i.routine ≡ n
+
+abbrev pub AreMeant : Here → ℕ → List code.Item → Type 0
+AreMeant h n [] = Unit {0}
+AreMeant h n (i ∷ is) = IsMeant h n i × AreMeant h n is
+
+meant_both : (h : Here) (n : ℕ) (is js : List code.Item) → AreMeant h n is → AreMeant h n js → AreMeant h n (is ++ js)
+meant_both h n [] js a b = b
+meant_both h n (i ∷ is) js a b = (a.0, meant_both h n is js a.1 b)
+
+-- the items of a state after those of an earlier one
+pub record NewItems (h : Here) (l m : Layer) : Type 0 where
+  pub new : List code.Item
+  pub same : m.items ≡ l.items ++ new
+  pub routines : m.routines ≡ l.routines
+  pub meant : AreMeant h (length l.routines) new
+
+pub none_new : (h : Here) (l : Layer) → NewItems h l l
+none_new h l = record { new = []; same = sym (append-nil l.items); routines = refl; meant = tt }
+
+pub both_new : (h : Here) (l m o : Layer) → NewItems h l m → NewItems h m o → NewItems h l o
+both_new h l m o a b =
+    record {
+      new = a.new ++ b.new;
+      same = b.same ∙ ap (λ is. is ++ b.new) a.same ∙ append_assoc l.items a.new b.new;
+      routines = b.routines ∙ a.routines;
+      meant = meant_both h (length l.routines) a.new b.new a.meant (subst (λ n. AreMeant h n b.new) (ap (λ rs. length rs) a.routines) b.meant);
+    }
+
+-- ---- what is to come
+
+abbrev AllMean : Here → List Pending → Type 0
+AllMean h [] = Unit {0}
+AllMean h (p ∷ ps) = Means h p.action × AllMean h ps
+
+all_both : (h : Here) (ps qs : List Pending) → AllMean h ps → AllMean h qs → AllMean h (ps ++ qs)
+all_both h [] qs a b = b
+all_both h (p ∷ ps) qs a b = (a.0, all_both h ps qs a.1 b)
+
+pending_mean : (lines : List ℕ) (h : Here) (ps : List Pending) (is : List Item) → PendingAre lines h ps is → AllMean h ps
+pending_mean lines h [] [] a = tt
+pending_mean lines h (p ∷ ps) (function_call at d es ∷ is) a =
+    let c : CallPending lines h at d es p = a.0 in
+    let i : Calls h c.number c.part c.is_entry c.arguments _ = record { designator = d; expressions = es; name = Some (temporary at); called = c.called; goes = c.taken; cell = refl; chosen = c.chosen; held = c.held } in
+    (subst (Means h) (sym c.action) i, pending_mean lines h ps is a.1)
+pending_mean lines h [] (i ∷ is) a = absurd a
+pending_mean lines h (p ∷ ps) [] a = absurd a
+pending_mean lines h (p ∷ ps) (statement_item t ∷ is) a = absurd a
+pending_mean lines h (p ∷ ps) (start_item t ∷ is) a = absurd a
+pending_mean lines h (p ∷ ps) (until ts e ∷ is) a = absurd a
+pending_mean lines h (p ∷ ps) (successor at i z d w t ∷ is) a = absurd a
+pending_mean lines h (p ∷ ps) (return o ∷ is) a = absurd a
+pending_mean lines h (p ∷ ps) (init_end n ∷ is) a = absurd a
+pending_mean lines h (p ∷ ps) (end ∷ is) a = absurd a
+
+all_new : (h : Here) (l : Layer) (ps : List Pending) (next : Option ℕ) → AllMean h ps → NewItems h l (settled_all l ps next).1
+all_new h l [] next a = none_new h l
+all_new h l (p ∷ ps) next a =
+    let rest : Option ℕ × Layer = settled_all l ps next in
+    let i : code.Item = made rest.1 p rest.0 in
+    both_new h l rest.1 (settled_all l (p ∷ ps) next).1 (all_new h l ps next a.1) (record { new = i ∷ []; same = refl; routines = refl; meant = (record { means = a.0; routine = refl }, tt) })
+
+-- the calls of a statement and its own item
+pub ended_new : (g : Ground) (h : Here) (l m : Layer) (is : List Item) (at : ℕ) (a : code.Action) (need : ℕ) (next : Option ℕ) → l.pending ≡ [] → Kept l m → Goes g.lines h l m is → Means h a → NewItems h l (ended g h m at a need next).1
+ended_new g h l m is at a need next none s i x =
+    let j : Layer = added m at a need in
+    let z : Layer = without_pending j in
+    let own : Pending = record { action = a; line = _; need = need } in
+    let ps : AllMean h j.pending = all_both h m.pending (own ∷ []) (subst (AllMean h) (sym (i.pending ∙ ap (λ ps. ps ++ i.new) none)) (pending_mean g.lines h i.new is i.stand)) (x, tt) in
+    let n : NewItems h z (ended g h m at a need next).1 = all_new h z j.pending next ps in
+    both_new h l z (ended g h m at a need next).1 (record { new = []; same = ap (λ (k : Layer). k.items) s ∙ sym (append-nil l.items); routines = ap (λ (k : Layer). k.routines) s; meant = tt }) n

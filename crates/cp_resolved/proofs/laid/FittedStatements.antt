@@ -1,0 +1,324 @@
+-- All statements: their items have what they need.
+use Rattle.std.proofs.Common.{◌≡◌, ℕ, ◌+◌, ◌*◌, ◌<◌, ◌≤◌, max, Bool, false, List, [], ◌∷◌, length, Option, Some, None, slice_index, refl, sym, ap, subst, arith}
+use Rattle.cp_tree.specs.declared.statement.Direction.{Direction}
+use Rattle.cp_tree.specs.Syntax as syntax
+use Rattle.cp_layout.specs.declared.kinds.ValueType.{ValueType}
+use Rattle.cp_layout.specs.declared.kinds.ValueType.TheVariants as types
+use Rattle.cp_layout.specs.declared.names.Predeclared.{Predeclared}
+use Rattle.cp_layout.specs.declared.names.Predeclared.TheVariants as predeclared
+use Rattle.cp_slots.specs.Code as code
+use Rattle.cp_slots.specs.Code.{Action, Arm, Argument, ComponentPlace, Item, Place}
+use Rattle.cp_layout.specs.Values.{Value, Designated, a_value, a_variable, a_contained, a_component, a_routine, an_entry, a_standard, no_designated, ordinal_of}
+use Rattle.cp_layout.specs.Layers.{Layer, Pending, settled, added, again, need_of, need_inside, call_need, with_room}
+use Rattle.cp_layout.specs.LaidExpressions.{expression, designator, first_value, arguments, arguments_from, counted, name_at}
+use Rattle.cp_layout.specs.LaidStatements.{target_of, assignment, assigned_as, assigned, invoked, invoked_as, Callee, a_standard_procedure, a_procedure, no_callee, callee_of, performed, standard, procedure, chosen, selected, arms_need, while_item, until_item, for_item, blocked, cycled, repeated, Placed, placed_of, begun_component, started_as, started, starts, initial_of, statement, statements, arms, one_arm, token_of}
+use Rattle.cp_resolved.proofs.laid.Calling.{ActionFits, ArmsFit, IsNoLoop, Onward, onward_trans, onward_items, onward_routines, action_onward, Ran, ran_trans, then_ran, count_ran, call_step, Ground, ground_kept, designated_kept, expression_ran, first_ran, arguments_ran, designator_ran, designator_there}
+use Rattle.cp_resolved.proofs.laid.Fitted.{Result, moved, alone, own_settled, loop_settled, inside_bounded, list_kept, onward_same}
+use Rattle.cp_resolved.proofs.laid.Fitting.{ListFits, list_longer, need_longer}
+use Rattle.cp_resolved.proofs.laid.Grown.{kept_grew}
+use Rattle.cp_resolved.proofs.laid.Kept.{Kept}
+use Rattle.cp_resolved.proofs.laid.Named.{DesignatedIn, initial_below}
+use Rattle.cp_resolved.proofs.laid.Settled.{Fitted}
+
+-- ---- own items
+
+added_ran : (l : Layer) (at : ℕ) (a : Action) (need : ℕ) → ActionFits l (length l.routines) need a → IsNoLoop a → need ≤ 2 * length l.items + 2 → Ran l (added l at a need)
+added_ran l at a need fits plain bound =
+    let m : Layer = added l at a need in
+    let o : Onward l m = record { grew = kept_grew l m refl; extents = refl; room = omega arith; reference_room = omega arith; arguments = omega arith } in
+    let p : Pending = record { action = a; line = slice_index l.lines at; need = need } in
+    record {
+      kept = refl;
+      extents = refl;
+      room = omega arith;
+      reference_room = omega arith;
+      arguments = omega arith;
+      more = p ∷ [];
+      pending = refl;
+      calls = (record { action = action_onward l m (length l.routines) need need a (omega arith) o fits; plain = plain; bound = bound }, tt);
+    }
+
+assigned_fits : (l m : Layer) (r : ℕ) (p : Place) (v : Value) (t : ValueType) → ActionFits m r 0 (assigned_as l p v t) × IsNoLoop (assigned_as l p v t)
+assigned_fits l m r p v (types.Ordinal q) = (tt, tt)
+assigned_fits l m r p v (types.Set q) = (tt, tt)
+assigned_fits l m r p v types.Queue = (tt, tt)
+assigned_fits l m r p v (types.Array n) = (tt, tt)
+assigned_fits l m r p v (types.Record n) = (tt, tt)
+assigned_fits l m r p v (types.System n) = (tt, tt)
+
+assigned_ran : (l : Layer) (at : ℕ) (d : syntax.Designator) (e : syntax.Expression) → Ground l → Ran l (assigned l at d e)
+unfolding assigned
+assigned_ran l at d e g =
+    let x = designator l d in
+    let y = expression x.1 e in
+    let t = target_of x.1 x.0 in
+    let h = assigned_fits y.1 y.1 (length y.1.routines) t.place y.0 t.value_type in
+    ran_trans l y.1 (assigned l at d e) (then_ran l x.1 y.1 (designator_ran l d g) (expression_ran x.1 e) g) (added_ran y.1 at (assignment y.1 t y.0) 0 h.0 h.1 (omega arith))
+
+performed_fits : (m : Layer) (r : ℕ) (p : Predeclared) (v : Value) → ActionFits m r 0 (performed p v) × IsNoLoop (performed p v)
+performed_fits m r predeclared.Delay v = (tt, tt)
+performed_fits m r predeclared.Continue v = (tt, tt)
+performed_fits m r predeclared.Display v = (tt, tt)
+performed_fits m r _ v = (tt, tt)
+
+standard_ran : (l : Layer) (at : ℕ) (p : Predeclared) (es : syntax.Expressions) → Ground l → Ran l (standard l at p es)
+unfolding standard
+standard_ran l at p es g =
+    let x = first_value l es in
+    let h = performed_fits x.1 (length x.1.routines) p x.0 in
+    ran_trans l x.1 (standard l at p es) (first_ran l es g) (added_ran x.1 at (performed p x.0) 0 h.0 h.1 (omega arith))
+
+-- arguments, and the call that they are for
+handed_ran : (l : Layer) (at r : ℕ) (es : syntax.Expressions) (a : List Argument → Action) → ((m : Layer) (routine need : ℕ) (as' : List Argument) → ActionFits m routine need (a as') ≡ ActionFits m routine need (code.call r code.own false as' None)) → ((as' : List Argument) → IsNoLoop (a as'))
+    → r ≤ length l.routines → Ground l → Ran l (let x = arguments l r es in added (with_room x.1 r) at (a x.0) (call_need x.1 r))
+unfolding arguments
+handed_ran l at r es a fits plain le g =
+    let y : List Argument × Layer = arguments_from l r 0 es in
+    let m : Layer = (counted y).1 in
+    let q : Ran l m = ran_trans l y.1 m (arguments_ran l r 0 es g) (count_ran y.1 (length y.0)) in
+    let e : length m.routines ≡ length l.routines = ap (λ (j : Layer). length j.routines) q.kept in
+    ran_trans l m (added (with_room m r) at (a y.0) (call_need m r)) q (call_step m at r (a y.0) (length y.0) (λ k routine need h. subst (λ T. T) (sym (fits k routine need y.0)) h) (plain y.0) (omega (arith, le, e)) (omega arith) (ground_kept l m q.kept g))
+
+procedure_ran : (l : Layer) (at : ℕ) (c : ComponentPlace) (b : Bool) (r : ℕ) (es : syntax.Expressions) → r ≤ length l.routines → Ground l → Ran l (procedure l at c b r es)
+unfolding procedure
+procedure_ran l at c b r es le g = handed_ran l at r es (λ as'. code.call r c b as' None) (λ m routine need as'. refl) (λ as'. tt) le g
+
+begun_ran : (l : Layer) (at : ℕ) (c : ComponentPlace) (r : ℕ) (es : syntax.Expressions) → r ≤ length l.routines → Ground l → Ran l (begun_component l at c r es)
+unfolding begun_component
+begun_ran l at c r es le g = handed_ran l at r es (λ as'. code.start c r as') (λ m routine need as'. refl) (λ as'. tt) le g
+
+abbrev CalleeIn : Layer → Callee → Type 0
+CalleeIn l (a_procedure c b r) = r ≤ length l.routines
+CalleeIn l (a_standard_procedure p) = Unit {0}
+CalleeIn l no_callee = Unit {0}
+
+callee_there : (l : Layer) (d : Designated) → DesignatedIn l d → CalleeIn l (callee_of d)
+callee_there l (a_routine r) h = h
+callee_there l (an_entry c r) h = omega arith
+callee_there l (a_standard p) h = tt
+callee_there l (a_value v) h = tt
+callee_there l (a_variable p t) h = tt
+callee_there l (a_contained n t) h = tt
+callee_there l (a_component c k) h = tt
+callee_there l no_designated h = tt
+
+invoked_as_ran : (l : Layer) (at : ℕ) (c : Callee) (es : syntax.Expressions) → CalleeIn l c → Ground l → Ran l (invoked_as l at c es)
+invoked_as_ran l at (a_standard_procedure p) es h g = standard_ran l at p es g
+invoked_as_ran l at (a_procedure c b r) es h g = procedure_ran l at c b r es h g
+invoked_as_ran l at no_callee es h g = added_ran l at code.nothing 0 tt tt (omega arith)
+
+invoked_ran : (l : Layer) (at : ℕ) (d : syntax.Designator) (es : syntax.Expressions) → Ground l → Ran l (invoked l at d es)
+unfolding invoked
+invoked_ran l at d es g =
+    let x = designator l d in
+    let q : Ran l x.1 = designator_ran l d g in
+    ran_trans l x.1 (invoked l at d es) q (invoked_as_ran x.1 at (callee_of x.0) es (callee_there x.1 x.0 (designated_kept l x.1 x.0 q.kept (designator_there l d g.named))) (ground_kept l x.1 q.kept g))
+
+abbrev PlacedIn : Layer → Option Placed → Type 0
+PlacedIn l None = Unit {0}
+PlacedIn l (Some p) = p.1 < length l.systems
+
+placed_there : (l : Layer) (d : Designated) → DesignatedIn l d → PlacedIn l (placed_of d)
+placed_there l (a_component c k) h = h
+placed_there l (a_routine r) h = tt
+placed_there l (an_entry c r) h = tt
+placed_there l (a_standard p) h = tt
+placed_there l (a_value v) h = tt
+placed_there l (a_variable p t) h = tt
+placed_there l (a_contained n t) h = tt
+placed_there l no_designated h = tt
+
+started_as_ran : (l : Layer) (at : ℕ) (o : Option Placed) (es : syntax.Expressions) → PlacedIn l o → Ground l → Ran l (started_as l at o es)
+started_as_ran l at None es h g = added_ran l at code.nothing 0 tt tt (omega arith)
+started_as_ran l at (Some p) es h g = let lt = initial_below l p.1 g.named h in begun_ran l at p.0 (initial_of l p.1) es (omega (arith, lt)) g
+
+started_ran : (l : Layer) (t : syntax.Start) → Ground l → Ran l (started l t)
+unfolding started
+started_ran l t g =
+    let x = designator l t.target in
+    let q : Ran l x.1 = designator_ran l t.target g in
+    ran_trans l x.1 (started l t) q (started_as_ran x.1 (name_at t.target) (placed_of x.0) t.arguments (placed_there x.1 x.0 (designated_kept l x.1 x.0 q.kept (designator_there l t.target g.named))) (ground_kept l x.1 q.kept g))
+
+-- ---- items with lists inside
+
+abbrev ListIn : Layer → Option ℕ → Type 0
+ListIn l o = ListFits l.items (length l.routines) (need_of l.items o) o
+
+inside_bound : (l : Layer) (o : Option ℕ) → Ground l → ListIn l o → need_inside l.items o ≤ 2 * length l.items + 1
+inside_bound l o g h = inside_bounded l.items (length l.routines) (need_of l.items o) o g.bounded h
+
+blocked_ran : (l : Layer) (at : ℕ) (o : Option ℕ) → Ground l → ListIn l o → Ran l (blocked l at o)
+blocked_ran l at o g h = let b = inside_bound l o g h in added_ran l at (code.block o) (need_inside l.items o) (h, omega arith) tt (omega (arith, b))
+
+cycled_ran : (l : Layer) (at : ℕ) (o : Option ℕ) → Ground l → ListIn l o → Ran l (cycled l at o)
+cycled_ran l at o g h = let b = inside_bound l o g h in added_ran l at (code.cycle o) (need_inside l.items o) (h, omega arith) tt (omega (arith, b))
+
+listed_kept : (k j : Layer) (o : Option ℕ) → Kept k j → ListIn k o → ListIn j o
+listed_kept k j o h f = list_kept k j o h f
+
+chosen_ran : (l : Layer) (at : ℕ) (e : syntax.Expression) (s t : Option ℕ) → Ground l → ListIn l s → ListIn l t → Ran l (chosen l at e s t)
+unfolding chosen
+chosen_ran l at e s t g h i =
+    let x = expression l e in
+    let q : Ran l x.1 = expression_ran l e g in
+    let y : Ground x.1 = ground_kept l x.1 q.kept g in
+    let u : ListIn x.1 s = listed_kept l x.1 s q.kept h in
+    let v : ListIn x.1 t = listed_kept l x.1 t q.kept i in
+    let a = inside_bound x.1 s y u in
+    let b = inside_bound x.1 t y v in
+    ran_trans l x.1 (chosen l at e s t) q (added_ran x.1 at (code.choose (ordinal_of x.0) s t) (max (need_inside x.1.items s) (need_inside x.1.items t)) ((u, omega arith), (v, omega arith)) tt (omega (arith, a, b)))
+
+for_ran : (l : Layer) (at : ℕ) (n : List ℕ) (e : syntax.Expression) (d : Direction) (f : syntax.Expression) (o : Option ℕ) → Ground l → ListIn l o → Ran l (for_item l at n e d f o)
+unfolding for_item
+for_ran l at n e d f o g h =
+    let x = expression l e in
+    let y = expression x.1 f in
+    let q : Ran l y.1 = then_ran l x.1 y.1 (expression_ran l e g) (expression_ran x.1 f) g in
+    let u : ListIn y.1 o = listed_kept l y.1 o q.kept h in
+    let b = inside_bound y.1 o (ground_kept l y.1 q.kept g) u in
+    ran_trans l y.1 (for_item l at n e d f o) q (added_ran y.1 at (code.for_do _ _ _ _ _ _ o) (need_inside y.1.items o) (u, omega arith) tt (omega (arith, b)))
+
+-- ---- arms
+
+abbrev ArmsIn : Layer → List Arm → Type 0
+ArmsIn l [] = Unit {0}
+ArmsIn l (a ∷ as') = ListIn l a.body × ArmsIn l as'
+
+arms_from : (l : Layer) (n : ℕ) (as' : List Arm) → n ≤ arms_need l n as'
+arms_from l n [] = omega arith
+arms_from l n (a ∷ as') = let h = arms_from l (max (need_inside l.items a.body) n) as' in omega (arith, h)
+
+arms_fit : (l : Layer) (n need : ℕ) (as' : List Arm) → arms_need l n as' ≤ need → ArmsIn l as' → ArmsFit l.items (length l.routines) need as'
+arms_fit l n need [] le h = tt
+arms_fit l n need (a ∷ as') le h =
+    let b = arms_from l (max (need_inside l.items a.body) n) as' in
+    ((h.0, omega (arith, b, le)), arms_fit l (max (need_inside l.items a.body) n) need as' le h.1)
+
+arms_bound : (l : Layer) (n : ℕ) (as' : List Arm) → Ground l → n ≤ 2 * length l.items + 2 → ArmsIn l as' → arms_need l n as' ≤ 2 * length l.items + 2
+arms_bound l n [] g le h = le
+arms_bound l n (a ∷ as') g le h = let b = inside_bound l a.body g h.0 in arms_bound l (max (need_inside l.items a.body) n) as' g (omega (arith, b, le)) h.1
+
+arms_kept : (k j : Layer) (as' : List Arm) → Kept k j → ArmsIn k as' → ArmsIn j as'
+arms_kept k j [] h f = tt
+arms_kept k j (a ∷ as') h f = (listed_kept k j a.body h f.0, arms_kept k j as' h f.1)
+
+selected_ran : (l : Layer) (at : ℕ) (e : syntax.Expression) (as' : List Arm) → Ground l → ArmsIn l as' → Ran l (selected l at e as')
+unfolding selected
+selected_ran l at e as' g h =
+    let x = expression l e in
+    let q : Ran l x.1 = expression_ran l e g in
+    let u : ArmsIn x.1 as' = arms_kept l x.1 as' q.kept h in
+    let y : Ground x.1 = ground_kept l x.1 q.kept g in
+    ran_trans l x.1 (selected l at e as') q (added_ran x.1 at (code.select (ordinal_of x.0) as') (arms_need x.1 0 as') (arms_fit x.1 0 (arms_need x.1 0 as') as' (omega arith) u) tt (arms_bound x.1 0 as' y (omega arith) u))
+
+list_onward : (l m : Layer) (o : Option ℕ) → Onward l m → ListIn l o → ListIn m o
+list_onward l m o w h = rw (onward_items l m w, onward_routines l m w, need_longer l.items w.grew.0 (length l.routines) (need_of l.items o) o h) (list_longer l.items w.grew.0 (length l.routines) (need_of l.items o) o h)
+
+arms_onward : (l m : Layer) (as' : List Arm) → Onward l m → ArmsIn l as' → ArmsIn m as'
+arms_onward l m [] w h = tt
+arms_onward l m (a ∷ as') w h = (list_onward l m a.body w h.0, arms_onward l m as' w h.1)
+
+-- ---- loops
+
+while_fitted : (k : Layer) (at : ℕ) (e : syntax.Expression) (body next : Option ℕ) → Fitted k next → ListIn k body → Result k (settled (while_item k at e body) next)
+unfolding while_item
+while_fitted k at e body next f h =
+    let w = expression k e in
+    let q : Ran k w.1 = expression_ran k e f.ground in
+    loop_settled k w.1 next body (code.while_do (ordinal_of w.0) body (again w.1)) (slice_index w.1.lines at) f q (listed_kept k w.1 body q.kept h) (λ l r n i. i) (λ is r n i. i)
+
+until_fitted : (k : Layer) (at : ℕ) (e : syntax.Expression) (body next : Option ℕ) → Fitted k next → ListIn k body → Result k (settled (until_item k at e body) next)
+unfolding until_item
+until_fitted k at e body next f h =
+    let w = expression k e in
+    let q : Ran k w.1 = expression_ran k e f.ground in
+    loop_settled k w.1 next body (code.until (ordinal_of w.0) body (again w.1)) (slice_index w.1.lines at) f q (listed_kept k w.1 body q.kept h) (λ l r n i. i) (λ is r n i. i)
+
+-- ---- statements
+
+then_result : (l : Layer) (x y : Option ℕ × Layer) → Result l x → Result x.1 y → Result l y
+then_result l x y r s = record { onward = onward_trans l x.1 y.1 r.onward s.onward; fitted = s.fitted }
+
+onward_result : (l k : Layer) (y : Option ℕ × Layer) → Onward l k → Result k y → Result l y
+onward_result l k y w s = record { onward = onward_trans l k y.1 w s.onward; fitted = s.fitted }
+
+pub record ArmsResult (l : Layer) (x : List Arm × Layer) : Type 0 where
+  pub onward : Onward l x.1
+  pub fitted : Fitted x.1 None
+  pub arms : ArmsIn x.1 x.0
+
+own_item : (l j : Layer) (next : Option ℕ) → Fitted l next → Ran l j → Result l (settled j next)
+own_item l j next f r = own_settled l l j next next f (onward_same l) f r
+
+starts_fitted : (l : Layer) (ts : List syntax.Start) (next : Option ℕ) → Fitted l next → Result l (starts l ts next)
+unfolding starts
+starts_fitted l [] next f = record { onward = onward_same l; fitted = f }
+starts_fitted l (t ∷ ts) next f =
+    let x : Option ℕ × Layer = starts l ts next in
+    let r : Result l x = starts_fitted l ts next f in
+    then_result l x (settled (started x.1 t) x.0) r (own_item x.1 (started x.1 t) x.0 r.fitted (started_ran x.1 t r.fitted.ground))
+
+repeated_fitted : (l : Layer) (at : ℕ) (x : Option ℕ × Layer) (e : syntax.Expression) (next : Option ℕ) → Fitted l next → Result l x → Result l (repeated x.1 at x.0 e next)
+repeated_fitted l at x e next f r =
+    let y : Option ℕ × Layer = settled (until_item x.1 (token_of e) e x.0) next in
+    let q : Result x.1 y = until_fitted x.1 (token_of e) e x.0 next (moved l x.1 next x.0 r.onward f r.fitted) r.fitted.first in
+    let b : Ran y.1 (blocked y.1 at x.0) = blocked_ran y.1 at x.0 q.fitted.ground (list_onward x.1 y.1 x.0 q.onward r.fitted.first) in
+    then_result l y (repeated x.1 at x.0 e next) (then_result l x y r q) (own_item y.1 (blocked y.1 at x.0) y.0 q.fitted b)
+
+mutual
+  unfolding statements statement arms one_arm
+
+  pub statements_fitted : (l : Layer) (ss : syntax.Statements) → Fitted l None → Result l (statements l ss)
+  statements_fitted l syntax.no_statements f = record { onward = onward_same l; fitted = f }
+  statements_fitted l (syntax.more_statements t ts) f =
+      let x : Option ℕ × Layer = statements l ts in
+      let r : Result l x = statements_fitted l ts f in
+      then_result l x (statement x.1 t x.0) r (statement_fitted x.1 t x.0 r.fitted)
+
+  pub statement_fitted : (l : Layer) (t : syntax.Statement) (next : Option ℕ) → Fitted l next → Result l (statement l t next)
+  statement_fitted l (syntax.empty at) next f = own_item l (added l at code.nothing 0) next f (added_ran l at code.nothing 0 tt tt (omega arith))
+  statement_fitted l (syntax.assign at d e) next f = own_item l (assigned l at d e) next f (assigned_ran l at d e f.ground)
+  statement_fitted l (syntax.invoke at d es) next f = own_item l (invoked l at d es) next f (invoked_ran l at d es f.ground)
+  statement_fitted l (syntax.block at ts) next f =
+      let x : Option ℕ × Layer = statements l ts in
+      let r : Result l x = statements_fitted l ts (alone l next f) in
+      own_settled l x.1 (blocked x.1 at x.0) next x.0 f r.onward r.fitted (blocked_ran x.1 at x.0 r.fitted.ground r.fitted.first)
+  statement_fitted l (syntax.if_then at e t) next f =
+      let x : Option ℕ × Layer = statement l t None in
+      let r : Result l x = statement_fitted l t None (alone l next f) in
+      own_settled l x.1 (chosen x.1 at e x.0 None) next x.0 f r.onward r.fitted (chosen_ran x.1 at e x.0 None r.fitted.ground r.fitted.first tt)
+  statement_fitted l (syntax.if_else at e t u) next f =
+      let x : Option ℕ × Layer = statement l t None in
+      let y : Option ℕ × Layer = statement x.1 u None in
+      let r : Result l x = statement_fitted l t None (alone l next f) in
+      let s : Result x.1 y = statement_fitted x.1 u None (alone x.1 x.0 r.fitted) in
+      own_settled l y.1 (chosen y.1 at e x.0 y.0) next y.0 f (onward_trans l x.1 y.1 r.onward s.onward) s.fitted (chosen_ran y.1 at e x.0 y.0 s.fitted.ground (list_onward x.1 y.1 x.0 s.onward r.fitted.first) s.fitted.first)
+  statement_fitted l (syntax.case_of at e as' b) next f =
+      let x : List Arm × Layer = arms l as' in
+      let r : ArmsResult l x = arms_fitted l as' (alone l next f) in
+      own_settled l x.1 (selected x.1 at e x.0) next None f r.onward r.fitted (selected_ran x.1 at e x.0 r.fitted.ground r.arms)
+  statement_fitted l (syntax.while_do at e t) next f =
+      let x : Option ℕ × Layer = statement l t None in
+      let r : Result l x = statement_fitted l t None (alone l next f) in
+      onward_result l x.1 (settled (while_item x.1 at e x.0) next) r.onward (while_fitted x.1 at e x.0 next (moved l x.1 next x.0 r.onward f r.fitted) r.fitted.first)
+  statement_fitted l (syntax.repeat_until at ts e) next f = repeated_fitted l at (statements l ts) e next f (statements_fitted l ts (alone l next f))
+  statement_fitted l (syntax.for_do at i e d g t) next f =
+      let x : Option ℕ × Layer = statement l t None in
+      let r : Result l x = statement_fitted l t None (alone l next f) in
+      own_settled l x.1 (for_item x.1 at i.name e d g x.0) next x.0 f r.onward r.fitted (for_ran x.1 at i.name e d g x.0 r.fitted.ground r.fitted.first)
+  statement_fitted l (syntax.cycle at ts) next f =
+      let x : Option ℕ × Layer = statements l ts in
+      let r : Result l x = statements_fitted l ts (alone l next f) in
+      own_settled l x.1 (cycled x.1 at x.0) next x.0 f r.onward r.fitted (cycled_ran x.1 at x.0 r.fitted.ground r.fitted.first)
+  statement_fitted l (syntax.init at ts) next f = starts_fitted l ts next f
+
+  arms_fitted : (l : Layer) (as' : syntax.Arms) → Fitted l None → ArmsResult l (arms l as')
+  arms_fitted l syntax.no_arms f = record { onward = onward_same l; fitted = f; arms = tt }
+  arms_fitted l (syntax.more_arms a as') f =
+      let x : Arm × Layer = one_arm l a in
+      let r : Result l (x.0.body, x.1) = arm_fitted l a f in
+      let s : ArmsResult x.1 (arms x.1 as') = arms_fitted x.1 as' (alone x.1 x.0.body r.fitted) in
+      record { onward = onward_trans l x.1 (arms x.1 as').1 r.onward s.onward; fitted = s.fitted; arms = (list_onward x.1 (arms x.1 as').1 x.0.body s.onward r.fitted.first, s.arms) }
+
+  arm_fitted : (l : Layer) (a : syntax.Arm) → Fitted l None → Result l ((one_arm l a).0.body, (one_arm l a).1)
+  arm_fitted l (syntax.arm labels t) f = statement_fitted l t None f

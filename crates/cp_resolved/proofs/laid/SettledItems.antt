@@ -1,0 +1,115 @@
+-- Once the items of a statement are in the tables, each call stands in one, followed by the next, and the statement's own item comes last.
+use Rattle.std.proofs.Common.{◌≡◌, ◌+◌, ◌<◌, max, ℕ, suc, List, [], ◌∷◌, ◌++◌, length, Option, Some, slice_get, slice_index, refl, sym, ap, subst, ◌∙◌, arith, length-append}
+use Rattle.cp_slots.specs.Code as code
+use Rattle.cp_layout.specs.Layers.{Layer, Pending, need_of, added, without_pending, settled_all, settled}
+use Rattle.cp_meaning.specs.Names.{temporary}
+use Rattle.cp_meaning.specs.State.{Item, function_call, statement_item, start_item, until, successor, return, init_end, end}
+use Rattle.cp_resolved.specs.ItemsStand.{ItemIs, AreItems}
+use Rattle.cp_resolved.specs.Layouts.{Here}
+use Rattle.cp_resolved.specs.Stands.{Ground, ItemAt, CallItem, CallsAre}
+use Rattle.cp_resolved.proofs.names.Entries.{there, still_there, last_entry}
+use Rattle.cp_resolved.proofs.items.Going.{CallPending, PendingAre, Goes}
+
+-- ---- what is left of a state
+
+pub all_frame : (l : Layer) (ps : List Pending) (next : Option ℕ) → (settled_all l ps next).1.frame ≡ l.frame
+all_frame l [] next = refl
+all_frame l (p ∷ ps) next = all_frame l ps next
+
+pub all_pending : (l : Layer) (ps : List Pending) (next : Option ℕ) → (settled_all l ps next).1.pending ≡ l.pending
+all_pending l [] next = refl
+all_pending l (p ∷ ps) next = all_pending l ps next
+
+abbrev pub made : Layer → Pending → Option ℕ → code.Item
+made l p next = record { action = p.action; next = next; line = p.line; routine = length l.routines; need = max (need_of l.items next) p.need }
+
+pub all_many : (l : Layer) (ps : List Pending) (next : Option ℕ) → length (settled_all l ps next).1.items ≡ length l.items + length ps
+all_many l [] next = omega arith
+all_many l (p ∷ ps) next =
+    let rest : Option ℕ × Layer = settled_all l ps next in
+    let e : length (rest.1.items ++ made rest.1 p rest.0 ∷ []) ≡ length rest.1.items + 1 = length-append rest.1.items (made rest.1 p rest.0 ∷ []) in
+    omega (arith, e, all_many l ps next)
+
+-- the first of the items has the greatest number
+pub first_number : (l : Layer) (ps : List Pending) (own : Pending) (next : Option ℕ) → (settled_all l (ps ++ own ∷ []) next).0 ≡ Some (length l.items + length ps)
+first_number l [] own next = ap (λ n. Some n) (let e : length l.items ≡ length l.items + 0 = omega arith in e)
+first_number l (p ∷ ps) own next =
+    let e : length l.items + length (ps ++ own ∷ []) ≡ length l.items + suc (length ps) = omega (arith, length-append ps (own ∷ [])) in
+    ap (λ n. Some n) (all_many l (ps ++ own ∷ []) next ∙ e)
+
+module _ (g : Ground) (h : Here) where
+  -- ---- items of the tables
+
+  abbrev pub Holds : List code.Item → Type 0
+  Holds is = AreItems g is
+
+  pub holds_first : (is more : List code.Item) → Holds (is ++ more) → Holds is
+  holds_first is more b n i e = b n i (still_there is more n i e)
+
+  holds_tail : (l : Layer) (ps tail : List Pending) (next : Option ℕ) → Holds (settled_all l (ps ++ tail) next).1.items → Holds (settled_all l tail next).1.items
+  holds_tail l [] tail next b = b
+  holds_tail l (p ∷ ps) tail next b =
+      let rest : Option ℕ × Layer = settled_all l (ps ++ tail) next in
+      holds_tail l ps tail next (holds_first rest.1.items (made rest.1 p rest.0 ∷ []) b)
+
+  -- ---- calls, and a statement's own item
+
+  calls_settled : (l : Layer) (ps tail : List Pending) (is : List Item) (next : Option ℕ) → PendingAre g.lines h ps is → Holds (settled_all l (ps ++ tail) next).1.items → CallsAre g h (settled_all l (ps ++ tail) next).0 is (settled_all l tail next).0
+  calls_settled l [] tail [] next a b = refl
+  calls_settled l (p ∷ ps) tail (function_call at d es ∷ is) next a b =
+      let rest : Option ℕ × Layer = settled_all l (ps ++ tail) next in
+      let i : code.Item = made rest.1 p rest.0 in
+      let w : ItemIs g (length rest.1.items) i = b (length rest.1.items) i (last_entry rest.1.items i) in
+      let c : CallPending g.lines h at d es p = a.0 in
+      let item : CallItem g h (length rest.1.items) at d es (Some (temporary at)) rest.0 = record {
+        number = c.number;
+        part = c.part;
+        is_entry = c.is_entry;
+        arguments = c.arguments;
+        called = c.called;
+        item = record { place = w.inside; action = w.action ∙ c.action; follows = w.follows; line = w.line ∙ c.line };
+        taken = c.taken;
+      } in
+      (length rest.1.items, rest.0, refl, item, calls_settled l ps tail is next a.1 (holds_first rest.1.items (i ∷ []) b))
+  calls_settled l [] tail (i ∷ is) next a b = absurd a
+  calls_settled l (p ∷ ps) tail [] next a b = absurd a
+  calls_settled l (p ∷ ps) tail (statement_item t ∷ is) next a b = absurd a
+  calls_settled l (p ∷ ps) tail (start_item t ∷ is) next a b = absurd a
+  calls_settled l (p ∷ ps) tail (until ts e ∷ is) next a b = absurd a
+  calls_settled l (p ∷ ps) tail (successor at i z d w t ∷ is) next a b = absurd a
+  calls_settled l (p ∷ ps) tail (return o ∷ is) next a b = absurd a
+  calls_settled l (p ∷ ps) tail (init_end n ∷ is) next a b = absurd a
+  calls_settled l (p ∷ ps) tail (end ∷ is) next a b = absurd a
+
+  -- the items of calls lead to the own item
+  pub record Led (first : Option ℕ) (is : List Item) (at : ℕ) (a : code.Action) (next : Option ℕ) : Type 0 where
+    pub number : ℕ
+    pub calls : CallsAre g h first is (Some number)
+    pub item : ItemAt g number at next a
+
+  settle : (l : Layer) (new : List Pending) (own : Pending) (is : List Item) (at : ℕ) (next : Option ℕ) → PendingAre g.lines h new is → own.line ≡ slice_index g.lines at → Holds (settled_all l (new ++ own ∷ []) next).1.items → Led (settled_all l (new ++ own ∷ []) next).0 is at own.action next
+  settle l new own is at next a e b =
+      let i : code.Item = made l own next in
+      let w : ItemIs g (length l.items) i = holds_tail l new (own ∷ []) next b (length l.items) i (last_entry l.items i) in
+      record { number = length l.items; calls = calls_settled l new (own ∷ []) is next a b; item = record { place = w.inside; action = w.action; follows = w.follows; line = w.line ∙ e } }
+
+  -- a statement whose last item is its own
+  abbrev pub ended : Layer → ℕ → code.Action → ℕ → Option ℕ → Option ℕ × Layer
+  ended m at a need next = settled (added m at a need) next
+
+  pub finish : (l m : Layer) (is : List Item) (at : ℕ) (a : code.Action) (need : ℕ) (next : Option ℕ) → l.pending ≡ [] → Goes g.lines h l m is → m.lines ≡ g.lines → Holds (ended m at a need next).1.items → Led (ended m at a need next).0 is at a next
+  finish l m is at a need next none i ls b =
+      let own : Pending = record { action = a; line = slice_index m.lines at; need = need } in
+      let z : Layer = without_pending (added m at a need) in
+      let e : m.pending ++ own ∷ [] ≡ i.new ++ own ∷ [] = ap (λ ps. ps ++ own ∷ []) (i.pending ∙ ap (λ ps. ps ++ i.new) none) in
+      subst (λ ps. Led (settled_all z ps next).0 is at a next) (sym e) (settle z i.new own is at next i.stand (ap (λ ls. slice_index ls at) ls) (subst (λ ps. Holds (settled_all z ps next).1.items) e b))
+
+  -- a loop begins again at its first item, whose number is a word
+  pub again_first : (l m : Layer) (is : List Item) (at : ℕ) (a : code.Action) (need : ℕ) (next : Option ℕ) → l.pending ≡ [] → Goes g.lines h l m is → Holds (ended m at a need next).1.items → ((ended m at a need next).0 ≡ Some (length m.items + length m.pending)) × (length m.items + length m.pending < length g.tables.items)
+  again_first l m is at a need next none i b =
+      let own : Pending = record { action = a; line = slice_index m.lines at; need = need } in
+      let z : Layer = without_pending (added m at a need) in
+      let many : length (ended m at a need next).1.items ≡ length m.items + length (m.pending ++ own ∷ []) = all_many z (m.pending ++ own ∷ []) next in
+      let low : length m.items + length m.pending < length (ended m at a need next).1.items = omega (arith, many, length-append m.pending (own ∷ [])) in
+      let at' : (x : code.Item) × (slice_get (ended m at a need next).1.items (length m.items + length m.pending) ≡ Some x) = there (ended m at a need next).1.items (length m.items + length m.pending) low in
+      (first_number z m.pending own next, (b (length m.items + length m.pending) at'.0 at'.1).inside)

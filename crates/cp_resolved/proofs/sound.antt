@@ -1,0 +1,7 @@
+pub mod OwnCalls
+pub mod OwnCallsOfTables
+pub mod Propositions
+pub mod SoundComponents
+pub mod SoundItems
+pub mod SoundParameters
+pub mod SoundTables

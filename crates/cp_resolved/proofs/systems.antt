@@ -1,0 +1,11 @@
+pub mod HandedComponents
+pub mod OwnCells
+pub mod OwnedParts
+pub mod Owning
+pub mod PermanentCells
+pub mod Permanents
+pub mod Sized
+pub mod Sizes
+pub mod SystemKnown
+pub mod SystemsLaid
+pub mod SystemsStand

@@ -1,0 +1,5 @@
+pub mod CallingBodies
+pub mod CallingPlaced
+pub mod CallingProgram
+pub mod SmallestProgram
+pub mod SmallestSound

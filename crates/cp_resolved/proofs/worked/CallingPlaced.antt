@@ -1,0 +1,55 @@
+-- The law of layouts is not empty: a program with a function, a procedure with a `var` parameter, a permanent variable and a call has what it asks.
+use Rattle.std.proofs.Common.{◌≤◌, ℕ, zero, suc, Bool, true, false, if◌then◌else◌, [], ◌∷◌, Some, refl, arith}
+use Rattle.cp_layout.specs.Kinds.{most}
+use Rattle.cp_meaning.specs.Names.{same_name}
+use Rattle.cp_meaning.specs.Scopes.{Scope, find}
+use Rattle.cp_meaning.specs.Systems.{system_of}
+use Rattle.cp_resolved.specs.Calls.{all_calls_laid, AreApart}
+use Rattle.cp_resolved.specs.LayoutsKnow.{IsPlaced}
+use Rattle.cp_resolved.specs.Names.{IsPlain}
+use Rattle.cp_resolved.specs.Once.{AreOthers, IsSizedMeaning, AreSized, AreWords}
+use Rattle.cp_resolved.specs.Openings.{meaning_at}
+use Rattle.cp_resolved.specs.Small.{Each}
+use Rattle.cp_resolved.proofs.worked.CallingProgram.{calling}
+
+plain : IsPlain calling.program
+plain = record { small = (((tt, tt), tt), (tt, (tt, tt))); fit = (tt, tt); numbered = tt }
+
+others : (k : ℕ) → AreOthers (system_of calling.program k).parameters (system_of calling.program k).variables
+others zero = (refl, tt)
+others (suc k) = (refl, tt)
+
+one_cell : 1 ≤ most
+one_cell = omega arith
+
+found_sized : (s : Scope) → Each (λ d. IsSizedMeaning (Some d.1)) s → AreSized s
+found_sized [] h x = tt
+found_sized (d ∷ ds) h x = go (same_name x d.0) (found_sized ds h.1 x)
+  where
+    go : (b : Bool) → IsSizedMeaning (find x ds) → IsSizedMeaning (if b then Some d.1 else find x ds)
+    go true rest = h.0
+    go false rest = rest
+
+all_sized : (n : ℕ) → Each (λ d. IsSizedMeaning (Some d.1)) (meaning_at calling.program n).scope
+all_sized zero = ((one_cell, tt), (tt, ((one_cell, tt), (tt, (tt, (tt, (tt, (tt, (tt, (tt, (tt, (tt, (tt, (tt, (tt, (tt, (tt, (tt, tt))))))))))))))))))
+all_sized (suc zero) = ((one_cell, tt), (tt, (tt, ((one_cell, tt), (tt, (tt, (tt, (tt, (tt, (tt, (tt, (tt, (tt, (tt, (tt, (tt, (tt, (tt, (tt, tt)))))))))))))))))))
+all_sized (suc (suc zero)) = (tt, (tt, ((one_cell, tt), (tt, (tt, (tt, (tt, (tt, (tt, (tt, (tt, (tt, (tt, (tt, (tt, (tt, (tt, (tt, tt))))))))))))))))))
+all_sized (suc (suc (suc n))) = (tt, (tt, ((one_cell, tt), (tt, (tt, (tt, (tt, (tt, (tt, (tt, (tt, (tt, (tt, (tt, (tt, (tt, (tt, (tt, tt))))))))))))))))))
+
+sized : (n : ℕ) → AreSized (meaning_at calling.program n).scope
+sized n = found_sized (meaning_at calling.program n).scope (all_sized n)
+
+words : (n : ℕ) → AreWords (meaning_at calling.program n).scope
+words zero = (tt, (tt, (tt, (tt, (tt, (tt, (tt, (tt, (tt, (tt, (tt, (tt, (tt, (tt, (tt, (tt, (tt, (tt, tt))))))))))))))))))
+words (suc zero) = (tt, (tt, (tt, (tt, (tt, (tt, (tt, (tt, (tt, (tt, (tt, (tt, (tt, (tt, (tt, (tt, (tt, (tt, (tt, tt)))))))))))))))))))
+words (suc (suc zero)) = (tt, (tt, (tt, (tt, (tt, (tt, (tt, (tt, (tt, (tt, (tt, (tt, (tt, (tt, (tt, (tt, (tt, (tt, tt))))))))))))))))))
+words (suc (suc (suc n))) = (tt, (tt, (tt, (tt, (tt, (tt, (tt, (tt, (tt, (tt, (tt, (tt, (tt, (tt, (tt, (tt, (tt, (tt, tt))))))))))))))))))
+
+apart : (n : ℕ) → AreApart (all_calls_laid (meaning_at calling.program n).scope (meaning_at calling.program n).body)
+apart zero = tt
+apart (suc zero) = ((λ at i. absurd i), tt)
+apart (suc (suc zero)) = tt
+apart (suc (suc (suc n))) = tt
+
+pub calling_placed : IsPlaced calling
+calling_placed = record { plain = plain; once = record { routines = (tt, tt); variables = others }; sized = sized; words = words; apart = apart }
