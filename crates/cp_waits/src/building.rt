@@ -169,10 +169,7 @@ impl Builder {
         };
         let is_fair = self.graph.everybody().but(again.served).is_empty();
         if is_fair && !again.wait.is_empty() {
-            self.graph.standstills.push(Standstill {
-                origin,
-                wait: again.wait,
-            })?;
+            self.graph.standstills.push(Standstill { origin, again })?;
         }
         Ok(())
     }

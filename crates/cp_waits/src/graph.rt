@@ -14,11 +14,12 @@ pub struct Edge {
     pub passing: Passing,
 }
 
-/// A stretch that goes on for ever without a choice, in which each process is served, and those that wait in all of it.
+/// A stretch that goes on for ever without a choice, in which each process is served.
 #[derive(Clone, Copy)]
 pub struct Standstill {
     pub origin: Origin,
-    pub wait: Set,
+    /// What processes do in the part that repeats.
+    pub again: Passing,
 }
 
 /// The choices of each state, by the number of the state.

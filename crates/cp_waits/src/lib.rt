@@ -15,4 +15,5 @@ pub mod watching;
 
 pub use building::graph_of;
 pub use report::waits_report;
+pub use set::Set;
 pub use waiting::{How, Waiting, Waits, who_waits};

@@ -12,6 +12,8 @@ pub struct Passing {
     pub wait_once: Set,
     /// Those that have an open call of an entry of a monitor at each moment.
     pub stay: Set,
+    /// Those that make a step.
+    pub step: Set,
     /// Those that make a step, or are not ready before some step.
     pub served: Set,
 }
@@ -23,6 +25,7 @@ impl Passing {
             wait: everybody,
             wait_once: Set::nobody(),
             stay: everybody,
+            step: Set::nobody(),
             served: Set::nobody(),
         }
     }
@@ -50,6 +53,7 @@ impl Passing {
     }
 
     fn serve(&mut self, state: &State, mover: u8) {
+        self.step = self.step.with(mover);
         let mut pid = 0u8;
         for process in &state.processes {
             if pid == mover || !process.status.is_ready() {
@@ -64,6 +68,7 @@ impl Passing {
         self.wait = self.wait.and(other.wait);
         self.wait_once = self.wait_once.or(other.wait_once);
         self.stay = self.stay.and(other.stay);
+        self.step = self.step.or(other.step);
         self.served = self.served.or(other.served);
     }
 }

@@ -24,13 +24,21 @@ enum Aim {
     State(u32),
 }
 
+/// A word that leads back to where it began.
+#[derive(Drop)]
+pub struct Round {
+    pub word: Vec<u8>,
+    /// Those that make a step on it.
+    pub step: Set,
+}
+
 // A way through a component.
 #[derive(Drop)]
 struct Tour {
     keeping: Keeping,
     part: u32,
     state: u32,
-    word: Vec<u8>,
+    round: Round,
     wanted: Wanted,
     // Of each state that is come to, while a next edge is looked for: from which, by the edge at which place, and in which search.
     from: Vec<u32>,
@@ -75,13 +83,13 @@ pub fn round_in(
     keeping: Keeping,
     part: u32,
     first: u32,
-) -> Result<Option<Vec<u8>>, AllocError> {
+) -> Result<Option<Round>, AllocError> {
     let mut tour = tour_from(alloc, graph, keeping, part, first)?;
     // Each way but the last serves a process more, or has this one wait.
     for _ in 0..20 {
         let aim = if tour.wanted.is_nothing() {
-            if tour.state == first && !tour.word.is_empty() {
-                return Ok(Some(tour.word));
+            if tour.state == first && !tour.round.word.is_empty() {
+                return Ok(Some(tour.round));
             }
             Aim::State(first)
         } else {
@@ -110,7 +118,10 @@ fn tour_from(
         keeping,
         part,
         state: first,
-        word: Vec::new(alloc),
+        round: Round {
+            word: Vec::new(alloc),
+            step: Set::nobody(),
+        },
         wanted: Wanted {
             processes: graph.everybody(),
             waits: match keeping {
@@ -197,7 +208,8 @@ impl Tour {
         self.way.reverse();
         for place in &self.way {
             if let Some(edge) = graph.edges.get(*place) {
-                self.word.push(edge.number)?;
+                self.round.word.push(edge.number)?;
+                self.round.step = self.round.step.or(edge.passing.step);
                 self.wanted = self.wanted.after(&edge.passing);
                 self.state = edge.to.unwrap_or(self.state);
             }

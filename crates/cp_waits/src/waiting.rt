@@ -5,6 +5,7 @@ use crate::graph::{Graph, Standstill};
 use crate::passing::Keeping;
 use crate::ranks::are_ranks;
 use crate::rounds::round_in;
+use crate::set::Set;
 use cp_ends::states::States;
 use std::alloc::{AllocError, Global};
 
@@ -26,6 +27,8 @@ pub struct Waiting {
     pub process: u8,
     pub first: Vec<u8>,
     pub again: Vec<u8>,
+    /// Those that make a step in the round.
+    pub step: Set,
     pub how: How,
 }
 
@@ -85,6 +88,7 @@ fn answer_of(
             process,
             first: states.word(alloc, still.origin)?,
             again: Vec::new(alloc),
+            step: still.again.step,
             how: How::ForGood,
         })),
         (None, None) => {
@@ -149,7 +153,7 @@ fn is_better(part: &Part, best: Option<Fair>) -> bool {
 
 fn standstill_of(graph: &Graph, process: u8) -> Option<Standstill> {
     for still in &graph.standstills {
-        if still.wait.has(process) {
+        if still.again.wait.has(process) {
             return Some(*still);
         }
     }
@@ -165,8 +169,8 @@ fn lasso(
     keeping: Keeping,
     fair: Fair,
 ) -> Result<Answer, AllocError> {
-    let again = round_in(alloc, graph, parts, keeping, fair.number, fair.first)?;
-    let Some(again) = again else {
+    let found = round_in(alloc, graph, parts, keeping, fair.number, fair.first)?;
+    let Some(round) = found else {
         return Ok(Answer::NotSettled);
     };
     let (process, how) = match keeping {
@@ -183,7 +187,8 @@ fn lasso(
     Ok(Answer::Yes(Waiting {
         process,
         first: states.word(alloc, states.origin(fair.first))?,
-        again,
+        again: round.word,
+        step: round.step,
         how,
     }))
 }

@@ -8,12 +8,13 @@ ghost use Rattle.cpx_show.specs.Showing as spec;
 use crate::marks::marked;
 use crate::parts::{Asked, Part};
 use cp_check::check;
+use cp_ends_story::{Subject as Endless, ends_story};
 use cp_lanes::{Subject, picture};
 use cp_legend::{Legend, legend_of};
 use cp_machine::Ticks;
 use cp_outcomes::{Form, Subject as Survey, Way, outcomes};
 use cp_resolved::resolve;
-use cp_run::Limits;
+use cp_run::{Limits, MOST_CHOICES};
 use cp_slots::Resolved;
 use cp_story::{Story, json, tell, text};
 use cp_text::{Tokens, scan};
@@ -222,6 +223,9 @@ fn shown(
         Part::Outcomes { json } => {
             return surveyed(alloc, options, program, legend, &lines, *json);
         }
+        Part::Ends { json } => {
+            return ended(alloc, options, program, legend, &lines, *json);
+        }
         Part::Mark(words) => return marked(alloc, options, program, words.as_str(), source),
         Part::Refusal => return explained(alloc, source),
     };
@@ -270,6 +274,42 @@ fn surveyed(
     };
     let form = if as_json { Form::Json } else { Form::Text };
     let told = outcomes(alloc, subject, form)?;
+    Ok(Answer {
+        verdict: if told.is_whole {
+            Verdict::Reported
+        } else {
+            Verdict::TooMany
+        },
+        text: told.text,
+    })
+}
+
+// The ends of schedules of any length.
+fn ended(
+    alloc: Global,
+    options: &Options,
+    program: &Resolved,
+    legend: &Legend,
+    source: &[String],
+    as_json: bool,
+) -> Result<Answer, AllocError> {
+    let Some(limits) = Limits::new(MOST_CHOICES, options.steps, options.gates) else {
+        unreachable!()
+    };
+    let subject = Endless {
+        program,
+        legend,
+        limits,
+        most: options.states,
+        waits: options.waits,
+        source,
+    };
+    let form = if as_json {
+        cp_ends_story::Form::Json
+    } else {
+        cp_ends_story::Form::Text
+    };
+    let told = ends_story(alloc, subject, form)?;
     Ok(Answer {
         verdict: if told.is_whole {
             Verdict::Reported

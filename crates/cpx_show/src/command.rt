@@ -18,6 +18,9 @@ const LANES: &str = "Draws one schedule as a picture: SVG with a lane for each p
 const OUTCOMES: &str =
     "Tells the outcomes of all schedules in words: shares, first schedules, and whether these are all";
 
+const ENDS: &str =
+    "Tells in words which ends are possible in schedules of any length, and who may wait for ever";
+
 const REFUSAL: &str =
     "Says why a source is refused, in a sentence; or that it is accepted, with hints";
 
@@ -32,6 +35,7 @@ pub fn command<'a>(alloc: Global) -> Result<Command<'a>, AllocError> {
     let command = with_part(described(alloc), trace(alloc))?;
     let command = with_part(command, lanes(alloc))?;
     let command = with_part(command, outcomes(alloc))?;
+    let command = with_part(command, ends(alloc))?;
     let command = with_part(command, refusal(alloc))?;
     with_part(command, mark(alloc))
 }
@@ -80,6 +84,22 @@ fn outcomes<'a>(alloc: Global) -> Result<Command<'a>, AllocError> {
     Ok(with_limits(alloc, command)?.arg(json(alloc))?)
 }
 
+fn ends<'a>(alloc: Global) -> Result<Command<'a>, AllocError> {
+    let waits = Arg::new(alloc, "waits")
+        .long("waits")
+        .action(ArgAction::SetTrue)
+        .help("Tell as well who may wait for ever while others go on");
+    let command = Command::new(alloc, "ends")
+        .about(ENDS)
+        .override_usage("cpx_show ends [OPTIONS] < PROGRAM");
+    let command = with_run(alloc, command.arg(waits)?)?;
+    let command = command.arg(states(
+        alloc,
+        "States that there may be in all, 1 to 10000000 [default: 200000]",
+    ))?;
+    Ok(command.arg(json(alloc))?)
+}
+
 fn refusal<'a>(alloc: Global) -> Result<Command<'a>, AllocError> {
     let command = Command::new(alloc, "refusal")
         .about(REFUSAL)
@@ -119,25 +139,32 @@ fn with_limits<'a>(alloc: Global, command: Command<'a>) -> Result<Command<'a>, A
         "K",
         "Choices of a schedule, 0 to 20, with --merge to 100 [default: 8]",
     ))?;
+    let command = with_run(alloc, command)?;
+    let command = command.arg(merge(alloc))?;
+    command.arg(states(
+        alloc,
+        "States that a layer may have with --merge, 1 to 10000000 [default: 200000]",
+    ))
+}
+
+// How a run goes.
+fn with_run<'a>(alloc: Global, command: Command<'a>) -> Result<Command<'a>, AllocError> {
     let command = command.arg(option(
         alloc,
         "steps",
         "L",
         "Steps of a stretch between choices, 1 to 100000 [default: 1000]",
     ))?;
-    let command = command.arg(option(
+    command.arg(option(
         alloc,
         "gates",
         "WHO",
         "Who enters a monitor that becomes free: `first` in line, or `any` [default: first]",
-    ))?;
-    let command = command.arg(merge(alloc))?;
-    command.arg(option(
-        alloc,
-        "states",
-        "N",
-        "States that a layer may have with --merge, 1 to 10000000 [default: 200000]",
     ))
+}
+
+fn states<'a>(alloc: Global, help: &'a str) -> Arg<'a> {
+    option(alloc, "states", "N", help)
 }
 
 fn merge<'a>(alloc: Global) -> Arg<'a> {

@@ -18,6 +18,8 @@ pub enum Part {
     Lanes,
     /// The outcomes of all schedules, as lines or as JSON.
     Outcomes { json: bool },
+    /// The ends that are possible in schedules of any length, as lines or as JSON.
+    Ends { json: bool },
     /// Why the source is refused.
     Refusal,
     /// Whether the expectations of these words hold; with no words those of the source.
@@ -56,13 +58,16 @@ fn read_matches(alloc: Global, matches: &ArgMatches<'_>) -> Result<Asked, Option
         "outcomes" => Part::Outcomes {
             json: inner.get_flag("json"),
         },
+        "ends" => Part::Ends {
+            json: inner.get_flag("json"),
+        },
         "refusal" => Part::Refusal,
         "mark" => Part::Mark(given(alloc, inner)?),
         _ => return Err(OptionFault::Refused),
     };
     Ok(Asked {
         part,
-        options: options(alloc, inner)?,
+        options: options(alloc, inner, name == "ends")?,
     })
 }
 
@@ -81,9 +86,13 @@ fn given(alloc: Global, matches: &ArgMatches<'_>) -> Result<String, AllocError> 
     Ok(text)
 }
 
-// The options of a part, read by `cpx`.
-fn options(alloc: Global, matches: &ArgMatches<'_>) -> Result<Options, OptionFault> {
-    let words = shared_words(alloc, matches)?;
+// The options of a part, read by `cpx`; some parts are always those of schedules of any length.
+fn options(
+    alloc: Global,
+    matches: &ArgMatches<'_>,
+    with_ends: bool,
+) -> Result<Options, OptionFault> {
+    let words = shared_words(alloc, matches, with_ends)?;
     let mut texts = Vec::new(alloc);
     for word in &words {
         if texts.push(word.as_str()).is_err() {
@@ -94,7 +103,11 @@ fn options(alloc: Global, matches: &ArgMatches<'_>) -> Result<Options, OptionFau
 }
 
 // The options of `cpx` as its own words.
-fn shared_words(alloc: Global, matches: &ArgMatches<'_>) -> Result<Vec<String>, AllocError> {
+fn shared_words(
+    alloc: Global,
+    matches: &ArgMatches<'_>,
+    with_ends: bool,
+) -> Result<Vec<String>, AllocError> {
     let mut words = Vec::new(alloc);
     words.push(String::from_str(alloc, "cpx")?)?;
     for name in SHARED {
@@ -104,6 +117,12 @@ fn shared_words(alloc: Global, matches: &ArgMatches<'_>) -> Result<Vec<String>, 
     }
     if matches.get_flag("merge") {
         words.push(String::from_str(alloc, "--merge")?)?;
+    }
+    if with_ends {
+        words.push(String::from_str(alloc, "--ends")?)?;
+    }
+    if matches.get_flag("waits") {
+        words.push(String::from_str(alloc, "--waits")?)?;
     }
     Ok(words)
 }
