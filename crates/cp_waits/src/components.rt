@@ -138,8 +138,9 @@ impl Search {
         if at(&self.order, to) == 0 {
             return self.come_to(graph, to);
         }
-        if self.parts.number_of(to) == NONE {
-            self.lower(state, at(&self.order, to));
+        let order = at(&self.order, to);
+        if at(&self.parts.of, to) == NONE {
+            self.lower(state, order);
         }
         Ok(())
     }

@@ -218,15 +218,17 @@ fn shown(
     let options = &asked.options;
     let lines = lines_of(alloc, source)?;
     let text = match &asked.part {
-        Part::Trace { json } => traced(alloc, options, program, legend, &lines, *json)?,
-        Part::Lanes => drawn(alloc, options, program, legend, &lines)?,
+        Part::Trace { json } => traced(alloc, asked, program, legend, &lines, *json)?,
+        Part::Lanes => drawn(alloc, asked, program, legend, &lines)?,
         Part::Outcomes { json } => {
             return surveyed(alloc, options, program, legend, &lines, *json);
         }
         Part::Ends { json } => {
             return ended(alloc, options, program, legend, &lines, *json);
         }
-        Part::Mark(words) => return marked(alloc, options, program, words.as_str(), source),
+        Part::Mark(words) => {
+            return marked(alloc, options, program, legend, words.as_str(), source);
+        }
         Part::Refusal => return explained(alloc, source),
     };
     Ok(Answer {
@@ -238,19 +240,77 @@ fn shown(
 // One schedule in names.
 fn traced(
     alloc: Global,
-    options: &Options,
+    asked: &Asked,
     program: &Resolved,
     legend: &Legend,
     source: &[String],
     as_json: bool,
 ) -> Result<String, AllocError> {
+    let options = &asked.options;
     let word = word_of(options);
     let story = told::<Brand>(alloc, options, program, legend, word, Blank::new(1))?;
+    let again = first_of_round(alloc, asked, program, legend)?;
     if as_json {
-        return json(alloc, legend, &story, word, source);
+        let told = json(alloc, legend, &story, word, source)?;
+        return json_with_again(alloc, told, again);
     }
     let end = trace_report(alloc, program, &[], &story.end, word)?;
-    text(alloc, legend, &story, end.text.as_str())
+    let told = text(alloc, legend, &story, end.text.as_str())?;
+    text_with_again(alloc, told, again)
+}
+
+// The event with which the round begins, if there is one.
+fn first_of_round(
+    alloc: Global,
+    asked: &Asked,
+    program: &Resolved,
+    legend: &Legend,
+) -> Result<Option<usize>, AllocError> {
+    let options = &asked.options;
+    let word = word_of(options);
+    if asked.round == 0 || asked.round > word.len() {
+        return Ok(None);
+    }
+    let before = &word[..word.len() - asked.round];
+    let story = told::<Brand>(alloc, options, program, legend, before, Blank::new(1))?;
+    Ok(Some(story.events.len()))
+}
+
+// An object that begins with the event with which the round begins.
+fn json_with_again(
+    alloc: Global,
+    told: String,
+    again: Option<usize>,
+) -> Result<String, AllocError> {
+    let Some(row) = again else {
+        return Ok(told);
+    };
+    let Some(rest) = told.as_str().strip_prefix("{") else {
+        return Ok(told);
+    };
+    let mut text = format!(in alloc; "{{\"again\":{row},")?;
+    text.push_str(rest)?;
+    Ok(text)
+}
+
+// Lines with a heading before those of the round.
+fn text_with_again(
+    alloc: Global,
+    told: String,
+    again: Option<usize>,
+) -> Result<String, AllocError> {
+    let Some(row) = again else {
+        return Ok(told);
+    };
+    let mut text = String::new(alloc);
+    for (place, line) in told.as_str().lines().enumerate() {
+        if place == row {
+            text.push_str("again and again:\n")?;
+        }
+        text.push_str(line)?;
+        text.push('\n')?;
+    }
+    Ok(text)
 }
 
 // The outcomes of all schedules.
@@ -365,21 +425,24 @@ fn told<L: Ledger>(
 // The picture of a schedule.
 fn drawn(
     alloc: Global,
-    options: &Options,
+    asked: &Asked,
     program: &Resolved,
     legend: &Legend,
     source: &[String],
 ) -> Result<String, AllocError> {
+    let options = &asked.options;
     let word = word_of(options);
     let story = told::<Brand>(alloc, options, program, legend, word, Blank::new(1))?;
     let end = trace_report(alloc, program, &[], &story.end, word)?;
     let schedule = schedule_of(alloc, word)?;
+    let again = first_of_round(alloc, asked, program, legend)?;
     let subject = Subject {
         legend,
         story: &story,
         schedule: schedule.as_str(),
         end: end.text.as_str(),
         source,
+        again,
     };
     picture(alloc, subject)
 }

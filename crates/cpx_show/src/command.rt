@@ -28,7 +28,7 @@ const MARK: &str =
     "Says whether what is expected of all schedules holds: never OUTCOME, some OUTCOME, only OUTCOME..";
 
 const EXPECTATIONS: &str =
-    "OUTCOME: finished, all-waiting, run-error or run-error NAME; after it, if wanted,\noutput VALUES, where .. stands for any rest. Several expectations are joined by and.\nWithout words those in comments of the program are taken: (* expect never all-waiting *)\n\nStatus: 0 holds, 6 fails, 7 not settled; 1 to 5 as cpx";
+    "With --ends of schedules of any length, without outputs; END may be alone or spins as well, and\nwhat is expected may be never waiting, some waiting, some waiting PROCESS, never shown VALUE\nor some shown VALUE.\n\nOUTCOME: finished, all-waiting, run-error or run-error NAME; after it, if wanted,\noutput VALUES, where .. stands for any rest. Several expectations are joined by and.\nWithout words those in comments of the program are taken: (* expect never all-waiting *)\n\nStatus: 0 holds, 6 fails, 7 not settled; 1 to 5 as cpx";
 
 /// The command with all its parts; `clap` adds `--help` and `-h` to each.
 pub fn command<'a>(alloc: Global) -> Result<Command<'a>, AllocError> {
@@ -117,7 +117,16 @@ fn mark<'a>(alloc: Global) -> Result<Command<'a>, AllocError> {
         .about(MARK)
         .override_usage("cpx_show mark [OPTIONS] [EXPECTATION..] < PROGRAM")
         .after_help(EXPECTATIONS);
-    with_limits(alloc, command.arg(expectation)?)
+    with_limits(alloc, command.arg(expectation)?.arg(ends_switch(alloc))?)
+}
+
+fn ends_switch<'a>(alloc: Global) -> Arg<'a> {
+    Arg::new(alloc, "ends")
+        .long("ends")
+        .action(ArgAction::SetTrue)
+        .help(
+            "Take schedules as cpx does with --ends: of up to 100 choices, or for a mark of any length",
+        )
 }
 
 // A part of one schedule, with the options of a run.
@@ -129,7 +138,16 @@ fn with_schedule<'a>(alloc: Global, command: Command<'a>) -> Result<Command<'a>,
         "The schedule: `none`, or up to 20 numbers 0 to 15 joined by periods, with --merge up to 100",
     )
     .required(true);
-    with_limits(alloc, command.arg(schedule)?)
+    let again = option(
+        alloc,
+        "again",
+        "WORD",
+        "A round after it that can be gone again and again; with it --ends is as good as given",
+    );
+    with_limits(
+        alloc,
+        command.arg(schedule)?.arg(again)?.arg(ends_switch(alloc))?,
+    )
 }
 
 fn with_limits<'a>(alloc: Global, command: Command<'a>) -> Result<Command<'a>, AllocError> {

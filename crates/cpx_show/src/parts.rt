@@ -7,7 +7,7 @@ use cp_tool::{OptionFault, Options, read_options};
 use std::alloc::{AllocError, Global};
 
 /// The options that are those of `cpx`.
-const SHARED: [&str; 5] = ["choices", "steps", "gates", "states", "schedule"];
+const SHARED: [&str; 4] = ["choices", "steps", "gates", "states"];
 
 /// What is to be shown.
 #[derive(Drop)]
@@ -31,6 +31,8 @@ pub enum Part {
 pub struct Asked {
     pub part: Part,
     pub options: Options,
+    /// How many numbers at the end of the schedule are a round that can be gone again and again.
+    pub round: usize,
 }
 
 /// What the words ask for, of which the first is the program's name. The options of `cpx` are read as `cpx` reads them.
@@ -68,6 +70,7 @@ fn read_matches(alloc: Global, matches: &ArgMatches<'_>) -> Result<Asked, Option
     Ok(Asked {
         part,
         options: options(alloc, inner, name == "ends")?,
+        round: numbers_of(inner.get_str("again")),
     })
 }
 
@@ -84,6 +87,30 @@ fn given(alloc: Global, matches: &ArgMatches<'_>) -> Result<String, AllocError> 
         text.push_str(word)?;
     }
     Ok(text)
+}
+
+// How many numbers a word has, as it is written.
+fn numbers_of(word: Option<&str>) -> usize {
+    match word {
+        None => 0,
+        Some("none") => 0,
+        Some(word) => word.split('.').count(),
+    }
+}
+
+// The option of a schedule, with a round after it if there is one.
+fn schedule_word(alloc: Global, schedule: &str, again: Option<&str>) -> Result<String, AllocError> {
+    let mut word = String::from_str(alloc, "--schedule=")?;
+    match (schedule, again) {
+        (_, None) | (_, Some("none")) => word.push_str(schedule)?,
+        ("none", Some(again)) => word.push_str(again)?,
+        (_, Some(again)) => {
+            word.push_str(schedule)?;
+            word.push('.')?;
+            word.push_str(again)?;
+        }
+    }
+    Ok(word)
 }
 
 // The options of a part, read by `cpx`; some parts are always those of schedules of any length.
@@ -115,10 +142,13 @@ fn shared_words(
             words.push(format!(in alloc; "--{name}={value}")?)?;
         }
     }
+    if let Some(schedule) = matches.get_str("schedule") {
+        words.push(schedule_word(alloc, schedule, matches.get_str("again"))?)?;
+    }
     if matches.get_flag("merge") {
         words.push(String::from_str(alloc, "--merge")?)?;
     }
-    if with_ends {
+    if with_ends || matches.get_flag("ends") || matches.get_str("again").is_some() {
         words.push(String::from_str(alloc, "--ends")?)?;
     }
     if matches.get_flag("waits") {
