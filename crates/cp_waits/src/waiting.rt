@@ -79,25 +79,24 @@ fn answer_of(
     let parts = parts_of(alloc, graph, keeping)?;
     let fair = fair_part(graph, &parts, keeping);
     let still = standstill_of(graph, process);
-    match (fair, still) {
-        (Some(fair), None) => lasso(alloc, graph, states, &parts, keeping, fair),
-        (Some(fair), Some(_)) if !fair.is_trap => {
-            lasso(alloc, graph, states, &parts, keeping, fair)
-        }
-        (_, Some(still)) => Ok(Answer::Yes(Waiting {
+    if let Some(fair) = fair
+        && (!fair.is_trap || still.is_none())
+    {
+        return lasso(alloc, graph, states, &parts, keeping, fair);
+    }
+    if let Some(still) = still {
+        return Ok(Answer::Yes(Waiting {
             process,
             first: states.word(alloc, still.origin)?,
             again: Vec::new(alloc),
             step: still.again.step,
             how: How::ForGood,
-        })),
-        (None, None) => {
-            if are_ranks(graph, &parts, keeping) {
-                answer_in_call(alloc, graph, states, process)
-            } else {
-                Ok(Answer::NotSettled)
-            }
-        }
+        }));
+    }
+    if are_ranks(graph, &parts, keeping) {
+        answer_in_call(alloc, graph, states, process)
+    } else {
+        Ok(Answer::NotSettled)
     }
 }
 

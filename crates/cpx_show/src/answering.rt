@@ -249,7 +249,7 @@ fn traced(
     let options = &asked.options;
     let word = word_of(options);
     let story = told::<Brand>(alloc, options, program, legend, word, Blank::new(1))?;
-    let again = first_of_round(alloc, asked, program, legend)?;
+    let again = first_of_round(alloc, asked, program, legend, &story)?;
     if as_json {
         let told = json(alloc, legend, &story, word, source)?;
         return json_with_again(alloc, told, again);
@@ -259,12 +259,13 @@ fn traced(
     text_with_again(alloc, told, again)
 }
 
-// The event with which the round begins, if there is one.
+// The event of a story with which the round begins, if the story comes to one.
 fn first_of_round(
     alloc: Global,
     asked: &Asked,
     program: &Resolved,
     legend: &Legend,
+    whole: &Story,
 ) -> Result<Option<usize>, AllocError> {
     let options = &asked.options;
     let word = word_of(options);
@@ -273,7 +274,12 @@ fn first_of_round(
     }
     let before = &word[..word.len() - asked.round];
     let story = told::<Brand>(alloc, options, program, legend, before, Blank::new(1))?;
-    Ok(Some(story.events.len()))
+    let first = story.events.len();
+    Ok(if first < whole.events.len() {
+        Some(first)
+    } else {
+        None
+    })
 }
 
 // An object that begins with the event with which the round begins.
@@ -435,7 +441,7 @@ fn drawn(
     let story = told::<Brand>(alloc, options, program, legend, word, Blank::new(1))?;
     let end = trace_report(alloc, program, &[], &story.end, word)?;
     let schedule = schedule_of(alloc, word)?;
-    let again = first_of_round(alloc, asked, program, legend)?;
+    let again = first_of_round(alloc, asked, program, legend, &story)?;
     let subject = Subject {
         legend,
         story: &story,
