@@ -1,6 +1,6 @@
 //! The search through all states.
 
-ghost use Rattle.std.specs.Prelude.{◌≡◌, true};
+ghost use Rattle.std.specs.Prelude.{◌≡◌, IfOk, true};
 ghost use Rattle.cp_slots.specs.Tables.{Tables};
 ghost use Rattle.cp_machine.specs.System.{machine_of, IsStateOf};
 ghost use Rattle.cp_run.specs.Run.{may};
@@ -35,7 +35,9 @@ pub fn search_ends(
     program: &Resolved,
     limits: Limits,
     most: u32,
-) -> Result<Found, AllocError> {
+) -> Result<Found, AllocError>
+    ensures kept { IfOk result (λ f. AreKept program.now f.states.known.entries) }
+{
     searched::<Brand>(alloc, program, limits, most, Blank::new(1))
 }
 
@@ -49,6 +51,7 @@ fn searched<S: Ledger>(
     requires name { blank.name ≡ S.name }
     requires parts { blank.parts ≡ S.parts }
     requires one { S.parts ≡ 1 }
+    ensures kept { IfOk result (λ f. AreKept program.now f.states.known.entries) }
 {
     let mut steps: Ticks<S> = Ticks::new(blank);
     let mut search = Search::new(alloc);
@@ -97,6 +100,7 @@ impl Search {
         requires own { IsStateOf program.now state.old }
         requires next { IsStateOf program.now next.old }
         requires kept { AreKept program.now self.old.found.states.known.entries }
+        ensures kept { AreKept program.now self.new.found.states.known.entries }
     {
         for number in 0..most {
             if !self.found.states.thaw_at(program, number, state) {

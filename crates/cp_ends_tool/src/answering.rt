@@ -10,6 +10,7 @@ use cp_tool::refusal::{check_reason, parse_reason, refusal, scan_reason};
 use cp_tool::transfer::{MOST_BYTES, ReadFault, read_source, write_text};
 use cp_tool::{Options, Sink, Source, Status};
 use cp_tree::{Tree, parse};
+use cp_waits::{Waits, graph_of, waits_report, who_waits};
 use cp_walk::Text;
 use std::alloc::{AllocError, Global};
 
@@ -101,9 +102,30 @@ fn searched(alloc: Global, options: &Options, program: &Resolved) -> Result<Answ
         unreachable!()
     };
     let found = search_ends(alloc, program, limits, options.states)?;
+    if options.waits && found.stopped.is_none() {
+        return waited(alloc, program, limits, &found);
+    }
     Ok(Answer {
         code: code_of(&found),
         text: ends_report(alloc, program, &found)?.text,
+    })
+}
+
+// And who may wait for ever.
+fn waited(
+    alloc: Global,
+    program: &Resolved,
+    limits: Limits,
+    found: &Found,
+) -> Result<Answer, AllocError> {
+    let graph = graph_of(alloc, program, limits, found)?;
+    let waits = who_waits(alloc, &graph, &found.states)?;
+    Ok(Answer {
+        code: match &waits {
+            Waits::Known(_) => 0,
+            Waits::NotSettled(_) => 5,
+        },
+        text: waits_report(alloc, program, found, &waits)?.text,
     })
 }
 

@@ -16,6 +16,8 @@ const FAINT: Style<'static> = Style {
     more: "",
 };
 
+const BRACKET: &str = "stroke-width=\"2\"";
+
 const MARKER: &str =
     "<marker id=\"arrow\" markerWidth=\"9\" markerHeight=\"8\" refX=\"7.5\" refY=\"4\" orient=\"auto\" markerUnits=\"userSpaceOnUse\"><path d=\"M0,0.5 L8,4 L0,7.5 z\" fill=\"#1f2933\"/></marker>\n";
 
@@ -228,6 +230,29 @@ fn draw_bar_head(
         "#c9d1d9",
         "stroke-width=\"1\"",
     )?;
+    svg.close()
+}
+
+/// A bracket from a row to the last one, which says that they can be gone again and again.
+pub fn draw_again(svg: &mut Svg, plan: &Plan, row: usize) -> Result<(), AllocError> {
+    let top = TOP + points(row) * ROW;
+    let bottom = rows_end(plan.rows);
+    svg.open("again and again")?;
+    svg.line((10.0, top), (16.0, top), INK, BRACKET)?;
+    svg.line((10.0, top), (10.0, bottom), INK, BRACKET)?;
+    svg.line((10.0, bottom), (16.0, bottom), INK, BRACKET)?;
+    svg.line(
+        (16.0, top),
+        (plan.width - 14.0, top),
+        INK,
+        "stroke-width=\"1\" stroke-dasharray=\"4 3\"",
+    )?;
+    let bold = Style {
+        size: 12.0,
+        fill: INK,
+        more: "font-weight=\"bold\"",
+    };
+    svg.words(10.0, bottom + 16.0, bold, "again and again")?;
     svg.close()
 }
 

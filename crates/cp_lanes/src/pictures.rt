@@ -1,7 +1,7 @@
 //! The whole picture.
 
 use crate::draw::spans_drawn;
-use crate::frame::{draw_end, draw_ground, draw_heads, draw_key, draw_patterns};
+use crate::frame::{draw_again, draw_end, draw_ground, draw_heads, draw_key, draw_patterns};
 use crate::labels::{Label, fixed_width, label_of, plain_width};
 use crate::plan::{Plan, Widths, plan_of, rows_end};
 use crate::rows::draw_rows;
@@ -22,6 +22,8 @@ pub struct Subject<'a> {
     /// The last line of the plain trace.
     pub end: &'a str,
     pub source: &'a [String],
+    /// The event with which a round begins that can be gone again and again.
+    pub again: Option<usize>,
 }
 
 /// The lanes of a story as SVG.
@@ -65,6 +67,9 @@ fn drawn(
     draw_heads(alloc, &mut svg, subject, plan, title.as_str())?;
     spans_drawn(alloc, &mut svg, subject, plan, spans)?;
     draw_rows(alloc, &mut svg, subject, plan, spans, labels)?;
+    if let Some(row) = subject.again {
+        draw_again(&mut svg, plan, row)?;
+    }
     draw_end(alloc, &mut svg, subject, plan, bottom)?;
     draw_key(&mut svg, key)?;
     svg.finish()

@@ -1,5 +1,5 @@
 -- What the options have of the words, and which fault the words have.
-use Rattle.std.specs.Prelude.{◌≡◌, ◌&&◌, ◌||◌, ℕ, Bool, false, List, [], ◌∷◌, Some, None, codes, IsSomeAnd, MatchOption, Option, is_some, take}
+use Rattle.std.specs.Prelude.{◌≡◌, ◌&&◌, ◌||◌, ℕ, Bool, false, true, not, List, [], ◌∷◌, Some, None, codes, IsSomeAnd, MatchOption, Option, is_some, take}
 use Rattle.arrayvec.specs.ArrayVec.{ArrayVec}
 use Rattle.clap.specs.Words.{IsAmong, Row, Text, first_of}
 use Rattle.std.specs.Str.{bytes_eq}
@@ -22,6 +22,10 @@ gates_text Any = codes "any"
 abbrev pub IsGated : Option Text → Gates → Type 0
 IsGated text gates = MatchOption text (gates ≡ First) (λ t. t ≡ gates_text gates)
 
+-- the same; where it is asked who may wait for ever, it is the first in line that goes in
+abbrev pub IsGatedFor : Bool → Option Text → Gates → Type 0
+IsGatedFor waits text gates = IsGated text gates × (waits ≡ true → gates ≡ First)
+
 -- the word of at most so many numbers that the text spells, or none where there is no text
 abbrev pub IsScheduled : ℕ → Option Text → Option (ArrayVec ℕ) → Type 0
 IsScheduled most text schedule = MatchOption text (schedule ≡ None) (λ t. IsSomeAnd schedule (λ w. IsWord most w.items × (spelled w.items ≡ t)))
@@ -38,17 +42,26 @@ asks_merge rows = is_asked (first_of (codes "merge") rows)
 abbrev pub asks_ends : List Row → Bool
 asks_ends rows = is_asked (first_of (codes "ends") rows)
 
--- so it is told: whether schedules are taken together, whether in any length, and whether both are asked for
+abbrev pub asks_waits : List Row → Bool
+asks_waits rows = is_asked (first_of (codes "waits") rows)
+
+-- schedules are asked to be taken together in two ways, or who may wait for ever in none of any length
+abbrev pub clashes : List Row → Bool
+clashes rows = (asks_merge rows && asks_ends rows) || (asks_waits rows && not (asks_ends rows))
+
+-- so it is told: whether schedules are taken together, whether in any length, who may wait for ever, and whether the words clash
 pub record IsKind (rows : List Row) (k : Kind) : Type 0 where
   pub merge : k.merge ≡ (asks_merge rows || asks_ends rows)
   pub ends : k.ends ≡ asks_ends rows
-  pub both : k.both ≡ (asks_merge rows && asks_ends rows)
+  pub waits : k.waits ≡ asks_waits rows
+  pub clash : k.clash ≡ clashes rows
 
 -- each option has the value that the matches have for it; where schedules are taken together there are no rows, and they are so in one way
 pub record HasOptions (rows : List Row) (o : Options) : Type 0 where
   pub merge : o.merge ≡ (asks_merge rows || asks_ends rows)
   pub ends : o.ends ≡ asks_ends rows
-  pub one : (asks_merge rows && asks_ends rows) ≡ false
+  pub waits : o.waits ≡ asks_waits rows
+  pub one : clashes rows ≡ false
   pub choices : IsChosen (default_choices o.ends) 0 (most_choices o.merge) (first_of (codes "choices") rows) o.choices
   pub steps : IsChosen 1000 1 100000 (first_of (codes "steps") rows) o.steps
   pub workers : IsChosen 2 1 16 (first_of (codes "workers") rows) o.workers
@@ -57,7 +70,7 @@ pub record HasOptions (rows : List Row) (o : Options) : Type 0 where
   pub rows_asked : o.rows ≡ is_asked (first_of (codes "rows") rows)
   pub states : IsChosen 200000 1 10000000 (first_of (codes "states") rows) o.states
   pub schedule : IsScheduled (most_choices o.merge) (first_of (codes "schedule") rows) o.schedule
-  pub gates : IsGated (first_of (codes "gates") rows) o.gates
+  pub gates : IsGatedFor (asks_waits rows) (first_of (codes "gates") rows) o.gates
 
 -- no word is refused, and each option has the value that the words have for it
 abbrev pub Gives : List Text → Options → Type 0

@@ -2,7 +2,7 @@
 ghost use Rattle.std.specs.Prelude.{◌≡◌, ◌≤◌, IfErr, IfOk, codes, is_some, length, map, option_map, true};
 ghost use Rattle.clap.specs.Words.{first_of, found_of, rows_of};
 ghost use Rattle.cp_tool.specs.Finds.{Finds};
-ghost use Rattle.cp_tool.specs.Options.{Gives, HasOptions, HasRefusedValue, IsScheduled, IsFaultFor, IsGated, IsKind, is_asked};
+ghost use Rattle.cp_tool.specs.Options.{Gives, HasOptions, HasRefusedValue, IsScheduled, IsFaultFor, IsGated, IsGatedFor, IsKind, is_asked};
 ghost use Rattle.cp_tool.specs.Words.{default_choices, most_choices};
 
 use crate::command::command;
@@ -76,12 +76,14 @@ fn options_of(alloc: Global, matches: &ArgMatches<'_>) -> Result<Option<Options>
     Ok(options_with(matches, kind, schedule))
 }
 
-// Whether schedules are taken together, whether in any length, and whether both words stand there.
+// Whether schedules are taken together, whether in any length, whether it is asked who may wait for ever, and whether words stand there
+// that can't stand together.
 #[derive(Clone, Copy)]
 struct Kind {
     merge: bool,
     ends: bool,
-    both: bool,
+    waits: bool,
+    clash: bool,
 }
 
 fn kind_of(matches: &ArgMatches<'_>) -> Kind
@@ -89,10 +91,12 @@ fn kind_of(matches: &ArgMatches<'_>) -> Kind
 {
     let merge = is_asked(matches.get_str("merge"));
     let ends = is_asked(matches.get_str("ends"));
+    let waits = is_asked(matches.get_str("waits"));
     Kind {
         merge: merge | ends,
         ends,
-        both: merge & ends,
+        waits,
+        clash: (merge & ends) | (waits & !ends),
     }
 }
 
@@ -105,7 +109,7 @@ fn options_with(
     requires schedule { Finds (IsScheduled (most_choices kind.merge) (first_of (codes "schedule") (rows_of (found_of matches.now)))) schedule }
     ensures { Finds (HasOptions (rows_of (found_of matches.now))) result }
 {
-    if kind.both {
+    if kind.clash {
         return None;
     }
     let rows = is_asked(matches.get_str("rows"));
@@ -122,9 +126,10 @@ fn options_with(
         rows,
         merge: kind.merge,
         ends: kind.ends,
+        waits: kind.waits,
         states: chosen(matches.get_str("states"), 200_000, 1, 10_000_000)?,
         schedule: schedule?,
-        gates: gates_of(matches.get_str("gates"))?,
+        gates: gates_for(kind.waits, matches.get_str("gates"))?,
         cut_is_given: is_given(matches.get_str("cut")),
     })
 }
@@ -172,6 +177,16 @@ fn schedule_of(
         return Ok(None);
     };
     Ok(Some(Some(word)))
+}
+
+// Where it is asked who may wait for ever, the first in line goes in.
+fn gates_for(waits: bool, text: Option<&str>) -> Option<Gates>
+    ensures { Finds (IsGatedFor waits (option_map (λ s. s.now) text.entry)) result }
+{
+    match gates_of(text)? {
+        Gates::First => Some(Gates::First),
+        Gates::Any => { if waits { None } else { Some(Gates::Any) } }
+    }
 }
 
 fn gates_of(text: Option<&str>) -> Option<Gates>

@@ -26,6 +26,8 @@ pub struct Options {
     pub merge: bool,
     /// Whether they are so in any length, for the ends that are possible.
     pub ends: bool,
+    /// Whether it is asked as well who may wait for ever.
+    pub waits: bool,
     /// The most states, of a layer or in all, where they are.
     pub states: u32,
     /// The one schedule to be traced, if any.

@@ -62,7 +62,7 @@ static LONGEST: [&str; 3] = [
 ];
 
 /// Words that are refused.
-static REFUSED: [&[&str]; 49] = [
+static REFUSED: [&[&str]; 51] = [
     &["cpx", "--choices", "21"],
     &["cpx", "--steps", "0"],
     &["cpx", "--steps", "100001"],
@@ -113,7 +113,9 @@ static REFUSED: [&[&str]; 49] = [
     &["cpx", "--ends", "--ends"],
     &["cpx", "--ends", "--choices", "101"],
     &["cpx", "--ends", "--states", "0"],
-    &["cpx", "--ends", "--waits"],
+    &["cpx", "--waits"],
+    &["cpx", "--merge", "--waits"],
+    &["cpx", "--ends", "--waits", "--gates", "any"],
     &["cpx", "--ends", "--at-once"],
     &[
         "cpx",

@@ -8,12 +8,13 @@ ghost use Rattle.cpx_show.specs.Showing as spec;
 use crate::marks::marked;
 use crate::parts::{Asked, Part};
 use cp_check::check;
+use cp_ends_story::{Subject as Endless, ends_story};
 use cp_lanes::{Subject, picture};
 use cp_legend::{Legend, legend_of};
 use cp_machine::Ticks;
 use cp_outcomes::{Form, Subject as Survey, Way, outcomes};
 use cp_resolved::resolve;
-use cp_run::Limits;
+use cp_run::{Limits, MOST_CHOICES};
 use cp_slots::Resolved;
 use cp_story::{Story, json, tell, text};
 use cp_text::{Tokens, scan};
@@ -217,12 +218,17 @@ fn shown(
     let options = &asked.options;
     let lines = lines_of(alloc, source)?;
     let text = match &asked.part {
-        Part::Trace { json } => traced(alloc, options, program, legend, &lines, *json)?,
-        Part::Lanes => drawn(alloc, options, program, legend, &lines)?,
+        Part::Trace { json } => traced(alloc, asked, program, legend, &lines, *json)?,
+        Part::Lanes => drawn(alloc, asked, program, legend, &lines)?,
         Part::Outcomes { json } => {
             return surveyed(alloc, options, program, legend, &lines, *json);
         }
-        Part::Mark(words) => return marked(alloc, options, program, words.as_str(), source),
+        Part::Ends { json } => {
+            return ended(alloc, options, program, legend, &lines, *json);
+        }
+        Part::Mark(words) => {
+            return marked(alloc, options, program, legend, words.as_str(), source);
+        }
         Part::Refusal => return explained(alloc, source),
     };
     Ok(Answer {
@@ -234,19 +240,83 @@ fn shown(
 // One schedule in names.
 fn traced(
     alloc: Global,
-    options: &Options,
+    asked: &Asked,
     program: &Resolved,
     legend: &Legend,
     source: &[String],
     as_json: bool,
 ) -> Result<String, AllocError> {
+    let options = &asked.options;
     let word = word_of(options);
     let story = told::<Brand>(alloc, options, program, legend, word, Blank::new(1))?;
+    let again = first_of_round(alloc, asked, program, legend, &story)?;
     if as_json {
-        return json(alloc, legend, &story, word, source);
+        let told = json(alloc, legend, &story, word, source)?;
+        return json_with_again(alloc, told, again);
     }
     let end = trace_report(alloc, program, &[], &story.end, word)?;
-    text(alloc, legend, &story, end.text.as_str())
+    let told = text(alloc, legend, &story, end.text.as_str())?;
+    text_with_again(alloc, told, again)
+}
+
+// The event of a story with which the round begins, if the story comes to one.
+fn first_of_round(
+    alloc: Global,
+    asked: &Asked,
+    program: &Resolved,
+    legend: &Legend,
+    whole: &Story,
+) -> Result<Option<usize>, AllocError> {
+    let options = &asked.options;
+    let word = word_of(options);
+    if asked.round == 0 || asked.round > word.len() {
+        return Ok(None);
+    }
+    let before = &word[..word.len() - asked.round];
+    let story = told::<Brand>(alloc, options, program, legend, before, Blank::new(1))?;
+    let first = story.events.len();
+    Ok(if first < whole.events.len() {
+        Some(first)
+    } else {
+        None
+    })
+}
+
+// An object that begins with the event with which the round begins.
+fn json_with_again(
+    alloc: Global,
+    told: String,
+    again: Option<usize>,
+) -> Result<String, AllocError> {
+    let Some(row) = again else {
+        return Ok(told);
+    };
+    let Some(rest) = told.as_str().strip_prefix("{") else {
+        return Ok(told);
+    };
+    let mut text = format!(in alloc; "{{\"again\":{row},")?;
+    text.push_str(rest)?;
+    Ok(text)
+}
+
+// Lines with a heading before those of the round.
+fn text_with_again(
+    alloc: Global,
+    told: String,
+    again: Option<usize>,
+) -> Result<String, AllocError> {
+    let Some(row) = again else {
+        return Ok(told);
+    };
+    let mut text = String::new(alloc);
+    for (place, line) in told.as_str().lines().enumerate() {
+        if place == row {
+            text.push_str("again and again:\n")?;
+        }
+        text.push_str(line)?;
+        text.push('\n')?;
+    }
+    Ok(text)
 }
 
 // The outcomes of all schedules.
@@ -270,6 +340,42 @@ fn surveyed(
     };
     let form = if as_json { Form::Json } else { Form::Text };
     let told = outcomes(alloc, subject, form)?;
+    Ok(Answer {
+        verdict: if told.is_whole {
+            Verdict::Reported
+        } else {
+            Verdict::TooMany
+        },
+        text: told.text,
+    })
+}
+
+// The ends of schedules of any length.
+fn ended(
+    alloc: Global,
+    options: &Options,
+    program: &Resolved,
+    legend: &Legend,
+    source: &[String],
+    as_json: bool,
+) -> Result<Answer, AllocError> {
+    let Some(limits) = Limits::new(MOST_CHOICES, options.steps, options.gates) else {
+        unreachable!()
+    };
+    let subject = Endless {
+        program,
+        legend,
+        limits,
+        most: options.states,
+        waits: options.waits,
+        source,
+    };
+    let form = if as_json {
+        cp_ends_story::Form::Json
+    } else {
+        cp_ends_story::Form::Text
+    };
+    let told = ends_story(alloc, subject, form)?;
     Ok(Answer {
         verdict: if told.is_whole {
             Verdict::Reported
@@ -325,21 +431,24 @@ fn told<L: Ledger>(
 // The picture of a schedule.
 fn drawn(
     alloc: Global,
-    options: &Options,
+    asked: &Asked,
     program: &Resolved,
     legend: &Legend,
     source: &[String],
 ) -> Result<String, AllocError> {
+    let options = &asked.options;
     let word = word_of(options);
     let story = told::<Brand>(alloc, options, program, legend, word, Blank::new(1))?;
     let end = trace_report(alloc, program, &[], &story.end, word)?;
     let schedule = schedule_of(alloc, word)?;
+    let again = first_of_round(alloc, asked, program, legend, &story)?;
     let subject = Subject {
         legend,
         story: &story,
         schedule: schedule.as_str(),
         end: end.text.as_str(),
         source,
+        again,
     };
     picture(alloc, subject)
 }

@@ -18,6 +18,9 @@ const LANES: &str = "Draws one schedule as a picture: SVG with a lane for each p
 const OUTCOMES: &str =
     "Tells the outcomes of all schedules in words: shares, first schedules, and whether these are all";
 
+const ENDS: &str =
+    "Tells in words which ends are possible in schedules of any length, and who may wait for ever";
+
 const REFUSAL: &str =
     "Says why a source is refused, in a sentence; or that it is accepted, with hints";
 
@@ -25,13 +28,14 @@ const MARK: &str =
     "Says whether what is expected of all schedules holds: never OUTCOME, some OUTCOME, only OUTCOME..";
 
 const EXPECTATIONS: &str =
-    "OUTCOME: finished, all-waiting, run-error or run-error NAME; after it, if wanted,\noutput VALUES, where .. stands for any rest. Several expectations are joined by and.\nWithout words those in comments of the program are taken: (* expect never all-waiting *)\n\nStatus: 0 holds, 6 fails, 7 not settled; 1 to 5 as cpx";
+    "With --ends of schedules of any length, without outputs; END may be alone or spins as well, and\nwhat is expected may be never waiting, some waiting, some waiting PROCESS, never shown VALUE\nor some shown VALUE.\n\nOUTCOME: finished, all-waiting, run-error or run-error NAME; after it, if wanted,\noutput VALUES, where .. stands for any rest. Several expectations are joined by and.\nWithout words those in comments of the program are taken: (* expect never all-waiting *)\n\nStatus: 0 holds, 6 fails, 7 not settled; 1 to 5 as cpx";
 
 /// The command with all its parts; `clap` adds `--help` and `-h` to each.
 pub fn command<'a>(alloc: Global) -> Result<Command<'a>, AllocError> {
     let command = with_part(described(alloc), trace(alloc))?;
     let command = with_part(command, lanes(alloc))?;
     let command = with_part(command, outcomes(alloc))?;
+    let command = with_part(command, ends(alloc))?;
     let command = with_part(command, refusal(alloc))?;
     with_part(command, mark(alloc))
 }
@@ -80,6 +84,22 @@ fn outcomes<'a>(alloc: Global) -> Result<Command<'a>, AllocError> {
     Ok(with_limits(alloc, command)?.arg(json(alloc))?)
 }
 
+fn ends<'a>(alloc: Global) -> Result<Command<'a>, AllocError> {
+    let waits = Arg::new(alloc, "waits")
+        .long("waits")
+        .action(ArgAction::SetTrue)
+        .help("Tell as well who may wait for ever while others go on");
+    let command = Command::new(alloc, "ends")
+        .about(ENDS)
+        .override_usage("cpx_show ends [OPTIONS] < PROGRAM");
+    let command = with_run(alloc, command.arg(waits)?)?;
+    let command = command.arg(states(
+        alloc,
+        "States that there may be in all, 1 to 10000000 [default: 200000]",
+    ))?;
+    Ok(command.arg(json(alloc))?)
+}
+
 fn refusal<'a>(alloc: Global) -> Result<Command<'a>, AllocError> {
     let command = Command::new(alloc, "refusal")
         .about(REFUSAL)
@@ -97,7 +117,16 @@ fn mark<'a>(alloc: Global) -> Result<Command<'a>, AllocError> {
         .about(MARK)
         .override_usage("cpx_show mark [OPTIONS] [EXPECTATION..] < PROGRAM")
         .after_help(EXPECTATIONS);
-    with_limits(alloc, command.arg(expectation)?)
+    with_limits(alloc, command.arg(expectation)?.arg(ends_switch(alloc))?)
+}
+
+fn ends_switch<'a>(alloc: Global) -> Arg<'a> {
+    Arg::new(alloc, "ends")
+        .long("ends")
+        .action(ArgAction::SetTrue)
+        .help(
+            "Take schedules as cpx does with --ends: of up to 100 choices, or for a mark of any length",
+        )
 }
 
 // A part of one schedule, with the options of a run.
@@ -109,7 +138,16 @@ fn with_schedule<'a>(alloc: Global, command: Command<'a>) -> Result<Command<'a>,
         "The schedule: `none`, or up to 20 numbers 0 to 15 joined by periods, with --merge up to 100",
     )
     .required(true);
-    with_limits(alloc, command.arg(schedule)?)
+    let again = option(
+        alloc,
+        "again",
+        "WORD",
+        "A round after it that can be gone again and again; with it --ends is as good as given",
+    );
+    with_limits(
+        alloc,
+        command.arg(schedule)?.arg(again)?.arg(ends_switch(alloc))?,
+    )
 }
 
 fn with_limits<'a>(alloc: Global, command: Command<'a>) -> Result<Command<'a>, AllocError> {
@@ -119,25 +157,32 @@ fn with_limits<'a>(alloc: Global, command: Command<'a>) -> Result<Command<'a>, A
         "K",
         "Choices of a schedule, 0 to 20, with --merge to 100 [default: 8]",
     ))?;
+    let command = with_run(alloc, command)?;
+    let command = command.arg(merge(alloc))?;
+    command.arg(states(
+        alloc,
+        "States that a layer may have with --merge, 1 to 10000000 [default: 200000]",
+    ))
+}
+
+// How a run goes.
+fn with_run<'a>(alloc: Global, command: Command<'a>) -> Result<Command<'a>, AllocError> {
     let command = command.arg(option(
         alloc,
         "steps",
         "L",
         "Steps of a stretch between choices, 1 to 100000 [default: 1000]",
     ))?;
-    let command = command.arg(option(
+    command.arg(option(
         alloc,
         "gates",
         "WHO",
         "Who enters a monitor that becomes free: `first` in line, or `any` [default: first]",
-    ))?;
-    let command = command.arg(merge(alloc))?;
-    command.arg(option(
-        alloc,
-        "states",
-        "N",
-        "States that a layer may have with --merge, 1 to 10000000 [default: 200000]",
     ))
+}
+
+fn states<'a>(alloc: Global, help: &'a str) -> Arg<'a> {
+    option(alloc, "states", "N", help)
 }
 
 fn merge<'a>(alloc: Global) -> Arg<'a> {

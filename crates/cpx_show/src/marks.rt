@@ -7,7 +7,9 @@ ghost use Rattle.cpx_show.specs.Showing as spec;
 ghost use Rattle.cpx_show.specs.declared.answering.Verdict.TheVariants.{TooMany};
 
 use crate::answering::{Answer, Verdict};
-use cp_run::Limits;
+use cp_ends_verdict::{Mark as EndsMark, Subject as Endless, mark_ends};
+use cp_legend::Legend;
+use cp_run::{Limits, MOST_CHOICES};
 use cp_slots::Resolved;
 use cp_tool::Options;
 use cp_verdict::{
@@ -21,11 +23,12 @@ pub fn marked(
     alloc: Global,
     options: &Options,
     program: &Resolved,
+    legend: &Legend,
     words: &str,
     source: &[u8],
 ) -> Result<Answer, AllocError> {
     if !words.is_empty() {
-        return marked_by(alloc, options, program, words);
+        return marked_by(alloc, options, program, legend, words);
     }
     let found = expected(alloc, source)?;
     if found.is_empty() {
@@ -37,7 +40,7 @@ pub fn marked(
             )?,
         });
     }
-    marked_by(alloc, options, program, found.as_str())
+    marked_by(alloc, options, program, legend, found.as_str())
 }
 
 // What is said by the expectations of a text.
@@ -45,8 +48,12 @@ fn marked_by(
     alloc: Global,
     options: &Options,
     program: &Resolved,
+    legend: &Legend,
     text: &str,
 ) -> Result<Answer, AllocError> {
+    if options.ends {
+        return marked_ends(alloc, options, program, legend, text);
+    }
     match expectations(alloc, text) {
         Ok(expectations) => judged(alloc, options, program, &expectations),
         Err(Misread::Unexpected { wanted, place }) => Ok(Answer {
@@ -55,6 +62,36 @@ fn marked_by(
         }),
         Err(Misread::Memory) => Err(AllocError),
     }
+}
+
+// The same of schedules of any length.
+fn marked_ends(
+    alloc: Global,
+    options: &Options,
+    program: &Resolved,
+    legend: &Legend,
+    text: &str,
+) -> Result<Answer, AllocError> {
+    let Some(limits) = Limits::new(MOST_CHOICES, options.steps, options.gates) else {
+        unreachable!()
+    };
+    let subject = Endless {
+        program,
+        legend,
+        limits,
+        most: options.states,
+    };
+    let marked = mark_ends(alloc, subject, text)?;
+    Ok(Answer {
+        verdict: match marked.mark {
+            EndsMark::Holds => Verdict::Reported,
+            EndsMark::Fails => Verdict::Fails,
+            EndsMark::Open => Verdict::Open,
+            EndsMark::TooMany => Verdict::TooMany,
+            EndsMark::Misread => Verdict::Misread,
+        },
+        text: marked.text,
+    })
 }
 
 // What the table within the limits of the options says of the expectations.

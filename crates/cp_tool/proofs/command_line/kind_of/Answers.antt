@@ -1,8 +1,8 @@
 use Rattle.std.proofs.Common.{◌≡◌, ◌∙◌, ap, ap₂, codes}
-use Rattle.std.specs.Prelude.{◌&&◌, ◌||◌}
+use Rattle.std.specs.Prelude.{◌&&◌, ◌||◌, not}
 use Rattle.clap.specs.Words.{found_of, rows_of}
 use Rattle.clap.proofs.WalkLemmas.{first_value-rows}
-use Rattle.cp_tool.specs.Options.{asks_ends, asks_merge, is_asked}
+use Rattle.cp_tool.specs.Options.{asks_ends, asks_merge, asks_waits, is_asked}
 use Rattle.cp_tool.proofs.command_line.kind_of.Goals as goal
 
 pub returns : goal.returns
@@ -10,4 +10,10 @@ returns c =
     let f = found_of c.args.matches.now in
     let merge : c.is_asked-merge.result ≡ asks_merge (rows_of f) = c.is_asked-merge.ensures ∙ ap is_asked (c.get_str.ensures ∙ first_value-rows f (codes "merge")) in
     let ends : c.is_asked-ends.result ≡ asks_ends (rows_of f) = c.is_asked-ends.ensures ∙ ap is_asked (c.get_str-2.ensures ∙ first_value-rows f (codes "ends")) in
-    record { merge = ap₂ (λ a b. a || b) merge ends; ends = ends; both = ap₂ (λ a b. a && b) merge ends }
+    let waits : c.is_asked-waits.result ≡ asks_waits (rows_of f) = c.is_asked-waits.ensures ∙ ap is_asked (c.get_str-3.ensures ∙ first_value-rows f (codes "waits")) in
+    record {
+      merge = ap₂ (λ a b. a || b) merge ends;
+      ends = ends;
+      waits = waits;
+      clash = ap₂ (λ a b. a || b) (ap₂ (λ a b. a && b) merge ends) (ap₂ (λ a b. a && not b) waits ends);
+    }

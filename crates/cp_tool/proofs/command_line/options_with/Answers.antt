@@ -5,7 +5,7 @@ use Rattle.clap.specs.Words.{Text, first_of, found_of, rows_of}
 use Rattle.clap.proofs.WalkLemmas.{first_value-rows}
 use Rattle.cp_tool.specs.Finds.{Finds}
 use Rattle.cp_tool.specs.Numbers.{IsChosen}
-use Rattle.cp_tool.specs.Options.{HasOptions, IsGated, IsScheduled, asks_ends, asks_merge, is_asked}
+use Rattle.cp_tool.specs.Options.{HasOptions, IsGatedFor, IsScheduled, asks_ends, asks_merge, asks_waits, is_asked}
 use Rattle.cp_tool.proofs.Together.{default_fits}
 use Rattle.cp_tool.specs.Words.{default_choices, most_choices}
 use Rattle.cp_tool.specs.declared.options.Options.{Options}
@@ -21,7 +21,7 @@ both_asked false rows m r unlike = let bad : false ≡ true = m in absurd (cc)
 
 pub returns-then-kind : goal.returns-then-kind
 returns-then-kind c o has =
-    let bad : true ≡ false = sym c.if-kind.true ∙ c.requires.kind.both ∙ has.one in
+    let bad : true ≡ false = sym c.if-kind.true ∙ c.requires.kind.clash ∙ has.one in
     absurd (cc)
 
 pub chosen-requires : goal.chosen-requires
@@ -68,10 +68,11 @@ returns-in_err-chosen-5 c = finds_none (HasOptions (rows_of (found_of c.args.mat
     let text = c.get_str-6.ensures ∙ first_value-rows (found_of c.args.matches.now) (codes "states") in
     c.in_err-chosen-5.ensures o.states (subst (λ (t : Option Text). IsChosen 200000 1 10000000 t o.states) (sym text) has.states))
 
-pub returns-in_err-gates_of : goal.returns-in_err-gates_of
-returns-in_err-gates_of c = finds_none (HasOptions (rows_of (found_of c.args.matches.now))) c.from_residual-in_err-gates_of.result c.from_residual-in_err-gates_of.ensures (λ o has.
+pub returns-in_err-gates_for : goal.returns-in_err-gates_for
+returns-in_err-gates_for c = finds_none (HasOptions (rows_of (found_of c.args.matches.now))) c.from_residual-in_err-gates_for.result c.from_residual-in_err-gates_for.ensures (λ o has.
     let text = c.get_str-7.ensures ∙ first_value-rows (found_of c.args.matches.now) (codes "gates") in
-    c.in_err-gates_of.ensures o.gates (subst (λ (t : Option Text). IsGated t o.gates) (sym text) has.gates))
+    let given = subst (λ (t : Option Text). IsGatedFor (asks_waits (rows_of (found_of c.args.matches.now))) t o.gates) (sym text) has.gates in
+    c.in_err-gates_for.ensures o.gates (subst (λ (b : Bool). IsGatedFor b (option_map (λ s. s.now) c.get_str-7.result) o.gates) (sym c.requires.kind.waits) given))
 
 pub returns : goal.returns
 returns c =
@@ -83,7 +84,8 @@ returns c =
     record {
       merge = c.requires.kind.merge;
       ends = c.requires.kind.ends;
-      one = sym c.requires.kind.both ∙ c.if-kind.false;
+      waits = c.requires.kind.waits;
+      one = sym c.requires.kind.clash ∙ c.if-kind.false;
       choices = subst (λ (n : ℕ). IsChosen n 0 (most_choices c.args.kind.merge) (first_of (codes "choices") (rows_of f)) c.in_ok-chosen.field-0) c.default_choices-usual.ensures within;
       steps = subst (λ (t : Option Text). IsChosen 1000 1 100000 t c.in_ok-chosen-2.field-0) (c.get_str-3.ensures ∙ at (codes "steps")) c.in_ok-chosen-2.ensures;
       workers = subst (λ (t : Option Text). IsChosen 2 1 16 t c.in_ok-chosen-3.field-0) (c.get_str-4.ensures ∙ at (codes "workers")) c.in_ok-chosen-3.ensures;
@@ -92,5 +94,5 @@ returns c =
       rows_asked = c.is_asked-rows.ensures ∙ ap is_asked (c.get_str.ensures ∙ at (codes "rows"));
       states = subst (λ (t : Option Text). IsChosen 200000 1 10000000 t c.in_ok-chosen-5.field-0) (c.get_str-6.ensures ∙ at (codes "states")) c.in_ok-chosen-5.ensures;
       schedule = subst (λ (r : Option (Option (ArrayVec ℕ))). Finds (IsScheduled (most_choices c.args.kind.merge) (first_of (codes "schedule") (rows_of f))) r) c.in_ok-schedule.was c.requires.schedule;
-      gates = subst (λ (t : Option Text). IsGated t c.in_ok-gates_of.field-0) (c.get_str-7.ensures ∙ at (codes "gates")) c.in_ok-gates_of.ensures;
+      gates = subst (λ (b : Bool). IsGatedFor b (first_of (codes "gates") (rows_of f)) c.in_ok-gates_for.field-0) c.requires.kind.waits (subst (λ (t : Option Text). IsGatedFor c.args.kind.waits t c.in_ok-gates_for.field-0) (c.get_str-7.ensures ∙ at (codes "gates")) c.in_ok-gates_for.ensures);
     }

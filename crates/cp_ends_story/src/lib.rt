@@ -1,0 +1,11 @@
+//! The ends that are possible in schedules of any length, and who may wait for ever, told in words.
+#![tactic(auto)]
+
+mod objects;
+pub mod placing;
+pub mod subject;
+mod telling;
+mod texts;
+
+pub use subject::{Form, Subject, Told};
+pub use telling::ends_story;

@@ -1,0 +1,157 @@
+//! Expectations and what is said of them, in words.
+
+use crate::expectation::{Claim, EndPattern, Expectation, Topic};
+use crate::judging::{Known, Witness};
+use crate::reading::Wanted;
+use cp_ends::End;
+use cp_legend::Legend;
+use cp_run::OutcomeKind;
+use cp_slots::Resolved;
+use cp_story::kind_words;
+use cp_waits::{How, Waiting};
+use cp_walk::text::{error_name, push_output, push_word};
+use std::alloc::{AllocError, Global};
+
+/// Appends an expectation as it is written.
+pub fn push_expectation(
+    legend: &Legend,
+    text: &mut String,
+    expectation: &Expectation,
+) -> Result<(), AllocError> {
+    text.push_str(match expectation.claim {
+        Claim::Never => "never ",
+        Claim::Sometimes => "some ",
+        Claim::Only => "only ",
+    })?;
+    match &expectation.topic {
+        Topic::Ends(patterns) => {
+            let mut before = "";
+            for pattern in patterns {
+                text.push_str(before)?;
+                push_pattern(text, *pattern)?;
+                before = " or ";
+            }
+            Ok(())
+        }
+        Topic::Waiting(None) => text.push_str("waiting"),
+        Topic::Waiting(Some(process)) => {
+            text.push_str("waiting ")?;
+            text.push_str(legend.process_name(*process))
+        }
+        Topic::Shown(value) => {
+            text.push_str("shown ")?;
+            text.push_str(value.as_str())
+        }
+    }
+}
+
+fn push_pattern(text: &mut String, pattern: EndPattern) -> Result<(), AllocError> {
+    match pattern {
+        EndPattern::Finished => text.push_str("finished"),
+        EndPattern::AllWaiting => text.push_str("all-waiting"),
+        EndPattern::AnyError => text.push_str("run-error"),
+        EndPattern::Error(name) => {
+            text.push_str("run-error ")?;
+            text.push_str(error_name(name))
+        }
+        EndPattern::Alone => text.push_str("alone"),
+        EndPattern::Spins => text.push_str("spins"),
+    }
+}
+
+/// Appends a schedule and what it shows.
+pub fn push_witness(
+    alloc: Global,
+    program: &Resolved,
+    legend: &Legend,
+    text: &mut String,
+    known: Known<'_>,
+    witness: Witness<'_>,
+) -> Result<(), AllocError> {
+    match witness {
+        Witness::End(found) => {
+            let word = known.found.states.word(alloc, found.origin)?;
+            push_word(text, word.as_slice())?;
+            text.push(' ')?;
+            push_end(text, found.end)
+        }
+        Witness::Value(found) => {
+            let word = known.found.states.word(alloc, found.origin)?;
+            push_word(text, word.as_slice())?;
+            text.push_str(" shows ")?;
+            push_output(text, program, [found.value].as_slice())
+        }
+        Witness::Waiting(waiting) => push_waiting(legend, text, waiting),
+    }
+}
+
+fn push_end(text: &mut String, end: End) -> Result<(), AllocError> {
+    match end {
+        End::Over(
+            OutcomeKind::RunError {
+                name,
+                process,
+                line,
+            },
+        ) => {
+            let error = error_name(name);
+            write!(text, "run-error {error} process {process} line {line}")
+        }
+        End::Over(kind) => text.push_str(kind_words(kind)),
+        End::Alone(process) => write!(text, "alone process {process}"),
+        End::Spins(process) => write!(text, "spins process {process}"),
+    }
+}
+
+fn push_waiting(legend: &Legend, text: &mut String, waiting: &Waiting) -> Result<(), AllocError> {
+    push_word(text, waiting.first.as_slice())?;
+    text.push_str(" again ")?;
+    push_word(text, waiting.again.as_slice())?;
+    let process = waiting.process;
+    let name = legend.process_name(process);
+    write!(text, ": {process} {name}")?;
+    text.push_str(match waiting.how {
+        How::Throughout => " waits for ever",
+        How::ForGood => " waits for good",
+        How::InItsCall => " never comes out of its call",
+    })
+}
+
+/// What is said where no schedule is as an expectation asks.
+pub fn missing_words(topic: &Topic) -> &'static str {
+    match topic {
+        Topic::Ends(_) => "no schedule of any length ends so",
+        Topic::Waiting(None) => "nobody may wait for ever",
+        Topic::Waiting(Some(_)) => "it may not wait for ever",
+        Topic::Shown(_) => "no schedule of any length displays it",
+    }
+}
+
+/// What is said of a text that has no expectations: what was found, and what was wanted there.
+pub fn misread_text(
+    alloc: Global,
+    text: &str,
+    wanted: Wanted,
+    place: usize,
+) -> Result<String, AllocError> {
+    let mut said = String::new(alloc);
+    said.push_str("expected ")?;
+    said.push_str(match wanted {
+        Wanted::Claim => "never, some or only",
+        Wanted::Topic => "finished, all-waiting, run-error, alone, spins, waiting or shown",
+        Wanted::End => "finished, all-waiting, run-error, alone or spins",
+        Wanted::Value => "a value",
+        Wanted::Process => "the number or the name of a process, or and",
+        Wanted::And => "and",
+        Wanted::Joint => "and, or, finished, all-waiting, run-error, alone or spins",
+    })?;
+    match text.split_whitespace().nth(place) {
+        Some(word) => {
+            said.push_str(", found \"")?;
+            said.push_str(word)?;
+            said.push_str("\"\n")?;
+        }
+        None => said.push_str(", found the end\n")?,
+    }
+    Ok(said)
+}

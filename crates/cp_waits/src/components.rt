@@ -1,0 +1,277 @@
+//! Strongly connected components: the states between which a process can go on doing something for ever.
+
+use crate::graph::{Edge, Graph};
+use crate::passing::Keeping;
+use crate::set::Set;
+use std::alloc::{AllocError, Global};
+
+// The number of no component.
+const NONE: u32 = u32::MAX;
+
+/// A component.
+#[derive(Clone, Copy)]
+pub struct Part {
+    /// The first of its states.
+    pub least: u32,
+    /// Those that are served on some of its edges.
+    pub served: Set,
+    /// Those that wait on some of its edges.
+    pub wait_once: Set,
+    /// Whether it has an edge.
+    pub has_edge: bool,
+    /// Whether no choice leads out of it, nor out of the components to which choices lead from it, to where the process does otherwise.
+    pub is_trap: bool,
+}
+
+/// The component of each state, and what they are. No edge leads to a component of a greater number.
+#[derive(Drop)]
+pub struct Parts {
+    pub of: Vec<u32>,
+    pub parts: Vec<Part>,
+}
+
+// A state whose edges are followed, from this one on and before this one.
+#[derive(Clone, Copy)]
+struct Visit {
+    state: u32,
+    next: usize,
+    end: usize,
+}
+
+// The algorithm of Tarjan, whose calls are visits.
+#[derive(Drop)]
+struct Search {
+    keeping: Keeping,
+    parts: Parts,
+    // When a state was come to, counted from 1, or 0.
+    order: Vec<u32>,
+    // The earliest state that is known to be in the same component.
+    low: Vec<u32>,
+    count: u32,
+    path: Vec<Visit>,
+    // The states that have no component yet.
+    open: Vec<u32>,
+    members: Vec<u32>,
+}
+
+/// The components of the graph that has those edges alone on which the process keeps doing this.
+pub fn parts_of(alloc: Global, graph: &Graph, keeping: Keeping) -> Result<Parts, AllocError> {
+    let states = graph.states();
+    let mut search = Search {
+        keeping,
+        parts: Parts {
+            of: filled(alloc, states, NONE)?,
+            parts: Vec::new(alloc),
+        },
+        order: filled(alloc, states, 0)?,
+        low: filled(alloc, states, 0)?,
+        count: 0,
+        path: Vec::new(alloc),
+        open: Vec::new(alloc),
+        members: Vec::new(alloc),
+    };
+    search.visit_all(graph)?;
+    Ok(search.parts)
+}
+
+impl Parts {
+    /// The number of the component of a state.
+    pub fn number_of(&self, state: u32) -> u32 {
+        at(&self.of, state)
+    }
+
+    pub fn part(&self, number: u32) -> Option<&Part> {
+        self.parts.get(number as usize)
+    }
+}
+
+impl Search {
+    fn visit_all(&mut self, graph: &Graph) -> Result<(), AllocError> {
+        let mut state = 0u32;
+        for _ in 0..graph.states() {
+            if at(&self.order, state) == 0 {
+                self.visit_from(graph, state)?;
+            }
+            state = state.saturating_add(1);
+        }
+        Ok(())
+    }
+
+    // Visits all states that can be come to from this one.
+    fn visit_from(&mut self, graph: &Graph, state: u32) -> Result<(), AllocError> {
+        self.come_to(graph, state)?;
+        let most = graph.edges.len().saturating_add(graph.states());
+        for _ in 0..most {
+            let Some(visit) = self.path.last_mut() else {
+                return Ok(());
+            };
+            let state = visit.state;
+            let place = visit.next;
+            if place < visit.end {
+                visit.next = place.saturating_add(1);
+                self.follow(graph, state, place)?;
+            } else {
+                self.leave(graph, state)?;
+            }
+        }
+        Ok(())
+    }
+
+    fn come_to(&mut self, graph: &Graph, state: u32) -> Result<(), AllocError> {
+        self.count = self.count.saturating_add(1);
+        set(&mut self.order, state, self.count);
+        set(&mut self.low, state, self.count);
+        self.open.push(state)?;
+        self.path.push(Visit {
+            state,
+            next: graph.begin(state),
+            end: graph.end(state),
+        })?;
+        Ok(())
+    }
+
+    // Follows an edge of a state.
+    fn follow(&mut self, graph: &Graph, state: u32, place: usize) -> Result<(), AllocError> {
+        let Some(to) = next_of(graph, self.keeping, place) else {
+            return Ok(());
+        };
+        if at(&self.order, to) == 0 {
+            return self.come_to(graph, to);
+        }
+        let order = at(&self.order, to);
+        if at(&self.parts.of, to) == NONE {
+            self.lower(state, order);
+        }
+        Ok(())
+    }
+
+    fn lower(&mut self, state: u32, low: u32) {
+        if low < at(&self.low, state) {
+            set(&mut self.low, state, low);
+        }
+    }
+
+    // All edges of a state were followed.
+    fn leave(&mut self, graph: &Graph, state: u32) -> Result<(), AllocError> {
+        let _ = self.path.pop();
+        let low = at(&self.low, state);
+        if low == at(&self.order, state) {
+            self.close(graph, state)?;
+        }
+        if let Some(before) = self.path.last() {
+            let parent = before.state;
+            self.lower(parent, low);
+        }
+        Ok(())
+    }
+
+    // A component is whole: this state, and those that were come to since.
+    fn close(&mut self, graph: &Graph, state: u32) -> Result<(), AllocError> {
+        let number = number_after(&self.parts.parts);
+        self.members.clear();
+        for _ in 0..self.open.len() {
+            let Some(member) = self.open.pop() else {
+                break;
+            };
+            set(&mut self.parts.of, member, number);
+            self.members.push(member)?;
+            if member == state {
+                break;
+            }
+        }
+        let part = part_with(graph, self.keeping, &self.parts, number, &self.members);
+        self.parts.parts.push(part)?;
+        Ok(())
+    }
+}
+
+fn number_after(parts: &[Part]) -> u32 {
+    match u32::try_from(parts.len()) {
+        Ok(number) => number,
+        Err(_) => NONE,
+    }
+}
+
+// Where an edge leads, if the process keeps doing this on it.
+fn next_of(graph: &Graph, keeping: Keeping, place: usize) -> Option<u32> {
+    let edge = graph.edges.get(place)?;
+    if keeping.holds(&edge.passing) {
+        edge.to
+    } else {
+        None
+    }
+}
+
+// What a component of these states is.
+fn part_with(graph: &Graph, keeping: Keeping, parts: &Parts, number: u32, members: &[u32]) -> Part {
+    let mut part = Part {
+        least: NONE,
+        served: Set::nobody(),
+        wait_once: Set::nobody(),
+        has_edge: false,
+        is_trap: true,
+    };
+    for member in members {
+        part.least = part.least.min(*member);
+        for place in graph.begin(*member)..graph.end(*member) {
+            if let Some(edge) = graph.edges.get(place) {
+                part.add(keeping, parts, number, edge);
+            }
+        }
+    }
+    part
+}
+
+impl Part {
+    // One edge more of its states.
+    fn add(&mut self, keeping: Keeping, parts: &Parts, number: u32, edge: &Edge) {
+        if !keeping.holds(&edge.passing) {
+            self.is_trap = false;
+            return;
+        }
+        let Some(to) = edge.to else {
+            return;
+        };
+        let other = parts.number_of(to);
+        if other == number {
+            self.has_edge = true;
+            self.served = self.served.or(edge.passing.served);
+            self.wait_once = self.wait_once.or(edge.passing.wait_once);
+            return;
+        }
+        let is_trapped = match parts.part(other) {
+            Some(part) => part.is_trap,
+            None => false,
+        };
+        self.is_trap = self.is_trap && is_trapped;
+    }
+
+    /// Whether all its edges together are a fair round of what the process is asked to keep doing.
+    pub fn is_fair(&self, everybody: Set, keeping: Keeping) -> bool {
+        self.has_edge && everybody.but(self.served).is_empty() && !keeping.lacks(self.wait_once)
+    }
+}
+
+/// A list of so many equal numbers.
+pub fn filled(alloc: Global, count: usize, number: u32) -> Result<Vec<u32>, AllocError> {
+    let mut list = Vec::with_capacity(alloc, count)?;
+    for _ in 0..count {
+        list.push(number)?;
+    }
+    Ok(list)
+}
+
+/// The number at a place of a list.
+pub fn at(list: &[u32], place: u32) -> u32 {
+    match list.get(place as usize) {
+        Some(number) => *number,
+        None => NONE,
+    }
+}
+
+/// Sets the number at a place of a list.
+pub fn set(list: &mut [u32], place: u32, number: u32) {
+    if let Some(slot) = list.get_mut(place as usize) {
+        *slot = number;
+    }
+}

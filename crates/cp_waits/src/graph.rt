@@ -1,0 +1,80 @@
+//! The states, and what happens between them.
+
+use crate::passing::Passing;
+use crate::set::Set;
+use cp_ends::origin::Origin;
+use std::alloc::{AllocError, Global};
+
+/// A choice in a state.
+#[derive(Clone, Copy)]
+pub struct Edge {
+    pub number: u8,
+    /// The state at the next due choice, if there is one.
+    pub to: Option<u32>,
+    pub passing: Passing,
+}
+
+/// A stretch that goes on for ever without a choice, in which each process is served.
+#[derive(Clone, Copy)]
+pub struct Standstill {
+    pub origin: Origin,
+    /// What processes do in the part that repeats.
+    pub again: Passing,
+}
+
+/// The choices of each state, by the number of the state.
+#[derive(Drop)]
+pub struct Graph {
+    pub processes: u8,
+    pub edges: Vec<Edge>,
+    pub standstills: Vec<Standstill>,
+    // Where the edges of each state end.
+    ends: Vec<usize>,
+}
+
+impl Graph {
+    /// There is no state yet.
+    pub fn new(alloc: Global, processes: u8) -> Graph {
+        Graph {
+            processes,
+            edges: Vec::new(alloc),
+            standstills: Vec::new(alloc),
+            ends: Vec::new(alloc),
+        }
+    }
+
+    /// The edges that were added since are those of the next state.
+    pub fn end_state(&mut self) -> Result<(), AllocError> {
+        let end = self.edges.len();
+        self.ends.push(end)?;
+        Ok(())
+    }
+
+    pub fn states(&self) -> usize {
+        self.ends.len()
+    }
+
+    pub fn everybody(&self) -> Set {
+        Set::below(self.processes)
+    }
+
+    /// The place of the first edge of a state.
+    pub fn begin(&self, state: u32) -> usize {
+        match (state as usize).checked_sub(1) {
+            Some(before) => place(&self.ends, before),
+            None => 0,
+        }
+    }
+
+    /// The place after the last edge of a state.
+    pub fn end(&self, state: u32) -> usize {
+        place(&self.ends, state as usize)
+    }
+}
+
+fn place(places: &[usize], at: usize) -> usize {
+    match places.get(at) {
+        Some(place) => *place,
+        None => 0,
+    }
+}

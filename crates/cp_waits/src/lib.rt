@@ -1,0 +1,19 @@
+//! Who may wait for ever while others go on: the states with the choices between them, their strongly connected components, and rounds
+//! that can be gone for ever.
+#![tactic(auto)]
+
+pub mod building;
+pub mod components;
+pub mod graph;
+pub mod passing;
+pub mod ranks;
+pub mod report;
+pub mod rounds;
+pub mod set;
+pub mod waiting;
+pub mod watching;
+
+pub use building::graph_of;
+pub use report::waits_report;
+pub use set::Set;
+pub use waiting::{How, Waiting, Waits, who_waits};

@@ -1,0 +1,193 @@
+//! Who may wait for ever while others go on.
+
+use crate::components::{Part, Parts, parts_of};
+use crate::graph::{Graph, Standstill};
+use crate::passing::Keeping;
+use crate::ranks::are_ranks;
+use crate::rounds::round_in;
+use crate::set::Set;
+use cp_ends::states::States;
+use std::alloc::{AllocError, Global};
+
+/// How a process waits for ever.
+#[derive(Clone, Copy, PartialEq, Eq)]
+pub enum How {
+    /// It waits in all of a round.
+    Throughout,
+    /// And whoever waits for ever comes to where no choice makes it ready.
+    ForGood,
+    /// It is woken again and again, and never comes out of its call.
+    InItsCall,
+}
+
+/// A process that may wait for ever: the first word leads to a round, which the second one goes; with no numbers, to a stretch that
+/// repeats without a choice.
+#[derive(Drop)]
+pub struct Waiting {
+    pub process: u8,
+    pub first: Vec<u8>,
+    pub again: Vec<u8>,
+    /// Those that make a step in the round.
+    pub step: Set,
+    pub how: How,
+}
+
+/// Who may wait for ever, by number.
+#[derive(Drop)]
+pub enum Waits {
+    Known(Vec<Waiting>),
+    /// Neither a round of this process was found nor a reason why there is none.
+    NotSettled(u8),
+}
+
+// What was found of a process.
+#[derive(Drop)]
+enum Answer {
+    Yes(Waiting),
+    No,
+    NotSettled,
+}
+
+// A fair component.
+#[derive(Clone, Copy)]
+struct Fair {
+    number: u32,
+    first: u32,
+    is_trap: bool,
+}
+
+/// Looks for each process whether it may wait for ever.
+pub fn who_waits(alloc: Global, graph: &Graph, states: &States) -> Result<Waits, AllocError> {
+    let mut list = Vec::new(alloc);
+    for process in 0..graph.processes {
+        match answer_of(alloc, graph, states, process)? {
+            Answer::Yes(waiting) => list.push(waiting)?,
+            Answer::No => {}
+            Answer::NotSettled => return Ok(Waits::NotSettled(process)),
+        }
+    }
+    Ok(Waits::Known(list))
+}
+
+fn answer_of(
+    alloc: Global,
+    graph: &Graph,
+    states: &States,
+    process: u8,
+) -> Result<Answer, AllocError> {
+    let keeping = Keeping::Waiting(process);
+    let parts = parts_of(alloc, graph, keeping)?;
+    let fair = fair_part(graph, &parts, keeping);
+    let still = standstill_of(graph, process);
+    if let Some(fair) = fair
+        && (!fair.is_trap || still.is_none())
+    {
+        return lasso(alloc, graph, states, &parts, keeping, fair);
+    }
+    if let Some(still) = still {
+        return Ok(Answer::Yes(Waiting {
+            process,
+            first: states.word(alloc, still.origin)?,
+            again: Vec::new(alloc),
+            step: still.again.step,
+            how: How::ForGood,
+        }));
+    }
+    if are_ranks(graph, &parts, keeping) {
+        answer_in_call(alloc, graph, states, process)
+    } else {
+        Ok(Answer::NotSettled)
+    }
+}
+
+// The same of a process that waits in no round throughout.
+fn answer_in_call(
+    alloc: Global,
+    graph: &Graph,
+    states: &States,
+    process: u8,
+) -> Result<Answer, AllocError> {
+    let keeping = Keeping::Inside(process);
+    let parts = parts_of(alloc, graph, keeping)?;
+    match fair_part(graph, &parts, keeping) {
+        Some(fair) => lasso(alloc, graph, states, &parts, keeping, fair),
+        None => Ok(if are_ranks(graph, &parts, keeping) {
+            Answer::No
+        } else {
+            Answer::NotSettled
+        }),
+    }
+}
+
+// A fair component: no trap if there is such a one, and then the one that is come to first.
+fn fair_part(graph: &Graph, parts: &Parts, keeping: Keeping) -> Option<Fair> {
+    let everybody = graph.everybody();
+    let mut best = None;
+    let mut number = 0u32;
+    for part in &parts.parts {
+        if part.is_fair(everybody, keeping) && is_better(part, best) {
+            best = Some(Fair {
+                number,
+                first: part.least,
+                is_trap: part.is_trap,
+            });
+        }
+        number = number.saturating_add(1);
+    }
+    best
+}
+
+fn is_better(part: &Part, best: Option<Fair>) -> bool {
+    match best {
+        None => true,
+        Some(best) => {
+            if part.is_trap == best.is_trap {
+                part.least < best.first
+            } else {
+                best.is_trap
+            }
+        }
+    }
+}
+
+fn standstill_of(graph: &Graph, process: u8) -> Option<Standstill> {
+    for still in &graph.standstills {
+        if still.again.wait.has(process) {
+            return Some(*still);
+        }
+    }
+    None
+}
+
+// The words of a fair component.
+fn lasso(
+    alloc: Global,
+    graph: &Graph,
+    states: &States,
+    parts: &Parts,
+    keeping: Keeping,
+    fair: Fair,
+) -> Result<Answer, AllocError> {
+    let found = round_in(alloc, graph, parts, keeping, fair.number, fair.first)?;
+    let Some(round) = found else {
+        return Ok(Answer::NotSettled);
+    };
+    let (process, how) = match keeping {
+        Keeping::Waiting(process) => (
+            process,
+            if fair.is_trap {
+                How::ForGood
+            } else {
+                How::Throughout
+            },
+        ),
+        Keeping::Inside(process) => (process, How::InItsCall),
+    };
+    Ok(Answer::Yes(Waiting {
+        process,
+        first: states.word(alloc, states.origin(fair.first))?,
+        again: round.word,
+        step: round.step,
+        how,
+    }))
+}
