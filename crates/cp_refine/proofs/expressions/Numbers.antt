@@ -1,6 +1,6 @@
 -- The operations on ordinals of the meaning and of the slot machine are the same.
 use Rattle.std.proofs.Common.{◌≡◌, ◌∙◌, ◌<◌, Bool, true, false, not, if◌then◌else◌, ap, refl, subst, arith}
-use Rattle.std.specs.Prelude.{ℤ, pos, ◌+ℤ◌, ◌-ℤ◌, neg_ℤ, int_lt, int_div, int_rem, ◌&&◌, ◌||◌, Ok, Err, unsigned_abs}
+use Rattle.std.specs.Prelude.{ℤ, pos, int_lt, int_div, int_rem, ◌&&◌, ◌||◌, Ok, Err, unsigned_abs}
 use Rattle.std.specs.Ordering.{int_eq}
 use Rattle.std.proofs.lemmas.Int.{ints, rem_below}
 use Rattle.cp_store.specs.declared.error.ErrorName.TheVariants.{Overflow, ZeroDivisor}
