@@ -21,10 +21,10 @@ use Rattle.cp_resolved.specs.Soundness.{NamesHold}
 use Rattle.cp_resolved.specs.TreeLayouts.{layouts_of}
 use Rattle.cp_resolved.proofs.forms.BodiesFormed.{bodies_formed}
 use Rattle.cp_resolved.proofs.counts.FewComponents.{accepted_few}
-use Rattle.cp_resolved.proofs.FramedOfTrees.{accepted_framed}
+use Rattle.cp_resolved.proofs.declarations.FramedOfTrees.{accepted_framed}
 use Rattle.cp_resolved.proofs.inside.HoldingTables.{can_hold}
 use Rattle.cp_resolved.proofs.counts.ModestTables.{accepted_modest}
-use Rattle.cp_resolved.proofs.Placed.{placed_law}
+use Rattle.cp_resolved.proofs.declarations.Placed.{placed_law}
 use Rattle.cp_resolved.proofs.sound.Propositions.{sound_once}
 use Rattle.cp_resolved.proofs.frames.RoutinesStand.{routines_law}
 use Rattle.cp_resolved.proofs.sound.SoundTables.{laid_sound}

@@ -19,6 +19,9 @@ pub mod OwnNames
 pub mod ProgramNoted
 pub mod RoutinesSeen
 pub mod SameTypes
+pub mod ScopeMeasures
+pub mod ScopeVariables
+pub mod ScopesOfTrees
 pub mod ShapesWritten
 pub mod VariablesAmongNames
 pub mod WithoutFaults

@@ -7,5 +7,7 @@ pub mod Contained
 pub mod CountedComponents
 pub mod CountedProcesses
 pub mod Handed
+pub mod ListedSystems
 pub mod Listing
 pub mod Subtrees
+pub mod VisibleComponents

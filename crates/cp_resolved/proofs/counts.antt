@@ -1,3 +1,4 @@
+pub mod FewCells
 pub mod FewCellsOfTables
 pub mod FewComponents
 pub mod FewContents
@@ -9,3 +10,4 @@ pub mod FewReferencesOfTables
 pub mod FewRooms
 pub mod ModestTables
 pub mod Rooms
+pub mod RoutinesCounted

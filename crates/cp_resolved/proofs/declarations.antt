@@ -5,6 +5,7 @@ pub mod DeclaredVariables
 pub mod DistinctOfTrees
 pub mod EntriesAllowed
 pub mod EnumerationsRead
+pub mod FramedOfTrees
 pub mod HiddenByNone
 pub mod Numbered
 pub mod OnceOfTrees
@@ -13,6 +14,7 @@ pub mod OtherNames
 pub mod OwnVariables
 pub mod ParametersFit
 pub mod ParametersRead
+pub mod Placed
 pub mod Plain
 pub mod Reserving
 pub mod RoutineVariables
@@ -21,7 +23,9 @@ pub mod SmallPrograms
 pub mod SmallStatements
 pub mod SmallTexts
 pub mod SmallTokens
+pub mod StandingParts
 pub mod StillVisible
+pub mod SystemParameters
 pub mod SystemVariables
 pub mod ValueParameters
 pub mod WordsOfTrees

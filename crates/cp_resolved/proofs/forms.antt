@@ -1,7 +1,6 @@
 pub mod Applied
 pub mod AssignableForms
 pub mod BodiesFormed
-pub mod CallsJudged
 pub mod Designating
 pub mod FormedOfTrees
 pub mod FormedStatements
@@ -15,6 +14,7 @@ pub mod MovedTypes
 pub mod Operations
 pub mod Selecting
 pub mod StatementsFit
+pub mod Typing
 pub mod TypingExpressions
 pub mod TypingNames
 pub mod TypingOperations

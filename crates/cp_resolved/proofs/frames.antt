@@ -1,5 +1,6 @@
 pub mod Cells
 pub mod EncodedCells
+pub mod FrameCells
 pub mod FrameFits
 pub mod FrameKept
 pub mod FrameKnown

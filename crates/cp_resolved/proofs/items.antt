@@ -1,3 +1,4 @@
+pub mod BodiesStand
 pub mod Ended
 pub mod Expressions
 pub mod Going

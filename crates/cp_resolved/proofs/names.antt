@@ -16,6 +16,7 @@ pub mod KnowingSystems
 pub mod LeadingNames
 pub mod NamesBeside
 pub mod NamesOfTrees
+pub mod Opened
 pub mod PermanentNames
 pub mod ResultKnown
 pub mod SmallNames

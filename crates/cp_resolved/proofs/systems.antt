@@ -1,7 +1,9 @@
 pub mod HandedComponents
+pub mod HandedOfTrees
 pub mod OwnCells
 pub mod OwnedParts
 pub mod Owning
+pub mod PartCells
 pub mod PermanentCells
 pub mod Permanents
 pub mod Sized

@@ -11,9 +11,9 @@ use Rattle.cp_resolved.specs.Layouts.{Here, here, Layouts, is_own, is_parameter}
 use Rattle.cp_resolved.specs.Compiled.{then_form, Designated, a_variable, some_components, a_component, part_of_form, component_begun, permanent_begun, result_begun, begun_form, with_field_form, with_element_form, with_index_form, ordinal_form, chosen_form, selected_form, designator_form, expression_form}
 use Rattle.cp_resolved.specs.Encoded.{Chosen, field_chosen, then_chosen}
 use Rattle.cp_resolved.specs.Standing.{is_bounded, is_based, is_indexed, is_element, is_standing, IsFit, IsFreeResult}
-use Rattle.cp_resolved.proofs.FewCells.{in_order}
-use Rattle.cp_resolved.proofs.StandingParts.{free_part, within_base}
-use Rattle.cp_resolved.proofs.Typing.{first_true, second_true}
+use Rattle.cp_resolved.proofs.counts.FewCells.{in_order}
+use Rattle.cp_resolved.proofs.declarations.StandingParts.{free_part, within_base}
+use Rattle.cp_resolved.proofs.forms.Typing.{first_true, second_true}
 use Rattle.cp_refine.proofs.assignments.AnyAssignments.{RangeKnown}
 use Rattle.cp_refine.proofs.expressions.FreeParts.{free_standing, element_standing}
 

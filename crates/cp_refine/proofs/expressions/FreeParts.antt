@@ -6,8 +6,8 @@ use Rattle.cp_meaning.specs.Values.{Choice, the_field, the_element}
 use Rattle.cp_resolved.specs.Encoded.{Chosen, further_chosen, one_chosen, then_chosen, chosen_at}
 use Rattle.cp_resolved.specs.Layouts.{cells_of}
 use Rattle.cp_resolved.specs.Standing.{is_indexed, is_free, is_element, is_standing}
-use Rattle.cp_resolved.proofs.StandingParts.{free_part}
-use Rattle.cp_resolved.proofs.Typing.{first_true, second_true}
+use Rattle.cp_resolved.proofs.declarations.StandingParts.{free_part}
+use Rattle.cp_resolved.proofs.forms.Typing.{first_true, second_true}
 
 -- ---- what has no free part
 

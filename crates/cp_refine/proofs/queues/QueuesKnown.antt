@@ -15,8 +15,8 @@ use Rattle.cp_resolved.specs.Encoded.{Chosen, field_chosen, then_chosen}
 use Rattle.cp_resolved.specs.Formed.{HasQueue}
 use Rattle.cp_resolved.specs.Layouts.{Here}
 use Rattle.cp_resolved.specs.Standing.{is_indexed, is_free, IsFit}
-use Rattle.cp_resolved.proofs.StandingParts.{free_part}
-use Rattle.cp_resolved.proofs.Typing.{second_true}
+use Rattle.cp_resolved.proofs.declarations.StandingParts.{free_part}
+use Rattle.cp_resolved.proofs.forms.Typing.{second_true}
 use Rattle.cp_refine.proofs.expressions.VariableExpressions.{IsName, variable_is}
 
 -- ---- parts of what has no queues

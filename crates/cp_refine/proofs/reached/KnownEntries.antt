@@ -15,12 +15,12 @@ use Rattle.cp_resolved.specs.LayoutsKnow.{IsPlaced}
 use Rattle.cp_resolved.specs.Openings.{openings_of, numbering_of}
 use Rattle.cp_resolved.specs.TreeLayouts.{layouts_of}
 use Rattle.cp_resolved.specs.Typed.{ScopesAgree}
-use Rattle.cp_resolved.proofs.BodiesStand.{laid_routines}
-use Rattle.cp_resolved.proofs.CallsKnown as calls_known
-use Rattle.cp_resolved.proofs.ComponentsCalled.{no_function, no_procedure}
-use Rattle.cp_resolved.proofs.Opened.{opened_all}
-use Rattle.cp_resolved.proofs.Placed.{placed_law}
-use Rattle.cp_resolved.proofs.RoutinesCounted.{Many, all_many}
+use Rattle.cp_resolved.proofs.items.BodiesStand.{laid_routines}
+use Rattle.cp_resolved.proofs.statements.CallsKnown as calls_known
+use Rattle.cp_resolved.proofs.statements.ComponentsCalled.{no_function, no_procedure}
+use Rattle.cp_resolved.proofs.names.Opened.{opened_all}
+use Rattle.cp_resolved.proofs.declarations.Placed.{placed_law}
+use Rattle.cp_resolved.proofs.counts.RoutinesCounted.{Many, all_many}
 use Rattle.cp_refine.specs.Bodies.{IsWithin, ItemStands}
 use Rattle.cp_refine.specs.RoutinesKnown.{scope_of, body_of}
 use Rattle.cp_refine.proofs.reached.KnownItems.{EntriesKnown}

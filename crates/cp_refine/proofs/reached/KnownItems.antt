@@ -31,13 +31,13 @@ use Rattle.cp_resolved.specs.Small.{Each}
 use Rattle.cp_resolved.specs.Standing.{is_free, is_standing, IsFreeResult}
 use Rattle.cp_resolved.specs.Stands.{Ground}
 use Rattle.cp_resolved.specs.TreeLayouts.{owner_in, layouts_of}
-use Rattle.cp_resolved.proofs.EachStatement.{EachIn, EachOf, EachArm, the_statement}
-use Rattle.cp_resolved.proofs.KnownOfTrees.{here_in, KnownAmong, all_among, known_law, number_below, few_constants}
-use Rattle.cp_resolved.proofs.KnownStatements as statements
-use Rattle.cp_resolved.proofs.KnownStatements.{IsMovable, IsListed, WaitKnown}
-use Rattle.cp_resolved.proofs.NamedArguments.{IsVariable, AreVariables}
-use Rattle.cp_resolved.proofs.OwnersKnown.{IsProcedure}
-use Rattle.cp_resolved.proofs.ScopeMeasures.{Measure, measure}
+use Rattle.cp_resolved.proofs.statements.EachStatement.{EachIn, EachOf, EachArm, the_statement}
+use Rattle.cp_resolved.proofs.statements.KnownOfTrees.{here_in, KnownAmong, all_among, known_law, number_below, few_constants}
+use Rattle.cp_resolved.proofs.statements.KnownStatements as statements
+use Rattle.cp_resolved.proofs.statements.KnownStatements.{IsMovable, IsListed, WaitKnown}
+use Rattle.cp_resolved.proofs.statements.NamedArguments.{IsVariable, AreVariables}
+use Rattle.cp_resolved.proofs.statements.OwnersKnown.{IsProcedure}
+use Rattle.cp_resolved.proofs.agreeing.ScopeMeasures.{Measure, measure}
 use Rattle.cp_refine.specs.Bodies.{IsAmong, IsAmongArms, IsPartOf, IsWithin, listed, inside, IsAmongStarts, ItemStands}
 use Rattle.cp_refine.specs.ItemsKnown.{VariablesGiven, CallIsKnown, HasFewConstants, QueueKnown, InvokeKnown, StatementKnown, ItemKnown}
 use Rattle.cp_refine.specs.Law.{ground_of, Simulates}

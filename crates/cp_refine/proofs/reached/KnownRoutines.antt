@@ -11,11 +11,11 @@ use Rattle.cp_meaning.specs.State.{component_at, Item, statement_item, function_
 use Rattle.cp_meaning.specs.Steps.{first_components}
 use Rattle.cp_resolved.specs.Layouts.{Layouts}
 use Rattle.cp_resolved.specs.TreeLayouts.{layouts_of}
-use Rattle.cp_resolved.proofs.CalleesKnown.{IsCalledAs, CalleeKnown, numbered}
-use Rattle.cp_resolved.proofs.CallsKnown as calls_known
-use Rattle.cp_resolved.proofs.ExpressionsJudged.{FunctionSaid, AllSaid}
-use Rattle.cp_resolved.proofs.RoutinesNoted.{entry_at, waits_at}
-use Rattle.cp_resolved.proofs.StatementsJudged.{InvokeSaid, StartsSaid, StatementSaid, StatementsSaid, ArmsSaid}
+use Rattle.cp_resolved.proofs.statements.CalleesKnown.{IsCalledAs, CalleeKnown, numbered}
+use Rattle.cp_resolved.proofs.statements.CallsKnown as calls_known
+use Rattle.cp_resolved.proofs.statements.ExpressionsJudged.{FunctionSaid, AllSaid}
+use Rattle.cp_resolved.proofs.statements.RoutinesNoted.{entry_at, waits_at}
+use Rattle.cp_resolved.proofs.statements.StatementsJudged.{InvokeSaid, StartsSaid, StatementSaid, StatementsSaid, ArmsSaid}
 use Rattle.cp_refine.specs.Bodies.{IsAmong, IsAmongArms, IsPartOf, IsWithin, listed, inside, IsAmongItems, IsAmongStarts, OwnStands, ItemStands}
 use Rattle.cp_refine.specs.Remaining.{calls_before}
 use Rattle.cp_refine.specs.RoutinesKnown.{Traits, scope_of, body_of, CalledAs, Callee, Initial, RoutinesKnown}

@@ -14,7 +14,7 @@ use Rattle.cp_meaning.specs.State.{State}
 use Rattle.cp_meaning.specs.Systems.{system_of}
 use Rattle.cp_meaning.specs.Types.{queue_type}
 use Rattle.cp_resolved.specs.Layouts.{Layouts}
-use Rattle.cp_resolved.proofs.StandingParts.{free_part}
+use Rattle.cp_resolved.proofs.declarations.StandingParts.{free_part}
 use Rattle.cp_refine.specs.Law.{ground_of}
 use Rattle.cp_refine.specs.Parameters.{HaveTypes}
 use Rattle.cp_refine.specs.Prepared.{Prepared}

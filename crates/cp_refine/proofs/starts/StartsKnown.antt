@@ -41,12 +41,12 @@ use Rattle.cp_resolved.specs.Openings.{meaning_at}
 use Rattle.cp_resolved.specs.Resolved.{SystemIs}
 use Rattle.cp_resolved.specs.Stands.{Ground}
 use Rattle.cp_resolved.specs.TreeLayouts.{layouts_of}
-use Rattle.cp_resolved.proofs.FramedOfTrees.{accepted_framed}
-use Rattle.cp_resolved.proofs.HandedOfTrees.{entrance_fits}
-use Rattle.cp_resolved.proofs.InitialsKnown.{formed_somewhere, no_local}
-use Rattle.cp_resolved.proofs.KnownOfTrees.{here_in, KnownFor, known_law, number_below}
-use Rattle.cp_resolved.proofs.KnownStatements as statements
-use Rattle.cp_resolved.proofs.Placed.{placed_law}
+use Rattle.cp_resolved.proofs.declarations.FramedOfTrees.{accepted_framed}
+use Rattle.cp_resolved.proofs.systems.HandedOfTrees.{entrance_fits}
+use Rattle.cp_resolved.proofs.statements.InitialsKnown.{formed_somewhere, no_local}
+use Rattle.cp_resolved.proofs.statements.KnownOfTrees.{here_in, KnownFor, known_law, number_below}
+use Rattle.cp_resolved.proofs.statements.KnownStatements as statements
+use Rattle.cp_resolved.proofs.declarations.Placed.{placed_law}
 use Rattle.cp_refine.specs.Bodies.{ItemStands}
 use Rattle.cp_refine.specs.Law.{ground_of, Simulates}
 use Rattle.cp_refine.specs.Prepared.{Prepared}

@@ -7,8 +7,8 @@ use Rattle.cp_resolved.specs.Framed.{IsFramed}
 use Rattle.cp_resolved.specs.LayoutsKnow.{IsPlaced}
 use Rattle.cp_resolved.specs.Resolved.{Stands}
 use Rattle.cp_resolved.specs.TreeLayouts.{layouts_of}
-use Rattle.cp_resolved.proofs.ListedSystems.{systems_within}
-use Rattle.cp_resolved.proofs.VisibleComponents.{names_scope, names_parameter, names_variable, names_array}
+use Rattle.cp_resolved.proofs.components.ListedSystems.{systems_within}
+use Rattle.cp_resolved.proofs.components.VisibleComponents.{names_scope, names_parameter, names_variable, names_array}
 use Rattle.cp_refine.specs.ComponentNames.{NamesKnown}
 use Rattle.cp_refine.specs.Law.{ground_of}
 

@@ -12,12 +12,12 @@ use Rattle.cp_resolved.specs.Framed.{IsFramed}
 use Rattle.cp_resolved.specs.Small.{Each}
 use Rattle.cp_resolved.specs.Standing.{IsStandingVariable}
 use Rattle.cp_resolved.specs.TreeLayouts.{layouts_of}
-use Rattle.cp_resolved.proofs.FramedOfTrees.{accepted_framed}
-use Rattle.cp_resolved.proofs.PartCells.{accepted_parts, accepted_parts_apart}
-use Rattle.cp_resolved.proofs.Placed.{placed_law}
+use Rattle.cp_resolved.proofs.declarations.FramedOfTrees.{accepted_framed}
+use Rattle.cp_resolved.proofs.systems.PartCells.{accepted_parts, accepted_parts_apart}
+use Rattle.cp_resolved.proofs.declarations.Placed.{placed_law}
 use Rattle.cp_resolved.proofs.Resolving.{resolving_law}
-use Rattle.cp_resolved.proofs.ScopesOfTrees.{scopes_law}
-use Rattle.cp_resolved.proofs.SystemParameters.{accepted_values, accepted_free}
+use Rattle.cp_resolved.proofs.agreeing.ScopesOfTrees.{scopes_law}
+use Rattle.cp_resolved.proofs.declarations.SystemParameters.{accepted_values, accepted_free}
 use Rattle.cp_refine.specs.Parameters.{HaveTypes}
 use Rattle.cp_refine.specs.Prepared.{ProgramKnown, Prepared}
 use Rattle.cp_refine.proofs.trees.NamesOfTree.{components_below, names_known}

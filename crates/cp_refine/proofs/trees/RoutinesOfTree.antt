@@ -18,7 +18,7 @@ use Rattle.cp_resolved.specs.Small.{Each}
 use Rattle.cp_resolved.specs.Standing.{IsFit, IsFreeVariable, IsFreeResult}
 use Rattle.cp_resolved.specs.TreeLayouts.{parameters_by, layouts_of}
 use Rattle.cp_resolved.specs.Typed.{Tokens}
-use Rattle.cp_resolved.proofs.ScopeVariables.{Among, look_among, among_look}
+use Rattle.cp_resolved.proofs.agreeing.ScopeVariables.{Among, look_among, among_look}
 use Rattle.cp_refine.specs.Parameters.{AreDifferent, HaveValues}
 use Rattle.cp_refine.proofs.trees.SystemsOfTree.{different_left, parameters_different}
 

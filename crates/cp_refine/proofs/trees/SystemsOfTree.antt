@@ -16,8 +16,8 @@ use Rattle.cp_resolved.specs.Layouts.{look}
 use Rattle.cp_resolved.specs.Small.{Each}
 use Rattle.cp_resolved.specs.Standing.{is_standing, IsStandingVariable}
 use Rattle.cp_resolved.specs.TreeLayouts.{components_among, layouts_of}
-use Rattle.cp_resolved.proofs.FrameCells.{same_is}
-use Rattle.cp_resolved.proofs.ScopeVariables.{Among, among_left, look_among, among_look, components_append, among_all}
+use Rattle.cp_resolved.proofs.frames.FrameCells.{same_is}
+use Rattle.cp_resolved.proofs.agreeing.ScopeVariables.{Among, among_left, look_among, among_look, components_append, among_all}
 use Rattle.cp_refine.specs.Parameters.{IsOther, AreDifferent}
 
 -- ---- different names

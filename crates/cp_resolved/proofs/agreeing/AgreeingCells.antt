@@ -15,7 +15,7 @@ use Rattle.cp_resolved.specs.Layouts.{cells_of, cells_in}
 use Rattle.cp_resolved.specs.Standing.{is_indexed, is_free, are_free}
 use Rattle.cp_resolved.specs.Typed.{Tokens, Written, RangeIs, TypeIs, FieldsAre}
 use Rattle.cp_resolved.proofs.agreeing.AgreeingNames.{array_is}
-use Rattle.cp_resolved.proofs.FewCells.{left_of, right_of, not_negative}
+use Rattle.cp_resolved.proofs.counts.FewCells.{left_of, right_of, not_negative}
 
 -- ---- counts, which stop just past the greatest limit
 

@@ -33,7 +33,7 @@ use Rattle.cp_resolved.specs.InStep.{IsSmall}
 use Rattle.cp_resolved.specs.Small.{IsSmallConstant}
 use Rattle.cp_resolved.specs.Standing.{IsFit}
 use Rattle.cp_resolved.specs.Typed.{Tokens, BaseIs, ConstantIs}
-use Rattle.cp_resolved.proofs.Typing.{integer_base}
+use Rattle.cp_resolved.proofs.forms.Typing.{integer_base}
 use Rattle.cp_resolved.proofs.agreeing.Agreeing.{Good, good_then, good_if}
 use Rattle.cp_resolved.proofs.agreeing.AgreeingNames.{IsKnown}
 

@@ -26,7 +26,7 @@ use Rattle.cp_resolved.specs.Standing.{IsFit, is_standing}
 use Rattle.cp_resolved.specs.Tokens.{AreDifferent}
 use Rattle.cp_resolved.specs.Typed.{Tokens, SystemThere, IsValueParameter, Written, TypeIs, FieldsAre, AreParameters, HeadingIs, IsMarked, VariableIs, KindIs, RoutineIs, MeaningIs}
 use Rattle.cp_resolved.specs.Limited.{IsLimitedMeaning, AreLimited}
-use Rattle.cp_resolved.proofs.FewCells.{few_free, few_standing}
+use Rattle.cp_resolved.proofs.counts.FewCells.{few_free, few_standing}
 use Rattle.cp_resolved.proofs.agreeing.Agreeing.{itself, is_itself, unknown, find_last, new_names, inner_look, look_is, More, with_more, with_there, with_other, AreFree, free_others}
 
 -- the heading of a routine is written

@@ -45,7 +45,7 @@ use Rattle.cp_resolved.proofs.agreeing.Agreeing.{Appends, appends_same, appends_
 use Rattle.cp_resolved.proofs.agreeing.AgreeingCells.{array_takes, record_takes}
 use Rattle.cp_resolved.proofs.agreeing.AgreeingNames.{W, Agree, sees, agree_added, agree_kept, type_more, fields_more}
 use Rattle.cp_resolved.proofs.agreeing.AgreeingTypes.{MayHold, OwnedAt, array_owned, StandsAt, stands_free, spotted_stands, held_array, IsOrdinal, ordinal_of, IsFew, TypedAs, type_spotted, subrange_typed}
-use Rattle.cp_resolved.proofs.FewCells.{in_order, few_element, characters_within}
+use Rattle.cp_resolved.proofs.counts.FewCells.{in_order, few_element, characters_within}
 use Rattle.cp_resolved.proofs.declarations.Reserving.{Pends, or_left, or_right, ReservedIn, all_reserved, pending_fresh, named_all, Filled, all_filled}
 
 -- ---- lists

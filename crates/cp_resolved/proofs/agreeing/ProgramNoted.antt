@@ -37,7 +37,7 @@ use Rattle.cp_resolved.proofs.agreeing.DifferentIndexed.{tokens_different}
 use Rattle.cp_resolved.proofs.agreeing.DifferentTokens.{all_numbered, all_few}
 use Rattle.cp_resolved.proofs.declarations.EnumerationsRead.{read_few, read_different}
 use Rattle.cp_resolved.proofs.agreeing.RoutinesSeen.{written, constants, variables}
-use Rattle.cp_resolved.proofs.RoutinesNoted.{AreNoRoutines, one_more, none_inside, none_found, AreListed, listed_left, listed_right, all_listed, AreNoted, noted_both, RoutinesNoted, routines_noted, SystemNumbered, done_numbered, initial_numbered, system_noted}
+use Rattle.cp_resolved.proofs.statements.RoutinesNoted.{AreNoRoutines, one_more, none_inside, none_found, AreListed, listed_left, listed_right, all_listed, AreNoted, noted_both, RoutinesNoted, routines_noted, SystemNumbered, done_numbered, initial_numbered, system_noted}
 use Rattle.cp_resolved.proofs.declarations.SmallTexts.{read_small}
 
 module _ (tokens : Tokens) (p : Program) where

@@ -21,7 +21,7 @@ use Rattle.cp_resolved.proofs.components.ComponentsStand.{AreListed}
 use Rattle.cp_resolved.proofs.laid.EarlierTypes.{program_earlier}
 use Rattle.cp_resolved.proofs.names.Entries.{past_there, not_there, still_there, last_entry, there}
 use Rattle.cp_resolved.proofs.frames.EncodedCells.{HoldEarlier}
-use Rattle.cp_resolved.proofs.Opened.{opened_all}
+use Rattle.cp_resolved.proofs.names.Opened.{opened_all}
 use Rattle.cp_resolved.proofs.systems.OwnedParts.{all_contained, AreLow, count_after}
 use Rattle.cp_resolved.proofs.sound.SoundComponents.{tabled, listing_of}
 use Rattle.cp_resolved.proofs.systems.SystemsLaid.{OwnIs, AllLaid, all_laid}

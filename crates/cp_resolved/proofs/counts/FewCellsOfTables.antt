@@ -25,7 +25,7 @@ use Rattle.cp_resolved.proofs.counts.FewReferencesOfTables.{laid_routines}
 use Rattle.cp_resolved.proofs.counts.FewRooms.{Fits, program_level, cells_few}
 use Rattle.cp_resolved.proofs.laid.Foreign.{each_append}
 use Rattle.cp_resolved.proofs.declarations.Plain.{read_names_law}
-use Rattle.cp_resolved.proofs.ScopesOfTrees.{scopes_law}
+use Rattle.cp_resolved.proofs.agreeing.ScopesOfTrees.{scopes_law}
 use Rattle.cp_resolved.proofs.names.SmallNames.{AreSmallNames, SmallNames, small_names}
 use Rattle.cp_resolved.proofs.declarations.SmallTexts.{read_few}
 use Rattle.cp_resolved.proofs.sound.SoundComponents.{layer_of, Images, images}

@@ -23,10 +23,10 @@ use Rattle.cp_resolved.specs.Small.{Each}
 use Rattle.cp_resolved.specs.TreeLayouts.{call_variables}
 use Rattle.cp_resolved.specs.Typed.{Tokens}
 use Rattle.cp_resolved.proofs.declarations.DeclaredVariables.{each_both}
-use Rattle.cp_resolved.proofs.FrameCells.{each_left, each_right}
+use Rattle.cp_resolved.proofs.frames.FrameCells.{each_left, each_right}
 use Rattle.cp_resolved.proofs.agreeing.KeptScopes.{IsNoRoutine, type_kept, definitions_of_constants, variables_kept, parts_kept, groups_kept, heading_kept}
 use Rattle.cp_resolved.proofs.declarations.RoutineVariables.{meaning_holds}
-use Rattle.cp_resolved.proofs.ScopesOfTrees.{scopes_law}
+use Rattle.cp_resolved.proofs.agreeing.ScopesOfTrees.{scopes_law}
 
 -- ---- results of routines
 

@@ -22,7 +22,7 @@ use Rattle.cp_resolved.specs.Framed.{AreDifferent, AreDeclared}
 use Rattle.cp_resolved.specs.Layouts.{look}
 use Rattle.cp_resolved.specs.Small.{Each}
 use Rattle.cp_resolved.proofs.agreeing.Agreeing.{none_left, none_right, none_first}
-use Rattle.cp_resolved.proofs.FrameCells.{itself, same_is, none_both}
+use Rattle.cp_resolved.proofs.frames.FrameCells.{itself, same_is, none_both}
 use Rattle.cp_resolved.proofs.declarations.OnceRoutines.{IsKnown, still_known, known_named}
 use Rattle.cp_resolved.proofs.agreeing.OwnNames.{names_reserved}
 use Rattle.cp_resolved.proofs.declarations.Reserving.{is_new, name_reserved}

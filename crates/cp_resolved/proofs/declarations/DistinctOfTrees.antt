@@ -35,7 +35,7 @@ use Rattle.cp_resolved.specs.Typed.{Tokens}
 use Rattle.cp_resolved.proofs.names.HeadingsFound.{each_both}
 use Rattle.cp_resolved.proofs.declarations.OnceRoutines.{IsKnown, known_named}
 use Rattle.cp_resolved.proofs.declarations.OtherNames.{stays_known, names_other, together_distinct, parts_other}
-use Rattle.cp_resolved.proofs.ScopesOfTrees.{scopes_law}
+use Rattle.cp_resolved.proofs.agreeing.ScopesOfTrees.{scopes_law}
 
 -- ---- names that are declared between two scopes
 

@@ -11,7 +11,7 @@ use Rattle.cp_check.specs.Types.{Step}
 use Rattle.cp_check.specs.Calls.{fault}
 use Rattle.cp_check.specs.Headings.{after_faults, written, result_faults, may_enter, entry_faults, heading_faults, ruled, heading}
 use Rattle.cp_resolved.proofs.agreeing.Agreeing.{none_right}
-use Rattle.cp_resolved.proofs.forms.CallsJudged.{unless_ok}
+use Rattle.cp_resolved.proofs.statements.CallsJudged.{unless_ok}
 use Rattle.cp_resolved.proofs.agreeing.WithoutFaults.{Then, then_of}
 
 allowed : (at : ℕ) (owner : Option SystemKind) → entry_faults at owner true ≡ [] → may_enter owner ≡ true

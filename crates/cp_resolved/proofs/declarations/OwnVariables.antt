@@ -29,7 +29,7 @@ use Rattle.cp_resolved.specs.Framed.{AreDifferent, AreDeclared, system_variables
 use Rattle.cp_resolved.specs.Layouts.{look}
 use Rattle.cp_resolved.specs.Small.{Each}
 use Rattle.cp_resolved.proofs.counts.FewReferences.{each_weaker}
-use Rattle.cp_resolved.proofs.FrameCells.{itself, same_is, none_both, each_both}
+use Rattle.cp_resolved.proofs.frames.FrameCells.{itself, same_is, none_both, each_both}
 use Rattle.cp_resolved.proofs.frames.FramesBegun.{variables_append, named_parameters}
 use Rattle.cp_resolved.proofs.declarations.OnceOfTrees.{AllKnown, AllNew, names_new, names_known}
 use Rattle.cp_resolved.proofs.declarations.OnceRoutines.{IsKnown, known_other}

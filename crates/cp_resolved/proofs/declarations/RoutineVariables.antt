@@ -39,7 +39,7 @@ use Rattle.cp_resolved.proofs.agreeing.Agreeing.{none_left, none_right, none_fir
 use Rattle.cp_resolved.proofs.agreeing.AgreeingRoutines.{none_before, none_after}
 use Rattle.cp_resolved.proofs.declarations.DeclaredVariables.{each_both, Seen, none_seen, seen_stays, group_seen, parts_seen}
 use Rattle.cp_resolved.proofs.frames.FramesBegun.{variables_append, named_parameters}
-use Rattle.cp_resolved.proofs.ScopesOfTrees.{scopes_law}
+use Rattle.cp_resolved.proofs.agreeing.ScopesOfTrees.{scopes_law}
 use Rattle.cp_resolved.proofs.declarations.HiddenByNone.{stays_same}
 
 -- ---- headings

@@ -14,10 +14,10 @@ use Rattle.cp_resolved.specs.Judging.{ScopesAre}
 use Rattle.cp_tree.specs.Read.{IsRead}
 use Rattle.cp_resolved.specs.Small.{Each}
 use Rattle.cp_resolved.specs.Standing.{IsStandingVariable, IsStandingParameter}
-use Rattle.cp_resolved.proofs.FrameCells.{each_both}
+use Rattle.cp_resolved.proofs.frames.FrameCells.{each_both}
 use Rattle.cp_resolved.proofs.declarations.OwnVariables.{accepted_declares}
 use Rattle.cp_resolved.proofs.declarations.Plain.{plain_law}
-use Rattle.cp_resolved.proofs.ScopesOfTrees.{scopes_law}
+use Rattle.cp_resolved.proofs.agreeing.ScopesOfTrees.{scopes_law}
 
 -- `permanents` of `IsFramed`
 pub accepted_permanents : (t : Tree) → IsAccepted t → (k : ℕ) → AreDeclared permanent_variable (system_of t.program k).scope (system_variables (system_of t.program k))

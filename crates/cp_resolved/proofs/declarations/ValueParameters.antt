@@ -8,7 +8,7 @@ use Rattle.cp_meaning.specs.Declarations.{Parameter, Heading, names_of, paramete
 use Rattle.cp_meaning.specs.Systems.{SystemMeaning, system_in, Declared, definition_in, definitions_in, program_part_in, program_parts_in, declared, own_meaning, or_own, system_of}
 use Rattle.cp_resolved.specs.Small.{Each}
 use Rattle.cp_resolved.specs.Typed.{IsValueParameter}
-use Rattle.cp_resolved.proofs.FrameCells.{each_both}
+use Rattle.cp_resolved.proofs.frames.FrameCells.{each_both}
 
 abbrev AreValues : SystemMeaning → Type 0
 AreValues m = Each IsValueParameter m.parameters

@@ -30,7 +30,7 @@ use Rattle.cp_resolved.specs.Layouts.{Here}
 use Rattle.cp_resolved.specs.Compiled.{Formed, Designated, a_variable, some_components, a_component, then_form, loaded_form, valued_form, signed_form, named_form, expression_form, sum_form, term_form, factor_form, designator_form}
 use Rattle.cp_resolved.specs.Typed.{Tokens, Written, TypeIs, is_plain, ScopesAgree, IsSmallExpression, IsSmallSum, IsSmallTerm, IsSmallFactor}
 use Rattle.cp_resolved.proofs.forms.MadeValues.{IsMade, agreed_made, sum_made, product_made, signed_made, related_made, negated_made, group_made, constructed_made, applied_made, alone_made, call_made, terms_made, factors_made}
-use Rattle.cp_resolved.proofs.Typing.{formed}
+use Rattle.cp_resolved.proofs.forms.Typing.{formed}
 use Rattle.cp_resolved.proofs.forms.TypingNames.{Holds, written, NamedIs, HasDesignated}
 use Rattle.cp_resolved.proofs.forms.TypingValues.{IsValue, held_value}
 use Rattle.cp_resolved.proofs.forms.TypingExpressions.{designator_typed}

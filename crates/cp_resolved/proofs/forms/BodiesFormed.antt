@@ -15,13 +15,13 @@ use Rattle.cp_resolved.specs.Openings.{Opening, openings_of, numbering_of}
 use Rattle.cp_tree.specs.Read.{IsRead}
 use Rattle.cp_resolved.specs.TreeLayouts.{all_parts, whole_laid}
 use Rattle.cp_resolved.proofs.names.BegunKnown.{AreBegun, all_begin}
-use Rattle.cp_resolved.proofs.BodiesStand.{bodies_law}
+use Rattle.cp_resolved.proofs.items.BodiesStand.{bodies_law}
 use Rattle.cp_resolved.proofs.declarations.DistinctOfTrees.{accepted_distinct}
 use Rattle.cp_resolved.proofs.counts.FewItemsOfTables.{few_items_law}
 use Rattle.cp_resolved.proofs.forms.FormedOfTrees.{formed_law}
 use Rattle.cp_resolved.proofs.names.HeadingsKnown.{headings_law}
-use Rattle.cp_resolved.proofs.Opened.{opened_all}
-use Rattle.cp_resolved.proofs.Placed.{placed_law}
+use Rattle.cp_resolved.proofs.names.Opened.{opened_all}
+use Rattle.cp_resolved.proofs.declarations.Placed.{placed_law}
 use Rattle.cp_resolved.proofs.names.TreeKnown.{Opens, opens_of}
 
 pub headings_of_accepted : (t : Tree) → IsRead t.program → IsAccepted t → (n : ℕ) (l : Layer) → slice_get (all_begun t) n ≡ Some l → HeadingsKnown t n l

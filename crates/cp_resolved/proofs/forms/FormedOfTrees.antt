@@ -25,7 +25,7 @@ use Rattle.cp_resolved.specs.Used.{HasResult}
 use Rattle.cp_resolved.proofs.forms.FormedStatements.{Right, right_of}
 use Rattle.cp_resolved.proofs.forms.FormedTargets.{OwnRoutine}
 use Rattle.cp_resolved.proofs.forms.FormsOfTrees.{all_heard}
-use Rattle.cp_resolved.proofs.ScopesOfTrees.{scopes_law}
+use Rattle.cp_resolved.proofs.agreeing.ScopesOfTrees.{scopes_law}
 use Rattle.cp_resolved.proofs.declarations.SmallBodies.{IsSmallOpening, read_opens}
 use Rattle.cp_resolved.proofs.forms.StatementsFit.{all_formed}
 use Rattle.cp_resolved.proofs.forms.TypingNames.{written}

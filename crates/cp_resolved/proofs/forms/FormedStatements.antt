@@ -52,7 +52,7 @@ use Rattle.cp_resolved.specs.Formed.{HasTest, HasOrdinal, HasQueue, HasValueFor,
 use Rattle.cp_resolved.specs.Small.{Each}
 use Rattle.cp_resolved.specs.SmallStatements.{IsSmallStart, IsSmallStatement, AreSmallStatements, AreSmallArms, IsSmallArm}
 use Rattle.cp_resolved.specs.Typed.{Tokens, Written, TypeIs, IsOrdinalResult, ResultIs, RoutineIs, predeclared_of, ScopesAgree, FormIs, Expressed, HasForm, IsSmallExpression, AreSmallExpressions, IsSmallDesignator}
-use Rattle.cp_resolved.proofs.Typing.{formed, OrdinalForm, ordinal_found, SetForm, set_found, QueueForm, queue_found}
+use Rattle.cp_resolved.proofs.forms.Typing.{formed, OrdinalForm, ordinal_found, SetForm, set_found, QueueForm, queue_found}
 use Rattle.cp_resolved.proofs.forms.TypingOperations.{boolean_found}
 use Rattle.cp_resolved.proofs.forms.TypingNames.{Holds, NamedIs, HasDesignated, written, begun_typed}
 use Rattle.cp_resolved.proofs.forms.TypingExpressions.{expression_typed, designator_typed}

@@ -41,7 +41,7 @@ use Rattle.cp_resolved.specs.Typed.{Tokens, Written, OrdinalIs, TypeIs, is_plain
 use Rattle.cp_resolved.specs.Used.{IsBare, HasResult}
 use Rattle.cp_resolved.proofs.forms.AssignableForms.{free_place, components_fixed}
 use Rattle.cp_resolved.proofs.forms.HandedOver.{Fits, IsWhole}
-use Rattle.cp_resolved.proofs.Typing.{formed}
+use Rattle.cp_resolved.proofs.forms.Typing.{formed}
 use Rattle.cp_resolved.proofs.forms.TypingNames.{IsPlainMeaning, Holds, written, NamedIs}
 use Rattle.cp_resolved.proofs.forms.UsedNames.{IsVariableMeaning, known_is, other_bare}
 use Rattle.cp_resolved.proofs.agreeing.WithoutFaults.{ok_same, Then, then_of}

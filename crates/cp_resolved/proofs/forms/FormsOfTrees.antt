@@ -13,7 +13,7 @@ use Rattle.cp_resolved.specs.Layouts.{Layouts}
 use Rattle.cp_resolved.specs.Openings.{Opening, openings_of}
 use Rattle.cp_resolved.specs.Small.{Each}
 use Rattle.cp_resolved.proofs.forms.FormedStatements.{statements_formed}
-use Rattle.cp_resolved.proofs.ScopesOfTrees.{scopes_law}
+use Rattle.cp_resolved.proofs.agreeing.ScopesOfTrees.{scopes_law}
 use Rattle.cp_resolved.proofs.declarations.SmallBodies.{IsSmallOpening, read_opens}
 
 pub all_heard : (s : Scopes) → ((y : Name) → look y s ≡ Some None → ⊥) → Heard s

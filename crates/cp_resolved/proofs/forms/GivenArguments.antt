@@ -36,7 +36,7 @@ use Rattle.cp_resolved.proofs.agreeing.AgreeingParts.{free_plain}
 use Rattle.cp_resolved.proofs.forms.AssignableForms.{VariableForm, HasVariable, expression_held}
 use Rattle.cp_resolved.proofs.forms.HandedOver.{types_same, Fits, IsWhole, fitting}
 use Rattle.cp_resolved.proofs.forms.MovedTypes.{type_moved}
-use Rattle.cp_resolved.proofs.Typing.{formed}
+use Rattle.cp_resolved.proofs.forms.Typing.{formed}
 use Rattle.cp_resolved.proofs.forms.TypingExpressions.{expression_typed}
 use Rattle.cp_resolved.proofs.forms.TypingNames.{written}
 use Rattle.cp_resolved.proofs.agreeing.WithoutFaults.{ok_same, Then, then_of, Both, both_of}

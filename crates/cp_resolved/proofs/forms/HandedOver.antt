@@ -15,7 +15,7 @@ use Rattle.cp_resolved.specs.Typed.{Written, RangeIs, TypeIs, is_plain, FormIs, 
 use Rattle.cp_resolved.proofs.agreeing.AgreeingConstants.{base_same}
 use Rattle.cp_resolved.proofs.agreeing.AgreeingTypes.{IsOrdinal, ordinal_of}
 use Rattle.cp_resolved.proofs.agreeing.SameTypes.{type_same}
-use Rattle.cp_resolved.proofs.Typing.{formed, OrdinalForm, ordinal_found, SetForm, set_found, first_true, second_true}
+use Rattle.cp_resolved.proofs.forms.Typing.{formed, OrdinalForm, ordinal_found, SetForm, set_found, first_true, second_true}
 
 -- ---- types that agree
 

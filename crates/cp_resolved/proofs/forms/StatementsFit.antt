@@ -65,7 +65,7 @@ use Rattle.cp_resolved.proofs.forms.FormedTargets.{OwnRoutine, Taken, taken, Tar
 use Rattle.cp_resolved.proofs.forms.GivenArguments.{AreArguments, Fitted, fitted, passed, plain_arguments, var_arguments, all_given, call_given, called_passed, Passed}
 use Rattle.cp_resolved.proofs.forms.HandedOver.{fitting}
 use Rattle.cp_resolved.proofs.forms.MovedTypes.{type_moved}
-use Rattle.cp_resolved.proofs.Typing.{first_true, second_true}
+use Rattle.cp_resolved.proofs.forms.Typing.{first_true, second_true}
 use Rattle.cp_resolved.proofs.forms.TypingExpressions.{expression_typed, designator_typed}
 use Rattle.cp_resolved.proofs.forms.TypingNames.{IsComponentMeaning, Holds, written, NamedIs, HasDesignated, begun_typed}
 use Rattle.cp_resolved.proofs.forms.TypingOperations.{boolean_found}

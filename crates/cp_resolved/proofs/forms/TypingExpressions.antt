@@ -31,7 +31,7 @@ use Rattle.cp_meaning.specs.Lifting.{last_field}
 use Rattle.cp_resolved.specs.Layouts.{Here}
 use Rattle.cp_resolved.specs.Compiled.{Formed, Designated as FormDesignated, then_form, set_form, signed_form, added_forms, multiplied_forms, with_member_form, begun_form, expression_form, sum_form, terms_form, term_form, factors_form, factor_form, members_form, first_form, designator_form, selected_form, chosen_form}
 use Rattle.cp_resolved.specs.Typed.{Tokens, Written, ScopesAgree, Expressed, HasForm, IsSmallExpression, IsSmallSum, AreSmallTerms, IsSmallTerm, AreSmallFactors, IsSmallFactor, AreSmallExpressions, AreSmallSelectors}
-use Rattle.cp_resolved.proofs.Typing.{OrdinalForm, ordinal_found, a_set, first_true, second_true}
+use Rattle.cp_resolved.proofs.forms.Typing.{OrdinalForm, ordinal_found, a_set, first_true, second_true}
 use Rattle.cp_resolved.proofs.forms.TypingOperations.{HasPartForm, agreed_form, first_form as one_form, sign_form, negated_form, group_form, added_form, multiplied_form, related_form}
 use Rattle.cp_resolved.proofs.forms.TypingNames.{written, HasDesignated, begun_typed, field_selected, index_selected, known_selected, last_or, last_same}
 use Rattle.cp_resolved.proofs.forms.TypingValues.{AreArguments, name_typed, constant_typed}

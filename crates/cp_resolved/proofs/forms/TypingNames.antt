@@ -34,7 +34,7 @@ use Rattle.cp_resolved.specs.Encoded.{Chosen, field_chosen, further_chosen}
 use Rattle.cp_resolved.specs.Compiled.{as_ordinal, Formed, Designated, a_variable, some_components, a_component, then_form, component_begun, permanent_begun, begun_form, part_of_form, with_field_form, element_of_form, with_index_form}
 use Rattle.cp_meaning.specs.Systems.{system_of}
 use Rattle.cp_resolved.specs.Typed.{Tokens, Written, ComponentIs, TypeIs, FieldsAre, is_plain, are_plain, MayStand, HeadingIs, VariableIs, ConstantIs, RoutineIs, StandardIs, MeaningIs, ScopesAgree, Expressed, HasForm}
-use Rattle.cp_resolved.proofs.Typing.{formed, OrdinalForm, ordinal_found, first_true, second_true}
+use Rattle.cp_resolved.proofs.forms.Typing.{formed, OrdinalForm, ordinal_found, first_true, second_true}
 
 -- ---- fields
 

@@ -28,7 +28,7 @@ use Rattle.cp_meaning.specs.Types as named
 use Rattle.cp_meaning.specs.Types.{Ty, all_integers, all_booleans}
 use Rattle.cp_resolved.specs.Compiled.{as_ordinal, as_set, Formed, then_form, is_integer_base, is_boolean_base, compared_forms, added_ordinals, added_forms, multiplied_ordinals, multiplied_forms, signed_ordinal, signed_form, not_form_of, not_form}
 use Rattle.cp_resolved.specs.Typed.{Written, Expressed, HasForm}
-use Rattle.cp_resolved.proofs.Typing.{formed, integer_base, boolean_base, OrdinalForm, ordinal_found, set_found, an_integer, a_truth, a_set, then_one, then_two, both_true, first_true, second_true}
+use Rattle.cp_resolved.proofs.forms.Typing.{formed, integer_base, boolean_base, OrdinalForm, ordinal_found, set_found, an_integer, a_truth, a_set, then_one, then_two, both_true, first_true, second_true}
 
 -- a sum or term so far
 abbrev pub PartForm : Written → Option Operand → Option Formed → Type 0

@@ -37,7 +37,7 @@ use Rattle.cp_meaning.specs.Places.{result_type}
 use Rattle.cp_resolved.specs.Layouts.{Here}
 use Rattle.cp_resolved.specs.Compiled.{as_ordinal, as_place, Formed, Designated, a_variable, some_components, a_component, then_form, integer_form, applied_ordinal, applied_form, constant_form, call_form, named_form, valued_form, loaded_form}
 use Rattle.cp_resolved.specs.Typed.{Tokens, Written, BaseIs, RangeIs, TypeIs, is_plain, IsOrdinalResult, ResultIs, HeadingIs, ConstantIs, RoutineIs, StandardIs, predeclared_of, FormIs, Expressed, HasForm}
-use Rattle.cp_resolved.proofs.Typing.{formed, OrdinalForm, QueueForm, ordinal_found, queue_found, an_integer, a_truth, a_character, then_one}
+use Rattle.cp_resolved.proofs.forms.Typing.{formed, OrdinalForm, QueueForm, ordinal_found, queue_found, an_integer, a_truth, a_character, then_one}
 use Rattle.cp_resolved.proofs.forms.TypingOperations.{integer_found, ok_if}
 use Rattle.cp_resolved.proofs.forms.TypingNames.{IsPlainMeaning, IsComponentMeaning, Holds, written, IsCalled, NamedIs, HasDesignated}
 

@@ -41,7 +41,7 @@ use Rattle.cp_resolved.specs.Layouts.{Here}
 use Rattle.cp_resolved.specs.Typed.{Tokens, IsOrdinalResult, HeadingIs, ResultIs, RoutineIs, ConstantIs, StandardIs, ScopesAgree, IsSmallExpression, IsSmallSum, AreSmallTerms, IsSmallTerm, AreSmallFactors, IsSmallFactor, AreSmallExpressions, AreSmallSelectors}
 use Rattle.cp_resolved.specs.Used.{IsBare, AreNone, IsOne, IsFunction, HasResult, AreFormed, UsedAs, IsUsed, SumUsed, TermsUsed, TermUsed, FactorsUsed, FactorUsed, AreUsed, SelectorsUsed}
 use Rattle.cp_resolved.proofs.forms.GivenArguments.{plain_arguments, call_given}
-use Rattle.cp_resolved.proofs.Typing.{second_true}
+use Rattle.cp_resolved.proofs.forms.Typing.{second_true}
 use Rattle.cp_resolved.proofs.forms.TypingNames.{Holds, written, IsCalled, NamedIs, HasDesignated}
 use Rattle.cp_resolved.proofs.forms.TypingValues.{IsValue, held_value, own_called}
 use Rattle.cp_resolved.proofs.forms.TypingExpressions.{designator_typed}

@@ -14,7 +14,7 @@ use Rattle.cp_resolved.specs.Once.{IsWord, AreWords, AreSized}
 use Rattle.cp_resolved.specs.Small.{Each}
 use Rattle.cp_resolved.specs.Standing.{IsFreeVariable}
 use Rattle.cp_resolved.specs.TreeLayouts.{result_variables, parameters_by}
-use Rattle.cp_resolved.proofs.FrameCells.{each_right, none_left, none_right, none_both}
+use Rattle.cp_resolved.proofs.frames.FrameCells.{each_right, none_left, none_right, none_both}
 use Rattle.cp_resolved.proofs.frames.FrameKnown.{word_found, Visible}
 use Rattle.cp_resolved.proofs.frames.FrameStands.{is_result}
 use Rattle.cp_resolved.proofs.frames.FrameSteps.{HasCells, Fits, fits_left, fits_right}

@@ -20,8 +20,8 @@ use Rattle.cp_resolved.specs.Once.{IsWord, AreWords}
 use Rattle.cp_resolved.specs.Resolved.{StandsAt}
 use Rattle.cp_resolved.specs.Small.{Each}
 use Rattle.cp_resolved.specs.TreeLayouts.{call_variables, parameters_by}
-use Rattle.cp_resolved.proofs.FrameCells.{same_is, look_each}
-use Rattle.cp_resolved.proofs.ScopeVariables.{Among, among_left, among_right, never_missing}
+use Rattle.cp_resolved.proofs.frames.FrameCells.{same_is, look_each}
+use Rattle.cp_resolved.proofs.agreeing.ScopeVariables.{Among, among_left, among_right, never_missing}
 use Rattle.cp_resolved.proofs.systems.SystemKnown.{among_either}
 use Rattle.cp_resolved.proofs.laid.ZeroCells.{AreZeros}
 

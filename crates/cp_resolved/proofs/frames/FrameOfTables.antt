@@ -25,13 +25,13 @@ use Rattle.cp_resolved.specs.Resolved.{StandsAt, first_value, ResultIs, FrameIs}
 use Rattle.cp_resolved.specs.Small.{Each}
 use Rattle.cp_resolved.specs.TreeLayouts.{call_variables, result_variables, parameters_by, frame_layout}
 use Rattle.cp_resolved.proofs.names.Entries.{last_entry}
-use Rattle.cp_resolved.proofs.FrameCells.{itself, look_right, none_left, none_right, none_both, total, cells_before, before_left, before_right, stands_left, before_stands, extents, number_among, number_inside, number_different}
+use Rattle.cp_resolved.proofs.frames.FrameCells.{itself, look_right, none_left, none_right, none_both, total, cells_before, before_left, before_right, stands_left, before_stands, extents, number_among, number_inside, number_different}
 use Rattle.cp_resolved.proofs.frames.FrameKnown.{no_word, IsTemporary, before_all}
 use Rattle.cp_resolved.proofs.frames.FrameStands.{all, refs, reference_origin, case_of, place, origin_is, cell_is, inside_all, apart_cells}
 use Rattle.cp_resolved.proofs.frames.FrameSteps.{Frames}
 use Rattle.cp_resolved.proofs.frames.FrameValues.{zero_after, first_zero, first_least, values_typed, parameters_there, locals_there}
 use Rattle.cp_resolved.proofs.frames.FramesBegun.{no_parameter, SlotIs}
-use Rattle.cp_resolved.proofs.ScopeVariables.{AreOf}
+use Rattle.cp_resolved.proofs.agreeing.ScopeVariables.{AreOf}
 use Rattle.cp_resolved.proofs.systems.Sizes.{Counted}
 use Rattle.cp_resolved.proofs.laid.ZeroCells.{AreZeros}
 

@@ -27,11 +27,11 @@ use Rattle.cp_resolved.specs.Once.{IsWord, AreWords}
 use Rattle.cp_resolved.specs.Resolved.{AreApart}
 use Rattle.cp_resolved.specs.Small.{Each}
 use Rattle.cp_resolved.specs.TreeLayouts.{call_variables, result_variables, parameters_by, frame_layout, hidden_origin, origin_in}
-use Rattle.cp_resolved.proofs.FrameCells.{itself, same_is, look_left, look_right, look_either, look_each, none_left, none_right, none_both, total, cells_before, images_length, before_inside, before_apart, number_among}
+use Rattle.cp_resolved.proofs.frames.FrameCells.{itself, same_is, look_left, look_right, look_either, look_each, none_left, none_right, none_both, total, cells_before, images_length, before_inside, before_apart, number_among}
 use Rattle.cp_resolved.proofs.frames.FrameSteps.{Lies, Frames}
 use Rattle.cp_resolved.proofs.frames.FramesBegun.{no_parameter}
 use Rattle.cp_resolved.proofs.frames.LeastCells.{zero_typed}
-use Rattle.cp_resolved.proofs.ScopeVariables.{Among, among_left, among_right, look_among, never_missing, among_look}
+use Rattle.cp_resolved.proofs.agreeing.ScopeVariables.{Among, among_left, among_right, look_among, never_missing, among_look}
 use Rattle.cp_resolved.proofs.names.Steps.{found_in}
 use Rattle.cp_resolved.proofs.names.TreeKnown.{undeclared_name}
 use Rattle.cp_resolved.proofs.frames.FrameKnown.{no_word, by_all, missing_all, never_both, IsTemporary, temporary_of, before_all, before_other}

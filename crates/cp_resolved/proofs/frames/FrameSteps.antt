@@ -26,7 +26,7 @@ use Rattle.cp_resolved.specs.Valued.{IsFull}
 use Rattle.cp_resolved.proofs.frames.Cells.{cells_same}
 use Rattle.cp_resolved.proofs.names.Entries.{still_there}
 use Rattle.cp_resolved.proofs.laid.Extends.{Longer}
-use Rattle.cp_resolved.proofs.FrameCells.{look_left, look_right, each_both, images, total, cells_before, images_length, images_append, before_left, before_right, extents, number_among, extents_append, number_left, number_right, extents_length, same_is}
+use Rattle.cp_resolved.proofs.frames.FrameCells.{look_left, look_right, each_both, images, total, cells_before, images_length, images_append, before_left, before_right, extents, number_among, extents_append, number_left, number_right, extents_length, same_is}
 use Rattle.cp_resolved.proofs.frames.FrameKept.{constants_cells, definitions_cells, type_cells, frame_same}
 use Rattle.cp_resolved.proofs.names.KeptNames as kept
 use Rattle.cp_resolved.proofs.frames.LeastCells.{least_laid}

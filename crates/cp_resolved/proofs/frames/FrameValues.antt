@@ -26,11 +26,11 @@ use Rattle.cp_resolved.specs.Resolved.{StandsAt, first_value, ParameterIs, Param
 use Rattle.cp_resolved.specs.Small.{Each}
 use Rattle.cp_resolved.specs.Standing.{is_free, is_indexed, IsFreeVariable}
 use Rattle.cp_resolved.specs.TreeLayouts.{call_variables, result_variables, parameters_by, frame_layout, components_among}
-use Rattle.cp_resolved.proofs.FrameCells.{each_right, same_is, look_right, look_either, look_each, none_right, cells_before, stands_after}
+use Rattle.cp_resolved.proofs.frames.FrameCells.{each_right, same_is, look_right, look_either, look_each, none_right, cells_before, stands_after}
 use Rattle.cp_resolved.proofs.frames.FrameSteps.{Frames}
 use Rattle.cp_resolved.proofs.frames.FramesBegun.{no_parameter}
 use Rattle.cp_resolved.proofs.frames.LeastCells.{right_true, least_typed}
-use Rattle.cp_resolved.proofs.ScopeVariables.{Among, among_left, among_right, among_look, AreOf, of_local}
+use Rattle.cp_resolved.proofs.agreeing.ScopeVariables.{Among, among_left, among_right, among_look, AreOf, of_local}
 use Rattle.cp_resolved.proofs.systems.SystemKnown.{found_among, among_either, content_left, content_right, least_none, least_some}
 use Rattle.cp_resolved.proofs.laid.ZeroCells.{AreZeros}
 use Rattle.cp_resolved.proofs.frames.FrameKnown.{word_found, no_word, by_all, either_by, missing_all, IsTemporary, zero_stands}

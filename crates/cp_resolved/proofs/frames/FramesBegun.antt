@@ -26,7 +26,7 @@ use Rattle.cp_resolved.specs.Small.{Each, IsSmallType, IsSmallPart, IsSmallRouti
 use Rattle.cp_resolved.specs.TreeLayouts.{parameters_by, result_variables}
 use Rattle.cp_resolved.proofs.laid.Declares.{Declares, locals_of_declare, locals_declare, local_parts_declare, constant_groups_declare, parameter_groups_declare, either_group_declares}
 use Rattle.cp_resolved.proofs.laid.Extends.{Longer, longer_trans, declared_extends}
-use Rattle.cp_resolved.proofs.FrameCells.{none_left, none_right, none_both, total, images_length}
+use Rattle.cp_resolved.proofs.frames.FrameCells.{none_left, none_right, none_both, total, images_length}
 use Rattle.cp_resolved.proofs.frames.FrameSteps.{counted_first, HasCells, Fits, fits_left, fits_right, fits_fewer, AreLying, Frames, constants_framed, definitions_framed, type_framed, one_variable, result_framed, local_framed, reference_framed}
 use Rattle.cp_resolved.proofs.systems.Sizes.{Counted}
 use Rattle.cp_resolved.proofs.names.StepsOfParts.{Reached, reached_then, written_reached, locals_of_reached, local_part_reached, constant_groups_reached, either_group_reached, heading_reached}

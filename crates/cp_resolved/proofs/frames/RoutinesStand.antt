@@ -27,18 +27,18 @@ use Rattle.cp_resolved.specs.Openings.{openings_of, meaning_in, meaning_at, numb
 use Rattle.cp_resolved.specs.Resolved.{FrameIs, RoutineIs}
 use Rattle.cp_resolved.specs.RoutinesStand.{RoutinesLaw}
 use Rattle.cp_resolved.specs.TreeLayouts.{whole_laid, layer_or, call_variables, result_variables, parameters_by, frame_layout, components_among, owner_in, name_with, name_in, layouts_of}
-use Rattle.cp_resolved.proofs.BodiesStand.{laid_routines, BegunAt, begun_at, bodies_law}
+use Rattle.cp_resolved.proofs.items.BodiesStand.{laid_routines, BegunAt, begun_at, bodies_law}
 use Rattle.cp_resolved.proofs.names.Entries.{there, entry_at}
-use Rattle.cp_resolved.proofs.FrameCells.{look_right, cells_before}
+use Rattle.cp_resolved.proofs.frames.FrameCells.{look_right, cells_before}
 use Rattle.cp_resolved.proofs.frames.FrameFits.{routine_fits}
 use Rattle.cp_resolved.proofs.frames.FrameOfTables.{last_result, no_call, result_found, slot_before, IsLeft, frame_there}
 use Rattle.cp_resolved.proofs.frames.FrameSteps.{Frames}
 use Rattle.cp_resolved.proofs.frames.FramesBegun.{RoutineFits, SlotIs, all_locals}
 use Rattle.cp_resolved.proofs.laid.Grown.{statements_grew}
-use Rattle.cp_resolved.proofs.Opened.{opened_all}
+use Rattle.cp_resolved.proofs.names.Opened.{opened_all}
 use Rattle.cp_resolved.proofs.names.ResultKnown.{with_own_name}
-use Rattle.cp_resolved.proofs.RoutinesCounted.{Many, all_many}
-use Rattle.cp_resolved.proofs.ScopeVariables.{Among, AreOf, of_permanent, among_all, among_some}
+use Rattle.cp_resolved.proofs.counts.RoutinesCounted.{Many, all_many}
+use Rattle.cp_resolved.proofs.agreeing.ScopeVariables.{Among, AreOf, of_permanent, among_all, among_some}
 use Rattle.cp_resolved.proofs.frames.SeatsOfProgram.{all_seated}
 use Rattle.cp_resolved.proofs.systems.Sizes.{Counted}
 use Rattle.cp_resolved.proofs.items.StatementsStand.{statements_law}

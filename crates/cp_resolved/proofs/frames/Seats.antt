@@ -35,7 +35,7 @@ use Rattle.cp_resolved.proofs.names.EntriesKnown.{heading_of, begun_headings}
 use Rattle.cp_resolved.proofs.laid.Grown.{statements_grew}
 use Rattle.cp_resolved.proofs.names.Knowing.{begun_same}
 use Rattle.cp_resolved.proofs.systems.PermanentCells.{Holds, AreHolding, Owns, Follow, Firsts}
-use Rattle.cp_resolved.proofs.ScopeVariables.{AreOf, of_local, of_permanent, local_parts_of, local_groups_of, local_parameters_of, permanent_parts_of, permanent_groups_of}
+use Rattle.cp_resolved.proofs.agreeing.ScopeVariables.{AreOf, of_local, of_permanent, local_parts_of, local_groups_of, local_parameters_of, permanent_parts_of, permanent_groups_of}
 use Rattle.cp_resolved.proofs.names.Steps.{found_in}
 use Rattle.cp_resolved.proofs.names.StepsOfParts.{Reached}
 use Rattle.cp_resolved.proofs.names.StepsOfRoutines.{routine_count, routine_systems, routine_reached}

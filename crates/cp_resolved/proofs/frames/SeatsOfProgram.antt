@@ -27,7 +27,7 @@ use Rattle.cp_resolved.proofs.frames.FramesBegun.{variables_grow}
 use Rattle.cp_resolved.proofs.names.KnowingSystems.{IsFirst, first_before, parts_longer}
 use Rattle.cp_resolved.proofs.laid.OwnedCells.{body_owned, routines_owned}
 use Rattle.cp_resolved.proofs.systems.PermanentCells.{holding_added, Owns, constants_own, type_owns, Follow, follow_left, variables_own}
-use Rattle.cp_resolved.proofs.ScopeVariables.{AreOf, of_constants, permanent_variables_of}
+use Rattle.cp_resolved.proofs.agreeing.ScopeVariables.{AreOf, of_constants, permanent_variables_of}
 use Rattle.cp_resolved.proofs.frames.SeatsOfSystems.{definitions_of, definitions_seated}
 use Rattle.cp_resolved.proofs.names.Steps.{outermost_in}
 use Rattle.cp_resolved.proofs.names.StepsOfProgram.{Standing, Stood, part_stood, parts_stood, opened_after, program_reached, all_outer}

@@ -25,7 +25,7 @@ use Rattle.cp_resolved.proofs.laid.Extends.{Longer, longer_trans, system_definit
 use Rattle.cp_resolved.proofs.names.KnowingSystems.{begun_many, IsFirst, first_before, first_is, definitions_longer}
 use Rattle.cp_resolved.proofs.laid.OwnedCells.{body_owned, routines_owned}
 use Rattle.cp_resolved.proofs.systems.PermanentCells.{Owns, groups_own, parts_own}
-use Rattle.cp_resolved.proofs.ScopeVariables.{AreOf, of_type, inside_of}
+use Rattle.cp_resolved.proofs.agreeing.ScopeVariables.{AreOf, of_type, inside_of}
 use Rattle.cp_resolved.proofs.names.Steps.{all_inside}
 use Rattle.cp_resolved.proofs.names.StepsOfParts.{Reached, system_groups_reached}
 use Rattle.cp_resolved.proofs.names.StepsOfProgram.{Standing, Stood, definition_stood, opened_after}

@@ -13,7 +13,7 @@ use Rattle.cp_resolved.specs.ItemsInside.{CanHold}
 use Rattle.cp_resolved.specs.LayoutsKnow.{IsPlaced}
 use Rattle.cp_resolved.specs.Resolved.{Stands}
 use Rattle.cp_resolved.specs.TreeLayouts.{layouts_of}
-use Rattle.cp_resolved.proofs.HandedOfTrees.{entrance_fits}
+use Rattle.cp_resolved.proofs.systems.HandedOfTrees.{entrance_fits}
 use Rattle.cp_resolved.proofs.names.HeadingsFit.{heading_fits}
 use Rattle.cp_resolved.proofs.names.LeadingNames.{components_lead}
 

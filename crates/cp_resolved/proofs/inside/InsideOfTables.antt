@@ -33,7 +33,7 @@ use Rattle.cp_resolved.specs.Resolved.{FrameIs, ParameterIs, ParametersAre, Resu
 use Rattle.cp_resolved.specs.Small.{Each}
 use Rattle.cp_resolved.specs.TreeLayouts.{layouts_of}
 use Rattle.cp_resolved.specs.Valued.{IsFull}
-use Rattle.cp_resolved.proofs.BodiesStand.{BegunAt, begun_at}
+use Rattle.cp_resolved.proofs.items.BodiesStand.{BegunAt, begun_at}
 use Rattle.cp_resolved.proofs.laid.Calling.{ActionFits}
 use Rattle.cp_resolved.proofs.laid.Calling.{Calls as CallsOne}
 use Rattle.cp_resolved.proofs.laid.Covered.{All, Adds, each_adds, begun_many, program_covers}

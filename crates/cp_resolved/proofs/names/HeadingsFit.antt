@@ -21,19 +21,19 @@ use Rattle.cp_resolved.specs.Openings.{Opening, openings_of, meaning_in, meaning
 use Rattle.cp_resolved.specs.Small.{Each}
 use Rattle.cp_resolved.specs.Standing.{IsFreeVariable}
 use Rattle.cp_resolved.specs.TreeLayouts.{layer_or, begun_at, parameters_by, frame_layout, layouts_of, whole_laid}
-use Rattle.cp_resolved.proofs.BodiesStand.{laid_routines, EndsAt, ends_at}
+use Rattle.cp_resolved.proofs.items.BodiesStand.{laid_routines, EndsAt, ends_at}
 use Rattle.cp_resolved.proofs.items.Ended.{all_end}
 use Rattle.cp_resolved.proofs.names.Entries.{there, entry_at}
-use Rattle.cp_resolved.proofs.FrameCells.{each_left, itself, look_right, extents_length, number_among, number_right}
+use Rattle.cp_resolved.proofs.frames.FrameCells.{each_left, itself, look_right, extents_length, number_among, number_right}
 use Rattle.cp_resolved.proofs.frames.FrameFits.{routine_fits}
 use Rattle.cp_resolved.proofs.frames.FrameStands.{reference_origin}
 use Rattle.cp_resolved.proofs.frames.FrameSteps.{Frames, one_variable}
 use Rattle.cp_resolved.proofs.frames.FramesBegun.{RoutineFits, all_locals, variables_append, by_append, no_parameter}
-use Rattle.cp_resolved.proofs.Opened.{opened_all}
-use Rattle.cp_resolved.proofs.RoutinesCounted.{Many, all_many}
+use Rattle.cp_resolved.proofs.names.Opened.{opened_all}
+use Rattle.cp_resolved.proofs.counts.RoutinesCounted.{Many, all_many}
 use Rattle.cp_resolved.proofs.systems.SystemKnown.{later_new}
 use Rattle.cp_resolved.proofs.names.TreeKnown.{layouts_law}
-use Rattle.cp_resolved.proofs.VisibleComponents.{counted, begun_there, seated_there}
+use Rattle.cp_resolved.proofs.components.VisibleComponents.{counted, begun_there, seated_there}
 use Rattle.cp_resolved.proofs.laid.ZeroCells.{statements_zeroed}
 
 -- ---- types

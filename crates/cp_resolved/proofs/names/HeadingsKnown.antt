@@ -42,7 +42,7 @@ use Rattle.cp_resolved.proofs.names.Headed.{IsRoutine, OwnedBy, AreOwned, OwnPar
 use Rattle.cp_resolved.proofs.names.HeadedPrograms.{Spans, span_at, TreeHeaded, all_headed}
 use Rattle.cp_resolved.proofs.names.HeadingsFound.{AreFound}
 use Rattle.cp_resolved.proofs.names.Knowing.{IsThere}
-use Rattle.cp_resolved.proofs.Opened.{opened_all}
+use Rattle.cp_resolved.proofs.names.Opened.{opened_all}
 use Rattle.cp_resolved.proofs.names.SystemsFound.{slots_in, parameters_grown}
 use Rattle.cp_resolved.proofs.names.TreeKnown.{owner_is, found_known, LowBy, variable_low, Opens, opens_of}
 

@@ -31,11 +31,11 @@ use Rattle.cp_resolved.proofs.components.ComponentsStand.{map_there}
 use Rattle.cp_resolved.proofs.components.Contained.{skipped, listed_first, elements_first, found_by_path}
 use Rattle.cp_resolved.proofs.names.Entries.{there, still_there, entry_at}
 use Rattle.cp_resolved.proofs.systems.HandedComponents.{handed_count}
-use Rattle.cp_resolved.proofs.HandedOfTrees.{PartOf, part_of}
-use Rattle.cp_resolved.proofs.ScopeVariables.{Among}
+use Rattle.cp_resolved.proofs.systems.HandedOfTrees.{PartOf, part_of}
+use Rattle.cp_resolved.proofs.agreeing.ScopeVariables.{Among}
 use Rattle.cp_resolved.proofs.components.Subtrees.{Subtree, subtree_of, listed_even}
 use Rattle.cp_resolved.proofs.systems.SystemKnown.{among_either}
-use Rattle.cp_resolved.proofs.VisibleComponents.{as_parameter, as_variable, visible_among, names_scope, names_variable, owner_below, array_variable, names_array}
+use Rattle.cp_resolved.proofs.components.VisibleComponents.{as_parameter, as_variable, visible_among, names_scope, names_variable, owner_below, array_variable, names_array}
 
 -- ---- what a system type declares is of earlier ones
 

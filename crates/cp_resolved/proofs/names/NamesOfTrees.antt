@@ -1,7 +1,7 @@
 -- The law of names.
 use Rattle.cp_resolved.specs.Openings.{numbering_of}
 use Rattle.cp_resolved.specs.Names.{NamesLaw}
-use Rattle.cp_resolved.proofs.Opened.{opened_all}
+use Rattle.cp_resolved.proofs.names.Opened.{opened_all}
 use Rattle.cp_resolved.proofs.names.StepsOfProgram.{names_laid}
 use Rattle.cp_resolved.proofs.names.EachInStep.{all_in_step}
 

@@ -38,7 +38,7 @@ use Rattle.cp_resolved.proofs.names.BegunKnown.{Begins, AreBegun, all_begin}
 use Rattle.cp_resolved.proofs.names.Entries.{there, still_there}
 use Rattle.cp_resolved.proofs.names.Knowing.{IsThere}
 use Rattle.cp_resolved.proofs.laid.Named.{IsMeaning, IsType, IsFound, found}
-use Rattle.cp_resolved.proofs.Opened.{opened_all}
+use Rattle.cp_resolved.proofs.names.Opened.{opened_all}
 use Rattle.cp_resolved.proofs.names.Steps.{found_in}
 use Rattle.cp_resolved.proofs.laid.Temporaries.{temporaries_next}
 

@@ -31,13 +31,13 @@ use Rattle.cp_resolved.specs.Small.{Each, IsSmallType, IsSmallPart, AreNumbered,
 use Rattle.cp_resolved.specs.TreeLayouts.{components_among}
 use Rattle.cp_resolved.proofs.frames.Cells.{cells_same}
 use Rattle.cp_resolved.proofs.laid.Extends.{Longer}
-use Rattle.cp_resolved.proofs.FrameCells.{look_left, look_right, itself, same_is}
+use Rattle.cp_resolved.proofs.frames.FrameCells.{look_left, look_right, itself, same_is}
 use Rattle.cp_resolved.proofs.frames.FrameKept.{constants_cells, definitions_cells, type_cells, owned_same}
 use Rattle.cp_resolved.proofs.frames.FrameSteps.{one_variable}
 use Rattle.cp_resolved.proofs.frames.FramesBegun.{variables_append, named_parameters, groups_grow, parts_grow, variables_grow}
 use Rattle.cp_resolved.proofs.names.KeptNames as kept
 use Rattle.cp_resolved.proofs.names.PermanentNames.{found_cases}
-use Rattle.cp_resolved.proofs.ScopeVariables.{components_append}
+use Rattle.cp_resolved.proofs.agreeing.ScopeVariables.{components_append}
 use Rattle.cp_resolved.proofs.names.Steps.{bytes_turned}
 use Rattle.cp_resolved.proofs.names.StepsOfParts.{Reached, reached_then, written_reached, ComponentsAre, components_same, variables_of_reached, permanent_part_reached, system_parameters_reached}
 use Rattle.cp_resolved.proofs.names.StepsOfTypes.{Written, type_written, named_type_same, numbered_left, numbered_after}

@@ -28,10 +28,10 @@ use Rattle.cp_resolved.specs.Resolved.{AreApart, first_permanent}
 use Rattle.cp_resolved.specs.Small.{Each}
 use Rattle.cp_resolved.specs.Standing.{is_standing, IsStandingVariable}
 use Rattle.cp_resolved.specs.TreeLayouts.{slot_in, components_among}
-use Rattle.cp_resolved.proofs.FrameCells.{look_right, look_either, look_each, none_left, none_right, same_is}
+use Rattle.cp_resolved.proofs.frames.FrameCells.{look_right, look_either, look_each, none_left, none_right, same_is}
 use Rattle.cp_resolved.proofs.frames.LeastCells.{standing_typed}
 use Rattle.cp_resolved.proofs.systems.PermanentCells.{width, width_plain, taken, taken_before, taken_inside, taken_apart, Holds, Owns, Follow, Firsts}
-use Rattle.cp_resolved.proofs.ScopeVariables.{Among, among_left, among_right, look_among, never_missing, among_look, components_append, among_all, among_some}
+use Rattle.cp_resolved.proofs.agreeing.ScopeVariables.{Among, among_left, among_right, look_among, never_missing, among_look, components_append, among_all, among_some}
 use Rattle.cp_resolved.proofs.names.Steps.{found_in}
 
 -- ---- what a variable has at first

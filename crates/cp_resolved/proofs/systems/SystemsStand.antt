@@ -29,16 +29,16 @@ use Rattle.cp_resolved.specs.Resolved.{initial_meaning, SystemParameterIs, Syste
 use Rattle.cp_resolved.specs.Small.{Each, IsParameter}
 use Rattle.cp_resolved.specs.TreeLayouts.{all_parts, parts_at, layer_or, whole_laid, program_parts_parts, initial_or, owner_in, components_among, slot_in, system_layout}
 use Rattle.cp_resolved.proofs.names.BegunKnown.{parts_many}
-use Rattle.cp_resolved.proofs.BodiesStand.{laid_routines, EndsAt, ends_at}
+use Rattle.cp_resolved.proofs.items.BodiesStand.{laid_routines, EndsAt, ends_at}
 use Rattle.cp_resolved.proofs.items.Ended.{all_end}
 use Rattle.cp_resolved.proofs.names.Entries.{there, not_there}
-use Rattle.cp_resolved.proofs.FrameCells.{each_left, each_right}
+use Rattle.cp_resolved.proofs.frames.FrameCells.{each_left, each_right}
 use Rattle.cp_resolved.proofs.laid.Grown.{statements_grew}
-use Rattle.cp_resolved.proofs.Opened.{opened_all}
+use Rattle.cp_resolved.proofs.names.Opened.{opened_all}
 use Rattle.cp_resolved.proofs.systems.PermanentCells.{Owns}
 use Rattle.cp_resolved.proofs.names.PermanentNames.{Under, FirstsApart}
-use Rattle.cp_resolved.proofs.RoutinesCounted.{Many, all_many}
-use Rattle.cp_resolved.proofs.ScopeVariables.{Among, among_left, among_all, among_some}
+use Rattle.cp_resolved.proofs.counts.RoutinesCounted.{Many, all_many}
+use Rattle.cp_resolved.proofs.agreeing.ScopeVariables.{Among, among_left, among_all, among_some}
 use Rattle.cp_resolved.proofs.frames.Seats.{Seated, AreSeated, initial_number, SystemFits, Settled, AreSettled}
 use Rattle.cp_resolved.proofs.frames.SeatsOfProgram.{all_seated}
 use Rattle.cp_resolved.proofs.systems.Sizes.{Counted}

@@ -35,7 +35,7 @@ use Rattle.cp_resolved.specs.LayoutsKnow.{place_of}
 use Rattle.cp_resolved.specs.Openings.{meaning_at, numbering_of}
 use Rattle.cp_resolved.specs.Stands.{OwnAll}
 use Rattle.cp_resolved.proofs.names.Alike.{same_inside}
-use Rattle.cp_resolved.proofs.BodiesStand.{bodies_law}
+use Rattle.cp_resolved.proofs.items.BodiesStand.{bodies_law}
 use Rattle.cp_resolved.proofs.worked.CallingPlaced.{calling_placed}
 use Rattle.cp_resolved.proofs.worked.CallingProgram.{calling, f, p, integer, parameter_b, called_f, lowest, highest}
 use Rattle.cp_resolved.proofs.items.Expressions.{inside}

@@ -1,4 +1,4 @@
-use Rattle.cp_resolved.proofs.BodiesStand.{bodies_law}
+use Rattle.cp_resolved.proofs.items.BodiesStand.{bodies_law}
 use Rattle.cp_resolved.proofs.laws.law_bodies.Goals as goal
 
 pub returns : goal.returns

@@ -1,4 +1,4 @@
-use Rattle.cp_resolved.proofs.ScopesOfTrees.{scopes_law}
+use Rattle.cp_resolved.proofs.agreeing.ScopesOfTrees.{scopes_law}
 use Rattle.cp_resolved.proofs.laws.law_scopes.Goals as goal
 
 pub returns : goal.returns

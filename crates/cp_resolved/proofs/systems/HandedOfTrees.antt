@@ -25,15 +25,15 @@ use Rattle.cp_resolved.specs.Openings.{numbering_of}
 use Rattle.cp_resolved.specs.TreeLayouts.{slot_in, program_parts_parts, layer_or, parts_at, layouts_of, whole_laid}
 use Rattle.cp_resolved.proofs.components.ComponentsOfTree.{Own, own_of, laid_all, around, count_same, meaning_of, program_meaning}
 use Rattle.cp_resolved.proofs.names.Entries.{not_there, still_there, entry_at}
-use Rattle.cp_resolved.proofs.FrameCells.{none_left}
+use Rattle.cp_resolved.proofs.frames.FrameCells.{none_left}
 use Rattle.cp_resolved.proofs.components.Handed.{program_handed}
 use Rattle.cp_resolved.proofs.systems.HandedComponents.{one_handed, handed_count, handed_append, BoundAt, AreBound}
 use Rattle.cp_resolved.proofs.systems.OwnedParts.{FirstIs}
-use Rattle.cp_resolved.proofs.ScopeVariables.{Among, among_left, among_right, never_missing}
+use Rattle.cp_resolved.proofs.agreeing.ScopeVariables.{Among, among_left, among_right, never_missing}
 use Rattle.cp_resolved.proofs.sound.SoundComponents.{tabled, system_there, program_there}
 use Rattle.cp_resolved.proofs.systems.SystemsLaid.{PermanentIs}
 use Rattle.cp_resolved.proofs.declarations.ValueParameters.{value_parameters}
-use Rattle.cp_resolved.proofs.VisibleComponents.{found_there}
+use Rattle.cp_resolved.proofs.components.VisibleComponents.{found_there}
 
 -- ---- lists of which no two have one name
 

@@ -11,7 +11,7 @@ use Rattle.cp_resolved.specs.Framed.{AreDifferent}
 use Rattle.cp_resolved.specs.Layouts.{look}
 use Rattle.cp_resolved.specs.Small.{Each}
 use Rattle.cp_resolved.specs.TreeLayouts.{components_among}
-use Rattle.cp_resolved.proofs.FrameCells.{itself, same_is}
+use Rattle.cp_resolved.proofs.frames.FrameCells.{itself, same_is}
 use Rattle.cp_resolved.proofs.frames.FrameSteps.{one_variable}
 use Rattle.cp_resolved.proofs.frames.FramesBegun.{variables_append, named_parameters}
 

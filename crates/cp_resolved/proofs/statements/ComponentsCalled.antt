@@ -27,10 +27,10 @@ use Rattle.cp_resolved.specs.Encoded.{Chosen, field_chosen}
 use Rattle.cp_resolved.specs.Judging.{tokens_of}
 use Rattle.cp_resolved.specs.Layouts.{Layouts, Here, is_own, is_parameter}
 use Rattle.cp_resolved.specs.Typed.{Tokens, Written, HeadingIs, ConstantIs, RoutineIs, StandardIs, ScopesAgree, AreSmallSelectors}
-use Rattle.cp_resolved.proofs.CalleesKnown.{numbered, routine_entry}
-use Rattle.cp_resolved.proofs.forms.CallsJudged.{IsValue, CalledAs}
-use Rattle.cp_resolved.proofs.ExpressionsJudged.{FunctionSaid}
-use Rattle.cp_resolved.proofs.StatementsJudged.{IsInvoked, InvokedAs, InvokeSaid}
+use Rattle.cp_resolved.proofs.statements.CalleesKnown.{numbered, routine_entry}
+use Rattle.cp_resolved.proofs.statements.CallsJudged.{IsValue, CalledAs}
+use Rattle.cp_resolved.proofs.statements.ExpressionsJudged.{FunctionSaid}
+use Rattle.cp_resolved.proofs.statements.StatementsJudged.{IsInvoked, InvokedAs, InvokeSaid}
 use Rattle.cp_resolved.proofs.forms.TypingExpressions.{designator_typed}
 use Rattle.cp_resolved.proofs.forms.TypingNames.{OfSystem, IsComponentMeaning, Holds, written, NamedIs, HasDesignated}
 use Rattle.cp_resolved.proofs.forms.TypingValues.{IsValue as IsPlainValue, held_value}

@@ -42,8 +42,8 @@ use Rattle.cp_resolved.specs.Small.{Each}
 use Rattle.cp_resolved.specs.SmallStatements.{IsSmallStart, IsSmallStatement, AreSmallStatements, AreSmallArms, IsSmallArm}
 use Rattle.cp_resolved.specs.Typed.{IsSmallExpression, AreSmallExpressions, IsSmallDesignator, AreSmallSelectors}
 use Rattle.cp_resolved.proofs.agreeing.Agreeing.{none_left, none_right}
-use Rattle.cp_resolved.proofs.forms.CallsJudged.{Below, first_below, second_below, AreBelow, total_below, unless_ok, OwnCall, CalledOk, called_ok, called_below, own_call, entry_call}
-use Rattle.cp_resolved.proofs.ExpressionsJudged.{AllSaid, said_both, NoneFunctions, none_functions, never, expression_said, arguments_said, designator_said}
+use Rattle.cp_resolved.proofs.statements.CallsJudged.{Below, first_below, second_below, AreBelow, total_below, unless_ok, OwnCall, CalledOk, called_ok, called_below, own_call, entry_call}
+use Rattle.cp_resolved.proofs.statements.ExpressionsJudged.{AllSaid, said_both, NoneFunctions, none_functions, never, expression_said, arguments_said, designator_said}
 use Rattle.cp_resolved.proofs.agreeing.WithoutFaults.{ok_same, Then, then_of, both_of, if_of}
 
 module _ (s : Scopes) (w : Context) (f : Bool) (scope : Scope) where

@@ -14,9 +14,9 @@ use Rattle.cp_resolved.specs.Resolved.{initial_meaning}
 use Rattle.cp_resolved.specs.Small.{Each}
 use Rattle.cp_resolved.specs.Typed.{Tokens, is_entry_in}
 use Rattle.cp_resolved.proofs.agreeing.ProgramNoted.{ProgramNoted, read_noted}
-use Rattle.cp_resolved.proofs.RoutinesNoted.{opens_entry, entry_in, entry_at, waits_of, waits_with, waits_at, IsNoted, AreNoted, InitialNumbered, SystemNumbered}
+use Rattle.cp_resolved.proofs.statements.RoutinesNoted.{opens_entry, entry_in, entry_at, waits_of, waits_with, waits_at, IsNoted, AreNoted, InitialNumbered, SystemNumbered}
 use Rattle.cp_resolved.proofs.agreeing.RoutinesSeen.{body_scope_entry}
-use Rattle.cp_resolved.proofs.ScopesOfTrees.{scopes_law}
+use Rattle.cp_resolved.proofs.agreeing.ScopesOfTrees.{scopes_law}
 use Rattle.cp_resolved.proofs.declarations.SmallBodies.{IsSmallOpening, read_opens}
 
 -- ---- the place of a number

@@ -41,14 +41,14 @@ use Rattle.cp_tree.specs.Read.{IsRead}
 use Rattle.cp_resolved.specs.TreeLayouts.{layouts_of}
 use Rattle.cp_resolved.specs.Typed.{Tokens, is_entry_in, IsOrdinalResult, ResultIs, HeadingIs, IsMarked, RoutineIs, StandardIs, predeclared_of, ConstantIs, ScopesAgree, AreSmallSelectors}
 use Rattle.cp_resolved.specs.Used.{IsBare}
-use Rattle.cp_resolved.proofs.CalleesKnown.{At, at_number, numbered, routine_entry, CalleeKnown}
-use Rattle.cp_resolved.proofs.forms.CallsJudged.{OwnCall, CalledAs, GivesResult, IsValue}
-use Rattle.cp_resolved.proofs.ExpressionsJudged.{FunctionSaid}
+use Rattle.cp_resolved.proofs.statements.CalleesKnown.{At, at_number, numbered, routine_entry, CalleeKnown}
+use Rattle.cp_resolved.proofs.statements.CallsJudged.{OwnCall, CalledAs, GivesResult, IsValue}
+use Rattle.cp_resolved.proofs.statements.ExpressionsJudged.{FunctionSaid}
 use Rattle.cp_resolved.proofs.forms.FormedStatements.{Right, right_of}
 use Rattle.cp_resolved.proofs.forms.FormedTargets.{begun_routine}
 use Rattle.cp_resolved.proofs.forms.FormsOfTrees.{all_heard}
-use Rattle.cp_resolved.proofs.RoutinesNoted.{is_monitor, delays_in, entry_with, entry_at, waits_at, Done, Numbered}
-use Rattle.cp_resolved.proofs.StatementsJudged.{InvokedAs, IsInvoked, InvokeSaid, StatementsSaid, statements_said}
+use Rattle.cp_resolved.proofs.statements.RoutinesNoted.{is_monitor, delays_in, entry_with, entry_at, waits_at, Done, Numbered}
+use Rattle.cp_resolved.proofs.statements.StatementsJudged.{InvokedAs, IsInvoked, InvokeSaid, StatementsSaid, statements_said}
 use Rattle.cp_resolved.proofs.forms.TypingExpressions.{designator_typed}
 use Rattle.cp_resolved.proofs.forms.TypingNames.{IsComponentMeaning, written, IsCalled, NamedIs, HasDesignated}
 use Rattle.cp_resolved.proofs.forms.TypingValues.{IsValue as IsPlainValue, held_value}

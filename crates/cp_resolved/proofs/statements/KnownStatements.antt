@@ -54,10 +54,10 @@ use Rattle.cp_resolved.specs.Typed.{Tokens, Written, BaseIs, TypeIs, HeadingIs, 
 use Rattle.cp_resolved.specs.Used.{IsBare}
 use Rattle.cp_resolved.proofs.agreeing.Agreeing.{none_left, none_right}
 use Rattle.cp_resolved.proofs.forms.AssignableForms.{free_place}
-use Rattle.cp_resolved.proofs.EachStatement.{IsSound}
+use Rattle.cp_resolved.proofs.statements.EachStatement.{IsSound}
 use Rattle.cp_resolved.proofs.forms.FormedStatements.{performed_formed}
 use Rattle.cp_resolved.proofs.forms.GivenArguments.{AreArguments, passed, plain_arguments, var_arguments, called_passed, Passed}
-use Rattle.cp_resolved.proofs.NamedArguments.{IsVariable, AreVariables, is_stored, stored_variable, given_variables}
+use Rattle.cp_resolved.proofs.statements.NamedArguments.{IsVariable, AreVariables, is_stored, stored_variable, given_variables}
 use Rattle.cp_resolved.proofs.forms.TypingExpressions.{expression_typed, designator_typed}
 use Rattle.cp_resolved.proofs.forms.TypingNames.{Holds, written, NamedIs, HasDesignated}
 use Rattle.cp_resolved.proofs.forms.TypingValues.{own_called}

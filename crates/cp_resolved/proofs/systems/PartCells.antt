@@ -25,10 +25,10 @@ use Rattle.cp_tree.specs.Read.{IsRead}
 use Rattle.cp_resolved.specs.Small.{Each, IsParameter}
 use Rattle.cp_resolved.specs.TreeLayouts.{components_among, slot_in, parts_at, layouts_of}
 use Rattle.cp_resolved.proofs.counts.FewCellsOfTables.{few_cells_law}
-use Rattle.cp_resolved.proofs.FrameCells.{itself, look_left, look_each}
+use Rattle.cp_resolved.proofs.frames.FrameCells.{itself, look_left, look_each}
 use Rattle.cp_resolved.proofs.systems.PermanentCells.{width, taken, taken_before, taken_inside, taken_apart, Holds}
-use Rattle.cp_resolved.proofs.Placed.{placed_law}
-use Rattle.cp_resolved.proofs.ScopeVariables.{Among, among_left, look_among, among_all}
+use Rattle.cp_resolved.proofs.declarations.Placed.{placed_law}
+use Rattle.cp_resolved.proofs.agreeing.ScopeVariables.{Among, among_left, look_among, among_all}
 use Rattle.cp_resolved.proofs.names.Steps.{found_in}
 use Rattle.cp_resolved.proofs.systems.SystemKnown.{found_among}
 use Rattle.cp_resolved.proofs.systems.SystemsStand.{SystemStands, system_stands}

@@ -15,12 +15,12 @@ use Rattle.cp_resolved.specs.LayoutsKnow.{place_of}
 use Rattle.cp_resolved.specs.Openings.{meaning_at}
 use Rattle.cp_resolved.specs.TreeLayouts.{layouts_of}
 use Rattle.cp_tree.specs.Read.{IsRead}
-use Rattle.cp_resolved.proofs.EachStatement.{EachIn, EachOf, EachArm}
+use Rattle.cp_resolved.proofs.statements.EachStatement.{EachIn, EachOf, EachArm}
 use Rattle.cp_resolved.proofs.forms.FormedOfTrees.{formed_law}
-use Rattle.cp_resolved.proofs.KnownOfTrees.{some_opening}
-use Rattle.cp_resolved.proofs.Placed.{placed_law}
-use Rattle.cp_resolved.proofs.ScopeVariables.{AreOf, of_local}
-use Rattle.cp_resolved.proofs.VisibleComponents.{visible}
+use Rattle.cp_resolved.proofs.statements.KnownOfTrees.{some_opening}
+use Rattle.cp_resolved.proofs.declarations.Placed.{placed_law}
+use Rattle.cp_resolved.proofs.agreeing.ScopeVariables.{AreOf, of_local}
+use Rattle.cp_resolved.proofs.components.VisibleComponents.{visible}
 
 -- ---- each statement has its forms
 

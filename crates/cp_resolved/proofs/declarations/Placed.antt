@@ -15,10 +15,10 @@ use Rattle.cp_resolved.specs.Small.{Each}
 use Rattle.cp_resolved.specs.Standing.{IsFit}
 use Rattle.cp_resolved.specs.Typed.{Tokens}
 use Rattle.cp_resolved.proofs.declarations.CallsOfTrees.{indexed_apart}
-use Rattle.cp_resolved.proofs.FewCells.{few_free, few_standing, full_free, full_standing}
+use Rattle.cp_resolved.proofs.counts.FewCells.{few_free, few_standing, full_free, full_standing}
 use Rattle.cp_resolved.proofs.declarations.OnceOfTrees.{accepted_once}
 use Rattle.cp_resolved.proofs.declarations.Plain.{plain_law}
-use Rattle.cp_resolved.proofs.ScopesOfTrees.{scopes_law}
+use Rattle.cp_resolved.proofs.agreeing.ScopesOfTrees.{scopes_law}
 use Rattle.cp_resolved.proofs.declarations.WordsOfTrees.{read_words}
 
 -- ---- what fits has few cells

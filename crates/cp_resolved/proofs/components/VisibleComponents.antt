@@ -19,9 +19,9 @@ use Rattle.cp_resolved.specs.Openings.{Opening, routine_openings, initial_openin
 use Rattle.cp_resolved.specs.Resolved.{SystemParameterIs, SystemParametersAre, initial_meaning, Stands}
 use Rattle.cp_resolved.specs.TreeLayouts.{components_among, owner_in, layouts_of, whole_laid}
 use Rattle.cp_resolved.proofs.names.Entries.{there, last_entry}
-use Rattle.cp_resolved.proofs.FrameCells.{itself, same_is, look_each}
-use Rattle.cp_resolved.proofs.Opened.{opened_all}
-use Rattle.cp_resolved.proofs.ScopeVariables.{Among, among_left, look_among, among_look, among_all, among_some, AreOf, of_permanent}
+use Rattle.cp_resolved.proofs.frames.FrameCells.{itself, same_is, look_each}
+use Rattle.cp_resolved.proofs.names.Opened.{opened_all}
+use Rattle.cp_resolved.proofs.agreeing.ScopeVariables.{Among, among_left, look_among, among_look, among_all, among_some, AreOf, of_permanent}
 use Rattle.cp_resolved.proofs.frames.Seats.{Seated, AreSeated}
 use Rattle.cp_resolved.proofs.frames.SeatsOfProgram.{all_seated}
 use Rattle.cp_resolved.proofs.systems.Sizes.{Counted}

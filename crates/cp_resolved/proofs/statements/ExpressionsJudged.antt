@@ -26,8 +26,8 @@ use Rattle.cp_meaning.specs.Scopes.{Scope}
 use Rattle.cp_meaning.specs.State.{Item, statement_item, function_call, start_item, until, successor, return, init_end, end}
 use Rattle.cp_meaning.specs.Lifting.{is_call, own_call, expression_calls, sum_calls, terms_calls, term_calls, factors_calls, factor_calls, expressions_calls, selectors_calls}
 use Rattle.cp_resolved.specs.Typed.{IsSmallExpression, IsSmallSum, AreSmallTerms, IsSmallTerm, AreSmallFactors, IsSmallFactor, AreSmallExpressions, IsSmallDesignator, AreSmallSelectors}
-use Rattle.cp_resolved.proofs.forms.CallsJudged.{Below, first_below, second_below, AreBelow, IsValue, OptionBelow, added_below, multiplied_below, signed_below, related_below, negated_below, constructed_below, CalledAs, GivesResult, ValueSaid, value_said}
-use Rattle.cp_resolved.proofs.Typing.{second_true}
+use Rattle.cp_resolved.proofs.statements.CallsJudged.{Below, first_below, second_below, AreBelow, IsValue, OptionBelow, added_below, multiplied_below, signed_below, related_below, negated_below, constructed_below, CalledAs, GivesResult, ValueSaid, value_said}
+use Rattle.cp_resolved.proofs.forms.Typing.{second_true}
 use Rattle.cp_resolved.proofs.agreeing.WithoutFaults.{ok_same, Then, then_of, both_of}
 
 module _ (s : Scopes) (w : Context) (f : Bool) (scope : Scope) where

@@ -8,7 +8,7 @@ use Rattle.cp_meaning.specs.Values.{Choice, the_field, the_element, number_value
 use Rattle.cp_resolved.specs.Encoded.{Chosen, further_chosen, field_chosen, one_chosen, then_chosen, chosen_at, HasType}
 use Rattle.cp_resolved.specs.Layouts.{cells_of, cells_in}
 use Rattle.cp_resolved.specs.Standing.{is_bounded, are_few, is_indexed, is_free, are_free, is_standing}
-use Rattle.cp_resolved.proofs.Typing.{first_true, second_true}
+use Rattle.cp_resolved.proofs.forms.Typing.{first_true, second_true}
 
 -- ---- ranges
 

@@ -16,9 +16,9 @@ use Rattle.cp_resolved.specs.Standing.{is_free}
 use Rattle.cp_resolved.specs.TreeLayouts.{components_among, layouts_of}
 use Rattle.cp_resolved.specs.Typed.{IsHanded, IsSystemParameter}
 use Rattle.cp_resolved.proofs.counts.FewReferences.{each_weaker}
-use Rattle.cp_resolved.proofs.FrameCells.{look_left}
-use Rattle.cp_resolved.proofs.ScopeVariables.{Among, look_among, among_look, among_all}
-use Rattle.cp_resolved.proofs.ScopesOfTrees.{scopes_law}
+use Rattle.cp_resolved.proofs.frames.FrameCells.{look_left}
+use Rattle.cp_resolved.proofs.agreeing.ScopeVariables.{Among, look_among, among_look, among_all}
+use Rattle.cp_resolved.proofs.agreeing.ScopesOfTrees.{scopes_law}
 use Rattle.cp_resolved.proofs.declarations.SystemVariables.{accepted_permanents}
 
 pub accepted_values : (t : Tree) → IsRead t.program → IsAccepted t → (k : ℕ) → Each (λ (q : Parameter). q.is_var ≡ false) (system_of t.program k).parameters

@@ -14,7 +14,7 @@ use Rattle.cp_resolved.specs.Fit.{nothing_declared}
 use Rattle.cp_resolved.specs.Judging.{Place, routine_place, routine_places, initial_place, parts_scopes, system_places, definition_places, definitions_places, part_places, parts_places, places_of, tokens_of}
 use Rattle.cp_resolved.specs.Openings.{Opening, with_routine, routine_openings, initial_opening, parts_scope, system_openings, definition_openings, definitions_openings, part_openings, parts_openings, openings_of}
 use Rattle.cp_resolved.proofs.agreeing.AgreeingProgram.{IsNumberedDefinition, AreNumberedDefinitions, IsNumberedPart, AreNumberedParts}
-use Rattle.cp_resolved.proofs.ScopeMeasures.{Measure, measure, routine_measure, routines_height, parts_height, IsHigh, definition_high, program_part_high, program_parts_high}
+use Rattle.cp_resolved.proofs.agreeing.ScopeMeasures.{Measure, measure, routine_measure, routines_height, parts_height, IsHigh, definition_high, program_part_high, program_parts_high}
 
 -- ---- what is said
 

@@ -29,7 +29,7 @@ use Rattle.cp_resolved.proofs.agreeing.AgreeingTypes.{IsFew}
 use Rattle.cp_resolved.proofs.agreeing.AgreeingWritten.{each_left, each_right}
 use Rattle.cp_resolved.proofs.agreeing.AgreeingBodies.{BodyWritten, RoutineResult, routine_agrees, RoutinesResult, routines_agree}
 use Rattle.cp_resolved.proofs.agreeing.AgreeingSystems.{InsideResult}
-use Rattle.cp_resolved.proofs.Opened.{slice_seam}
+use Rattle.cp_resolved.proofs.names.Opened.{slice_seam}
 use Rattle.cp_resolved.proofs.agreeing.RoutinesSeen.{IsNoRoutine, parts, groups, body_entry, body_finds, routine_or}
 
 -- ---- what is asked of each number

@@ -26,14 +26,14 @@ use Rattle.cp_resolved.specs.Small.{Each}
 use Rattle.cp_resolved.specs.Tokens.{all_tokens, definition_types, program_part_types, token_in, constants_among}
 use Rattle.cp_resolved.specs.TreeLayouts.{owner_in, layouts_of}
 use Rattle.cp_resolved.proofs.agreeing.DifferentTokens.{all_numbered}
-use Rattle.cp_resolved.proofs.EachStatement.{EachOf, each_of, IsSound, Inside, sound_of}
+use Rattle.cp_resolved.proofs.statements.EachStatement.{EachOf, each_of, IsSound, Inside, sound_of}
 use Rattle.cp_resolved.proofs.forms.FormedStatements.{Right, right_of}
 use Rattle.cp_resolved.proofs.forms.FormsOfTrees.{all_heard}
-use Rattle.cp_resolved.proofs.KnownStatements.{StatementKnown, statement_known}
+use Rattle.cp_resolved.proofs.statements.KnownStatements.{StatementKnown, statement_known}
 use Rattle.cp_resolved.proofs.declarations.Numbered.{AreInOrder, program_ordered}
-use Rattle.cp_resolved.proofs.OwnersKnown.{IsOwned, AreOwned, all_owned}
-use Rattle.cp_resolved.proofs.ScopeMeasures.{measure}
-use Rattle.cp_resolved.proofs.ScopesOfTrees.{scopes_law}
+use Rattle.cp_resolved.proofs.statements.OwnersKnown.{IsOwned, AreOwned, all_owned}
+use Rattle.cp_resolved.proofs.agreeing.ScopeMeasures.{measure}
+use Rattle.cp_resolved.proofs.agreeing.ScopesOfTrees.{scopes_law}
 use Rattle.cp_resolved.proofs.declarations.SmallBodies.{IsSmallOpening, read_opens}
 use Rattle.cp_resolved.proofs.declarations.SmallTexts.{read_few}
 use Rattle.cp_resolved.proofs.names.StepsOfTypes.{slice_end}

@@ -1,0 +1,13 @@
+pub mod CalleesKnown
+pub mod CallsJudged
+pub mod CallsKnown
+pub mod ComponentsCalled
+pub mod EachStatement
+pub mod ExpressionsJudged
+pub mod InitialsKnown
+pub mod KnownOfTrees
+pub mod KnownStatements
+pub mod NamedArguments
+pub mod OwnersKnown
+pub mod RoutinesNoted
+pub mod StatementsJudged
