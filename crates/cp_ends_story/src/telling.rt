@@ -1,5 +1,7 @@
 //! Ends of schedules of any length, in words or as JSON.
 
+ghost use Rattle.std.specs.Prelude.{◌≡◌};
+
 use crate::objects::json;
 use crate::subject::{Findings, Form, Subject, Told};
 use crate::texts::text;
@@ -12,14 +14,14 @@ use std::sync::ledger::{Blank, Ledger};
 
 /// The ends that are possible in schedules of any length, the values that can be displayed, and who may wait for ever, in words.
 pub fn ends_story(alloc: Global, subject: Subject<'_>, form: Form) -> Result<Told, AllocError> {
-    let findings = findings(alloc, subject)?;
+    let findings = found(alloc, subject)?;
     Ok(Told {
         is_whole: is_whole(&findings),
         text: written::<Brand>(alloc, subject, form, &findings, Blank::new(1))?,
     })
 }
 
-fn findings(alloc: Global, subject: Subject<'_>) -> Result<Findings, AllocError> {
+fn found(alloc: Global, subject: Subject<'_>) -> Result<Findings, AllocError> {
     let Subject {
         program,
         limits,

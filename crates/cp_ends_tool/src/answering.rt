@@ -1,5 +1,7 @@
 //! From the bytes of a source to the ends that are possible.
 
+ghost use Rattle.cp_ends.specs.Kept.{AreKept};
+
 use cp_check::check;
 use cp_ends::{Found, ends_report, search_ends};
 use cp_resolved::resolve;
@@ -117,7 +119,9 @@ fn waited(
     program: &Resolved,
     limits: Limits,
     found: &Found,
-) -> Result<Answer, AllocError> {
+) -> Result<Answer, AllocError>
+    requires kept { AreKept program.now found.now.states.known.entries }
+{
     let graph = graph_of(alloc, program, limits, found)?;
     let waits = who_waits(alloc, &graph, &found.states)?;
     Ok(Answer {

@@ -52,7 +52,7 @@ pub fn mark_ends(alloc: Global, subject: Subject<'_>, text: &str) -> Result<Mark
                     text: String::from_str(alloc, "waiting can't be asked with --gates any\n")?,
                 });
             }
-            marked(alloc, subject, &list)
+            mark_list(alloc, subject, &list)
         }
         Reading::Misread { wanted, place } => Ok(Marked {
             mark: Mark::Misread,
@@ -61,7 +61,11 @@ pub fn mark_ends(alloc: Global, subject: Subject<'_>, text: &str) -> Result<Mark
     }
 }
 
-fn marked(alloc: Global, subject: Subject<'_>, list: &[Expectation]) -> Result<Marked, AllocError> {
+fn mark_list(
+    alloc: Global,
+    subject: Subject<'_>,
+    list: &[Expectation],
+) -> Result<Marked, AllocError> {
     let Subject {
         program,
         limits,
