@@ -1,5 +1,5 @@
 -- What words lead to, with the first word for each: the shortest, and of the shortest the first in dictionary order.
-use Rattle.std.specs.Prelude.{◌≡◌, ◌≢◌, ◌⊎◌, ◌≤◌, ◌==◌, ◌&&◌, ◌||◌, nat_lt, ℕ, List, [], ◌∷◌, Bool, true, false, Contains, All, length}
+use Rattle.std.specs.Prelude.{◌≡◌, ◌≢◌, ◌⊎◌, ◌≤◌, ◌==◌, ◌&&◌, ◌||◌, nat_lt, nat_le, filter, ℕ, List, [], ◌∷◌, Bool, true, false, Contains, All, length}
 use Rattle.std.specs.List.{AllPairs}
 
 -- dictionary order: the first word is the second or comes before it
@@ -39,3 +39,11 @@ pub record AreFirstOnes {A : Type 0} (n : ℕ) (P : A → List ℕ → Type 0) (
 -- a word of at most d numbers for which P holds
 abbrev pub Within : {A : Type 0} → ℕ → (A → List ℕ → Type 0) → A → List ℕ → Type 0
 Within d P a word = P a word × (length word ≤ d)
+
+-- the word of a thing has at most so many numbers
+abbrev pub is_within : {A : Type 0} → ℕ → A × List ℕ → Bool
+is_within d e = nat_le (length e.1) d
+
+-- the things with such words
+abbrev pub those_within : {A : Type 0} → ℕ → List (A × List ℕ) → List (A × List ℕ)
+those_within d found = filter (is_within d) found

@@ -1,3 +1,4 @@
+pub mod Answer
 pub mod Arrivals
 pub mod Ends
 pub mod Firsts

@@ -4,7 +4,7 @@ use Rattle.std.specs.Prelude.{◌≢◌, All, Contains, filter, nat_le}
 use Rattle.std.proofs.lemmas.Bool.{le-leb, leb-true}
 use Rattle.std.proofs.lemmas.List.Elements.{All-contains, All-contains_itself, All-filter, All-head, All-tail, filter_passes}
 use Rattle.std.proofs.lemmas.List.Kept.{AllPairs-filter}
-use Rattle.cp_ends.specs.Firsts.{is_up_to, HasWord, AreFirsts, AreFirstOnes, Within}
+use Rattle.cp_ends.specs.Firsts.{is_within, is_up_to, HasWord, AreFirsts, AreFirstOnes, Within}
 use Rattle.cp_ends.proofs.Searching.Words.{up_to_length}
 use Rattle.cp_ends.proofs.Searching.Lists.{Before, contains_cases, contains_first, contains_later, one_word}
 use Rattle.cp_ends.proofs.Searching.Adding.{AreGood, IsKept}
@@ -85,10 +85,6 @@ module _ {A : Type 0} (P : A → List ℕ → Type 0) (found : List (A × List �
       by a w (inr full) = inr full
 
 -- ---- those with short words
-
--- the word has at most so many numbers
-abbrev pub is_within : {A : Type 0} → ℕ → A × List ℕ → Bool
-is_within d e = nat_le (length e.1) d
 
 module _ {A : Type 0} (P : A → List ℕ → Type 0) (found : List (A × List ℕ)) (last : List ℕ) (good : AreGood P found last) (d : ℕ) where
   abbrev short : List (A × List ℕ)

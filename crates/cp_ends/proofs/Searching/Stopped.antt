@@ -4,7 +4,7 @@ use Rattle.std.specs.Prelude.{◌≢◌, All, AllPairs, Some, None, filter, slic
 use Rattle.std.proofs.lemmas.Bool.{cases_lt}
 use Rattle.std.proofs.lemmas.Option.{same_Some, slice_get_cases, slice_get_within}
 use Rattle.cp_ends.specs.Graph.{Place, Graph, ArrivesAt, LeadsToPlace, LeadsToEnd, ShowsLast}
-use Rattle.cp_ends.specs.Firsts.{is_up_to, AreFirsts, AreFirstOnes, Within}
+use Rattle.cp_ends.specs.Firsts.{is_up_to, is_within, AreFirsts, AreFirstOnes, Within}
 use Rattle.cp_ends.specs.Searched.{Findings, Tests, has, with_values, gone_on, searched}
 use Rattle.cp_ends.proofs.Searching.Words.{up_to_length}
 use Rattle.cp_ends.proofs.Searching.Lists.{pair_at, place_of}
@@ -14,7 +14,7 @@ use Rattle.cp_ends.proofs.Searching.Growing.{Extends, extends_joined, going_at, 
 use Rattle.cp_ends.proofs.Searching.Going.{AreExact, IsRecorded, IsSound, going_sound, recorded_stays, shown_sound}
 use Rattle.cp_ends.proofs.Searching.Stages.{searched_leads, searched_recorded, searched_sound, searched_start}
 use Rattle.cp_ends.proofs.Searching.Reached.{IsClosed, reached_end, reached_place, reached_value}
-use Rattle.cp_ends.proofs.Searching.Firsts.{are_first_ones_within, are_firsts_within, is_within}
+use Rattle.cp_ends.proofs.Searching.Firsts.{are_first_ones_within, are_firsts_within}
 
 -- x is the place at n, and its edges below c were taken
 module _ {S E V : Type 0} (g : Graph S E V) (t : Tests S E V) (exact : AreExact g t) (bounded : IsBounded g) (n : ℕ) (x : S × List ℕ) (c : ℕ) (at : slice_get (searched g t n).states n ≡ Some x) (may : g.may x.0 c ≡ true) where
@@ -81,6 +81,9 @@ module _ {S E V : Type 0} (g : Graph S E V) (t : Tests S E V) (exact : AreExact 
   -- and x was not
   pub stopped_here : (i : ℕ) (y : S × List ℕ) → i < n → slice_get (searched g t n).states i ≡ Some y → y.0 ≢ x.0
   stopped_here i y lt to = pair_at (λ (e k : S × List ℕ). e.0 ≢ k.0) found.states i n y x found_sound.states.once lt (going_at g t x c (searched g t n) i y to) found_here
+
+  pub stopped_states : AreFirsts (Within (length x.1) (LeadsToPlace g)) (filter (is_within (length x.1)) (gone_on g t x c (searched g t n)).states)
+  stopped_states = are_firsts_within (LeadsToPlace g) shown.states (x.1 ++ c ∷ []) stopped_sound.states (length x.1) (λ s w leads within. reached_place g t shown (length x.1) start closed s w leads within)
 
   pub stopped_ends : AreFirsts (Within (length x.1) (LeadsToEnd g)) (filter (is_within (length x.1)) (gone_on g t x c (searched g t n)).ends)
   stopped_ends = are_firsts_within (LeadsToEnd g) shown.ends (x.1 ++ c ∷ []) stopped_sound.ends (length x.1) (λ e w leads within. reached_end g t shown (length x.1) start closed e w leads within)
