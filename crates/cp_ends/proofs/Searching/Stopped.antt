@@ -1,12 +1,13 @@
 -- When one place too many is found: how many places there are at least, and what shorter words lead to was found, each with its first word.
-use Rattle.std.proofs.Common.{◌≡◌, ◌⊎◌, inl, inr, ◌<◌, ◌≤◌, ℕ, true, false, List, [], ◌∷◌, ◌++◌, length, get_or, ap, sym, ◌∙◌, arith}
+use Rattle.std.proofs.Common.{◌≡◌, ◌⊎◌, inl, inr, ◌+◌, ◌<◌, ◌≤◌, ℕ, true, false, List, [], ◌∷◌, ◌++◌, length, get_or, ap, sym, ◌∙◌, arith}
 use Rattle.std.specs.Prelude.{◌≢◌, All, AllPairs, Some, None, filter, slice_get}
 use Rattle.std.proofs.lemmas.Bool.{cases_lt}
 use Rattle.std.proofs.lemmas.Option.{same_Some, slice_get_cases, slice_get_within}
 use Rattle.cp_ends.specs.Graph.{Place, Graph, ArrivesAt, LeadsToPlace, LeadsToEnd, ShowsLast}
 use Rattle.cp_ends.specs.Firsts.{is_up_to, is_within, AreFirsts, AreFirstOnes, Within}
 use Rattle.cp_ends.specs.Searched.{Findings, Tests, has, with_values, gone_on, searched}
-use Rattle.cp_ends.proofs.Searching.Words.{up_to_length}
+use Rattle.std.proofs.lemmas.List.Elements.{All-weaker}
+use Rattle.cp_ends.proofs.Searching.Words.{up_to_length, push_length}
 use Rattle.cp_ends.proofs.Searching.Lists.{pair_at, place_of}
 use Rattle.cp_ends.proofs.Searching.Adding.{AreGood, good_push, has_none}
 use Rattle.cp_ends.proofs.Searching.Arrivals.{IsBounded, arrives_push}
@@ -106,3 +107,8 @@ module _ {S E V : Type 0} (g : Graph S E V) (t : Tests S E V) (exact : AreExact 
     -- no two of them are the same
     pub stopped_apart : AllPairs (λ e h. e.0 ≢ h.0) ((gone_on g t x c (searched g t n)).states ++ (s, x.1 ++ c ∷ []) ∷ [])
     stopped_apart = all_good.once
+
+    -- and the word of each has one number more than that of x, at most
+    pub stopped_near : All (λ e. length e.1 ≤ length x.1 + 1) ((gone_on g t x c (searched g t n)).states ++ (s, x.1 ++ c ∷ []) ∷ [])
+    stopped_near =
+        All-weaker (λ (e : S × List ℕ). is_up_to e.1 (x.1 ++ c ∷ []) ≡ true) (λ (e : S × List ℕ). length e.1 ≤ length x.1 + 1) (λ e up. omega (arith, up_to_length e.1 (x.1 ++ c ∷ []) up, push_length x.1 c)) (found.states ++ (s, x.1 ++ c ∷ []) ∷ []) all_good.upto
