@@ -1,5 +1,10 @@
 pub mod Answering
+pub mod Arriving
 pub mod Keeping
+pub mod LocalOutput
+pub mod Returning
 pub mod Searching
+pub mod Stepping
+pub mod Stretches
 pub mod Wanted
 pub mod words
