@@ -7,4 +7,5 @@ pub mod Growing
 pub mod Lists
 pub mod Reached
 pub mod Stages
+pub mod Stopped
 pub mod Words
