@@ -1,3 +1,4 @@
 pub mod Keeping
 pub mod Searching
+pub mod Unwinding
 pub mod Wanted

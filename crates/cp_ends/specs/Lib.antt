@@ -1,7 +1,7 @@
+pub mod Answer
 pub mod Arrivals
 pub mod Ends
 pub mod Firsts
 pub mod Graph
 pub mod Holds
-pub mod Kept
 pub mod Searched
