@@ -6,5 +6,6 @@ pub mod Returning
 pub mod Searching
 pub mod Stepping
 pub mod Stretches
+pub mod Unwinding
 pub mod Wanted
 pub mod words

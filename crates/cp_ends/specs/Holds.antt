@@ -1,11 +1,12 @@
 -- What the findings of the code stand for.
-use Rattle.std.specs.Prelude.{◌≡◌, ◌<◌, ℕ, List, [], ◌∷◌, ◌++◌, map, All, Some, Bool, nat_eq, slice_get}
+use Rattle.std.specs.Prelude.{◌≡◌, ◌<◌, ℕ, List, [], ◌∷◌, ◌++◌, map, All, Option, None, Some, Bool, true, false, nat_eq, slice_get}
 use lib.Pointwise.{pointwise}
 use Rattle.cp_slots.specs.Tables.{Tables}
 use Rattle.cp_key.specs.Key.{key_of}
 use Rattle.cp_key.specs.Room.{IsMachineOf}
 use Rattle.cp_machine.specs.declared.shown.Shown.{Shown}
 use Rattle.cp_machine.specs.System.{Machine}
+use Rattle.cp_ends.specs.Graph.{Arrival}
 use Rattle.cp_ends.specs.Searched.{Findings}
 use Rattle.cp_ends.specs.declared.end.End.{End}
 use Rattle.cp_ends.specs.declared.found.Found.{Found}
@@ -29,6 +30,19 @@ abbrev pub IsBefore : ℕ → Origin → Type 0
 IsBefore n Start = Unit {0}
 IsBefore n (Choice at number) = at < n
 
+-- the origin of the state of this number
+abbrev pub origin_or : Option (StateKey × Origin) → Origin
+origin_or None = Start
+origin_or (Some e) = e.1
+
+abbrev pub origin_at : List (StateKey × Origin) → ℕ → Origin
+origin_at entries at = origin_or (slice_get entries at)
+
+-- whether there is a state of this number, which is this machine
+abbrev pub IsAt : List (Machine × List ℕ) → ℕ → Bool → Machine → Type 0
+IsAt states at true m = (x : Machine × List ℕ) × (slice_get states at ≡ Some x) × (m ≡ x.0)
+IsAt states at false m = slice_get states at ≡ None
+
 -- the entries are the states, each with its word
 pub record AreStates (r : Tables) (entries : List (StateKey × Origin)) (states : List (Machine × List ℕ)) : Type 0 where
   pub keys : map (λ e. e.0.bytes.items) entries ≡ map (λ x. key_of x.0) states
@@ -50,8 +64,15 @@ end_origin e = (e.end, e.origin)
 abbrev pub value_origin : FoundValue → Shown × Origin
 value_origin v = (v.value, v.origin)
 
+-- states, ends and values, each with its word
+abbrev pub SlotFindings : Type 0
+SlotFindings = Findings Machine End Shown
+
+abbrev pub SlotArrival : Type 0
+SlotArrival = Arrival Machine End Shown
+
 -- the findings of the code
-pub record Holds (r : Tables) (found : Found) (f : Findings Machine End Shown) : Type 0 where
+pub record Holds (r : Tables) (found : Found) (f : SlotFindings) : Type 0 where
   pub states : AreStates r found.states.known.entries f.states
   pub ends : AreFound f.states (map end_origin found.ends.items) f.ends
   pub values : AreFound f.states (map value_origin found.values.items) f.values

@@ -4,5 +4,4 @@ pub mod Ends
 pub mod Firsts
 pub mod Graph
 pub mod Holds
-pub mod Kept
 pub mod Searched
