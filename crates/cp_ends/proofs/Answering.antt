@@ -10,7 +10,7 @@ use Rattle.cp_machine.specs.declared.shown.Shown.{Shown}
 use Rattle.cp_run.specs.System.{System}
 use Rattle.cp_run.specs.Run.{may}
 use Rattle.cp_endless.specs.Forgetting.{forgetting_system}
-use Rattle.cp_ends.specs.Answer.{LeadsToState, IsWhole, HasTooMany, IsCutShort}
+use Rattle.cp_ends.specs.Whole.{LeadsToState, IsWhole, HasTooMany, IsCutShort}
 use Rattle.cp_ends.specs.Arrivals.{ends_graph}
 use Rattle.cp_ends.specs.Ends.{EndsSo, ShowsSo}
 use Rattle.cp_ends.specs.Firsts.{Within, is_within, those_within}
