@@ -3,9 +3,11 @@ pub mod Arriving
 pub mod Keeping
 pub mod LocalOutput
 pub mod Returning
+pub mod Saying
 pub mod Searching
 pub mod Stepping
 pub mod Stretches
+pub mod Telling
 pub mod Unwinding
 pub mod Wanted
 pub mod words
