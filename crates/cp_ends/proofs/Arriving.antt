@@ -7,18 +7,16 @@ use Rattle.cp_machine.specs.declared.event.Event.TheVariants.{Local, Kernel, End
 use Rattle.cp_machine.specs.declared.gates.Gates.{Gates}
 use Rattle.cp_machine.specs.declared.shown.Shown.{Shown}
 use Rattle.cp_machine.specs.System.{Machine, is_pending, is_ready}
-use Rattle.cp_run.specs.declared.outcome.OutcomeKind.{OutcomeKind}
 use Rattle.cp_run.specs.declared.outcome.Turn.{Turn}
-use Rattle.cp_run.specs.declared.outcome.Turn.TheVariants.{Over, Due, Goes}
+use Rattle.cp_run.specs.declared.outcome.Turn.TheVariants.{Due}
 use Rattle.cp_run.specs.System.{System}
 use Rattle.cp_run.specs.Run.{settled_turn, those_below, turn_after, turn_among, turn_at}
 use Rattle.cp_run.specs.Slots.{slots}
 use Rattle.cp_endless.specs.Forgetting.{forgetting_system}
 use Rattle.cp_endless.specs.Silent.{silent_slots, without_output}
 use Rattle.cp_ends.specs.Arrivals.{arrival_by, first_arrival, next_arrival, stretch_arrival}
-use Rattle.cp_ends.specs.Graph.{Arrival, End, Goal, Place}
+use Rattle.cp_ends.specs.Graph.{Arrival}
 use Rattle.cp_ends.specs.declared.end.End as code
-use Rattle.cp_ends.specs.declared.end.End.TheVariants as end
 
 module _ {S : Type 0} (sys : System S) (forget : S → S) where
   abbrev quiet : System S

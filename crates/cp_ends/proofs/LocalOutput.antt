@@ -15,7 +15,6 @@ use Rattle.cp_store.specs.declared.memory.Address.{Address}
 use Rattle.cp_store.specs.declared.memory.Address.TheVariants as address
 use Rattle.cp_store.specs.Sets as sets
 use Rattle.cp_store.specs.Values.{ranged, is_true}
-use Rattle.cp_machine.specs.declared.event.Event.{Event}
 use Rattle.cp_machine.specs.declared.process.Entry.{Entry}
 use Rattle.cp_machine.specs.declared.process.Entry.TheVariants.{Rest, Successor, Return, InitEnd}
 use Rattle.cp_machine.specs.declared.shown.Shown.{Shown}
@@ -23,7 +22,7 @@ use Rattle.cp_machine.specs.declared.state.TheConstants.{LIMIT}
 use Rattle.cp_machine.specs.Calls.{called_in, called_by, start_inside, started, delayed_in, delay_at, continued_from, continue_at}
 use Rattle.cp_machine.specs.Machine.{Machine, thread_at, is_initialised, is_uninitialised, is_unstarted, phase_at, with_stack}
 use Rattle.cp_machine.specs.Memory.{value_of, set_of, address_of, component_of, arguments_of}
-use Rattle.cp_machine.specs.Stack.{rest_of, from_end}
+use Rattle.cp_machine.specs.Stack.{from_end}
 use Rattle.cp_machine.specs.Statements.{Stepped, with_value, arm_for, is_beyond, next_value, succeeded, local}
 use Rattle.cp_machine.specs.Step.{act, take_top, step_at, is_local}
 

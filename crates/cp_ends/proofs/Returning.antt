@@ -1,5 +1,5 @@
 -- Whether a stretch that was cut comes back to where it is, by what is seen of it in so many steps.
-use Rattle.std.proofs.Common.{◌≡◌, ◌∙◌, ◌+◌, ◌<◌, ◌≤◌, ℕ, zero, suc, List, [], ◌∷◌, ◌++◌, Bool, true, false, if◌then◌else◌, Option, None, Some, refl, sym, ap, arith}
+use Rattle.std.proofs.Common.{◌≡◌, ◌∙◌, ◌+◌, ◌<◌, ℕ, zero, suc, List, [], ◌∷◌, ◌++◌, Bool, true, false, if◌then◌else◌, Option, None, Some, refl, sym, ap, arith}
 use Rattle.std.specs.Prelude.{◌==◌, ◌&&◌, ◌||◌}
 use Rattle.cp_machine.specs.declared.shown.Shown.{Shown}
 use Rattle.cp_run.specs.declared.outcome.Turn.{Turn}
@@ -11,7 +11,7 @@ use Rattle.cp_endless.specs.Moments.{Moment, stretch_moments}
 use Rattle.cp_endless.specs.Rounds.{spot_after, spot_by}
 use Rattle.cp_endless.specs.Shown.{shown_at}
 use Rattle.cp_ends.specs.Arrivals.{cut_arrival, first_return, has_call, is_call, return_at, return_within}
-use Rattle.cp_ends.specs.Graph.{Goal, End, Arrival}
+use Rattle.cp_ends.specs.Graph.{End, Arrival}
 use Rattle.cp_ends.specs.declared.end.End as code
 use Rattle.cp_ends.specs.declared.end.End.TheVariants.{Alone, Spins}
 use Rattle.cp_ends.proofs.Stretches.{distance, moments_next}

@@ -1,5 +1,5 @@
 -- A step of the slot machine, after which what it displayed is taken away.
-use Rattle.std.proofs.Common.{◌≡◌, ◌∙◌, ℕ, List, [], ◌++◌, Bool, true, false, refl, sym, ap, subst}
+use Rattle.std.proofs.Common.{◌≡◌, ◌∙◌, ℕ, List, ◌++◌, Bool, true, false, refl, sym, ap, subst}
 use Rattle.cp_slots.specs.Tables.{Tables}
 use Rattle.cp_machine.specs.declared.event.Event.{Event}
 use Rattle.cp_machine.specs.declared.event.Event.TheVariants.{Local, Kernel, Ended as ProcessEnded, Fault, OutputFull}

@@ -151,6 +151,10 @@ module _ {S : Type 0} (sys : System S) where
       ∙ ap (λ y. node_at y (stretch sys d.0 (sys.step t q)) turn) (sym e)
       ∙ is (stretch sys d.0 (sys.step t q))
 
+-- before the first step
+pub spot_before : {S : Type 0} (sys : System S) (s : S) (p : ℕ) → spot_after sys 0 s p ≡ Some (s, p)
+spot_before sys s p = refl
+
 -- ---- what is shown
 
 -- before the first step

@@ -1,4 +1,4 @@
-use Rattle.std.proofs.Common.{◌≡◌, ◌∙◌, ◌<◌, ◌++◌, true, false, refl, sym, ap, arith}
+use Rattle.std.proofs.Common.{◌≡◌, ◌∙◌, ◌<◌, ◌++◌, true, false, sym, ap, arith}
 use Rattle.cp_machine.specs.System.{machine_of, is_ready, is_pending}
 use Rattle.cp_run.specs.Slots.{slots}
 use Rattle.cp_run.specs.Table.{each}
@@ -9,7 +9,7 @@ use Rattle.cp_ends.specs.Arrivals.{return_within, stretch_arrival}
 use Rattle.cp_ends.specs.Graph.{End}
 use Rattle.cp_ends.specs.Holds.{same_key}
 use Rattle.cp_ends.proofs.Stepping.{if_goes}
-use Rattle.cp_ends.proofs.Stretches.{cut_goal, cut_shown, cut_there, due_there, over_there, spot_next, told_before, told_next}
+use Rattle.cp_ends.proofs.Stretches.{cut_goal, cut_shown, cut_there, due_there, over_there, spot_before, spot_next, told_before, told_next}
 use Rattle.cp_ends.proofs.choosing.stretch.Goals as goal
 
 pub loop-init : goal.loop-init
@@ -19,7 +19,7 @@ loop-init g c =
       ready = c.requires.ready;
       free = c.requires.free;
       quiet = c.requires.quiet;
-      spot = refl;
+      spot = spot_before (silent_slots c.args.program.now c.args.limits.gates) (machine_of c.args.state.now) c.args.pid;
       told = told_before (slots c.args.program.now c.args.limits.gates) (silent_slots c.args.program.now c.args.limits.gates) (machine_of c.args.state.now) c.args.pid c.args.told.now.items;
     }
 

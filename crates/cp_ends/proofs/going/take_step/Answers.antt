@@ -1,4 +1,4 @@
-use Rattle.std.proofs.Common.{◌≡◌, ◌∙◌, ◌++◌, ◌<◌, [], length, arith, sym, ap}
+use Rattle.std.proofs.Common.{◌∙◌, ◌++◌, ◌<◌, [], length, arith, sym, ap}
 use Rattle.cp_machine.specs.System.{machine_of, step_at}
 use Rattle.cp_machine.specs.Statements.{Stepped}
 use Rattle.cp_machine.proofs.CallerLemmas.{local_ready, ready_thread, threads_count}

@@ -1,4 +1,4 @@
-use Rattle.std.proofs.Common.{◌≡◌, ◌∙◌, ◌+◌, ◌<◌, true, false, if◌then◌else◌, refl, sym, ap, arith}
+use Rattle.std.proofs.Common.{◌≡◌, ◌∙◌, ◌+◌, ◌<◌, true, false, if◌then◌else◌, sym, ap, arith}
 use Rattle.std.specs.Prelude.{◌==◌, ◌&&◌, ◌||◌}
 use Rattle.std.proofs.lemmas.Bool.{eq-eqb, ne_eqb}
 use Rattle.cp_machine.specs.System.{machine_of, is_ready, is_pending}
@@ -7,12 +7,12 @@ use Rattle.cp_run.specs.Table.{each}
 use Rattle.cp_endless.specs.Moments.{stretch_moments}
 use Rattle.cp_endless.specs.Shown.{shown_at}
 use Rattle.cp_endless.specs.Silent.{silent_slots}
-use Rattle.cp_ends.specs.Arrivals.{has_call, return_within}
+use Rattle.cp_ends.specs.Arrivals.{return_within}
 use Rattle.cp_ends.specs.Holds.{same_key}
 use Rattle.cp_ends.specs.declared.end.End.TheVariants.{Alone, Spins}
 use Rattle.cp_ends.proofs.Returning.{called_next, is_back, never_back, none_called, none_yet, not_back, round_there}
 use Rattle.cp_ends.proofs.Stepping.{if_goes}
-use Rattle.cp_ends.proofs.Stretches.{spot_next, spot_none, stops, told_before, told_next}
+use Rattle.cp_ends.proofs.Stretches.{spot_before, spot_next, spot_none, stops, told_before, told_next}
 use Rattle.cp_ends.proofs.round.round_of.Goals as goal
 use Rattle.cp_ends.proofs.round.round_of.Goals.{then-is_called, else-is_called, then-is_called-2, else-is_called-2, else-going-pid-via-then-going-pid+in_ok-is_at+else-branch, else-going-pid-via-else-going-pid}
 
@@ -26,7 +26,7 @@ loop-init g c =
       ready = c.requires.ready;
       free = c.requires.free;
       quiet = c.requires.quiet;
-      spot = refl;
+      spot = spot_before quiet s c.args.pid;
       told = told_before sys quiet s c.args.pid c.args.told.now.items;
       called = sym (none_called quiet s c.args.pid);
       none = none_yet quiet same_key s c.args.pid;
