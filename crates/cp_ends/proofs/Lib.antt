@@ -1,3 +1,4 @@
 pub mod Keeping
 pub mod Wanted
 pub mod words
+pub mod named

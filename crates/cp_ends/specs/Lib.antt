@@ -4,4 +4,5 @@ pub mod Firsts
 pub mod Graph
 pub mod Holds
 pub mod Kept
+pub mod Named
 pub mod Searched

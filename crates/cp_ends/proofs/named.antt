@@ -1,0 +1,4 @@
+pub mod Keys
+pub mod Kinds
+pub mod Later
+pub mod OnNames
