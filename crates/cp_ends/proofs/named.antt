@@ -1,3 +1,4 @@
+pub mod EachLimit
 pub mod Graphs
 pub mod Keys
 pub mod Kinds

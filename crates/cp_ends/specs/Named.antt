@@ -92,13 +92,19 @@ pub record AreValuesOnNames (t : Tree) (g : Gates) (steps : ℕ) (looked : Optio
 
 -- ---- where every state was gone on from
 
+-- no end is at the limit of steps, but such as are seen to go on for ever
+abbrev pub HasNoCut : List (End × List ℕ) → Type 0
+HasNoCut ends = (word : List ℕ) → Contains ends (Over StepLimit, word) → ⊥
+
 -- Of the program nothing else is possible, in schedules of any length: the kinds of these ends are all, in tables of whatever number of
--- choices too. Where no end is at the limit of steps but such as go on for ever, the same holds for every greater limit.
+-- choices too. Where no end is at the limit of steps but such as go on for ever, the same holds for every greater limit, and so it does of
+-- the values.
 pub record IsAnswerOnNames (t : Tree) (g : Gates) (steps most : ℕ) (ends : List (End × List ℕ)) (values : List (Shown × List ℕ)) : Type 0 where
   pub all_ends : AreEndsOnNames t g steps None ends
   pub all_values : AreValuesOnNames t g steps None most values
   pub settled : IsSettledOf t g steps (kinds_of ends)
-  pub more_steps : ((word : List ℕ) → Contains ends (Over StepLimit, word) → ⊥) → (more : ℕ) → IsSettledOf t g (more + steps) (kinds_of ends)
+  pub more_steps : HasNoCut ends → (more : ℕ) → IsSettledOf t g (more + steps) (kinds_of ends)
+  pub more_values : HasNoCut ends → (more : ℕ) (v : Shown) (word : List ℕ) → ShowsAfter (named t g) named_without_output (more + steps) word v → IsValueTold most values v word
 
 -- on slots: all states, ends and values, each with its first word
 pub record IsAnswerOnSlots (r : Tables) (gates : slot_gates.Gates) (steps most : ℕ) (states : List (Machine × List ℕ)) (ends : List (End × List ℕ)) (values : List (Shown × List ℕ)) : Type 0 where

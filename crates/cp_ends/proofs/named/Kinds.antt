@@ -97,7 +97,7 @@ module _ {S : Type 0} (sys : System S) (forget : S → S) (eq : S → S → Bool
     known_state : (word : List ℕ) (s : S) → LeadsTo quiet steps word (Choosing s) → Contains those s
     known_state word s leads = let h = all_states.all s word leads in contains_map (λ (x : S × List ℕ). x.0) states (s, h.0) h.1
 
-    known_end : (word : List ℕ) (kind : OutcomeKind) → EndsAfter quiet steps word kind → Contains (kinds_of ends) kind
+    pub known_end : (word : List ℕ) (kind : OutcomeKind) → EndsAfter quiet steps word kind → Contains (kinds_of ends) kind
     known_end word kind e =
         let o = over_so word kind e in
         let h = all_ends.all o.0 word o.2 in
@@ -146,7 +146,7 @@ module _ {S : Type 0} (sys : System S) (forget : S → S) (eq : S → S → Bool
       goes_round word (Alone q) is x = (x.begin, x.first, x.sets_out, round_of x.begin x.first x.repeats)
       goes_round word (Spins q) is x = (x.begin, x.first, x.sets_out, round_of x.begin x.first x.repeats)
 
-      cut_round : (word : List ℕ) (x : Node S) → LeadsTo quiet steps word x → IsCut x → GoesRound word
+      pub cut_round : (word : List ℕ) (x : Node S) → LeadsTo quiet steps word x → IsCut x → GoesRound word
       cut_round word x leads cut =
           let c = cut_node x cut in
           let o = over_so word StepLimit (c.0, leads ∙ ap (λ (n : Node S). Some n) c.1) in

@@ -23,7 +23,7 @@ distance zero b le = (b, omega arith)
 distance (suc a) zero le = absurd (omega (arith, le))
 distance (suc a) (suc b) le = let x = distance a b (omega (arith, le)) in (x.0, (let e = x.1 in omega (arith, e)))
 
-each_append : {A B : Type 0} (f : A → List B) (xs ys : List A) → each f (xs ++ ys) ≡ each f xs ++ each f ys
+pub each_append : {A B : Type 0} (f : A → List B) (xs ys : List A) → each f (xs ++ ys) ≡ each f xs ++ each f ys
 each_append f [] ys = refl
 each_append f (x ∷ xs) ys = ap (λ l. f x ++ l) (each_append f xs ys) ∙ sym (append_assoc (f x) (each f xs) (each f ys))
 
@@ -48,7 +48,7 @@ module _ {S : Type 0} (sys : System S) where
       by (turn.Goes r) e on = on r e
 
   -- the moments of an edge are those of its stretch
-  spot_moments : (n : ℕ) (e : S × Turn) (s : S) (p : ℕ) → edge_spot sys e ≡ Some (s, p) → edge_moments sys n e ≡ stretch_moments sys n s p
+  pub spot_moments : (n : ℕ) (e : S × Turn) (s : S) (p : ℕ) → edge_spot sys e ≡ Some (s, p) → edge_moments sys n e ≡ stretch_moments sys n s p
   spot_moments n (t, turn.Over kind) s p spot = absurd (cc)
   spot_moments n (t, turn.Due) s p spot = absurd (cc)
   spot_moments n (t, turn.Goes q) s p spot = ap (λ (x : S × ℕ). stretch_moments sys n x.0 x.1) (some_same (t, q) (s, p) spot)

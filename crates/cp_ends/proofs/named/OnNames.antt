@@ -14,14 +14,13 @@ use Rattle.cp_run.specs.declared.outcome.OutcomeKind.{OutcomeKind}
 use Rattle.cp_run.specs.declared.outcome.OutcomeKind.TheVariants.{StepLimit}
 use Rattle.cp_run.specs.Slots.{slots}
 use Rattle.cp_run.specs.System.{System}
-use Rattle.cp_refine.specs.Named.{named, gates_of}
+use Rattle.cp_refine.specs.Named.{gates_of}
 use Rattle.cp_refine.proofs.Meaning.{meaning_law}
 use Rattle.cp_endless.specs.Layers.{IsPossibleTo}
 use Rattle.cp_endless.specs.Meaning.{MeansTheSame}
 use Rattle.cp_endless.specs.Reachable.{EndsAfter}
 use Rattle.cp_endless.specs.Repeats.{EndsAtEachLimit}
-use Rattle.cp_endless.specs.Shown.{ShowsAfter}
-use Rattle.cp_endless.specs.Silent.{ShowsLess, without_output, silent_slots, named_without_output, silent_named}
+use Rattle.cp_endless.specs.Silent.{ShowsLess, without_output, silent_slots, silent_named}
 use Rattle.cp_endless.proofs.names.Meant.{endless_meaning, settled_meaning}
 use Rattle.cp_endless.proofs.possible.Tables.{witnesses}
 use Rattle.cp_endless.proofs.slots.Output.{slots_forget}
@@ -32,6 +31,7 @@ use Rattle.cp_ends.specs.Holds.{same_key}
 use Rattle.cp_ends.specs.Named.{AnswerMeaningLaw, AnswerToMeaningLaw, AreEndsOnNames, AreValuesOnNames, EndsOnNames, RunsOnNames, ShowsOnNames, IsAnswerOnSlots, IsAnswerOnNames, IsAnswerToOnSlots, IsAnswerToOnNames, IsLookedAt, IsSchedule, IsTold, IsValueTold, kind_of, kinds_of}
 use Rattle.cp_ends.specs.declared.end.End.{End}
 use Rattle.cp_ends.specs.declared.end.End.TheVariants.{Over, Alone, Spins}
+use Rattle.cp_ends.proofs.named.EachLimit.{shows_early}
 use Rattle.cp_ends.proofs.named.Keys.{key_same, key_self}
 use Rattle.cp_ends.proofs.named.Kinds.{contains_map, contains_unmap, so_over, over_kind, over_so, are_settled, settled_more, those}
 use Rattle.cp_ends.proofs.named.Later.{again_shown, again_ends}
@@ -124,14 +124,11 @@ module _ (t : Tree) (r : Tables) (g : Gates) (read : IsRead t.program) (ok : IsA
 
     module _ (looked : Option ℕ) (most : ℕ) (values : List (Shown × List ℕ)) (firsts : AreFirstOf looked (ShowsSo (slots r (gates_of g)) without_output steps) values)
         (all : (v : Shown) (word : List ℕ) → IsLookedAt looked word → ShowsSo (slots r (gates_of g)) without_output steps v word → HasWord values v ⊎ ((length values ≡ most) × All (λ x. is_up_to x.1 word ≡ true) values)) where
-      value_told : (v : Shown) (word : List ℕ) → IsLookedAt looked word → ShowsAfter (named t g) named_without_output steps word v → IsValueTold most values v word
-      value_told v word at s = ⊎_elim
+      so_told : (v : Shown) (word : List ℕ) → IsLookedAt looked word → ShowsSo (slots r (gates_of g)) without_output steps v word → IsValueTold most values v word
+      so_told v word at so = ⊎_elim
           (λ (h : HasWord values v). inl (h.0, h.1, firsts.first v h.0 word h.1 so))
           (λ (full : (length values ≡ most) × All (λ (x : Shown × List ℕ). is_up_to x.1 word ≡ true) values). inr full)
           (all v word at so)
-        where
-          so : ShowsSo (slots r (gates_of g)) without_output steps v word
-          so = inl ((means steps).values.there word v s)
 
       are_values : AreValuesOnNames t g steps looked most values
       are_values =
@@ -139,7 +136,7 @@ module _ (t : Tree) (r : Tables) (g : Gates) (read : IsRead t.program) (ok : IsA
             looked_at = firsts.looked_at;
             shown = λ v word c. shows_so v word (firsts.so v word c);
             first = λ v word other c s. firsts.first v word other c (inl ((means steps).values.there other v s));
-            all = value_told;
+            all = λ v word at s. so_told v word at (inl ((means steps).values.there word v s));
           }
 
     answer : (most : ℕ) (states : List (Machine × List ℕ)) (ends : List (End × List ℕ)) (values : List (Shown × List ℕ)) → IsAnswerOnSlots r (gates_of g) steps most states ends values → IsAnswerOnNames t g steps most ends values
@@ -153,6 +150,9 @@ module _ (t : Tree) (r : Tables) (g : Gates) (read : IsRead t.program) (ok : IsA
           more_steps = λ no_cut more.
               settled_meaning t r g read ok same (more + steps) (those sys without_output same_key steps key_same key_self states ends h.all_states h.all_ends) (kinds_of ends)
               (settled_more sys without_output same_key steps key_same key_self states ends h.all_states h.all_ends no_cut more);
+          more_values = λ no_cut more v word s.
+              so_told None most values (of_all (ShowsSo sys without_output steps) values h.all_values.first) (λ u w at so. h.all_values.all u w so) v word tt
+              (shows_early sys without_output same_key steps key_same key_self states ends h.all_states h.all_ends no_cut more v word ((means (more + steps)).values.there word v s));
         }
 
     -- ---- of at most so many choices

@@ -287,11 +287,11 @@ module _ {S : Type 0} (sys : System S) (forget : S → S) (eq : S → S → Bool
 
   -- ---- values
 
-  value_any : (v : Shown) (ms : List (Moment S)) → Contains (each (shown_at sys) ms) v → AnyOf (λ m. Contains (shown_at sys m) v) ms
+  pub value_any : (v : Shown) (ms : List (Moment S)) → Contains (each (shown_at sys) ms) v → AnyOf (λ m. Contains (shown_at sys m) v) ms
   value_any v [] c = let less = c.1 in absurd (omega (arith, less))
   value_any v (m ∷ ms) c = ⊎_elim (λ (l : Contains (shown_at sys m) v). inl l) (λ (r : Contains (each (shown_at sys) ms) v). inr (value_any v ms r)) (Contains-append_cases (shown_at sys m) (each (shown_at sys) ms) v c)
 
-  any_value : (v : Shown) (ms : List (Moment S)) → AnyOf (λ m. Contains (shown_at sys m) v) ms → Contains (each (shown_at sys) ms) v
+  pub any_value : (v : Shown) (ms : List (Moment S)) → AnyOf (λ m. Contains (shown_at sys m) v) ms → Contains (each (shown_at sys) ms) v
   any_value v [] a = absurd a
   any_value v (m ∷ ms) (inl now) = Contains-append_left (shown_at sys m) (each (shown_at sys) ms) v now
   any_value v (m ∷ ms) (inr rest) = Contains-append_right (shown_at sys m) (each (shown_at sys) ms) v (any_value v ms rest)
