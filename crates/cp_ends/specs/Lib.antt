@@ -1,6 +1,7 @@
 pub mod Arrivals
 pub mod Ends
 pub mod Firsts
+pub mod ForEver
 pub mod Graph
 pub mod Holds
 pub mod Kept

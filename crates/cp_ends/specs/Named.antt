@@ -21,6 +21,7 @@ use Rattle.cp_endless.specs.Tables.{RunsTo}
 use Rattle.cp_ends.specs.Arrivals.{ends_graph}
 use Rattle.cp_ends.specs.Ends.{EndsSo, ShowsSo}
 use Rattle.cp_ends.specs.Firsts.{is_up_to, IsFirst, AreFirsts, AreFirstOnes, Within}
+use Rattle.cp_ends.specs.ForEver.{IsAloneForEver, SpinsForEver}
 use Rattle.cp_ends.specs.Graph.{LeadsToPlace, LeadsToEnd, ShowsLast}
 use Rattle.cp_ends.specs.Holds.{same_key}
 use Rattle.cp_ends.specs.declared.end.End.{End}
@@ -37,11 +38,12 @@ kind_of (Spins q) = StepLimit
 abbrev pub kinds_of : List (End × List ℕ) → List OutcomeKind
 kinds_of ends = map (λ e. kind_of e.0) ends
 
--- The word ends so. A stretch that goes on for ever is cut by this limit of steps and by each greater one.
+-- The word ends so. A stretch that goes on for ever is cut by this limit of steps and by each greater one; whether it comes back to one state
+-- is not said.
 abbrev pub EndsOnNames : Tree → Gates → ℕ → End → List ℕ → Type 0
 EndsOnNames t g steps (Over kind) word = EndsAfter (silent_named t g) steps word kind
-EndsOnNames t g steps (Alone q) word = EndsAtEachLimit (silent_named t g) steps word
-EndsOnNames t g steps (Spins q) word = EndsAtEachLimit (silent_named t g) steps word
+EndsOnNames t g steps (Alone q) word = EndsAtEachLimit (silent_named t g) steps word × IsAloneForEver (silent_named t g) steps word q
+EndsOnNames t g steps (Spins q) word = EndsAtEachLimit (silent_named t g) steps word × SpinsForEver (silent_named t g) steps word q
 
 -- the same of the word as a schedule, where as many choices are allowed
 abbrev pub IsSchedule : Tree → Gates → ℕ → List ℕ → OutcomeKind → Type 0

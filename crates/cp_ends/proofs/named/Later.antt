@@ -18,7 +18,7 @@ use Rattle.cp_endless.proofs.steps.Alone.{alone, leads_more}
 use Rattle.cp_ends.specs.Ends.{ShowsAgain}
 use Rattle.cp_ends.proofs.words.Edges.{some_same, edge_spot, edge_moments, spot_edge, edge_shows}
 
-distance : (a b : ℕ) → a ≤ b → (d : ℕ) × (a + d ≡ b)
+pub distance : (a b : ℕ) → a ≤ b → (d : ℕ) × (a + d ≡ b)
 distance zero b le = (b, omega arith)
 distance (suc a) zero le = absurd (omega (arith, le))
 distance (suc a) (suc b) le = let x = distance a b (omega (arith, le)) in (x.0, (let e = x.1 in omega (arith, e)))

@@ -32,6 +32,8 @@ use Rattle.cp_ends.specs.Named.{AnswerMeaningLaw, AnswerToMeaningLaw, AreEndsOnN
 use Rattle.cp_ends.specs.declared.end.End.{End}
 use Rattle.cp_ends.specs.declared.end.End.TheVariants.{Over, Alone, Spins}
 use Rattle.cp_ends.proofs.named.EachLimit.{shows_early}
+use Rattle.cp_ends.proofs.named.ForEver.{alone_for_ever, spins_for_ever}
+use Rattle.cp_ends.proofs.named.ForEverOnNames.{alone_named, spins_named}
 use Rattle.cp_ends.proofs.named.Keys.{key_same, key_self}
 use Rattle.cp_ends.proofs.named.Kinds.{contains_map, contains_unmap, so_over, over_kind, over_so, are_settled, settled_more, those}
 use Rattle.cp_ends.proofs.named.Later.{again_shown, again_ends}
@@ -84,8 +86,8 @@ module _ (t : Tree) (r : Tables) (g : Gates) (read : IsRead t.program) (ok : IsA
 
     end_so : (end : End) (word : List ℕ) → EndsSo b steps end word → EndsOnNames t g steps end word
     end_so (Over kind) word so = (means steps).ends.after_back word kind (so_over b steps (Over kind) word so)
-    end_so (Alone q) word so = each_limit word ((repeating b).alone steps word q so)
-    end_so (Spins q) word so = each_limit word ((repeating b).spins steps word q so)
+    end_so (Alone q) word so = (each_limit word ((repeating b).alone steps word q so), alone_named t r g read ok same steps word q (alone_for_ever b steps word q so))
+    end_so (Spins q) word so = (each_limit word ((repeating b).spins steps word q so), spins_named t r g read ok same steps word q (spins_for_ever b steps word q so))
 
     runs_so : (end : End) (word : List ℕ) → EndsSo b steps end word → RunsOnNames t g steps end word
     runs_so (Over kind) word so = schedule steps word kind (so_over b steps (Over kind) word so)
