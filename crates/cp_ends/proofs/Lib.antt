@@ -11,3 +11,4 @@ pub mod Telling
 pub mod Unwinding
 pub mod Wanted
 pub mod words
+pub mod named

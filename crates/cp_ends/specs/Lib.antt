@@ -2,7 +2,10 @@ pub mod Answer
 pub mod Arrivals
 pub mod Ends
 pub mod Firsts
+pub mod ForEver
 pub mod Graph
 pub mod Holds
+pub mod Kept
+pub mod Named
 pub mod Searched
 pub mod Whole

@@ -171,11 +171,11 @@ module _ {S : Type 0} (sys : System S) (forget : S → S) (eq : S → S → Bool
 
   -- ---- ends
 
-  alone_of : (word : List ℕ) (e : S × Turn) → Last word e → (x : ComesAgain sys forget eq steps e) → has_call quiet (repeated_part x.repeats) ≡ true → IsAloneAfter quiet steps word x.repeats.process
+  pub alone_of : (word : List ℕ) (e : S × Turn) → Last word e → (x : ComesAgain sys forget eq steps e) → has_call quiet (repeated_part x.repeats) ≡ true → IsAloneAfter quiet steps word x.repeats.process
   alone_of word e last x calls =
       record { begin = x.begin; first = x.first; sets_out = edge_sets_out quiet steps word e x.begin x.first last x.spot; repeats = x.repeats; is = refl; calls = has_calls quiet (repeated_part x.repeats) calls }
 
-  spins_of : (word : List ℕ) (e : S × Turn) → Last word e → (x : ComesAgain sys forget eq steps e) → has_call quiet (repeated_part x.repeats) ≡ false → SpinsAfter quiet steps word x.repeats.process
+  pub spins_of : (word : List ℕ) (e : S × Turn) → Last word e → (x : ComesAgain sys forget eq steps e) → has_call quiet (repeated_part x.repeats) ≡ false → SpinsAfter quiet steps word x.repeats.process
   spins_of word e last x calls =
       record { begin = x.begin; first = x.first; sets_out = edge_sets_out quiet steps word e x.begin x.first last x.spot; repeats = x.repeats; is = refl; calls_none = has_no_calls quiet (repeated_part x.repeats) calls }
 
@@ -188,7 +188,7 @@ module _ {S : Type 0} (sys : System S) (forget : S → S) (eq : S → S → Bool
   end_same : (a b : code.End) → (◌≡◌ {A = Goal S code.End}) (End a) (End b) → a ≡ b
   end_same a b e = cc
 
-  plain_end : (word : List ℕ) (e : S × Turn) → Last word e → ComesToNode sys forget eq steps e → (x : Node S) → edge_node quiet steps e ≡ x → (end : code.End) → goal_of x ≡ End end → EndsSo quiet steps end word
+  pub plain_end : (word : List ℕ) (e : S × Turn) → Last word e → ComesToNode sys forget eq steps e → (x : Node S) → edge_node quiet steps e ≡ x → (end : code.End) → goal_of x ≡ End end → EndsSo quiet steps end word
   plain_end word e last plain (Choosing s) is end goal = absurd (cc)
   plain_end word e last plain (Halted kind s) is end goal = subst (λ (y : code.End). EndsSo quiet steps y word) (end_same (Over kind) end goal) (by kind (s, edge_leads quiet steps word e last ∙ ap (λ (n : Node S). Some n) is))
     where
@@ -287,11 +287,11 @@ module _ {S : Type 0} (sys : System S) (forget : S → S) (eq : S → S → Bool
 
   -- ---- values
 
-  value_any : (v : Shown) (ms : List (Moment S)) → Contains (each (shown_at sys) ms) v → AnyOf (λ m. Contains (shown_at sys m) v) ms
+  pub value_any : (v : Shown) (ms : List (Moment S)) → Contains (each (shown_at sys) ms) v → AnyOf (λ m. Contains (shown_at sys m) v) ms
   value_any v [] c = let less = c.1 in absurd (omega (arith, less))
   value_any v (m ∷ ms) c = ⊎_elim (λ (l : Contains (shown_at sys m) v). inl l) (λ (r : Contains (each (shown_at sys) ms) v). inr (value_any v ms r)) (Contains-append_cases (shown_at sys m) (each (shown_at sys) ms) v c)
 
-  any_value : (v : Shown) (ms : List (Moment S)) → AnyOf (λ m. Contains (shown_at sys m) v) ms → Contains (each (shown_at sys) ms) v
+  pub any_value : (v : Shown) (ms : List (Moment S)) → AnyOf (λ m. Contains (shown_at sys m) v) ms → Contains (each (shown_at sys) ms) v
   any_value v [] a = absurd a
   any_value v (m ∷ ms) (inl now) = Contains-append_left (shown_at sys m) (each (shown_at sys) ms) v now
   any_value v (m ∷ ms) (inr rest) = Contains-append_right (shown_at sys m) (each (shown_at sys) ms) v (any_value v ms rest)
