@@ -2,19 +2,26 @@
 -- at most so many choices.
 use Rattle.std.specs.Prelude.{◌≡◌, ◌≢◌, ◌+◌, ◌≤◌, ℕ, suc, List, All, Option, None, Some, length, slice_get}
 use Rattle.std.specs.List.{AllPairs}
+use Rattle.cp_tree.specs.Read.{IsRead}
+use Rattle.cp_tree.specs.Syntax.{Tree}
+use Rattle.cp_layout.specs.Laid.{plain, laid}
 use Rattle.cp_slots.specs.Tables.{Tables}
+use Rattle.cp_lawful.specs.Accepted.{IsAccepted}
+use Rattle.cp_meaning.specs.State as named
 use Rattle.cp_machine.specs.System.{Machine}
 use Rattle.cp_machine.specs.declared.gates.Gates.{Gates}
 use Rattle.cp_machine.specs.declared.shown.Shown.{Shown}
 use Rattle.cp_run.specs.Slots.{slots}
 use Rattle.cp_run.specs.System.{System}
 use Rattle.cp_run.specs.Run.{Choosing}
+use Rattle.cp_refine.specs.Named.{named_gates}
 use Rattle.cp_endless.specs.Forgetting.{forgetting_system}
 use Rattle.cp_endless.specs.Reachable.{LeadsTo}
 use Rattle.cp_endless.specs.Silent.{without_output}
 use Rattle.cp_ends.specs.Ends.{EndsSo, ShowsSo}
 use Rattle.cp_ends.specs.Firsts.{AreFirsts, AreFirstOnes, Within, those_within}
 use Rattle.cp_ends.specs.Holds.{Holds}
+use Rattle.cp_ends.specs.Named.{IsAnswerOnNames, IsAnswerToOnNames}
 use Rattle.cp_ends.specs.Searched.{Findings}
 use Rattle.cp_ends.specs.declared.end.End.{End}
 use Rattle.cp_ends.specs.declared.found.Found.{Found}
@@ -51,8 +58,20 @@ abbrev pub IsAnswerBy : Tables → Gates → (steps most : ℕ) → Findings Mac
 IsAnswerBy r gates steps most f None = IsWhole (slots r gates) without_output steps most f
 IsAnswerBy r gates steps most f (Some at) = (x : Machine × List ℕ) × (slice_get f.states at ≡ Some x) × IsCutShort (slots r gates) without_output steps most (length x.1) f
 
--- what the code found
+-- the same on a program's own names
+abbrev pub IsMeantBy : Tree → named.Gates → (steps : ℕ) → Findings Machine End Shown → Option ℕ → Type 0
+IsMeantBy t g steps f None = IsAnswerOnNames t g steps (suc MOST_VALUES) f.ends f.values
+IsMeantBy t g steps f (Some at) =
+    (x : Machine × List ℕ) × (slice_get f.states at ≡ Some x) ×
+    IsAnswerToOnNames t g steps (length x.1) (suc MOST_VALUES) (those_within (length x.1) f.ends) (those_within (length x.1) f.values)
+
+-- it holds of whatever program was read, is accepted, and has these tables
+abbrev pub OfItsPrograms : Tables → (Tree → Type 0) → Type 0
+OfItsPrograms r P = (t : Tree) → IsRead t.program → IsAccepted t → plain r ≡ laid t → P t
+
+-- What the code found is what words lead to, in the slot machine and in the meaning of its program.
 pub record IsAnswer (r : Tables) (gates : Gates) (steps most : ℕ) (found : Found) : Type 0 where
   pub findings : Findings Machine End Shown
   pub holds : Holds r found findings
   pub answer : IsAnswerBy r gates steps most findings found.stopped
+  pub meaning : OfItsPrograms r (λ t. IsMeantBy t (named_gates gates) steps findings found.stopped)
