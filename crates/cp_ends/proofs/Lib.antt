@@ -1,3 +1,5 @@
+pub mod Finding
+pub mod GoingOn
 pub mod Keeping
 pub mod Searching
 pub mod Unwinding
