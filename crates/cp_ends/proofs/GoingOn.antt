@@ -1,20 +1,21 @@
 -- What the code finds when words arrive, and when a state is gone on from.
-use Rattle.std.proofs.Common.{◌≡◌, ◌∙◌, ◌⊎◌, inl, inr, ⊎_elim, ◌<◌, ◌≤◌, ℕ, zero, suc, Bool, true, false, if◌then◌else◌, List, [], ◌∷◌, ◌++◌, length, take, get_or, Option, None, Some, refl, sym, ap, subst, arith}
+use Rattle.std.proofs.Common.{◌≡◌, ◌∙◌, ◌⊎◌, inl, inr, ⊎_elim, ◌<◌, ◌≤◌, ℕ, zero, suc, Bool, true, false, if◌then◌else◌, List, [], ◌∷◌, ◌++◌, length, take, get_or, Option, None, Some, ◌+◌, refl, sym, ap, subst, arith}
 use Rattle.std.specs.Prelude.{Result, Ok, Err, IfOk, slice_get}
 use Rattle.std.proofs.lemmas.Bool.{cases_lt}
 use Rattle.std.proofs.Math.ListN.{get_or-append}
 use Rattle.std.proofs.Math.Seq.{get_or-append_seam, take-append_seam}
-use Rattle.std.proofs.lemmas.List.{append-nil, length-append, take-append-le}
+use Rattle.std.proofs.lemmas.List.{append-nil, length-append, take-append-le, take_more}
 use Rattle.std.proofs.lemmas.Option.{slice_get_cases, slice_get_within}
 use Rattle.cp_slots.specs.Tables.{Tables}
 use Rattle.cp_machine.specs.System.{Machine}
 use Rattle.cp_run.specs.Run.{those_below}
 use Rattle.cp_ends.specs.Answer.{ends_tests, Arrives, Comes, HoldsFew, IsDone, IsTooMany, Stops, with_shown}
 use Rattle.cp_ends.specs.Graph.{Goal, Place, End, Graph}
-use Rattle.cp_ends.specs.Holds.{same_key, AreStates, Holds, SlotArrival, SlotFindings}
+use Rattle.cp_ends.specs.Holds.{same_key, AreStates, Holds, IsBefore, IsWordOf, SlotArrival, SlotFindings}
 use Rattle.cp_ends.specs.Searched.{has, with_first, with_goal, arrived, gone_on, searched}
 use Rattle.cp_ends.specs.declared.end.End as code
 use Rattle.cp_ends.specs.declared.found.Found.{Found}
+use Rattle.cp_ends.specs.declared.origin.Origin.TheVariants.{Choice}
 use Rattle.cp_ends.specs.declared.states.States.{States}
 use Rattle.cp_machine.specs.declared.shown.Shown.{Shown}
 use Rattle.cp_ends.proofs.Finding.{found_later}
@@ -33,7 +34,7 @@ module _ (r : Tables) (most : ℕ) (found : Found) (f : SlotFindings) (m : Machi
       subst (λ ss. HoldsFew r most found (record f { states = ss })) (sym e) (record { holds = record { states = h.holds.states; ends = h.holds.ends; values = h.holds.values }; few = h.few })
 
   pub state_full : has same_key f.states m ≡ false → most ≤ length f.states → Comes r most found f word (Place m) false
-  state_full new many = let few = h.few in (h.holds, new, omega (arith, few, many))
+  state_full new many = let few = h.few in (h.holds, (new, omega (arith, few, many)))
 
   pub state_new : has same_key f.states m ≡ false → length f.states < most → (states : States) → AreStates r states.known.entries (f.states ++ (m, word) ∷ []) → Comes r most (record found { states = states }) f word (Place m) true
   state_new new room states are =
@@ -106,6 +107,20 @@ module _ (g : Graph Machine code.End Shown) (x : Machine × List ℕ) where
       let below = first.1 in
       (ap (λ l. gone_list (take i l) f) is ∙ ap (λ l. gone_list l f) first.0 ∙ list_those (get_or (those_below g.below (g.may x.0)) i 0) f ∙ ap (λ k. gone_on g ends_tests x k f) (sym same), omega (arith, same, below))
 
+  -- the next number of a list is taken
+  pub taken : (r : Tables) (most number : ℕ) (old new : Found) (m : Machine) (b : Bool) (all : List ℕ) (i : ℕ) (f : SlotFindings) → m ≡ x.0 → all ≡ those_below g.below (g.may x.0) → i < length all → HoldsFew r most old (gone_list (take i all) f) → slice_get f.states number ≡ Some x → ((k : SlotFindings) (word : List ℕ) → HoldsFew r most old k → IsWordOf k.states (Choice number (get_or all i 0)) word → IsBefore (length k.states) (Choice number (get_or all i 0)) → Arrives r most new k word (g.on m (get_or all i 0)) b) → Arrives r most new (gone_on g ends_tests x (get_or all i 0) f) (x.1 ++ get_or all i 0 ∷ []) (g.on x.0 (get_or all i 0)) b
+  taken r most number old new m b all i f same is lt h at on =
+      let c : ℕ = get_or all i 0 in
+      let k : SlotFindings = gone_on g ends_tests x c f in
+      let here : slice_get k.states number ≡ Some x = going_at g ends_tests x c f number x at in
+      let holds : HoldsFew r most old k = subst (HoldsFew r most old) (list_first all i f is lt).0 h in
+      subst (λ n. Arrives r most new k (x.1 ++ c ∷ []) (g.on n c) b) same (on k (x.1 ++ c ∷ []) holds (x, here, refl) (slice_get_within k.states number x here))
+
+  pub one_more : (r : Tables) (most : ℕ) (new : Found) (all : List ℕ) (i : ℕ) (f : SlotFindings) → all ≡ those_below g.below (g.may x.0) → i < length all → Arrives r most new (gone_on g ends_tests x (get_or all i 0) f) (x.1 ++ get_or all i 0 ∷ []) (g.on x.0 (get_or all i 0)) true → HoldsFew r most new (gone_list (take (i + 1) all) f)
+  one_more r most new all i f is lt h =
+      let c : ℕ = get_or all i 0 in
+      subst (HoldsFew r most new) (ap (λ k. arrived ends_tests k (x.1 ++ c ∷ []) (g.on x.0 c)) (sym (list_first all i f is lt).0) ∙ sym (list_more (take i all) c f) ∙ ap (λ l. gone_list l f) (sym (take_more all i 0 lt))) h
+
   -- a state too many
   pub stops_here : (r : Tables) (most : ℕ) (found : Found) (f : SlotFindings) (c : ℕ) → c < g.below → g.may x.0 c ≡ true → Arrives r most found (gone_on g ends_tests x c f) (x.1 ++ c ∷ []) (g.on x.0 c) false → Stops r g most found f x
   stops_here r most found f c below may h = by (g.on x.0 c).goal refl h.1
@@ -115,6 +130,18 @@ module _ (g : Graph Machine code.End Shown) (x : Machine × List ℕ) where
       by (End e) at many = absurd many
 
 -- ---- the whole search
+
+abbrev pub nothing : SlotFindings
+nothing = record { states = []; ends = []; values = [] }
+
+-- there is room for a first state
+pub start_found : (r : Tables) (most : ℕ) (found : Found) (a : SlotArrival) (b : Bool) → 1 ≤ most → Arrives r most found nothing [] a b → HoldsFew r most found (arrived ends_tests nothing [] a)
+start_found r most found a true some h = h
+start_found r most found a false some h = by a.goal h.1
+  where
+    by : (o : Goal Machine code.End) → IsTooMany most (with_shown nothing [] a) o → HoldsFew r most found (arrived ends_tests nothing [] a)
+    by (Place s) many = let full = many.1 in absurd (omega (arith, full, some))
+    by (End e) many = absurd many
 
 pub search_done : (r : Tables) (g : Graph Machine code.End Shown) (most : ℕ) (found : Found) (n : ℕ) → HoldsFew r most found (searched g ends_tests n) → length (searched g ends_tests n).states ≤ n → IsDone r g most found
 search_done r g most found n h le =

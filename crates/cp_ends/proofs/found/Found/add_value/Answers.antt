@@ -18,7 +18,7 @@ pub returns-else-len-le-MOST_VALUES : goal.returns-else-len-le-MOST_VALUES
 returns-else-len-le-MOST_VALUES c = λ r f word h is.
     (let found = c.args.self.now in
     elim c.else-len-le-MOST_VALUES.branch [
-        else-len-le-MOST_VALUES-via-then-len-le-MOST_VALUES+else-not-has_value w ↦
+      | else-len-le-MOST_VALUES-via-then-len-le-MOST_VALUES+else-not-has_value w ↦
           let few : length found.values.items < 1001 = omega (arith, w.if-len-le-MOST_VALUES.true, c.len.ensures) in
           let present : w.has_value.result ≡ true = search in
           let again = ap (list_any (λ (e : FoundValue). ends_tests.value e.value c.args.value)) (sym w.deref.ensures.value) ∙ sym w.has_value.ensures ∙ present in

@@ -8,5 +8,5 @@ invariant-loop-number g l =
     record {
       own : IsStateOf l.program l.state;
       next : IsStateOf l.program l.next;
-      found : HoldsFew l.program l.most l.self.found (searched (slot_graph l.program l.limits.gates l.limits.steps) ends_tests l.number-counter);
+      found : HoldsFew l.program l.most l.self.found (searched (slot_graph l.program l.limits.gates l.limits.steps) ends_tests l.number);
     }
