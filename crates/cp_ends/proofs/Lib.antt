@@ -1,5 +1,7 @@
 pub mod Answering
 pub mod Arriving
+pub mod Finding
+pub mod GoingOn
 pub mod Keeping
 pub mod LocalOutput
 pub mod Returning
@@ -10,5 +12,5 @@ pub mod Stretches
 pub mod Telling
 pub mod Unwinding
 pub mod Wanted
-pub mod words
 pub mod named
+pub mod words

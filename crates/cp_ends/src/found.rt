@@ -1,6 +1,6 @@
 //! What a search finds.
 
-ghost use Rattle.std.specs.Prelude.{◌≡◌, ℕ, List, [], IfOk};
+ghost use Rattle.std.specs.Prelude.{◌≡◌, ◌∷◌, ℕ, List, [], IfOk};
 ghost use Rattle.std.specs.List.{list_any};
 ghost use Rattle.cp_slots.specs.Tables.{Tables};
 ghost use Rattle.cp_ends.specs.Answer.{ends_tests};
@@ -68,12 +68,16 @@ impl Found {
         ensures { IfOk result (λ _. (r : Tables) (f : SlotFindings) (word : List ℕ) → Holds r self.old f → IsWordOf f.states origin word → Holds r self.new (record f { values = with_values ends_tests.value ends_tests.most f.values values.now word })) }
     {
         for value in values {
-            if self.values.len() <= MOST_VALUES && !has_value(&self.values, *value) {
-                self.values.push(FoundValue {
-                    value: *value,
-                    origin,
-                })?;
-            }
+            self.add_value(*value, origin)?;
+        }
+        Ok(())
+    }
+
+    fn add_value(&mut self, value: Shown, origin: Origin) -> Result<(), AllocError>
+        ensures { IfOk result (λ _. (r : Tables) (f : SlotFindings) (word : List ℕ) → Holds r self.old f → IsWordOf f.states origin word → Holds r self.new (record f { values = with_values ends_tests.value ends_tests.most f.values (value ∷ []) word })) }
+    {
+        if self.values.len() <= MOST_VALUES && !has_value(&self.values, value) {
+            self.values.push(FoundValue { value, origin })?;
         }
         Ok(())
     }

@@ -47,12 +47,7 @@ impl States {
     }
 
     /// A state that was not found is.
-    pub fn add(
-        &mut self,
-        alloc: Global,
-        key: &StateKey,
-        origin: Origin,
-    ) -> Result<(), AllocError>
+    pub fn add(&mut self, alloc: Global, key: &StateKey, origin: Origin) -> Result<(), AllocError>
         ensures { IfOk result (λ _. (r : Tables) (states : List (Machine × List ℕ)) (m : Machine) (word : List ℕ) → AreStates r self.old.known.entries states → has same_key states m ≡ false → IsMachineOf r m → m.output ≡ [] → key.now.bytes.items ≡ key_of m → IsWordOf states origin word → IsBefore (length states) origin → AreStates r self.new.known.entries (states ++ (m, word) ∷ [])) }
     {
         let bytes = Vec::from_slice(alloc, key.bytes.as_slice())?;

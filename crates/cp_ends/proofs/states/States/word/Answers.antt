@@ -18,6 +18,6 @@ returns c = λ r states word h is.
     (let es = c.args.self.now.known.entries in
     let o = c.args.origin in
     c.reverse.ensures.items ∙ elim c.loop-test.branch [
-        else-loop-test w ↦ reads_most es o c.loop.from c.loop.word.items c.loop.counter (omega (arith, w.loop-test.false, c.len-end.ensures.len)) c.loop.invariant r states word h is
+      | else-loop-test w ↦ reads_most es o c.loop.from c.loop.word.items c.loop.counter (omega (arith, w.loop-test.false, c.len-end.ensures.len)) c.loop.invariant r states word h is
       | then-loop-test+in_default w ↦ reads_done es o c.loop.word.items c.loop.counter (subst (λ from. ReadsAll es o from c.loop.word.items c.loop.counter) w.in_default.is c.loop.invariant) r states word h is
     ])
