@@ -1,6 +1,6 @@
 -- What the code's search answers is what the words of the machine that shows nothing lead to.
 use Rattle.std.proofs.Common.{◌≡◌, ◌≤◌, ℕ, List, [], ◌∷◌, ◌++◌, Option, None, Some, suc, length, ap, refl, subst, ◌∙◌, arith}
-use Rattle.std.specs.Prelude.{Decides, nat_eq, slice_get}
+use Rattle.std.specs.Prelude.{Decides, IfOk, Result, nat_eq, slice_get}
 use Rattle.std.specs.Cmp.Lexicographic.{bytes_decides, nat_list_eq_equiv}
 use Rattle.cp_tree.specs.Read.{IsRead}
 use Rattle.cp_tree.specs.Syntax.{Tree}
@@ -28,6 +28,7 @@ use Rattle.cp_ends.specs.declared.end.End.{End}
 use Rattle.cp_ends.specs.declared.found.Found.{Found}
 use Rattle.cp_ends.specs.declared.found.TheConstants.{MOST_VALUES}
 use Rattle.cp_ends.proofs.Answering.{answers_whole, answers_cut}
+use Rattle.cp_ends.proofs.GoingOn.{ok_to}
 use Rattle.cp_ends.proofs.Searching.Growing.{going_at}
 use Rattle.cp_ends.proofs.Telling.{ends_told, values_told}
 use Rattle.cp_ends.proofs.named.OnNames.{answer_means, answer_to_means}
@@ -87,3 +88,7 @@ module _ (r : Tables) (gates : Gates) (steps most : ℕ) (found : Found) where
 
   pub says : IsSearch r g most found found.stopped → IsAnswer r gates steps most found
   says h = by found.stopped h refl
+
+-- the answer of a search among as many states as are wanted
+pub says_of : {E : Type 0} (r : Tables) (gates : Gates) (steps most states : ℕ) → states ≡ most → (result : Result Found E) → IfOk result (λ found. IsSearch r (slot_graph r gates steps) states found found.stopped) → IfOk result (λ found. IsAnswer r gates steps most found)
+says_of r gates steps most states e result h = ok_to result _ _ h (λ found s. subst (λ n. IsAnswer r gates steps n found) e (says r gates steps states found s))

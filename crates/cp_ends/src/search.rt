@@ -10,6 +10,7 @@ ghost use Rattle.cp_ends.specs.Arrivals.{goal_at};
 ghost use Rattle.cp_ends.specs.Graph as graph;
 ghost use Rattle.cp_ends.specs.Holds.{IsBefore, IsWordOf, SlotArrival, SlotFindings, Holds};
 ghost use Rattle.cp_ends.specs.Searched as pure;
+ghost use Rattle.cp_ends.specs.Whole.{IsAnswer};
 
 use crate::choosing::{choose, open};
 use crate::end::Arrival;
@@ -33,17 +34,17 @@ struct Search {
 
 /// Goes on from the opening state, and from each state that is found, with each number that may be chosen there, in the order in which
 /// states are found. So the first word that leads to a state, an end or a value is the shortest, and of the shortest the first in
-/// dictionary order. Stops where there are more than so many states.
+/// dictionary order. Stops where there are more than so many states; at least one is looked at.
 pub fn search_ends(
     alloc: Global,
     program: &Resolved,
     limits: Limits,
     most: u32,
 ) -> Result<Found, AllocError>
-    requires most { 1 ≤ most }
-    ensures { IfOk result (λ found. IsSearch program.now (slot_graph program.now limits.gates limits.steps) most found found.stopped) }
+    ensures answer { 1 ≤ most → IfOk result (λ found. IsAnswer program.now limits.gates limits.steps most found) }
 {
-    searched::<Brand>(alloc, program, limits, most, Blank::new(1))
+    let states = if most == 0 { 1 } else { most };
+    searched::<Brand>(alloc, program, limits, states, Blank::new(1))
 }
 
 fn searched<S: Ledger>(
