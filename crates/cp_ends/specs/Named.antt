@@ -1,5 +1,6 @@
 -- What is told of the ends and values of a program, on its own names.
-use Rattle.std.specs.Prelude.{◌≡◌, ◌⊎◌, ◌≤◌, ◌+◌, ℕ, List, Option, None, Some, All, Contains, length, map, true}
+use Rattle.std.specs.Prelude.{◌≡◌, ◌≢◌, ◌⊎◌, ◌≤◌, ◌+◌, ℕ, suc, List, Option, None, Some, All, Contains, length, map, true}
+use Rattle.std.specs.List.{AllPairs}
 use Rattle.cp_tree.specs.Syntax.{Tree}
 use Rattle.cp_slots.specs.Tables.{Tables}
 use Rattle.cp_machine.specs.declared.gates.Gates as slot_gates
@@ -63,14 +64,16 @@ IsLookedAt (Some choices) word = length word ≤ choices
 abbrev pub IsTold : List (End × List ℕ) → OutcomeKind → List ℕ → Type 0
 IsTold ends kind word = (end : End) × (first : List ℕ) × Contains ends (end, first) × (kind_of end ≡ kind) × (is_up_to first word ≡ true)
 
--- Each word that is told ends so, and is a schedule with this end; it is the first one, but of stretches that were cut no more is known than
--- that one of them is. And of each word that is looked at the end is told.
+-- Each end is told once, in the order of the words. Each word ends so, and is a schedule with this end. It is the first that does; among
+-- stretches that were cut only the first of all is known to be. And of each word that is looked at the end is told.
 pub record AreEndsOnNames (t : Tree) (g : Gates) (steps : ℕ) (looked : Option ℕ) (ends : List (End × List ℕ)) : Type 0 where
   pub looked_at : (end : End) (word : List ℕ) → Contains ends (end, word) → IsLookedAt looked word
   pub end_so : (end : End) (word : List ℕ) → Contains ends (end, word) → EndsOnNames t g steps end word
   pub runs_so : (end : End) (word : List ℕ) → Contains ends (end, word) → RunsOnNames t g steps end word
   pub first : (kind : OutcomeKind) (word : List ℕ) → Contains ends (Over kind, word) → (kind ≡ StepLimit → ⊥) → IsFirst (λ other. EndsAfter (silent_named t g) steps other kind) word
   pub all : (word : List ℕ) (kind : OutcomeKind) → IsLookedAt looked word → EndsAfter (silent_named t g) steps word kind → IsTold ends kind word
+  pub once : AllPairs (λ e f. e.0 ≢ f.0) ends
+  pub sorted : AllPairs (λ e f. is_up_to e.1 f.1 ≡ true) ends
 
 -- ---- values
 
@@ -85,12 +88,15 @@ abbrev pub IsValueTold : ℕ → List (Shown × List ℕ) → Shown → List ℕ
 IsValueTold most values v word =
     ((first : List ℕ) × Contains values (v, first) × (is_up_to first word ≡ true)) ⊎ ((length values ≡ most) × All (λ x. is_up_to x.1 word ≡ true) values)
 
--- Each value that is told is shown; no word before its own shows it in as many steps as the limit; and each that is shown so is told.
+-- Each value is told once, in the order of the words. Each is shown; no word before its own shows it in as many steps as the limit; and each
+-- that is shown so is told.
 pub record AreValuesOnNames (t : Tree) (g : Gates) (steps : ℕ) (looked : Option ℕ) (most : ℕ) (values : List (Shown × List ℕ)) : Type 0 where
   pub looked_at : (v : Shown) (word : List ℕ) → Contains values (v, word) → IsLookedAt looked word
   pub shown : (v : Shown) (word : List ℕ) → Contains values (v, word) → ShowsOnNames t g steps v word
   pub first : (v : Shown) (word other : List ℕ) → Contains values (v, word) → ShowsAfter (named t g) named_without_output steps other v → is_up_to word other ≡ true
   pub all : (v : Shown) (word : List ℕ) → IsLookedAt looked word → ShowsAfter (named t g) named_without_output steps word v → IsValueTold most values v word
+  pub once : AllPairs (λ x y. x.0 ≢ y.0) values
+  pub sorted : AllPairs (λ x y. is_up_to x.1 y.1 ≡ true) values
 
 -- ---- where every state was gone on from
 
@@ -136,6 +142,12 @@ AnswerToMeaningLaw = OfPrograms (λ t r g steps.
     (choices most : ℕ) (ends : List (End × List ℕ)) (values : List (Shown × List ℕ)) →
     IsAnswerToOnSlots r (gates_of g) steps choices most ends values → IsAnswerToOnNames t g steps choices most ends values)
 
+-- more different states can be reached than so many: these
+pub record HasMoreStates (r : Tables) (gates : slot_gates.Gates) (steps most : ℕ) (states : List (Machine × List ℕ)) : Type 0 where
+  pub count : length states ≡ suc most
+  pub reached : All (λ x. LeadsTo (silent_slots r gates) steps x.1 (Choosing x.0)) states
+  pub apart : AllPairs (λ x y. x.0 ≢ y.0) states
+
 -- ---- what is found in the graph of the slot machine is so on slots
 
 abbrev pub GraphAnswerLaw : Type 0
@@ -149,3 +161,8 @@ GraphAnswerToLaw =
     (r : Tables) (gates : slot_gates.Gates) (steps choices most : ℕ) (ends : List (End × List ℕ)) (values : List (Shown × List ℕ)) →
     AreFirsts (Within choices (LeadsToEnd (ends_graph (slots r gates) without_output same_key steps))) ends →
     AreFirstOnes most (Within choices (ShowsLast (ends_graph (slots r gates) without_output same_key steps))) values → IsAnswerToOnSlots r gates steps choices most ends values
+
+abbrev pub GraphMoreStatesLaw : Type 0
+GraphMoreStatesLaw =
+    (r : Tables) (gates : slot_gates.Gates) (steps most : ℕ) (states : List (Machine × List ℕ)) → length states ≡ suc most →
+    All (λ x. LeadsToPlace (ends_graph (slots r gates) without_output same_key steps) x.0 x.1) states → AllPairs (λ x y. x.0 ≢ y.0) states → HasMoreStates r gates steps most states

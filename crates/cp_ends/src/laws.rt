@@ -1,6 +1,6 @@
 //! Laws over the definitions alone, of the ends that are possible.
 
-ghost use Rattle.cp_ends.specs.Named.{AnswerMeaningLaw, AnswerToMeaningLaw, GraphAnswerLaw, GraphAnswerToLaw};
+ghost use Rattle.cp_ends.specs.Named.{AnswerMeaningLaw, AnswerToMeaningLaw, GraphAnswerLaw, GraphAnswerToLaw, GraphMoreStatesLaw};
 
 /// What is found on slots is so of the program on its own names, in schedules of any length.
 pub fn law_answer_means()
@@ -16,4 +16,5 @@ pub fn law_answer_to_means()
 pub fn law_graph_answer()
     ensures all { GraphAnswerLaw }
     ensures short { GraphAnswerToLaw }
+    ensures more { GraphMoreStatesLaw }
 {}

@@ -1,5 +1,6 @@
 -- What words lead to in the graph of the slot machine, they lead to on slots.
 use Rattle.std.proofs.Common.{ℕ, List}
+use Rattle.std.proofs.lemmas.List.Elements.{All-weaker}
 use Rattle.cp_slots.specs.Tables.{Tables}
 use Rattle.cp_machine.specs.declared.gates.Gates.{Gates}
 use Rattle.cp_machine.specs.declared.shown.Shown.{Shown}
@@ -13,7 +14,7 @@ use Rattle.cp_ends.specs.Ends.{EndsSo, ShowsSo}
 use Rattle.cp_ends.specs.Firsts.{Within}
 use Rattle.cp_ends.specs.Graph.{Graph, LeadsToPlace, LeadsToEnd, ShowsLast}
 use Rattle.cp_ends.specs.Holds.{same_key}
-use Rattle.cp_ends.specs.Named.{GraphAnswerLaw, GraphAnswerToLaw}
+use Rattle.cp_ends.specs.Named.{GraphAnswerLaw, GraphAnswerToLaw, GraphMoreStatesLaw}
 use Rattle.cp_ends.specs.declared.end.End.{End}
 use Rattle.cp_ends.proofs.named.Keys.{key_same, key_self}
 use Rattle.cp_ends.proofs.words.Alike.{places_alike, ends_alike, values_alike}
@@ -54,4 +55,12 @@ graph_answer_to r gates steps choices most es vs e v =
     record {
       all_ends = firsts_same (Within choices (LeadsToEnd (g r gates steps))) (Within choices (Ends r gates steps)) (within_same (LeadsToEnd (g r gates steps)) (Ends r gates steps) (ends r gates steps) choices) es e;
       all_values = first_ones_same (Within choices (ShowsLast (g r gates steps))) (Within choices (Shows r gates steps)) (within_same (ShowsLast (g r gates steps)) (Shows r gates steps) (values r gates steps) choices) most vs v;
+    }
+
+pub graph_more_states : GraphMoreStatesLaw
+graph_more_states r gates steps most states count reached apart =
+    record {
+      count = count;
+      reached = All-weaker (λ (x : Machine × List ℕ). LeadsToPlace (g r gates steps) x.0 x.1) (λ (x : Machine × List ℕ). Leads r gates steps x.0 x.1) (λ x leads. (places r gates steps).there x.0 x.1 leads) states reached;
+      apart = apart;
     }

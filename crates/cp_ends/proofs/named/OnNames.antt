@@ -1,5 +1,6 @@
 -- What is found on slots is so of the program on its own names.
-use Rattle.std.proofs.Common.{◌≡◌, ◌⊎◌, inl, inr, ⊎_elim, ◌∙◌, ◌+◌, ◌<◌, ◌≤◌, ℕ, true, List, length, Option, None, Some, ap, subst, arith, ◌||◌, ◌&&◌, ◌==◌}
+use Rattle.std.proofs.Common.{◌≡◌, ◌≢◌, ◌⊎◌, inl, inr, ⊎_elim, ◌∙◌, ◌+◌, ◌<◌, ◌≤◌, ℕ, true, List, length, Option, None, Some, ap, subst, arith, ◌||◌, ◌&&◌, ◌==◌}
+use Rattle.std.specs.List.{AllPairs}
 use Rattle.std.specs.Prelude.{All, Contains}
 use Rattle.std.proofs.lemmas.Bool.{cases_order, lt-ltb}
 use Rattle.cp_tree.specs.Syntax.{Tree}
@@ -55,12 +56,14 @@ record AreFirstOf {A : Type 0} (looked : Option ℕ) (P : A → List ℕ → Typ
   looked_at : (a : A) (word : List ℕ) → Contains found (a, word) → IsLookedAt looked word
   so : (a : A) (word : List ℕ) → Contains found (a, word) → P a word
   first : (a : A) (word other : List ℕ) → Contains found (a, word) → P a other → is_up_to word other ≡ true
+  once : AllPairs (λ e f. e.0 ≢ f.0) found
+  sorted : AllPairs (λ e f. is_up_to e.1 f.1 ≡ true) found
 
-of_all : {A : Type 0} (P : A → List ℕ → Type 0) (found : List (A × List ℕ)) → ((a : A) (word : List ℕ) → Contains found (a, word) → IsFirst (P a) word) → AreFirstOf None P found
-of_all P found f = record { looked_at = λ a word c. tt; so = λ a word c. (f a word c).is; first = λ a word other c p. (f a word c).first other p }
+of_all : {A : Type 0} (P : A → List ℕ → Type 0) (found : List (A × List ℕ)) → ((a : A) (word : List ℕ) → Contains found (a, word) → IsFirst (P a) word) → AllPairs (λ e f. e.0 ≢ f.0) found → AllPairs (λ e f. is_up_to e.1 f.1 ≡ true) found → AreFirstOf None P found
+of_all P found f once sorted = record { looked_at = λ a word c. tt; so = λ a word c. (f a word c).is; first = λ a word other c p. (f a word c).first other p; once = once; sorted = sorted }
 
-of_short : {A : Type 0} (d : ℕ) (P : A → List ℕ → Type 0) (found : List (A × List ℕ)) → ((a : A) (word : List ℕ) → Contains found (a, word) → IsFirst (Within d P a) word) → AreFirstOf (Some d) P found
-of_short {A} d P found f = record { looked_at = λ a word c. (f a word c).is.1; so = λ a word c. (f a word c).is.0; first = up }
+of_short : {A : Type 0} (d : ℕ) (P : A → List ℕ → Type 0) (found : List (A × List ℕ)) → ((a : A) (word : List ℕ) → Contains found (a, word) → IsFirst (Within d P a) word) → AllPairs (λ e f. e.0 ≢ f.0) found → AllPairs (λ e f. is_up_to e.1 f.1 ≡ true) found → AreFirstOf (Some d) P found
+of_short {A} d P found f once sorted = record { looked_at = λ a word c. (f a word c).is.1; so = λ a word c. (f a word c).is.0; first = up; once = once; sorted = sorted }
   where
     up : (a : A) (word other : List ℕ) → Contains found (a, word) → P a other → is_up_to word other ≡ true
     up a word other c p = ⊎_elim
@@ -120,6 +123,8 @@ module _ (t : Tree) (r : Tables) (g : Gates) (read : IsRead t.program) (ok : IsA
                   first = λ w e. firsts.first (Over kind) word w c (over_kind b steps kind w other ((means steps).ends.after_there w kind e));
                 };
             all = told;
+            once = firsts.once;
+            sorted = firsts.sorted;
           }
 
     -- ---- values
@@ -139,21 +144,23 @@ module _ (t : Tree) (r : Tables) (g : Gates) (read : IsRead t.program) (ok : IsA
             shown = λ v word c. shows_so v word (firsts.so v word c);
             first = λ v word other c s. firsts.first v word other c (inl ((means steps).values.there other v s));
             all = λ v word at s. so_told v word at (inl ((means steps).values.there word v s));
+            once = firsts.once;
+            sorted = firsts.sorted;
           }
 
     answer : (most : ℕ) (states : List (Machine × List ℕ)) (ends : List (End × List ℕ)) (values : List (Shown × List ℕ)) → IsAnswerOnSlots r (gates_of g) steps most states ends values → IsAnswerOnNames t g steps most ends values
     answer most states ends values h =
         let sys = slots r (gates_of g) in
         record {
-          all_ends = are_ends None ends (of_all (EndsSo b steps) ends h.all_ends.first) (λ end word at so. h.all_ends.all end word so);
-          all_values = are_values None most values (of_all (ShowsSo sys without_output steps) values h.all_values.first) (λ v word at so. h.all_values.all v word so);
+          all_ends = are_ends None ends (of_all (EndsSo b steps) ends h.all_ends.first h.all_ends.once h.all_ends.sorted) (λ end word at so. h.all_ends.all end word so);
+          all_values = are_values None most values (of_all (ShowsSo sys without_output steps) values h.all_values.first h.all_values.once h.all_values.sorted) (λ v word at so. h.all_values.all v word so);
           settled = settled_meaning t r g read ok same steps (those sys without_output same_key steps key_same key_self states ends h.all_states h.all_ends) (kinds_of ends)
               (are_settled sys without_output same_key steps key_same key_self states ends h.all_states h.all_ends);
           more_steps = λ no_cut more.
               settled_meaning t r g read ok same (more + steps) (those sys without_output same_key steps key_same key_self states ends h.all_states h.all_ends) (kinds_of ends)
               (settled_more sys without_output same_key steps key_same key_self states ends h.all_states h.all_ends no_cut more);
           more_values = λ no_cut more v word s.
-              so_told None most values (of_all (ShowsSo sys without_output steps) values h.all_values.first) (λ u w at so. h.all_values.all u w so) v word tt
+              so_told None most values (of_all (ShowsSo sys without_output steps) values h.all_values.first h.all_values.once h.all_values.sorted) (λ u w at so. h.all_values.all u w so) v word tt
               (shows_early sys without_output same_key steps key_same key_self states ends h.all_states h.all_ends no_cut more v word ((means (more + steps)).values.there word v s));
         }
 
@@ -161,10 +168,10 @@ module _ (t : Tree) (r : Tables) (g : Gates) (read : IsRead t.program) (ok : IsA
 
     module _ (choices most : ℕ) (ends : List (End × List ℕ)) (values : List (Shown × List ℕ)) (h : IsAnswerToOnSlots r (gates_of g) steps choices most ends values) where
       short_ends : AreEndsOnNames t g steps (Some choices) ends
-      short_ends = are_ends (Some choices) ends (of_short choices (EndsSo b steps) ends h.all_ends.first) (λ end word at so. h.all_ends.all end word (so, at))
+      short_ends = are_ends (Some choices) ends (of_short choices (EndsSo b steps) ends h.all_ends.first h.all_ends.once h.all_ends.sorted) (λ end word at so. h.all_ends.all end word (so, at))
 
       short_values : AreValuesOnNames t g steps (Some choices) most values
-      short_values = are_values (Some choices) most values (of_short choices (ShowsSo (slots r (gates_of g)) without_output steps) values h.all_values.first) (λ v word at so. h.all_values.all v word (so, at))
+      short_values = are_values (Some choices) most values (of_short choices (ShowsSo (slots r (gates_of g)) without_output steps) values h.all_values.first h.all_values.once h.all_values.sorted) (λ v word at so. h.all_values.all v word (so, at))
 
       possible : (kind : OutcomeKind) → IsPossibleTo (silent_named t g) steps choices kind → Contains (kinds_of ends) kind
       possible kind i =
