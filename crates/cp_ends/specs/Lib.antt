@@ -5,3 +5,4 @@ pub mod Firsts
 pub mod Graph
 pub mod Holds
 pub mod Searched
+pub mod Told
