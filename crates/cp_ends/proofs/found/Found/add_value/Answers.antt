@@ -1,4 +1,4 @@
-use Rattle.std.proofs.Common.{◌≡◌, ◌∙◌, ◌<◌, ◌≤◌, true, false, length, sym, ap, arith}
+use Rattle.std.proofs.Common.{◌≡◌, ◌∙◌, ◌<◌, true, false, length, sym, ap, arith}
 use Rattle.std.specs.List.{list_any}
 use Rattle.cp_ends.specs.Answer.{ends_tests}
 use Rattle.cp_ends.specs.declared.found.FoundValue.{FoundValue}

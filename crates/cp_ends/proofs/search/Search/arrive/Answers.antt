@@ -1,4 +1,4 @@
-use Rattle.std.proofs.Common.{◌≡◌, ◌∙◌, List, true, sym, ap, subst}
+use Rattle.std.proofs.Common.{◌∙◌, List, true, sym, ap, subst}
 use Rattle.cp_machine.specs.System.{machine_of}
 use Rattle.cp_machine.specs.declared.shown.Shown.{Shown}
 use Rattle.cp_ends.specs.Answer.{ends_tests, with_shown}

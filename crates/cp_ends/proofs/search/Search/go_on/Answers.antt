@@ -1,4 +1,4 @@
-use Rattle.std.proofs.Common.{◌≡◌, ◌∙◌, ◌+◌, ◌≤◌, ℕ, List, [], true, false, suc, length, sym, ap, subst, arith}
+use Rattle.std.proofs.Common.{◌≡◌, ◌∙◌, ℕ, List, [], true, false, sym, ap, subst, arith}
 use Rattle.cp_machine.specs.System.{Machine, machine_of, output_of}
 use Rattle.cp_ends.specs.Answer.{GoesOn, HoldsFew, ends_tests, slot_graph}
 use Rattle.cp_ends.specs.Holds.{IsAt, SlotFindings}

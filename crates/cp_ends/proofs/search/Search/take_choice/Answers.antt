@@ -1,4 +1,4 @@
-use Rattle.std.proofs.Common.{◌∙◌, ◌++◌, sym, ap}
+use Rattle.std.proofs.Common.{◌∙◌, ◌++◌, ap}
 use Rattle.cp_machine.specs.System.{machine_of}
 use Rattle.cp_ends.specs.Answer.{slot_graph}
 use Rattle.cp_ends.specs.Holds.{SlotArrival}

@@ -1,5 +1,5 @@
 use Rattle.std.proofs.Common.{◌∙◌, sym}
-use Rattle.cp_ends.proofs.Keeping.{no_state, state_of}
+use Rattle.cp_ends.proofs.Keeping.{state_of}
 use Rattle.cp_ends.proofs.states.States.thaw_at.Goals as goal
 
 pub thaw-requires-clause-key : goal.thaw-requires-clause-key
