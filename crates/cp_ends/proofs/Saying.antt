@@ -1,7 +1,7 @@
 -- What the code's search answers is what the words of the machine that shows nothing lead to.
-use Rattle.std.proofs.Common.{◌≡◌, ◌≤◌, ℕ, List, [], ◌∷◌, ◌++◌, Option, None, Some, suc, length, ap, refl, subst, ◌∙◌, arith}
-use Rattle.std.specs.Prelude.{Decides, IfOk, Result, nat_eq, slice_get}
-use Rattle.std.specs.Cmp.Lexicographic.{bytes_decides, nat_list_eq_equiv}
+use Rattle.std.proofs.Common.{◌≡◌, ℕ, [], ◌∷◌, ◌++◌, Option, None, Some, suc, length, ap, refl, subst, arith}
+use Rattle.std.specs.Prelude.{Decides, IfOk, Result}
+use Rattle.std.specs.Cmp.Lexicographic.{bytes_decides}
 use Rattle.cp_tree.specs.Read.{IsRead}
 use Rattle.cp_tree.specs.Syntax.{Tree}
 use Rattle.cp_layout.specs.Laid.{plain, laid}
@@ -70,7 +70,7 @@ module _ (r : Tables) (gates : Gates) (steps most : ℕ) (found : Found) where
   done : IsDone r g most found → None ≡ found.stopped → IsAnswer r gates steps most found
   done d e =
       answers (searched g ends_tests d.count) d.holds (subst (IsAnswerBy r gates steps most (searched g ends_tests d.count)) e
-            (answers_whole (slots r gates) without_output same_key steps states_told ends_tests.end ends_told ends_tests.value values_told d.count most (let n = d.states in omega (arith, n)) (let n = d.states in let few = d.few in omega (arith, n, few))))
+      (answers_whole (slots r gates) without_output same_key steps states_told ends_tests.end ends_told ends_tests.value values_told d.count most (let n = d.states in omega (arith, n)) (let n = d.states in let few = d.few in omega (arith, n, few))))
 
   module _ (at : ℕ) (s : IsStopped r g most found at) where
     -- what was found when there was a state too many
@@ -80,7 +80,7 @@ module _ (r : Tables) (gates : Gates) (steps most : ℕ) (found : Found) where
     cut_short : Some at ≡ found.stopped → IsAnswer r gates steps most found
     cut_short e =
         answers last s.stops.holds (subst (IsAnswerBy r gates steps most last) e
-              (s.from, going_at g ends_tests s.from s.stops.number (searched g ends_tests at) at s.from s.is, answers_cut (slots r gates) without_output same_key steps states_told ends_tests.end ends_told ends_tests.value values_told at most s.from s.stops.number s.is s.stops.may s.stops.state s.stops.goal s.stops.new s.stops.full))
+        (s.from, going_at g ends_tests s.from s.stops.number (searched g ends_tests at) at s.from s.is, answers_cut (slots r gates) without_output same_key steps states_told ends_tests.end ends_told ends_tests.value values_told at most s.from s.stops.number s.is s.stops.may s.stops.state s.stops.goal s.stops.new s.stops.full))
 
   by : (stopped : Option ℕ) → IsSearch r g most found stopped → stopped ≡ found.stopped → IsAnswer r gates steps most found
   by None d e = done d e

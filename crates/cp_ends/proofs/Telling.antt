@@ -80,12 +80,11 @@ errors_told : (n m : ErrorName) (p q line other : ℕ) → Decides ((kind_eq.gho
 errors_told n m p q line other =
     let names = names_told n m in
     let processes = Decides-eqb p q in
-    let lines = Decides-eqb line other in
-    (
+    let lines = Decides-eqb line other in (
       λ h.
-      let b = both ((name_eq.ghosts).eq n m) ((p == q) && (line == other)) h in
-      let c = both (p == q) (line == other) b.1 in
-      rw (names.0 b.0, processes.0 c.0, lines.0 c.1) refl,
+          let b = both ((name_eq.ghosts).eq n m) ((p == q) && (line == other)) h in
+          let c = both (p == q) (line == other) b.1 in
+          rw (names.0 b.0, processes.0 c.0, lines.0 c.1) refl,
       λ e. all_three ((name_eq.ghosts).eq n m) (p == q) (line == other) (names.1 (cc)) (processes.1 (cc)) (lines.1 (cc)),
     )
 

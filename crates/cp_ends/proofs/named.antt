@@ -1,7 +1,6 @@
 pub mod EachLimit
 pub mod ForEver
 pub mod ForEverOnNames
-pub mod Graphs
 pub mod Keys
 pub mod Kinds
 pub mod Later

@@ -1,5 +1,5 @@
 -- A graph whose edges have numbers, and what is met along its words.
-use Rattle.std.specs.Prelude.{◌≡◌, ℕ, List, [], ◌∷◌, ◌++◌, Bool, true, if◌then◌else◌, Option, None, Some, Contains}
+use Rattle.std.specs.Prelude.{◌≡◌, ℕ, List, [], ◌∷◌, Bool, if◌then◌else◌, Option, None, Some, Contains}
 
 -- where an edge leads
 pub data Goal (S E : Type 0) : Type 0 where

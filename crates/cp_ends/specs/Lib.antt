@@ -5,7 +5,6 @@ pub mod Firsts
 pub mod ForEver
 pub mod Graph
 pub mod Holds
-pub mod Kept
 pub mod Named
 pub mod Searched
 pub mod Told

@@ -1,5 +1,5 @@
 -- What is told of the ends and values of a program, on its own names.
-use Rattle.std.specs.Prelude.{◌≡◌, ◌≢◌, ◌⊎◌, ◌≤◌, ◌+◌, ℕ, suc, List, Option, None, Some, All, Contains, length, map, true}
+use Rattle.std.specs.Prelude.{◌≡◌, ◌≢◌, ◌⊎◌, ◌≤◌, ◌+◌, ℕ, List, Option, None, Some, All, Contains, length, map, true}
 use Rattle.std.specs.List.{AllPairs}
 use Rattle.cp_tree.specs.Syntax.{Tree}
 use Rattle.cp_slots.specs.Tables.{Tables}
@@ -19,12 +19,9 @@ use Rattle.cp_endless.specs.Repeats.{EndsAtEachLimit}
 use Rattle.cp_endless.specs.Shown.{ShowsAfter}
 use Rattle.cp_endless.specs.Silent.{without_output, silent_slots, named_without_output, silent_named}
 use Rattle.cp_endless.specs.Tables.{RunsTo}
-use Rattle.cp_ends.specs.Arrivals.{ends_graph}
 use Rattle.cp_ends.specs.Ends.{EndsSo, ShowsSo}
 use Rattle.cp_ends.specs.Firsts.{is_up_to, IsFirst, AreFirsts, AreFirstOnes, Within}
 use Rattle.cp_ends.specs.ForEver.{IsAloneForEver, SpinsForEver}
-use Rattle.cp_ends.specs.Graph.{LeadsToPlace, LeadsToEnd, ShowsLast}
-use Rattle.cp_ends.specs.Holds.{same_key}
 use Rattle.cp_ends.specs.declared.end.End.{End}
 use Rattle.cp_ends.specs.declared.end.End.TheVariants.{Over, Alone, Spins}
 
@@ -141,28 +138,3 @@ abbrev pub AnswerToMeaningLaw : Type 0
 AnswerToMeaningLaw = OfPrograms (λ t r g steps.
     (choices most : ℕ) (ends : List (End × List ℕ)) (values : List (Shown × List ℕ)) →
     IsAnswerToOnSlots r (gates_of g) steps choices most ends values → IsAnswerToOnNames t g steps choices most ends values)
-
--- more different states can be reached than so many: these
-pub record HasMoreStates (r : Tables) (gates : slot_gates.Gates) (steps most : ℕ) (states : List (Machine × List ℕ)) : Type 0 where
-  pub count : length states ≡ suc most
-  pub reached : All (λ x. LeadsTo (silent_slots r gates) steps x.1 (Choosing x.0)) states
-  pub apart : AllPairs (λ x y. x.0 ≢ y.0) states
-
--- ---- what is found in the graph of the slot machine is so on slots
-
-abbrev pub GraphAnswerLaw : Type 0
-GraphAnswerLaw =
-    (r : Tables) (gates : slot_gates.Gates) (steps most : ℕ) (states : List (Machine × List ℕ)) (ends : List (End × List ℕ)) (values : List (Shown × List ℕ)) →
-    AreFirsts (LeadsToPlace (ends_graph (slots r gates) without_output same_key steps)) states → AreFirsts (LeadsToEnd (ends_graph (slots r gates) without_output same_key steps)) ends →
-    AreFirstOnes most (ShowsLast (ends_graph (slots r gates) without_output same_key steps)) values → IsAnswerOnSlots r gates steps most states ends values
-
-abbrev pub GraphAnswerToLaw : Type 0
-GraphAnswerToLaw =
-    (r : Tables) (gates : slot_gates.Gates) (steps choices most : ℕ) (ends : List (End × List ℕ)) (values : List (Shown × List ℕ)) →
-    AreFirsts (Within choices (LeadsToEnd (ends_graph (slots r gates) without_output same_key steps))) ends →
-    AreFirstOnes most (Within choices (ShowsLast (ends_graph (slots r gates) without_output same_key steps))) values → IsAnswerToOnSlots r gates steps choices most ends values
-
-abbrev pub GraphMoreStatesLaw : Type 0
-GraphMoreStatesLaw =
-    (r : Tables) (gates : slot_gates.Gates) (steps most : ℕ) (states : List (Machine × List ℕ)) → length states ≡ suc most →
-    All (λ x. LeadsToPlace (ends_graph (slots r gates) without_output same_key steps) x.0 x.1) states → AllPairs (λ x y. x.0 ≢ y.0) states → HasMoreStates r gates steps most states

@@ -1,6 +1,6 @@
 //! Laws over the definitions alone, of the ends that are possible.
 
-ghost use Rattle.cp_ends.specs.Named.{AnswerMeaningLaw, AnswerToMeaningLaw, GraphAnswerLaw, GraphAnswerToLaw, GraphMoreStatesLaw};
+ghost use Rattle.cp_ends.specs.Named.{AnswerMeaningLaw, AnswerToMeaningLaw};
 
 /// What is found on slots is so of the program on its own names, in schedules of any length.
 pub fn law_answer_means()
@@ -10,11 +10,4 @@ pub fn law_answer_means()
 /// The same of schedules of at most so many choices, where there are too many states.
 pub fn law_answer_to_means()
     ensures { AnswerToMeaningLaw }
-{}
-
-/// What words lead to in the graph of the slot machine, they lead to on slots.
-pub fn law_graph_answer()
-    ensures all { GraphAnswerLaw }
-    ensures short { GraphAnswerToLaw }
-    ensures more { GraphMoreStatesLaw }
 {}

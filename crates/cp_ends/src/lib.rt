@@ -15,6 +15,6 @@ pub mod states;
 
 pub use end::End;
 pub use found::Found;
-pub use laws::{law_answer_means, law_answer_to_means, law_graph_answer};
+pub use laws::{law_answer_means, law_answer_to_means};
 pub use report::ends_report;
 pub use search::search_ends;

@@ -1,4 +1,4 @@
-use Rattle.std.proofs.Common.{◌∙◌, ◌++◌, ℕ, List, sym, ap, subst}
+use Rattle.std.proofs.Common.{◌∙◌, ◌++◌, sym, ap, subst}
 use Rattle.std.specs.Prelude.{◌≡◌, IfOk}
 use Rattle.cp_machine.specs.System.{Machine, machine_of}
 use Rattle.cp_machine.specs.declared.shown.Shown.{Shown}

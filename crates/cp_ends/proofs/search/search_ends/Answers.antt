@@ -1,7 +1,4 @@
-use Rattle.std.proofs.Common.{◌≡◌, ◌≤◌, ◌∙◌, ap, arith}
-use Rattle.cp_ends.specs.Answer.{slot_graph, IsSearch}
-use Rattle.cp_ends.specs.Whole.{IsAnswer}
-use Rattle.cp_ends.proofs.GoingOn.{ok_to}
+use Rattle.std.proofs.Common.{arith}
 use Rattle.cp_ends.proofs.Saying.{says_of}
 use Rattle.cp_ends.proofs.search.search_ends.Goals as goal
 use Rattle.cp_ends.proofs.search.search_ends.Goals.{then-most-eq0, else-most-eq0}
