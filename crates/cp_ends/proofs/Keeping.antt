@@ -1,34 +1,148 @@
--- The keys of states that were found are kept.
-use Rattle.std.proofs.Common.{◌≡◌, ◌<◌, ℕ, Bool, true, false, List, [], ◌∷◌, Option, Some, if◌then◌else◌, subst, get_or}
-use Rattle.std.specs.Prelude.{All, slice_get}
-use Rattle.std.specs.List.{AllByRecursion as Each}
-use Rattle.std.proofs.lemmas.List.Elements.{All-get_or, All-from_recursion, recursion_from_All}
-use Rattle.std.proofs.lemmas.Option.{get_or_from_slice_get, slice_get_within}
+-- The states of the code are those of the search.
+use Rattle.std.proofs.Common.{◌≡◌, ◌∙◌, ◌⊎◌, inl, inr, ◌<◌, ◌≤◌, ℕ, zero, suc, Bool, true, false, cond, if◌then◌else◌, List, [], ◌∷◌, ◌++◌, length, map, None, Some, is_some, get_or, drop, refl, sym, ap, subst, arith}
+use Rattle.std.specs.Prelude.{nat_eq, slice_get}
+use Rattle.std.specs.Map.{lookup}
+use Rattle.std.proofs.lemmas.Cmp.{nat_list_eq_equiv}
+use Rattle.std.proofs.lemmas.List.{length-map, map-append}
+use Rattle.std.proofs.lemmas.List.Elements.{All-push}
+use Rattle.std.proofs.lemmas.Option.{same_Some, slice_get_cases, slice_get_past, slice_get_within}
 use Rattle.indexmap.specs.IndexMap.{insert_entry}
+use lib.Pointwise.{pointwise}
 use Rattle.cp_slots.specs.Tables.{Tables}
-use Rattle.cp_ends.specs.Kept.{AreKept, IsKept}
+use Rattle.cp_key.specs.Key.{key_of}
+use Rattle.cp_key.specs.Room.{IsMachineOf}
+use Rattle.cp_machine.specs.System.{Machine}
+use Rattle.cp_ends.specs.Holds.{same_key, AreStates, IsBefore, IsWordOf}
+use Rattle.cp_ends.specs.Searched.{has}
 use Rattle.cp_ends.specs.declared.origin.Origin.{Origin}
+use Rattle.cp_ends.specs.declared.origin.Origin.TheVariants.{Start, Choice}
 use Rattle.cp_ends.specs.declared.state_key.StateKey.{StateKey}
+use Rattle.cp_ends.proofs.Searching.Lists.{all_at}
 
 abbrev pub Keys : Type 0
 Keys = StateKey × Origin
 
-module _ (r : Tables) where
-  abbrev kept : Keys → Type 0
-  kept e = IsKept r e.0
+abbrev pub Stated : Type 0
+Stated = Machine × List ℕ
 
-  each_more : (eq : StateKey → StateKey → Bool) (es : List Keys) (k : StateKey) (v : Origin) → IsKept r k → Each kept es → Each kept (insert_entry eq es k v)
-  each_more eq [] k v own h = (own, tt)
-  each_more eq (e ∷ es) k v own h = by (eq k e.0) (each_more eq es k v own h.1)
+abbrev pub bytes_of : Keys → List ℕ
+bytes_of e = e.0.bytes.items
+
+abbrev pub key_at : Stated → List ℕ
+key_at x = key_of x.0
+
+-- ---- lists that end with one more
+
+pub get_more : {X : Type 0} (xs : List X) (y : X) (i : ℕ) (x : X) → slice_get xs i ≡ Some x → slice_get (xs ++ y ∷ []) i ≡ Some x
+get_more [] y i x at = cc
+get_more (z ∷ xs) y zero x at = at
+get_more (z ∷ xs) y (suc i) x at = get_more xs y i x at
+
+pub get_last : {X : Type 0} (xs : List X) (y : X) → slice_get (xs ++ y ∷ []) (length xs) ≡ Some y
+get_last [] y = refl
+get_last (z ∷ xs) y = get_last xs y
+
+-- an element is of the list, or the last
+pub get_cases : {X : Type 0} (xs : List X) (y : X) (i : ℕ) (x : X) → slice_get (xs ++ y ∷ []) i ≡ Some x → (slice_get xs i ≡ Some x) ⊎ ((i ≡ length xs) × (x ≡ y))
+get_cases [] y zero x at = inr (refl, sym (same_Some y x at))
+get_cases [] y (suc i) x at = cc
+get_cases (z ∷ xs) y zero x at = inl at
+get_cases (z ∷ xs) y (suc i) x at = by (get_cases xs y i x at)
+  where
+    by : (slice_get xs i ≡ Some x) ⊎ ((i ≡ length xs) × (x ≡ y)) → (slice_get xs i ≡ Some x) ⊎ ((suc i ≡ suc (length xs)) × (x ≡ y))
+    by (inl e) = inl e
+    by (inr e) = inr (ap suc e.0, e.1)
+
+-- ---- words stay
+
+pub word_more : (states : List Stated) (y : Stated) (o : Origin) (word : List ℕ) → IsWordOf states o word → IsWordOf (states ++ y ∷ []) o word
+word_more states y Start word h = h
+word_more states y (Choice at number) word h = (h.0, get_more states y at h.0 h.1, h.2)
+
+-- ---- keys
+
+head_same : {X Y : Type 0} (f : X → List ℕ) (g : Y → List ℕ) (x : X) (xs : List X) (y : Y) (ys : List Y) → map f (x ∷ xs) ≡ map g (y ∷ ys) → f x ≡ g y
+head_same f g x xs y ys e = ap (λ l. get_or l 0 []) e
+
+tail_same : {X Y : Type 0} (f : X → List ℕ) (g : Y → List ℕ) (x : X) (xs : List X) (y : Y) (ys : List Y) → map f (x ∷ xs) ≡ map g (y ∷ ys) → map f xs ≡ map g ys
+tail_same f g x xs y ys e = ap (drop 1) e
+
+-- what stands at one place has one key
+key_here : (es : List Keys) (xs : List Stated) (i : ℕ) (e : Keys) (x : Stated) → map bytes_of es ≡ map key_at xs → slice_get es i ≡ Some e → slice_get xs i ≡ Some x → bytes_of e ≡ key_at x
+key_here [] xs i e x same at to = cc
+key_here (k ∷ es) [] i e x same at to = cc
+key_here (k ∷ es) (y ∷ xs) zero e x same at to = ap bytes_of (sym (same_Some k e at)) ∙ head_same bytes_of key_at k es y xs same ∙ ap key_at (same_Some y x to)
+key_here (k ∷ es) (y ∷ xs) (suc i) e x same at to = key_here es xs i e x (tail_same bytes_of key_at k es y xs same) at to
+
+-- a key is that of an entry exactly where its machine has the key of a state
+pub found_same : (es : List Keys) (xs : List Stated) (k : StateKey) (m : Machine) → map bytes_of es ≡ map key_at xs → k.bytes.items ≡ key_of m → is_some (lookup (λ j. pointwise nat_eq k.bytes.items j.bytes.items) es) ≡ has same_key xs m
+unfolding same_key
+found_same [] [] k m same key = refl
+found_same [] (x ∷ xs) k m same key = cc
+found_same (e ∷ es) [] k m same key = cc
+found_same (e ∷ es) (x ∷ xs) k m same key = by (pointwise nat_eq k.bytes.items e.0.bytes.items) (same_key x.0 m) test (found_same es xs k m (tail_same bytes_of key_at e es x xs same) key)
+  where
+    test : pointwise nat_eq k.bytes.items e.0.bytes.items ≡ same_key x.0 m
+    test = ap (λ b. pointwise nat_eq b e.0.bytes.items) key ∙ ap (λ b. pointwise nat_eq (key_of m) b) (head_same bytes_of key_at e es x xs same) ∙ nat_list_eq_equiv.symm (key_of m) (key_of x.0)
+
+    by : (b c : Bool) → b ≡ c → is_some (lookup (λ j. pointwise nat_eq k.bytes.items j.bytes.items) es) ≡ has same_key xs m → is_some (cond b (Some e.1) (lookup (λ j. pointwise nat_eq k.bytes.items j.bytes.items) es)) ≡ (if c then true else has same_key xs m)
+    by true true t on = refl
+    by false false t on = on
+    by true false t on = cc
+    by false true t on = cc
+
+insert_new : (eq : StateKey → StateKey → Bool) (es : List Keys) (k : StateKey) (o : Origin) → is_some (lookup (eq k) es) ≡ false → insert_entry eq es k o ≡ es ++ (k, o) ∷ []
+insert_new eq [] k o new = refl
+insert_new eq (e ∷ es) k o new = by (eq k e.0) new (insert_new eq es k o)
+  where
+    by : (b : Bool) → is_some (cond b (Some e.1) (lookup (eq k) es)) ≡ false → (is_some (lookup (eq k) es) ≡ false → insert_entry eq es k o ≡ es ++ (k, o) ∷ []) → (if b then (e.0, o) ∷ es else e ∷ insert_entry eq es k o) ≡ e ∷ es ++ (k, o) ∷ []
+    by true new on = cc
+    by false new on = ap (λ l. e ∷ l) (on new)
+
+module _ (r : Tables) (es : List Keys) (xs : List Stated) (h : AreStates r es xs) where
+  pub states_length : length es ≡ length xs
+  states_length = sym (length-map es bytes_of) ∙ ap length h.keys ∙ length-map xs key_at
+
+  -- the state of an entry
+  pub state_of : (i : ℕ) (e : Keys) → slice_get es i ≡ Some e → (x : Stated) × (slice_get xs i ≡ Some x) × IsMachineOf r x.0 × (x.0.output ≡ []) × (bytes_of e ≡ key_of x.0)
+  state_of i e at = by (slice_get_cases xs i).1
     where
-      by : (b : Bool) → Each kept (insert_entry eq es k v) → Each kept (if b then (e.0, v) ∷ es else e ∷ insert_entry eq es k v)
-      by true on = (h.0, h.1)
-      by false on = (h.0, on)
+      by : ((z : Stated) × (i < length xs) × (slice_get xs i ≡ Some z) × (get_or xs i z ≡ z)) ⊎ ((length xs ≤ i) × (slice_get xs i ≡ None)) → (x : Stated) × (slice_get xs i ≡ Some x) × IsMachineOf r x.0 × (x.0.output ≡ []) × (bytes_of e ≡ key_of x.0)
+      by (inl z) = (z.0, z.2, all_at (λ (x : Stated). IsMachineOf r x.0) xs i z.0 h.own z.2, all_at (λ (x : Stated). x.0.output ≡ []) xs i z.0 h.quiet z.2, key_here es xs i e z.0 h.keys at z.2)
+      by (inr none) = let past = none.0 in let within = slice_get_within es i e at in let few = states_length in absurd (omega (arith, past, within, few))
 
-  -- one more is kept
-  pub kept_more : (eq : StateKey → StateKey → Bool) (es : List Keys) (k : StateKey) (v : Origin) → IsKept r k → AreKept r es → AreKept r (insert_entry eq es k v)
-  kept_more eq es k v own h = All-from_recursion kept (insert_entry eq es k v) (each_more eq es k v own (recursion_from_All kept es h))
+  -- where there is none there is no entry
+  pub no_state : (i : ℕ) → slice_get es i ≡ None → slice_get xs i ≡ None
+  no_state i none = by (slice_get_cases es i).1
+    where
+      by : ((z : Keys) × (i < length es) × (slice_get es i ≡ Some z) × (get_or es i z ≡ z)) ⊎ ((length es ≤ i) × (slice_get es i ≡ None)) → slice_get xs i ≡ None
+      by (inl z) = let both = sym none ∙ z.2 in cc
+      by (inr past) = let le = past.0 in let few = states_length in slice_get_past xs i (omega (arith, le, few))
 
-  -- each of them is kept
-  pub kept_at : (es : List Keys) (i : ℕ) (e : Keys) → slice_get es i ≡ Some e → AreKept r es → IsKept r e.0
-  kept_at es i e is h = subst kept (get_or_from_slice_get es i e e is) (All-get_or kept es i e (slice_get_within es i e is) h)
+  -- one more
+  module _ (k : StateKey) (o : Origin) (m : Machine) (word : List ℕ) where
+    pub states_more : has same_key xs m ≡ false → IsMachineOf r m → m.output ≡ [] → k.bytes.items ≡ key_of m → IsWordOf xs o word → IsBefore (length xs) o → AreStates r (insert_entry (λ a b. pointwise nat_eq a.bytes.items b.bytes.items) es k o) (xs ++ (m, word) ∷ [])
+    states_more new own quiet key is before = subst (λ l. AreStates r l (xs ++ (m, word) ∷ [])) (sym put) more
+      where
+        put : insert_entry (λ a b. pointwise nat_eq a.bytes.items b.bytes.items) es k o ≡ es ++ (k, o) ∷ []
+        put = insert_new (λ a b. pointwise nat_eq a.bytes.items b.bytes.items) es k o (found_same es xs k m h.keys key ∙ new)
+
+        words : (i : ℕ) (e : Keys) (x : Stated) → (slice_get es i ≡ Some e) ⊎ ((i ≡ length es) × (e ≡ (k, o))) → (slice_get xs i ≡ Some x) ⊎ ((i ≡ length xs) × (x ≡ (m, word))) → IsWordOf (xs ++ (m, word) ∷ []) e.1 x.1
+        words i e x (inl at) (inl to) = word_more xs (m, word) e.1 x.1 (h.words i e x at to)
+        words i e x (inl at) (inr to) = let within = slice_get_within es i e at in let here = to.0 in let few = states_length in absurd (omega (arith, within, here, few))
+        words i e x (inr at) (inl to) = let within = slice_get_within xs i x to in let here = at.0 in let few = states_length in absurd (omega (arith, within, here, few))
+        words i e x (inr at) (inr to) = subst (λ (f : Keys). IsWordOf (xs ++ (m, word) ∷ []) f.1 x.1) (sym at.1) (subst (λ (y : Stated). IsWordOf (xs ++ (m, word) ∷ []) o y.1) (sym to.1) (word_more xs (m, word) o word is))
+
+        befores : (i : ℕ) (e : Keys) → (slice_get es i ≡ Some e) ⊎ ((i ≡ length es) × (e ≡ (k, o))) → IsBefore i e.1
+        befores i e (inl at) = h.before i e at
+        befores i e (inr at) = subst (λ (f : Keys). IsBefore i f.1) (sym at.1) (subst (λ n. IsBefore n o) (sym (at.0 ∙ states_length)) before)
+
+        more : AreStates r (es ++ (k, o) ∷ []) (xs ++ (m, word) ∷ [])
+        more =
+            record {
+              keys = map-append bytes_of es ((k, o) ∷ []) ∙ ap (λ l. l ++ k.bytes.items ∷ []) h.keys ∙ ap (λ b. map key_at xs ++ b ∷ []) key ∙ sym (map-append key_at xs ((m, word) ∷ []));
+              own = All-push (λ (x : Stated). IsMachineOf r x.0) xs (m, word) h.own own;
+              quiet = All-push (λ (x : Stated). x.0.output ≡ []) xs (m, word) h.quiet quiet;
+              words = λ i e x at to. words i e x (get_cases es (k, o) i e at) (get_cases xs (m, word) i x to);
+              before = λ i e at. befores i e (get_cases es (k, o) i e at);
+            }

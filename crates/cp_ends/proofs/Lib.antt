@@ -1,2 +1,16 @@
+pub mod Answering
+pub mod Arriving
+pub mod Finding
+pub mod GoingOn
 pub mod Keeping
+pub mod LocalOutput
+pub mod Returning
+pub mod Saying
+pub mod Searching
+pub mod Stepping
+pub mod Stretches
+pub mod Telling
+pub mod Unwinding
 pub mod Wanted
+pub mod named
+pub mod words

@@ -1,1 +1,11 @@
-pub mod Kept
+pub mod Answer
+pub mod Arrivals
+pub mod Ends
+pub mod Firsts
+pub mod ForEver
+pub mod Graph
+pub mod Holds
+pub mod Named
+pub mod Searched
+pub mod Told
+pub mod Whole

@@ -1,9 +1,12 @@
 //! From one due choice to the next, with nothing displayed.
 
-ghost use Rattle.std.specs.Prelude.{◌≡◌, true, false};
-ghost use Rattle.cp_machine.specs.System.{machine_of, opening, is_ready, is_pending, IsStateOf};
+ghost use Rattle.std.specs.Prelude.{◌≡◌, ◌++◌, [], IfOk, true, false};
+ghost use Rattle.cp_machine.specs.System.{machine_of, opening, output_of, is_ready, is_pending, IsStateOf};
 ghost use Rattle.cp_run.specs.Run.{may};
 ghost use Rattle.cp_run.specs.Slots.{slots};
+ghost use Rattle.cp_endless.specs.Silent.{without_output};
+ghost use Rattle.cp_ends.specs.Arrivals.{goal_at, first_arrival, next_arrival, stretch_arrival};
+ghost use Rattle.cp_ends.specs.Holds.{same_key};
 
 use crate::end::{Arrival, End};
 use crate::going::take_step;
@@ -28,7 +31,11 @@ fn stretch<S: Ledger>(
     requires own { IsStateOf program.now state.old }
     requires ready { is_ready (machine_of state.old) pid ≡ true }
     requires free { is_pending (machine_of state.old) ≡ false }
+    requires quiet { output_of (machine_of state.old) ≡ [] }
     ensures own { IsStateOf program.now state.new }
+    ensures quiet { IfOk result (λ _. output_of (machine_of state.new) ≡ []) }
+    ensures goal { IfOk result (λ a. goal_at a (machine_of state.new) ≡ (stretch_arrival (slots program.now limits.gates) without_output same_key limits.steps (machine_of state.old) pid).goal) }
+    ensures shown { IfOk result (λ _. told.new.items ≡ told.old.items ++ (stretch_arrival (slots program.now limits.gates) without_output same_key limits.steps (machine_of state.old) pid).shown) }
 {
     let mut going = pid;
     for _ in 0..limits.steps {
@@ -55,7 +62,11 @@ pub fn choose<S: Ledger>(
 ) -> Result<Arrival, AllocError>
     requires own { IsStateOf program.now state.old }
     requires may { may (slots program.now limits.gates) (machine_of state.old) process ≡ true }
+    requires quiet { output_of (machine_of state.old) ≡ [] }
     ensures own { IsStateOf program.now state.new }
+    ensures quiet { IfOk result (λ _. output_of (machine_of state.new) ≡ []) }
+    ensures goal { IfOk result (λ a. goal_at a (machine_of state.new) ≡ (next_arrival (slots program.now limits.gates) without_output same_key limits.steps (machine_of state.old) process).goal) }
+    ensures shown { IfOk result (λ _. told.new.items ≡ told.old.items ++ (next_arrival (slots program.now limits.gates) without_output same_key limits.steps (machine_of state.old) process).shown) }
 {
     if state.pending().is_none() {
         return stretch(alloc, program, limits, state, process, told, steps);
@@ -80,6 +91,9 @@ pub fn open<S: Ledger>(
     requires own { IsStateOf program.now state.old }
     requires start { machine_of state.old ≡ opening program.now limits.gates }
     ensures own { IsStateOf program.now state.new }
+    ensures quiet { IfOk result (λ _. output_of (machine_of state.new) ≡ []) }
+    ensures goal { IfOk result (λ a. goal_at a (machine_of state.new) ≡ (first_arrival (slots program.now limits.gates) without_output same_key limits.steps).goal) }
+    ensures shown { IfOk result (λ _. told.new.items ≡ told.old.items ++ (first_arrival (slots program.now limits.gates) without_output same_key limits.steps).shown) }
 {
     // A sound program has a process.
     let _processes = program.processes();

@@ -5,6 +5,7 @@ pub mod choosing;
 pub mod end;
 pub mod found;
 pub mod going;
+pub mod laws;
 pub mod origin;
 pub mod report;
 pub mod round;
@@ -14,5 +15,6 @@ pub mod states;
 
 pub use end::End;
 pub use found::Found;
+pub use laws::{law_answer_means, law_answer_to_means};
 pub use report::ends_report;
 pub use search::search_ends;

@@ -1,5 +1,10 @@
 //! The report of a search.
 
+ghost use Rattle.std.specs.Prelude.{◌≡◌, ◌++◌, codes, decimal, IfOk};
+ghost use Rattle.std.specs.String.{string_bytes};
+ghost use Rattle.cp_walk.specs.Text.{kind_text, word_text};
+ghost use Rattle.cp_ends.specs.Told.{end_line, end_text, value_line};
+
 use crate::end::End;
 use crate::found::{Found, FoundValue, MOST_VALUES};
 use cp_run::OutcomeKind;
@@ -100,7 +105,9 @@ fn has_more(alloc: Global, found: &Found, most: usize) -> Result<bool, AllocErro
     Ok(word.len() <= most)
 }
 
-fn push_first(text: &mut String, word: &[u8]) -> Result<(), AllocError> {
+fn push_first(text: &mut String, word: &[u8]) -> Result<(), AllocError>
+    ensures { IfOk result (λ _. string_bytes text.new ≡ string_bytes text.old ++ (codes "first " ++ word_text word.now)) }
+{
     text.push_str("first ")?;
     push_word(text, word)
 }
@@ -110,21 +117,27 @@ fn push_value_line(
     program: &Resolved,
     word: &[u8],
     value: &FoundValue,
-) -> Result<(), AllocError> {
+) -> Result<(), AllocError>
+    ensures { IfOk result (λ _. string_bytes text.new ≡ string_bytes text.old ++ value_line program.now.names value.now.value word.now) }
+{
     push_first(text, word)?;
     text.push_str(" shows ")?;
     push_output(text, program, [value.value].as_slice())?;
     text.push_str("\n")
 }
 
-fn push_end_line(text: &mut String, word: &[u8], end: End) -> Result<(), AllocError> {
+fn push_end_line(text: &mut String, word: &[u8], end: End) -> Result<(), AllocError>
+    ensures { IfOk result (λ _. string_bytes text.new ≡ string_bytes text.old ++ end_line end word.now) }
+{
     push_first(text, word)?;
     text.push_str(" ")?;
     push_end(text, end)?;
     text.push_str("\n")
 }
 
-fn push_end(text: &mut String, end: End) -> Result<(), AllocError> {
+fn push_end(text: &mut String, end: End) -> Result<(), AllocError>
+    ensures { IfOk result (λ _. string_bytes text.new ≡ string_bytes text.old ++ end_text end) }
+{
     match end {
         End::Over(kind) => push_kind(text, kind),
         End::Alone(pid) => push_process(text, "alone", pid),
@@ -132,13 +145,17 @@ fn push_end(text: &mut String, end: End) -> Result<(), AllocError> {
     }
 }
 
-fn push_process(text: &mut String, what: &str, pid: u8) -> Result<(), AllocError> {
+fn push_process(text: &mut String, what: &str, pid: u8) -> Result<(), AllocError>
+    ensures { IfOk result (λ _. string_bytes text.new ≡ string_bytes text.old ++ (what.now ++ codes " process " ++ decimal pid)) }
+{
     text.push_str(what)?;
     text.push_str(" process ")?;
     push_number(text, u64::from(pid))
 }
 
-fn push_kind(text: &mut String, kind: OutcomeKind) -> Result<(), AllocError> {
+fn push_kind(text: &mut String, kind: OutcomeKind) -> Result<(), AllocError>
+    ensures { IfOk result (λ _. string_bytes text.new ≡ string_bytes text.old ++ kind_text kind) }
+{
     match kind {
         OutcomeKind::Finished => text.push_str("finished"),
         OutcomeKind::AllWaiting => text.push_str("all-waiting"),

@@ -1,7 +1,14 @@
 //! Stretches that are cut: whether they repeat.
 
-ghost use Rattle.std.specs.Prelude.{◌≡◌, true, false};
-ghost use Rattle.cp_machine.specs.System.{machine_of, is_ready, is_pending, IsStateOf};
+ghost use Rattle.std.specs.Prelude.{◌≡◌, ◌++◌, [], List, IfOk, IfSome, IfNone, None, true, false};
+ghost use Rattle.cp_key.specs.Key.{key_of};
+ghost use Rattle.cp_machine.specs.System.{Machine, machine_of, output_of, is_ready, is_pending, IsStateOf};
+ghost use Rattle.cp_machine.specs.declared.shown.Shown as said;
+ghost use Rattle.cp_run.specs.Slots.{slots};
+ghost use Rattle.cp_endless.specs.Silent.{silent_slots};
+ghost use Rattle.cp_ends.specs.Arrivals.{cut_arrival, return_within};
+ghost use Rattle.cp_ends.specs.Graph as graph;
+ghost use Rattle.cp_ends.specs.Holds.{same_key};
 
 use crate::end::End;
 use crate::going::take_step;
@@ -26,7 +33,10 @@ pub fn end_of_cut<S: Ledger>(
     requires own { IsStateOf program.now state.old }
     requires ready { is_ready (machine_of state.old) pid ≡ true }
     requires free { is_pending (machine_of state.old) ≡ false }
+    requires quiet { output_of (machine_of state.old) ≡ [] }
     ensures own { IsStateOf program.now state.new }
+    ensures quiet { IfOk result (λ _. output_of (machine_of state.new) ≡ []) }
+    ensures cut { IfOk result (λ e. cut_arrival (slots program.now limits.gates) (silent_slots program.now limits.gates) told.old.items (machine_of state.old) pid (return_within (silent_slots program.now limits.gates) same_key (machine_of state.old) pid limits.steps) ≡ record { goal = graph.End e; shown = told.new.items }) }
 {
     let count = told.len();
     let round = round_of(alloc, program, limits, state, pid, told, steps)?;
@@ -50,7 +60,12 @@ fn round_of<S: Ledger>(
     requires own { IsStateOf program.now state.old }
     requires ready { is_ready (machine_of state.old) pid ≡ true }
     requires free { is_pending (machine_of state.old) ≡ false }
+    requires quiet { output_of (machine_of state.old) ≡ [] }
     ensures own { IsStateOf program.now state.new }
+    ensures quiet { IfOk result (λ _. output_of (machine_of state.new) ≡ []) }
+    ensures some { IfOk result (λ r. IfSome r (λ e. cut_arrival (slots program.now limits.gates) (silent_slots program.now limits.gates) told.old.items (machine_of state.old) pid (return_within (silent_slots program.now limits.gates) same_key (machine_of state.old) pid limits.steps) ≡ record { goal = graph.End e; shown = told.new.items })) }
+    ensures none { IfOk result (λ r. IfNone r (return_within (silent_slots program.now limits.gates) same_key (machine_of state.old) pid limits.steps ≡ None)) }
+    ensures more { IfOk result (λ _. (more : List said.Shown) × (told.new.items ≡ told.old.items ++ more)) }
 {
     let mut first = StateKey {
         bytes: Vec::new(alloc),
@@ -80,7 +95,9 @@ fn round_of<S: Ledger>(
 }
 
 // Whether this is the state of a key. There is room for another one.
-fn is_at(state: &State, first: &StateKey, key: &mut StateKey) -> Result<bool, AllocError> {
+fn is_at(state: &State, first: &StateKey, key: &mut StateKey) -> Result<bool, AllocError>
+    ensures { IfOk result (λ b. (m : Machine) → first.now.bytes.items ≡ key_of m → b ≡ same_key (machine_of state.now) m) }
+{
     key.take_from(state)?;
     Ok(*key == *first)
 }

@@ -1,11 +1,16 @@
 //! The search through all states.
 
-ghost use Rattle.std.specs.Prelude.{◌≡◌, IfOk, true};
+ghost use Rattle.std.specs.Prelude.{◌≡◌, ◌≤◌, ℕ, List, [], length, slice_get, IfOk, Some, true};
 ghost use Rattle.cp_slots.specs.Tables.{Tables};
-ghost use Rattle.cp_machine.specs.System.{machine_of, IsStateOf};
+ghost use Rattle.cp_machine.specs.System.{Machine, machine_of, output_of, IsStateOf};
 ghost use Rattle.cp_run.specs.Run.{may};
 ghost use Rattle.cp_run.specs.Slots.{slots};
-ghost use Rattle.cp_ends.specs.Kept.{AreKept};
+ghost use Rattle.cp_ends.specs.Answer.{Arrives, Comes, GoesOn, HoldsFew, IsSearch, ends_tests, slot_graph};
+ghost use Rattle.cp_ends.specs.Arrivals.{goal_at};
+ghost use Rattle.cp_ends.specs.Graph as graph;
+ghost use Rattle.cp_ends.specs.Holds.{IsBefore, IsWordOf, SlotArrival, SlotFindings, Holds};
+ghost use Rattle.cp_ends.specs.Searched as pure;
+ghost use Rattle.cp_ends.specs.Whole.{IsAnswer};
 
 use crate::choosing::{choose, open};
 use crate::end::Arrival;
@@ -29,16 +34,17 @@ struct Search {
 
 /// Goes on from the opening state, and from each state that is found, with each number that may be chosen there, in the order in which
 /// states are found. So the first word that leads to a state, an end or a value is the shortest, and of the shortest the first in
-/// dictionary order. Stops where there are more than so many states.
+/// dictionary order. Stops where there are more than so many states; at least one is looked at.
 pub fn search_ends(
     alloc: Global,
     program: &Resolved,
     limits: Limits,
     most: u32,
 ) -> Result<Found, AllocError>
-    ensures kept { IfOk result (λ f. AreKept program.now f.states.known.entries) }
+    ensures answer { 1 ≤ most → IfOk result (λ found. IsAnswer program.now limits.gates limits.steps most found) }
 {
-    searched::<Brand>(alloc, program, limits, most, Blank::new(1))
+    let states = if most == 0 { 1 } else { most };
+    searched::<Brand>(alloc, program, limits, states, Blank::new(1))
 }
 
 fn searched<S: Ledger>(
@@ -51,7 +57,8 @@ fn searched<S: Ledger>(
     requires name { blank.name ≡ S.name }
     requires parts { blank.parts ≡ S.parts }
     requires one { S.parts ≡ 1 }
-    ensures kept { IfOk result (λ f. AreKept program.now f.states.known.entries) }
+    requires most { 1 ≤ most }
+    ensures { IfOk result (λ found. IsSearch program.now (slot_graph program.now limits.gates limits.steps) most found found.stopped) }
 {
     let mut steps: Ticks<S> = Ticks::new(blank);
     let mut search = Search::new(alloc);
@@ -75,7 +82,8 @@ fn searched<S: Ledger>(
 
 impl Search {
     fn new(alloc: Global) -> Search
-        ensures { (r : Tables) → AreKept r result.found.states.known.entries }
+        ensures found { (r : Tables) → Holds r result.found (record { states = []; ends = []; values = [] }) }
+        ensures told { result.told.items ≡ [] }
     {
         Search {
             found: Found::new(alloc),
@@ -99,11 +107,11 @@ impl Search {
     ) -> Result<Option<u32>, AllocError>
         requires own { IsStateOf program.now state.old }
         requires next { IsStateOf program.now next.old }
-        requires kept { AreKept program.now self.old.found.states.known.entries }
-        ensures kept { AreKept program.now self.new.found.states.known.entries }
+        requires start { HoldsFew program.now most self.old.found (pure.searched (slot_graph program.now limits.gates limits.steps) ends_tests 0) }
+        ensures { IfOk result (λ stopped. IsSearch program.now (slot_graph program.now limits.gates limits.steps) most self.new.found stopped) }
     {
         for number in 0..most {
-            if !self.found.states.thaw_at(program, number, state) {
+            if !self.found.states.thaw_at(number, state) {
                 return Ok(None);
             }
             let is_room = self.take_choices(
@@ -129,10 +137,10 @@ impl Search {
         steps: &mut Ticks<S>,
     ) -> Result<bool, AllocError>
         requires own { IsStateOf program.now state.now }
+        requires quiet { output_of (machine_of state.now) ≡ [] }
         requires next { IsStateOf program.now next.old }
-        requires kept { AreKept program.now self.old.found.states.known.entries }
         ensures next { IsStateOf program.now next.new }
-        ensures kept { AreKept program.now self.new.found.states.known.entries }
+        ensures found { IfOk result (λ is_room. (f : SlotFindings) (x : Machine × List ℕ) → HoldsFew program.now most self.old.found f → slice_get f.states number ≡ Some x → machine_of state.now ≡ x.0 → GoesOn program.now (slot_graph program.now limits.gates limits.steps) most self.new.found f x is_room) }
     {
         let numbers = wanted(program, limits, state);
         for process in numbers.as_slice() {
@@ -162,9 +170,9 @@ impl Search {
     ) -> Result<bool, AllocError>
         requires own { IsStateOf program.now state.old }
         requires may { may (slots program.now limits.gates) (machine_of state.old) process ≡ true }
-        requires kept { AreKept program.now self.old.found.states.known.entries }
+        requires quiet { output_of (machine_of state.old) ≡ [] }
         ensures own { IsStateOf program.now state.new }
-        ensures kept { AreKept program.now self.new.found.states.known.entries }
+        ensures found { IfOk result (λ is_room. (f : SlotFindings) (word : List ℕ) → HoldsFew program.now most self.old.found f → IsWordOf f.states origin word → IsBefore (length f.states) origin → Arrives program.now most self.new.found f word ((slot_graph program.now limits.gates limits.steps).on (machine_of state.old) process) is_room) }
     {
         self.told.clear();
         let arrival = choose(
@@ -190,8 +198,8 @@ impl Search {
         origin: Origin,
     ) -> Result<bool, AllocError>
         requires own { IsStateOf program.now state.now }
-        requires kept { AreKept program.now self.old.found.states.known.entries }
-        ensures kept { AreKept program.now self.new.found.states.known.entries }
+        requires quiet { output_of (machine_of state.now) ≡ [] }
+        ensures { IfOk result (λ is_room. (f : SlotFindings) (word : List ℕ) (a : SlotArrival) → HoldsFew program.now most self.old.found f → IsWordOf f.states origin word → IsBefore (length f.states) origin → goal_at arrival (machine_of state.now) ≡ a.goal → self.old.told.items ≡ a.shown → Arrives program.now most self.new.found f word a is_room) }
     {
         self.found.add_values(self.told.as_slice(), origin)?;
         match arrival {
@@ -213,9 +221,10 @@ impl Search {
         origin: Origin,
     ) -> Result<bool, AllocError>
         requires own { IsStateOf program.now state.now }
-        requires kept { AreKept program.now self.old.found.states.known.entries }
-        ensures kept { AreKept program.now self.new.found.states.known.entries }
+        requires quiet { output_of (machine_of state.now) ≡ [] }
+        ensures { IfOk result (λ is_room. (f : SlotFindings) (word : List ℕ) → HoldsFew program.now most self.old.found f → IsWordOf f.states origin word → IsBefore (length f.states) origin → Comes program.now most self.new.found f word (graph.Place (machine_of state.now)) is_room) }
     {
+        let _ = program;
         self.key.take_from(state)?;
         if self.found.states.contains(&self.key) {
             return Ok(true);
@@ -223,7 +232,7 @@ impl Search {
         if self.found.states.len() >= most as usize {
             return Ok(false);
         }
-        self.found.states.add(alloc, program, &self.key, origin)?;
+        self.found.states.add(alloc, &self.key, origin)?;
         Ok(true)
     }
 }

@@ -1,5 +1,11 @@
-use Rattle.std.proofs.Common.{◌≡◌, true, false}
-use Rattle.cp_machine.specs.System.{machine_of, is_ready, is_pending, IsStateOf}
+use Rattle.std.proofs.Common.{◌≡◌, ◌++◌, [], Some, true, false}
+use Rattle.cp_machine.specs.System.{machine_of, output_of, is_ready, is_pending, IsStateOf}
+use Rattle.cp_run.specs.Slots.{slots}
+use Rattle.cp_run.specs.Table.{each}
+use Rattle.cp_endless.specs.Moments.{stretch_moments}
+use Rattle.cp_endless.specs.Rounds.{spot_after}
+use Rattle.cp_endless.specs.Shown.{shown_at}
+use Rattle.cp_endless.specs.Silent.{silent_slots}
 use Rattle.cp_ends.proofs.choosing.stretch.Given as goal
 
 abbrev pub invariant-loop : goal.invariant-loop
@@ -8,4 +14,7 @@ invariant-loop g l =
       own : IsStateOf l.program l.state;
       ready : is_ready (machine_of l.state) l.going ≡ true;
       free : is_pending (machine_of l.state) ≡ false;
+      quiet : output_of (machine_of l.state) ≡ [];
+      spot : spot_after (silent_slots l.program l.limits.gates) l.counter (machine_of l.fn.state) l.fn.pid ≡ Some (machine_of l.state, l.going);
+      told : l.told.items ≡ l.fn.told.items ++ each (shown_at (slots l.program l.limits.gates)) (stretch_moments (silent_slots l.program l.limits.gates) l.counter (machine_of l.fn.state) l.fn.pid);
     }

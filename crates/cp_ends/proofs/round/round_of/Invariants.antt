@@ -1,5 +1,14 @@
-use Rattle.std.proofs.Common.{◌≡◌, true, false}
-use Rattle.cp_machine.specs.System.{machine_of, is_ready, is_pending, IsStateOf}
+use Rattle.std.proofs.Common.{◌≡◌, ◌++◌, [], None, Some, true, false}
+use Rattle.cp_key.specs.Key.{key_of}
+use Rattle.cp_machine.specs.System.{machine_of, output_of, is_ready, is_pending, IsStateOf}
+use Rattle.cp_run.specs.Slots.{slots}
+use Rattle.cp_run.specs.Table.{each}
+use Rattle.cp_endless.specs.Moments.{stretch_moments}
+use Rattle.cp_endless.specs.Rounds.{spot_after}
+use Rattle.cp_endless.specs.Shown.{shown_at}
+use Rattle.cp_endless.specs.Silent.{silent_slots}
+use Rattle.cp_ends.specs.Arrivals.{has_call, return_within}
+use Rattle.cp_ends.specs.Holds.{same_key}
 use Rattle.cp_ends.proofs.round.round_of.Given as goal
 
 abbrev pub invariant-loop : goal.invariant-loop
@@ -8,4 +17,10 @@ invariant-loop g l =
       own : IsStateOf l.program l.state;
       ready : is_ready (machine_of l.state) l.going ≡ true;
       free : is_pending (machine_of l.state) ≡ false;
+      quiet : output_of (machine_of l.state) ≡ [];
+      spot : spot_after (silent_slots l.program l.limits.gates) l.counter (machine_of l.fn.state) l.fn.pid ≡ Some (machine_of l.state, l.going);
+      told : l.told.items ≡ l.fn.told.items ++ each (shown_at (slots l.program l.limits.gates)) (stretch_moments (silent_slots l.program l.limits.gates) l.counter (machine_of l.fn.state) l.fn.pid);
+      called : l.is_called ≡ has_call (silent_slots l.program l.limits.gates) (stretch_moments (silent_slots l.program l.limits.gates) l.counter (machine_of l.fn.state) l.fn.pid);
+      none : return_within (silent_slots l.program l.limits.gates) same_key (machine_of l.fn.state) l.fn.pid l.counter ≡ None;
+      first : l.first.bytes.items ≡ key_of (machine_of l.fn.state);
     }

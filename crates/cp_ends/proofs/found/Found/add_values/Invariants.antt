@@ -1,5 +1,8 @@
-use Rattle.std.proofs.Common.{◌≡◌}
+use Rattle.std.proofs.Common.{ℕ, List, take}
+use Rattle.cp_slots.specs.Tables.{Tables}
+use Rattle.cp_ends.specs.Holds.{Holds, IsWordOf, SlotFindings}
+use Rattle.cp_ends.proofs.Finding.{with_all}
 use Rattle.cp_ends.proofs.found.Found.add_values.Given as goal
 
 abbrev pub invariant-loop-value : goal.invariant-loop-value
-invariant-loop-value l = l.self.states ≡ l.initial.self.states
+invariant-loop-value l = (r : Tables) (f : SlotFindings) (word : List ℕ) → Holds r l.initial.self f → IsWordOf f.states l.origin word → Holds r l.self (with_all f word (take l.value-index l.values))

@@ -1,5 +1,6 @@
 use Rattle.cp_machine.specs.System.{IsStateOf}
-use Rattle.cp_ends.specs.Kept.{AreKept}
+use Rattle.cp_ends.specs.Answer.{HoldsFew, ends_tests, slot_graph}
+use Rattle.cp_ends.specs.Searched.{searched}
 use Rattle.cp_ends.proofs.search.Search.go_on.Given as goal
 
 abbrev pub invariant-loop-number : goal.invariant-loop-number
@@ -7,5 +8,5 @@ invariant-loop-number g l =
     record {
       own : IsStateOf l.program l.state;
       next : IsStateOf l.program l.next;
-      kept : AreKept l.program l.self.found.states.known.entries;
+      found : HoldsFew l.program l.most l.self.found (searched (slot_graph l.program l.limits.gates l.limits.steps) ends_tests l.number);
     }

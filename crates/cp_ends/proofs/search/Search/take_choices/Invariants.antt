@@ -1,10 +1,14 @@
-use Rattle.cp_machine.specs.System.{IsStateOf}
-use Rattle.cp_ends.specs.Kept.{AreKept}
+use Rattle.std.proofs.Common.{◌≡◌, ℕ, List, Some, take}
+use Rattle.std.specs.Prelude.{slice_get}
+use Rattle.cp_machine.specs.System.{Machine, machine_of, IsStateOf}
+use Rattle.cp_ends.specs.Answer.{HoldsFew, slot_graph}
+use Rattle.cp_ends.specs.Holds.{SlotFindings}
+use Rattle.cp_ends.proofs.GoingOn.{gone_list}
 use Rattle.cp_ends.proofs.search.Search.take_choices.Given as goal
 
 abbrev pub invariant-loop-process : goal.invariant-loop-process
 invariant-loop-process g l =
     record {
       next : IsStateOf l.program l.next;
-      kept : AreKept l.program l.self.found.states.known.entries;
+      found : (f : SlotFindings) (x : Machine × List ℕ) → HoldsFew l.program l.most l.initial.self.found f → slice_get f.states l.number ≡ Some x → machine_of l.state ≡ x.0 → HoldsFew l.program l.most l.self.found (gone_list (slot_graph l.program l.limits.gates l.limits.steps) x (take l.process-index l.process-items) f);
     }

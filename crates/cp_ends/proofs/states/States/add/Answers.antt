@@ -1,13 +1,12 @@
-use Rattle.std.proofs.Common.{◌∙◌, sym, subst}
-use Rattle.cp_ends.specs.Kept.{AreKept, IsKept}
+use Rattle.std.proofs.Common.{◌≡◌, ◌∙◌, ◌∷◌, ◌++◌, [], sym, subst}
+use Rattle.cp_key.specs.Key.{key_of}
+use Rattle.cp_ends.specs.Holds.{AreStates}
 use Rattle.cp_ends.specs.declared.state_key.StateKey.{StateKey}
-use Rattle.cp_ends.proofs.Keeping.{kept_more}
+use Rattle.cp_ends.proofs.Keeping.{states_more}
 use Rattle.cp_ends.proofs.states.States.add.Goals as goal
 
 pub returns : goal.returns
-returns c =
-    let r = c.args.program.now in
-    let k = c.requires.key in
-    let copy : StateKey = record { bytes = c.in_ok-bytes.bytes } in
-    let is : IsKept r copy = record { machine = k.machine; own = k.own; bytes = c.in_ok-bytes.ensures.items ∙ c.as_slice.ensures.value ∙ k.bytes } in
-    record { kept = subst (AreKept r) (sym c.in_ok-insert.ensures.entries) (kept_more r _ c.args.self.now.known.entries copy c.args.origin is c.requires.kept) }
+returns c = λ r states m word h new own quiet key is before.
+    (let copy : StateKey = record { bytes = c.in_ok-bytes.bytes } in
+    let same : copy.bytes.items ≡ key_of m = c.in_ok-bytes.ensures.items ∙ c.as_slice.ensures.value ∙ key in
+    subst (λ es. AreStates r es (states ++ (m, word) ∷ [])) (sym c.in_ok-insert.ensures.entries) (states_more r c.args.self.now.known.entries states h copy c.args.origin m word new own quiet same is before))

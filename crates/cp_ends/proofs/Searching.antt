@@ -1,0 +1,11 @@
+pub mod Adding
+pub mod Arrivals
+pub mod Complete
+pub mod Firsts
+pub mod Going
+pub mod Growing
+pub mod Lists
+pub mod Reached
+pub mod Stages
+pub mod Stopped
+pub mod Words

@@ -1,0 +1,162 @@
+-- When two ends are one, and two values: what the comparison of the code answers.
+use Rattle.std.proofs.Common.{◌≡◌, ◌==◌, ℕ, Bool, true, false, ap, refl}
+use Rattle.std.specs.Prelude.{◌&&◌, Decides}
+use Rattle.std.proofs.lemmas.Bool.Decides.{Decides-eqb, Decides-int_eq}
+use Rattle.cp_store.specs.contracts.error.ErrorNamePartialEq.TheImpl as name_eq
+use Rattle.cp_store.specs.declared.error.ErrorName.{ErrorName}
+use Rattle.cp_store.specs.declared.error.ErrorName.TheVariants.{Overflow, ZeroDivisor, Range, NoCase, QueueInUse, NotInit, InitTwice}
+use Rattle.cp_machine.specs.declared.shown.Shown.{Shown}
+use Rattle.cp_machine.specs.declared.shown.Shown.TheVariants.{Integer, Char, Truth, Constant}
+use Rattle.cp_run.specs.contracts.outcome.OutcomeKindPartialEq.TheImpl as kind_eq
+use Rattle.cp_run.specs.declared.outcome.OutcomeKind.{OutcomeKind}
+use Rattle.cp_run.specs.declared.outcome.OutcomeKind.TheVariants.{Finished, AllWaiting, RunError, ChoiceLimit, StepLimit, OutputLimit}
+use Rattle.cp_ends.specs.Answer.{ends_tests}
+use Rattle.cp_ends.specs.declared.end.End.{End}
+use Rattle.cp_ends.specs.declared.end.End.TheVariants.{Over, Alone, Spins}
+
+names_told : (a b : ErrorName) → Decides ((name_eq.ghosts).eq a b) (a ≡ b)
+names_told Overflow Overflow = (λ h. refl, λ e. refl)
+names_told Overflow ZeroDivisor = (λ h. absurd (cc), λ e. absurd (cc))
+names_told Overflow Range = (λ h. absurd (cc), λ e. absurd (cc))
+names_told Overflow NoCase = (λ h. absurd (cc), λ e. absurd (cc))
+names_told Overflow QueueInUse = (λ h. absurd (cc), λ e. absurd (cc))
+names_told Overflow NotInit = (λ h. absurd (cc), λ e. absurd (cc))
+names_told Overflow InitTwice = (λ h. absurd (cc), λ e. absurd (cc))
+names_told ZeroDivisor Overflow = (λ h. absurd (cc), λ e. absurd (cc))
+names_told ZeroDivisor ZeroDivisor = (λ h. refl, λ e. refl)
+names_told ZeroDivisor Range = (λ h. absurd (cc), λ e. absurd (cc))
+names_told ZeroDivisor NoCase = (λ h. absurd (cc), λ e. absurd (cc))
+names_told ZeroDivisor QueueInUse = (λ h. absurd (cc), λ e. absurd (cc))
+names_told ZeroDivisor NotInit = (λ h. absurd (cc), λ e. absurd (cc))
+names_told ZeroDivisor InitTwice = (λ h. absurd (cc), λ e. absurd (cc))
+names_told Range Overflow = (λ h. absurd (cc), λ e. absurd (cc))
+names_told Range ZeroDivisor = (λ h. absurd (cc), λ e. absurd (cc))
+names_told Range Range = (λ h. refl, λ e. refl)
+names_told Range NoCase = (λ h. absurd (cc), λ e. absurd (cc))
+names_told Range QueueInUse = (λ h. absurd (cc), λ e. absurd (cc))
+names_told Range NotInit = (λ h. absurd (cc), λ e. absurd (cc))
+names_told Range InitTwice = (λ h. absurd (cc), λ e. absurd (cc))
+names_told NoCase Overflow = (λ h. absurd (cc), λ e. absurd (cc))
+names_told NoCase ZeroDivisor = (λ h. absurd (cc), λ e. absurd (cc))
+names_told NoCase Range = (λ h. absurd (cc), λ e. absurd (cc))
+names_told NoCase NoCase = (λ h. refl, λ e. refl)
+names_told NoCase QueueInUse = (λ h. absurd (cc), λ e. absurd (cc))
+names_told NoCase NotInit = (λ h. absurd (cc), λ e. absurd (cc))
+names_told NoCase InitTwice = (λ h. absurd (cc), λ e. absurd (cc))
+names_told QueueInUse Overflow = (λ h. absurd (cc), λ e. absurd (cc))
+names_told QueueInUse ZeroDivisor = (λ h. absurd (cc), λ e. absurd (cc))
+names_told QueueInUse Range = (λ h. absurd (cc), λ e. absurd (cc))
+names_told QueueInUse NoCase = (λ h. absurd (cc), λ e. absurd (cc))
+names_told QueueInUse QueueInUse = (λ h. refl, λ e. refl)
+names_told QueueInUse NotInit = (λ h. absurd (cc), λ e. absurd (cc))
+names_told QueueInUse InitTwice = (λ h. absurd (cc), λ e. absurd (cc))
+names_told NotInit Overflow = (λ h. absurd (cc), λ e. absurd (cc))
+names_told NotInit ZeroDivisor = (λ h. absurd (cc), λ e. absurd (cc))
+names_told NotInit Range = (λ h. absurd (cc), λ e. absurd (cc))
+names_told NotInit NoCase = (λ h. absurd (cc), λ e. absurd (cc))
+names_told NotInit QueueInUse = (λ h. absurd (cc), λ e. absurd (cc))
+names_told NotInit NotInit = (λ h. refl, λ e. refl)
+names_told NotInit InitTwice = (λ h. absurd (cc), λ e. absurd (cc))
+names_told InitTwice Overflow = (λ h. absurd (cc), λ e. absurd (cc))
+names_told InitTwice ZeroDivisor = (λ h. absurd (cc), λ e. absurd (cc))
+names_told InitTwice Range = (λ h. absurd (cc), λ e. absurd (cc))
+names_told InitTwice NoCase = (λ h. absurd (cc), λ e. absurd (cc))
+names_told InitTwice QueueInUse = (λ h. absurd (cc), λ e. absurd (cc))
+names_told InitTwice NotInit = (λ h. absurd (cc), λ e. absurd (cc))
+names_told InitTwice InitTwice = (λ h. refl, λ e. refl)
+
+both : (a b : Bool) → (a && b) ≡ true → (a ≡ true) × (b ≡ true)
+both true true h = (refl, refl)
+both true false h = absurd (cc)
+both false b h = absurd (cc)
+
+all_three : (a b c : Bool) → a ≡ true → b ≡ true → c ≡ true → (a && (b && c)) ≡ true
+all_three true true true x y z = refl
+all_three true true false x y z = z
+all_three true false c x y z = y
+all_three false b c x y z = x
+
+errors_told : (n m : ErrorName) (p q line other : ℕ) → Decides ((kind_eq.ghosts).eq (RunError n p line) (RunError m q other)) (RunError n p line ≡ RunError m q other)
+errors_told n m p q line other =
+    let names = names_told n m in
+    let processes = Decides-eqb p q in
+    let lines = Decides-eqb line other in (
+      λ h.
+          let b = both ((name_eq.ghosts).eq n m) ((p == q) && (line == other)) h in
+          let c = both (p == q) (line == other) b.1 in
+          rw (names.0 b.0, processes.0 c.0, lines.0 c.1) refl,
+      λ e. all_three ((name_eq.ghosts).eq n m) (p == q) (line == other) (names.1 (cc)) (processes.1 (cc)) (lines.1 (cc)),
+    )
+
+kinds_told : (a b : OutcomeKind) → Decides ((kind_eq.ghosts).eq a b) (a ≡ b)
+kinds_told Finished Finished = (λ h. refl, λ e. refl)
+kinds_told Finished AllWaiting = (λ h. absurd (cc), λ e. absurd (cc))
+kinds_told Finished (RunError m mp ml) = (λ h. absurd (cc), λ e. absurd (cc))
+kinds_told Finished ChoiceLimit = (λ h. absurd (cc), λ e. absurd (cc))
+kinds_told Finished StepLimit = (λ h. absurd (cc), λ e. absurd (cc))
+kinds_told Finished OutputLimit = (λ h. absurd (cc), λ e. absurd (cc))
+kinds_told AllWaiting Finished = (λ h. absurd (cc), λ e. absurd (cc))
+kinds_told AllWaiting AllWaiting = (λ h. refl, λ e. refl)
+kinds_told AllWaiting (RunError m mp ml) = (λ h. absurd (cc), λ e. absurd (cc))
+kinds_told AllWaiting ChoiceLimit = (λ h. absurd (cc), λ e. absurd (cc))
+kinds_told AllWaiting StepLimit = (λ h. absurd (cc), λ e. absurd (cc))
+kinds_told AllWaiting OutputLimit = (λ h. absurd (cc), λ e. absurd (cc))
+kinds_told (RunError n np nl) Finished = (λ h. absurd (cc), λ e. absurd (cc))
+kinds_told (RunError n np nl) AllWaiting = (λ h. absurd (cc), λ e. absurd (cc))
+kinds_told (RunError n p line) (RunError m q other) = errors_told n m p q line other
+kinds_told (RunError n np nl) ChoiceLimit = (λ h. absurd (cc), λ e. absurd (cc))
+kinds_told (RunError n np nl) StepLimit = (λ h. absurd (cc), λ e. absurd (cc))
+kinds_told (RunError n np nl) OutputLimit = (λ h. absurd (cc), λ e. absurd (cc))
+kinds_told ChoiceLimit Finished = (λ h. absurd (cc), λ e. absurd (cc))
+kinds_told ChoiceLimit AllWaiting = (λ h. absurd (cc), λ e. absurd (cc))
+kinds_told ChoiceLimit (RunError m mp ml) = (λ h. absurd (cc), λ e. absurd (cc))
+kinds_told ChoiceLimit ChoiceLimit = (λ h. refl, λ e. refl)
+kinds_told ChoiceLimit StepLimit = (λ h. absurd (cc), λ e. absurd (cc))
+kinds_told ChoiceLimit OutputLimit = (λ h. absurd (cc), λ e. absurd (cc))
+kinds_told StepLimit Finished = (λ h. absurd (cc), λ e. absurd (cc))
+kinds_told StepLimit AllWaiting = (λ h. absurd (cc), λ e. absurd (cc))
+kinds_told StepLimit (RunError m mp ml) = (λ h. absurd (cc), λ e. absurd (cc))
+kinds_told StepLimit ChoiceLimit = (λ h. absurd (cc), λ e. absurd (cc))
+kinds_told StepLimit StepLimit = (λ h. refl, λ e. refl)
+kinds_told StepLimit OutputLimit = (λ h. absurd (cc), λ e. absurd (cc))
+kinds_told OutputLimit Finished = (λ h. absurd (cc), λ e. absurd (cc))
+kinds_told OutputLimit AllWaiting = (λ h. absurd (cc), λ e. absurd (cc))
+kinds_told OutputLimit (RunError m mp ml) = (λ h. absurd (cc), λ e. absurd (cc))
+kinds_told OutputLimit ChoiceLimit = (λ h. absurd (cc), λ e. absurd (cc))
+kinds_told OutputLimit StepLimit = (λ h. absurd (cc), λ e. absurd (cc))
+kinds_told OutputLimit OutputLimit = (λ h. refl, λ e. refl)
+
+pub ends_told : (a b : End) → Decides (ends_tests.end a b) (a ≡ b)
+ends_told (Over a) (Over b) = let d = kinds_told a b in (λ h. ap (λ x. Over x) (d.0 h), λ e. d.1 (cc))
+ends_told (Over a) (Alone b) = (λ h. absurd (cc), λ e. absurd (cc))
+ends_told (Over a) (Spins b) = (λ h. absurd (cc), λ e. absurd (cc))
+ends_told (Alone a) (Over b) = (λ h. absurd (cc), λ e. absurd (cc))
+ends_told (Alone a) (Alone b) = let d = Decides-eqb a b in (λ h. ap (λ x. Alone x) (d.0 h), λ e. d.1 (cc))
+ends_told (Alone a) (Spins b) = (λ h. absurd (cc), λ e. absurd (cc))
+ends_told (Spins a) (Over b) = (λ h. absurd (cc), λ e. absurd (cc))
+ends_told (Spins a) (Alone b) = (λ h. absurd (cc), λ e. absurd (cc))
+ends_told (Spins a) (Spins b) = let d = Decides-eqb a b in (λ h. ap (λ x. Spins x) (d.0 h), λ e. d.1 (cc))
+
+truths_told : (a b : Bool) → Decides (ends_tests.value (Truth a) (Truth b)) (Truth a ≡ Truth b)
+truths_told true true = (λ h. refl, λ e. refl)
+truths_told true false = (λ h. absurd (cc), λ e. absurd (cc))
+truths_told false true = (λ h. absurd (cc), λ e. absurd (cc))
+truths_told false false = (λ h. refl, λ e. refl)
+
+pub values_told : (a b : Shown) → Decides (ends_tests.value a b) (a ≡ b)
+values_told (Integer a) (Integer b) = let d = Decides-int_eq a b in (λ h. ap (λ x. Integer x) (d.0 h), λ e. d.1 (cc))
+values_told (Integer a) (Char b) = (λ h. absurd (cc), λ e. absurd (cc))
+values_told (Integer a) (Truth b) = (λ h. absurd (cc), λ e. absurd (cc))
+values_told (Integer a) (Constant b) = (λ h. absurd (cc), λ e. absurd (cc))
+values_told (Char a) (Integer b) = (λ h. absurd (cc), λ e. absurd (cc))
+values_told (Char a) (Char b) = let d = Decides-eqb a b in (λ h. ap (λ x. Char x) (d.0 h), λ e. d.1 (cc))
+values_told (Char a) (Truth b) = (λ h. absurd (cc), λ e. absurd (cc))
+values_told (Char a) (Constant b) = (λ h. absurd (cc), λ e. absurd (cc))
+values_told (Truth a) (Integer b) = (λ h. absurd (cc), λ e. absurd (cc))
+values_told (Truth a) (Char b) = (λ h. absurd (cc), λ e. absurd (cc))
+values_told (Truth a) (Truth b) = truths_told a b
+values_told (Truth a) (Constant b) = (λ h. absurd (cc), λ e. absurd (cc))
+values_told (Constant a) (Integer b) = (λ h. absurd (cc), λ e. absurd (cc))
+values_told (Constant a) (Char b) = (λ h. absurd (cc), λ e. absurd (cc))
+values_told (Constant a) (Truth b) = (λ h. absurd (cc), λ e. absurd (cc))
+values_told (Constant a) (Constant b) = let d = Decides-eqb a b in (λ h. ap (λ x. Constant x) (d.0 h), λ e. d.1 (cc))

@@ -1,0 +1,13 @@
+use Rattle.std.proofs.Common.{arith}
+use Rattle.cp_ends.proofs.Saying.{says_of}
+use Rattle.cp_ends.proofs.search.search_ends.Goals as goal
+use Rattle.cp_ends.proofs.search.search_ends.Goals.{then-most-eq0, else-most-eq0}
+
+pub returns : goal.returns
+returns c =
+    record {
+      answer = λ some. says_of c.args.program.now c.args.limits.gates c.args.limits.steps c.args.most c.if-most-eq0.states (elim c.if-most-eq0.branch [
+        | then-most-eq0 w ↦ absurd (omega (arith, some, w.if-most-eq0))
+        | else-most-eq0 w ↦ w.states-is
+      ]) c.searched.result c.searched.ensures;
+    }

@@ -1,0 +1,5 @@
+pub mod Alike
+pub mod Edges
+pub mod Firsts
+pub mod Returns
+pub mod Translated
