@@ -19,7 +19,7 @@ use Rattle.cp_run.specs.Slots.{slots}
 use Rattle.cp_endless.specs.Silent.{without_output}
 use Rattle.cp_ends.specs.Answer.{ends_tests, slot_graph, with_shown, IsDone, IsStopped, IsSearch}
 use Rattle.cp_ends.specs.Graph.{Graph}
-use Rattle.cp_ends.specs.Holds.{same_key, SlotFindings, Holds}
+use Rattle.cp_ends.specs.Holds.{same_key, SlotFindings, Holds, HasFindings}
 use Rattle.cp_ends.specs.Searched.{Findings, gone_on, searched}
 use Rattle.cp_ends.specs.Firsts.{those_within}
 use Rattle.cp_ends.specs.Named.{IsAnswerOnNames, IsAnswerToOnNames}
@@ -92,3 +92,6 @@ module _ (r : Tables) (gates : Gates) (steps most : ℕ) (found : Found) where
 -- the answer of a search among as many states as are wanted
 pub says_of : {E : Type 0} (r : Tables) (gates : Gates) (steps most states : ℕ) → states ≡ most → (result : Result Found E) → IfOk result (λ found. IsSearch r (slot_graph r gates steps) states found found.stopped) → IfOk result (λ found. IsAnswer r gates steps most found)
 says_of r gates steps most states e result h = ok_to result _ _ h (λ found s. subst (λ n. IsAnswer r gates steps n found) e (says r gates steps states found s))
+
+pub has_findings : {E : Type 0} (r : Tables) (gates : Gates) (steps states : ℕ) (result : Result Found E) → IfOk result (λ found. IsSearch r (slot_graph r gates steps) states found found.stopped) → IfOk result (λ found. HasFindings r found)
+has_findings r gates steps states result h = ok_to result _ _ h (λ found s. let a = says r gates steps states found s in (a.findings, a.holds))

@@ -76,3 +76,7 @@ pub record Holds (r : Tables) (found : Found) (f : SlotFindings) : Type 0 where
   pub states : AreStates r found.states.known.entries f.states
   pub ends : AreFound f.states (map end_origin found.ends.items) f.ends
   pub values : AreFound f.states (map value_origin found.values.items) f.values
+
+-- what the code found are some findings
+abbrev pub HasFindings : Tables → Found → Type 0
+HasFindings r found = (f : SlotFindings) × Holds r found f

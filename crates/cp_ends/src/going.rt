@@ -23,8 +23,8 @@ pub struct Stepped {
     pub is_call: bool,
 }
 
-// What a state has displayed goes to the end of what was told.
-fn forget(program: &Resolved, state: &mut State, told: &mut Vec<Shown>) -> Result<(), AllocError>
+/// What a state has displayed goes to the end of what was told.
+pub fn forget(program: &Resolved, state: &mut State, told: &mut Vec<Shown>) -> Result<(), AllocError>
     requires own { IsStateOf program.now state.old }
     ensures own { IsStateOf program.now state.new }
     ensures ready { (q : ℕ) → is_ready (machine_of state.new) q ≡ is_ready (machine_of state.old) q }

@@ -8,7 +8,7 @@ ghost use Rattle.cp_run.specs.Slots.{slots};
 ghost use Rattle.cp_ends.specs.Answer.{Arrives, Comes, GoesOn, HoldsFew, IsSearch, ends_tests, slot_graph};
 ghost use Rattle.cp_ends.specs.Arrivals.{goal_at};
 ghost use Rattle.cp_ends.specs.Graph as graph;
-ghost use Rattle.cp_ends.specs.Holds.{IsBefore, IsWordOf, SlotArrival, SlotFindings, Holds};
+ghost use Rattle.cp_ends.specs.Holds.{IsBefore, IsWordOf, SlotArrival, SlotFindings, Holds, HasFindings};
 ghost use Rattle.cp_ends.specs.Searched as pure;
 ghost use Rattle.cp_ends.specs.Whole.{IsAnswer};
 
@@ -42,6 +42,7 @@ pub fn search_ends(
     most: u32,
 ) -> Result<Found, AllocError>
     ensures answer { 1 ≤ most → IfOk result (λ found. IsAnswer program.now limits.gates limits.steps most found) }
+    ensures kept { IfOk result (λ found. HasFindings program.now found) }
 {
     let states = if most == 0 { 1 } else { most };
     searched::<Brand>(alloc, program, limits, states, Blank::new(1))

@@ -1,6 +1,6 @@
 //! From the bytes of a source to the ends that are possible.
 
-ghost use Rattle.cp_ends.specs.Kept.{AreKept};
+ghost use Rattle.cp_ends.specs.Holds.{HasFindings};
 
 use cp_check::check;
 use cp_ends::{Found, ends_report, search_ends};
@@ -120,7 +120,7 @@ fn waited(
     limits: Limits,
     found: &Found,
 ) -> Result<Answer, AllocError>
-    requires kept { AreKept program.now found.now.states.known.entries }
+    requires kept { HasFindings program.now found.now }
 {
     let graph = graph_of(alloc, program, limits, found)?;
     let waits = who_waits(alloc, &graph, &found.states)?;

@@ -4,7 +4,7 @@ ghost use Rattle.std.specs.Prelude.{◌≡◌, true};
 ghost use Rattle.cp_machine.specs.System.{machine_of, IsStateOf};
 ghost use Rattle.cp_run.specs.Run.{may};
 ghost use Rattle.cp_run.specs.Slots.{slots};
-ghost use Rattle.cp_ends.specs.Kept.{AreKept};
+ghost use Rattle.cp_ends.specs.Holds.{HasFindings};
 
 use crate::graph::{Edge, Graph, Standstill};
 use crate::passing::Passing;
@@ -33,7 +33,7 @@ pub fn graph_of(
     limits: Limits,
     found: &Found,
 ) -> Result<Graph, AllocError>
-    requires kept { AreKept program.now found.now.states.known.entries }
+    requires kept { HasFindings program.now found.now }
 {
     built::<Brand>(alloc, program, limits, found, Blank::new(1))
 }
@@ -45,7 +45,7 @@ fn built<S: Ledger>(
     found: &Found,
     blank: Blank,
 ) -> Result<Graph, AllocError>
-    requires kept { AreKept program.now found.now.states.known.entries }
+    requires kept { HasFindings program.now found.now }
     requires name { blank.name ≡ S.name }
     requires parts { blank.parts ≡ S.parts }
     requires one { S.parts ≡ 1 }
@@ -80,10 +80,10 @@ impl Builder {
     ) -> Result<(), AllocError>
         requires own { IsStateOf program.now state.old }
         requires next { IsStateOf program.now next.old }
-        requires kept { AreKept program.now found.now.states.known.entries }
+        requires kept { HasFindings program.now found.now }
     {
         for number in 0..u32::MAX {
-            if !found.states.thaw_at(program, number, state) {
+            if !found.states.thaw_at(number, state) {
                 return Ok(());
             }
             self.take_choices(alloc, program, limits, found, number, state, next, steps)?;

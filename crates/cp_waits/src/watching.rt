@@ -1,13 +1,13 @@
 //! From one due choice to the next, with each moment seen.
 
-ghost use Rattle.std.specs.Prelude.{◌≡◌, true, false};
-ghost use Rattle.cp_machine.specs.System.{machine_of, opening, is_ready, is_pending, IsStateOf};
+ghost use Rattle.std.specs.Prelude.{◌≡◌, [], true, false};
+ghost use Rattle.cp_machine.specs.System.{machine_of, opening, output_of, is_ready, is_pending, IsStateOf};
 ghost use Rattle.cp_run.specs.Run.{may};
 ghost use Rattle.cp_run.specs.Slots.{slots};
 
 use crate::passing::Passing;
 use crate::set::Set;
-use cp_ends::going::take_step;
+use cp_ends::going::{forget, take_step};
 use cp_ends::state_key::StateKey;
 use cp_machine::{Shown, State, Ticks};
 use cp_run::turn::{settled_turn, turn_at};
@@ -43,6 +43,7 @@ fn stretch<S: Ledger>(
     ensures own { IsStateOf program.now state.new }
 {
     let mut told: Vec<Shown> = Vec::new(alloc);
+    forget(program, state, &mut told)?;
     let mut going = pid;
     for _ in 0..limits.steps {
         passing.add(state, going);
@@ -73,6 +74,7 @@ fn round<S: Ledger>(
     requires own { IsStateOf program.now state.old }
     requires ready { is_ready (machine_of state.old) pid ≡ true }
     requires free { is_pending (machine_of state.old) ≡ false }
+    requires quiet { output_of (machine_of state.old) ≡ [] }
     ensures own { IsStateOf program.now state.new }
 {
     let mut first = empty_key(alloc);

@@ -1,5 +1,5 @@
 use Rattle.std.proofs.Common.{arith}
-use Rattle.cp_ends.proofs.Saying.{says_of}
+use Rattle.cp_ends.proofs.Saying.{has_findings, says_of}
 use Rattle.cp_ends.proofs.search.search_ends.Goals as goal
 use Rattle.cp_ends.proofs.search.search_ends.Goals.{then-most-eq0, else-most-eq0}
 
@@ -10,4 +10,5 @@ returns c =
         | then-most-eq0 w ↦ absurd (omega (arith, some, w.if-most-eq0))
         | else-most-eq0 w ↦ w.states-is
       ]) c.searched.result c.searched.ensures;
+      kept = has_findings c.args.program.now c.args.limits.gates c.args.limits.steps c.if-most-eq0.states c.searched.result c.searched.ensures;
     }
