@@ -2,6 +2,7 @@
 
 use crate::draft::{Draft, spelling};
 use crate::extent::Extent;
+use cp_drops::drop_tree;
 use cp_text::{Mark, Tokens};
 use cp_tree::{ParseFault, parse};
 use std::alloc::{AllocError, Global};
@@ -93,8 +94,16 @@ pub fn may_stand(
     let Some(tried) = draft.tokens(alloc)? else {
         return Ok(false);
     };
-    match parse(alloc, &tried) {
-        Ok(_) => Ok(true),
+    reads_past(alloc, &tried, at)
+}
+
+/// Whether the parser refuses none of the tokens up to this number.
+fn reads_past(alloc: Global, tokens: &Tokens, at: usize) -> Result<bool, AllocError> {
+    match parse(alloc, tokens) {
+        Ok(tree) => {
+            drop_tree(tree);
+            Ok(true)
+        }
         Err(ParseFault::Unexpected(place)) => Ok(place > at),
         Err(ParseFault::OutsideProfile(place)) => Ok(place > at),
         Err(ParseFault::TooDeep(place)) => Ok(place > at),
@@ -130,16 +139,24 @@ fn role_of(mark: Mark) -> Role {
     }
 }
 
-/// Whether a word is told by one word for all, where these may stand.
-fn is_covered(mark: Mark, statement: bool, operand: bool, operator: bool) -> bool {
+/// What may stand at a place, of that which is told by one word for all.
+#[derive(Clone, Copy)]
+struct Kinds {
+    statement: bool,
+    operand: bool,
+    operator: bool,
+}
+
+/// Whether a word is told by one word for all.
+fn is_covered(mark: Mark, kinds: Kinds) -> bool {
     match role_of(mark) {
-        Role::Statement => statement,
-        Role::Operand => operand,
-        Role::Operator => operator || operand,
+        Role::Statement => kinds.statement,
+        Role::Operand => kinds.operand,
+        Role::Operator => kinds.operator || kinds.operand,
         Role::Own => match mark {
-            Mark::Begin => statement,
-            Mark::OpenParenthesis => operand,
-            Mark::OpenBracket => operand,
+            Mark::Begin => kinds.statement,
+            Mark::OpenParenthesis => kinds.operand,
+            Mark::OpenBracket => kinds.operand,
             _ => false,
         },
     }
@@ -160,9 +177,86 @@ fn push_choice(text: &mut String, words: &[String]) -> Result<(), AllocError> {
     Ok(())
 }
 
-fn add(alloc: Global, words: &mut Vec<String>, word: &str) -> Result<(), AllocError> {
-    words.push(String::from_str(alloc, word)?)?;
-    Ok(())
+/// A place among some tokens.
+#[derive(Clone, Copy)]
+struct Place<'a> {
+    alloc: Global,
+    tokens: &'a Tokens,
+    at: usize,
+}
+
+impl<'a> Place<'a> {
+    fn takes(&self, candidate: Candidate) -> Result<bool, AllocError> {
+        may_stand(self.alloc, self.tokens, self.at, candidate)
+    }
+
+    fn takes_mark(&self, mark: Mark) -> Result<bool, AllocError> {
+        self.takes(Candidate::Mark(mark))
+    }
+
+    fn kinds(&self) -> Result<Kinds, AllocError> {
+        Ok(Kinds {
+            statement: self.takes_mark(Mark::While)?,
+            operand: self.takes_mark(Mark::Not)?,
+            operator: self.takes_mark(Mark::Times)?,
+        })
+    }
+
+    fn add(&self, words: &mut Vec<String>, word: &str) -> Result<(), AllocError> {
+        words.push(String::from_str(self.alloc, word)?)?;
+        Ok(())
+    }
+
+    /// Adds a word where a kind of token may stand.
+    fn add_if_taken(
+        &self,
+        words: &mut Vec<String>,
+        candidate: Candidate,
+        word: &str,
+    ) -> Result<(), AllocError> {
+        if self.takes(candidate)? {
+            self.add(words, word)?;
+        }
+        Ok(())
+    }
+
+    /// Adds what names, numbers and characters are a part of, or these.
+    fn add_operands(&self, words: &mut Vec<String>, kinds: Kinds) -> Result<(), AllocError> {
+        if kinds.statement {
+            self.add(words, "a statement")?;
+        }
+        if kinds.operand {
+            self.add(words, "an expression")?;
+        }
+        if kinds.statement || kinds.operand {
+            return Ok(());
+        }
+        self.add_if_taken(words, Candidate::Name, "a name")?;
+        self.add_if_taken(words, Candidate::Number, "a number")?;
+        self.add_if_taken(words, Candidate::Character, "a character")
+    }
+
+    /// Adds a reserved word or sign, in quotes.
+    fn add_mark(&self, words: &mut Vec<String>, mark: Mark) -> Result<(), AllocError> {
+        if self.takes_mark(mark)? {
+            let word = spelling(mark);
+            words.push(format!(in self.alloc; "\"{word}\"")?)?;
+        }
+        Ok(())
+    }
+
+    fn add_all(&self, words: &mut Vec<String>, kinds: Kinds) -> Result<(), AllocError> {
+        self.add_operands(words, kinds)?;
+        if kinds.operator {
+            self.add(words, "an operator")?;
+        }
+        for mark in MARKS {
+            if !is_covered(mark, kinds) {
+                self.add_mark(words, mark)?;
+            }
+        }
+        self.add_mark(words, Mark::Period)
+    }
 }
 
 /// Appends what could stand in the place of the token of this number.
@@ -172,41 +266,9 @@ pub fn push_wanted(
     tokens: &Tokens,
     at: usize,
 ) -> Result<(), AllocError> {
-    let statement = may_stand(alloc, tokens, at, Candidate::Mark(Mark::While))?;
-    let operand = may_stand(alloc, tokens, at, Candidate::Mark(Mark::Not))?;
-    let operator = may_stand(alloc, tokens, at, Candidate::Mark(Mark::Times))?;
+    let place = Place { alloc, tokens, at };
     let mut words = Vec::new(alloc);
-    if statement {
-        add(alloc, &mut words, "a statement")?;
-    }
-    if operand {
-        add(alloc, &mut words, "an expression")?;
-    }
-    if !statement && !operand {
-        if may_stand(alloc, tokens, at, Candidate::Name)? {
-            add(alloc, &mut words, "a name")?;
-        }
-        if may_stand(alloc, tokens, at, Candidate::Number)? {
-            add(alloc, &mut words, "a number")?;
-        }
-        if may_stand(alloc, tokens, at, Candidate::Character)? {
-            add(alloc, &mut words, "a character")?;
-        }
-    }
-    if operator {
-        add(alloc, &mut words, "an operator")?;
-    }
-    for mark in MARKS {
-        if !is_covered(mark, statement, operand, operator)
-            && may_stand(alloc, tokens, at, Candidate::Mark(mark))?
-        {
-            let word = spelling(mark);
-            words.push(format!(in alloc; "\"{word}\"")?)?;
-        }
-    }
-    if may_stand(alloc, tokens, at, Candidate::Mark(Mark::Period))? {
-        add(alloc, &mut words, "\".\"")?;
-    }
+    place.add_all(&mut words, place.kinds()?)?;
     if words.is_empty() {
         return text.push_str("the end of the source");
     }

@@ -7,8 +7,9 @@ use crate::page::{line_number, push_marked_line, push_tokens};
 use crate::place::{Sought, Span, find};
 use crate::rules::{Broken, mark_at, sentence};
 use cp_check::{CheckFault, check};
+use cp_drops::{drop_checked, drop_tree};
 use cp_text::{Kind, Mark, ScanCause, ScanFault, Tokens, scan};
-use cp_tree::{ParseFault, Program, parse};
+use cp_tree::{ParseFault, Program, Tree, parse};
 use std::alloc::{AllocError, Global};
 
 /// What is said of a source.
@@ -28,17 +29,49 @@ pub fn refusal(alloc: Global, source: &[u8]) -> Result<Answer, AllocError> {
 }
 
 fn parsed(alloc: Global, source: &[u8], tokens: &Tokens) -> Result<Answer, AllocError> {
-    let tree = match parse(alloc, tokens) {
-        Ok(tree) => tree,
-        Err(fault) => return parse_refused(alloc, source, tokens, &fault),
-    };
+    match parse(alloc, tokens) {
+        Ok(tree) => checked(alloc, source, tokens, tree),
+        Err(fault) => parse_refused(alloc, source, tokens, &fault),
+    }
+}
+
+fn checked(
+    alloc: Global,
+    source: &[u8],
+    tokens: &Tokens,
+    tree: Tree,
+) -> Result<Answer, AllocError> {
     match check(alloc, tree) {
-        Ok(checked) => accepted(alloc, source, tokens, &checked.tree().program),
-        Err((CheckFault::Rule { at, rule }, tree)) => {
-            let program = &tree.program;
-            rule_broken(alloc, source, tokens, Broken { program, at, rule })
+        Ok(checked) => {
+            let answer = accepted(alloc, source, tokens, &checked.tree().program);
+            drop_checked(checked);
+            answer
         }
-        Err((CheckFault::Memory, _)) => Err(AllocError),
+        Err((fault, tree)) => {
+            let answer = check_refused(alloc, source, tokens, &tree, &fault);
+            drop_tree(tree);
+            answer
+        }
+    }
+}
+
+fn check_refused(
+    alloc: Global,
+    source: &[u8],
+    tokens: &Tokens,
+    tree: &Tree,
+    fault: &CheckFault,
+) -> Result<Answer, AllocError> {
+    match fault {
+        CheckFault::Rule { at, rule } => {
+            let broken = Broken {
+                program: &tree.program,
+                at: *at,
+                rule: *rule,
+            };
+            rule_broken(alloc, source, tokens, broken)
+        }
+        CheckFault::Memory => Err(AllocError),
     }
 }
 

@@ -3,6 +3,7 @@
 use crate::draft::{Draft, spelling};
 use crate::extent::Extent;
 use cp_check::{CheckFault, Rule, check};
+use cp_drops::{drop_checked, drop_tree};
 use cp_text::{Kind, Mark, Tokens};
 use cp_tree::{ParseFault, parse};
 use std::alloc::{AllocError, Global};
@@ -84,11 +85,24 @@ fn replied(alloc: Global, tokens: &Tokens, pieces: Extent) -> Result<Reply, Allo
         Err(_) => return Ok(Reply::Unknown),
     };
     match check(alloc, tree) {
-        Ok(_) => Ok(Reply::Fine),
-        Err((CheckFault::Memory, _)) => Err(AllocError),
-        Err((CheckFault::Rule { at, .. }, _)) if at >= pieces.to => Ok(Reply::Fine),
-        Err((CheckFault::Rule { at, rule }, _)) => Ok(match at.checked_sub(pieces.from) {
-            Some(at) => Reply::Broken { rule, at },
+        Ok(checked) => {
+            drop_checked(checked);
+            Ok(Reply::Fine)
+        }
+        Err((fault, tree)) => {
+            drop_tree(tree);
+            reply_to(&fault, pieces)
+        }
+    }
+}
+
+/// What a fault says of some tokens of a program.
+fn reply_to(fault: &CheckFault, pieces: Extent) -> Result<Reply, AllocError> {
+    match fault {
+        CheckFault::Memory => Err(AllocError),
+        CheckFault::Rule { at, .. } if *at >= pieces.to => Ok(Reply::Fine),
+        CheckFault::Rule { at, rule } => Ok(match at.checked_sub(pieces.from) {
+            Some(at) => Reply::Broken { rule: *rule, at },
             None => Reply::Unknown,
         }),
     }

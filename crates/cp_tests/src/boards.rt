@@ -135,25 +135,37 @@ fn board_idle_seats(rt: HostRuntime) -> Result<(), Fail> {
     Ok(())
 }
 
+// Whether a seat draws this task, and hears this total where it notes so many rows of it.
+fn draws(board: &Board, seat: &mut Seat, task: u32, rows: u32, total: u64) -> bool
+    requires own { IsSeatOf board.now seat.old }
+    requires rows { rows ≤ 50001 }
+    ensures { IsSeatOf board.now seat.new }
+{
+    match board.claim(seat) {
+        Some(drawn) => board.note(seat, rows) == total && drawn == task,
+        None => false,
+    }
+}
+
+// Whether a seat draws the two tasks of a board alone, and then nothing more.
+fn draws_two_alone(board: &Board, seat: &mut Seat) -> bool
+    requires { IsSeatOf board.now seat.old }
+    ensures { IsSeatOf board.now seat.new }
+{
+    let two = draws(board, seat, 0, 50_001, 50_001) && draws(board, seat, 1, 1, 50_002);
+    two && board.claim(seat).is_none() && board.claim(seat).is_none()
+}
+
 #[test]
 fn board_one_seat(rt: HostRuntime) -> Result<(), Fail> {
     let (board, mut seats) = Board::new(rt.alloc(), 2, 1)?;
     let Some(mut seat) = seats.pop() else {
         return Err(Fail::new("no seat"));
     };
-    let first = board.claim(&mut seat);
-    assert_eq!(rt; first, Some(0));
-    let many = board.note(&mut seat, 50_001);
-    let second = board.claim(&mut seat);
-    assert_eq!(rt; second, Some(1));
-    let more = board.note(&mut seat, 1);
-    assert!(rt; many == 50_001 && more == 50_002);
-    let none = board.claim(&mut seat);
-    let again = board.claim(&mut seat);
-    assert!(rt; none.is_none() && again.is_none());
+    let are_drawn = draws_two_alone(&board, &mut seat);
     seats.push(seat)?;
     let closed = board.close(seats);
-    assert!(rt; closed.claimed == 2 && closed.total == 50_002);
+    assert!(rt; are_drawn && closed.claimed == 2 && closed.total == 50_002);
     Ok(())
 }
 
@@ -170,25 +182,28 @@ fn board_refusals(rt: HostRuntime) -> Result<(), Fail> {
     Ok(())
 }
 
+// Whether one seat draws the first of three tasks and notes nothing, and the other one draws the rest and notes its rows.
+fn draw_beside_a_silent_one(board: &Board, silent: &mut Seat, noting: &mut Seat) -> bool
+    requires silent { IsSeatOf board.now silent.old }
+    requires noting { IsSeatOf board.now noting.old }
+    ensures silent { IsSeatOf board.now silent.new }
+    ensures noting { IsSeatOf board.now noting.new }
+{
+    let first = board.claim(silent);
+    first == Some(0) && draws(board, noting, 1, 7, 7) && draws(board, noting, 2, 5, 12)
+}
+
 #[test]
 fn board_claim_without_note(rt: HostRuntime) -> Result<(), Fail> {
     let (board, mut seats) = Board::new(rt.alloc(), 3, 2)?;
     let (Some(mut silent), Some(mut noting)) = (seats.pop(), seats.pop()) else {
         return Err(Fail::new("fewer than two seats"));
     };
-    let first = board.claim(&mut silent);
-    assert_eq!(rt; first, Some(0));
-    let second = board.claim(&mut noting);
-    assert_eq!(rt; second, Some(1));
-    let total = board.note(&mut noting, 7);
-    let third = board.claim(&mut noting);
-    assert_eq!(rt; third, Some(2));
-    let more = board.note(&mut noting, 5);
-    assert!(rt; total == 7 && more == 12);
+    let are_drawn = draw_beside_a_silent_one(&board, &mut silent, &mut noting);
     seats.push(noting)?;
     seats.push(silent)?;
     let closed = board.close(seats);
-    assert!(rt; closed.claimed == 3 && closed.total == 12);
+    assert!(rt; are_drawn && closed.claimed == 3 && closed.total == 12);
     Ok(())
 }
 

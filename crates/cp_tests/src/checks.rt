@@ -1,15 +1,14 @@
 //! The worked rows of the rules, each broken at a token, and a program that breaks none.
 
-use crate::programs::{BUFFER, tree_of};
+use crate::programs::{BUFFER, fault_of, tree_of};
 use cp_check::check;
+use cp_drops::{drop_checked, drop_tree};
 use cp_scope::{CheckFault, Rule};
 use std::test::Fail;
 
-fn fault(rt: &HostRuntime, source: &str) -> Result<CheckFault, Fail> {
-    let (fault, _tree) = check(rt.alloc(), tree_of(rt.alloc(), source)?)
-        .err()
-        .ok_or("it is refused")?;
-    Ok(fault)
+/// The fault of a source; none where it breaks no rule.
+fn fault(rt: &HostRuntime, source: &str) -> Result<Option<CheckFault>, Fail> {
+    Ok(fault_of(check(rt.alloc(), tree_of(rt.alloc(), source)?)))
 }
 
 /// A program that breaks a rule, and the token that it is broken at.
@@ -149,16 +148,27 @@ fn broken_rules(rt: HostRuntime) -> Result<(), Fail> {
             at: broken.at,
             rule: broken.rule,
         };
-        assert_eq!(rt; fault(&rt, broken.source)?, wanted, "{}", broken.source);
+        assert!(rt;
+            fault(&rt, broken.source)? == Some(wanted),
+            "{}",
+            broken.source
+        );
     }
     Ok(())
 }
 
 #[test]
 fn no_rule_broken(rt: HostRuntime) -> Result<(), Fail> {
-    let checked = check(rt.alloc(), tree_of(rt.alloc(), BUFFER)?)
-        .ok()
-        .ok_or("it breaks no rule")?;
-    assert_eq!(rt; checked.tree().program.body.statements.len(), 1);
-    Ok(())
+    match check(rt.alloc(), tree_of(rt.alloc(), BUFFER)?) {
+        Ok(checked) => {
+            let count = checked.tree().program.body.statements.len();
+            drop_checked(checked);
+            assert!(rt; count == 1);
+            Ok(())
+        }
+        Err((_fault, tree)) => {
+            drop_tree(tree);
+            Err(Fail::from("it breaks a rule"))
+        }
+    }
 }

@@ -7,6 +7,7 @@ ghost use Rattle.cp_walk.specs.Rows.{line_of};
 
 use crate::programs::{TWO_CYCLES, TWO_DISPLAYS, limits_of, program_of};
 use arrayvec::ArrayVec;
+use cp_drops::drop_program;
 use cp_explore::{
     Cutting, GatherFault, Job, Piece, Row, Rows, SplitFault, Table, beginnings, explore_one, gather,
 };
@@ -45,6 +46,21 @@ fn table_counted<L: Ledger>(
     }
 }
 
+/// The table of a source's program within this many choices.
+fn table_at(alloc: Global, source: &str, choices: u8) -> Result<Table, Fail> {
+    let limits = limits_of(choices, Gates::First)?;
+    let program = program_of(alloc, source)?;
+    let table = table_of(alloc, &program, limits);
+    drop_program(program);
+    table
+}
+
+/// The cutting of one empty word, within this many choices.
+fn whole<'a>(alloc: Global, program: &'a Resolved, choices: u8) -> Result<Cutting<'a>, Fail> {
+    let limits = limits_of(choices, Gates::First)?;
+    Ok(Cutting::whole(alloc, Job { program, limits })?)
+}
+
 /// Whether these are the members.
 pub fn are_members(cutting: &Cutting, words: &[&[u8]]) -> bool {
     let members = cutting.members();
@@ -55,65 +71,71 @@ pub fn are_members(cutting: &Cutting, words: &[&[u8]]) -> bool {
             .all(|(member, word)| member.as_slice() == *word)
 }
 
+/// Whether a word that is complete can't be split, and stays the one member.
+fn keeps_leaf(alloc: Global, program: &Resolved) -> Result<bool, Fail> {
+    let mut leaf = whole(alloc, program, 0)?;
+    let is_refused = leaf.members().is_empty()
+        || matches!(leaf.split(alloc, 0), Err(SplitFault::Leaf));
+    Ok(is_refused && are_members(&leaf, &[&[]]))
+}
+
+/// Whether these are the members after the first is split.
+fn splits_to(alloc: Global, cutting: &mut Cutting, words: &[&[u8]]) -> bool {
+    let is_split = cutting.members().is_empty() || cutting.split(alloc, 0).is_ok();
+    is_split && are_members(cutting, words)
+}
+
+/// Whether the first member is split into its choices, and again.
+fn splits_twice(alloc: Global, program: &Resolved) -> Result<bool, Fail> {
+    let mut cutting = whole(alloc, program, 5)?;
+    let is_split = splits_to(alloc, &mut cutting, &[&[0], &[1]]);
+    Ok(is_split && splits_to(alloc, &mut cutting, &[&[0, 0], &[0, 1], &[0, 2], &[1]]))
+}
+
+fn splits_but_leaf(alloc: Global, program: &Resolved) -> Result<bool, Fail> {
+    Ok(keeps_leaf(alloc, program)? && splits_twice(alloc, program)?)
+}
+
 #[test]
 fn split_leaf(rt: HostRuntime) -> Result<(), Fail> {
     let program = program_of(rt.alloc(), TWO_DISPLAYS)?;
-    let limits = limits_of(0, Gates::First)?;
-    let mut leaf = Cutting::whole(
-        rt.alloc(),
-        Job {
-            program: &program,
-            limits,
-        },
-    )?;
-    if !leaf.members().is_empty() {
-        assert!(rt; matches!(leaf.split(rt.alloc(), 0), Err(SplitFault::Leaf)));
-    }
-    assert!(rt; are_members(&leaf, &[&[]]));
-    let limits = limits_of(5, Gates::First)?;
-    let mut cutting = Cutting::whole(
-        rt.alloc(),
-        Job {
-            program: &program,
-            limits,
-        },
-    )?;
-    for words in [
-        [[0u8].as_slice(), &[1]].as_slice(),
-        &[&[0, 0], &[0, 1], &[0, 2], &[1]],
-    ] {
-        if !cutting.members().is_empty() {
-            assert!(rt; cutting.split(rt.alloc(), 0).is_ok());
-        }
-        assert!(rt; are_members(&cutting, words));
-    }
+    let holds = splits_but_leaf(rt.alloc(), &program);
+    drop_program(program);
+    assert!(rt; holds?);
     Ok(())
 }
 
 /// The members of depth 2 of `TWO_DISPLAYS`.
 pub static MEMBERS: [&[u8]; 5] = [&[0, 0], &[0, 1], &[0, 2], &[1, 0], &[1, 1]];
 
+/// Whether a cutting to depth 2 has these members.
+fn has_members_of_two(alloc: Global, program: &Resolved) -> Result<bool, Fail> {
+    let mut cutting = whole(alloc, program, 5)?;
+    cutting.to_depth(alloc, 2)?;
+    Ok(are_members(&cutting, &MEMBERS))
+}
+
 #[test]
 fn to_depth_members(rt: HostRuntime) -> Result<(), Fail> {
     let program = program_of(rt.alloc(), TWO_DISPLAYS)?;
-    let limits = limits_of(5, Gates::First)?;
-    let mut cutting = Cutting::whole(
-        rt.alloc(),
-        Job {
-            program: &program,
-            limits,
-        },
-    )?;
-    cutting.to_depth(rt.alloc(), 2)?;
-    assert!(rt; are_members(&cutting, &MEMBERS));
-    let table = table_of(rt.alloc(), &program, limits)?;
+    let has_members = has_members_of_two(rt.alloc(), &program);
+    drop_program(program);
+    assert!(rt; has_members?);
+    Ok(())
+}
+
+/// How many rows begin with a word.
+fn count_after(rows: &[Row], word: &[u8]) -> usize {
+    rows.iter()
+        .filter(|row| row.word.as_slice().starts_with(word))
+        .count()
+}
+
+#[test]
+fn rows_of_each_member(rt: HostRuntime) -> Result<(), Fail> {
+    let table = table_at(rt.alloc(), TWO_DISPLAYS, 5)?;
     for (member, count) in MEMBERS.iter().zip([6, 12, 12, 12, 3]) {
-        let rows = table.rows.as_slice().iter();
-        assert_eq!(rt;
-            rows.filter(|row| row.word.as_slice().starts_with(member))
-                .count(),
-            count
-        );
+        assert!(rt; count_after(table.rows.as_slice(), member) == count);
     }
     Ok(())
 }
@@ -150,35 +172,59 @@ fn pieces_of(alloc: Global, tasks: &[u32]) -> Result<Vec<Piece>, Fail> {
     Ok(pieces)
 }
 
-#[test]
-fn gather_sizes(rt: HostRuntime) -> Result<(), Fail> {
-    for (last, is_table) in [(12_500, true), (12_501, false)] {
-        let mut pieces = Vec::new(rt.alloc());
-        for (task, count) in [(3, last), (0, 12_500), (2, 12_500), (1, 12_500)] {
-            pieces.push(empty_piece(rt.alloc(), task, count)?)?;
-        }
-        match gather(rt.alloc(), 4, pieces) {
-            Ok(table) => {
-                assert!(rt; is_table);
-                assert_eq!(rt; table.rows.as_slice().len(), 50_000);
-            }
-            Err(fault) => {
-                assert!(rt; !is_table);
-                assert!(rt; matches!(fault, GatherFault::TooManyRows));
-            }
-        }
+/// How many rows are gathered of three pieces with 12,500 rows, and of one with so many; none where there are too many.
+fn count_gathered(alloc: Global, last: u32) -> Result<Option<usize>, Fail> {
+    let mut pieces = Vec::new(alloc);
+    for (task, count) in [(3, last), (0, 12_500), (2, 12_500), (1, 12_500)] {
+        pieces.push(empty_piece(alloc, task, count)?)?;
     }
-    Ok(())
+    match gather(alloc, 4, pieces) {
+        Ok(table) => Ok(Some(table.rows.as_slice().len())),
+        Err(GatherFault::TooManyRows) => Ok(None),
+        Err(_) => Err(Fail::from("another fault")),
+    }
 }
 
 #[test]
+fn gather_sizes(rt: HostRuntime) -> Result<(), Fail> {
+    assert!(rt; count_gathered(rt.alloc(), 12_500)? == Some(50_000));
+    assert!(rt; count_gathered(rt.alloc(), 12_501)?.is_none());
+    Ok(())
+}
+
+/// What is wrong with pieces.
+#[derive(Clone, Copy, PartialEq, Eq)]
+enum Wrong {
+    Nothing,
+    Double(u32),
+    Stranger(u32),
+    Missing(u32),
+    Other,
+}
+
+/// What is wrong with these pieces of a table.
+fn wrong_of(alloc: Global, tasks: u32, pieces: Vec<Piece>) -> Wrong {
+    match gather(alloc, tasks, pieces) {
+        Ok(_) => Wrong::Nothing,
+        Err(GatherFault::Double(task)) => Wrong::Double(task),
+        Err(GatherFault::Stranger(task)) => Wrong::Stranger(task),
+        Err(GatherFault::Missing(task)) => Wrong::Missing(task),
+        Err(_) => Wrong::Other,
+    }
+}
+
+static FAULTS: [(&[u32], Wrong); 3] = [
+    (&[0, 0], Wrong::Double(0)),
+    (&[2], Wrong::Stranger(2)),
+    (&[1], Wrong::Missing(0)),
+];
+
+#[test]
 fn gather_faults(rt: HostRuntime) -> Result<(), Fail> {
-    let pieces = pieces_of(rt.alloc(), &[0, 0])?;
-    assert!(rt; matches!(gather(rt.alloc(), 2, pieces), Err(GatherFault::Double(0))));
-    let pieces = pieces_of(rt.alloc(), &[2])?;
-    assert!(rt; matches!(gather(rt.alloc(), 2, pieces), Err(GatherFault::Stranger(2))));
-    let pieces = pieces_of(rt.alloc(), &[1])?;
-    assert!(rt; matches!(gather(rt.alloc(), 2, pieces), Err(GatherFault::Missing(0))));
+    for (tasks, wrong) in &FAULTS {
+        let pieces = pieces_of(rt.alloc(), tasks)?;
+        assert!(rt; wrong_of(rt.alloc(), 2, pieces) == *wrong);
+    }
     Ok(())
 }
 
@@ -247,49 +293,67 @@ fn is_order(digits: [u32; 5]) -> bool {
     (0..5).all(|task| digits.contains(&task))
 }
 
-/// The pieces of a cutting in each order.
-#[test]
-fn gather_orders(rt: HostRuntime) -> Result<(), Fail> {
-    let program = program_of(rt.alloc(), TWO_DISPLAYS)?;
-    let table = table_of(rt.alloc(), &program, limits_of(5, Gates::First)?)?;
-    let mut orders = Vec::new(rt.alloc());
+/// The orders of the five tasks.
+fn orders(alloc: Global) -> Result<Vec<[u32; 5]>, Fail> {
+    let mut orders = Vec::new(alloc);
     for code in 0u32..3125 {
         let digits = digits_of(code);
         if is_order(digits) {
             orders.push(digits)?;
         }
     }
-    assert_eq!(rt; orders.len(), 120);
+    Ok(orders)
+}
+
+/// Whether the pieces of a table in this order are put together to it.
+fn is_gathered(alloc: Global, table: &Table, order: &[u32]) -> Result<bool, Fail> {
+    let pieces = cut_pieces(alloc, table, order)?;
+    match gather(alloc, 5, pieces) {
+        Ok(gathered) => Ok(are_same(gathered.rows.as_slice(), table.rows.as_slice())),
+        Err(_) => Ok(false),
+    }
+}
+
+/// The pieces of a cutting in each order.
+#[test]
+fn gather_orders(rt: HostRuntime) -> Result<(), Fail> {
+    let table = table_at(rt.alloc(), TWO_DISPLAYS, 5)?;
+    let orders = orders(rt.alloc())?;
+    assert!(rt; orders.len() == 120);
     for order in &orders {
-        let pieces = cut_pieces(rt.alloc(), &table, order)?;
-        let Ok(gathered) = gather(rt.alloc(), 5, pieces) else {
-            return Err(Fail::from("the pieces make no table"));
-        };
-        assert!(rt; are_same(gathered.rows.as_slice(), table.rows.as_slice()));
+        assert!(rt; is_gathered(rt.alloc(), &table, order)?);
     }
     Ok(())
+}
+
+/// What is wrong with the pieces of these tasks, cut from a table.
+fn wrong_in(alloc: Global, table: &Table, tasks: &[u32]) -> Result<Wrong, Fail> {
+    let pieces = cut_pieces(alloc, table, tasks)?;
+    Ok(wrong_of(alloc, 5, pieces))
+}
+
+/// The five tasks but one.
+fn less(wrong: u32) -> ArrayVec<u32, 5> {
+    let mut tasks = ArrayVec::new();
+    for task in 0u32..5 {
+        if task != wrong {
+            let _ = tasks.try_push(task);
+        }
+    }
+    tasks
 }
 
 /// The pieces of a cutting with one too many or one too few.
 #[test]
 fn gather_wrong_pieces(rt: HostRuntime) -> Result<(), Fail> {
-    let program = program_of(rt.alloc(), TWO_DISPLAYS)?;
-    let table = table_of(rt.alloc(), &program, limits_of(5, Gates::First)?)?;
+    let table = table_at(rt.alloc(), TWO_DISPLAYS, 5)?;
     for wrong in 0u32..5 {
-        let twice = cut_pieces(rt.alloc(), &table, &[0, 1, 2, 3, 4, wrong])?;
-        let gathered = gather(rt.alloc(), 5, twice);
-        assert!(rt; matches!(gathered, Err(GatherFault::Double(task)) if task == wrong));
-        let mut less = Vec::new(rt.alloc());
-        for task in 0u32..5 {
-            if task != wrong {
-                less.push(piece_of(rt.alloc(), &table, task)?)?;
-            }
-        }
-        let gathered = gather(rt.alloc(), 5, less);
-        assert!(rt; matches!(gathered, Err(GatherFault::Missing(task)) if task == wrong));
+        let twice = wrong_in(rt.alloc(), &table, &[0, 1, 2, 3, 4, wrong])?;
+        let less = wrong_in(rt.alloc(), &table, less(wrong).as_slice())?;
+        assert!(rt; twice == Wrong::Double(wrong) && less == Wrong::Missing(wrong));
     }
-    let more = cut_pieces(rt.alloc(), &table, &[0, 1, 2, 3, 4, 5])?;
-    assert!(rt; matches!(gather(rt.alloc(), 5, more), Err(GatherFault::Stranger(5))));
+    let more = wrong_in(rt.alloc(), &table, &[0, 1, 2, 3, 4, 5])?;
+    assert!(rt; more == Wrong::Stranger(5));
     Ok(())
 }
 
@@ -301,6 +365,14 @@ fn beginnings_of(alloc: Global, program: &Resolved, limits: Limits) -> Result<u6
     Ok(beginnings(&table))
 }
 
+fn beginnings_at(alloc: Global, source: &str, choices: u8) -> Result<u64, Fail> {
+    let limits = limits_of(choices, Gates::First)?;
+    let program = program_of(alloc, source)?;
+    let count = beginnings_of(alloc, &program, limits);
+    drop_program(program);
+    count
+}
+
 #[test]
 fn beginnings_counts(rt: HostRuntime) -> Result<(), Fail> {
     for (source, choices, count) in [
@@ -308,9 +380,7 @@ fn beginnings_counts(rt: HostRuntime) -> Result<(), Fail> {
         (TWO_CYCLES, 2, 7),
         (TWO_DISPLAYS, 0, 1),
     ] {
-        let program = program_of(rt.alloc(), source)?;
-        let limits = limits_of(choices, Gates::First)?;
-        assert_eq!(rt; beginnings_of(rt.alloc(), &program, limits)?, count);
+        assert!(rt; beginnings_at(rt.alloc(), source, choices)? == count);
     }
     Ok(())
 }

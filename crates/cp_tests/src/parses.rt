@@ -1,6 +1,7 @@
 //! The worked rows of the grammar, from source texts to trees and faults.
 
 use crate::programs::{tokens_of, tree_of};
+use cp_drops::drop_tree;
 use cp_text::Tokens;
 use cp_tree::{FactorKind, ParseFault, StatementKind, Tree, parse};
 use std::test::Fail;
@@ -10,7 +11,7 @@ const BUFFER: &str =
     "type buffer = monitor ; var full : boolean ; slot : integer ; sender , receiver : queue ; procedure entry put ( x : integer ) ; begin if full then delay ( sender ) ; slot := x ; full := true ; continue ( receiver ) end ; procedure entry get ( var x : integer ) ; begin if not full then delay ( receiver ) ; x := slot ; full := false ; continue ( sender ) end ; begin full := false end ; producer = process ( b : buffer ) ; begin b . put ( 7 ) end ; consumer = process ( b : buffer ) ; var v : integer ; begin b . get ( v ) ; display ( v ) end ; var b : buffer ; p : producer ; c : consumer ; begin init b , p ( b ) , c ( b ) end .";
 
 /// How the reading of a program ends.
-#[derive(Clone, Copy, Debug, PartialEq, Eq)]
+#[derive(Clone, Copy, PartialEq, Eq)]
 enum Ending {
     Read,
     Unexpected(usize),
@@ -21,7 +22,10 @@ enum Ending {
 
 fn ending_after(rt: &HostRuntime, tokens: &Tokens) -> Ending {
     match parse(rt.alloc(), tokens) {
-        Ok(_) => Ending::Read,
+        Ok(tree) => {
+            drop_tree(tree);
+            Ending::Read
+        }
         Err(ParseFault::Unexpected(at)) => Ending::Unexpected(at),
         Err(ParseFault::OutsideProfile(at)) => Ending::OutsideProfile(at),
         Err(ParseFault::TooDeep(at)) => Ending::TooDeep(at),
@@ -46,6 +50,11 @@ fn nested(rt: &HostRuntime, levels: usize) -> Result<String, Fail> {
     Ok(text)
 }
 
+fn ending_of_nested(rt: &HostRuntime, levels: usize) -> Result<Ending, Fail> {
+    let text = nested(rt, levels)?;
+    ending_of(rt, text.as_str())
+}
+
 // The first tokens of the buffer, with token `at` replaced by `with`.
 fn copied(rt: &HostRuntime, count: usize, at: usize) -> Result<Tokens, Fail> {
     let words: Vec<&str> = BUFFER.split_whitespace().collect(rt.alloc())?;
@@ -55,6 +64,10 @@ fn copied(rt: &HostRuntime, count: usize, at: usize) -> Result<Tokens, Fail> {
         text.push_str(" ")?;
     }
     tokens_of(rt.alloc(), text.as_str())
+}
+
+fn ending_of_copied(rt: &HostRuntime, count: usize, at: usize) -> Result<Ending, Fail> {
+    Ok(ending_after(rt, &copied(rt, count, at)?))
 }
 
 // Whether the second statement has no `else`, and the `if` in it has one.
@@ -75,18 +88,20 @@ fn dangling_else(rt: HostRuntime) -> Result<(), Fail> {
     let source =
         "var a, b: boolean; x: integer; begin a := true; if a then if b then x := 1 else x := 2; display(x) end.";
     let tree = tree_of(rt.alloc(), source)?;
-    assert!(rt; has_inner_else(&tree));
-    assert_eq!(rt; tree.line(3), 1);
+    let is_inner = has_inner_else(&tree);
+    let line = tree.line(3);
+    drop_tree(tree);
+    assert!(rt; is_inner && line == 1);
     Ok(())
 }
 
 #[test]
 fn with_at_each_token(rt: HostRuntime) -> Result<(), Fail> {
     let tokens = tokens_of(rt.alloc(), BUFFER)?;
-    assert_eq!(rt; ending_after(&rt, &tokens), Ending::Read);
+    assert!(rt; ending_after(&rt, &tokens) == Ending::Read);
     for at in 0..tokens.count() {
-        let changed = copied(&rt, tokens.count(), at)?;
-        assert_eq!(rt; ending_after(&rt, &changed), Ending::OutsideProfile(at));
+        let ending = ending_of_copied(&rt, tokens.count(), at)?;
+        assert!(rt; ending == Ending::OutsideProfile(at), "{at}");
     }
     Ok(())
 }
@@ -95,18 +110,16 @@ fn with_at_each_token(rt: HostRuntime) -> Result<(), Fail> {
 fn cut_at_each_token(rt: HostRuntime) -> Result<(), Fail> {
     let tokens = tokens_of(rt.alloc(), BUFFER)?;
     for count in 0..tokens.count() {
-        let cut = copied(&rt, count, count)?;
-        assert_eq!(rt; ending_after(&rt, &cut), Ending::Unexpected(count));
+        let ending = ending_of_copied(&rt, count, count)?;
+        assert!(rt; ending == Ending::Unexpected(count), "{count}");
     }
     Ok(())
 }
 
 #[test]
 fn levels(rt: HostRuntime) -> Result<(), Fail> {
-    let most = nested(&rt, 50)?;
-    assert_eq!(rt; ending_of(&rt, most.as_str())?, Ending::Read);
-    let more = nested(&rt, 51)?;
-    assert_eq!(rt; ending_of(&rt, more.as_str())?, Ending::TooDeep(51));
+    assert!(rt; ending_of_nested(&rt, 50)? == Ending::Read);
+    assert!(rt; ending_of_nested(&rt, 51)? == Ending::TooDeep(51));
     Ok(())
 }
 
@@ -137,7 +150,7 @@ static ENDINGS: [(&str, Ending); 21] = [
 #[test]
 fn refused(rt: HostRuntime) -> Result<(), Fail> {
     for (source, wanted) in &ENDINGS {
-        assert_eq!(rt; ending_of(&rt, source)?, *wanted, "{source}");
+        assert!(rt; ending_of(&rt, source)? == *wanted, "{source}");
     }
     Ok(())
 }
@@ -160,9 +173,16 @@ fn negates_a_group(tree: &Tree) -> bool {
 fn accepted_forms(rt: HostRuntime) -> Result<(), Fail> {
     let source =
         "const c = -1; d = 'a'; type t = (a, b); u = array [t] of set of 1..c; v = record x, y: t; z: 0..+9; end; var q: v; function f(n: t): t; begin end; begin case c of 1, -d: ; 'x': begin end; end; repeat until not [] = [1, 2] * [q.x]; for i := 1 downto 2 do while x in y do; if a then else begin end end.";
-    assert_eq!(rt; ending_of(&rt, source)?, Ending::Read);
+    assert!(rt; ending_of(&rt, source)? == Ending::Read);
+    Ok(())
+}
+
+#[test]
+fn negated_group(rt: HostRuntime) -> Result<(), Fail> {
     let tree = tree_of(rt.alloc(), "begin x := -(1) end.")?;
-    assert!(rt; negates_a_group(&tree));
-    assert_eq!(rt; tree.program.period, 8);
+    let is_negated = negates_a_group(&tree);
+    let period = tree.program.period;
+    drop_tree(tree);
+    assert!(rt; is_negated && period == 8);
     Ok(())
 }

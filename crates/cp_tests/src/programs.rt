@@ -3,7 +3,8 @@
 ghost use Rattle.std.specs.Prelude.{◌≡◌, ◌≤◌, IfOk, length};
 
 use arrayvec::ArrayVec;
-use cp_check::check;
+use cp_check::{CheckFault, Checked, check};
+use cp_drops::{drop_checked, drop_program, drop_tree};
 use cp_machine::{Gates, Shown, Ticks};
 use cp_resolved::resolve;
 use cp_run::{Limits, OutcomeKind, RunEnd, run};
@@ -59,9 +60,31 @@ pub fn tree_of(alloc: Global, source: &str) -> Result<Tree, Fail> {
 
 /// The program of an accepted source.
 pub fn program_of(alloc: Global, source: &str) -> Result<Resolved, Fail> {
-    let tree = tree_of(alloc, source)?;
-    let checked = check(alloc, tree).ok().ok_or("it is not accepted")?;
-    Ok(resolve(alloc, &checked).ok().ok_or("it is not resolved")?)
+    match check(alloc, tree_of(alloc, source)?) {
+        Ok(checked) => {
+            let program = resolve(alloc, &checked);
+            drop_checked(checked);
+            Ok(program?)
+        }
+        Err((_fault, tree)) => {
+            drop_tree(tree);
+            Err(Fail::from("it is not accepted"))
+        }
+    }
+}
+
+/// The fault that a check found, if any.
+pub fn fault_of(checked: Result<Checked, (CheckFault, Tree)>) -> Option<CheckFault> {
+    match checked {
+        Ok(checked) => {
+            drop_checked(checked);
+            None
+        }
+        Err((fault, tree)) => {
+            drop_tree(tree);
+            Some(fault)
+        }
+    }
 }
 
 /// Limits with 1,000 steps, and no more choices than tables have.
@@ -104,6 +127,14 @@ fn end_counted<L: Ledger>(
             .ok()
             .ok_or("memory was refused")?,
     )
+}
+
+/// How the run of a word of a source's program ends.
+pub fn end_at(alloc: Global, source: &str, limits: Limits, word: &[u8]) -> Result<RunEnd, Fail> {
+    let program = program_of(alloc, source)?;
+    let end = end_of(alloc, &program, limits, word);
+    drop_program(program);
+    end
 }
 
 /// Whether a run ended in this way after this many numbers of its word, with this displayed.

@@ -1,12 +1,14 @@
 //! Readings of a state after the choices of a word, where each gate wants a choice, and the length of its key.
 
 ghost use Rattle.std.specs.Prelude.{◌≡◌};
+ghost use Rattle.cp_machine.specs.System.{machine_of, opening, IsStateOf};
 
 use crate::programs::{THREE_CALLERS, limits_of, program_of};
 use arrayvec::ArrayVec;
+use cp_drops::drop_program;
 use cp_key::{freeze_core, most_bytes};
 use cp_machine::{Gates, State, Ticks, Unwatched};
-use cp_run::{Halt, choose, may, open};
+use cp_run::{Halt, Limits, choose, may, open};
 use cp_slots::Resolved;
 use std::alloc::Global;
 use std::marker::Brand;
@@ -54,25 +56,41 @@ fn state_after<S: Ledger, C: Ledger>(
     let mut steps: Ticks<S> = Ticks::new(blank);
     let mut calls: Ticks<C> = Ticks::new(other);
     let mut state = State::start(alloc, program, limits.gates)?;
-    let mut halt = open(program, limits, &mut state, &mut steps, &mut calls);
+    chosen(program, limits, &mut state, word, &mut steps, &mut calls)?;
+    Ok(state)
+}
+
+/// The choices of a word, from the opening state on.
+fn chosen<S: Ledger, C: Ledger>(
+    program: &Resolved,
+    limits: Limits,
+    state: &mut State,
+    word: &[u8],
+    steps: &mut Ticks<S>,
+    calls: &mut Ticks<C>,
+) -> Result<(), Fail>
+    requires own { IsStateOf program.now state.old }
+    requires start { machine_of state.old ≡ opening program.now limits.gates }
+{
+    let mut halt = open(program, limits, state, steps, calls);
     for process in word {
         if !matches!(halt, Halt::Choice) {
             return Err(Fail::from("no choice is due"));
         }
-        if !may(program, limits, &state, *process) {
+        if !may(program, limits, state, *process) {
             return Err(Fail::from("no such choice"));
         }
         halt = choose(
             program,
             limits,
-            &mut state,
+            state,
             *process,
             &mut Unwatched,
-            &mut steps,
-            &mut calls,
+            steps,
+            calls,
         );
     }
-    Ok(state)
+    Ok(())
 }
 
 /// A word, and what is read off the state after it.
@@ -130,18 +148,19 @@ static READING_ROWS: [ReadingRow; 4] = [
     },
 ];
 
+/// What is read off the state after the choices of a word.
+fn readings_after(alloc: Global, word: &[u8]) -> Result<Readings, Fail> {
+    let program = program_of(alloc, THREE_CALLERS)?;
+    let state = state_after::<Brand, Brand>(alloc, &program, word, Blank::new(1), Blank::new(1));
+    drop_program(program);
+    Ok(readings_of(&state?))
+}
+
 #[test]
 fn readings_of_a_state(rt: HostRuntime) -> Result<(), Fail> {
-    let program = program_of(rt.alloc(), THREE_CALLERS)?;
     for (number, row) in READING_ROWS.iter().enumerate() {
-        let state = state_after::<Brand, Brand>(
-            rt.alloc(),
-            &program,
-            row.word,
-            Blank::new(1),
-            Blank::new(1),
-        )?;
-        assert!(rt; row.tells(&readings_of(&state)), "{number}");
+        let readings = readings_after(rt.alloc(), row.word)?;
+        assert!(rt; row.tells(&readings), "{number}");
     }
     Ok(())
 }
@@ -156,23 +175,32 @@ static WORDS: [(&str, &[u8]); 3] = [
     (THREE_CALLERS, &[0, 0, 0, 1, 2, 3, 3]),
 ];
 
+/// Whether the key of the state after the choices of a word fits its room.
+fn has_room(alloc: Global, program: &Resolved, word: &[u8]) -> Result<bool, Fail> {
+    let state = state_after::<Brand, Brand>(alloc, program, word, Blank::new(1), Blank::new(1))?;
+    let mut key = Vec::new(alloc);
+    freeze_core(&state, &mut key)?;
+    Ok(key.len() <= most_bytes(&state))
+}
+
+/// Whether the keys of the states after the beginnings of a word fit their rooms.
+fn have_room(alloc: Global, program: &Resolved, word: &[u8]) -> Result<bool, Fail> {
+    for count in 0..word.len() + 1 {
+        if !has_room(alloc, program, &word[..count])? {
+            return Ok(false);
+        }
+    }
+    Ok(true)
+}
+
 /// No clause says it: a key that outgrew its room would take memory in the middle of a walk.
 #[test]
 fn room_for_each_key(rt: HostRuntime) -> Result<(), Fail> {
     for (source, word) in WORDS.iter() {
         let program = program_of(rt.alloc(), source)?;
-        for count in 0..word.len() + 1 {
-            let state = state_after::<Brand, Brand>(
-                rt.alloc(),
-                &program,
-                &word[..count],
-                Blank::new(1),
-                Blank::new(1),
-            )?;
-            let mut key = Vec::new(rt.alloc());
-            freeze_core(&state, &mut key)?;
-            assert!(rt; key.len() <= most_bytes(&state), "{count}");
-        }
+        let have_room = have_room(rt.alloc(), &program, word);
+        drop_program(program);
+        assert!(rt; have_room?);
     }
     Ok(())
 }

@@ -5,11 +5,12 @@ ghost use Rattle.std.specs.Prelude.{◌≡◌, ◌≤◌};
 
 use crate::answers::{Answer, are_right, refused, unrefused};
 use crate::cuttings::{MEMBERS, are_members, are_same, cut_pieces};
-use crate::programs::{BUFFER, TWO_DISPLAYS, has_ended, limits_of};
+use crate::programs::{BUFFER, TWO_DISPLAYS, fault_of, has_ended, limits_of};
 use crate::steps::{LAST_STEPS, stepped};
 use crate::traces::is_first_trace;
 use crate::workers::REPORT;
-use cp_check::{Checked, check};
+use cp_check::check;
+use cp_drops::{drop_checked, drop_program, drop_tree};
 use cp_explore::{
     Cutting, ExploreFault, GatherFault, Job, NoGate, SplitFault, Table, explore, explore_one,
     gather, report,
@@ -33,8 +34,17 @@ fn tree_of(alloc: Global, source: &str) -> Option<Tree> {
 }
 
 fn program_of(alloc: Global, source: &str) -> Option<Resolved> {
-    let checked = check(alloc, tree_of(alloc, source)?).ok()?;
-    resolve(alloc, &checked).ok()
+    match check(alloc, tree_of(alloc, source)?) {
+        Ok(checked) => {
+            let program = resolve(alloc, &checked);
+            drop_checked(checked);
+            program.ok()
+        }
+        Err((_fault, tree)) => {
+            drop_tree(tree);
+            None
+        }
+    }
 }
 
 /// The tree of a source. It is made again where memory was refused.
@@ -87,13 +97,14 @@ fn explored_twice<L: Ledger>(alloc: Global, job: Job, blank: Blank) -> [Answer; 
 
 #[test]
 fn refused_growth_of_a_walk(rt: HostRuntime) -> Result<(), Fail> {
-    let program = program_at_last(rt.alloc(), TWO_DISPLAYS)?;
     let limits = limits_of(5, Gates::First)?;
+    let program = program_at_last(rt.alloc(), TWO_DISPLAYS)?;
     let job = Job {
         program: &program,
         limits,
     };
     let answers = explored_twice::<Brand>(rt.alloc(), job, Blank::new(1));
+    drop_program(program);
     assert!(rt; are_right(&answers));
     Ok(())
 }
@@ -127,13 +138,14 @@ fn explored_and_gathered<L: Ledger>(alloc: Global, job: Job, blank: Blank) -> [A
 
 #[test]
 fn refused_growth_of_gathering(rt: HostRuntime) -> Result<(), Fail> {
-    let program = program_at_last(rt.alloc(), TWO_DISPLAYS)?;
     let limits = limits_of(5, Gates::First)?;
+    let program = program_at_last(rt.alloc(), TWO_DISPLAYS)?;
     let job = Job {
         program: &program,
         limits,
     };
     let answers = explored_and_gathered::<Brand>(rt.alloc(), job, Blank::new(1));
+    drop_program(program);
     assert!(rt; are_right(&answers));
     Ok(())
 }
@@ -199,9 +211,10 @@ fn run_and_traced<L: Ledger>(
 
 #[test]
 fn refused_growth_of_a_run_and_its_trace(rt: HostRuntime) -> Result<(), Fail> {
-    let program = program_at_last(rt.alloc(), BUFFER)?;
     let limits = limits_of(8, Gates::First)?;
+    let program = program_at_last(rt.alloc(), BUFFER)?;
     let answers = run_and_traced::<Brand>(rt.alloc(), &program, limits, Blank::new(1));
+    drop_program(program);
     assert!(rt; are_right(&answers));
     Ok(())
 }
@@ -244,22 +257,29 @@ fn split_at_last(
     }
 }
 
+fn split_twice(alloc: Global, job: Job) -> Result<[Answer; 2], Fail>
+    requires { job.limits.choices ≤ 20 }
+{
+    let mut cutting = whole_at_last(alloc, job)?;
+    let two: [&[u8]; 2] = [&[0], &[1]];
+    let four: [&[u8]; 4] = [&[0, 0], &[0, 1], &[0, 2], &[1]];
+    Ok([
+        split_at_last(alloc, &mut cutting, &[&[]], &two),
+        split_at_last(alloc, &mut cutting, &two, &four),
+    ])
+}
+
 #[test]
 fn refused_growth_of_a_split(rt: HostRuntime) -> Result<(), Fail> {
-    let program = program_at_last(rt.alloc(), TWO_DISPLAYS)?;
     let limits = limits_of(5, Gates::First)?;
+    let program = program_at_last(rt.alloc(), TWO_DISPLAYS)?;
     let job = Job {
         program: &program,
         limits,
     };
-    let mut cutting = whole_at_last(rt.alloc(), job)?;
-    let two: [&[u8]; 2] = [&[0], &[1]];
-    let four: [&[u8]; 4] = [&[0, 0], &[0, 1], &[0, 2], &[1]];
-    let answers = [
-        split_at_last(rt.alloc(), &mut cutting, &[&[]], &two),
-        split_at_last(rt.alloc(), &mut cutting, &two, &four),
-    ];
-    assert!(rt; are_right(&answers));
+    let answers = split_twice(rt.alloc(), job);
+    drop_program(program);
+    assert!(rt; are_right(&answers?));
     Ok(())
 }
 
@@ -280,31 +300,35 @@ fn explored_by_two<X: Threads + Sync>(rt: &X, alloc: Global, cutting: &Cutting) 
     }
 }
 
+fn deepened_and_explored<X: Threads + Sync>(
+    rt: &X,
+    alloc: Global,
+    job: Job,
+) -> Result<[Answer; 4], Fail>
+    requires { job.limits.choices ≤ 20 }
+{
+    let mut cutting = whole_at_last(alloc, job)?;
+    Ok([
+        deepened(alloc, &mut cutting),
+        explored_by_two(rt, alloc, &cutting),
+        deepened(alloc, &mut cutting),
+        explored_by_two(rt, alloc, &cutting),
+    ])
+}
+
 /// Where a depth was not reached for want of memory, the cutting is explored all the same.
 #[test]
 fn refused_growth_of_a_cutting(rt: HostRuntime) -> Result<(), Fail> {
-    let program = program_at_last(rt.alloc(), TWO_DISPLAYS)?;
     let limits = limits_of(5, Gates::First)?;
+    let program = program_at_last(rt.alloc(), TWO_DISPLAYS)?;
     let job = Job {
         program: &program,
         limits,
     };
-    let mut cutting = whole_at_last(rt.alloc(), job)?;
-    let answers = [
-        deepened(rt.alloc(), &mut cutting),
-        explored_by_two(&rt, rt.alloc(), &cutting),
-        deepened(rt.alloc(), &mut cutting),
-        explored_by_two(&rt, rt.alloc(), &cutting),
-    ];
-    assert!(rt; are_right(&answers));
+    let answers = deepened_and_explored(&rt, rt.alloc(), job);
+    drop_program(program);
+    assert!(rt; are_right(&answers?));
     Ok(())
-}
-
-fn fault_of(checked: Result<Checked, (CheckFault, Tree)>) -> Option<CheckFault> {
-    match checked {
-        Ok(_) => None,
-        Err((fault, _tree)) => Some(fault),
-    }
 }
 
 /// A tree is checked. Where memory is refused, it comes back, and is checked again.
@@ -317,15 +341,17 @@ fn checked(alloc: Global, tree: Tree, wanted: Option<CheckFault>) -> Answer {
 
 #[test]
 fn refused_growth_of_a_check(rt: HostRuntime) -> Result<(), Fail> {
-    let good = tree_at_last(rt.alloc(), BUFFER)?;
-    let bad = tree_at_last(rt.alloc(), "begin x := 1; y := 2 end.")?;
     let broken = CheckFault::Rule {
         at: 1,
         rule: Rule::C1,
     };
     let answers = [
-        checked(rt.alloc(), good, None),
-        checked(rt.alloc(), bad, Some(broken)),
+        checked(rt.alloc(), tree_at_last(rt.alloc(), BUFFER)?, None),
+        checked(
+            rt.alloc(),
+            tree_at_last(rt.alloc(), "begin x := 1; y := 2 end.")?,
+            Some(broken),
+        ),
     ];
     assert!(rt; are_right(&answers));
     Ok(())
@@ -336,7 +362,7 @@ fn stepped_beside_copies(alloc: Global, program: &Resolved, limits: Limits) -> A
     match stepped::<Brand>(alloc, program, limits, Blank::new(1)) {
         Ok(alone) => {
             let is_told = LAST_STEPS.tells_of(&alone);
-            match alone.refused_copies {
+            match alone.refused_copies() {
                 0 => unrefused(is_told),
                 1 => refused(is_told),
                 _ => Answer::Other,
@@ -348,12 +374,13 @@ fn stepped_beside_copies(alloc: Global, program: &Resolved, limits: Limits) -> A
 
 #[test]
 fn refused_growth_of_a_copy(rt: HostRuntime) -> Result<(), Fail> {
-    let program = program_at_last(rt.alloc(), LAST_STEPS.source)?;
     let limits = limits_of(8, Gates::First)?;
+    let program = program_at_last(rt.alloc(), LAST_STEPS.source)?;
     let answers = [
         stepped_beside_copies(rt.alloc(), &program, limits),
         stepped_beside_copies(rt.alloc(), &program, limits),
     ];
+    drop_program(program);
     assert!(rt; are_right(&answers));
     Ok(())
 }

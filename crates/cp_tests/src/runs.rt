@@ -1,6 +1,6 @@
 //! Runs that end by an error or a limit, and what they display before it.
 
-use crate::programs::{TWO_IN_A_QUEUE, end_of, has_ended, program_of};
+use crate::programs::{TWO_IN_A_QUEUE, end_at, has_ended};
 use cp_machine::{ErrorName, Gates, Shown};
 use cp_run::{Limits, OutcomeKind, RunEnd};
 use std::alloc::Global;
@@ -156,13 +156,16 @@ fn is_as_wanted(end: &RunEnd, ending: &Ending) -> bool {
     }
 }
 
+fn ends_as_wanted(alloc: Global, ending: &Ending) -> Result<bool, Fail> {
+    let limits = Limits::new(8, ending.steps, Gates::First).ok_or("no such limits")?;
+    let end = end_at(alloc, ending.source, limits, ending.word)?;
+    Ok(is_as_wanted(&end, ending))
+}
+
 #[test]
 fn errors_and_limits(rt: HostRuntime) -> Result<(), Fail> {
     for ending in &ENDINGS {
-        let program = program_of(rt.alloc(), ending.source)?;
-        let limits = Limits::new(8, ending.steps, Gates::First).ok_or("no such limits")?;
-        let end = end_of(rt.alloc(), &program, limits, ending.word)?;
-        assert!(rt; is_as_wanted(&end, ending), "{}", ending.source);
+        assert!(rt; ends_as_wanted(rt.alloc(), ending)?, "{}", ending.source);
     }
     Ok(())
 }
@@ -182,9 +185,8 @@ fn doubling_source(alloc: Global) -> Result<String, Fail> {
 #[test]
 fn doubling_calls(rt: HostRuntime) -> Result<(), Fail> {
     let source = doubling_source(rt.alloc())?;
-    let program = program_of(rt.alloc(), &source)?;
     let limits = Limits::new(8, 100_000, Gates::First).ok_or("no such limits")?;
-    let end = end_of(rt.alloc(), &program, limits, &[])?;
+    let end = end_at(rt.alloc(), &source, limits, &[])?;
     assert!(rt; has_ended(&end, 0, OutcomeKind::StepLimit, &[]));
     Ok(())
 }

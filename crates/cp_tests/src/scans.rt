@@ -188,12 +188,30 @@ fn filled(alloc: Global, start: &[u8], next: u8, length: usize) -> Result<Vec<u8
     Ok(text)
 }
 
+/// How many tokens a source has that begins with these bytes and goes on with that one.
+fn count_of(alloc: Global, start: &[u8], next: u8, length: usize) -> Result<usize, Fail> {
+    let text = filled(alloc, start, next, length)?;
+    Ok(tokens(alloc, text.as_slice())?.count())
+}
+
+/// Whether such a source has this fault, where another byte follows.
+fn has_fault_after(
+    alloc: Global,
+    (start, next, length): (&[u8], u8, usize),
+    last: u8,
+    line: u32,
+    cause: ScanCause,
+) -> Result<bool, Fail> {
+    let mut text = filled(alloc, start, next, length)?;
+    text.push(last)?;
+    has_fault(alloc, text.as_slice(), line, cause)
+}
+
 #[test]
 fn longest_source(rt: HostRuntime) -> Result<(), Fail> {
-    let longest = filled(rt.alloc(), b"begin end.", b' ', 65535)?;
-    assert_eq!(rt; tokens(rt.alloc(), longest.as_slice())?.count(), 3);
-    let longer = filled(rt.alloc(), b"!", b' ', 65536)?;
-    assert!(rt; has_fault(rt.alloc(), longer.as_slice(), 0, ScanCause::TooLong)?);
+    assert!(rt; count_of(rt.alloc(), b"begin end.", b' ', 65535)? == 3);
+    let longer = (b"!".as_slice(), b' ', 65535);
+    assert!(rt; has_fault_after(rt.alloc(), longer, b' ', 0, ScanCause::TooLong)?);
     Ok(())
 }
 
@@ -207,12 +225,10 @@ static AFTER_MOST: [(u8, ScanCause); 4] = [
 
 #[test]
 fn most_tokens(rt: HostRuntime) -> Result<(), Fail> {
-    let mut most = filled(rt.alloc(), b"\n", b';', 20001)?;
-    assert_eq!(rt; tokens(rt.alloc(), most.as_slice())?.count(), 20000);
+    assert!(rt; count_of(rt.alloc(), b"\n", b';', 20001)? == 20000);
     for (last, cause) in &AFTER_MOST {
-        most.push(*last)?;
-        assert!(rt; has_fault(rt.alloc(), most.as_slice(), 2, *cause)?);
-        most.truncate(20001);
+        let most = (b"\n".as_slice(), b';', 20001);
+        assert!(rt; has_fault_after(rt.alloc(), most, *last, 2, *cause)?);
     }
     Ok(())
 }

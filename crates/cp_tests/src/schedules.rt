@@ -1,14 +1,16 @@
 //! Runs of single words: how they end, what they want, and where they are refused.
 
 use crate::programs::{
-    DELAYED, RESUMED, THREE_CALLERS, TWO_DISPLAYS, end_of, has_ended, has_wanted, limits_of,
-    numbers_of, program_of,
+    DELAYED, RESUMED, THREE_CALLERS, TWO_DISPLAYS, end_at, has_ended, has_wanted, limits_of,
+    numbers_of,
 };
 use cp_machine::{Gates, Shown};
 use cp_run::{OutcomeKind, RunEnd};
+use std::alloc::Global;
 use std::test::Fail;
 
 /// A word that its run uses wholly, and what is displayed.
+#[derive(Drop)]
 struct Ending {
     source: &'static str,
     choices: u8,
@@ -55,20 +57,41 @@ static ENDINGS: [Ending; 5] = [
     },
 ];
 
+/// How the run of a word ends.
+fn end_under(
+    alloc: Global,
+    source: &str,
+    choices: u8,
+    gates: Gates,
+    word: &str,
+) -> Result<RunEnd, Fail> {
+    end_at(
+        alloc,
+        source,
+        limits_of(choices, gates)?,
+        numbers_of(word).as_slice(),
+    )
+}
+
+/// Whether the run of a word uses it wholly, and ends as is told here.
+fn is_as_told(alloc: Global, ending: &Ending, kind: OutcomeKind) -> Result<bool, Fail> {
+    let end = end_under(
+        alloc,
+        ending.source,
+        ending.choices,
+        ending.gates,
+        ending.word,
+    )?;
+    let used = numbers_of(ending.word).len();
+    Ok(has_ended(&end, used, kind, ending.output))
+}
+
 /// The order in the line decides under one gate, and the choice under the other. A process that is resumed goes before the line.
 #[test]
 fn who_goes_first(rt: HostRuntime) -> Result<(), Fail> {
     for ending in &ENDINGS {
-        let program = program_of(rt.alloc(), ending.source)?;
-        let word = numbers_of(ending.word);
-        let end = end_of(
-            rt.alloc(),
-            &program,
-            limits_of(ending.choices, ending.gates)?,
-            word.as_slice(),
-        )?;
-        let as_wanted = has_ended(&end, word.len(), OutcomeKind::Finished, ending.output);
-        assert!(rt; as_wanted, "{}", ending.word);
+        let as_told = is_as_told(rt.alloc(), ending, OutcomeKind::Finished)?;
+        assert!(rt; as_told, "{}", ending.word);
     }
     Ok(())
 }
@@ -76,19 +99,12 @@ fn who_goes_first(rt: HostRuntime) -> Result<(), Fail> {
 /// Under one gate the line is wanted, under the other the ready processes.
 #[test]
 fn wanted_at_the_gate(rt: HostRuntime) -> Result<(), Fail> {
-    let program = program_of(rt.alloc(), THREE_CALLERS)?;
     for (gates, wanted) in [(Gates::Any, [2, 3]), (Gates::First, [1, 2])] {
-        let word = numbers_of("0.0.0.1.2.3");
-        let end = end_of(rt.alloc(), &program, limits_of(13, gates)?, word.as_slice())?;
+        let end = end_under(rt.alloc(), THREE_CALLERS, 13, gates, "0.0.0.1.2.3")?;
         assert!(rt; has_wanted(&end, &wanted));
     }
-    let word = numbers_of("0.0.0.1.2.3.3.3.3.2.2.1.2");
-    let end = end_of(
-        rt.alloc(),
-        &program,
-        limits_of(13, Gates::First)?,
-        word.as_slice(),
-    )?;
+    let word = "0.0.0.1.2.3.3.3.3.2.2.1.2";
+    let end = end_under(rt.alloc(), THREE_CALLERS, 13, Gates::First, word)?;
     assert!(rt; matches!(end, RunEnd::NotReady { place: 6 }));
     Ok(())
 }
@@ -96,13 +112,17 @@ fn wanted_at_the_gate(rt: HostRuntime) -> Result<(), Fail> {
 /// A process that is delayed for good: each word of the table, under either gate.
 #[test]
 fn delayed_forever(rt: HostRuntime) -> Result<(), Fail> {
-    let program = program_of(rt.alloc(), DELAYED)?;
     for gates in [Gates::First, Gates::Any] {
-        for name in ["0", "1.0", "1.1"] {
-            let word = numbers_of(name);
-            let end = end_of(rt.alloc(), &program, limits_of(2, gates)?, word.as_slice())?;
-            let as_wanted = has_ended(&end, word.len(), OutcomeKind::AllWaiting, &[]);
-            assert!(rt; as_wanted, "{name}");
+        for word in ["0", "1.0", "1.1"] {
+            let ending = Ending {
+                source: DELAYED,
+                choices: 2,
+                gates,
+                word,
+                output: &[],
+            };
+            let as_told = is_as_told(rt.alloc(), &ending, OutcomeKind::AllWaiting)?;
+            assert!(rt; as_told, "{word}");
         }
     }
     Ok(())
@@ -111,11 +131,9 @@ fn delayed_forever(rt: HostRuntime) -> Result<(), Fail> {
 /// A run whose word is used up, and one that is refused.
 #[test]
 fn wants_and_not_ready(rt: HostRuntime) -> Result<(), Fail> {
-    let program = program_of(rt.alloc(), TWO_DISPLAYS)?;
-    let limits = limits_of(8, Gates::First)?;
-    let end = end_of(rt.alloc(), &program, limits, &[])?;
+    let end = end_under(rt.alloc(), TWO_DISPLAYS, 8, Gates::First, "none")?;
     assert!(rt; has_wanted(&end, &[0, 1]));
-    let end = end_of(rt.alloc(), &program, limits, &[2])?;
+    let end = end_under(rt.alloc(), TWO_DISPLAYS, 8, Gates::First, "2")?;
     assert!(rt; matches!(end, RunEnd::NotReady { place: 0 }));
     Ok(())
 }

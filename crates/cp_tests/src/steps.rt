@@ -4,6 +4,7 @@ ghost use Rattle.std.specs.Prelude.{◌≡◌};
 ghost use Rattle.cp_machine.specs.System.{IsStateOf};
 
 use crate::programs::{limits_of, program_of};
+use cp_drops::drop_program;
 use cp_machine::{ErrorName, Event, Gates, RunError, Shown, State, Ticks, step};
 use cp_run::{Limits, may};
 use cp_slots::Resolved;
@@ -12,14 +13,26 @@ use std::marker::Brand;
 use std::sync::ledger::{Blank, Ledger};
 use std::test::Fail;
 
-/// What process 0 does alone: how many of its steps succeed, the last event, and where the state is then. Before each step a copy of
-/// the state is made and dropped, or memory for it is refused.
-#[derive(Drop)]
-pub struct Alone {
+/// How many steps of a process succeed, and the last event. Before each step a copy of the state is made and dropped, or memory for it
+/// is refused.
+#[derive(Clone, Copy)]
+struct Done {
     steps: u32,
     last: Event,
+    refused_copies: u32,
+}
+
+/// What process 0 does alone, and where the state is then.
+#[derive(Drop)]
+pub struct Alone {
+    done: Done,
     state: State,
-    pub refused_copies: u32,
+}
+
+impl Alone {
+    pub fn refused_copies(&self) -> u32 {
+        self.done.refused_copies
+    }
 }
 
 /// One step of process 0, where it is ready and nothing is pending.
@@ -58,36 +71,50 @@ pub fn stepped<L: Ledger>(
 {
     let mut ticks: Ticks<L> = Ticks::new(blank);
     let mut state = State::start(alloc, program, limits.gates)?;
-    let mut last = Event::Local;
-    let mut steps = 0;
-    let mut refused_copies = 0u32;
+    let done = steps_done(alloc, program, limits, &mut state, &mut ticks);
+    Ok(Alone { done, state })
+}
+
+/// The steps of process 0 from a state on.
+fn steps_done<L: Ledger>(
+    alloc: Global,
+    program: &Resolved,
+    limits: Limits,
+    state: &mut State,
+    ticks: &mut Ticks<L>,
+) -> Done
+    requires { IsStateOf program.now state.old }
+    ensures { IsStateOf program.now state.new }
+{
+    let mut done = Done {
+        steps: 0,
+        last: Event::Local,
+        refused_copies: 0,
+    };
     for turn in 0..1000u32 {
         if state.copy(alloc).is_err() {
-            refused_copies = refused_copies.saturating_add(1);
+            done.refused_copies = done.refused_copies.saturating_add(1);
         }
-        let Some(event) = step_of_first(program, limits, &mut state, &mut ticks) else {
-            break;
+        let Some(event) = step_of_first(program, limits, state, ticks) else {
+            return done;
         };
-        last = event;
-        if !matches!(last, Event::Fault(_) | Event::OutputFull) {
-            steps = turn + 1;
+        done.last = event;
+        if !matches!(event, Event::Fault(_) | Event::OutputFull) {
+            done.steps = turn + 1;
         }
-        if is_over(last) {
-            break;
+        if is_over(event) {
+            return done;
         }
     }
-    Ok(Alone {
-        steps,
-        last,
-        state,
-        refused_copies,
-    })
+    done
 }
 
 fn stepped_alone(alloc: Global, source: &str) -> Result<Alone, Fail> {
-    let program = program_of(alloc, source)?;
     let limits = limits_of(8, Gates::First)?;
-    Ok(stepped::<Brand>(alloc, &program, limits, Blank::new(1))?)
+    let program = program_of(alloc, source)?;
+    let alone = stepped::<Brand>(alloc, &program, limits, Blank::new(1));
+    drop_program(program);
+    Ok(alone?)
 }
 
 /// A source, how many steps of process 0 succeed, its last event, and what is displayed.
@@ -100,8 +127,8 @@ pub struct StepRow {
 
 impl StepRow {
     pub fn tells_of(&self, alone: &Alone) -> bool {
-        alone.steps == self.steps
-            && alone.last == self.last.event()
+        alone.done.steps == self.steps
+            && alone.done.last == self.last.event()
             && alone.state.output() == self.output
     }
 }
@@ -257,13 +284,15 @@ pub static LAST_STEPS: StepRow = StepRow {
     output: &[Shown::Integer(2)],
 };
 
+fn is_told(alloc: Global, row: &StepRow) -> Result<bool, Fail> {
+    Ok(row.tells_of(&stepped_alone(alloc, row.source)?))
+}
+
 #[test]
 fn steps_of_one_process(rt: HostRuntime) -> Result<(), Fail> {
     for row in &STEPS {
-        let alone = stepped_alone(rt.alloc(), row.source)?;
-        assert!(rt; row.tells_of(&alone), "{}", row.source);
+        assert!(rt; is_told(rt.alloc(), row)?, "{}", row.source);
     }
-    let alone = stepped_alone(rt.alloc(), LAST_STEPS.source)?;
-    assert!(rt; LAST_STEPS.tells_of(&alone));
+    assert!(rt; is_told(rt.alloc(), &LAST_STEPS)?);
     Ok(())
 }

@@ -6,6 +6,7 @@ use crate::programs::{
     BUFFER, CONTINUED, INNER_DELAY, THREE_CALLERS, TWO_DISPLAYS, has_ended, has_wanted, limits_of,
     numbers_of, program_of,
 };
+use cp_drops::drop_program;
 use cp_machine::{Gates, Kernel, Shown, Ticks};
 use cp_run::{Limits, OutcomeKind, RunEnd, TraceEvent, TraceLine, trace};
 use cp_slots::Resolved;
@@ -175,15 +176,32 @@ fn end_after(
     }
 }
 
+/// How the run of a word of a source's program ends whose trace has these lines.
+fn end_at(
+    alloc: Global,
+    source: &str,
+    limits: Limits,
+    word: &[u8],
+    told: &[Told],
+) -> Result<RunEnd, Fail> {
+    let program = program_of(alloc, source)?;
+    let end = end_after(alloc, &program, limits, word, told);
+    drop_program(program);
+    end
+}
+
+/// Whether a run has the trace that is told, and ends so.
+fn is_traced(alloc: Global, traced: &Traced) -> Result<bool, Fail> {
+    let limits = limits_of(traced.choices, Gates::First)?;
+    let word = numbers_of(traced.word);
+    let end = end_at(alloc, traced.source, limits, word.as_slice(), traced.lines)?;
+    Ok(has_ended(&end, word.len(), traced.kind, traced.output))
+}
+
 #[test]
 fn worked_traces(rt: HostRuntime) -> Result<(), Fail> {
     for traced in &TRACES {
-        let program = program_of(rt.alloc(), traced.source)?;
-        let limits = limits_of(traced.choices, Gates::First)?;
-        let word = numbers_of(traced.word);
-        let end = end_after(rt.alloc(), &program, limits, word.as_slice(), traced.lines)?;
-        let as_wanted = has_ended(&end, word.len(), traced.kind, traced.output);
-        assert!(rt; as_wanted, "{}", traced.word);
+        assert!(rt; is_traced(rt.alloc(), traced)?, "{}", traced.word);
     }
     Ok(())
 }
@@ -206,22 +224,24 @@ fn is_admitted_once(lines: &[TraceLine], process: u8) -> bool {
     count == 1
 }
 
+/// Whether one line of the trace of a word tells of an admission under the gates Any, of this process.
+fn admits_once(alloc: Global, word: &str, process: u8) -> Result<bool, Fail> {
+    let limits = limits_of(13, Gates::Any)?;
+    let program = program_of(alloc, THREE_CALLERS)?;
+    let traced = trace_of(alloc, &program, limits, numbers_of(word).as_slice());
+    drop_program(program);
+    let (lines, _end) = traced?;
+    Ok(is_admitted_once(&lines, process))
+}
+
 /// Where the gate wants a choice, one line tells of it.
 #[test]
 fn one_line_of_an_admission(rt: HostRuntime) -> Result<(), Fail> {
-    let program = program_of(rt.alloc(), THREE_CALLERS)?;
-    for (text, process) in [
+    for (word, process) in [
         ("0.0.0.1.2.3.2.2.2.3.3.1.2", 2u8),
         ("0.0.0.1.2.3.3.3.3.2.2.1.2", 3),
     ] {
-        let word = numbers_of(text);
-        let (lines, _end) = trace_of(
-            rt.alloc(),
-            &program,
-            limits_of(13, Gates::Any)?,
-            word.as_slice(),
-        )?;
-        assert!(rt; is_admitted_once(&lines, process), "{text}");
+        assert!(rt; admits_once(rt.alloc(), word, process)?, "{word}");
     }
     Ok(())
 }
@@ -231,11 +251,10 @@ static FIRST_LINES: [Told; 1] = [(0, START, &[])];
 /// A trace stops where its word is used up, and where a number may not be chosen.
 #[test]
 fn wants_and_not_ready(rt: HostRuntime) -> Result<(), Fail> {
-    let program = program_of(rt.alloc(), TWO_DISPLAYS)?;
     let limits = limits_of(8, Gates::First)?;
-    let end = end_after(rt.alloc(), &program, limits, &[], &FIRST_LINES)?;
+    let end = end_at(rt.alloc(), TWO_DISPLAYS, limits, &[], &FIRST_LINES)?;
     assert!(rt; has_wanted(&end, &[0, 1]));
-    let end = end_after(rt.alloc(), &program, limits, &[2], &FIRST_LINES)?;
+    let end = end_at(rt.alloc(), TWO_DISPLAYS, limits, &[2], &FIRST_LINES)?;
     assert!(rt; matches!(end, RunEnd::NotReady { place: 0 }));
     Ok(())
 }

@@ -2,7 +2,8 @@
 ghost use Rattle.std.specs.Prelude.{◌<◌, ◌≤◌};
 
 use crate::programs::{TWO_DISPLAYS, program_of};
-use cp_explore::{Cutting, Gate, Job, NoGate, explore, report};
+use cp_drops::drop_program;
+use cp_explore::{Cutting, Gate, Job, NoGate, Report, explore, report};
 use cp_machine::Gates;
 use cp_run::Limits;
 use std::alloc::Global;
@@ -25,17 +26,33 @@ fn is_reported<X: Threads + Sync, G: Gate + Sync>(
 ) -> Result<bool, Fail>
     requires { (0 < workers) × (workers ≤ 16) }
 {
-    let program = program_of(alloc, TWO_DISPLAYS)?;
     let limits = Limits::new(5, 1_000, Gates::First).ok_or("no limits")?;
+    let program = program_of(alloc, TWO_DISPLAYS)?;
     let job = Job {
         program: &program,
         limits,
     };
+    let told = reported(rt, alloc, job, depth, workers, gate);
+    drop_program(program);
+    Ok(told?.text.as_str() == REPORT)
+}
+
+/// The report of a job by workers that draw the words of this many choices.
+fn reported<X: Threads + Sync, G: Gate + Sync>(
+    rt: &X,
+    alloc: Global,
+    job: Job,
+    depth: u8,
+    workers: u8,
+    gate: &G,
+) -> Result<Report, Fail>
+    requires choices { job.limits.choices ≤ 20 }
+    requires workers { (0 < workers) × (workers ≤ 16) }
+{
     let mut cutting = Cutting::whole(alloc, job)?;
     cutting.to_depth(alloc, depth)?;
     let table = explore(rt, alloc, &cutting, workers, gate)?;
-    let told = report(alloc, &program, &table, false)?;
-    Ok(told.text.as_str() == REPORT)
+    Ok(report(alloc, job.program, &table, false)?)
 }
 
 /// The first to pass waits until a second passes. That one comes from another thread.

@@ -15,6 +15,7 @@ use crate::refusal::{check_reason, parse_reason, refusal, scan_reason};
 use crate::stream::{Sink, Source};
 use crate::transfer::{MOST_BYTES, ReadFault, read_source, write_text};
 use cp_check::check;
+use cp_drops::{drop_checked, drop_program, drop_tree};
 use cp_explore::{
     Cutting, ExploreFault, Job, MergeFault, NoGate, Table, Text, explore, explore_merged,
     merged_report, report, trace_report,
@@ -175,8 +176,18 @@ fn checked<X: Threads + Sync>(
     ensures { IfOk result (λ a. spec.AnswersTree options.now tokens.now (tree_view tree) a.verdict a.text) }
 {
     match check(alloc, tree) {
-        Ok(checked) => explored(rt, alloc, options, &resolve(alloc, &checked)?),
-        Err((fault, _tree)) => refused_at(alloc, tokens, check_reason(&fault)),
+        Ok(checked) => {
+            let resolved = resolve(alloc, &checked);
+            drop_checked(checked);
+            let program = resolved?;
+            let answer = explored(rt, alloc, options, &program);
+            drop_program(program);
+            answer
+        }
+        Err((fault, tree)) => {
+            drop_tree(tree);
+            refused_at(alloc, tokens, check_reason(&fault))
+        }
     }
 }
 
