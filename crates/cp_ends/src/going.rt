@@ -24,7 +24,11 @@ pub struct Stepped {
 }
 
 /// What a state has displayed goes to the end of what was told.
-pub fn forget(program: &Resolved, state: &mut State, told: &mut Vec<Shown>) -> Result<(), AllocError>
+pub fn forget(
+    program: &Resolved,
+    state: &mut State,
+    told: &mut Vec<Shown>,
+) -> Result<(), AllocError>
     requires own { IsStateOf program.now state.old }
     ensures own { IsStateOf program.now state.new }
     ensures ready { (q : ℕ) → is_ready (machine_of state.new) q ≡ is_ready (machine_of state.old) q }
