@@ -3,6 +3,7 @@
 ghost use Rattle.cp_ends.specs.Holds.{HasFindings};
 
 use cp_check::check;
+use cp_drops::{drop_checked, drop_program, drop_tree};
 use cp_ends::{Found, ends_report, search_ends};
 use cp_resolved::resolve;
 use cp_run::Limits;
@@ -71,8 +72,18 @@ fn checked(
     tree: Tree,
 ) -> Result<Answer, AllocError> {
     match check(alloc, tree) {
-        Ok(checked) => searched(alloc, options, &resolve(alloc, &checked)?),
-        Err((fault, _tree)) => refused_at(alloc, tokens, check_reason(&fault)),
+        Ok(checked) => {
+            let resolved = resolve(alloc, &checked);
+            drop_checked(checked);
+            let program = resolved?;
+            let answer = searched(alloc, options, &program);
+            drop_program(program);
+            answer
+        }
+        Err((fault, tree)) => {
+            drop_tree(tree);
+            refused_at(alloc, tokens, check_reason(&fault))
+        }
     }
 }
 

@@ -8,6 +8,7 @@ ghost use Rattle.cpx_show.specs.Showing as spec;
 use crate::marks::marked;
 use crate::parts::{Asked, Part};
 use cp_check::check;
+use cp_drops::{drop_checked, drop_program, drop_tree};
 use cp_ends_story::{Subject as Endless, ends_story};
 use cp_lanes::{Subject, picture};
 use cp_legend::{Legend, legend_of};
@@ -176,12 +177,30 @@ fn checked(
 ) -> Result<Answer, AllocError> {
     match check(alloc, tree) {
         Ok(checked) => {
-            let program = resolve(alloc, &checked)?;
-            let legend = legend_of(alloc, checked.tree())?;
-            shown(alloc, asked, &program, &legend, source)
+            let resolved = resolve(alloc, &checked);
+            let legend = legend_of(alloc, checked.tree());
+            drop_checked(checked);
+            let program = resolved?;
+            let answer = shown_with(alloc, asked, &program, legend, source);
+            drop_program(program);
+            answer
         }
-        Err((fault, _tree)) => refused_at(alloc, tokens, check_reason(&fault)),
+        Err((fault, tree)) => {
+            drop_tree(tree);
+            refused_at(alloc, tokens, check_reason(&fault))
+        }
     }
+}
+
+// What is shown of a program, where there is a legend.
+fn shown_with(
+    alloc: Global,
+    asked: &Asked,
+    program: &Resolved,
+    legend: Result<Legend, AllocError>,
+    source: &[u8],
+) -> Result<Answer, AllocError> {
+    shown(alloc, asked, program, &legend?, source)
 }
 
 fn refused(alloc: Global, line: u32, reason: Option<&str>) -> Result<Answer, AllocError> {
