@@ -52,6 +52,28 @@ fn push_piece(
     }
 }
 
+/// Drafts a program with some pieces put in at a place. Answers which tokens of the draft they are.
+fn put_in(
+    alloc: Global,
+    draft: &mut Draft,
+    tokens: &Tokens,
+    place: usize,
+    pieces: &[Piece],
+) -> Result<Extent, AllocError> {
+    draft.push_copies(alloc, tokens, Extent { from: 0, to: place })?;
+    let from = draft.count();
+    for piece in pieces {
+        push_piece(alloc, draft, tokens, *piece)?;
+    }
+    let to = draft.count();
+    let rest = Extent {
+        from: place,
+        to: tokens.count(),
+    };
+    draft.push_copies(alloc, tokens, rest)?;
+    Ok(Extent { from, to })
+}
+
 /// What the checker says of a program with some pieces put in at a place.
 pub fn asked(
     alloc: Global,
@@ -60,19 +82,9 @@ pub fn asked(
     pieces: &[Piece],
 ) -> Result<Reply, AllocError> {
     let mut draft = Draft::new(alloc);
-    draft.push_copies(alloc, tokens, Extent { from: 0, to: place })?;
-    let from = draft.count();
-    for piece in pieces {
-        push_piece(alloc, &mut draft, tokens, *piece)?;
-    }
-    let to = draft.count();
-    let rest = Extent {
-        from: place,
-        to: tokens.count(),
-    };
-    draft.push_copies(alloc, tokens, rest)?;
+    let put = put_in(alloc, &mut draft, tokens, place, pieces)?;
     match draft.tokens(alloc)? {
-        Some(tokens) => replied(alloc, &tokens, Extent { from, to }),
+        Some(tokens) => replied(alloc, &tokens, put),
         None => Ok(Reply::Unknown),
     }
 }
