@@ -2,7 +2,6 @@
 
 ghost use Rattle.std.specs.Prelude.{◌<◌, ◌^◌};
 
-use crate::fitting::Fit;
 use crate::share::share_of;
 use crate::stopped::{LIMITS, is_stopped, schedules_in, stopped_at};
 use crate::subject::{Excess, Subject};
@@ -152,22 +151,26 @@ fn stops(alloc: Global, tallies: &Tallies) -> Result<Vec<Value>, AllocError> {
     Ok(items)
 }
 
-/// What there is too much of.
-pub fn excess_json(alloc: Global, excess: Excess) -> Result<String, AllocError> {
+/// What there is too much of, and what is told of all schedules of a smaller number of choices, if there is one.
+pub fn excess_json(
+    alloc: Global,
+    excess: Excess,
+    known: Option<(u8, &str)>,
+) -> Result<String, AllocError> {
     let mut object = Object::new(alloc);
     match excess {
-        Excess::Rows(fit) => {
-            object.text("too_many", "rows")?;
-            if let Some(Fit { choices, schedules }) = fit {
-                object.number("choices", u64::from(choices))?;
-                object.number("schedules", schedules as u64)?;
-            }
-        }
         Excess::States(most) => {
             object.text("too_many", "states")?;
             object.number("states", u64::from(most))?;
         }
         Excess::Outcomes => object.text("too_many", "outcomes")?,
     }
-    line(alloc, object)
+    let Some((choices, told)) = known else {
+        return line(alloc, object);
+    };
+    object.number("choices", u64::from(choices))?;
+    // What is told is an object itself: it becomes the last member.
+    let object = object.done().to_string(alloc)?;
+    let before = object.as_str().trim_end_matches('}');
+    format!(in alloc; "{before},\"known\":{}}}\n", told.trim_end())
 }

@@ -4,10 +4,9 @@ ghost use Rattle.std.specs.Prelude.{◌≤◌, ◌<◌, ◌^◌, length, map};
 ghost use Rattle.cp_merged.specs.Code.{tally_of};
 ghost use Rattle.cp_merged.specs.Told.{rows_in};
 
-use crate::fitting::Fit;
 use crate::share::share_of;
 use crate::stopped::{LIMITS, Limit, is_stopped, schedules_in, stopped_at};
-use crate::subject::{Excess, Subject, Way};
+use crate::subject::{Excess, Subject};
 use cp_machine::Ticks;
 use cp_merged::{Tallies, Tally};
 use cp_natural::{Natural, push_natural};
@@ -16,9 +15,6 @@ use cp_story::{Wait, kind_words, tell, wait_words};
 use cp_walk::text::{push_outcome, push_word};
 use std::alloc::{AllocError, Global};
 use std::sync::ledger::Ledger;
-
-/// The most choices of a table.
-const MOST_OF_A_TABLE: u8 = 20;
 
 /// How wide a share is at most: `> 99.9 %`.
 const SHARE_WIDTH: usize = 8;
@@ -172,7 +168,7 @@ fn push_last(subject: Subject<'_>, text: &mut String, tallies: &[Tally]) -> Resu
             push_schedules(text, &count)?;
             text.push_str(" ended as ")?;
             text.push_str(kind_words(limit.kind()))?;
-            text.push_str(advice(limit, subject.limits, subject.way))?;
+            text.push_str(advice(limit, subject.limits))?;
             before = ", ";
             is_complete = false;
         }
@@ -184,24 +180,15 @@ fn push_last(subject: Subject<'_>, text: &mut String, tallies: &[Tally]) -> Resu
 }
 
 /// What to try where runs ended at a limit.
-pub fn advice(limit: Limit, limits: Limits, way: Way) -> &'static str {
+pub fn advice(limit: Limit, limits: Limits) -> &'static str {
     match limit {
-        Limit::Choices => match way {
-            Way::Rows => {
-                if limits.choices < MOST_OF_A_TABLE {
-                    " (try greater --choices, or --merge)"
-                } else {
-                    " (try --merge with greater --choices)"
-                }
+        Limit::Choices => {
+            if limits.choices < MOST_CHOICES {
+                " (try greater --choices)"
+            } else {
+                " (./show ends tells of schedules of any length)"
             }
-            Way::States(_) => {
-                if limits.choices < MOST_CHOICES {
-                    " (try greater --choices)"
-                } else {
-                    " (no greater --choices can be tried)"
-                }
-            }
-        },
+        }
         Limit::Steps => {
             if limits.steps < MOST_STEPS {
                 " (try greater --steps)"
@@ -213,36 +200,26 @@ pub fn advice(limit: Limit, limits: Limits, way: Way) -> &'static str {
     }
 }
 
-/// What there is too much of, and what to try.
-pub fn excess_text(alloc: Global, excess: Excess) -> Result<String, AllocError> {
+/// What there is too much of, what to try, and what is told of all schedules of a smaller number of choices, if there is one.
+pub fn excess_text(
+    alloc: Global,
+    excess: Excess,
+    known: Option<(u8, &str)>,
+) -> Result<String, AllocError> {
     let mut text = String::new(alloc);
     match excess {
-        Excess::Rows(fit) => {
-            text.push_str("too many rows: a table has at most 50000\n")?;
-            push_fit(&mut text, fit)?;
-        }
         Excess::States(most) => {
             write!(text, "too many states: a layer may have {most}\n")?;
-            text.push_str("try greater --states, or smaller --choices\n")?;
+            text.push_str("try greater --states, or ./show ends\n")?;
         }
         Excess::Outcomes => {
             text.push_str("too many outcomes: there may be 50000\n")?;
             text.push_str("try smaller --choices\n")?;
         }
     }
-    Ok(text)
-}
-
-// The greatest table that fits, and what else there is.
-fn push_fit(text: &mut String, fit: Option<Fit>) -> Result<(), AllocError> {
-    if let Some(Fit { choices, schedules }) = fit {
-        text.push_str("the greatest number of choices whose table fits is ")?;
-        write!(
-            text,
-            "{choices}, with {schedules} schedules\ntry --choices {choices}, or "
-        )?;
-    } else {
-        text.push_str("try ")?;
+    if let Some((choices, told)) = known {
+        write!(text, "\nof all schedules of at most {choices} choices:\n\n")?;
+        text.push_str(told)?;
     }
-    text.push_str("--merge, which counts any number of schedules\n")
+    Ok(text)
 }

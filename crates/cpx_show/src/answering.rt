@@ -2,7 +2,6 @@
 
 ghost use Rattle.std.specs.Prelude.{◌≡◌, ◌+◌, ◌≤◌, IfOk, length};
 ghost use Rattle.cp_walk.specs.Rows.{UsedWithin};
-ghost use Rattle.cp_outcomes.specs.Ways.{IsWithin};
 ghost use Rattle.cpx_show.specs.Showing as spec;
 
 use crate::marks::marked;
@@ -13,7 +12,7 @@ use cp_ends_story::{Subject as Endless, ends_story};
 use cp_lanes::{Subject, picture};
 use cp_legend::{Legend, legend_of};
 use cp_machine::Ticks;
-use cp_outcomes::{Form, Subject as Survey, Way, outcomes};
+use cp_outcomes::{Form, Subject as Survey, outcomes};
 use cp_resolved::resolve;
 use cp_run::{Limits, MOST_CHOICES};
 use cp_slots::Resolved;
@@ -354,7 +353,7 @@ fn surveyed(
         program,
         legend,
         limits,
-        way: way_of(options),
+        states: options.states,
         source,
     };
     let form = if as_json { Form::Json } else { Form::Text };
@@ -403,17 +402,6 @@ fn ended(
         },
         text: told.text,
     })
-}
-
-// How the options have the outcomes found.
-fn way_of(options: &Options) -> Way
-    ensures { IsWithin result options.now.choices }
-{
-    if options.merge {
-        Way::States(options.states)
-    } else {
-        Way::Rows
-    }
 }
 
 fn word_of(options: &Options) -> &[u8]

@@ -9,7 +9,7 @@ const ABOUT: &str =
 const USAGE: &str = "cpx_show PART [OPTIONS] < PROGRAM";
 
 const NOTES: &str =
-    "Example: cpx_show trace --schedule 0.1 < program.cp\n\nStatus: 0 reported, 1 source refused, 2 options refused, 3 no memory, 4 read or write fault,\n5 too many rows, states or outcomes, 6 an expectation fails, 7 one is not settled";
+    "Example: cpx_show trace --schedule 0.1 < program.cp\n\nStatus: 0 reported, 1 source refused, 2 options refused, 3 no memory, 4 read or write fault,\n5 too many states or outcomes, 6 an expectation fails, 7 one is not settled";
 
 const TRACE: &str = "Tells one schedule in names: a line for each kernel call";
 
@@ -135,7 +135,7 @@ fn with_schedule<'a>(alloc: Global, command: Command<'a>) -> Result<Command<'a>,
         alloc,
         "schedule",
         "WORD",
-        "The schedule: `none`, or up to 20 numbers 0 to 15 joined by periods, with --merge up to 100",
+        "The schedule: `none`, or up to 100 numbers 0 to 15 joined by periods",
     )
     .required(true);
     let again = option(
@@ -155,13 +155,13 @@ fn with_limits<'a>(alloc: Global, command: Command<'a>) -> Result<Command<'a>, A
         alloc,
         "choices",
         "K",
-        "Choices of a schedule, 0 to 20, with --merge to 100 [default: 8]",
+        "Choices of a schedule, 0 to 100 [default: 100]",
     ))?;
     let command = with_run(alloc, command)?;
     let command = command.arg(merge(alloc))?;
     command.arg(states(
         alloc,
-        "States that a layer may have with --merge, 1 to 10000000 [default: 200000]",
+        "States that a layer may have, 1 to 10000000 [default: 200000]",
     ))
 }
 
@@ -189,7 +189,7 @@ fn merge<'a>(alloc: Global) -> Arg<'a> {
     Arg::new(alloc, "merge")
         .long("merge")
         .action(ArgAction::SetTrue)
-        .help("Take schedules of up to 100 choices; count those that come to one state together")
+        .help("Changes nothing: schedules that come to one state are counted together in any case")
 }
 
 fn option<'a>(alloc: Global, name: &'a str, value: &'a str, help: &'a str) -> Arg<'a> {

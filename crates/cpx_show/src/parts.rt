@@ -3,11 +3,20 @@
 use crate::command::command;
 use clap::ArgMatches;
 use clap::error::ErrorKind;
-use cp_tool::{OptionFault, Options, read_options};
+use cp_tool::{OptionFault, Options, Reading, read_options, reason_for, word_reason};
 use std::alloc::{AllocError, Global};
 
-/// The options that are those of `cpx`.
-const SHARED: [&str; 4] = ["choices", "steps", "gates", "states"];
+/// The options that are those of `cpx`, but for `--choices`.
+const SHARED: [&str; 3] = ["steps", "gates", "states"];
+
+/// How many choices a schedule has where the words do not say so.
+const USUAL_CHOICES: &str = "100";
+
+/// How the program is given its source.
+const READING: Reading<'static> = Reading {
+    program: "cpx_show PART",
+    script: "./show PART",
+};
 
 /// What is to be shown.
 #[derive(Drop)]
@@ -113,6 +122,38 @@ fn schedule_word(alloc: Global, schedule: &str, again: Option<&str>) -> Result<S
     Ok(word)
 }
 
+/// The first word of these that `read_parts` refuses, and why.
+pub fn refused_part<'a>(alloc: Global, words: &'a [&'a str]) -> Result<String, AllocError> {
+    let command = command(alloc)?;
+    match command.try_get_matches_from(words) {
+        Ok(matches) => match matches.subcommand() {
+            Some((name, inner)) => refused_option(alloc, inner, name == "ends"),
+            None => String::from_str(alloc, "a part is wanted"),
+        },
+        Err(error) => match error.kind() {
+            ErrorKind::OutOfMemory => Err(AllocError),
+            _ => {
+                let message = format!(in alloc; "{error}")?;
+                word_reason(alloc, message.as_str(), READING)
+            }
+        },
+    }
+}
+
+// The first option of a part that `cpx` refuses, and why.
+fn refused_option(
+    alloc: Global,
+    matches: &ArgMatches<'_>,
+    with_ends: bool,
+) -> Result<String, AllocError> {
+    let words = shared_words(alloc, matches, with_ends)?;
+    let mut texts = Vec::new(alloc);
+    for word in &words {
+        texts.push(word.as_str())?;
+    }
+    reason_for(alloc, &texts, READING)
+}
+
 // The options of a part, read by `cpx`; some parts are always those of schedules of any length.
 fn options(
     alloc: Global,
@@ -137,6 +178,8 @@ fn shared_words(
 ) -> Result<Vec<String>, AllocError> {
     let mut words = Vec::new(alloc);
     words.push(String::from_str(alloc, "cpx")?)?;
+    let choices = matches.get_str("choices").unwrap_or(USUAL_CHOICES);
+    words.push(format!(in alloc; "--choices={choices}")?)?;
     for name in SHARED {
         if let Some(value) = matches.get_str(name) {
             words.push(format!(in alloc; "--{name}={value}")?)?;
@@ -145,12 +188,9 @@ fn shared_words(
     if let Some(schedule) = matches.get_str("schedule") {
         words.push(schedule_word(alloc, schedule, matches.get_str("again"))?)?;
     }
-    if matches.get_flag("merge") {
-        words.push(String::from_str(alloc, "--merge")?)?;
-    }
-    if with_ends || matches.get_flag("ends") || matches.get_str("again").is_some() {
-        words.push(String::from_str(alloc, "--ends")?)?;
-    }
+    let has_ends = with_ends || matches.get_flag("ends") || matches.get_str("again").is_some();
+    let length = if has_ends { "--ends" } else { "--merge" };
+    words.push(String::from_str(alloc, length)?)?;
     if matches.get_flag("waits") {
         words.push(String::from_str(alloc, "--waits")?)?;
     }
