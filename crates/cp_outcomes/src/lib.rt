@@ -10,4 +10,4 @@ mod telling;
 mod texts;
 
 pub use subject::{Form, Subject, Told};
-pub use telling::outcomes;
+pub use telling::{First, first_of_outcome, outcomes};

@@ -44,7 +44,8 @@ fn put_outcomes<L: Ledger>(
     for stopped in [false, true] {
         for tally in tallies.as_slice() {
             if is_stopped(tally.outcome.kind) == stopped {
-                items.push(tally_object(alloc, subject, tally, &whole, ticks)?)?;
+                let number = items.len().saturating_add(1);
+                items.push(tally_object(alloc, subject, number, tally, &whole, ticks)?)?;
             }
         }
     }
@@ -79,6 +80,7 @@ fn count_value(alloc: Global, count: &Natural) -> Result<Value, AllocError> {
 fn tally_object<L: Ledger>(
     alloc: Global,
     subject: Subject<'_>,
+    number: usize,
     tally: &Tally,
     whole: &Natural,
     ticks: &mut Ticks<L>,
@@ -86,6 +88,7 @@ fn tally_object<L: Ledger>(
     requires { whole.now < 10 ^ 126 }
 {
     let mut object = Object::new(alloc);
+    object.number("number", number as u64)?;
     put_count(alloc, &mut object, tally, whole)?;
     put_outcome(alloc, subject, &mut object, tally)?;
     put_end(alloc, subject, &mut object, tally, ticks)?;

@@ -7,10 +7,12 @@ ghost use Rattle.cp_outcomes.specs.Meant.{IsMeantFinding};
 
 use crate::completing::{Known, greatest_known};
 use crate::objects::{excess_json, json};
+use crate::stopped::is_stopped;
 use crate::subject::{Excess, Form, Subject, Told};
 use crate::texts::{excess_text, text};
 use cp_machine::Ticks;
-use cp_merged::{MergeFault, Tallies, explore_merged};
+use cp_merged::word::{Word, word_of};
+use cp_merged::{MergeFault, Tallies, Tally, explore_merged};
 use cp_run::Limits;
 use cp_walk::Job;
 use std::alloc::{AllocError, Global};
@@ -64,6 +66,44 @@ fn excess_written(
         Form::Text => excess_text(alloc, excess, known),
         Form::Json => excess_json(alloc, excess, known),
     }
+}
+
+/// The first schedule of an outcome.
+#[derive(Drop)]
+pub enum First {
+    Word(Word),
+    /// There is no outcome of this number; this is how many there are.
+    None(usize),
+}
+
+/// The first schedule of the outcome with this number, counted from 1 in the order in which `outcomes` tells them.
+pub fn first_of_outcome(
+    alloc: Global,
+    job: Job,
+    states: u32,
+    number: usize,
+) -> Result<First, AllocError> {
+    match found_by_states(alloc, job, states)? {
+        Finding::Whole(tallies) | Finding::TooMany(_, Some(Known { tallies, .. })) => {
+            Ok(first_among(tallies.as_slice(), number))
+        }
+        Finding::TooMany(_, None) => Ok(First::None(0)),
+    }
+}
+
+fn first_among(tallies: &[Tally], number: usize) -> First {
+    let mut before = 1usize;
+    for stopped in [false, true] {
+        for tally in tallies {
+            if is_stopped(tally.outcome.kind) == stopped {
+                if before == number {
+                    return First::Word(word_of(tally.first.as_slice()));
+                }
+                before = before.saturating_add(1);
+            }
+        }
+    }
+    First::None(tallies.len())
 }
 
 fn written<L: Ledger>(

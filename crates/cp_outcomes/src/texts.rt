@@ -19,8 +19,8 @@ use std::sync::ledger::Ledger;
 /// How wide a share is at most: `> 99.9 %`.
 const SHARE_WIDTH: usize = 8;
 
-/// Begins a line below a share.
-const INDENT: &str = "          ";
+/// How wide a share is with what stands before and after it.
+const MARGIN: usize = 10;
 
 /// The outcomes: first those of runs that ended, each with its share, then those of runs that a limit stopped. The last line says
 /// whether these are all.
@@ -34,15 +34,49 @@ pub fn text<L: Ledger>(
     let whole = schedules_in(all);
     let mut text = String::new(alloc);
     push_heading(&mut text, &whole, all.len())?;
+    let width = digits_of(all.len());
+    let mut number = 0usize;
     for stopped in [false, true] {
         for tally in all {
             if is_stopped(tally.outcome.kind) == stopped {
-                push_tally(alloc, subject, &mut text, tally, &whole, ticks)?;
+                number = number.saturating_add(1);
+                push_number(&mut text, number, width)?;
+                push_tally(alloc, subject, &mut text, width, tally, &whole, ticks)?;
             }
         }
     }
     push_last(subject, &mut text, all)?;
     Ok(text)
+}
+
+// How many digits a number has.
+fn digits_of(number: usize) -> usize {
+    let mut left = number / 10;
+    for digits in 1..20 {
+        if left == 0 {
+            return digits;
+        }
+        left /= 10;
+    }
+    20
+}
+
+// The number of an outcome, as wide as any.
+fn push_number(text: &mut String, number: usize, width: usize) -> Result<(), AllocError> {
+    push_spaces(text, width.saturating_sub(digits_of(number)))?;
+    write!(text, "{number}.")
+}
+
+fn push_spaces(text: &mut String, count: usize) -> Result<(), AllocError> {
+    for _ in 0..count {
+        text.push(' ')?;
+    }
+    Ok(())
+}
+
+// Begins a line below the first of an outcome, whose number is so wide.
+fn push_indent(text: &mut String, width: usize) -> Result<(), AllocError> {
+    push_spaces(text, width.saturating_add(MARGIN + 1))
 }
 
 fn push_heading(text: &mut String, schedules: &Natural, outcomes: usize) -> Result<(), AllocError> {
@@ -65,6 +99,7 @@ fn push_tally<L: Ledger>(
     alloc: Global,
     subject: Subject<'_>,
     text: &mut String,
+    width: usize,
     tally: &Tally,
     whole: &Natural,
     ticks: &mut Ticks<L>,
@@ -74,7 +109,7 @@ fn push_tally<L: Ledger>(
     push_share(alloc, text, tally, whole)?;
     push_outcome(text, subject.program, &tally.outcome)?;
     text.push('\n')?;
-    text.push_str(INDENT)?;
+    push_indent(text, width)?;
     push_schedules(text, &tally.count)?;
     text.push_str(", first ")?;
     push_word(text, tally.first.as_slice())?;
@@ -82,11 +117,13 @@ fn push_tally<L: Ledger>(
     match tally.outcome.kind {
         OutcomeKind::AllWaiting => {
             for wait in &waits_of(alloc, subject, tally.first.as_slice(), ticks)? {
-                push_line(text, wait_words(alloc, subject.legend, wait)?.as_str())?;
+                push_line(text, width, wait_words(alloc, subject.legend, wait)?.as_str())?;
             }
             Ok(())
         }
-        OutcomeKind::RunError { process, line, .. } => push_source(subject, text, process, line),
+        OutcomeKind::RunError { process, line, .. } => {
+            push_source(subject, text, width, process, line)
+        }
         _ => Ok(()),
     }
 }
@@ -102,15 +139,13 @@ fn push_share(
 {
     let mut share = String::new(alloc);
     share_of(&tally.count, whole).push_to(&mut share)?;
-    for _ in share.len()..SHARE_WIDTH {
-        text.push(' ')?;
-    }
+    push_spaces(text, SHARE_WIDTH.saturating_sub(share.len()))?;
     text.push_str(share.as_str())?;
     text.push_str("  ")
 }
 
-fn push_line(text: &mut String, line: &str) -> Result<(), AllocError> {
-    text.push_str(INDENT)?;
+fn push_line(text: &mut String, width: usize, line: &str) -> Result<(), AllocError> {
+    push_indent(text, width)?;
     text.push_str(line)?;
     text.push('\n')
 }
@@ -137,11 +172,13 @@ pub fn waits_of<L: Ledger>(
 fn push_source(
     subject: Subject<'_>,
     text: &mut String,
+    width: usize,
     process: u8,
     line: u32,
 ) -> Result<(), AllocError> {
     let name = subject.legend.process_name(process);
-    write!(text, "{INDENT}{process} {name} at line {line}: ")?;
+    push_indent(text, width)?;
+    write!(text, "{process} {name} at line {line}: ")?;
     text.push_str(line_of(subject.source, line))?;
     text.push('\n')
 }

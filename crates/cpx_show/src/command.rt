@@ -59,7 +59,7 @@ fn described<'a>(alloc: Global) -> Command<'a> {
 fn trace<'a>(alloc: Global) -> Result<Command<'a>, AllocError> {
     let command = Command::new(alloc, "trace")
         .about(TRACE)
-        .override_usage("cpx_show trace --schedule WORD [OPTIONS] < PROGRAM");
+        .override_usage("cpx_show trace --schedule WORD|--outcome N [OPTIONS] < PROGRAM");
     Ok(with_schedule(alloc, command)?.arg(json(alloc))?)
 }
 
@@ -72,7 +72,7 @@ fn json<'a>(alloc: Global) -> Arg<'a> {
 
 fn lanes<'a>(alloc: Global) -> Result<Command<'a>, AllocError> {
     let command = Command::new(alloc, "lanes").about(LANES).override_usage(
-        "cpx_show lanes --schedule WORD [OPTIONS] < PROGRAM > PICTURE.svg",
+        "cpx_show lanes --schedule WORD|--outcome N [OPTIONS] < PROGRAM > PICTURE.svg",
     );
     with_schedule(alloc, command)
 }
@@ -136,8 +136,13 @@ fn with_schedule<'a>(alloc: Global, command: Command<'a>) -> Result<Command<'a>,
         "schedule",
         "WORD",
         "The schedule: `none`, or up to 100 numbers 0 to 15 joined by periods",
-    )
-    .required(true);
+    );
+    let outcome = option(
+        alloc,
+        "outcome",
+        "N",
+        "In place of --schedule: the first schedule of the outcome that `outcomes` tells with this number",
+    );
     let again = option(
         alloc,
         "again",
@@ -146,7 +151,11 @@ fn with_schedule<'a>(alloc: Global, command: Command<'a>) -> Result<Command<'a>,
     );
     with_limits(
         alloc,
-        command.arg(schedule)?.arg(again)?.arg(ends_switch(alloc))?,
+        command
+            .arg(schedule)?
+            .arg(outcome)?
+            .arg(again)?
+            .arg(ends_switch(alloc))?,
     )
 }
 

@@ -40,6 +40,8 @@ pub enum Part {
 pub struct Asked {
     pub part: Part,
     pub options: Options,
+    /// The outcome whose first schedule is shown, where none is given.
+    pub outcome: Option<usize>,
     /// How many numbers at the end of the schedule are a round that can be gone again and again.
     pub round: usize,
 }
@@ -76,11 +78,39 @@ fn read_matches(alloc: Global, matches: &ArgMatches<'_>) -> Result<Asked, Option
         "mark" => Part::Mark(given(alloc, inner)?),
         _ => return Err(OptionFault::Refused),
     };
+    if !choice_fault(name, inner).is_empty() {
+        return Err(OptionFault::Refused);
+    }
     Ok(Asked {
         part,
         options: options(alloc, inner, name == "ends")?,
+        outcome: outcome_of(inner),
         round: numbers_of(inner.get_str("again")),
     })
+}
+
+// The number of an outcome, from 1 on.
+fn outcome_of(matches: &ArgMatches<'_>) -> Option<usize> {
+    match matches.get_str("outcome")?.parse::<u32>() {
+        Ok(0) | Err(_) => None,
+        Ok(number) => Some(number as usize),
+    }
+}
+
+// What is wrong with how one schedule is named, if it is to be shown.
+fn choice_fault(name: &str, matches: &ArgMatches<'_>) -> &'static str {
+    if name != "trace" && name != "lanes" {
+        return "";
+    }
+    let is_given = matches.get_str("outcome").is_some();
+    match matches.get_str("schedule") {
+        Some(_) if is_given => "--outcome: not beside --schedule",
+        Some(_) => "",
+        None if !is_given => "--schedule WORD or --outcome N is wanted",
+        None if outcome_of(matches).is_none() => "--outcome: a number from 1 on is wanted",
+        None if matches.get_str("again").is_some() => "--again: only beside --schedule",
+        None => "",
+    }
 }
 
 // The words of the expectations that are given, joined by spaces.
@@ -127,7 +157,7 @@ pub fn refused_part<'a>(alloc: Global, words: &'a [&'a str]) -> Result<String, A
     let command = command(alloc)?;
     match command.try_get_matches_from(words) {
         Ok(matches) => match matches.subcommand() {
-            Some((name, inner)) => refused_option(alloc, inner, name == "ends"),
+            Some((name, inner)) => refused_option(alloc, inner, name),
             None => String::from_str(alloc, "a part is wanted"),
         },
         Err(error) => match error.kind() {
@@ -144,9 +174,13 @@ pub fn refused_part<'a>(alloc: Global, words: &'a [&'a str]) -> Result<String, A
 fn refused_option(
     alloc: Global,
     matches: &ArgMatches<'_>,
-    with_ends: bool,
+    name: &str,
 ) -> Result<String, AllocError> {
-    let words = shared_words(alloc, matches, with_ends)?;
+    let fault = choice_fault(name, matches);
+    if !fault.is_empty() {
+        return String::from_str(alloc, fault);
+    }
+    let words = shared_words(alloc, matches, name == "ends")?;
     let mut texts = Vec::new(alloc);
     for word in &words {
         texts.push(word.as_str())?;
