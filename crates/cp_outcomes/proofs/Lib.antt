@@ -1,4 +1,3 @@
-pub mod Counting
 pub mod Meant
 pub mod Sums
 pub mod Tenths

@@ -2,4 +2,3 @@ pub mod Findings
 pub mod Meant
 pub mod Shares
 pub mod Stops
-pub mod Ways

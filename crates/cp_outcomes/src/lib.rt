@@ -1,15 +1,13 @@
 //! The report in words: each outcome with its share, and whether these are all.
 #![tactic(auto)]
 
-pub mod counted;
-pub mod fitting;
+pub mod completing;
 mod objects;
 pub mod share;
 pub mod stopped;
 pub mod subject;
-pub mod tables;
 mod telling;
 mod texts;
 
-pub use subject::{Form, Subject, Told, Way};
-pub use telling::outcomes;
+pub use subject::{Form, Subject, Told};
+pub use telling::{First, first_of_outcome, outcomes};

@@ -2,7 +2,6 @@
 
 ghost use Rattle.std.specs.Prelude.{◌<◌, ◌^◌};
 
-use crate::fitting::Fit;
 use crate::share::share_of;
 use crate::stopped::{LIMITS, is_stopped, schedules_in, stopped_at};
 use crate::subject::{Excess, Subject};
@@ -45,7 +44,8 @@ fn put_outcomes<L: Ledger>(
     for stopped in [false, true] {
         for tally in tallies.as_slice() {
             if is_stopped(tally.outcome.kind) == stopped {
-                items.push(tally_object(alloc, subject, tally, &whole, ticks)?)?;
+                let number = items.len().saturating_add(1);
+                items.push(tally_object(alloc, subject, number, tally, &whole, ticks)?)?;
             }
         }
     }
@@ -80,6 +80,7 @@ fn count_value(alloc: Global, count: &Natural) -> Result<Value, AllocError> {
 fn tally_object<L: Ledger>(
     alloc: Global,
     subject: Subject<'_>,
+    number: usize,
     tally: &Tally,
     whole: &Natural,
     ticks: &mut Ticks<L>,
@@ -87,6 +88,7 @@ fn tally_object<L: Ledger>(
     requires { whole.now < 10 ^ 126 }
 {
     let mut object = Object::new(alloc);
+    object.number("number", number as u64)?;
     put_count(alloc, &mut object, tally, whole)?;
     put_outcome(alloc, subject, &mut object, tally)?;
     put_end(alloc, subject, &mut object, tally, ticks)?;
@@ -152,22 +154,26 @@ fn stops(alloc: Global, tallies: &Tallies) -> Result<Vec<Value>, AllocError> {
     Ok(items)
 }
 
-/// What there is too much of.
-pub fn excess_json(alloc: Global, excess: Excess) -> Result<String, AllocError> {
+/// What there is too much of, and what is told of all schedules of a smaller number of choices, if there is one.
+pub fn excess_json(
+    alloc: Global,
+    excess: Excess,
+    known: Option<(u8, &str)>,
+) -> Result<String, AllocError> {
     let mut object = Object::new(alloc);
     match excess {
-        Excess::Rows(fit) => {
-            object.text("too_many", "rows")?;
-            if let Some(Fit { choices, schedules }) = fit {
-                object.number("choices", u64::from(choices))?;
-                object.number("schedules", schedules as u64)?;
-            }
-        }
         Excess::States(most) => {
             object.text("too_many", "states")?;
             object.number("states", u64::from(most))?;
         }
         Excess::Outcomes => object.text("too_many", "outcomes")?,
     }
-    line(alloc, object)
+    let Some((choices, told)) = known else {
+        return line(alloc, object);
+    };
+    object.number("choices", u64::from(choices))?;
+    // What is told is an object itself: it becomes the last member.
+    let object = object.done().to_string(alloc)?;
+    let before = object.as_str().trim_end_matches('}');
+    format!(in alloc; "{before},\"known\":{}}}\n", told.trim_end())
 }

@@ -1,18 +1,8 @@
 //! What is told, and how.
 
-use crate::fitting::Fit;
 use cp_legend::Legend;
 use cp_run::Limits;
 use cp_slots::Resolved;
-
-/// How the outcomes are found.
-#[derive(Clone, Copy, PartialEq, Eq)]
-pub enum Way {
-    /// By a table with a row for each schedule.
-    Rows,
-    /// By layers of at most so many states.
-    States(u32),
-}
 
 /// How the outcomes are written.
 #[derive(Clone, Copy, PartialEq, Eq)]
@@ -21,13 +11,14 @@ pub enum Form {
     Json,
 }
 
-/// The program whose outcomes are told, and how they are found.
+/// The program whose outcomes are told, and within which limits.
 #[derive(Clone, Copy)]
 pub struct Subject<'a> {
     pub program: &'a Resolved,
     pub legend: &'a Legend,
     pub limits: Limits,
-    pub way: Way,
+    /// How many states a layer may have.
+    pub states: u32,
     /// The lines of the source.
     pub source: &'a [String],
 }
@@ -35,7 +26,7 @@ pub struct Subject<'a> {
 /// The outcomes as they are told.
 #[derive(Drop)]
 pub struct Told {
-    /// False where there are too many rows, states or outcomes; then the text says what to try.
+    /// False where there are too many states or outcomes; then the text says what is known, and what to try.
     pub is_whole: bool,
     pub text: String,
 }
@@ -43,8 +34,6 @@ pub struct Told {
 /// What there is too much of.
 #[derive(Clone, Copy)]
 pub enum Excess {
-    /// Rows, with the greatest table that fits.
-    Rows(Option<Fit>),
     /// States of a layer, of which there may be so many.
     States(u32),
     /// Different outcomes.

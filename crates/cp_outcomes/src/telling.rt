@@ -1,20 +1,20 @@
 //! The outcomes of all schedules, in words or as JSON.
 
-ghost use Rattle.std.specs.Prelude.{◌≡◌, ◌≤◌, IfOk};
+ghost use Rattle.std.specs.Prelude.{◌≡◌, IfOk};
 ghost use Rattle.cp_run.specs.Slots.{slots};
 ghost use Rattle.cp_outcomes.specs.Findings.{IsFoundOf};
 ghost use Rattle.cp_outcomes.specs.Meant.{IsMeantFinding};
-ghost use Rattle.cp_outcomes.specs.Ways.{IsWithin};
 
-use crate::counted::tallies_of;
-use crate::fitting::greatest_fit;
+use crate::completing::{Known, greatest_known};
 use crate::objects::{excess_json, json};
-use crate::subject::{Excess, Form, Subject, Told, Way};
-use crate::tables::table_of;
+use crate::stopped::is_stopped;
+use crate::subject::{Excess, Form, Subject, Told};
 use crate::texts::{excess_text, text};
 use cp_machine::Ticks;
-use cp_merged::{MergeFault, Tallies, explore_merged};
-use cp_walk::{ExploreFault, Job};
+use cp_merged::word::{Word, word_of};
+use cp_merged::{MergeFault, Tallies, Tally, explore_merged};
+use cp_run::Limits;
+use cp_walk::Job;
 use std::alloc::{AllocError, Global};
 use std::marker::Brand;
 use std::sync::ledger::{Blank, Ledger};
@@ -23,26 +23,87 @@ use std::sync::ledger::{Blank, Ledger};
 #[derive(Drop)]
 enum Finding {
     Whole(Tallies),
-    TooMany(Excess),
+    /// What there is too much of, and what is known of schedules of fewer choices.
+    TooMany(Excess, Option<Known>),
 }
 
 /// The outcomes of all schedules of a program in words: their shares, counts and first schedules, and whether these are all.
-pub fn outcomes(alloc: Global, subject: Subject<'_>, form: Form) -> Result<Told, AllocError>
-    requires { IsWithin subject.way subject.limits.choices }
-{
+pub fn outcomes(alloc: Global, subject: Subject<'_>, form: Form) -> Result<Told, AllocError> {
     match found(alloc, subject)? {
         Finding::Whole(tallies) => Ok(Told {
             is_whole: true,
             text: written::<Brand>(alloc, subject, form, &tallies, Blank::new(1))?,
         }),
-        Finding::TooMany(excess) => Ok(Told {
+        Finding::TooMany(excess, known) => Ok(Told {
             is_whole: false,
-            text: match form {
-                Form::Text => excess_text(alloc, excess)?,
-                Form::Json => excess_json(alloc, excess)?,
-            },
+            text: excess_written(alloc, subject, form, excess, &known)?,
         }),
     }
+}
+
+// What there is too much of, and what is known of schedules of fewer choices.
+fn excess_written(
+    alloc: Global,
+    subject: Subject<'_>,
+    form: Form,
+    excess: Excess,
+    known: &Option<Known>,
+) -> Result<String, AllocError> {
+    let Some(known) = known else {
+        return match form {
+            Form::Text => excess_text(alloc, excess, None),
+            Form::Json => excess_json(alloc, excess, None),
+        };
+    };
+    let Some(limits) = Limits::new(known.choices, subject.limits.steps, subject.limits.gates)
+    else {
+        unreachable!()
+    };
+    let fewer = Subject { limits, ..subject };
+    let told = written::<Brand>(alloc, fewer, form, &known.tallies, Blank::new(1))?;
+    let known = Some((known.choices, told.as_str()));
+    match form {
+        Form::Text => excess_text(alloc, excess, known),
+        Form::Json => excess_json(alloc, excess, known),
+    }
+}
+
+/// The first schedule of an outcome.
+#[derive(Drop)]
+pub enum First {
+    Word(Word),
+    /// There is no outcome of this number; this is how many there are.
+    None(usize),
+}
+
+/// The first schedule of the outcome with this number, counted from 1 in the order in which `outcomes` tells them.
+pub fn first_of_outcome(
+    alloc: Global,
+    job: Job,
+    states: u32,
+    number: usize,
+) -> Result<First, AllocError> {
+    match found_by_states(alloc, job, states)? {
+        Finding::Whole(tallies) | Finding::TooMany(_, Some(Known { tallies, .. })) => {
+            Ok(first_among(tallies.as_slice(), number))
+        }
+        Finding::TooMany(_, None) => Ok(First::None(0)),
+    }
+}
+
+fn first_among(tallies: &[Tally], number: usize) -> First {
+    let mut before = 1usize;
+    for stopped in [false, true] {
+        for tally in tallies {
+            if is_stopped(tally.outcome.kind) == stopped {
+                if before == number {
+                    return First::Word(word_of(tally.first.as_slice()));
+                }
+                before = before.saturating_add(1);
+            }
+        }
+    }
+    First::None(tallies.len())
 }
 
 fn written<L: Ledger>(
@@ -65,7 +126,6 @@ fn written<L: Ledger>(
 
 // The outcomes, or what there is too much of.
 fn found(alloc: Global, subject: Subject<'_>) -> Result<Finding, AllocError>
-    requires { IsWithin subject.way subject.limits.choices }
     ensures found { IfOk result (λ f. IsFoundOf (slots subject.entry.program.now subject.entry.limits.gates) subject.entry.limits.choices subject.entry.limits.steps f) }
     ensures meaning { IfOk result (λ f. IsMeantFinding subject.entry.program.now subject.entry.limits.gates subject.entry.limits.choices subject.entry.limits.steps f) }
 {
@@ -73,32 +133,17 @@ fn found(alloc: Global, subject: Subject<'_>) -> Result<Finding, AllocError>
         program: subject.program,
         limits: subject.limits,
     };
-    match subject.way {
-        Way::Rows => by_rows(alloc, job),
-        Way::States(most) => by_states(alloc, job, most),
-    }
+    found_by_states(alloc, job, subject.states)
 }
 
-fn by_rows(alloc: Global, job: Job) -> Result<Finding, AllocError>
-    requires { job.limits.choices ≤ 20 }
+fn found_by_states(alloc: Global, job: Job, most: u32) -> Result<Finding, AllocError>
     ensures { IfOk result (λ f. IsFoundOf (slots job.entry.program.now job.entry.limits.gates) job.entry.limits.choices job.entry.limits.steps f) }
 {
-    match table_of(alloc, job) {
-        Ok(table) => Ok(Finding::Whole(tallies_of(alloc, table)?)),
-        Err(ExploreFault::TooManyRows) => {
-            Ok(Finding::TooMany(Excess::Rows(greatest_fit(alloc, job)?)))
-        }
-        Err(ExploreFault::Memory) => Err(AllocError),
-    }
-}
-
-fn by_states(alloc: Global, job: Job, most: u32) -> Result<Finding, AllocError>
-    ensures { IfOk result (λ f. IsFoundOf (slots job.entry.program.now job.entry.limits.gates) job.entry.limits.choices job.entry.limits.steps f) }
-{
-    match explore_merged(alloc, job, most as usize) {
-        Ok(tallies) => Ok(Finding::Whole(tallies)),
-        Err(MergeFault::TooManyStates) => Ok(Finding::TooMany(Excess::States(most))),
-        Err(MergeFault::TooManyOutcomes) => Ok(Finding::TooMany(Excess::Outcomes)),
-        Err(MergeFault::Memory) => Err(AllocError),
-    }
+    let excess = match explore_merged(alloc, job, most as usize) {
+        Ok(tallies) => return Ok(Finding::Whole(tallies)),
+        Err(MergeFault::TooManyStates) => Excess::States(most),
+        Err(MergeFault::TooManyOutcomes) => Excess::Outcomes,
+        Err(MergeFault::Memory) => return Err(AllocError),
+    };
+    Ok(Finding::TooMany(excess, greatest_known(alloc, job, most)?))
 }

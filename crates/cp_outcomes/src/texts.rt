@@ -4,10 +4,9 @@ ghost use Rattle.std.specs.Prelude.{◌≤◌, ◌<◌, ◌^◌, length, map};
 ghost use Rattle.cp_merged.specs.Code.{tally_of};
 ghost use Rattle.cp_merged.specs.Told.{rows_in};
 
-use crate::fitting::Fit;
 use crate::share::share_of;
 use crate::stopped::{LIMITS, Limit, is_stopped, schedules_in, stopped_at};
-use crate::subject::{Excess, Subject, Way};
+use crate::subject::{Excess, Subject};
 use cp_machine::Ticks;
 use cp_merged::{Tallies, Tally};
 use cp_natural::{Natural, push_natural};
@@ -17,14 +16,11 @@ use cp_walk::text::{push_outcome, push_word};
 use std::alloc::{AllocError, Global};
 use std::sync::ledger::Ledger;
 
-/// The most choices of a table.
-const MOST_OF_A_TABLE: u8 = 20;
-
 /// How wide a share is at most: `> 99.9 %`.
 const SHARE_WIDTH: usize = 8;
 
-/// Begins a line below a share.
-const INDENT: &str = "          ";
+/// How wide a share is with what stands before and after it.
+const MARGIN: usize = 10;
 
 /// The outcomes: first those of runs that ended, each with its share, then those of runs that a limit stopped. The last line says
 /// whether these are all.
@@ -38,15 +34,49 @@ pub fn text<L: Ledger>(
     let whole = schedules_in(all);
     let mut text = String::new(alloc);
     push_heading(&mut text, &whole, all.len())?;
+    let width = digits_of(all.len());
+    let mut number = 0usize;
     for stopped in [false, true] {
         for tally in all {
             if is_stopped(tally.outcome.kind) == stopped {
-                push_tally(alloc, subject, &mut text, tally, &whole, ticks)?;
+                number = number.saturating_add(1);
+                push_number(&mut text, number, width)?;
+                push_tally(alloc, subject, &mut text, width, tally, &whole, ticks)?;
             }
         }
     }
     push_last(subject, &mut text, all)?;
     Ok(text)
+}
+
+// How many digits a number has.
+fn digits_of(number: usize) -> usize {
+    let mut left = number / 10;
+    for digits in 1..20 {
+        if left == 0 {
+            return digits;
+        }
+        left /= 10;
+    }
+    20
+}
+
+// The number of an outcome, as wide as any.
+fn push_number(text: &mut String, number: usize, width: usize) -> Result<(), AllocError> {
+    push_spaces(text, width.saturating_sub(digits_of(number)))?;
+    write!(text, "{number}.")
+}
+
+fn push_spaces(text: &mut String, count: usize) -> Result<(), AllocError> {
+    for _ in 0..count {
+        text.push(' ')?;
+    }
+    Ok(())
+}
+
+// Begins a line below the first of an outcome, whose number is so wide.
+fn push_indent(text: &mut String, width: usize) -> Result<(), AllocError> {
+    push_spaces(text, width.saturating_add(MARGIN + 1))
 }
 
 fn push_heading(text: &mut String, schedules: &Natural, outcomes: usize) -> Result<(), AllocError> {
@@ -69,6 +99,7 @@ fn push_tally<L: Ledger>(
     alloc: Global,
     subject: Subject<'_>,
     text: &mut String,
+    width: usize,
     tally: &Tally,
     whole: &Natural,
     ticks: &mut Ticks<L>,
@@ -78,7 +109,7 @@ fn push_tally<L: Ledger>(
     push_share(alloc, text, tally, whole)?;
     push_outcome(text, subject.program, &tally.outcome)?;
     text.push('\n')?;
-    text.push_str(INDENT)?;
+    push_indent(text, width)?;
     push_schedules(text, &tally.count)?;
     text.push_str(", first ")?;
     push_word(text, tally.first.as_slice())?;
@@ -86,11 +117,13 @@ fn push_tally<L: Ledger>(
     match tally.outcome.kind {
         OutcomeKind::AllWaiting => {
             for wait in &waits_of(alloc, subject, tally.first.as_slice(), ticks)? {
-                push_line(text, wait_words(alloc, subject.legend, wait)?.as_str())?;
+                push_line(text, width, wait_words(alloc, subject.legend, wait)?.as_str())?;
             }
             Ok(())
         }
-        OutcomeKind::RunError { process, line, .. } => push_source(subject, text, process, line),
+        OutcomeKind::RunError { process, line, .. } => {
+            push_source(subject, text, width, process, line)
+        }
         _ => Ok(()),
     }
 }
@@ -106,15 +139,13 @@ fn push_share(
 {
     let mut share = String::new(alloc);
     share_of(&tally.count, whole).push_to(&mut share)?;
-    for _ in share.len()..SHARE_WIDTH {
-        text.push(' ')?;
-    }
+    push_spaces(text, SHARE_WIDTH.saturating_sub(share.len()))?;
     text.push_str(share.as_str())?;
     text.push_str("  ")
 }
 
-fn push_line(text: &mut String, line: &str) -> Result<(), AllocError> {
-    text.push_str(INDENT)?;
+fn push_line(text: &mut String, width: usize, line: &str) -> Result<(), AllocError> {
+    push_indent(text, width)?;
     text.push_str(line)?;
     text.push('\n')
 }
@@ -141,11 +172,13 @@ pub fn waits_of<L: Ledger>(
 fn push_source(
     subject: Subject<'_>,
     text: &mut String,
+    width: usize,
     process: u8,
     line: u32,
 ) -> Result<(), AllocError> {
     let name = subject.legend.process_name(process);
-    write!(text, "{INDENT}{process} {name} at line {line}: ")?;
+    push_indent(text, width)?;
+    write!(text, "{process} {name} at line {line}: ")?;
     text.push_str(line_of(subject.source, line))?;
     text.push('\n')
 }
@@ -172,7 +205,7 @@ fn push_last(subject: Subject<'_>, text: &mut String, tallies: &[Tally]) -> Resu
             push_schedules(text, &count)?;
             text.push_str(" ended as ")?;
             text.push_str(kind_words(limit.kind()))?;
-            text.push_str(advice(limit, subject.limits, subject.way))?;
+            text.push_str(advice(limit, subject.limits))?;
             before = ", ";
             is_complete = false;
         }
@@ -184,24 +217,15 @@ fn push_last(subject: Subject<'_>, text: &mut String, tallies: &[Tally]) -> Resu
 }
 
 /// What to try where runs ended at a limit.
-pub fn advice(limit: Limit, limits: Limits, way: Way) -> &'static str {
+pub fn advice(limit: Limit, limits: Limits) -> &'static str {
     match limit {
-        Limit::Choices => match way {
-            Way::Rows => {
-                if limits.choices < MOST_OF_A_TABLE {
-                    " (try greater --choices, or --merge)"
-                } else {
-                    " (try --merge with greater --choices)"
-                }
+        Limit::Choices => {
+            if limits.choices < MOST_CHOICES {
+                " (try greater --choices)"
+            } else {
+                " (./show ends tells of schedules of any length)"
             }
-            Way::States(_) => {
-                if limits.choices < MOST_CHOICES {
-                    " (try greater --choices)"
-                } else {
-                    " (no greater --choices can be tried)"
-                }
-            }
-        },
+        }
         Limit::Steps => {
             if limits.steps < MOST_STEPS {
                 " (try greater --steps)"
@@ -213,36 +237,26 @@ pub fn advice(limit: Limit, limits: Limits, way: Way) -> &'static str {
     }
 }
 
-/// What there is too much of, and what to try.
-pub fn excess_text(alloc: Global, excess: Excess) -> Result<String, AllocError> {
+/// What there is too much of, what to try, and what is told of all schedules of a smaller number of choices, if there is one.
+pub fn excess_text(
+    alloc: Global,
+    excess: Excess,
+    known: Option<(u8, &str)>,
+) -> Result<String, AllocError> {
     let mut text = String::new(alloc);
     match excess {
-        Excess::Rows(fit) => {
-            text.push_str("too many rows: a table has at most 50000\n")?;
-            push_fit(&mut text, fit)?;
-        }
         Excess::States(most) => {
             write!(text, "too many states: a layer may have {most}\n")?;
-            text.push_str("try greater --states, or smaller --choices\n")?;
+            text.push_str("try greater --states, or ./show ends\n")?;
         }
         Excess::Outcomes => {
             text.push_str("too many outcomes: there may be 50000\n")?;
             text.push_str("try smaller --choices\n")?;
         }
     }
-    Ok(text)
-}
-
-// The greatest table that fits, and what else there is.
-fn push_fit(text: &mut String, fit: Option<Fit>) -> Result<(), AllocError> {
-    if let Some(Fit { choices, schedules }) = fit {
-        text.push_str("the greatest number of choices whose table fits is ")?;
-        write!(
-            text,
-            "{choices}, with {schedules} schedules\ntry --choices {choices}, or "
-        )?;
-    } else {
-        text.push_str("try ")?;
+    if let Some((choices, told)) = known {
+        write!(text, "\nof all schedules of at most {choices} choices:\n\n")?;
+        text.push_str(told)?;
     }
-    text.push_str("--merge, which counts any number of schedules\n")
+    Ok(text)
 }

@@ -17,7 +17,7 @@ pub use expectation::{Claim, Expectation, KindPattern, OutcomePattern, OutputPat
 pub use judging::{Judgement, judge};
 pub use laws::law_holds;
 pub use marking::{Verdict, mark};
-pub use program::{Mark, MarkFault, Marked, Most, mark_program};
+pub use program::{Mark, MarkFault, Marked, mark_program, mark_tallies};
 pub use reading::{Misread, Wanted, expectations};
 pub use seen::Seen;
 pub use words::{misread_text, push_expectation, verdict_text};

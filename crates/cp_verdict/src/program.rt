@@ -15,27 +15,13 @@ use crate::marking::{Verdict, mark};
 use crate::seen::Seen;
 use crate::words::verdict_text;
 use cp_merged::{MergeFault, Tallies, Tally, explore_merged};
-use cp_natural::push_natural;
 use cp_slots::Resolved;
 use cp_walk::Job;
 use std::alloc::{AllocError, AllocFailed, Global};
 
-/// The most rows of a table that is listed.
-const MOST_ROWS: u32 = 50_000;
-
-/// How large a table may be.
-#[derive(Clone, Copy, PartialEq, Eq)]
-pub enum Most {
-    /// It has no more rows than a table that is listed.
-    Rows,
-    /// No layer has more states.
-    States(u32),
-}
-
 /// Why a program has no mark.
 #[derive(Clone, Copy, PartialEq, Eq)]
 pub enum MarkFault {
-    TooManyRows,
     TooManyStates,
     TooManyOutcomes,
     Memory,
@@ -95,42 +81,20 @@ fn seen_of<'a>(alloc: Global, tallies: &'a [Tally]) -> Result<Vec<Seen<'a>>, All
     Ok(seen)
 }
 
-/// Whether there are more schedules than a table that is listed may have.
-fn is_too_long(alloc: Global, tallies: &[Tally]) -> Result<bool, AllocError> {
-    let mut sum: u64 = 0;
-    for tally in tallies {
-        let mut digits = String::new(alloc);
-        push_natural(&mut digits, &tally.count)?;
-        let Ok(count) = digits.as_str().parse::<u64>() else {
-            return Ok(true);
-        };
-        sum = sum.saturating_add(count);
-    }
-    Ok(sum > u64::from(MOST_ROWS))
-}
-
-/// The outcomes of a job, or what there is too much of. A table of few rows has no more states in a layer, nor outcomes.
-fn explored(alloc: Global, job: Job, most: Most) -> Result<Tallies, MarkFault>
+/// The outcomes of a job, or what there is too much of. A layer may have so many states.
+fn explored(alloc: Global, job: Job, states: u32) -> Result<Tallies, MarkFault>
     ensures { IfOk result (λ ts. map tally_of ts ≡ tally same_outcome (table (slots job.entry.program.now job.entry.limits.gates) job.entry.limits.choices job.entry.limits.steps)) }
 {
-    let states = match most {
-        Most::Rows => MOST_ROWS,
-        Most::States(states) => states,
-    };
-    match (explore_merged(alloc, job, states as usize), most) {
-        (Ok(tallies), Most::Rows) if is_too_long(alloc, tallies.as_slice())? => {
-            Err(MarkFault::TooManyRows)
-        }
-        (Ok(tallies), _) => Ok(tallies),
-        (Err(MergeFault::Memory), _) => Err(MarkFault::Memory),
-        (Err(_), Most::Rows) => Err(MarkFault::TooManyRows),
-        (Err(MergeFault::TooManyStates), _) => Err(MarkFault::TooManyStates),
-        (Err(MergeFault::TooManyOutcomes), _) => Err(MarkFault::TooManyOutcomes),
+    match explore_merged(alloc, job, states as usize) {
+        Ok(tallies) => Ok(tallies),
+        Err(MergeFault::Memory) => Err(MarkFault::Memory),
+        Err(MergeFault::TooManyStates) => Err(MarkFault::TooManyStates),
+        Err(MergeFault::TooManyOutcomes) => Err(MarkFault::TooManyOutcomes),
     }
 }
 
 /// What the table with these outcomes says of some expectations.
-fn marked_by<'a>(
+pub fn mark_tallies<'a>(
     alloc: Global,
     program: &Resolved,
     expectations: &'a [Expectation],
@@ -147,20 +111,20 @@ fn marked_by<'a>(
     })
 }
 
-/// What the outcomes of all schedules of a job say of some expectations.
+/// What the outcomes of all schedules of a job say of some expectations. A layer may have so many states.
 ///
 /// # Errors
 /// What there is too much of; or memory was refused.
 pub fn mark_program(
     alloc: Global,
     job: Job,
-    most: Most,
+    states: u32,
     expectations: &[Expectation],
 ) -> Result<Marked, MarkFault>
     ensures mark { IfOk result (λ m. spec.IsMarkOf job.entry.program.now.names expectations.entry.now (table (slots job.entry.program.now job.entry.limits.gates) job.entry.limits.choices job.entry.limits.steps) m.mark) }
     ensures meaning { IfOk result (λ m. IsMeantMark job.entry.program.now job.entry.limits.gates job.entry.limits.choices job.entry.limits.steps expectations.entry.now m.mark) }
 {
-    let tallies = explored(alloc, job, most)?;
-    let marked = marked_by(alloc, job.program, expectations, tallies.as_slice())?;
+    let tallies = explored(alloc, job, states)?;
+    let marked = mark_tallies(alloc, job.program, expectations, tallies.as_slice())?;
     Ok(marked)
 }

@@ -4,8 +4,11 @@
 ghost use Rattle.std.specs.Prelude.{◌≡◌};
 
 use cp_ends_tool::ends_stream;
-use cp_tool::{OptionFault, Options, Wrapped, explore_stream, read_options};
-use std::alloc::Global;
+use cp_tool::{
+    OptionFault, Options, Reading, VERSION, Wrapped, asks_version, explore_stream, read_options,
+    reason_for,
+};
+use std::alloc::{AllocError, Global};
 use std::env;
 use std::io::{ErrorKind, Stdin, Stdout};
 use std::marker::Brand;
@@ -13,51 +16,95 @@ use std::process::ExitCode;
 use std::sync::ledger::{Blank, Ledger};
 use std::thread::Threads;
 
+const READING: Reading<'static> = Reading {
+    program: "cpx",
+    script: "./explore",
+};
+
+// What the words ask for.
+#[derive(Drop)]
+enum Asked {
+    Options(Options),
+    Version,
+    // The words are refused, and this says why.
+    Refused(String),
+    Help(String),
+}
+
 fn main(rt: HostRuntime) -> ExitCode {
-    let code = match options(&rt) {
-        Ok(options) => {
-            explored::<HostRuntime, Brand, Brand>(
-                &rt,
-                rt.alloc(),
-                &options,
-                rt.stdin(),
-                Blank::new(3),
-                rt.stdout(),
-                Blank::new(3),
-            )
-        }
-        Err(OptionFault::Refused) => {
+    let code = match asked(&rt) {
+        Ok(Asked::Options(options)) => explored::<HostRuntime, Brand, Brand>(
+            &rt,
+            rt.alloc(),
+            &options,
+            rt.stdin(),
+            Blank::new(3),
+            rt.stdout(),
+            Blank::new(3),
+        ),
+        Ok(Asked::Version) => printed(print!(rt; "cpx {VERSION}\n")),
+        Ok(Asked::Refused(why)) => {
             let _ = eprintln!(rt; "options refused");
+            let _ = eprintln!(rt; "{why}");
             2
         }
-        Err(OptionFault::Memory) => 3,
-        Err(OptionFault::Help(text)) => match print!(rt; "{text}") {
-            Ok(()) => 0,
-            Err(_) => 4,
-        },
+        Ok(Asked::Help(text)) => printed(print!(rt; "{text}")),
+        Err(_) => 3,
     };
+    match code {
+        3 => {
+            let _ = eprintln!(rt; "cpx: no memory");
+        }
+        4 => {
+            let _ = eprintln!(rt; "cpx: reading the program or writing the answer failed");
+        }
+        _ => {}
+    }
     ExitCode::from(code)
 }
 
-/// The options that the program's arguments ask for. Arguments that are no text are refused.
-fn options(rt: &HostRuntime) -> Result<Options, OptionFault> {
+// The status of a text that was printed, or not.
+fn printed<T: Drop, E: Drop>(print: Result<T, E>) -> u8 {
+    match print {
+        Ok(_) => 0,
+        Err(_) => 4,
+    }
+}
+
+/// What the program's arguments ask for. Arguments that are no text are refused.
+fn asked(rt: &HostRuntime) -> Result<Asked, AllocError> {
+    let alloc = rt.alloc();
     let words = match env::args(rt) {
         Ok(words) => words,
         Err(error) => {
-            return Err(match error.kind() {
-                ErrorKind::OutOfMemory => OptionFault::Memory,
-                _ => OptionFault::Refused,
-            });
+            return match error.kind() {
+                ErrorKind::OutOfMemory => Err(AllocError),
+                _ => Ok(Asked::Refused(String::from_str(
+                    alloc,
+                    "a word is no text in UTF-8",
+                )?)),
+            };
         }
     };
-    let words: Vec<String> = words.collect(rt.alloc())?;
-    let mut texts = Vec::new(rt.alloc());
+    let words: Vec<String> = words.collect(alloc)?;
+    let mut texts = Vec::new(alloc);
     for word in &words {
-        if texts.push(word.as_str()).is_err() {
-            return Err(OptionFault::Memory);
-        }
+        texts.push(word.as_str())?;
     }
-    read_options(rt.alloc(), &texts)
+    read(alloc, &texts)
+}
+
+// What the words ask for, of which the first is the program's name.
+fn read<'a>(alloc: Global, words: &'a [&'a str]) -> Result<Asked, AllocError> {
+    if asks_version(words) {
+        return Ok(Asked::Version);
+    }
+    match read_options(alloc, words) {
+        Ok(options) => Ok(Asked::Options(options)),
+        Err(OptionFault::Refused) => Ok(Asked::Refused(reason_for(alloc, words, READING)?)),
+        Err(OptionFault::Memory) => Err(AllocError),
+        Err(OptionFault::Help(text)) => Ok(Asked::Help(text)),
+    }
 }
 
 /// The status of exploring standard input; the blanks are for the counts of the streams' calls.

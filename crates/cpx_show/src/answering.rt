@@ -2,7 +2,6 @@
 
 ghost use Rattle.std.specs.Prelude.{◌≡◌, ◌+◌, ◌≤◌, IfOk, length};
 ghost use Rattle.cp_walk.specs.Rows.{UsedWithin};
-ghost use Rattle.cp_outcomes.specs.Ways.{IsWithin};
 ghost use Rattle.cpx_show.specs.Showing as spec;
 
 use crate::marks::marked;
@@ -13,7 +12,8 @@ use cp_ends_story::{Subject as Endless, ends_story};
 use cp_lanes::{Subject, picture};
 use cp_legend::{Legend, legend_of};
 use cp_machine::Ticks;
-use cp_outcomes::{Form, Subject as Survey, Way, outcomes};
+use cp_merged::word::word_of;
+use cp_outcomes::{First, Form, Subject as Survey, first_of_outcome, outcomes};
 use cp_resolved::resolve;
 use cp_run::{Limits, MOST_CHOICES};
 use cp_slots::Resolved;
@@ -23,7 +23,7 @@ use cp_tool::refusal::{check_reason, parse_reason, refusal, scan_reason};
 use cp_tool::transfer::{MOST_BYTES, ReadFault, read_source, write_text};
 use cp_tool::{Options, Sink, Source};
 use cp_tree::{Tree, parse};
-use cp_walk::trace_report;
+use cp_walk::{Job, trace_report};
 use std::alloc::{AllocError, Global};
 use std::marker::Brand;
 use std::sync::ledger::{Blank, Ledger};
@@ -236,24 +236,61 @@ fn shown(
 ) -> Result<Answer, AllocError> {
     let options = &asked.options;
     let lines = lines_of(alloc, source)?;
-    let text = match &asked.part {
-        Part::Trace { json } => traced(alloc, asked, program, legend, &lines, *json)?,
-        Part::Lanes => drawn(alloc, asked, program, legend, &lines)?,
+    match &asked.part {
+        Part::Trace { .. } | Part::Lanes => shown_once(alloc, asked, program, legend, &lines),
         Part::Outcomes { json } => {
-            return surveyed(alloc, options, program, legend, &lines, *json);
+            surveyed(alloc, options, program, legend, &lines, *json)
         }
         Part::Ends { json } => {
-            return ended(alloc, options, program, legend, &lines, *json);
+            ended(alloc, options, program, legend, &lines, *json)
         }
-        Part::Mark(words) => {
-            return marked(alloc, options, program, legend, words.as_str(), source);
+        Part::Mark(words) => marked(alloc, options, program, legend, words.as_str(), source),
+        Part::Refusal => explained(alloc, source),
+    }
+}
+
+// A part of one schedule.
+fn shown_once(
+    alloc: Global,
+    asked: &Asked,
+    program: &Resolved,
+    legend: &Legend,
+    source: &[String],
+) -> Result<Answer, AllocError> {
+    let word = match schedule_asked(alloc, asked, program)? {
+        First::Word(word) => word,
+        First::None(count) => {
+            return Ok(Answer {
+                verdict: Verdict::Misread,
+                text: format!(in alloc; "there is no outcome of this number: there are {count}\n")?,
+            });
         }
-        Part::Refusal => return explained(alloc, source),
+    };
+    let word = word.as_slice();
+    let text = match &asked.part {
+        Part::Trace { json } => traced(alloc, asked, program, legend, source, word, *json)?,
+        _ => drawn(alloc, asked, program, legend, source, word)?,
     };
     Ok(Answer {
         verdict: Verdict::Reported,
         text,
     })
+}
+
+// The schedule that is given, or the first one of the outcome that is.
+fn schedule_asked(
+    alloc: Global,
+    asked: &Asked,
+    program: &Resolved,
+) -> Result<First, AllocError> {
+    let options = &asked.options;
+    let Some(number) = asked.outcome else {
+        return Ok(First::Word(word_of(word_given(options))));
+    };
+    let Some(limits) = Limits::new(options.choices, options.steps, options.gates) else {
+        unreachable!()
+    };
+    first_of_outcome(alloc, Job { program, limits }, options.states, number)
 }
 
 // One schedule in names.
@@ -263,12 +300,14 @@ fn traced(
     program: &Resolved,
     legend: &Legend,
     source: &[String],
+    word: &[u8],
     as_json: bool,
-) -> Result<String, AllocError> {
+) -> Result<String, AllocError>
+    requires { length word.now ≤ 100 }
+{
     let options = &asked.options;
-    let word = word_of(options);
     let story = told::<Brand>(alloc, options, program, legend, word, Blank::new(1))?;
-    let again = first_of_round(alloc, asked, program, legend, &story)?;
+    let again = first_of_round(alloc, asked, program, legend, word, &story)?;
     if as_json {
         let told = json(alloc, legend, &story, word, source)?;
         return json_with_again(alloc, told, again);
@@ -284,10 +323,12 @@ fn first_of_round(
     asked: &Asked,
     program: &Resolved,
     legend: &Legend,
+    word: &[u8],
     whole: &Story,
-) -> Result<Option<usize>, AllocError> {
+) -> Result<Option<usize>, AllocError>
+    requires { length word.now ≤ 100 }
+{
     let options = &asked.options;
-    let word = word_of(options);
     if asked.round == 0 || asked.round > word.len() {
         return Ok(None);
     }
@@ -354,7 +395,7 @@ fn surveyed(
         program,
         legend,
         limits,
-        way: way_of(options),
+        states: options.states,
         source,
     };
     let form = if as_json { Form::Json } else { Form::Text };
@@ -405,18 +446,7 @@ fn ended(
     })
 }
 
-// How the options have the outcomes found.
-fn way_of(options: &Options) -> Way
-    ensures { IsWithin result options.now.choices }
-{
-    if options.merge {
-        Way::States(options.states)
-    } else {
-        Way::Rows
-    }
-}
-
-fn word_of(options: &Options) -> &[u8]
+fn word_given(options: &Options) -> &[u8]
     ensures { length result.now ≤ 100 }
 {
     match &options.schedule {
@@ -454,13 +484,15 @@ fn drawn(
     program: &Resolved,
     legend: &Legend,
     source: &[String],
-) -> Result<String, AllocError> {
+    word: &[u8],
+) -> Result<String, AllocError>
+    requires { length word.now ≤ 100 }
+{
     let options = &asked.options;
-    let word = word_of(options);
     let story = told::<Brand>(alloc, options, program, legend, word, Blank::new(1))?;
     let end = trace_report(alloc, program, &[], &story.end, word)?;
     let schedule = schedule_of(alloc, word)?;
-    let again = first_of_round(alloc, asked, program, legend, &story)?;
+    let again = first_of_round(alloc, asked, program, legend, word, &story)?;
     let subject = Subject {
         legend,
         story: &story,

@@ -9,7 +9,7 @@ const ABOUT: &str =
 const USAGE: &str = "cpx_show PART [OPTIONS] < PROGRAM";
 
 const NOTES: &str =
-    "Example: cpx_show trace --schedule 0.1 < program.cp\n\nStatus: 0 reported, 1 source refused, 2 options refused, 3 no memory, 4 read or write fault,\n5 too many rows, states or outcomes, 6 an expectation fails, 7 one is not settled";
+    "Example: cpx_show trace --schedule 0.1 < program.cp\n\nStatus: 0 reported, 1 source refused, 2 options refused, 3 no memory, 4 read or write fault,\n5 too many states or outcomes, 6 an expectation fails, 7 one is not settled";
 
 const TRACE: &str = "Tells one schedule in names: a line for each kernel call";
 
@@ -59,7 +59,7 @@ fn described<'a>(alloc: Global) -> Command<'a> {
 fn trace<'a>(alloc: Global) -> Result<Command<'a>, AllocError> {
     let command = Command::new(alloc, "trace")
         .about(TRACE)
-        .override_usage("cpx_show trace --schedule WORD [OPTIONS] < PROGRAM");
+        .override_usage("cpx_show trace --schedule WORD|--outcome N [OPTIONS] < PROGRAM");
     Ok(with_schedule(alloc, command)?.arg(json(alloc))?)
 }
 
@@ -72,7 +72,7 @@ fn json<'a>(alloc: Global) -> Arg<'a> {
 
 fn lanes<'a>(alloc: Global) -> Result<Command<'a>, AllocError> {
     let command = Command::new(alloc, "lanes").about(LANES).override_usage(
-        "cpx_show lanes --schedule WORD [OPTIONS] < PROGRAM > PICTURE.svg",
+        "cpx_show lanes --schedule WORD|--outcome N [OPTIONS] < PROGRAM > PICTURE.svg",
     );
     with_schedule(alloc, command)
 }
@@ -135,9 +135,14 @@ fn with_schedule<'a>(alloc: Global, command: Command<'a>) -> Result<Command<'a>,
         alloc,
         "schedule",
         "WORD",
-        "The schedule: `none`, or up to 20 numbers 0 to 15 joined by periods, with --merge up to 100",
-    )
-    .required(true);
+        "The schedule: `none`, or up to 100 numbers 0 to 15 joined by periods",
+    );
+    let outcome = option(
+        alloc,
+        "outcome",
+        "N",
+        "In place of --schedule: the first schedule of the outcome that `outcomes` tells with this number",
+    );
     let again = option(
         alloc,
         "again",
@@ -146,7 +151,11 @@ fn with_schedule<'a>(alloc: Global, command: Command<'a>) -> Result<Command<'a>,
     );
     with_limits(
         alloc,
-        command.arg(schedule)?.arg(again)?.arg(ends_switch(alloc))?,
+        command
+            .arg(schedule)?
+            .arg(outcome)?
+            .arg(again)?
+            .arg(ends_switch(alloc))?,
     )
 }
 
@@ -155,13 +164,13 @@ fn with_limits<'a>(alloc: Global, command: Command<'a>) -> Result<Command<'a>, A
         alloc,
         "choices",
         "K",
-        "Choices of a schedule, 0 to 20, with --merge to 100 [default: 8]",
+        "Choices of a schedule, 0 to 100 [default: 100]",
     ))?;
     let command = with_run(alloc, command)?;
     let command = command.arg(merge(alloc))?;
     command.arg(states(
         alloc,
-        "States that a layer may have with --merge, 1 to 10000000 [default: 200000]",
+        "States that a layer may have, 1 to 10000000 [default: 200000]",
     ))
 }
 
@@ -189,7 +198,7 @@ fn merge<'a>(alloc: Global) -> Arg<'a> {
     Arg::new(alloc, "merge")
         .long("merge")
         .action(ArgAction::SetTrue)
-        .help("Take schedules of up to 100 choices; count those that come to one state together")
+        .help("Changes nothing: schedules that come to one state are counted together in any case")
 }
 
 fn option<'a>(alloc: Global, name: &'a str, value: &'a str, help: &'a str) -> Arg<'a> {

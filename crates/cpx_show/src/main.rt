@@ -9,18 +9,28 @@ mod parts;
 ghost use Rattle.std.specs.Prelude.{◌≡◌};
 
 use crate::answering::show_stream;
-use crate::parts::{Asked, read_parts};
-use cp_tool::{OptionFault, Wrapped};
-use std::alloc::Global;
+use crate::parts::{Asked, read_parts, refused_part};
+use cp_tool::{OptionFault, VERSION, Wrapped, asks_version};
+use std::alloc::{AllocError, Global};
 use std::env;
 use std::io::{ErrorKind, Stdin, Stdout};
 use std::marker::Brand;
 use std::process::ExitCode;
 use std::sync::ledger::{Blank, Ledger};
 
+// What the words ask for.
+#[derive(Drop)]
+enum Wish {
+    Part(Asked),
+    Version,
+    // The words are refused, and this says why.
+    Refused(String),
+    Help(String),
+}
+
 fn main(rt: HostRuntime) -> ExitCode {
     let code = match read_words(&rt) {
-        Ok(asked) => shown::<Brand, Brand>(
+        Ok(Wish::Part(asked)) => shown::<Brand, Brand>(
             rt.alloc(),
             &asked,
             rt.stdin(),
@@ -28,38 +38,69 @@ fn main(rt: HostRuntime) -> ExitCode {
             rt.stdout(),
             Blank::new(3),
         ),
-        Err(OptionFault::Refused) => {
+        Ok(Wish::Version) => printed(print!(rt; "cpx_show {VERSION}\n")),
+        Ok(Wish::Refused(why)) => {
             let _ = eprintln!(rt; "options refused: --help says which there are");
+            let _ = eprintln!(rt; "{why}");
             2
         }
-        Err(OptionFault::Memory) => 3,
-        Err(OptionFault::Help(text)) => match print!(rt; "{text}") {
-            Ok(()) => 0,
-            Err(_) => 4,
-        },
+        Ok(Wish::Help(text)) => printed(print!(rt; "{text}")),
+        Err(_) => 3,
     };
+    match code {
+        3 => {
+            let _ = eprintln!(rt; "cpx_show: no memory");
+        }
+        4 => {
+            let _ = eprintln!(rt; "cpx_show: reading the program or writing the answer failed");
+        }
+        _ => {}
+    }
     ExitCode::from(code)
 }
 
+// The status of a text that was printed, or not.
+fn printed<T: Drop, E: Drop>(print: Result<T, E>) -> u8 {
+    match print {
+        Ok(_) => 0,
+        Err(_) => 4,
+    }
+}
+
 /// What the program's arguments ask for. Arguments that are no text are refused.
-fn read_words(rt: &HostRuntime) -> Result<Asked, OptionFault> {
+fn read_words(rt: &HostRuntime) -> Result<Wish, AllocError> {
+    let alloc = rt.alloc();
     let words = match env::args(rt) {
         Ok(words) => words,
         Err(error) => {
-            return Err(match error.kind() {
-                ErrorKind::OutOfMemory => OptionFault::Memory,
-                _ => OptionFault::Refused,
-            });
+            return match error.kind() {
+                ErrorKind::OutOfMemory => Err(AllocError),
+                _ => Ok(Wish::Refused(String::from_str(
+                    alloc,
+                    "a word is no text in UTF-8",
+                )?)),
+            };
         }
     };
-    let words: Vec<String> = words.collect(rt.alloc())?;
-    let mut texts = Vec::new(rt.alloc());
+    let words: Vec<String> = words.collect(alloc)?;
+    let mut texts = Vec::new(alloc);
     for word in &words {
-        if texts.push(word.as_str()).is_err() {
-            return Err(OptionFault::Memory);
-        }
+        texts.push(word.as_str())?;
     }
-    read_parts(rt.alloc(), &texts)
+    wish_of(alloc, &texts)
+}
+
+// What the words ask for, of which the first is the program's name.
+fn wish_of<'a>(alloc: Global, words: &'a [&'a str]) -> Result<Wish, AllocError> {
+    if asks_version(words) {
+        return Ok(Wish::Version);
+    }
+    match read_parts(alloc, words) {
+        Ok(asked) => Ok(Wish::Part(asked)),
+        Err(OptionFault::Refused) => Ok(Wish::Refused(refused_part(alloc, words)?)),
+        Err(OptionFault::Memory) => Err(AllocError),
+        Err(OptionFault::Help(text)) => Ok(Wish::Help(text)),
+    }
 }
 
 /// The status of showing standard input; the blanks are for the counts of the streams' calls.

@@ -9,11 +9,13 @@ ghost use Rattle.cpx_show.specs.declared.answering.Verdict.TheVariants.{TooMany}
 use crate::answering::{Answer, Verdict};
 use cp_ends_verdict::{Mark as EndsMark, Subject as Endless, mark_ends};
 use cp_legend::Legend;
+use cp_outcomes::completing::greatest_known;
 use cp_run::{Limits, MOST_CHOICES};
 use cp_slots::Resolved;
 use cp_tool::Options;
 use cp_verdict::{
-    Expectation, Mark, MarkFault, Misread, Most, expectations, expected, mark_program, misread_text,
+    Expectation, Mark, MarkFault, Misread, expectations, expected, mark_program, mark_tallies,
+    misread_text,
 };
 use cp_walk::Job;
 use std::alloc::{AllocError, Global};
@@ -106,20 +108,21 @@ fn judged(
     let Some(limits) = Limits::new(options.choices, options.steps, options.gates) else {
         unreachable!()
     };
-    let most = if options.merge {
-        Most::States(options.states)
-    } else {
-        Most::Rows
-    };
-    match mark_program(alloc, Job { program, limits }, most, expectations) {
+    let job = Job { program, limits };
+    match mark_program(alloc, job, options.states, expectations) {
         Ok(marked) => Ok(Answer {
             verdict: verdict_of(marked.mark),
             text: marked.text,
         }),
-        Err(MarkFault::TooManyRows) => too_many(alloc, "too many rows\n"),
-        Err(MarkFault::TooManyStates) => too_many(alloc, "too many states\n"),
-        Err(MarkFault::TooManyOutcomes) => too_many(alloc, "too many outcomes\n"),
         Err(MarkFault::Memory) => Err(AllocError),
+        Err(MarkFault::TooManyStates) => {
+            let said = format!(in alloc; "too many states: a layer may have {}\ntry greater --states, or mark --ends\n", options.states)?;
+            too_many(alloc, job, options.states, expectations, said)
+        }
+        Err(MarkFault::TooManyOutcomes) => {
+            let said = String::from_str(alloc, "too many outcomes\ntry smaller --choices\n")?;
+            too_many(alloc, job, options.states, expectations, said)
+        }
     }
 }
 
@@ -133,11 +136,28 @@ fn verdict_of(mark: Mark) -> Verdict
     }
 }
 
-fn too_many(alloc: Global, text: &str) -> Result<Answer, AllocError>
+// What is said where there is too much, and the mark by schedules of fewer choices.
+fn too_many(
+    alloc: Global,
+    job: Job,
+    states: u32,
+    expectations: &[Expectation],
+    said: String,
+) -> Result<Answer, AllocError>
     ensures { IfOk result (λ a. a.verdict ≡ TooMany) }
 {
+    let mut text = said;
+    if let Some(known) = greatest_known(alloc, job, states)? {
+        let marked = mark_tallies(alloc, job.program, expectations, known.tallies.as_slice())?;
+        write!(
+            text,
+            "of all schedules of at most {} choices:\n",
+            known.choices
+        )?;
+        text.push_str(marked.text.as_str())?;
+    }
     Ok(Answer {
         verdict: Verdict::TooMany,
-        text: String::from_str(alloc, text)?,
+        text,
     })
 }

@@ -3,11 +3,20 @@
 use crate::command::command;
 use clap::ArgMatches;
 use clap::error::ErrorKind;
-use cp_tool::{OptionFault, Options, read_options};
+use cp_tool::{OptionFault, Options, Reading, read_options, reason_for, word_reason};
 use std::alloc::{AllocError, Global};
 
-/// The options that are those of `cpx`.
-const SHARED: [&str; 4] = ["choices", "steps", "gates", "states"];
+/// The options that are those of `cpx`, but for `--choices`.
+const SHARED: [&str; 3] = ["steps", "gates", "states"];
+
+/// How many choices a schedule has where the words do not say so.
+const USUAL_CHOICES: &str = "100";
+
+/// How the program is given its source.
+const READING: Reading<'static> = Reading {
+    program: "cpx_show PART",
+    script: "./show PART",
+};
 
 /// What is to be shown.
 #[derive(Drop)]
@@ -31,6 +40,8 @@ pub enum Part {
 pub struct Asked {
     pub part: Part,
     pub options: Options,
+    /// The outcome whose first schedule is shown, where none is given.
+    pub outcome: Option<usize>,
     /// How many numbers at the end of the schedule are a round that can be gone again and again.
     pub round: usize,
 }
@@ -67,11 +78,39 @@ fn read_matches(alloc: Global, matches: &ArgMatches<'_>) -> Result<Asked, Option
         "mark" => Part::Mark(given(alloc, inner)?),
         _ => return Err(OptionFault::Refused),
     };
+    if !choice_fault(name, inner).is_empty() {
+        return Err(OptionFault::Refused);
+    }
     Ok(Asked {
         part,
         options: options(alloc, inner, name == "ends")?,
+        outcome: outcome_of(inner),
         round: numbers_of(inner.get_str("again")),
     })
+}
+
+// The number of an outcome, from 1 on.
+fn outcome_of(matches: &ArgMatches<'_>) -> Option<usize> {
+    match matches.get_str("outcome")?.parse::<u32>() {
+        Ok(0) | Err(_) => None,
+        Ok(number) => Some(number as usize),
+    }
+}
+
+// What is wrong with how one schedule is named, if it is to be shown.
+fn choice_fault(name: &str, matches: &ArgMatches<'_>) -> &'static str {
+    if name != "trace" && name != "lanes" {
+        return "";
+    }
+    let is_given = matches.get_str("outcome").is_some();
+    match matches.get_str("schedule") {
+        Some(_) if is_given => "--outcome: not beside --schedule",
+        Some(_) => "",
+        None if !is_given => "--schedule WORD or --outcome N is wanted",
+        None if outcome_of(matches).is_none() => "--outcome: a number from 1 on is wanted",
+        None if matches.get_str("again").is_some() => "--again: only beside --schedule",
+        None => "",
+    }
 }
 
 // The words of the expectations that are given, joined by spaces.
@@ -113,6 +152,42 @@ fn schedule_word(alloc: Global, schedule: &str, again: Option<&str>) -> Result<S
     Ok(word)
 }
 
+/// The first word of these that `read_parts` refuses, and why.
+pub fn refused_part<'a>(alloc: Global, words: &'a [&'a str]) -> Result<String, AllocError> {
+    let command = command(alloc)?;
+    match command.try_get_matches_from(words) {
+        Ok(matches) => match matches.subcommand() {
+            Some((name, inner)) => refused_option(alloc, inner, name),
+            None => String::from_str(alloc, "a part is wanted"),
+        },
+        Err(error) => match error.kind() {
+            ErrorKind::OutOfMemory => Err(AllocError),
+            _ => {
+                let message = format!(in alloc; "{error}")?;
+                word_reason(alloc, message.as_str(), READING)
+            }
+        },
+    }
+}
+
+// The first option of a part that `cpx` refuses, and why.
+fn refused_option(
+    alloc: Global,
+    matches: &ArgMatches<'_>,
+    name: &str,
+) -> Result<String, AllocError> {
+    let fault = choice_fault(name, matches);
+    if !fault.is_empty() {
+        return String::from_str(alloc, fault);
+    }
+    let words = shared_words(alloc, matches, name == "ends")?;
+    let mut texts = Vec::new(alloc);
+    for word in &words {
+        texts.push(word.as_str())?;
+    }
+    reason_for(alloc, &texts, READING)
+}
+
 // The options of a part, read by `cpx`; some parts are always those of schedules of any length.
 fn options(
     alloc: Global,
@@ -137,6 +212,8 @@ fn shared_words(
 ) -> Result<Vec<String>, AllocError> {
     let mut words = Vec::new(alloc);
     words.push(String::from_str(alloc, "cpx")?)?;
+    let choices = matches.get_str("choices").unwrap_or(USUAL_CHOICES);
+    words.push(format!(in alloc; "--choices={choices}")?)?;
     for name in SHARED {
         if let Some(value) = matches.get_str(name) {
             words.push(format!(in alloc; "--{name}={value}")?)?;
@@ -145,12 +222,9 @@ fn shared_words(
     if let Some(schedule) = matches.get_str("schedule") {
         words.push(schedule_word(alloc, schedule, matches.get_str("again"))?)?;
     }
-    if matches.get_flag("merge") {
-        words.push(String::from_str(alloc, "--merge")?)?;
-    }
-    if with_ends || matches.get_flag("ends") || matches.get_str("again").is_some() {
-        words.push(String::from_str(alloc, "--ends")?)?;
-    }
+    let has_ends = with_ends || matches.get_flag("ends") || matches.get_str("again").is_some();
+    let length = if has_ends { "--ends" } else { "--merge" };
+    words.push(String::from_str(alloc, length)?)?;
     if matches.get_flag("waits") {
         words.push(String::from_str(alloc, "--waits")?)?;
     }

@@ -1,6 +1,0 @@
-use Rattle.std.proofs.Common.{subst}
-use Rattle.cp_merged.specs.TooMany.{IsDueFault}
-use Rattle.cp_outcomes.proofs.telling.by_states.Goals as goal
-
-pub returns-in-Err-TooManyOutcomes : goal.returns-in-Err-TooManyOutcomes
-returns-in-Err-TooManyOutcomes c = (c.args.most, subst (IsDueFault _ _ _ _) c.in-Err-TooManyOutcomes.field-0-is c.in-Err-TooManyOutcomes.ensures.fault)
