@@ -37,7 +37,7 @@ module _ {A : Type 0} (states : List Stated) where
       by true false t on = cc
       by false true t on = cc
 
-  found_length : (es : List (A × Origin)) (fs : List (A × List ℕ)) → AreFound states es fs → length es ≡ length fs
+  pub found_length : (es : List (A × Origin)) (fs : List (A × List ℕ)) → AreFound states es fs → length es ≡ length fs
   found_length [] [] h = refl
   found_length [] (f ∷ fs) h = absurd h
   found_length (e ∷ es) [] h = absurd h

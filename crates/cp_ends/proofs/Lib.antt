@@ -3,6 +3,7 @@ pub mod Arriving
 pub mod Finding
 pub mod GoingOn
 pub mod Keeping
+pub mod Listing
 pub mod LocalOutput
 pub mod Returning
 pub mod Saying

@@ -1,19 +1,23 @@
 //! The report of a search.
 
-ghost use Rattle.std.specs.Prelude.{◌≡◌, ◌++◌, codes, decimal, IfOk};
+ghost use Rattle.std.specs.Prelude.{◌≡◌, ◌<◌, ◌++◌, ℕ, List, Option, [], codes, decimal, if◌then◌else◌, map, nat_lt, IfOk};
 ghost use Rattle.std.specs.String.{string_bytes};
+ghost use Rattle.cp_slots.specs.Tables.{Tables};
+ghost use Rattle.cp_machine.specs.System.{Machine};
 ghost use Rattle.cp_walk.specs.Text.{kind_text, word_text};
-ghost use Rattle.cp_ends.specs.Told.{end_line, end_text, value_line};
+ghost use Rattle.cp_ends.specs.Holds.{AreFound, AreStates, Holds, SlotFindings, end_origin, value_origin};
+ghost use Rattle.cp_ends.specs.Told.{AreFirstLines, AreLines, EndsWithWords, IsDepth, ValuesWithWords, count_line, end_line, end_text, ends_text, head_text, is_told, listed, told, value_line, values_text};
 
 use crate::end::End;
-use crate::found::{Found, FoundValue, MOST_VALUES};
+use crate::found::{Found, FoundEnd, FoundValue, MOST_VALUES};
+use crate::states::States;
 use cp_run::OutcomeKind;
 use cp_slots::Resolved;
 use cp_walk::text::{error_name, push_count, push_number, push_output, push_word};
 use cp_walk::{Report, Text};
 use std::alloc::{AllocError, Global};
 
-// Lines, and how many they are.
+// Lines, and how many there are to tell.
 #[derive(Drop)]
 struct Lines {
     text: String,
@@ -22,87 +26,163 @@ struct Lines {
 
 /// The report of a search: how many states there are, or how many choices were looked at where there are too many; then ends and values,
 /// each with the first word that leads there.
-pub fn ends_report(alloc: Global, program: &Resolved, found: &Found) -> Result<Report, AllocError> {
+pub fn ends_report(alloc: Global, program: &Resolved, found: &Found) -> Result<Report, AllocError>
+    ensures { IfOk result (λ report. (r : Tables) (f : SlotFindings) (depth : Option ℕ) → Holds r found.now f → IsDepth f found.now.stopped depth → report.text ≡ ends_text program.now.names f depth) }
+{
+    let depth = depth_of(alloc, found)?;
     let mut text = String::new(alloc);
-    let most = push_head(alloc, &mut text, found)?;
-    let ends = end_lines(alloc, found, most)?;
-    text.push_str("ends ")?;
-    push_lines(&mut text, &ends)?;
-    let values = value_lines(alloc, program, found, most)?;
-    text.push_str("shown ")?;
-    push_lines(&mut text, &values)?;
-    if values.count >= MOST_VALUES && has_more(alloc, found, most)? {
-        text.push_str("more\n")?;
-    }
+    push_head(&mut text, found.states.len(), depth)?;
+    push_ends(alloc, &mut text, &found.states, &found.ends, depth)?;
+    push_values(
+        alloc,
+        &mut text,
+        program,
+        &found.states,
+        &found.values,
+        depth,
+    )?;
     Ok(Report {
         text: Text::new(text),
     })
 }
 
-// The first lines. Answers of how many numbers the words may be that are told.
-fn push_head(alloc: Global, text: &mut String, found: &Found) -> Result<usize, AllocError> {
+// How many choices each word may have that is told, if they are bounded.
+fn depth_of(alloc: Global, found: &Found) -> Result<Option<usize>, AllocError>
+    ensures { IfOk result (λ depth. (r : Tables) (f : SlotFindings) (other : Option ℕ) → Holds r found.now f → IsDepth f found.now.stopped other → depth ≡ other) }
+{
     let Some(stopped) = found.stopped else {
-        text.push_str("states ")?;
-        push_count(text, found.states.len())?;
-        text.push_str("\n")?;
-        return Ok(usize::MAX);
+        return Ok(None);
     };
-    let choices = found
-        .states
-        .word(alloc, found.states.origin(stopped))?
-        .len();
-    text.push_str("too many states\nchoices ")?;
-    push_count(text, choices)?;
-    text.push_str("\n")?;
-    Ok(choices)
+    let origin = found.states.origin(stopped);
+    let word = found.states.word(alloc, origin)?;
+    Ok(Some(word.len()))
 }
 
-fn push_lines(text: &mut String, lines: &Lines) -> Result<(), AllocError> {
-    push_count(text, lines.count)?;
-    text.push_str("\n")?;
-    text.push_str(lines.text.as_str())
+fn push_head(text: &mut String, states: usize, depth: Option<usize>) -> Result<(), AllocError>
+    ensures { IfOk result (λ _. string_bytes text.new ≡ string_bytes text.old ++ head_text states depth) }
+{
+    match depth {
+        None => push_count_line(text, "states ", states),
+        Some(choices) => push_count_line(text, "too many states\nchoices ", choices),
+    }
 }
 
-// A line for each end to which a word of at most so many numbers leads.
-fn end_lines(alloc: Global, found: &Found, most: usize) -> Result<Lines, AllocError> {
+fn push_count_line(text: &mut String, name: &str, count: usize) -> Result<(), AllocError>
+    ensures { IfOk result (λ _. string_bytes text.new ≡ string_bytes text.old ++ count_line name.now count) }
+{
+    text.push_str(name)?;
+    push_count(text, count)?;
+    text.push_str("\n")
+}
+
+fn push_ends(
+    alloc: Global,
+    text: &mut String,
+    states: &States,
+    ends: &[FoundEnd],
+    depth: Option<usize>,
+) -> Result<(), AllocError>
+    ensures { IfOk result (λ _. (r : Tables) (found : List (Machine × List ℕ)) (fs : EndsWithWords) → AreStates r states.now.known.entries found → AreFound found (map end_origin ends.now) fs → string_bytes text.new ≡ string_bytes text.old ++ listed (codes "ends ") end_line (told depth fs)) }
+{
+    let lines = end_lines(alloc, states, ends, depth)?;
+    push_count_line(text, "ends ", lines.count)?;
+    text.push_str(lines.text.as_str())?;
+    Ok(())
+}
+
+// A line for each end that is told.
+fn end_lines(
+    alloc: Global,
+    states: &States,
+    ends: &[FoundEnd],
+    depth: Option<usize>,
+) -> Result<Lines, AllocError>
+    ensures { IfOk result (λ lines. (r : Tables) (found : List (Machine × List ℕ)) (fs : EndsWithWords) → AreStates r states.now.known.entries found → AreFound found (map end_origin ends.now) fs → AreLines lines end_line (told depth fs)) }
+{
     let mut text = String::new(alloc);
     let mut count = 0usize;
-    for end in &found.ends {
-        let word = found.states.word(alloc, end.origin)?;
-        if word.len() <= most {
+    for end in ends {
+        let word = states.word(alloc, end.origin)?;
+        if is_told(word.as_slice(), depth) {
             push_end_line(&mut text, word.as_slice(), end.end)?;
-            count = count.saturating_add(1);
+            count += 1;
         }
     }
     Ok(Lines { text, count })
 }
 
-// A line for each value that a word of at most so many numbers displays.
+fn is_told(word: &[u8], depth: Option<usize>) -> bool
+    ensures { result ≡ is_told depth word.now }
+{
+    match depth {
+        None => true,
+        Some(choices) => word.len() <= choices,
+    }
+}
+
+fn push_values(
+    alloc: Global,
+    text: &mut String,
+    program: &Resolved,
+    states: &States,
+    values: &[FoundValue],
+    depth: Option<usize>,
+) -> Result<(), AllocError>
+    ensures { IfOk result (λ _. (r : Tables) (found : List (Machine × List ℕ)) (fs : ValuesWithWords) → AreStates r states.now.known.entries found → AreFound found (map value_origin values.now) fs → string_bytes text.new ≡ string_bytes text.old ++ values_text program.now.names (told depth fs)) }
+{
+    let lines = value_lines(alloc, program, states, values, depth)?;
+    push_count_line(text, "shown ", MOST_VALUES.min(lines.count))?;
+    text.push_str(lines.text.as_str())?;
+    push_more(text, lines.count)?;
+    Ok(())
+}
+
+// Whether there are more values than are told.
+fn push_more(text: &mut String, count: usize) -> Result<(), AllocError>
+    ensures { IfOk result (λ _. string_bytes text.new ≡ string_bytes text.old ++ (if nat_lt MOST_VALUES count then codes "more\n" else [])) }
+{
+    if count > MOST_VALUES {
+        return text.push_str("more\n");
+    }
+    Ok(())
+}
+
+// A line for each of the first values that are told.
 fn value_lines(
     alloc: Global,
     program: &Resolved,
-    found: &Found,
-    most: usize,
-) -> Result<Lines, AllocError> {
+    states: &States,
+    values: &[FoundValue],
+    depth: Option<usize>,
+) -> Result<Lines, AllocError>
+    ensures { IfOk result (λ lines. (r : Tables) (found : List (Machine × List ℕ)) (fs : ValuesWithWords) → AreStates r states.now.known.entries found → AreFound found (map value_origin values.now) fs → AreFirstLines lines (value_line program.now.names) (told depth fs)) }
+{
     let mut text = String::new(alloc);
     let mut count = 0usize;
-    for value in &found.values {
-        let word = found.states.word(alloc, value.origin)?;
-        if word.len() <= most && count < MOST_VALUES {
-            push_value_line(&mut text, program, word.as_slice(), value)?;
-            count = count.saturating_add(1);
+    for value in values {
+        let word = states.word(alloc, value.origin)?;
+        if is_told(word.as_slice(), depth) {
+            push_early(&mut text, program, word.as_slice(), value, count)?;
+            count += 1;
         }
     }
     Ok(Lines { text, count })
 }
 
-// Whether a value is left out that a word of at most so many numbers displays.
-fn has_more(alloc: Global, found: &Found, most: usize) -> Result<bool, AllocError> {
-    let Some(value) = found.values.get(MOST_VALUES) else {
-        return Ok(false);
-    };
-    let word = found.states.word(alloc, value.origin)?;
-    Ok(word.len() <= most)
+// The line of a value before which there are so many, if it is one of the first.
+fn push_early(
+    text: &mut String,
+    program: &Resolved,
+    word: &[u8],
+    value: &FoundValue,
+    before: usize,
+) -> Result<(), AllocError>
+    ensures { IfOk result (λ _. string_bytes text.new ≡ string_bytes text.old ++ (if nat_lt before MOST_VALUES then value_line program.now.names value.now.value word.now else [])) }
+{
+    if before < MOST_VALUES {
+        return push_value_line(text, program, word, value);
+    }
+    Ok(())
 }
 
 fn push_first(text: &mut String, word: &[u8]) -> Result<(), AllocError>

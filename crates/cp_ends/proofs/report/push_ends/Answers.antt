@@ -1,0 +1,9 @@
+use Rattle.std.proofs.Common.{◌∙◌, string_bytes, codes}
+use Rattle.cp_ends.specs.Told.{end_line, told}
+use Rattle.cp_ends.proofs.Listing.{listed_so}
+use Rattle.cp_ends.proofs.report.push_ends.Goals as goal
+
+pub returns : goal.returns
+returns c = λ r found fs s a.
+    (let l = c.in_ok-lines.ensures r found fs s a in
+    listed_so (codes "ends ") end_line (told c.args.depth fs) (string_bytes c.args.text.now) (string_bytes c.push_count_line.new.text) c.as_str.result.now (string_bytes c.push_str.new.self) c.in_ok-lines.lines.count c.in_ok-push_count_line.ensures c.in_ok-push_str.ensures.bytes (c.as_str.ensures.value ∙ l.0) l.1)
