@@ -29,10 +29,10 @@ module _ {S : Type 0} (sys : System S) (forget : S → S) where
   among_alike s kernel p (q ∷ []) = refl
   among_alike s kernel p (q ∷ r ∷ ready) = refl
 
-  settled_alike : (s : S) (kernel : Bool) (p : ℕ) → settled_turn sys s kernel p ≡ settled_turn quiet s kernel p
+  pub settled_alike : (s : S) (kernel : Bool) (p : ℕ) → settled_turn sys s kernel p ≡ settled_turn quiet s kernel p
   settled_alike s kernel p = among_alike s kernel p (those_below sys.processes (sys.is_ready s))
 
-  turn_alike : (s : S) (kernel : Bool) (p : ℕ) → turn_at sys s kernel p ≡ turn_at quiet s kernel p
+  pub turn_alike : (s : S) (kernel : Bool) (p : ℕ) → turn_at sys s kernel p ≡ turn_at quiet s kernel p
   turn_alike s kernel p = ap (λ t. if sys.is_pending s then Due else t) (settled_alike s kernel p)
 
   module _ (eq : S → S → Bool) (steps : ℕ) where

@@ -59,7 +59,7 @@ module _ {S : Type 0} (sys : System S) where
       by Due e on = absurd (cc)
       by (Goes r) e on = on r e
 
-  moments_there : (n m : ℕ) (s : S) (p : ℕ) (t : S) (q : ℕ) → spot_after sys n s p ≡ Some (t, q) → stretch_moments sys (n + m) s p ≡ stretch_moments sys n s p ++ stretch_moments sys m t q
+  pub moments_there : (n m : ℕ) (s : S) (p : ℕ) (t : S) (q : ℕ) → spot_after sys n s p ≡ Some (t, q) → stretch_moments sys (n + m) s p ≡ stretch_moments sys n s p ++ stretch_moments sys m t q
   unfolding stretch_moments
   moments_there zero m s p t q e = ap (λ i. stretch_moments sys i s p) (plus m) ∙ ap (λ (x : S × ℕ). stretch_moments sys m x.0 x.1) (some_same (s, p) (t, q) e)
     where

@@ -1,7 +1,7 @@
 //! The graph of the states that were found.
 
-ghost use Rattle.std.specs.Prelude.{◌≡◌, true};
-ghost use Rattle.cp_machine.specs.System.{machine_of, IsStateOf};
+ghost use Rattle.std.specs.Prelude.{◌≡◌, [], true};
+ghost use Rattle.cp_machine.specs.System.{machine_of, output_of, IsStateOf};
 ghost use Rattle.cp_run.specs.Run.{may};
 ghost use Rattle.cp_run.specs.Slots.{slots};
 ghost use Rattle.cp_ends.specs.Holds.{HasFindings};
@@ -105,6 +105,7 @@ impl Builder {
         steps: &mut Ticks<S>,
     ) -> Result<(), AllocError>
         requires own { IsStateOf program.now state.now }
+        requires quiet { output_of (machine_of state.now) ≡ [] }
         requires next { IsStateOf program.now next.old }
         ensures next { IsStateOf program.now next.new }
     {
@@ -133,6 +134,7 @@ impl Builder {
     ) -> Result<(), AllocError>
         requires own { IsStateOf program.now state.old }
         requires may { may (slots program.now limits.gates) (machine_of state.old) process ≡ true }
+        requires quiet { output_of (machine_of state.old) ≡ [] }
         ensures own { IsStateOf program.now state.new }
     {
         let mut passing = Passing::new(self.graph.everybody());

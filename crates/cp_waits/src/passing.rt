@@ -1,5 +1,15 @@
 //! What processes do from one due choice to the next.
 
+ghost use Rattle.std.specs.Prelude.{◌≡◌, ◌<◌, ◌&&◌, ◌||◌, ◌∷◌, ◌++◌, ℕ, List, [], length, not, true, nat_eq};
+ghost use Rattle.std.specs.List.{list_any};
+ghost use Rattle.cp_slots.specs.Tables.{Tables};
+ghost use Rattle.cp_machine.specs.System.{Machine, machine_of, is_ready, IsStateOf};
+ghost use Rattle.cp_machine.specs.declared.gates.Gates as slot_gates;
+ghost use Rattle.cp_endless.specs.Moments.{Moment};
+ghost use Rattle.cp_endless.specs.Silent.{has_monitor_return, in_call_on_slots, waits_on_slots};
+ghost use Rattle.cp_waits.specs.Passings.{HasSeen};
+ghost use Rattle.cp_waits.specs.Sets.{has};
+
 use crate::set::Set;
 use cp_machine::{Entry, State};
 
@@ -20,7 +30,9 @@ pub struct Passing {
 
 impl Passing {
     /// There was no moment yet.
-    pub fn new(everybody: Set) -> Passing {
+    pub fn new(everybody: Set) -> Passing
+        ensures { (r : Tables) (gates : slot_gates.Gates) → ((q : ℕ) → q < length r.processes → has everybody q ≡ true) → HasSeen r gates [] [] result }
+    {
         Passing {
             wait: everybody,
             wait_once: Set::nobody(),
@@ -31,40 +43,48 @@ impl Passing {
     }
 
     /// One moment more, before a step of a process.
-    pub fn add(&mut self, state: &State, mover: u8) {
+    pub fn add(&mut self, state: &State, mover: u8)
+        ensures { (r : Tables) (gates : slot_gates.Gates) (due : List Machine) (ms : List (Moment Machine)) → IsStateOf r state.now → HasSeen r gates due ms self.old → HasSeen r gates due (ms ++ record { state = machine_of state.now; mover = mover } ∷ []) self.new }
+    {
         self.see(state);
         self.serve(state, mover);
     }
 
-    /// One moment more, before no step.
-    pub fn see(&mut self, state: &State) {
-        let mut pid = 0u8;
-        for process in &state.processes {
-            if process.status.waits() {
-                self.wait_once = self.wait_once.with(pid);
-            } else {
-                self.wait = self.wait.without(pid);
-            }
-            if self.stay.has(pid) && !is_inside(&process.stack) {
-                self.stay = self.stay.without(pid);
-            }
-            pid = pid.saturating_add(1);
-        }
+    /// The due choice before the first moment.
+    pub fn see_due(&mut self, state: &State)
+        ensures { (r : Tables) (gates : slot_gates.Gates) → IsStateOf r state.now → HasSeen r gates [] [] self.old → HasSeen r gates (machine_of state.now ∷ []) [] self.new }
+    {
+        self.see(state);
     }
 
-    fn serve(&mut self, state: &State, mover: u8) {
+    fn see(&mut self, state: &State)
+        ensures wait { (q : ℕ) → q < length state.now.processes.items → has self.new.wait q ≡ (has self.old.wait q && waits_on_slots (machine_of state.now) q) }
+        ensures wait_once { (q : ℕ) → q < length state.now.processes.items → has self.new.wait_once q ≡ (has self.old.wait_once q || waits_on_slots (machine_of state.now) q) }
+        ensures stay { (q : ℕ) → q < length state.now.processes.items → has self.new.stay q ≡ (has self.old.stay q && in_call_on_slots (machine_of state.now) q) }
+        ensures step { self.new.step ≡ self.old.step }
+        ensures served { self.new.served ≡ self.old.served }
+    {
+        let waiting = those_waiting(state);
+        self.wait = self.wait.and(waiting);
+        self.wait_once = self.wait_once.or(waiting);
+        self.stay = those_inside(state, self.stay);
+    }
+
+    fn serve(&mut self, state: &State, mover: u8)
+        ensures wait { self.new.wait ≡ self.old.wait }
+        ensures wait_once { self.new.wait_once ≡ self.old.wait_once }
+        ensures stay { self.new.stay ≡ self.old.stay }
+        ensures step { (q : ℕ) → q < 16 → has self.new.step q ≡ (has self.old.step q || nat_eq q mover) }
+        ensures served { (q : ℕ) → q < length state.now.processes.items → has self.new.served q ≡ (has self.old.served q || (not (is_ready (machine_of state.now) q) || nat_eq q mover)) }
+    {
         self.step = self.step.with(mover);
-        let mut pid = 0u8;
-        for process in &state.processes {
-            if pid == mover || !process.status.is_ready() {
-                self.served = self.served.with(pid);
-            }
-            pid = pid.saturating_add(1);
-        }
+        self.served = self.served.or(those_not_ready(state).with(mover));
     }
 
     /// The moments of another one come after these.
-    pub fn then(&mut self, other: &Passing) {
+    pub fn then(&mut self, other: &Passing)
+        ensures { (r : Tables) (gates : slot_gates.Gates) (due : List Machine) (ms ns : List (Moment Machine)) → HasSeen r gates due ms self.old → HasSeen r gates [] ns other.now → HasSeen r gates due (ms ++ ns) self.new }
+    {
         self.wait = self.wait.and(other.wait);
         self.wait_once = self.wait_once.or(other.wait_once);
         self.stay = self.stay.and(other.stay);
@@ -73,8 +93,55 @@ impl Passing {
     }
 }
 
+// The processes at a gate or delayed.
+fn those_waiting(state: &State) -> Set
+    ensures { (q : ℕ) → q < length state.now.processes.items → has result q ≡ waits_on_slots (machine_of state.now) q }
+{
+    let mut waiting = Set::nobody();
+    let mut pid = 0u8;
+    for process in &state.processes {
+        if process.status.waits() {
+            waiting = waiting.with(pid);
+        }
+        pid = pid.saturating_add(1);
+    }
+    waiting
+}
+
+// The processes that are not ready.
+fn those_not_ready(state: &State) -> Set
+    ensures { (q : ℕ) → q < length state.now.processes.items → has result q ≡ not (is_ready (machine_of state.now) q) }
+{
+    let mut others = Set::nobody();
+    let mut pid = 0u8;
+    for process in &state.processes {
+        if !process.status.is_ready() {
+            others = others.with(pid);
+        }
+        pid = pid.saturating_add(1);
+    }
+    others
+}
+
+// Those of some processes that have an open call of an entry of a monitor.
+fn those_inside(state: &State, among: Set) -> Set
+    ensures { (q : ℕ) → q < length state.now.processes.items → has result q ≡ (has among q && in_call_on_slots (machine_of state.now) q) }
+{
+    let mut inside = Set::nobody();
+    let mut pid = 0u8;
+    for process in &state.processes {
+        if among.has(pid) && is_inside(&process.stack) {
+            inside = inside.with(pid);
+        }
+        pid = pid.saturating_add(1);
+    }
+    inside
+}
+
 // Whether a call on a control stack leaves a monitor.
-fn is_inside(stack: &[Entry]) -> bool {
+fn is_inside(stack: &[Entry]) -> bool
+    ensures { result ≡ list_any (λ e. has_monitor_return (e ∷ [])) stack.now }
+{
     for entry in stack {
         if let Entry::Return(_, _, Some(_)) = entry {
             return true;

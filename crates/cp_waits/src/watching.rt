@@ -1,13 +1,18 @@
 //! From one due choice to the next, with each moment seen.
 
-ghost use Rattle.std.specs.Prelude.{◌≡◌, [], true, false};
-ghost use Rattle.cp_machine.specs.System.{machine_of, opening, output_of, is_ready, is_pending, IsStateOf};
+ghost use Rattle.std.specs.Prelude.{◌≡◌, ◌∷◌, [], IfOk, List, true, false};
+ghost use Rattle.cp_key.specs.Key.{key_of};
+ghost use Rattle.cp_machine.specs.System.{Machine, machine_of, opening, output_of, is_ready, is_pending, IsStateOf};
 ghost use Rattle.cp_run.specs.Run.{may};
 ghost use Rattle.cp_run.specs.Slots.{slots};
+ghost use Rattle.cp_endless.specs.Silent.{silent_slots};
+ghost use Rattle.cp_ends.specs.Holds.{same_key};
+ghost use Rattle.cp_waits.specs.Legs.{Comes, HasRound, choice_leg, first_leg, stretch_leg};
+ghost use Rattle.cp_waits.specs.Passings.{HasSeen};
 
 use crate::passing::Passing;
 use crate::set::Set;
-use cp_ends::going::{forget, take_step};
+use cp_ends::going::take_step;
 use cp_ends::state_key::StateKey;
 use cp_machine::{Shown, State, Ticks};
 use cp_run::turn::{settled_turn, turn_at};
@@ -40,10 +45,12 @@ fn stretch<S: Ledger>(
     requires own { IsStateOf program.now state.old }
     requires ready { is_ready (machine_of state.old) pid ≡ true }
     requires free { is_pending (machine_of state.old) ≡ false }
+    requires quiet { output_of (machine_of state.old) ≡ [] }
     ensures own { IsStateOf program.now state.new }
+    ensures quiet { IfOk result (λ _. output_of (machine_of state.new) ≡ []) }
+    ensures comes { IfOk result (λ came. (due : List Machine) → HasSeen program.now limits.gates due [] passing.old → Comes program.now limits.gates limits.steps (stretch_leg (silent_slots program.now limits.gates) limits.steps (machine_of state.old) pid) due passing.new came (machine_of state.new)) }
 {
     let mut told: Vec<Shown> = Vec::new(alloc);
-    forget(program, state, &mut told)?;
     let mut going = pid;
     for _ in 0..limits.steps {
         passing.add(state, going);
@@ -54,14 +61,17 @@ fn stretch<S: Ledger>(
             Turn::Goes(next) => going = next,
         }
     }
-    let came = round(alloc, program, limits, state, going, &mut told, steps)?;
-    if let Came::Repeats(again) = &came {
-        passing.then(again);
+    let round = round(alloc, program, limits, state, going, &mut told, steps)?;
+    match round {
+        None => Ok(Came::End),
+        Some(again) => {
+            passing.then(&again);
+            Ok(Came::Repeats(again))
+        }
     }
-    Ok(came)
 }
 
-// The round in which a stretch goes of which all steps are made, if there is one.
+// What is seen of the round in which a stretch goes of which all steps are made, if there is one.
 fn round<S: Ledger>(
     alloc: Global,
     program: &Resolved,
@@ -70,12 +80,14 @@ fn round<S: Ledger>(
     pid: u8,
     told: &mut Vec<Shown>,
     steps: &mut Ticks<S>,
-) -> Result<Came, AllocError>
+) -> Result<Option<Passing>, AllocError>
     requires own { IsStateOf program.now state.old }
     requires ready { is_ready (machine_of state.old) pid ≡ true }
     requires free { is_pending (machine_of state.old) ≡ false }
     requires quiet { output_of (machine_of state.old) ≡ [] }
     ensures own { IsStateOf program.now state.new }
+    ensures quiet { IfOk result (λ _. output_of (machine_of state.new) ≡ []) }
+    ensures round { IfOk result (λ again. HasRound program.now limits.gates limits.steps (machine_of state.old) pid again) }
 {
     let mut first = empty_key(alloc);
     first.take_from(state)?;
@@ -86,14 +98,14 @@ fn round<S: Ledger>(
         again.add(state, going);
         let stepped = take_step(program, limits, state, going, told, steps)?;
         let Turn::Goes(next) = stepped.turn else {
-            return Ok(Came::End);
+            return Ok(None);
         };
         going = next;
         if going == pid && is_at(state, &first, &mut key)? {
-            return Ok(Came::Repeats(again));
+            return Ok(Some(again));
         }
     }
-    Ok(Came::End)
+    Ok(None)
 }
 
 /// A key that is none yet.
@@ -104,7 +116,9 @@ pub fn empty_key(alloc: Global) -> StateKey {
 }
 
 // Whether this is the state of a key. There is room for another one.
-fn is_at(state: &State, first: &StateKey, key: &mut StateKey) -> Result<bool, AllocError> {
+fn is_at(state: &State, first: &StateKey, key: &mut StateKey) -> Result<bool, AllocError>
+    ensures { IfOk result (λ b. (m : Machine) → first.now.bytes.items ≡ key_of m → b ≡ same_key (machine_of state.now) m) }
+{
     key.take_from(state)?;
     Ok(*key == *first)
 }
@@ -121,12 +135,15 @@ pub fn choose<S: Ledger>(
 ) -> Result<Came, AllocError>
     requires own { IsStateOf program.now state.old }
     requires may { may (slots program.now limits.gates) (machine_of state.old) process ≡ true }
+    requires quiet { output_of (machine_of state.old) ≡ [] }
     ensures own { IsStateOf program.now state.new }
+    ensures quiet { IfOk result (λ _. output_of (machine_of state.new) ≡ []) }
+    ensures comes { IfOk result (λ came. HasSeen program.now limits.gates [] [] passing.old → Comes program.now limits.gates limits.steps (choice_leg (silent_slots program.now limits.gates) limits.steps (machine_of state.old) process) (machine_of state.old ∷ []) passing.new came (machine_of state.new)) }
 {
+    passing.see_due(state);
     if state.pending().is_none() {
         return stretch(alloc, program, limits, state, process, passing, steps);
     }
-    passing.see(state);
     state.admit(process);
     match settled_turn(program, limits, state, true, process) {
         Turn::Over(_) => Ok(Came::End),
@@ -147,6 +164,7 @@ pub fn open<S: Ledger>(
     requires own { IsStateOf program.now state.old }
     requires start { machine_of state.old ≡ opening program.now limits.gates }
     ensures own { IsStateOf program.now state.new }
+    ensures comes { IfOk result (λ came. HasSeen program.now limits.gates [] [] passing.old → Comes program.now limits.gates limits.steps (first_leg (silent_slots program.now limits.gates) limits.steps) [] passing.new came (machine_of state.new)) }
 {
     // A sound program has a process.
     let _processes = program.processes();

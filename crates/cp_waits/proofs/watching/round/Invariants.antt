@@ -1,5 +1,11 @@
-use Rattle.std.proofs.Common.{◌≡◌, [], true, false}
+use Rattle.std.proofs.Common.{◌≡◌, [], Some, true, false}
+use Rattle.cp_key.specs.Key.{key_of}
 use Rattle.cp_machine.specs.System.{machine_of, output_of, is_ready, is_pending, IsStateOf}
+use Rattle.cp_endless.specs.Moments.{stretch_moments}
+use Rattle.cp_endless.specs.Rounds.{spot_after}
+use Rattle.cp_endless.specs.Silent.{silent_slots}
+use Rattle.cp_waits.specs.Passings.{HasSeen}
+use Rattle.cp_waits.proofs.Legs.{NoReturn}
 use Rattle.cp_waits.proofs.watching.round.Given as goal
 
 abbrev pub invariant-loop : goal.invariant-loop
@@ -9,4 +15,8 @@ invariant-loop g l =
       ready : is_ready (machine_of l.state) l.going ≡ true;
       free : is_pending (machine_of l.state) ≡ false;
       quiet : output_of (machine_of l.state) ≡ [];
+      spot : spot_after (silent_slots l.program l.limits.gates) l.counter (machine_of l.fn.state) l.fn.pid ≡ Some (machine_of l.state, l.going);
+      seen : HasSeen l.program l.limits.gates [] (stretch_moments (silent_slots l.program l.limits.gates) l.counter (machine_of l.fn.state) l.fn.pid) l.again;
+      none : NoReturn (silent_slots l.program l.limits.gates) (machine_of l.fn.state) l.fn.pid l.counter;
+      first : l.first.bytes.items ≡ key_of (machine_of l.fn.state);
     }

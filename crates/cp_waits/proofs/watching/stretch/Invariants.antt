@@ -1,5 +1,9 @@
-use Rattle.std.proofs.Common.{◌≡◌, [], true, false}
-use Rattle.cp_machine.specs.System.{machine_of, output_of, is_ready, is_pending, IsStateOf}
+use Rattle.std.proofs.Common.{◌≡◌, [], Some, List, true, false}
+use Rattle.cp_machine.specs.System.{Machine, machine_of, output_of, is_ready, is_pending, IsStateOf}
+use Rattle.cp_endless.specs.Moments.{stretch_moments}
+use Rattle.cp_endless.specs.Rounds.{spot_after}
+use Rattle.cp_endless.specs.Silent.{silent_slots}
+use Rattle.cp_waits.specs.Passings.{HasSeen}
 use Rattle.cp_waits.proofs.watching.stretch.Given as goal
 
 abbrev pub invariant-loop : goal.invariant-loop
@@ -9,4 +13,6 @@ invariant-loop g l =
       ready : is_ready (machine_of l.state) l.going ≡ true;
       free : is_pending (machine_of l.state) ≡ false;
       quiet : output_of (machine_of l.state) ≡ [];
+      spot : spot_after (silent_slots l.program l.limits.gates) l.counter (machine_of l.fn.state) l.fn.pid ≡ Some (machine_of l.state, l.going);
+      seen : (due : List Machine) → HasSeen l.program l.limits.gates due [] l.fn.passing → HasSeen l.program l.limits.gates due (stretch_moments (silent_slots l.program l.limits.gates) l.counter (machine_of l.fn.state) l.fn.pid) l.passing;
     }

@@ -1,0 +1,4 @@
+pub mod Insides
+pub mod Legs
+pub mod Seeing
+pub mod Sets

@@ -1,0 +1,88 @@
+use Rattle.std.proofs.Common.{◌≡◌, ◌∙◌, ◌<◌, [], true, false, sym, ap, subst, arith}
+use Rattle.cp_machine.specs.System.{machine_of, is_ready, is_pending}
+use Rattle.cp_endless.specs.Silent.{silent_slots, in_call_on_slots, waits_on_slots}
+use Rattle.cp_ends.proofs.Stepping.{if_goes}
+use Rattle.cp_ends.proofs.Stretches.{spot_before, spot_next}
+use Rattle.cp_waits.specs.Legs.{HasRound}
+use Rattle.cp_waits.proofs.Legs.{comes_again, cut_for_good, due_there, over_there, seen_before, seen_after}
+use Rattle.cp_waits.proofs.watching.stretch.Goals as goal
+
+pub loop-init : goal.loop-init
+loop-init g c =
+    let quiet = silent_slots c.args.program.now c.args.limits.gates in
+    record {
+      own = c.requires.own;
+      ready = c.requires.ready;
+      free = c.requires.free;
+      quiet = c.requires.quiet;
+      spot = spot_before quiet (machine_of c.args.state.now) c.args.pid;
+      seen = λ due h. seen_before quiet in_call_on_slots waits_on_slots due (machine_of c.args.state.now) c.args.pid c.args.passing.now h;
+    }
+
+pub returns-in-Over-clause-comes : goal.returns-in-Over-clause-comes
+returns-in-Over-clause-comes g c = λ due h.
+    (let r = c.args.program.now in
+    let quiet = silent_slots r c.args.limits.gates in
+    let s = machine_of c.args.state.now in
+    let t = machine_of c.loop.state in
+    let u = machine_of c.take_step.new.state in
+    let n = c.loop.counter in
+    let i = c.loop.invariant in
+    let x = c.in_ok-stepped.ensures in
+    let lt : n < c.args.limits.steps = omega arith in
+    over_there quiet in_call_on_slots waits_on_slots c.args.limits.steps s c.args.pid due c.add.new.self n t u u c.loop.going c.in-Over.field-0 lt i.spot x.state (sym c.in-Over.is ∙ x.turn)
+    (seen_after quiet in_call_on_slots waits_on_slots due n s c.args.pid t c.loop.going c.add.new.self i.spot (c.add.ensures r c.args.limits.gates due _ i.own (i.seen due h))))
+
+pub returns-in-Due-clause-comes : goal.returns-in-Due-clause-comes
+returns-in-Due-clause-comes g c = λ due h.
+    (let r = c.args.program.now in
+    let quiet = silent_slots r c.args.limits.gates in
+    let s = machine_of c.args.state.now in
+    let t = machine_of c.loop.state in
+    let u = machine_of c.take_step.new.state in
+    let n = c.loop.counter in
+    let i = c.loop.invariant in
+    let x = c.in_ok-stepped.ensures in
+    let lt : n < c.args.limits.steps = omega arith in
+    due_there quiet in_call_on_slots waits_on_slots c.args.limits.steps s c.args.pid due c.add.new.self n t u c.loop.going lt i.spot x.state (sym c.in-Due.is ∙ x.turn)
+    (seen_after quiet in_call_on_slots waits_on_slots due n s c.args.pid t c.loop.going c.add.new.self i.spot (c.add.ensures r c.args.limits.gates due _ i.own (i.seen due h))))
+
+pub loop-preserved : goal.loop-preserved
+loop-preserved g c =
+    let r = c.args.program.now in
+    let quiet = silent_slots r c.args.limits.gates in
+    let s = machine_of c.args.state.now in
+    let t = machine_of c.loop.state in
+    let u = machine_of c.take_step.new.state in
+    let n = c.loop.counter in
+    let turn = c.in_ok-stepped.stepped.turn in
+    let i = c.loop.invariant in
+    let x = c.in_ok-stepped.ensures in
+    record {
+      own = x.own;
+      ready = if_goes turn c.in-Goes.next (λ q. is_ready u q ≡ true) c.in-Goes.is x.ready;
+      free = if_goes turn c.in-Goes.next (λ q. is_pending u ≡ false) c.in-Goes.is x.free;
+      quiet = x.quiet;
+      spot = spot_next quiet n s c.args.pid t u c.loop.going c.in-Goes.next i.spot x.state (sym c.in-Goes.is ∙ x.turn);
+      seen = λ due h. seen_after quiet in_call_on_slots waits_on_slots due n s c.args.pid t c.loop.going c.add.new.self i.spot (c.add.ensures r c.args.limits.gates due _ i.own (i.seen due h));
+    }
+
+pub returns-in-None-clause-comes : goal.returns-in-None-clause-comes
+returns-in-None-clause-comes g c = λ due h.
+    (let r = c.args.program.now in
+    let quiet = silent_slots r c.args.limits.gates in
+    let t = machine_of c.loop.state in
+    let i = c.loop.invariant in
+    let all : c.loop.counter ≡ c.args.limits.steps = omega arith in
+    cut_for_good quiet in_call_on_slots waits_on_slots c.args.limits.steps (machine_of c.args.state.now) c.args.pid due c.loop.passing c.loop.counter t t c.loop.going all i.spot
+    (subst (HasRound r c.args.limits.gates c.args.limits.steps t c.loop.going) c.in-None.is c.in_ok-round.ensures.round) (i.seen due h))
+
+pub returns-clause-comes : goal.returns-clause-comes
+returns-clause-comes g c = λ due h.
+    (let r = c.args.program.now in
+    let quiet = silent_slots r c.args.limits.gates in
+    let t = machine_of c.loop.state in
+    let i = c.loop.invariant in
+    let all : c.loop.counter ≡ c.args.limits.steps = omega arith in
+    let x = subst (HasRound r c.args.limits.gates c.args.limits.steps t c.loop.going) c.in-Some.is c.in_ok-round.ensures.round in
+    comes_again quiet in_call_on_slots waits_on_slots c.args.limits.steps (machine_of c.args.state.now) c.args.pid due c.then.new.self c.loop.counter t t c.loop.going x.0 c.in-Some.again all i.spot x.1 x.2 x.3 (c.then.ensures r c.args.limits.gates due _ _ (i.seen due h) x.3))
