@@ -1,5 +1,7 @@
 //! What a search finds.
 
+ghost use Rattle.std.specs.Prelude.{◌≡◌, []};
+
 use crate::kept::Kept;
 use crate::order::{place_of_end, place_of_value};
 use crate::origin::Origin;
@@ -36,7 +38,9 @@ pub struct Found {
 
 impl Found {
     /// Nothing was found.
-    pub fn new(alloc: Global) -> Found {
+    pub fn new(alloc: Global) -> Found
+        ensures { result.kept.known.entries ≡ [] }
+    {
         Found {
             kept: Kept::new(alloc),
             ends: Vec::new(alloc),
@@ -46,7 +50,9 @@ impl Found {
     }
 
     /// A word leads to an end.
-    pub fn add_end(&mut self, end: End, origin: &Origin) -> Result<(), AllocError> {
+    pub fn add_end(&mut self, end: End, origin: &Origin) -> Result<(), AllocError>
+        ensures { self.new.kept ≡ self.old.kept }
+    {
         let place = place_of_end(end);
         if let Err(at) = self
             .ends
@@ -59,14 +65,18 @@ impl Found {
     }
 
     /// A word leads to a stretch that displays these values.
-    pub fn add_values(&mut self, values: &[Shown], origin: &Origin) -> Result<(), AllocError> {
+    pub fn add_values(&mut self, values: &[Shown], origin: &Origin) -> Result<(), AllocError>
+        ensures { self.new.kept ≡ self.old.kept }
+    {
         for value in values {
             self.add_value(*value, origin)?;
         }
         Ok(())
     }
 
-    fn add_value(&mut self, value: Shown, origin: &Origin) -> Result<(), AllocError> {
+    fn add_value(&mut self, value: Shown, origin: &Origin) -> Result<(), AllocError>
+        ensures { self.new.kept ≡ self.old.kept }
+    {
         let place = place_of_value(value);
         if let Err(at) = self
             .values

@@ -1,5 +1,10 @@
 //! The states that are kept.
 
+ghost use Rattle.std.specs.Prelude.{◌≡◌, ◌<◌, ◌^◌, [], length, true, IfOk};
+ghost use Rattle.cp_slots.specs.Tables.{Tables};
+ghost use Rattle.cp_machine.specs.System.{machine_of, output_of, IsStateOf};
+ghost use Rattle.cp_at_once.specs.Kept.{AreKept, IsQuietKey};
+
 use crate::origin::Origin;
 use cp_ends::state_key::StateKey;
 use cp_key::{Parts, thaw};
@@ -15,14 +20,19 @@ pub struct Kept {
 
 impl Kept {
     /// No state is kept.
-    pub fn new(alloc: Global) -> Kept {
+    pub fn new(alloc: Global) -> Kept
+        ensures { result.known.entries ≡ [] }
+    {
         Kept {
             known: IndexMap::new(alloc),
         }
     }
 
     /// How many states are kept.
-    pub fn len(&self) -> usize {
+    pub fn len(&self) -> usize
+        ensures count { result ≡ length self.now.known.entries }
+        ensures small { result < 2 ^ 63 }
+    {
         self.known.len()
     }
 
@@ -32,14 +42,20 @@ impl Kept {
     }
 
     /// A state that was not kept is.
-    pub fn add(&mut self, alloc: Global, key: &StateKey, origin: Origin) -> Result<(), AllocError> {
+    pub fn add(&mut self, alloc: Global, key: &StateKey, origin: Origin) -> Result<(), AllocError>
+        ensures { IfOk result (λ _. (r : Tables) → AreKept r self.old.known.entries → IsQuietKey r key.now → AreKept r self.new.known.entries) }
+    {
         let bytes = Vec::from_slice(alloc, key.bytes.as_slice())?;
         self.known.insert(StateKey { bytes }, origin)?;
         Ok(())
     }
 
     /// A state becomes the one that is kept with this number; `false` where there is none.
-    pub fn thaw_at(&self, number: u32, state: &mut State) -> bool {
+    pub fn thaw_at(&self, number: u32, state: &mut State) -> bool
+        requires { (r : Tables) × IsStateOf r state.old × AreKept r self.now.known.entries }
+        ensures own { (r : Tables) → IsStateOf r state.old → AreKept r self.now.known.entries → IsStateOf r state.new }
+        ensures quiet { (r : Tables) → IsStateOf r state.old → AreKept r self.now.known.entries → result ≡ true → output_of (machine_of state.new) ≡ [] }
+    {
         let Some((key, _)) = self.known.get_index(number as usize) else {
             return false;
         };

@@ -1,7 +1,12 @@
 //! Legs: the steps of a ready process up to and with its next kernel call or its end; and which of them are made at once.
 
+ghost use Rattle.std.specs.Prelude.{◌≡◌, true, false, IfSome};
+ghost use Rattle.cp_machine.specs.System.{machine_of, is_ready, is_pending, IsStateOf};
+ghost use Rattle.cp_run.specs.Run.{may};
+ghost use Rattle.cp_run.specs.Slots.{slots};
+
 use cp_machine::{Event, Kernel, State, Ticks, local_step, step};
-use cp_run::Limits;
+use cp_run::{Limits, wanted};
 use cp_slots::Resolved;
 use std::sync::ledger::Ledger;
 
@@ -21,7 +26,12 @@ fn take_leg<S: Ledger>(
     state: &mut State,
     pid: u8,
     steps: &mut Ticks<S>,
-) -> Event {
+) -> Event
+    requires own { IsStateOf program.now state.old }
+    requires ready { is_ready (machine_of state.old) pid ≡ true }
+    requires free { is_pending (machine_of state.old) ≡ false }
+    ensures own { IsStateOf program.now state.new }
+{
     for _ in 0..limits.steps {
         if !local_step(program, state, pid, steps) {
             let event = step(program, state, pid, steps);
@@ -33,22 +43,47 @@ fn take_leg<S: Ledger>(
     Event::Local
 }
 
+// Whether the leg of a ready process may be made at once. There is room for a state.
+fn has_quiet_leg<S: Ledger>(
+    program: &Resolved,
+    limits: Limits,
+    state: &State,
+    ahead: &mut State,
+    pid: u8,
+    steps: &mut Ticks<S>,
+) -> bool
+    requires own { IsStateOf program.now state.now }
+    requires ahead { IsStateOf program.now ahead.old }
+    requires ready { is_ready (machine_of state.now) pid ≡ true }
+    requires free { is_pending (machine_of state.now) ≡ false }
+    ensures ahead { IsStateOf program.now ahead.new }
+{
+    ahead.take_from(state);
+    let event = take_leg(program, limits, ahead, pid, steps);
+    is_quiet(event) && ahead.phases.as_slice() == state.phases.as_slice()
+}
+
 /// The least ready process whose leg may be made at once: it ends in a call that is no `enter` or in the end of the process, and leaves the status of each
-/// component as it was. There is room for a state.
+/// component as it was. There is none where it is to be chosen who enters a monitor. There is room for a state.
 pub fn process_at_once<S: Ledger>(
     program: &Resolved,
     limits: Limits,
     state: &State,
     ahead: &mut State,
     steps: &mut Ticks<S>,
-) -> Option<u8> {
-    for (pid, process) in state.processes.iter().enumerate() {
-        if process.status.is_ready() {
-            ahead.take_from(state);
-            let event = take_leg(program, limits, ahead, pid as u8, steps);
-            if is_quiet(event) && ahead.phases.as_slice() == state.phases.as_slice() {
-                return Some(pid as u8);
-            }
+) -> Option<u8>
+    requires own { IsStateOf program.now state.now }
+    requires ahead { IsStateOf program.now ahead.old }
+    ensures ahead { IsStateOf program.now ahead.new }
+    ensures may { IfSome result (λ p. may (slots program.now limits.gates) (machine_of state.now) p ≡ true) }
+{
+    if state.pending().is_some() {
+        return None;
+    }
+    let numbers = wanted(program, limits, state);
+    for pid in numbers.as_slice() {
+        if has_quiet_leg(program, limits, state, ahead, *pid, steps) {
+            return Some(*pid);
         }
     }
     None

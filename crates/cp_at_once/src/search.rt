@@ -1,5 +1,11 @@
 //! The search through the states that are kept.
 
+ghost use Rattle.std.specs.Prelude.{◌≡◌, [], true, IfOk};
+ghost use Rattle.cp_machine.specs.System.{machine_of, output_of, IsStateOf};
+ghost use Rattle.cp_run.specs.Run.{may};
+ghost use Rattle.cp_run.specs.Slots.{slots};
+ghost use Rattle.cp_at_once.specs.Kept.{AreKept};
+
 use crate::found::Found;
 use crate::leg::process_at_once;
 use crate::origin::{IN_A_ROW, Origin};
@@ -29,7 +35,9 @@ pub fn search_at_once(
     program: &Resolved,
     limits: Limits,
     most: u32,
-) -> Result<Found, AllocError> {
+) -> Result<Found, AllocError>
+    ensures kept { IfOk result (λ found. AreKept program.now found.kept.known.entries) }
+{
     searched::<Brand>(alloc, program, limits, most, Blank::new(1))
 }
 
@@ -43,10 +51,11 @@ fn searched<S: Ledger>(
     requires name { blank.name ≡ S.name }
     requires parts { blank.parts ≡ S.parts }
     requires one { S.parts ≡ 1 }
+    ensures kept { IfOk result (λ found. AreKept program.now found.kept.known.entries) }
 {
     let mut steps: Ticks<S> = Ticks::new(blank);
     let mut state = State::start(alloc, program, limits.gates)?;
-    let mut search = Search::new(alloc, &state)?;
+    let mut search = Search::new(alloc, program, &state)?;
     let arrival = open(
         alloc,
         program,
@@ -74,7 +83,12 @@ fn searched<S: Ledger>(
 }
 
 impl Search {
-    fn new(alloc: Global, state: &State) -> Result<Search, AllocError> {
+    fn new(alloc: Global, program: &Resolved, state: &State) -> Result<Search, AllocError>
+        requires own { IsStateOf program.now state.now }
+        ensures kept { IfOk result (λ s. AreKept program.now s.found.kept.known.entries) }
+        ensures ahead { IfOk result (λ s. IsStateOf program.now s.ahead) }
+    {
+        let _ = program;
         Ok(Search {
             found: Found::new(alloc),
             key: StateKey {
@@ -95,7 +109,13 @@ impl Search {
         state: &mut State,
         next: &mut State,
         steps: &mut Ticks<S>,
-    ) -> Result<bool, AllocError> {
+    ) -> Result<bool, AllocError>
+        requires own { IsStateOf program.now state.old }
+        requires next { IsStateOf program.now next.old }
+        requires kept { AreKept program.now self.old.found.kept.known.entries }
+        requires ahead { IsStateOf program.now self.old.ahead }
+        ensures kept { IfOk result (λ _. AreKept program.now self.new.found.kept.known.entries) }
+    {
         for number in 0..most {
             if !self.found.kept.thaw_at(number, state) {
                 return Ok(true);
@@ -121,7 +141,16 @@ impl Search {
         state: &State,
         next: &mut State,
         steps: &mut Ticks<S>,
-    ) -> Result<bool, AllocError> {
+    ) -> Result<bool, AllocError>
+        requires own { IsStateOf program.now state.now }
+        requires quiet { output_of (machine_of state.now) ≡ [] }
+        requires next { IsStateOf program.now next.old }
+        requires kept { AreKept program.now self.old.found.kept.known.entries }
+        requires ahead { IsStateOf program.now self.old.ahead }
+        ensures next { IsStateOf program.now next.new }
+        ensures kept { IfOk result (λ _. AreKept program.now self.new.found.kept.known.entries) }
+        ensures ahead { IsStateOf program.now self.new.ahead }
+    {
         let numbers = wanted(program, limits, state);
         for process in numbers.as_slice() {
             next.take_from(state);
@@ -154,7 +183,15 @@ impl Search {
         arrival: Arrival,
         origin: Origin,
         steps: &mut Ticks<S>,
-    ) -> Result<bool, AllocError> {
+    ) -> Result<bool, AllocError>
+        requires own { IsStateOf program.now state.old }
+        requires quiet { output_of (machine_of state.old) ≡ [] }
+        requires kept { AreKept program.now self.old.found.kept.known.entries }
+        requires ahead { IsStateOf program.now self.old.ahead }
+        ensures own { IsStateOf program.now state.new }
+        ensures kept { IfOk result (λ _. AreKept program.now self.new.found.kept.known.entries) }
+        ensures ahead { IsStateOf program.now self.new.ahead }
+    {
         let mut arrival = arrival;
         let mut origin = origin;
         for _ in 0..IN_A_ROW {
@@ -163,7 +200,7 @@ impl Search {
                 return Ok(true);
             }
             let Some(pid) = process_at_once(program, limits, state, &mut self.ahead, steps) else {
-                return self.keep(alloc, most, state, origin);
+                return self.keep(alloc, program, most, state, origin);
             };
             let _ = origin.numbers.try_push(pid);
             self.told.clear();
@@ -172,12 +209,15 @@ impl Search {
         self.note(arrival, &origin)?;
         match arrival {
             Arrival::End(_) => Ok(true),
-            Arrival::Choice => self.keep(alloc, most, state, origin),
+            Arrival::Choice => self.keep(alloc, program, most, state, origin),
         }
     }
 
     // A word leads to where a stretch came to.
-    fn note(&mut self, arrival: Arrival, origin: &Origin) -> Result<(), AllocError> {
+    fn note(&mut self, arrival: Arrival, origin: &Origin) -> Result<(), AllocError>
+        ensures kept { self.new.found.kept ≡ self.old.found.kept }
+        ensures ahead { self.new.ahead ≡ self.old.ahead }
+    {
         self.found.add_values(self.told.as_slice(), origin)?;
         match arrival {
             Arrival::End(end) => self.found.add_end(end, origin),
@@ -189,10 +229,18 @@ impl Search {
     fn keep(
         &mut self,
         alloc: Global,
+        program: &Resolved,
         most: u32,
         state: &State,
         origin: Origin,
-    ) -> Result<bool, AllocError> {
+    ) -> Result<bool, AllocError>
+        requires own { IsStateOf program.now state.now }
+        requires quiet { output_of (machine_of state.now) ≡ [] }
+        requires kept { AreKept program.now self.old.found.kept.known.entries }
+        ensures kept { IfOk result (λ _. AreKept program.now self.new.found.kept.known.entries) }
+        ensures ahead { self.new.ahead ≡ self.old.ahead }
+    {
+        let _ = program;
         self.key.take_from(state)?;
         if self.found.kept.contains(&self.key) {
             return Ok(true);

@@ -151,8 +151,10 @@ fn shared_words(
     if with_ends || matches.get_flag("ends") || matches.get_str("again").is_some() {
         words.push(String::from_str(alloc, "--ends")?)?;
     }
-    if matches.get_flag("waits") {
-        words.push(String::from_str(alloc, "--waits")?)?;
+    for name in ["waits", "at-once"] {
+        if matches.get_flag(name) {
+            words.push(format!(in alloc; "--{name}")?)?;
+        }
     }
     Ok(words)
 }
