@@ -215,7 +215,8 @@ fn push_end_line(text: &mut String, word: &[u8], end: End) -> Result<(), AllocEr
     text.push_str("\n")
 }
 
-fn push_end(text: &mut String, end: End) -> Result<(), AllocError>
+/// Appends an end.
+pub fn push_end(text: &mut String, end: End) -> Result<(), AllocError>
     ensures { IfOk result (λ _. string_bytes text.new ≡ string_bytes text.old ++ end_text end) }
 {
     match end {

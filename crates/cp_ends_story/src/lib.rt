@@ -1,6 +1,7 @@
 //! The ends that are possible in schedules of any length, and who may wait for ever, told in words.
 #![tactic(auto)]
 
+mod finding;
 mod objects;
 pub mod placing;
 pub mod subject;

@@ -1,10 +1,10 @@
 //! Ends as JSON.
 
 use crate::placing::{is_full, story_of};
-use crate::subject::{Findings, Subject};
+use crate::subject::{Findings, KnownEnd, KnownValue, Reach, Subject};
 use crate::texts::{is_cut, line_of};
 use cp_ends::End;
-use cp_ends::found::{FoundEnd, FoundValue, MOST_VALUES};
+use cp_ends::found::MOST_VALUES;
 use cp_machine::Ticks;
 use cp_run::OutcomeKind;
 use cp_story::objects::{Object, monitors, numbers, processes, put_kind, waits};
@@ -33,20 +33,51 @@ pub fn json<L: Ledger>(
     Ok(text)
 }
 
-// How many states there are, or how many there may be and of how many choices all schedules were looked at.
+// How many states there are, or how many there may be and of how many choices all schedules were looked at; and whether kernel calls were made at once.
 fn put_states(
     subject: Subject<'_>,
     object: &mut Object,
     findings: &Findings,
 ) -> Result<(), AllocError> {
-    if findings.found.stopped.is_some() {
-        object.text("too_many", "states")?;
-        object.number("states", u64::from(subject.most))?;
-        object.number("choices", findings.most as u64)?;
-        return object.put("complete", Value::Bool(false));
+    match findings.reach {
+        Reach::States(count) => {
+            object.number("states", count as u64)?;
+            object.put("complete", Value::Bool(!is_cut(findings)))
+        }
+        Reach::StatesAtOnce(count) => {
+            put_at_once(object)?;
+            object.number("states", count as u64)?;
+            object.put("complete", Value::Bool(!is_cut(findings)))
+        }
+        Reach::Choices(choices) => {
+            put_too_many(subject, object)?;
+            object.number("choices", choices as u64)?;
+            object.put("complete", Value::Bool(false))
+        }
+        Reach::SomeAtOnce => {
+            put_at_once(object)?;
+            put_too_many(subject, object)?;
+            object.put("complete", Value::Bool(false))
+        }
     }
-    object.number("states", findings.found.states.len() as u64)?;
-    object.put("complete", Value::Bool(!is_cut(findings)))
+}
+
+fn put_at_once(object: &mut Object) -> Result<(), AllocError> {
+    object.put("at_once", Value::Bool(true))?;
+    object.put("proved", Value::Bool(false))
+}
+
+fn put_too_many(subject: Subject<'_>, object: &mut Object) -> Result<(), AllocError> {
+    object.text("too_many", "states")?;
+    object.number("states", u64::from(subject.most))
+}
+
+// What a word is called: some other one may be shorter where kernel calls are made at once.
+fn name_of_word(findings: &Findings) -> &'static str {
+    match findings.reach {
+        Reach::States(_) | Reach::Choices(_) => "first",
+        Reach::StatesAtOnce(_) | Reach::SomeAtOnce => "by",
+    }
 }
 
 fn put_ends<L: Ledger>(
@@ -57,11 +88,8 @@ fn put_ends<L: Ledger>(
     ticks: &mut Ticks<L>,
 ) -> Result<(), AllocError> {
     let mut items = Vec::new(alloc);
-    for end in &findings.found.ends {
-        let word = findings.found.states.word(alloc, end.origin)?;
-        if word.len() <= findings.most {
-            items.push(end_object(alloc, subject, end, word.as_slice(), ticks)?)?;
-        }
+    for end in &findings.ends {
+        items.push(end_object(alloc, subject, end, name_of_word(findings), ticks)?)?;
     }
     object.put("ends", Value::Array(items))
 }
@@ -69,17 +97,18 @@ fn put_ends<L: Ledger>(
 fn end_object<L: Ledger>(
     alloc: Global,
     subject: Subject<'_>,
-    end: &FoundEnd,
-    word: &[u8],
+    end: &KnownEnd,
+    name: &str,
     ticks: &mut Ticks<L>,
 ) -> Result<Value, AllocError> {
+    let word = end.word.as_slice();
     let mut object = Object::new(alloc);
     match end.end {
         End::Over(kind) => put_kind(&mut object, kind)?,
         End::Alone(process) => put_going(&mut object, "alone", process)?,
         End::Spins(process) => put_going(&mut object, "spins", process)?,
     }
-    object.put("first", numbers(alloc, word)?)?;
+    object.put(name, numbers(alloc, word)?)?;
     match end.end {
         End::Over(OutcomeKind::AllWaiting) => {
             put_final(alloc, subject, &mut object, word, ticks)?;
@@ -121,19 +150,12 @@ fn put_values(
     findings: &Findings,
 ) -> Result<(), AllocError> {
     let mut items = Vec::new(alloc);
-    let mut is_more = false;
-    for value in &findings.found.values {
-        let word = findings.found.states.word(alloc, value.origin)?;
-        if word.len() <= findings.most {
-            if items.len() < MOST_VALUES {
-                items.push(value_object(alloc, subject, value, word.as_slice())?)?;
-            } else {
-                is_more = true;
-            }
-        }
+    let count = findings.values.len().min(MOST_VALUES);
+    for value in &findings.values[..count] {
+        items.push(value_object(alloc, subject, value, name_of_word(findings))?)?;
     }
     object.put("shown", Value::Array(items))?;
-    if is_more {
+    if findings.values.len() > MOST_VALUES {
         object.put("more", Value::Bool(true))?;
     }
     Ok(())
@@ -142,14 +164,14 @@ fn put_values(
 fn value_object(
     alloc: Global,
     subject: Subject<'_>,
-    value: &FoundValue,
-    word: &[u8],
+    value: &KnownValue,
+    name: &str,
 ) -> Result<Value, AllocError> {
     let mut object = Object::new(alloc);
     let mut text = String::new(alloc);
     push_shown(subject.legend, &mut text, value.value)?;
     object.put("value", Value::String(text))?;
-    object.put("first", numbers(alloc, word)?)?;
+    object.put(name, numbers(alloc, value.word.as_slice())?)?;
     Ok(object.done())
 }
 

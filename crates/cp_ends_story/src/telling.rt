@@ -2,57 +2,31 @@
 
 ghost use Rattle.std.specs.Prelude.{◌≡◌};
 
+use crate::finding::findings;
 use crate::objects::json;
-use crate::subject::{Findings, Form, Subject, Told};
+use crate::subject::{Findings, Form, Reach, Subject, Told};
 use crate::texts::text;
-use cp_ends::{Found, search_ends};
 use cp_machine::Ticks;
-use cp_waits::{Waits, graph_of, who_waits};
+use cp_waits::Waits;
 use std::alloc::{AllocError, Global};
 use std::marker::Brand;
 use std::sync::ledger::{Blank, Ledger};
 
 /// The ends that are possible in schedules of any length, the values that can be displayed, and who may wait for ever, in words.
 pub fn ends_story(alloc: Global, subject: Subject<'_>, form: Form) -> Result<Told, AllocError> {
-    let findings = found(alloc, subject)?;
+    let findings = findings(alloc, subject)?;
     Ok(Told {
-        is_whole: is_whole(&findings),
+        is_whole: is_whole(subject, &findings),
         text: written::<Brand>(alloc, subject, form, &findings, Blank::new(1))?,
     })
 }
 
-fn found(alloc: Global, subject: Subject<'_>) -> Result<Findings, AllocError> {
-    let Subject {
-        program,
-        limits,
-        most,
-        ..
-    } = subject;
-    let found = search_ends(alloc, program, limits, most)?;
-    let waits = if subject.waits && found.stopped.is_none() {
-        let graph = graph_of(alloc, program, limits, &found)?;
-        Some(who_waits(alloc, &graph, &found.states)?)
-    } else {
-        None
-    };
-    let most = most_numbers(alloc, &found)?;
-    Ok(Findings { found, most, waits })
-}
-
-// Of how many numbers the words may be that are told: of any, or of as many as were looked at.
-fn most_numbers(alloc: Global, found: &Found) -> Result<usize, AllocError> {
-    Ok(match found.stopped {
-        None => usize::MAX,
-        Some(stopped) => found
-            .states
-            .word(alloc, found.states.origin(stopped))?
-            .len(),
-    })
-}
-
-fn is_whole(findings: &Findings) -> bool {
-    let is_settled = !matches!(&findings.waits, Some(Waits::NotSettled(_)));
-    findings.found.stopped.is_none() && is_settled
+fn is_whole(subject: Subject<'_>, findings: &Findings) -> bool {
+    match findings.reach {
+        Reach::States(_) => !matches!(&findings.waits, Some(Waits::NotSettled(_))),
+        Reach::StatesAtOnce(_) => !subject.waits,
+        Reach::Choices(_) | Reach::SomeAtOnce => false,
+    }
 }
 
 fn written<L: Ledger>(

@@ -1,9 +1,9 @@
 //! Ends as lines of text.
 
 use crate::placing::{is_full, outermost_call, story_of, wait_of};
-use crate::subject::{Findings, Subject};
+use crate::subject::{Findings, KnownEnd, Reach, Subject};
 use cp_ends::End;
-use cp_ends::found::{FoundEnd, MOST_VALUES};
+use cp_ends::found::MOST_VALUES;
 use cp_machine::Ticks;
 use cp_run::{MOST_STEPS, OutcomeKind};
 use cp_story::{kind_words, push_call, push_shown, wait_words};
@@ -23,13 +23,14 @@ pub fn text<L: Ledger>(
     ticks: &mut Ticks<L>,
 ) -> Result<String, AllocError> {
     let mut text = String::new(alloc);
+    push_second(subject, &mut text, findings)?;
     push_ends(alloc, subject, &mut text, findings, ticks)?;
     push_values(alloc, subject, &mut text, findings)?;
     match &findings.waits {
         Some(waits) => push_waits(alloc, subject, &mut text, waits, ticks)?,
         None => {}
     }
-    push_last(alloc, subject, &mut text, findings)?;
+    push_last(subject, &mut text, findings)?;
     Ok(text)
 }
 
@@ -87,7 +88,31 @@ fn push_process(subject: Subject<'_>, text: &mut String, process: u8) -> Result<
     write!(text, "{process} {name}")
 }
 
-// The ends to which words lead that are not too long.
+// What stands before a word: some other one may be shorter where kernel calls are made at once.
+fn before_word(findings: &Findings) -> &'static str {
+    match findings.reach {
+        Reach::States(_) | Reach::Choices(_) => "first ",
+        Reach::StatesAtOnce(_) | Reach::SomeAtOnce => "by ",
+    }
+}
+
+// That there are too many states without kernel calls at once.
+fn push_second(
+    subject: Subject<'_>,
+    text: &mut String,
+    findings: &Findings,
+) -> Result<(), AllocError> {
+    match findings.reach {
+        Reach::StatesAtOnce(_) if findings.is_second => {
+            text.push_str("too many states: there may be ")?;
+            push_number(text, subject.most as usize)?;
+            text.push_str("\nso kernel calls are made at once, which is tested, not proved\n\n")
+        }
+        _ => Ok(()),
+    }
+}
+
+// The ends, each with its word.
 fn push_ends<L: Ledger>(
     alloc: Global,
     subject: Subject<'_>,
@@ -96,20 +121,15 @@ fn push_ends<L: Ledger>(
     ticks: &mut Ticks<L>,
 ) -> Result<(), AllocError> {
     let mut lines = String::new(alloc);
-    let mut count = 0usize;
-    for end in &findings.found.ends {
-        let word = findings.found.states.word(alloc, end.origin)?;
-        if word.len() <= findings.most {
-            push_end(alloc, subject, &mut lines, end, word.as_slice(), ticks)?;
-            count = count.saturating_add(1);
-        }
+    for end in &findings.ends {
+        push_end(alloc, subject, &mut lines, end, before_word(findings), ticks)?;
     }
-    if count == 0 {
+    if findings.ends.is_empty() {
         return Ok(());
     }
     push_counted(
         text,
-        count,
+        findings.ends.len(),
         " end is possible\n\n",
         " ends are possible\n\n",
     )?;
@@ -121,14 +141,15 @@ fn push_end<L: Ledger>(
     alloc: Global,
     subject: Subject<'_>,
     text: &mut String,
-    end: &FoundEnd,
-    word: &[u8],
+    end: &KnownEnd,
+    before: &str,
     ticks: &mut Ticks<L>,
 ) -> Result<(), AllocError> {
+    let word = end.word.as_slice();
     text.push_str("  ")?;
     push_kind(subject, text, end.end)?;
     text.push('\n')?;
-    push_words(text, "first ", word)?;
+    push_words(text, before, word)?;
     match end.end {
         End::Over(OutcomeKind::AllWaiting) => {
             push_all_waiting(alloc, subject, text, word, ticks)
@@ -192,33 +213,28 @@ pub fn line_of(source: &[String], line: u32) -> &str {
     }
 }
 
-// The values that words display that are not too long.
+// The values, each with its word.
 fn push_values(
     alloc: Global,
     subject: Subject<'_>,
     text: &mut String,
     findings: &Findings,
 ) -> Result<(), AllocError> {
-    let mut lines = String::new(alloc);
-    let mut count = 0usize;
-    for value in &findings.found.values {
-        let word = findings.found.states.word(alloc, value.origin)?;
-        if word.len() <= findings.most {
-            if count < MOST_VALUES {
-                lines.push_str("  ")?;
-                push_shown(subject.legend, &mut lines, value.value)?;
-                lines.push('\n')?;
-                push_words(&mut lines, "first ", word.as_slice())?;
-            } else {
-                lines.push_str("  and more\n")?;
-            }
-            count = count.saturating_add(1);
-        }
-    }
+    let count = findings.values.len();
     if count == 0 {
         return Ok(());
     }
     let told = count.min(MOST_VALUES);
+    let mut lines = String::new(alloc);
+    for value in &findings.values[..told] {
+        lines.push_str("  ")?;
+        push_shown(subject.legend, &mut lines, value.value)?;
+        lines.push('\n')?;
+        push_words(&mut lines, before_word(findings), value.word.as_slice())?;
+    }
+    if count > told {
+        lines.push_str("  and more\n")?;
+    }
     push_counted(
         text,
         told,
@@ -330,20 +346,40 @@ fn push_place<L: Ledger>(
 
 // Whether this is all; if not, what is known and what to try.
 fn push_last(
-    alloc: Global,
     subject: Subject<'_>,
     text: &mut String,
     findings: &Findings,
 ) -> Result<(), AllocError> {
-    let _ = alloc;
-    if findings.found.stopped.is_some() {
-        return push_too_many(subject, text, findings);
+    match findings.reach {
+        Reach::Choices(choices) => push_too_many(subject, text, findings, choices),
+        Reach::SomeAtOnce => push_too_many_at_once(subject, text),
+        Reach::States(count) => {
+            if let Some(Waits::NotSettled(process)) = &findings.waits {
+                text.push_str("not settled: whether ")?;
+                push_process(subject, text, *process)?;
+                return text.push_str(" may wait for ever\n");
+            }
+            push_complete(subject, text, findings, "complete: ", count)
+        }
+        Reach::StatesAtOnce(count) => {
+            let before = "complete with kernel calls at once (tested, not proved): ";
+            push_complete(subject, text, findings, before, count)?;
+            if subject.waits {
+                text.push_str("try greater --states, which it takes to tell who may wait for ever\n")?;
+            }
+            Ok(())
+        }
     }
-    if let Some(Waits::NotSettled(process)) = &findings.waits {
-        text.push_str("not settled: whether ")?;
-        push_process(subject, text, *process)?;
-        return text.push_str(" may wait for ever\n");
-    }
+}
+
+// That all states were looked at, unless a stretch was cut.
+fn push_complete(
+    subject: Subject<'_>,
+    text: &mut String,
+    findings: &Findings,
+    before: &str,
+    count: usize,
+) -> Result<(), AllocError> {
     if is_cut(findings) {
         text.push_str("not complete: a stretch ends as step-limit")?;
         return text.push_str(if subject.limits.steps < MOST_STEPS {
@@ -352,9 +388,9 @@ fn push_last(
             " (no greater --steps can be tried)\n"
         });
     }
-    text.push_str("complete: ")?;
-    push_counted(text, findings.found.states.len(), " state", " states")?;
-    text.push_str(if findings.found.ends.is_empty() {
+    text.push_str(before)?;
+    push_counted(text, count, " state", " states")?;
+    text.push_str(if findings.ends.is_empty() {
         ", and no schedule of any length ends\n"
     } else {
         ", and schedules of any length end so or go on for ever\n"
@@ -363,7 +399,7 @@ fn push_last(
 
 /// Whether a stretch was cut, so that it is not known what follows.
 pub fn is_cut(findings: &Findings) -> bool {
-    for end in &findings.found.ends {
+    for end in &findings.ends {
         if end.end == End::Over(OutcomeKind::StepLimit) {
             return true;
         }
@@ -375,15 +411,25 @@ fn push_too_many(
     subject: Subject<'_>,
     text: &mut String,
     findings: &Findings,
+    choices: usize,
 ) -> Result<(), AllocError> {
     text.push_str("too many states: there may be ")?;
     push_number(text, subject.most as usize)?;
+    if findings.is_second {
+        text.push_str(", also with kernel calls at once")?;
+    }
     text.push_str("\nall schedules of at most ")?;
-    push_counted(text, findings.most, " choice", " choices")?;
+    push_counted(text, choices, " choice", " choices")?;
     text.push_str(" end in what is told, or go on\ntry greater --states")?;
     text.push_str(if subject.waits {
         ", which it takes to tell who may wait for ever\n"
     } else {
         "\n"
     })
+}
+
+fn push_too_many_at_once(subject: Subject<'_>, text: &mut String) -> Result<(), AllocError> {
+    text.push_str("too many states with kernel calls at once: there may be ")?;
+    push_number(text, subject.most as usize)?;
+    text.push_str("\nwhat is told can be, and there may be more\ntry greater --states\n")
 }

@@ -2,6 +2,7 @@
 
 ghost use Rattle.cp_ends.specs.Holds.{HasFindings};
 
+use cp_at_once::{at_once_report, search_at_once};
 use cp_check::check;
 use cp_drops::{drop_checked, drop_program, drop_tree};
 use cp_ends::{Found, ends_report, search_ends};
@@ -114,6 +115,9 @@ fn searched(alloc: Global, options: &Options, program: &Resolved) -> Result<Answ
     let Some(limits) = Limits::new(options.choices, options.steps, options.gates) else {
         unreachable!()
     };
+    if options.at_once {
+        return at_once(alloc, options, program, limits);
+    }
     let found = search_ends(alloc, program, limits, options.states)?;
     if options.waits && found.stopped.is_none() {
         return waited(alloc, program, limits, &found);
@@ -121,6 +125,20 @@ fn searched(alloc: Global, options: &Options, program: &Resolved) -> Result<Answ
     Ok(Answer {
         code: code_of(&found),
         text: ends_report(alloc, program, &found)?.text,
+    })
+}
+
+// The same with kernel calls at once.
+fn at_once(
+    alloc: Global,
+    options: &Options,
+    program: &Resolved,
+    limits: Limits,
+) -> Result<Answer, AllocError> {
+    let found = search_at_once(alloc, program, limits, options.states)?;
+    Ok(Answer {
+        code: if found.is_whole { 0 } else { 5 },
+        text: at_once_report(alloc, program, &found)?.text,
     })
 }
 

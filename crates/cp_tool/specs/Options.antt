@@ -22,9 +22,9 @@ gates_text Any = codes "any"
 abbrev pub IsGated : Option Text → Gates → Type 0
 IsGated text gates = MatchOption text (gates ≡ First) (λ t. t ≡ gates_text gates)
 
--- the same; where it is asked who may wait for ever, it is the first in line that goes in
+-- the same; where that is asked for, it is the first in line that goes in
 abbrev pub IsGatedFor : Bool → Option Text → Gates → Type 0
-IsGatedFor waits text gates = IsGated text gates × (waits ≡ true → gates ≡ First)
+IsGatedFor is_first text gates = IsGated text gates × (is_first ≡ true → gates ≡ First)
 
 -- the word of at most so many numbers that the text spells, or none where there is no text
 abbrev pub IsScheduled : ℕ → Option Text → Option (ArrayVec ℕ) → Type 0
@@ -45,15 +45,23 @@ asks_ends rows = is_asked (first_of (codes "ends") rows)
 abbrev pub asks_waits : List Row → Bool
 asks_waits rows = is_asked (first_of (codes "waits") rows)
 
--- schedules are asked to be taken together in two ways, or who may wait for ever in none of any length
-abbrev pub clashes : List Row → Bool
-clashes rows = (asks_merge rows && asks_ends rows) || (asks_waits rows && not (asks_ends rows))
+abbrev pub asks_at_once : List Row → Bool
+asks_at_once rows = is_asked (first_of (codes "at-once") rows)
 
--- so it is told: whether schedules are taken together, whether in any length, who may wait for ever, and whether the words clash
+-- who may wait for ever, or that calls are made at once: both are asked of the gates at which the first in line goes in
+abbrev pub asks_first : List Row → Bool
+asks_first rows = asks_waits rows || asks_at_once rows
+
+-- Schedules are asked to be taken together in two ways; or who may wait for ever, or calls at once, in none of any length; or both of these.
+abbrev pub clashes : List Row → Bool
+clashes rows = ((asks_merge rows && asks_ends rows) || (asks_first rows && not (asks_ends rows))) || (asks_waits rows && asks_at_once rows)
+
+-- so it is told: whether schedules are taken together, whether in any length, who may wait for ever, whether calls are made at once, and whether the words clash
 pub record IsKind (rows : List Row) (k : Kind) : Type 0 where
   pub merge : k.merge ≡ (asks_merge rows || asks_ends rows)
   pub ends : k.ends ≡ asks_ends rows
   pub waits : k.waits ≡ asks_waits rows
+  pub at_once : k.at_once ≡ asks_at_once rows
   pub clash : k.clash ≡ clashes rows
 
 -- each option has the value that the matches have for it; where schedules are taken together there are no rows, and they are so in one way
@@ -61,6 +69,7 @@ pub record HasOptions (rows : List Row) (o : Options) : Type 0 where
   pub merge : o.merge ≡ (asks_merge rows || asks_ends rows)
   pub ends : o.ends ≡ asks_ends rows
   pub waits : o.waits ≡ asks_waits rows
+  pub at_once : o.at_once ≡ asks_at_once rows
   pub one : clashes rows ≡ false
   pub choices : IsChosen (default_choices o.ends) 0 (most_choices o.merge) (first_of (codes "choices") rows) o.choices
   pub steps : IsChosen 1000 1 100000 (first_of (codes "steps") rows) o.steps
@@ -70,7 +79,7 @@ pub record HasOptions (rows : List Row) (o : Options) : Type 0 where
   pub rows_asked : o.rows ≡ is_asked (first_of (codes "rows") rows)
   pub states : IsChosen 200000 1 10000000 (first_of (codes "states") rows) o.states
   pub schedule : IsScheduled (most_choices o.merge) (first_of (codes "schedule") rows) o.schedule
-  pub gates : IsGatedFor (asks_waits rows) (first_of (codes "gates") rows) o.gates
+  pub gates : IsGatedFor (asks_first rows) (first_of (codes "gates") rows) o.gates
 
 -- no word is refused, and each option has the value that the words have for it
 abbrev pub Gives : List Text → Options → Type 0

@@ -14,7 +14,7 @@ const USAGE: &str = "cpx [OPTIONS] < PROGRAM";
 const NOTES: &str =
     "Example: cpx --choices 5 < program.cp\n\nStatus: 0 reported, 1 source refused, 2 options refused, 3 no memory, 4 read or write fault,\n5 too many rows, states or outcomes";
 
-/// Eleven options, each with a long name alone; `clap` adds `--help` and `-h`.
+/// Twelve options, each with a long name alone; `clap` adds `--help` and `-h`.
 pub fn command<'a>(alloc: Global) -> Result<Command<'a>, AllocError>
     ensures { IfOk result (λ c. app_of c ≡ cpx) }
 {
@@ -61,6 +61,11 @@ pub fn command<'a>(alloc: Global) -> Result<Command<'a>, AllocError>
         alloc,
         "waits",
         "With --ends, who may wait for ever while others go on",
+    ))?;
+    let command = command.arg(switch(
+        alloc,
+        "at-once",
+        "With --ends, kernel calls but enter at once: fewer states",
     ))?;
     let command = command.arg(option(
         alloc,

@@ -76,13 +76,14 @@ fn options_of(alloc: Global, matches: &ArgMatches<'_>) -> Result<Option<Options>
     Ok(options_with(matches, kind, schedule))
 }
 
-// Whether schedules are taken together, whether in any length, whether it is asked who may wait for ever, and whether words stand there
-// that can't stand together.
+// Whether schedules are taken together, whether in any length, whether it is asked who may wait for ever, whether calls are made at once, and whether
+// words stand there that can't stand together.
 #[derive(Clone, Copy)]
 struct Kind {
     merge: bool,
     ends: bool,
     waits: bool,
+    at_once: bool,
     clash: bool,
 }
 
@@ -92,11 +93,13 @@ fn kind_of(matches: &ArgMatches<'_>) -> Kind
     let merge = is_asked(matches.get_str("merge"));
     let ends = is_asked(matches.get_str("ends"));
     let waits = is_asked(matches.get_str("waits"));
+    let at_once = is_asked(matches.get_str("at-once"));
     Kind {
         merge: merge | ends,
         ends,
         waits,
-        clash: (merge & ends) | (waits & !ends),
+        at_once,
+        clash: (merge & ends) | ((waits | at_once) & !ends) | (waits & at_once),
     }
 }
 
@@ -127,9 +130,10 @@ fn options_with(
         merge: kind.merge,
         ends: kind.ends,
         waits: kind.waits,
+        at_once: kind.at_once,
         states: chosen(matches.get_str("states"), 200_000, 1, 10_000_000)?,
         schedule: schedule?,
-        gates: gates_for(kind.waits, matches.get_str("gates"))?,
+        gates: gates_for(kind.waits | kind.at_once, matches.get_str("gates"))?,
         cut_is_given: is_given(matches.get_str("cut")),
     })
 }
@@ -179,13 +183,13 @@ fn schedule_of(
     Ok(Some(Some(word)))
 }
 
-// Where it is asked who may wait for ever, the first in line goes in.
-fn gates_for(waits: bool, text: Option<&str>) -> Option<Gates>
-    ensures { Finds (IsGatedFor waits (option_map (λ s. s.now) text.entry)) result }
+// Where it is asked who may wait for ever, or calls are made at once, the first in line goes in.
+fn gates_for(is_first: bool, text: Option<&str>) -> Option<Gates>
+    ensures { Finds (IsGatedFor is_first (option_map (λ s. s.now) text.entry)) result }
 {
     match gates_of(text)? {
         Gates::First => Some(Gates::First),
-        Gates::Any => { if waits { None } else { Some(Gates::Any) } }
+        Gates::Any => { if is_first { None } else { Some(Gates::Any) } }
     }
 }
 

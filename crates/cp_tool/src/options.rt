@@ -28,6 +28,8 @@ pub struct Options {
     pub ends: bool,
     /// Whether it is asked as well who may wait for ever.
     pub waits: bool,
+    /// Whether kernel calls are made at once for them, so that fewer states are kept.
+    pub at_once: bool,
     /// The most states, of a layer or in all, where they are.
     pub states: u32,
     /// The one schedule to be traced, if any.

@@ -103,6 +103,7 @@ fn clash_reason(matches: &ArgMatches<'_>) -> &'static str {
     let ends = matches.get_flag("ends");
     let merge = matches.get_flag("merge");
     let waits = matches.get_flag("waits");
+    let at_once = matches.get_flag("at-once");
     if merge & ends {
         return "--merge: not beside --ends, which merges in any case";
     }
@@ -112,8 +113,14 @@ fn clash_reason(matches: &ArgMatches<'_>) -> &'static str {
     if waits & !ends {
         return "--waits: only beside --ends";
     }
-    if waits && matches.get_str("gates") == Some("any") {
-        return "--gates any: not beside --waits";
+    if at_once & !ends {
+        return "--at-once: only beside --ends";
+    }
+    if waits & at_once {
+        return "--at-once: not beside --waits";
+    }
+    if (waits | at_once) && matches.get_str("gates") == Some("any") {
+        return "--gates any: not beside --waits or --at-once";
     }
     ""
 }

@@ -428,6 +428,7 @@ fn ended(
         limits,
         most: options.states,
         waits: options.waits,
+        at_once: options.at_once,
         source,
     };
     let form = if as_json {

@@ -89,10 +89,14 @@ fn ends<'a>(alloc: Global) -> Result<Command<'a>, AllocError> {
         .long("waits")
         .action(ArgAction::SetTrue)
         .help("Tell as well who may wait for ever while others go on");
+    let at_once = Arg::new(alloc, "at-once")
+        .long("at-once")
+        .action(ArgAction::SetTrue)
+        .help("Make kernel calls but enter at once: fewer states (tested, not proved)");
     let command = Command::new(alloc, "ends")
         .about(ENDS)
         .override_usage("cpx_show ends [OPTIONS] < PROGRAM");
-    let command = with_run(alloc, command.arg(waits)?)?;
+    let command = with_run(alloc, command.arg(waits)?.arg(at_once)?)?;
     let command = command.arg(states(
         alloc,
         "States that there may be in all, 1 to 10000000 [default: 200000]",

@@ -225,8 +225,10 @@ fn shared_words(
     let has_ends = with_ends || matches.get_flag("ends") || matches.get_str("again").is_some();
     let length = if has_ends { "--ends" } else { "--merge" };
     words.push(String::from_str(alloc, length)?)?;
-    if matches.get_flag("waits") {
-        words.push(String::from_str(alloc, "--waits")?)?;
+    for name in ["waits", "at-once"] {
+        if matches.get_flag(name) {
+            words.push(format!(in alloc; "--{name}")?)?;
+        }
     }
     Ok(words)
 }

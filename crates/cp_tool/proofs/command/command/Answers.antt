@@ -12,6 +12,7 @@ returns c =
     let s6 = c.in_ok-command-6.ensures.shape c.switch-2.ensures.local ∙ ap₂ with_rule s5 c.switch-2.ensures.rule in
     let s7 = c.in_ok-command-7.ensures.shape c.switch-3.ensures.local ∙ ap₂ with_rule s6 c.switch-3.ensures.rule in
     let s8 = c.in_ok-command-8.ensures.shape c.switch-4.ensures.local ∙ ap₂ with_rule s7 c.switch-4.ensures.rule in
-    let s9 = c.in_ok-command-9.ensures.shape c.option-5.ensures.local ∙ ap₂ with_rule s8 c.option-5.ensures.rule in
-    let s10 = c.in_ok-command-10.ensures.shape c.option-6.ensures.local ∙ ap₂ with_rule s9 c.option-6.ensures.rule in
-    c.in_ok-command-11.ensures.shape c.option-7.ensures.local ∙ ap₂ with_rule s10 c.option-7.ensures.rule
+    let s9 = c.in_ok-command-9.ensures.shape c.switch-5.ensures.local ∙ ap₂ with_rule s8 c.switch-5.ensures.rule in
+    let s10 = c.in_ok-command-10.ensures.shape c.option-5.ensures.local ∙ ap₂ with_rule s9 c.option-5.ensures.rule in
+    let s11 = c.in_ok-command-11.ensures.shape c.option-6.ensures.local ∙ ap₂ with_rule s10 c.option-6.ensures.rule in
+    c.in_ok-command-12.ensures.shape c.option-7.ensures.local ∙ ap₂ with_rule s11 c.option-7.ensures.rule

@@ -1,11 +1,11 @@
-use Rattle.std.proofs.Common.{◌≡◌, ◌∙◌, ℕ, Bool, true, false, Option, None, sym, ap, subst, arith, codes}
-use Rattle.std.specs.Prelude.{◌&&◌, is_some, option_map}
+use Rattle.std.proofs.Common.{◌≡◌, ◌∙◌, ℕ, Bool, true, false, Option, None, sym, ap, ap₂, subst, arith, codes}
+use Rattle.std.specs.Prelude.{◌&&◌, ◌||◌, is_some, option_map}
 use Rattle.arrayvec.specs.ArrayVec.{ArrayVec}
 use Rattle.clap.specs.Words.{Text, first_of, found_of, rows_of}
 use Rattle.clap.proofs.WalkLemmas.{first_value-rows}
 use Rattle.cp_tool.specs.Finds.{Finds}
 use Rattle.cp_tool.specs.Numbers.{IsChosen}
-use Rattle.cp_tool.specs.Options.{HasOptions, IsGatedFor, IsScheduled, asks_ends, asks_merge, asks_waits, is_asked}
+use Rattle.cp_tool.specs.Options.{HasOptions, IsGatedFor, IsScheduled, asks_ends, asks_first, asks_merge, is_asked}
 use Rattle.cp_tool.proofs.Together.{default_fits}
 use Rattle.cp_tool.specs.Words.{default_choices, most_choices}
 use Rattle.cp_tool.specs.declared.options.Options.{Options}
@@ -71,8 +71,8 @@ returns-in_err-chosen-5 c = finds_none (HasOptions (rows_of (found_of c.args.mat
 pub returns-in_err-gates_for : goal.returns-in_err-gates_for
 returns-in_err-gates_for c = finds_none (HasOptions (rows_of (found_of c.args.matches.now))) c.from_residual-in_err-gates_for.result c.from_residual-in_err-gates_for.ensures (λ o has.
     let text = c.get_str-7.ensures ∙ first_value-rows (found_of c.args.matches.now) (codes "gates") in
-    let given = subst (λ (t : Option Text). IsGatedFor (asks_waits (rows_of (found_of c.args.matches.now))) t o.gates) (sym text) has.gates in
-    c.in_err-gates_for.ensures o.gates (subst (λ (b : Bool). IsGatedFor b (option_map (λ s. s.now) c.get_str-7.result) o.gates) (sym c.requires.kind.waits) given))
+    let given = subst (λ (t : Option Text). IsGatedFor (asks_first (rows_of (found_of c.args.matches.now))) t o.gates) (sym text) has.gates in
+    c.in_err-gates_for.ensures o.gates (subst (λ (b : Bool). IsGatedFor b (option_map (λ s. s.now) c.get_str-7.result) o.gates) (sym (ap₂ (λ a b. a || b) c.requires.kind.waits c.requires.kind.at_once)) given))
 
 pub returns : goal.returns
 returns c =
@@ -85,6 +85,7 @@ returns c =
       merge = c.requires.kind.merge;
       ends = c.requires.kind.ends;
       waits = c.requires.kind.waits;
+      at_once = c.requires.kind.at_once;
       one = sym c.requires.kind.clash ∙ c.if-kind.false;
       choices = subst (λ (n : ℕ). IsChosen n 0 (most_choices c.args.kind.merge) (first_of (codes "choices") (rows_of f)) c.in_ok-chosen.field-0) c.default_choices-usual.ensures within;
       steps = subst (λ (t : Option Text). IsChosen 1000 1 100000 t c.in_ok-chosen-2.field-0) (c.get_str-3.ensures ∙ at (codes "steps")) c.in_ok-chosen-2.ensures;
@@ -94,5 +95,5 @@ returns c =
       rows_asked = c.is_asked-rows.ensures ∙ ap is_asked (c.get_str.ensures ∙ at (codes "rows"));
       states = subst (λ (t : Option Text). IsChosen 200000 1 10000000 t c.in_ok-chosen-5.field-0) (c.get_str-6.ensures ∙ at (codes "states")) c.in_ok-chosen-5.ensures;
       schedule = subst (λ (r : Option (Option (ArrayVec ℕ))). Finds (IsScheduled (most_choices c.args.kind.merge) (first_of (codes "schedule") (rows_of f))) r) c.in_ok-schedule.was c.requires.schedule;
-      gates = subst (λ (b : Bool). IsGatedFor b (first_of (codes "gates") (rows_of f)) c.in_ok-gates_for.field-0) c.requires.kind.waits (subst (λ (t : Option Text). IsGatedFor c.args.kind.waits t c.in_ok-gates_for.field-0) (c.get_str-7.ensures ∙ at (codes "gates")) c.in_ok-gates_for.ensures);
+      gates = subst (λ (b : Bool). IsGatedFor b (first_of (codes "gates") (rows_of f)) c.in_ok-gates_for.field-0) (ap₂ (λ a b. a || b) c.requires.kind.waits c.requires.kind.at_once) (subst (λ (t : Option Text). IsGatedFor (c.args.kind.waits || c.args.kind.at_once) t c.in_ok-gates_for.field-0) (c.get_str-7.ensures ∙ at (codes "gates")) c.in_ok-gates_for.ensures);
     }

@@ -1,0 +1,43 @@
+//! Where words come from.
+
+use arrayvec::ArrayVec;
+
+/// The most choices in a row that are made at once.
+pub const IN_A_ROW: usize = 8;
+
+/// The last numbers of a word, and the kept state in which the first of them was chosen; without a state they are the whole word.
+#[derive(Drop)]
+pub struct Origin {
+    pub state: Option<u32>,
+    pub numbers: ArrayVec<u8, 9>,
+}
+
+impl Origin {
+    /// The word without numbers.
+    pub fn start() -> Origin {
+        Origin {
+            state: None,
+            numbers: ArrayVec::new(),
+        }
+    }
+
+    /// The word of a kept state, and this number.
+    pub fn choice(state: u32, number: u8) -> Origin {
+        let mut numbers = ArrayVec::new();
+        numbers.push(number);
+        Origin {
+            state: Some(state),
+            numbers,
+        }
+    }
+
+    /// The same word once more.
+    pub fn copy(&self) -> Origin {
+        let mut numbers = ArrayVec::new();
+        let _ = numbers.try_extend_from_slice(self.numbers.as_slice());
+        Origin {
+            state: self.state,
+            numbers,
+        }
+    }
+}
