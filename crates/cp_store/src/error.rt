@@ -1,7 +1,7 @@
 //! Run errors.
 
 /// The name of a run error.
-#[derive(Clone, Copy, Debug, PartialEq, Eq)]
+#[derive(Clone, Copy, PartialEq, Eq)]
 pub enum ErrorName {
     Overflow,
     ZeroDivisor,
