@@ -1,6 +1,7 @@
 -- How many lines a trace has.
 use Rattle.std.proofs.Common.{◌≡◌, ℕ, zero, suc, ◌+◌, ◌*◌, ◌≤◌, Bool, true, false, if◌then◌else◌, List, [], ◌∷◌, ◌++◌, length, ap, arith}
 use Rattle.std.proofs.lemmas.List.{length-append}
+use Rattle.std.proofs.Math.Nat.{mul-le-mul_right}
 use Rattle.cp_machine.specs.declared.event.Event.{Event}
 use Rattle.cp_machine.specs.declared.event.Event.TheVariants.{Local, Kernel, Ended, Fault, OutputFull}
 use Rattle.cp_run.specs.declared.line.TraceLine.{TraceLine}
@@ -67,3 +68,9 @@ few_lines sys steps choices word lines h =
     let b = from_few sys steps choices word (opened sys steps) in
     let e = length-append (opened_lines sys steps) (trace_from sys steps choices word (opened sys steps)) in
     omega (arith, a, b, e, ap length h)
+
+-- Steps of as many stretches as a run may have, where there were fewer of them.
+pub ticks_within : (now before place most steps : ℕ) → now ≤ before + (place + 1) * steps → place ≤ most → now ≤ before + (most + 1) * steps
+ticks_within now before place most steps so_far within =
+    let places : place + 1 ≤ most + 1 = omega (arith, within) in
+    omega (arith, so_far, mul-le-mul_right steps places)

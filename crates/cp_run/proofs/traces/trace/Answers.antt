@@ -7,7 +7,7 @@ use Rattle.cp_run.specs.Run.{may, chosen, run_from}
 use Rattle.cp_run.specs.Slots.{slots}
 use Rattle.cp_run.specs.Trace.{chosen_lines, trace, trace_from}
 use Rattle.cp_run.proofs.Running.{refused_at, goes_at, drop_next, drop_all}
-use Rattle.cp_run.proofs.TraceBounds.{few_lines}
+use Rattle.cp_run.proofs.TraceBounds.{few_lines, ticks_within}
 use Rattle.cp_run.proofs.TraceRuns.{over_run, over_lines, no_word_lines, not_over, some_left, refused_lines, chosen_further}
 use Rattle.cp_run.proofs.Tracing.{no_more}
 use Rattle.cp_run.proofs.traces.trace.Goals as goal
@@ -110,3 +110,18 @@ returns-clause-answer g c =
 
 pub returns-clause-few : goal.returns-clause-few
 returns-clause-few g c = few_lines (slots c.args.program.now c.args.limits.gates) c.args.limits.steps c.args.limits.choices c.args.word.now c.loop-place.lines.items (returns-clause-lines g c)
+
+pub returns-then-is_over-clause-ticks : goal.returns-then-is_over-clause-ticks
+returns-then-is_over-clause-ticks g c = ticks_within _ _ _ _ _ c.loop-place.invariant.ticks c.loop-place.invariant.within
+
+pub returns-then-not-may-clause-ticks : goal.returns-then-not-may-clause-ticks
+returns-then-not-may-clause-ticks g c = ticks_within _ _ _ _ _ c.loop-place.invariant.ticks c.loop-place.invariant.within
+
+pub returns-clause-ticks : goal.returns-clause-ticks
+returns-clause-ticks g c = ticks_within _ _ _ _ _ c.loop-place.invariant.ticks c.loop-place.invariant.within
+
+pub returns-in_err-end-clause-ticks : goal.returns-in_err-end-clause-ticks
+returns-in_err-end-clause-ticks g c = ticks_within _ _ _ _ _ c.loop-place.invariant.ticks c.loop-place.invariant.within
+
+pub returns-in_err-end-2-clause-ticks : goal.returns-in_err-end-2-clause-ticks
+returns-in_err-end-2-clause-ticks g c = ticks_within _ _ _ _ _ c.loop-place.invariant.ticks c.loop-place.invariant.within
