@@ -40,3 +40,15 @@ returns-clause-small g c =
     let l = c.args.limits in
     let r = c.args.program.now in
     rows_small r l.gates l.choices l.steps c.args.most c.into_ends.result.entries c.loop-depth.invariant.own.sound.few l.few_choices (returns-clause-ends g c)
+
+pub returns-in_err-state-clause-fault : goal.returns-in_err-state-clause-fault
+returns-in_err-state-clause-fault g c =
+    let l = c.args.limits in
+    let r = c.args.program.now in
+    err_to c.from_residual.result _ (λ e. IsDueFault (slots r l.gates) l.choices l.steps c.args.most e) c.from_residual.ensures.1 (λ f h. subst (λ e. IsDueFault (slots r l.gates) l.choices l.steps c.args.most e) (sym h) c.in_err-state.ensures.fault)
+
+pub returns-in_err-last_layer-clause-fault : goal.returns-in_err-last_layer-clause-fault
+returns-in_err-last_layer-clause-fault g c =
+    let l = c.args.limits in
+    let r = c.args.program.now in
+    err_to c.from_residual-in_err-last_layer.result _ (λ e. IsDueFault (slots r l.gates) l.choices l.steps c.args.most e) c.from_residual-in_err-last_layer.ensures.1 (λ f h. subst (λ e. IsDueFault (slots r l.gates) l.choices l.steps c.args.most e) (sym h) c.in_err-last_layer.ensures.fault)
