@@ -1,5 +1,8 @@
 //! What processes do from one due choice to the next.
 
+ghost use Rattle.std.specs.Prelude.{◌≡◌};
+ghost use Rattle.cp_waits.specs.Keeps.{keeps, lacks};
+
 use crate::set::Set;
 use cp_machine::{Entry, State};
 
@@ -94,7 +97,9 @@ pub enum Keeping {
 
 impl Keeping {
     /// Whether it does so at each moment.
-    pub fn holds(self, passing: &Passing) -> bool {
+    pub fn holds(self, passing: &Passing) -> bool
+        ensures { result ≡ keeps self passing.now }
+    {
         match self {
             Keeping::Waiting(pid) => passing.wait.has(pid),
             Keeping::Inside(pid) => passing.stay.has(pid),
@@ -102,7 +107,9 @@ impl Keeping {
     }
 
     /// Whether some moment is asked for at which it waits, which is no moment of these.
-    pub fn lacks(self, waits: Set) -> bool {
+    pub fn lacks(self, waits: Set) -> bool
+        ensures { result ≡ lacks self waits }
+    {
         match self {
             Keeping::Waiting(_) => false,
             Keeping::Inside(pid) => !waits.has(pid),

@@ -1,0 +1,5 @@
+pub mod Keeps
+pub mod Lines
+pub mod Ranks
+pub mod Sets
+pub mod Walks
