@@ -1,5 +1,8 @@
 //! Strongly connected components: the states between which a process can go on doing something for ever.
 
+ghost use Rattle.std.specs.Prelude.{◌≡◌};
+ghost use Rattle.cp_waits.specs.Ranks.{rank_in, passed_over_in};
+
 use crate::graph::{Edge, Graph};
 use crate::passing::Keeping;
 use crate::set::Set;
@@ -17,6 +20,8 @@ pub struct Part {
     pub served: Set,
     /// Those that wait on some of its edges.
     pub wait_once: Set,
+    /// Somebody who is served on none of its edges.
+    pub passed_over: Option<u8>,
     /// Whether it has an edge.
     pub has_edge: bool,
     /// Whether no choice leads out of it, nor out of the components to which choices lead from it, to where the process does otherwise.
@@ -76,12 +81,25 @@ pub fn parts_of(alloc: Global, graph: &Graph, keeping: Keeping) -> Result<Parts,
 
 impl Parts {
     /// The number of the component of a state.
-    pub fn number_of(&self, state: u32) -> u32 {
-        at(&self.of, state)
+    pub fn number_of(&self, state: usize) -> u32
+        ensures { result ≡ rank_in self.now state }
+    {
+        match self.of.get(state) {
+            Some(number) => *number,
+            None => 0,
+        }
     }
 
     pub fn part(&self, number: u32) -> Option<&Part> {
         self.parts.get(number as usize)
+    }
+
+    /// Somebody who is passed over in all of a component.
+    pub fn passed_over(&self, number: u32) -> Option<u8>
+        ensures { result ≡ passed_over_in self.now number }
+    {
+        let part = self.parts.get(number as usize)?;
+        part.passed_over
     }
 }
 
@@ -124,8 +142,8 @@ impl Search {
         self.open.push(state)?;
         self.path.push(Visit {
             state,
-            next: graph.begin(state),
-            end: graph.end(state),
+            next: graph.begin(state as usize),
+            end: graph.end(state as usize),
         })?;
         Ok(())
     }
@@ -179,7 +197,8 @@ impl Search {
                 break;
             }
         }
-        let part = part_with(graph, self.keeping, &self.parts, number, &self.members);
+        let mut part = part_with(graph, self.keeping, &self.parts, number, &self.members);
+        part.passed_over = somebody_in(graph.everybody().but(part.served));
         self.parts.parts.push(part)?;
         Ok(())
     }
@@ -202,18 +221,25 @@ fn next_of(graph: &Graph, keeping: Keeping, place: usize) -> Option<u32> {
     }
 }
 
+// The first process of a set.
+fn somebody_in(set: Set) -> Option<u8> {
+    (0..16).find(|pid| set.has(*pid))
+}
+
 // What a component of these states is.
 fn part_with(graph: &Graph, keeping: Keeping, parts: &Parts, number: u32, members: &[u32]) -> Part {
     let mut part = Part {
         least: NONE,
         served: Set::nobody(),
         wait_once: Set::nobody(),
+        passed_over: None,
         has_edge: false,
         is_trap: true,
     };
     for member in members {
         part.least = part.least.min(*member);
-        for place in graph.begin(*member)..graph.end(*member) {
+        let state = *member as usize;
+        for place in graph.begin(state)..graph.end(state) {
             if let Some(edge) = graph.edges.get(place) {
                 part.add(keeping, parts, number, edge);
             }
@@ -232,7 +258,7 @@ impl Part {
         let Some(to) = edge.to else {
             return;
         };
-        let other = parts.number_of(to);
+        let other = parts.number_of(to as usize);
         if other == number {
             self.has_edge = true;
             self.served = self.served.or(edge.passing.served);

@@ -1,5 +1,9 @@
 //! The states, and what happens between them.
 
+ghost use Rattle.std.specs.Prelude.{◌≡◌, ◌&&◌, ℕ, nat_lt, length, slice_get};
+ghost use Rattle.cp_waits.specs.Sets.{has};
+ghost use Rattle.cp_waits.specs.Walks.{first_edge, end_edge};
+
 use crate::passing::Passing;
 use crate::set::Set;
 use cp_ends::origin::Origin;
@@ -50,31 +54,42 @@ impl Graph {
         Ok(())
     }
 
-    pub fn states(&self) -> usize {
+    pub fn states(&self) -> usize
+        ensures { result ≡ length self.now.ends.items }
+    {
         self.ends.len()
     }
 
-    pub fn everybody(&self) -> Set {
+    pub fn everybody(&self) -> Set
+        ensures { (q : ℕ) → has result q ≡ (nat_lt q 16 && nat_lt q self.now.processes) }
+    {
         Set::below(self.processes)
     }
 
+    /// The edge at a place.
+    pub fn edge(&self, place: usize) -> Option<Edge>
+        ensures { result ≡ slice_get self.now.edges.items place }
+    {
+        self.edges.get(place).copied()
+    }
+
     /// The place of the first edge of a state.
-    pub fn begin(&self, state: u32) -> usize {
-        match (state as usize).checked_sub(1) {
-            Some(before) => place(&self.ends, before),
+    pub fn begin(&self, state: usize) -> usize
+        ensures { result ≡ first_edge self.now state }
+    {
+        match state.checked_sub(1) {
+            Some(before) => self.end(before),
             None => 0,
         }
     }
 
     /// The place after the last edge of a state.
-    pub fn end(&self, state: u32) -> usize {
-        place(&self.ends, state as usize)
-    }
-}
-
-fn place(places: &[usize], at: usize) -> usize {
-    match places.get(at) {
-        Some(place) => *place,
-        None => 0,
+    pub fn end(&self, state: usize) -> usize
+        ensures { result ≡ end_edge self.now state }
+    {
+        match self.ends.get(state) {
+            Some(place) => *place,
+            None => 0,
+        }
     }
 }

@@ -10,6 +10,7 @@ pub mod ranks;
 pub mod report;
 pub mod rounds;
 pub mod set;
+pub mod trails;
 pub mod waiting;
 pub mod watching;
 

@@ -9,6 +9,7 @@ ghost use Rattle.cp_endless.specs.Moments.{Moment};
 ghost use Rattle.cp_endless.specs.Silent.{has_monitor_return, in_call_on_slots, waits_on_slots};
 ghost use Rattle.cp_waits.specs.Passings.{HasSeen};
 ghost use Rattle.cp_waits.specs.Sets.{has};
+ghost use Rattle.cp_waits.specs.Keeps.{keeps, lacks};
 
 use crate::set::Set;
 use cp_machine::{Entry, State};
@@ -161,7 +162,9 @@ pub enum Keeping {
 
 impl Keeping {
     /// Whether it does so at each moment.
-    pub fn holds(self, passing: &Passing) -> bool {
+    pub fn holds(self, passing: &Passing) -> bool
+        ensures { result ≡ keeps self passing.now }
+    {
         match self {
             Keeping::Waiting(pid) => passing.wait.has(pid),
             Keeping::Inside(pid) => passing.stay.has(pid),
@@ -169,7 +172,9 @@ impl Keeping {
     }
 
     /// Whether some moment is asked for at which it waits, which is no moment of these.
-    pub fn lacks(self, waits: Set) -> bool {
+    pub fn lacks(self, waits: Set) -> bool
+        ensures { result ≡ lacks self waits }
+    {
         match self {
             Keeping::Waiting(_) => false,
             Keeping::Inside(pid) => !waits.has(pid),

@@ -1,29 +1,50 @@
 //! Ranks that show that a process does not wait for ever.
 
-use crate::components::{Part, Parts};
+ghost use Rattle.std.specs.Prelude.{◌≡◌, ◌↔◌, IsTrue, slice_get};
+ghost use Rattle.cp_waits.specs.Ranks.{AreRanks, IsRanked, IsPassedOver, rank_in, passed_over_in};
+ghost use Rattle.cp_waits.specs.Walks.{IsEdge};
+ghost use Rattle.cp_waits.specs.declared.graph.Edge.{Edge};
+
+use crate::components::Parts;
 use crate::graph::{Edge, Graph};
-use crate::passing::Keeping;
-use crate::set::Set;
+use crate::passing::{Keeping, Passing};
 
 /// Whether the numbers of the components are such ranks: while the process keeps doing this no choice raises them, and while a number
 /// stays some process is passed over, or the process is never seen to wait.
-pub fn are_ranks(graph: &Graph, parts: &Parts, keeping: Keeping) -> bool {
-    let everybody = graph.everybody();
-    let mut state = 0u32;
-    for _ in 0..graph.states() {
-        for place in graph.begin(state)..graph.end(state) {
-            if let Some(edge) = graph.edges.get(place)
-                && !is_ranked(parts, keeping, everybody, state, edge)
-            {
-                return false;
-            }
+pub fn are_ranks(graph: &Graph, parts: &Parts, keeping: Keeping) -> bool
+    ensures { IsTrue result ↔ AreRanks graph.now keeping (rank_in parts.now) (passed_over_in parts.now) }
+{
+    for state in 0..graph.states() {
+        if !is_state_ranked(graph, parts, keeping, state) {
+            return false;
         }
-        state = state.saturating_add(1);
     }
     true
 }
 
-fn is_ranked(parts: &Parts, keeping: Keeping, everybody: Set, state: u32, edge: &Edge) -> bool {
+fn is_state_ranked(graph: &Graph, parts: &Parts, keeping: Keeping, state: usize) -> bool
+    ensures { IsTrue result ↔ ((e : Edge) → IsEdge graph.now state e → IsRanked graph.now keeping (rank_in parts.now) (passed_over_in parts.now) state e) }
+{
+    for place in graph.begin(state)..graph.end(state) {
+        if !is_ranked_at(graph, parts, keeping, state, place) {
+            return false;
+        }
+    }
+    true
+}
+
+fn is_ranked_at(graph: &Graph, parts: &Parts, keeping: Keeping, state: usize, place: usize) -> bool
+    ensures { IsTrue result ↔ ((e : Edge) → slice_get graph.now.edges.items place ≡ Some e → IsRanked graph.now keeping (rank_in parts.now) (passed_over_in parts.now) state e) }
+{
+    match graph.edge(place) {
+        Some(edge) => is_ranked(graph, parts, keeping, state, &edge),
+        None => true,
+    }
+}
+
+fn is_ranked(graph: &Graph, parts: &Parts, keeping: Keeping, state: usize, edge: &Edge) -> bool
+    ensures { IsTrue result ↔ IsRanked graph.now keeping (rank_in parts.now) (passed_over_in parts.now) state edge.now }
+{
     let Some(to) = edge.to else {
         return true;
     };
@@ -31,21 +52,28 @@ fn is_ranked(parts: &Parts, keeping: Keeping, everybody: Set, state: u32, edge: 
         return true;
     }
     let before = parts.number_of(state);
-    let after = parts.number_of(to);
+    let after = parts.number_of(to as usize);
     if after != before {
         return after < before;
     }
-    match parts.part(before) {
-        Some(part) => is_passed_over(part, keeping, everybody, edge),
-        None => false,
-    }
+    let passed_over = parts.passed_over(before);
+    is_passed_over(graph.processes, keeping, passed_over, &edge.passing)
 }
 
-// Whether on the edge nobody is served whom the component passes over, or the process does not wait where it has to.
-fn is_passed_over(part: &Part, keeping: Keeping, everybody: Set, edge: &Edge) -> bool {
-    let passed_over = everybody.but(part.served);
-    if passed_over.is_empty() {
-        return keeping.lacks(part.wait_once) && keeping.lacks(edge.passing.wait_once);
+// Whether nobody is served whom the component passes over, or the process does not wait where it has to.
+fn is_passed_over(
+    processes: u8,
+    keeping: Keeping,
+    passed_over: Option<u8>,
+    passing: &Passing,
+) -> bool
+    ensures { IsTrue result ↔ IsPassedOver processes keeping passed_over passing.now }
+{
+    match passed_over {
+        Some(pid) => pid < processes && !passing.served.has(pid),
+        None => match keeping {
+            Keeping::Waiting(_) => false,
+            Keeping::Inside(pid) => !passing.wait_once.has(pid),
+        },
     }
-    passed_over.and(edge.passing.served).is_empty()
 }

@@ -1,9 +1,13 @@
 //! Words that lead through a component and back, and in which each process is served.
 
+ghost use Rattle.std.specs.Prelude.{IfOk, IfSome};
+ghost use Rattle.cp_waits.specs.Walks.{IsRound};
+
 use crate::components::{Parts, at, filled, set};
 use crate::graph::{Edge, Graph};
 use crate::passing::{Keeping, Passing};
 use crate::set::Set;
+use crate::trails::{Round, round_along};
 use std::alloc::{AllocError, Global};
 
 // What edges of a round are still looked for.
@@ -24,21 +28,14 @@ enum Aim {
     State(u32),
 }
 
-/// A word that leads back to where it began.
-#[derive(Drop)]
-pub struct Round {
-    pub word: Vec<u8>,
-    /// Those that make a step on it.
-    pub step: Set,
-}
-
 // A way through a component.
 #[derive(Drop)]
 struct Tour {
     keeping: Keeping,
     part: u32,
     state: u32,
-    round: Round,
+    // The places of the edges that were gone.
+    gone: Vec<usize>,
     wanted: Wanted,
     // Of each state that is come to, while a next edge is looked for: from which, by the edge at which place, and in which search.
     from: Vec<u32>,
@@ -83,13 +80,15 @@ pub fn round_in(
     keeping: Keeping,
     part: u32,
     first: u32,
-) -> Result<Option<Round>, AllocError> {
+) -> Result<Option<Round>, AllocError>
+    ensures { IfOk result (λ o. IfSome o (λ r. IsRound graph.now keeping first r.word.items)) }
+{
     let mut tour = tour_from(alloc, graph, keeping, part, first)?;
     // Each way but the last serves a process more, or has this one wait.
     for _ in 0..20 {
         let aim = if tour.wanted.is_nothing() {
-            if tour.state == first && !tour.round.word.is_empty() {
-                return Ok(Some(tour.round));
+            if tour.state == first && !tour.gone.is_empty() {
+                return round_along(alloc, graph, keeping, first as usize, tour.gone.as_slice());
             }
             Aim::State(first)
         } else {
@@ -118,10 +117,7 @@ fn tour_from(
         keeping,
         part,
         state: first,
-        round: Round {
-            word: Vec::new(alloc),
-            step: Set::nobody(),
-        },
+        gone: Vec::new(alloc),
         wanted: Wanted {
             processes: graph.everybody(),
             waits: match keeping {
@@ -150,7 +146,7 @@ impl Tour {
                 return Ok(false);
             };
             let state = *state;
-            for place in graph.begin(state)..graph.end(state) {
+            for place in graph.begin(state as usize)..graph.end(state as usize) {
                 let Some(edge) = graph.edges.get(place) else {
                     continue;
                 };
@@ -170,7 +166,7 @@ impl Tour {
     // Where an edge of the component leads.
     fn next_of(&self, parts: &Parts, edge: &Edge) -> Option<u32> {
         let to = edge.to?;
-        if self.keeping.holds(&edge.passing) && parts.number_of(to) == self.part {
+        if self.keeping.holds(&edge.passing) && parts.number_of(to as usize) == self.part {
             Some(to)
         } else {
             None
@@ -208,8 +204,7 @@ impl Tour {
         self.way.reverse();
         for place in &self.way {
             if let Some(edge) = graph.edges.get(*place) {
-                self.round.word.push(edge.number)?;
-                self.round.step = self.round.step.or(edge.passing.step);
+                self.gone.push(*place)?;
                 self.wanted = self.wanted.after(&edge.passing);
                 self.state = edge.to.unwrap_or(self.state);
             }

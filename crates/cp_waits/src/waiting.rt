@@ -1,5 +1,9 @@
 //! Who may wait for ever while others go on.
 
+ghost use Rattle.std.specs.Prelude.{◌≡◌, true, Contains, IfOk, IfSome, MatchOption};
+ghost use Rattle.cp_waits.specs.Lines.{SayWhoWaits, IsAnswer, IsLine, ShowsRound, StandsStillNever, NeverWaits};
+ghost use Rattle.cp_waits.specs.Sets.{has};
+
 use crate::components::{Part, Parts, parts_of};
 use crate::graph::{Graph, Standstill};
 use crate::passing::Keeping;
@@ -57,7 +61,9 @@ struct Fair {
 }
 
 /// Looks for each process whether it may wait for ever.
-pub fn who_waits(alloc: Global, graph: &Graph, states: &States) -> Result<Waits, AllocError> {
+pub fn who_waits(alloc: Global, graph: &Graph, states: &States) -> Result<Waits, AllocError>
+    ensures { IfOk result (λ waits. SayWhoWaits graph.now states.now waits) }
+{
     let mut list = Vec::new(alloc);
     for process in 0..graph.processes {
         match answer_of(alloc, graph, states, process)? {
@@ -74,7 +80,9 @@ fn answer_of(
     graph: &Graph,
     states: &States,
     process: u8,
-) -> Result<Answer, AllocError> {
+) -> Result<Answer, AllocError>
+    ensures { IfOk result (λ answer. IsAnswer graph.now states.now process answer) }
+{
     let keeping = Keeping::Waiting(process);
     let parts = parts_of(alloc, graph, keeping)?;
     let fair = fair_part(graph, &parts, keeping);
@@ -82,22 +90,66 @@ fn answer_of(
     if let Some(fair) = fair
         && (!fair.is_trap || still.is_none())
     {
-        return lasso(alloc, graph, states, &parts, keeping, fair);
+        return round_of(alloc, graph, states, &parts, process, fair);
     }
-    if let Some(still) = still {
-        return Ok(Answer::Yes(Waiting {
-            process,
-            first: states.word(alloc, still.origin)?,
-            again: Vec::new(alloc),
-            step: still.again.step,
-            how: How::ForGood,
-        }));
+    match still {
+        Some(still) => {
+            let waiting = standing_still(alloc, graph, states, process, &still)?;
+            Ok(Answer::Yes(waiting))
+        }
+        None => {
+            if !are_ranks(graph, &parts, keeping) {
+                return Ok(Answer::NotSettled);
+            }
+            answer_in_call(alloc, graph, states, process)
+        }
     }
-    if are_ranks(graph, &parts, keeping) {
-        answer_in_call(alloc, graph, states, process)
+}
+
+// The round of a process that waits in all of it.
+fn round_of(
+    alloc: Global,
+    graph: &Graph,
+    states: &States,
+    parts: &Parts,
+    process: u8,
+    fair: Fair,
+) -> Result<Answer, AllocError>
+    ensures { IfOk result (λ answer. IsAnswer graph.now states.now process answer) }
+{
+    let how = if fair.is_trap {
+        How::ForGood
     } else {
-        Ok(Answer::NotSettled)
-    }
+        How::Throughout
+    };
+    let keeping = Keeping::Waiting(process);
+    Ok(
+        match lasso(alloc, graph, states, parts, keeping, fair, process, how)? {
+            Some(waiting) => Answer::Yes(waiting),
+            None => Answer::NotSettled,
+        },
+    )
+}
+
+// A stretch in which a process waits goes on for ever without a choice.
+fn standing_still(
+    alloc: Global,
+    graph: &Graph,
+    states: &States,
+    process: u8,
+    still: &Standstill,
+) -> Result<Waiting, AllocError>
+    requires known { Contains graph.now.standstills.items still.now }
+    requires waits { has still.now.again.wait process ≡ true }
+    ensures { IfOk result (λ waiting. IsLine graph.now states.now process waiting) }
+{
+    Ok(Waiting {
+        process,
+        first: states.word(alloc, still.origin)?,
+        again: Vec::new(alloc),
+        step: still.again.step,
+        how: How::ForGood,
+    })
 }
 
 // The same of a process that waits in no round throughout.
@@ -106,17 +158,33 @@ fn answer_in_call(
     graph: &Graph,
     states: &States,
     process: u8,
-) -> Result<Answer, AllocError> {
+) -> Result<Answer, AllocError>
+    requires { NeverWaits graph.now process }
+    ensures { IfOk result (λ answer. IsAnswer graph.now states.now process answer) }
+{
     let keeping = Keeping::Inside(process);
     let parts = parts_of(alloc, graph, keeping)?;
-    match fair_part(graph, &parts, keeping) {
-        Some(fair) => lasso(alloc, graph, states, &parts, keeping, fair),
-        None => Ok(if are_ranks(graph, &parts, keeping) {
-            Answer::No
-        } else {
-            Answer::NotSettled
-        }),
-    }
+    let Some(fair) = fair_part(graph, &parts, keeping) else {
+        if are_ranks(graph, &parts, keeping) {
+            return Ok(Answer::No);
+        }
+        return Ok(Answer::NotSettled);
+    };
+    Ok(
+        match lasso(
+            alloc,
+            graph,
+            states,
+            &parts,
+            keeping,
+            fair,
+            process,
+            How::InItsCall,
+        )? {
+            Some(waiting) => Answer::Yes(waiting),
+            None => Answer::NotSettled,
+        },
+    )
 }
 
 // A fair component: no trap if there is such a one, and then the one that is come to first.
@@ -150,7 +218,9 @@ fn is_better(part: &Part, best: Option<Fair>) -> bool {
     }
 }
 
-fn standstill_of(graph: &Graph, process: u8) -> Option<Standstill> {
+fn standstill_of(graph: &Graph, process: u8) -> Option<Standstill>
+    ensures { MatchOption result (StandsStillNever graph.now process) (λ still. Contains graph.now.standstills.items still × (has still.again.wait process ≡ true)) }
+{
     for still in &graph.standstills {
         if still.again.wait.has(process) {
             return Some(*still);
@@ -167,23 +237,16 @@ fn lasso(
     parts: &Parts,
     keeping: Keeping,
     fair: Fair,
-) -> Result<Answer, AllocError> {
+    process: u8,
+    how: How,
+) -> Result<Option<Waiting>, AllocError>
+    ensures { IfOk result (λ found. IfSome found (λ waiting. (waiting.process ≡ process) × (waiting.how ≡ how) × ShowsRound graph.now states.now keeping waiting)) }
+{
     let found = round_in(alloc, graph, parts, keeping, fair.number, fair.first)?;
     let Some(round) = found else {
-        return Ok(Answer::NotSettled);
+        return Ok(None);
     };
-    let (process, how) = match keeping {
-        Keeping::Waiting(process) => (
-            process,
-            if fair.is_trap {
-                How::ForGood
-            } else {
-                How::Throughout
-            },
-        ),
-        Keeping::Inside(process) => (process, How::InItsCall),
-    };
-    Ok(Answer::Yes(Waiting {
+    Ok(Some(Waiting {
         process,
         first: states.word(alloc, states.origin(fair.first))?,
         again: round.word,

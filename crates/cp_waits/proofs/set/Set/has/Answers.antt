@@ -1,6 +1,6 @@
-use Rattle.std.proofs.Common.{◌≡◌, ◌<◌, ◌^◌, ℕ, not, nat_eq, ap, ◌∙◌, bit_and}
+use Rattle.std.proofs.Common.{◌<◌, ◌^◌, not, nat_eq, ap, ◌∙◌, bit_and}
 use Rattle.cp_waits.specs.Sets.{has}
-use Rattle.cp_waits.proofs.Sets.{alone, tests_bit}
+use Rattle.cp_waits.proofs.Sets.{tests_bit}
 use Rattle.cp_waits.proofs.set.Set.has.Goals as goal
 
 pub returns : goal.returns

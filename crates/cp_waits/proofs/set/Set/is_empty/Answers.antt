@@ -1,4 +1,3 @@
-use Rattle.std.proofs.Common.{ℕ}
 use Rattle.std.proofs.lemmas.Bool.{eqb-true, eq-eqb}
 use Rattle.cp_waits.proofs.Sets.{empty_has_none, none_is_empty}
 use Rattle.cp_waits.proofs.set.Set.is_empty.Goals as goal

@@ -1,4 +1,4 @@
-use Rattle.std.proofs.Common.{◌≡◌, ◌<◌, ◌||◌, ℕ, nat_eq, ap, ◌∙◌, bit_or}
+use Rattle.std.proofs.Common.{◌||◌, nat_eq, ap, ◌∙◌, bit_or}
 use Rattle.std.specs.Int.{bit_at}
 use Rattle.cp_waits.specs.Sets.{has}
 use Rattle.cp_waits.proofs.Sets.{or_has, alone_has}

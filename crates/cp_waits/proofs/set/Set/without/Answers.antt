@@ -1,4 +1,4 @@
-use Rattle.std.proofs.Common.{◌≡◌, ◌<◌, ◌&&◌, ℕ, not, nat_eq, ap, ◌∙◌}
+use Rattle.std.proofs.Common.{◌&&◌, not, ap, ◌∙◌}
 use Rattle.cp_waits.specs.Sets.{has}
 use Rattle.cp_waits.proofs.Sets.{alone_has}
 use Rattle.cp_waits.proofs.set.Set.without.Goals as goal

@@ -1,0 +1,15 @@
+-- Which states have edges.
+use Rattle.std.proofs.Common.{◌≡◌, ◌<◌, ℕ, length, arith, inl, inr}
+use Rattle.std.proofs.lemmas.Bool.{cases_lt}
+use Rattle.std.proofs.lemmas.List.{get_or_past}
+use Rattle.cp_waits.specs.declared.graph.Edge.{Edge}
+use Rattle.cp_waits.specs.declared.graph.Graph.{Graph}
+use Rattle.cp_waits.specs.Walks.{IsEdge, end_edge}
+
+-- there is no edge past the last state
+pub edge_within : (g : Graph) (i : ℕ) (e : Edge) → IsEdge g i e → i < length g.ends.items
+edge_within g i e edge =
+    elim (cases_lt i (length g.ends.items)) [
+      | inl within ↦ within
+      | inr past ↦ (let none : end_edge g i ≡ 0 = get_or_past g.ends.items i 0 past in let less : edge.0 < end_edge g i = edge.2 in absurd (omega arith))
+    ]

@@ -1,0 +1,8 @@
+use Rattle.std.proofs.Common.{◌<◌, ℕ}
+use Rattle.cp_waits.specs.declared.graph.Edge.{Edge}
+use Rattle.cp_waits.specs.Ranks.{IsRanked, rank_in, passed_over_in}
+use Rattle.cp_waits.specs.Walks.{IsEdge}
+use Rattle.cp_waits.proofs.ranks.are_ranks.Given as goal
+
+abbrev pub invariant-loop-state : goal.invariant-loop-state
+invariant-loop-state l = (i : ℕ) (e : Edge) → i < l.state → IsEdge l.graph i e → IsRanked l.graph l.keeping (rank_in l.parts) (passed_over_in l.parts) i e

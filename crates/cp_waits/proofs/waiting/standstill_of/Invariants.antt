@@ -1,0 +1,7 @@
+use Rattle.std.proofs.Common.{◌≡◌, ◌<◌, ℕ, false, get_or}
+use Rattle.cp_waits.specs.declared.graph.Standstill.{Standstill}
+use Rattle.cp_waits.specs.Sets.{has}
+use Rattle.cp_waits.proofs.waiting.standstill_of.Given as goal
+
+abbrev pub invariant-loop-still : goal.invariant-loop-still
+invariant-loop-still l = (k : ℕ) (s : Standstill) → k < l.still-index → get_or l.graph.standstills.items k s ≡ s → has s.again.wait l.process ≡ false

@@ -1,0 +1,85 @@
+-- What is said of who may wait for ever, and what it says of the graph.
+use Rattle.std.specs.Prelude.{◌≡◌, ◌⊎◌, ℕ, zero, suc, List, [], ◌∷◌, ◌++◌, Option, true, false, Contains}
+use Rattle.cp_slots.specs.Tables.{Tables}
+use Rattle.cp_machine.specs.System.{Machine}
+use Rattle.cp_ends.specs.Holds.{AreStates, IsWordOf, origin_at}
+use Rattle.cp_ends.specs.declared.origin.Origin.{Origin}
+use Rattle.cp_ends.specs.declared.states.States.{States}
+use Rattle.cp_waits.specs.declared.graph.Graph.{Graph}
+use Rattle.cp_waits.specs.declared.graph.Standstill.{Standstill}
+use Rattle.cp_waits.specs.declared.passing.Keeping.{Keeping}
+use Rattle.cp_waits.specs.declared.passing.Keeping.TheVariants as keeping
+use Rattle.cp_waits.specs.declared.waiting.Answer.{Answer}
+use Rattle.cp_waits.specs.declared.waiting.Answer.TheVariants as answer
+use Rattle.cp_waits.specs.declared.waiting.How.{How}
+use Rattle.cp_waits.specs.declared.waiting.How.TheVariants.{Throughout, ForGood, InItsCall}
+use Rattle.cp_waits.specs.declared.waiting.Waiting.{Waiting}
+use Rattle.cp_waits.specs.declared.waiting.Waits.{Waits}
+use Rattle.cp_waits.specs.declared.waiting.Waits.TheVariants.{Known, NotSettled}
+use Rattle.cp_waits.specs.Ranks.{AreRanks}
+use Rattle.cp_waits.specs.Sets.{has}
+use Rattle.cp_waits.specs.Walks.{IsRound}
+
+-- the word is the one of this origin, among those that were found
+abbrev pub IsWordFrom : States → Origin → List ℕ → Type 0
+IsWordFrom states origin word = (r : Tables) (list : List (Machine × List ℕ)) (w : List ℕ) → AreStates r states.known.entries list → IsWordOf list origin w → word ≡ w
+
+-- ---- yes
+
+-- the first word leads to a state of the graph, and the second one goes a round from it
+pub record ShowsRound (g : Graph) (states : States) (keeping : Keeping) (line : Waiting) : Type 0 where
+  pub state : ℕ
+  pub first : IsWordFrom states (origin_at states.known.entries state) line.first.items
+  pub again : IsRound g keeping state line.again.items
+
+-- the first word leads to a stretch that goes on for ever without a choice, and in which the process waits
+pub record ShowsStandstill (g : Graph) (states : States) (line : Waiting) : Type 0 where
+  pub still : Standstill
+  pub known : Contains g.standstills.items still
+  pub waits : has still.again.wait line.process ≡ true
+  pub first : IsWordFrom states still.origin line.first.items
+  pub again : line.again.items ≡ []
+
+-- ---- no
+
+-- the process does not keep doing this for ever
+abbrev pub HasRanks : Graph → Keeping → Type 0
+HasRanks g keeping = (rank : ℕ → ℕ) × (passed_over : ℕ → Option ℕ) × AreRanks g keeping rank passed_over
+
+-- in no stretch that goes on for ever without a choice does it wait
+abbrev pub StandsStillNever : Graph → ℕ → Type 0
+StandsStillNever g q = (still : Standstill) → Contains g.standstills.items still → has still.again.wait q ≡ false
+
+pub record NeverWaits (g : Graph) (q : ℕ) : Type 0 where
+  pub ranks : HasRanks g (keeping.Waiting q)
+  pub moves : StandsStillNever g q
+
+-- ---- the lines
+
+abbrev pub IsShown : Graph → States → Waiting → How → Type 0
+IsShown g states line Throughout = ShowsRound g states (keeping.Waiting line.process) line
+IsShown g states line ForGood = ShowsRound g states (keeping.Waiting line.process) line ⊎ ShowsStandstill g states line
+IsShown g states line InItsCall = ShowsRound g states (keeping.Inside line.process) line × NeverWaits g line.process
+
+-- a line of a process
+abbrev pub IsLine : Graph → States → ℕ → Waiting → Type 0
+IsLine g states q line = (line.process ≡ q) × IsShown g states line line.how
+
+-- a process has no line: it neither waits for ever, nor stays in its call for ever while it waits again and again
+abbrev pub HasNoLine : Graph → ℕ → Type 0
+HasNoLine g q = NeverWaits g q × HasRanks g (keeping.Inside q)
+
+abbrev pub IsAnswer : Graph → States → ℕ → Answer → Type 0
+IsAnswer g states q (answer.Yes line) = IsLine g states q line
+IsAnswer g states q answer.No = HasNoLine g q
+IsAnswer g states q answer.NotSettled = Unit {0}
+
+-- the lines of the processes below n, by number: each has one, or it is shown that it has none
+abbrev pub AreLines : Graph → States → ℕ → List Waiting → Type 0
+AreLines g states zero lines = lines ≡ []
+AreLines g states (suc n) lines =
+    (AreLines g states n lines × HasNoLine g n) ⊎ ((before : List Waiting) × (line : Waiting) × (lines ≡ before ++ line ∷ []) × AreLines g states n before × IsLine g states n line)
+
+abbrev pub SayWhoWaits : Graph → States → Waits → Type 0
+SayWhoWaits g states (Known lines) = AreLines g states g.processes lines.items
+SayWhoWaits g states (NotSettled q) = Unit {0}
