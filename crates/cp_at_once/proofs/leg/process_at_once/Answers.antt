@@ -1,4 +1,4 @@
-use Rattle.std.proofs.Common.{rules, ◌≡◌, ◌∙◌, ◌<◌, false, true, get_or, length, arith}
+use Rattle.std.proofs.Common.{rules, ◌≡◌, ◌∙◌, ◌<◌, false, true, get_or, length, sym, arith}
 use Rattle.cp_machine.specs.System.{machine_of, is_pending}
 use Rattle.cp_machine.proofs.CallerLemmas.{pending_is}
 use Rattle.cp_run.specs.Run.{may, those_below}
@@ -15,7 +15,7 @@ has_quiet_leg-requires-clause-ready g c =
     let all = c.as_slice-pid-items.result.now in
     let listed : all ≡ those_below sys.processes (may sys s) = c.as_slice-pid-items.ensures.value ∙ c.wanted-numbers.ensures in
     let lt : i < length all = omega arith in
-    let free : is_pending s ≡ false = pending_is s c.pending.result false c.pending.ensures c.if-is_some.ensures in
+    let free : is_pending s ≡ false = pending_is s c.pending.result false c.pending.ensures (sym c.if-is_some.ensures) in
     let on = may_be_ready sys s (get_or all i 0) free (may_those sys s all listed i lt) in
     search (rules, on)
 

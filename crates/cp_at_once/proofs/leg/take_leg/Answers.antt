@@ -16,7 +16,7 @@ loop-preserved g c =
           record {
             own = subst (IsStateOf r) (sym w.state-is) w.step-event.ensures.own;
             ready = ap (λ s. is_ready (machine_of s) p) w.state-is ∙ local_ready r m (machine_of w.step-event.new.state) p Local (ready_thread m p ready) ready w.in-Local.ensures.after refl;
-            free = ap (λ s. is_pending (machine_of s)) w.state-is ∙ pending_is (machine_of w.step-event.new.state) w.pending.result false w.pending.ensures w.if-is_some.ensures;
+            free = ap (λ s. is_pending (machine_of s)) w.state-is ∙ pending_is (machine_of w.step-event.new.state) w.pending.result false w.pending.ensures (sym w.if-is_some.ensures);
           }
       | else-not-local_step w ↦
           record {
