@@ -12,7 +12,7 @@ pub record IsQuietKey (r : Tables) (key : StateKey) : Type 0 where
   pub machine : Machine
   pub own : IsMachineOf r machine
   pub quiet : machine.output ≡ []
-  pub key : key.bytes.items ≡ key_of machine
+  pub bytes : key.bytes.items ≡ key_of machine
 
 abbrev pub AreKept : Tables → List (StateKey × Origin) → Type 0
 AreKept r entries = All (λ e. IsQuietKey r e.0) entries

@@ -35,7 +35,10 @@ fn take_leg<S: Ledger>(
     for _ in 0..limits.steps {
         if !local_step(program, state, pid, steps) {
             let event = step(program, state, pid, steps);
-            if event != Event::Local {
+            let Event::Local = event else {
+                return event;
+            };
+            if state.pending().is_some() {
                 return event;
             }
         }

@@ -75,10 +75,13 @@ fn searched<S: Ledger>(
         Origin::start(),
         &mut steps,
     )?;
-    search.found.is_whole = is_room
-        && search.go_on(
-            alloc, program, limits, most, &mut state, &mut next, &mut steps,
-        )?;
+    if !is_room {
+        return Ok(search.found);
+    }
+    let is_whole = search.go_on(
+        alloc, program, limits, most, &mut state, &mut next, &mut steps,
+    )?;
+    search.found.is_whole = is_whole;
     Ok(search.found)
 }
 

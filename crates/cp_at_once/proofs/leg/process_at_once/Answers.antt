@@ -1,0 +1,31 @@
+use Rattle.std.proofs.Common.{rules, ◌≡◌, ◌∙◌, ◌<◌, false, true, get_or, length, sym, arith}
+use Rattle.cp_machine.specs.System.{machine_of, is_pending}
+use Rattle.cp_machine.proofs.CallerLemmas.{pending_is}
+use Rattle.cp_run.specs.Run.{may, those_below}
+use Rattle.cp_run.specs.Slots.{slots}
+use Rattle.cp_run.proofs.Choosing.{may_be_ready}
+use Rattle.cp_ends.proofs.Wanted.{may_those}
+use Rattle.cp_at_once.proofs.leg.process_at_once.Goals as goal
+
+pub has_quiet_leg-requires-clause-ready : goal.has_quiet_leg-requires-clause-ready
+has_quiet_leg-requires-clause-ready g c =
+    let s = machine_of c.args.state.now in
+    let sys = slots c.args.program.now c.args.limits.gates in
+    let i = c.loop-pid.pid-index in
+    let all = c.as_slice-pid-items.result.now in
+    let listed : all ≡ those_below sys.processes (may sys s) = c.as_slice-pid-items.ensures.value ∙ c.wanted-numbers.ensures in
+    let lt : i < length all = omega arith in
+    let free : is_pending s ≡ false = pending_is s c.pending.result false c.pending.ensures (sym c.if-is_some.ensures) in
+    let on = may_be_ready sys s (get_or all i 0) free (may_those sys s all listed i lt) in
+    search (rules, on)
+
+pub returns-then-has_quiet_leg-clause-may : goal.returns-then-has_quiet_leg-clause-may
+returns-then-has_quiet_leg-clause-may g c =
+    let s = machine_of c.args.state.now in
+    let sys = slots c.args.program.now c.args.limits.gates in
+    let i = c.loop-pid.pid-index in
+    let all = c.as_slice-pid-items.result.now in
+    let listed : all ≡ those_below sys.processes (may sys s) = c.as_slice-pid-items.ensures.value ∙ c.wanted-numbers.ensures in
+    let lt : i < length all = omega arith in
+    let on : may sys s (get_or all i 0) ≡ true = may_those sys s all listed i lt in
+    search (rules, on)
