@@ -14,7 +14,6 @@ use Rattle.cp_run.specs.System.{System}
 use Rattle.cp_run.specs.Table.{Line, table}
 use Rattle.cp_run.specs.Trace.{trace}
 use Rattle.cp_run.specs.declared.line.TraceLine.{TraceLine}
-use Rattle.cp_refine.specs.Excluding.{RunsExclude}
 use Rattle.cp_refine.specs.Law.{SameRuns}
 use Rattle.cp_refine.specs.Named.{named, named_gates}
 use Rattle.cp_refine.proofs.Excluding.{runs_exclude}
@@ -22,7 +21,7 @@ use Rattle.cp_refine.proofs.Meaning.{runs_as_meant}
 use Rattle.cp_resolved.proofs.Resolving.{read_names}
 use Rattle.cp_walk.specs.Text.{Spellings}
 use Rattle.cp_walk.specs.TraceText.{trace_text}
-use Rattle.cp_tool.specs.Answered.{IsReported, IsTraced, IsExplored}
+use Rattle.cp_tool.specs.Answered.{IsReported, IsTraced, IsExplored, IsExploredAlone}
 use Rattle.cp_tool.specs.Merged.{IsMerged, IsMergedOf}
 use Rattle.cp_tool.specs.OnSlots.{IsExploredOn, machine, machine_rows}
 use Rattle.cp_tool.specs.declared.options.Options.{Options}
@@ -65,5 +64,5 @@ module _ (t : Tree) (r : Tables) (o : Options) (verdict : Verdict) (text : List 
   explored_so : IsExploredOn o r verdict text → IsExplored o t verdict text
   explored_so h = by_schedule o.schedule (constant_names t.program) (subst (OnSlots o.schedule) (read_names t r read ok is.laid) h)
 
-  pub explored : IsExploredOn o r verdict text → IsExplored o t verdict text × RunsExclude (named t (named_gates o.gates)) o.choices o.steps
+  pub explored : IsExploredOn o r verdict text → IsExploredAlone o t verdict text
   explored h = (explored_so h, runs_exclude t r (named_gates o.gates) read ok is.laid o.choices o.steps)

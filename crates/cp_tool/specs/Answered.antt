@@ -29,7 +29,7 @@ use Rattle.cp_tool.specs.Merged.{IsMergedOf}
 use Rattle.cp_tool.specs.Refusals.{refusal, scan_reason, parse_reason, check_reason}
 use Rattle.cp_tool.specs.declared.options.Options.{Options}
 use Rattle.cp_tool.specs.declared.answering.Verdict.{Verdict}
-use Rattle.cp_tool.specs.declared.answering.Verdict.TheVariants.{Reported, Refused, TooManyRows, TooManyStates, TooManyOutcomes}
+use Rattle.cp_tool.specs.declared.answering.Verdict.TheVariants.{Reported, Refused, TooManyRows, TooManyStates, TooManyOutcomes, NotSettled}
 use Rattle.cp_tool.specs.declared.answering.Ending.{Ending}
 use Rattle.cp_tool.specs.declared.answering.Ending.TheVariants.{Told, OutOfMemory, ReadFailed, WriteFailed}
 
@@ -59,10 +59,20 @@ IsExplored o t verdict text =
     let rows = table meaning o.choices o.steps in
     MatchOption o.schedule (MatchBool o.merge (IsMergedOf o t names rows verdict text) (IsReported o names rows verdict text)) (λ word. IsTraced o meaning names word.items verdict text)
 
--- A tree is refused for the first rule that it breaks, or its program is explored, of which no run lets two processes into one monitor.
-abbrev pub AnswersTree : Options → List Token → Tree → Verdict → List ℕ → Type 0
-AnswersTree o tokens t verdict text =
-    ((faults_of t ≡ []) × IsExplored o t verdict text × RunsExclude (named t (named_gates o.gates)) o.choices o.steps)
+-- the same, and that no run of the program lets two processes into one monitor
+abbrev pub IsExploredAlone : Options → Tree → Verdict → List ℕ → Type 0
+IsExploredAlone o t verdict text = IsExplored o t verdict text × RunsExclude (named t (named_gates o.gates)) o.choices o.steps
+
+-- ---- from a source to its program
+
+-- what is answered to the tree of a program that is accepted
+abbrev pub Answering : Type 1
+Answering = Tree → Verdict → List ℕ → Type 0
+
+-- A tree is refused for the first rule that it breaks, or its program is answered.
+abbrev pub AnswersTree : Answering → List Token → Tree → Verdict → List ℕ → Type 0
+AnswersTree P tokens t verdict text =
+    ((faults_of t ≡ []) × P t verdict text)
     ⊎ ((fault : CheckFault) × RefusesList fault (faults_of t) × IsRefusedAt tokens (check_reason fault) verdict text)
 
 -- the tree of these tokens: a proper one that spells them, with their lines
@@ -77,18 +87,20 @@ pub record HaveNoTree (tokens : List Token) (fault : ParseFault) : Type 0 where
   pub read : answer (kinds tokens) ≡ Err fault
 
 -- The tree of the tokens is answered, or they are refused as no program.
-abbrev pub AnswersTokens : Options → List Token → Verdict → List ℕ → Type 0
-AnswersTokens o tokens verdict text =
-    ((t : Tree) × IsTreeOf tokens t × AnswersTree o tokens t verdict text)
+abbrev pub AnswersTokens : Answering → List Token → Verdict → List ℕ → Type 0
+AnswersTokens P tokens verdict text =
+    ((t : Tree) × IsTreeOf tokens t × AnswersTree P tokens t verdict text)
     ⊎ ((fault : ParseFault) × HaveNoTree tokens fault × IsRefusedAt tokens (parse_reason fault) verdict text)
 
-abbrev pub AnswersScanned : Options → Result (List Token) ScanFault → Verdict → List ℕ → Type 0
-AnswersScanned o (Ok tokens) verdict text = AnswersTokens o tokens verdict text
-AnswersScanned o (Err fault) verdict text = IsRefusedIn fault.line (scan_reason fault.cause) verdict text
+abbrev pub AnswersScanned : Answering → Result (List Token) ScanFault → Verdict → List ℕ → Type 0
+AnswersScanned P (Ok tokens) verdict text = AnswersTokens P tokens verdict text
+AnswersScanned P (Err fault) verdict text = IsRefusedIn fault.line (scan_reason fault.cause) verdict text
 
 -- A text is refused as it is scanned, or its tokens are answered.
-abbrev pub AnswersSource : Options → List ℕ → Verdict → List ℕ → Type 0
-AnswersSource o source verdict text = (scanned : Result (List Token) ScanFault) × Reading source scanned × AnswersScanned o scanned verdict text
+abbrev pub AnswersSource : Answering → List ℕ → Verdict → List ℕ → Type 0
+AnswersSource P source verdict text = (scanned : Result (List Token) ScanFault) × Reading source scanned × AnswersScanned P scanned verdict text
+
+-- ---- what is written
 
 -- the exit code
 abbrev pub code_of : Ending → ℕ
@@ -97,6 +109,7 @@ code_of (Told Refused) = 1
 code_of (Told TooManyRows) = 5
 code_of (Told TooManyStates) = 5
 code_of (Told TooManyOutcomes) = 5
+code_of (Told NotSettled) = 5
 code_of OutOfMemory = 3
 code_of ReadFailed = 4
 code_of WriteFailed = 4
@@ -116,16 +129,16 @@ IsWritten old new verdict text OutOfMemory = ⊥
 IsWritten old new verdict text ReadFailed = ⊥
 
 -- the answer to these bytes, of which no more than one beyond a source's limit are read
-abbrev pub AnswersThen : Options → List ℕ → (Verdict → List ℕ → Type 0) → Type 0
-AnswersThen o bytes P = (verdict : Verdict) × (text : List ℕ) × AnswersSource o (take 65536 bytes) verdict text × P verdict text
+abbrev pub AnswersThen : Answering → List ℕ → (Verdict → List ℕ → Type 0) → Type 0
+AnswersThen P bytes Q = (verdict : Verdict) × (text : List ℕ) × AnswersSource P (take 65536 bytes) verdict text × Q verdict text
 
 -- What stands after a call, where the bytes that the reader gives are known; nothing is written without an answer.
-abbrev pub TellsOf : Options → List ℕ → Option (List ℕ) → Option (List ℕ) → Ending → Type 0
-TellsOf o bytes old new (Told told) = AnswersThen o bytes (λ verdict text. IsWritten old new verdict text (Told told))
-TellsOf o bytes old new WriteFailed = AnswersThen o bytes (λ verdict text. IsWritten old new verdict text WriteFailed)
-TellsOf o bytes old new OutOfMemory = new ≡ old
-TellsOf o bytes old new ReadFailed = new ≡ old
+abbrev pub TellsOf : Answering → List ℕ → Option (List ℕ) → Option (List ℕ) → Ending → Type 0
+TellsOf P bytes old new (Told told) = AnswersThen P bytes (λ verdict text. IsWritten old new verdict text (Told told))
+TellsOf P bytes old new WriteFailed = AnswersThen P bytes (λ verdict text. IsWritten old new verdict text WriteFailed)
+TellsOf P bytes old new OutOfMemory = new ≡ old
+TellsOf P bytes old new ReadFailed = new ≡ old
 
-abbrev pub Tells : Options → Option (List ℕ) → Option (List ℕ) → Option (List ℕ) → Ending → Type 0
-Tells o None old new ending = Unit {0}
-Tells o (Some bytes) old new ending = TellsOf o bytes old new ending
+abbrev pub Tells : Answering → Option (List ℕ) → Option (List ℕ) → Option (List ℕ) → Ending → Type 0
+Tells P None old new ending = Unit {0}
+Tells P (Some bytes) old new ending = TellsOf P bytes old new ending

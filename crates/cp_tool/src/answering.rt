@@ -34,7 +34,7 @@ use std::thread::Threads;
 /// How a call of the program ended, as its exit code.
 #[derive(Clone, Copy, PartialEq, Eq)]
 pub struct Status {
-    /// 0 reported, 1 source refused, 3 memory refused, 4 read or write fault, 5 too many rows, states or outcomes.
+    /// 0 reported, 1 source refused, 3 memory refused, 4 read or write fault, 5 too many rows, states or outcomes, or not settled.
     pub code: u8,
 }
 
@@ -46,6 +46,8 @@ pub enum Verdict {
     TooManyRows,
     TooManyStates,
     TooManyOutcomes,
+    /// It is not settled who may wait for ever.
+    NotSettled,
 }
 
 /// How an exploration of a stream ended.
@@ -63,12 +65,13 @@ pub enum Ending {
 
 /// A text, and what it tells.
 #[derive(Drop)]
-struct Answer {
-    verdict: Verdict,
-    text: Text,
+pub struct Answer {
+    pub verdict: Verdict,
+    pub text: Text,
 }
 
-fn code_of(ending: Ending) -> u8
+/// The exit code of an ending.
+pub fn code_of(ending: Ending) -> u8
     ensures { result ≡ spec.code_of ending }
 {
     match ending {
@@ -77,6 +80,7 @@ fn code_of(ending: Ending) -> u8
         Ending::Told(Verdict::TooManyRows) => 5,
         Ending::Told(Verdict::TooManyStates) => 5,
         Ending::Told(Verdict::TooManyOutcomes) => 5,
+        Ending::Told(Verdict::NotSettled) => 5,
         Ending::OutOfMemory => 3,
         Ending::ReadFailed => 4,
         Ending::WriteFailed => 4,
@@ -95,7 +99,7 @@ pub fn explore_stream<X: Threads + Sync, R: Source, W: Sink>(
     sink: &mut W,
 ) -> Status
     // What is written is the answer to what was read, and nothing else; status 4 comes exactly where a call failed or took nothing.
-    ensures told { (ending : Ending) × (result.code ≡ spec.code_of ending) × spec.Tells options.now (R.remaining source.old) (W.contents sink.old) (W.contents sink.new) ending × (R.failed_reads source.new + (W.failed_writes sink.new + W.empty_writes sink.new) ≡ R.failed_reads source.old + (W.failed_writes sink.old + W.empty_writes sink.old) + spec.faults_of_ending ending) }
+    ensures told { (ending : Ending) × (result.code ≡ spec.code_of ending) × spec.Tells (spec.IsExploredAlone options.now) (R.remaining source.old) (W.contents sink.old) (W.contents sink.new) ending × (R.failed_reads source.new + (W.failed_writes sink.new + W.empty_writes sink.new) ≡ R.failed_reads source.old + (W.failed_writes sink.old + W.empty_writes sink.old) + spec.faults_of_ending ending) }
     ensures reads { R.reads source.new ≤ R.reads source.old + 65536 }
 {
     Status {
@@ -110,7 +114,7 @@ fn streamed<X: Threads + Sync, R: Source, W: Sink>(
     source: &mut R,
     sink: &mut W,
 ) -> Ending
-    ensures told { spec.Tells options.now (R.remaining source.old) (W.contents sink.old) (W.contents sink.new) result }
+    ensures told { spec.Tells (spec.IsExploredAlone options.now) (R.remaining source.old) (W.contents sink.old) (W.contents sink.new) result }
     ensures faults { R.failed_reads source.new + (W.failed_writes sink.new + W.empty_writes sink.new) ≡ R.failed_reads source.old + (W.failed_writes sink.old + W.empty_writes sink.old) + spec.faults_of_ending result }
     ensures reads { R.reads source.new ≤ R.reads source.old + 65536 }
 {
@@ -125,7 +129,7 @@ fn streamed<X: Threads + Sync, R: Source, W: Sink>(
 }
 
 /// Writes an answer.
-fn written<W: Sink>(sink: &mut W, answer: &Answer) -> Ending
+pub fn written<W: Sink>(sink: &mut W, answer: &Answer) -> Ending
     ensures written { spec.IsWritten (W.contents sink.old) (W.contents sink.new) answer.now.verdict answer.now.text result }
     ensures faults { W.failed_writes sink.new + W.empty_writes sink.new ≡ W.failed_writes sink.old + W.empty_writes sink.old + spec.faults_of_ending result }
 {
@@ -142,7 +146,7 @@ fn answered<X: Threads + Sync>(
     options: &Options,
     source: &[u8],
 ) -> Result<Answer, AllocError>
-    ensures { IfOk result (λ a. spec.AnswersSource options.now source.now a.verdict a.text) }
+    ensures { IfOk result (λ a. spec.AnswersSource (spec.IsExploredAlone options.now) source.now a.verdict a.text) }
 {
     match scan(alloc, source) {
         Ok(tokens) => parsed(rt, alloc, options, &tokens),
@@ -157,7 +161,7 @@ fn parsed<X: Threads + Sync>(
     options: &Options,
     tokens: &Tokens,
 ) -> Result<Answer, AllocError>
-    ensures { IfOk result (λ a. spec.AnswersTokens options.now tokens.now a.verdict a.text) }
+    ensures { IfOk result (λ a. spec.AnswersTokens (spec.IsExploredAlone options.now) tokens.now a.verdict a.text) }
 {
     match parse(alloc, tokens) {
         Ok(tree) => checked(rt, alloc, options, tokens, tree),
@@ -173,7 +177,7 @@ fn checked<X: Threads + Sync>(
     tokens: &Tokens,
     tree: Tree,
 ) -> Result<Answer, AllocError>
-    ensures { IfOk result (λ a. spec.AnswersTree options.now tokens.now (tree_view tree) a.verdict a.text) }
+    ensures { IfOk result (λ a. spec.AnswersTree (spec.IsExploredAlone options.now) tokens.now (tree_view tree) a.verdict a.text) }
 {
     match check(alloc, tree) {
         Ok(checked) => {
@@ -191,7 +195,8 @@ fn checked<X: Threads + Sync>(
     }
 }
 
-fn refused(alloc: Global, line: u32, reason: Option<&str>) -> Result<Answer, AllocError>
+/// The refusal in a line, if there is a reason.
+pub fn refused(alloc: Global, line: u32, reason: Option<&str>) -> Result<Answer, AllocError>
     ensures { IfOk result (λ a. spec.IsRefusedIn line (option_map (λ s. s.now) reason.entry) a.verdict a.text) }
 {
     let Some(reason) = reason else {
@@ -204,7 +209,7 @@ fn refused(alloc: Global, line: u32, reason: Option<&str>) -> Result<Answer, All
 }
 
 /// The refusal at a token, or at the last one for the end of the source.
-fn refused_at(
+pub fn refused_at(
     alloc: Global,
     tokens: &Tokens,
     reason: Option<(usize, &str)>,

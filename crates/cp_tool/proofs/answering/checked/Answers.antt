@@ -12,4 +12,4 @@ returns-in_ok-program-in-Ok g c =
     let t = c.args.tree in
     let ok = c.in-Ok.ensures.accepted in
     let is : IsProgramOf (tree_view t) program = subst (λ (x : tree.Tree). IsProgramOf (tree_view x) program) c.in-Ok.ensures.same c.in_ok-program-in-Ok.ensures in
-    IfOk-weaker c.explored-answer.result _ _ (λ a h. (let e = explored (tree_view t) program c.args.options.now a.verdict a.text t.read ok is h in inl (ok, e.0, e.1))) c.explored-answer.ensures
+    IfOk-weaker c.explored-answer.result _ _ (λ a h. (inl (ok, explored (tree_view t) program c.args.options.now a.verdict a.text t.read ok is h))) c.explored-answer.ensures

@@ -1,4 +1,5 @@
 use Rattle.std.proofs.Common.{◌≡◌, take, IfSome, subst, sym}
+use Rattle.cp_tool.specs.Answered.{IsExploredAlone}
 use Rattle.cp_tool.proofs.Telling.{tells}
 use Rattle.cp_tool.proofs.answering.streamed.Goals as goal
 
@@ -6,6 +7,6 @@ pub returns-in-Ok-answered-clause-told : goal.returns-in-Ok-answered-clause-told
 returns-in-Ok-answered-clause-told g c =
     let read = c.deref.result.now in
     let known = g.R.Source.remaining c.args.source.now in
-    tells c.args.options.now known read _ _ c.in-Ok-answered.answer.verdict c.in-Ok-answered.answer.text c.written.result
+    tells (IsExploredAlone c.args.options.now) known read _ _ c.in-Ok-answered.answer.verdict c.in-Ok-answered.answer.text c.written.result
     (subst (λ r. IfSome known (λ bytes. r ≡ take 65536 bytes)) (sym c.deref.ensures.value) c.in-Ok.ensures.bytes)
     c.in-Ok-answered.ensures c.written.ensures.written
