@@ -82,11 +82,7 @@ fn ends_within(alloc: Global, found: &Found, most: usize) -> Result<Vec<KnownEnd
 }
 
 // The values that words display that are not too long.
-fn values_within(
-    alloc: Global,
-    found: &Found,
-    most: usize,
-) -> Result<Vec<KnownValue>, AllocError> {
+fn values_within(alloc: Global, found: &Found, most: usize) -> Result<Vec<KnownValue>, AllocError> {
     let mut values = Vec::new(alloc);
     for value in &found.values {
         let word = found.states.word(alloc, value.origin)?;

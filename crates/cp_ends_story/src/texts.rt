@@ -122,7 +122,14 @@ fn push_ends<L: Ledger>(
 ) -> Result<(), AllocError> {
     let mut lines = String::new(alloc);
     for end in &findings.ends {
-        push_end(alloc, subject, &mut lines, end, before_word(findings), ticks)?;
+        push_end(
+            alloc,
+            subject,
+            &mut lines,
+            end,
+            before_word(findings),
+            ticks,
+        )?;
     }
     if findings.ends.is_empty() {
         return Ok(());
@@ -365,7 +372,9 @@ fn push_last(
             let before = "complete with kernel calls at once (tested, not proved): ";
             push_complete(subject, text, findings, before, count)?;
             if subject.waits {
-                text.push_str("try greater --states, which it takes to tell who may wait for ever\n")?;
+                text.push_str(
+                    "try greater --states, which it takes to tell who may wait for ever\n",
+                )?;
             }
             Ok(())
         }

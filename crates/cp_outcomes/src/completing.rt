@@ -42,12 +42,7 @@ pub fn greatest_known(alloc: Global, job: Job, most: u32) -> Result<Option<Known
 }
 
 // The outcomes for so many choices, if there is not too much.
-fn known_with(
-    alloc: Global,
-    job: Job,
-    most: u32,
-    choices: u8,
-) -> Result<Option<Known>, AllocError>
+fn known_with(alloc: Global, job: Job, most: u32, choices: u8) -> Result<Option<Known>, AllocError>
     requires { choices < job.limits.choices }
     ensures { IfOk result (λ known. IfSome known (IsKnownOf (slots job.entry.program.now job.entry.limits.gates) job.entry.limits.choices job.entry.limits.steps)) }
 {

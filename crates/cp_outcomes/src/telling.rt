@@ -55,8 +55,7 @@ fn excess_written(
             Form::Json => excess_json(alloc, excess, None),
         };
     };
-    let Some(limits) = Limits::new(known.choices, subject.limits.steps, subject.limits.gates)
-    else {
+    let Some(limits) = Limits::new(known.choices, subject.limits.steps, subject.limits.gates) else {
         unreachable!()
     };
     let fewer = Subject { limits, ..subject };

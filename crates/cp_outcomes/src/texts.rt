@@ -117,7 +117,11 @@ fn push_tally<L: Ledger>(
     match tally.outcome.kind {
         OutcomeKind::AllWaiting => {
             for wait in &waits_of(alloc, subject, tally.first.as_slice(), ticks)? {
-                push_line(text, width, wait_words(alloc, subject.legend, wait)?.as_str())?;
+                push_line(
+                    text,
+                    width,
+                    wait_words(alloc, subject.legend, wait)?.as_str(),
+                )?;
             }
             Ok(())
         }

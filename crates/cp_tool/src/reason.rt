@@ -66,7 +66,10 @@ pub fn word_reason(
     if word.starts_with('-') {
         return format!(in alloc; "{word}: there is no such option");
     }
-    format!(in alloc; "{word}: the program is read from standard input: {} < {word}, or {} {word}", reading.program, reading.script)
+    format!(in alloc;
+        "{word}: the program is read from standard input: {} < {word}, or {} {word}",
+        reading.program, reading.script
+    )
 }
 
 // The first line of a message, without the word with which it begins.
@@ -176,11 +179,7 @@ fn choices_reason(alloc: Global, matches: &ArgMatches<'_>) -> Result<String, All
 }
 
 // Why a number is not in its range, if it isn't.
-fn number_reason(
-    alloc: Global,
-    text: Option<&str>,
-    range: Range,
-) -> Result<String, AllocError> {
+fn number_reason(alloc: Global, text: Option<&str>, range: Range) -> Result<String, AllocError> {
     let Some(text) = text else {
         return Ok(String::new(alloc));
     };
@@ -206,7 +205,9 @@ fn schedule_reason(alloc: Global, matches: &ArgMatches<'_>) -> Result<String, Al
     if !merges && word_of(alloc, text, 100)?.is_some() {
         return format!(in alloc; "--schedule {text}: at most 20 numbers without --merge or --ends");
     }
-    format!(in alloc; "--schedule {text}: `none`, or up to {most} numbers 0 to 15 joined by periods")
+    format!(in alloc;
+        "--schedule {text}: `none`, or up to {most} numbers 0 to 15 joined by periods"
+    )
 }
 
 fn gates_reason(alloc: Global, matches: &ArgMatches<'_>) -> Result<String, AllocError> {

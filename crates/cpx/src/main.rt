@@ -79,10 +79,7 @@ fn asked(rt: &HostRuntime) -> Result<Asked, AllocError> {
         Err(error) => {
             return match error.kind() {
                 ErrorKind::OutOfMemory => Err(AllocError),
-                _ => Ok(Asked::Refused(String::from_str(
-                    alloc,
-                    "a word is no text in UTF-8",
-                )?)),
+                _ => Ok(Asked::Refused(String::from_str(alloc, "a word is no text in UTF-8")?)),
             };
         }
     };

@@ -238,12 +238,8 @@ fn shown(
     let lines = lines_of(alloc, source)?;
     match &asked.part {
         Part::Trace { .. } | Part::Lanes => shown_once(alloc, asked, program, legend, &lines),
-        Part::Outcomes { json } => {
-            surveyed(alloc, options, program, legend, &lines, *json)
-        }
-        Part::Ends { json } => {
-            ended(alloc, options, program, legend, &lines, *json)
-        }
+        Part::Outcomes { json } => { surveyed(alloc, options, program, legend, &lines, *json) }
+        Part::Ends { json } => { ended(alloc, options, program, legend, &lines, *json) }
         Part::Mark(words) => marked(alloc, options, program, legend, words.as_str(), source),
         Part::Refusal => explained(alloc, source),
     }
@@ -278,11 +274,7 @@ fn shown_once(
 }
 
 // The schedule that is given, or the first one of the outcome that is.
-fn schedule_asked(
-    alloc: Global,
-    asked: &Asked,
-    program: &Resolved,
-) -> Result<First, AllocError> {
+fn schedule_asked(alloc: Global, asked: &Asked, program: &Resolved) -> Result<First, AllocError> {
     let options = &asked.options;
     let Some(number) = asked.outcome else {
         return Ok(First::Word(word_of(word_given(options))));

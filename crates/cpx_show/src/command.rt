@@ -57,9 +57,9 @@ fn described<'a>(alloc: Global) -> Command<'a> {
 }
 
 fn trace<'a>(alloc: Global) -> Result<Command<'a>, AllocError> {
-    let command = Command::new(alloc, "trace")
-        .about(TRACE)
-        .override_usage("cpx_show trace --schedule WORD|--outcome N [OPTIONS] < PROGRAM");
+    let command = Command::new(alloc, "trace").about(TRACE).override_usage(
+        "cpx_show trace --schedule WORD|--outcome N [OPTIONS] < PROGRAM",
+    );
     Ok(with_schedule(alloc, command)?.arg(json(alloc))?)
 }
 

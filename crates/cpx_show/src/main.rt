@@ -75,10 +75,7 @@ fn read_words(rt: &HostRuntime) -> Result<Wish, AllocError> {
         Err(error) => {
             return match error.kind() {
                 ErrorKind::OutOfMemory => Err(AllocError),
-                _ => Ok(Wish::Refused(String::from_str(
-                    alloc,
-                    "a word is no text in UTF-8",
-                )?)),
+                _ => Ok(Wish::Refused(String::from_str(alloc, "a word is no text in UTF-8")?)),
             };
         }
     };

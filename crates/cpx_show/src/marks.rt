@@ -116,7 +116,10 @@ fn judged(
         }),
         Err(MarkFault::Memory) => Err(AllocError),
         Err(MarkFault::TooManyStates) => {
-            let said = format!(in alloc; "too many states: a layer may have {}\ntry greater --states, or mark --ends\n", options.states)?;
+            let said = format!(in alloc;
+                "too many states: a layer may have {}\ntry greater --states, or mark --ends\n",
+                options.states
+            )?;
             too_many(alloc, job, options.states, expectations, said)
         }
         Err(MarkFault::TooManyOutcomes) => {
