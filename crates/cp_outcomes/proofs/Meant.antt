@@ -13,7 +13,7 @@ use Rattle.cp_merged.specs.TooMany.{HasTooManyOutcomes, MoreThan}
 use Rattle.cp_refine.proofs.Meaning.{runs_as_meant}
 use Rattle.cp_outcomes.specs.Findings.{IsFoundOf, IsExcessOf, IsKnownOf}
 use Rattle.cp_outcomes.specs.Meant.{IsExcessIn, IsFoundIn, IsMeantFinding}
-use Rattle.cp_outcomes.specs.declared.completing.Known.{Known}
+use Rattle.cp_outcomes.specs.declared.known.Known.{Known}
 use Rattle.cp_outcomes.specs.declared.subject.Excess.{Excess}
 use Rattle.cp_outcomes.specs.declared.subject.Excess.TheVariants.{States, Outcomes}
 use Rattle.cp_outcomes.specs.declared.telling.Finding.{Finding}

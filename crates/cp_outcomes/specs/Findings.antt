@@ -7,7 +7,7 @@ use Rattle.cp_merged.specs.Code.{tally_of}
 use Rattle.cp_merged.specs.Tallies.{tally}
 use Rattle.cp_merged.specs.TooMany.{IsDueFault}
 use Rattle.cp_merged.specs.declared.fault.MergeFault.TheVariants.{TooManyStates, TooManyOutcomes}
-use Rattle.cp_outcomes.specs.declared.completing.Known.{Known}
+use Rattle.cp_outcomes.specs.declared.known.Known.{Known}
 use Rattle.cp_outcomes.specs.declared.subject.Excess.{Excess}
 use Rattle.cp_outcomes.specs.declared.subject.Excess.TheVariants.{States, Outcomes}
 use Rattle.cp_outcomes.specs.declared.telling.Finding.{Finding}

@@ -4,17 +4,11 @@ ghost use Rattle.std.specs.Prelude.{◌<◌, IfOk, IfSome};
 ghost use Rattle.cp_run.specs.Slots.{slots};
 ghost use Rattle.cp_outcomes.specs.Findings.{IsKnownOf};
 
-use cp_merged::{MergeFault, Tallies, explore_merged};
+use crate::known::Known;
+use cp_merged::{MergeFault, explore_merged};
 use cp_run::Limits;
 use cp_walk::Job;
 use std::alloc::{AllocError, Global};
-
-/// The outcomes of all schedules of at most so many choices.
-#[derive(Drop)]
-pub struct Known {
-    pub choices: u8,
-    pub tallies: Tallies,
-}
 
 /// The outcomes for the greatest number of choices, less than those of the job, for which there is not too much; none where there is
 /// too much without a choice. With more choices there is never less.

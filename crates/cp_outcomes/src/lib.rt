@@ -2,6 +2,7 @@
 #![tactic(auto)]
 
 pub mod completing;
+pub mod known;
 mod objects;
 pub mod share;
 pub mod stopped;

@@ -2,10 +2,11 @@
 
 ghost use Rattle.std.specs.Prelude.{◌≡◌, IfOk};
 ghost use Rattle.cp_run.specs.Slots.{slots};
-ghost use Rattle.cp_outcomes.specs.Findings.{IsFoundOf};
+ghost use Rattle.cp_outcomes.specs.Findings.{IsExcessOf, IsFoundOf};
 ghost use Rattle.cp_outcomes.specs.Meant.{IsMeantFinding};
 
-use crate::completing::{Known, greatest_known};
+use crate::completing::greatest_known;
+use crate::known::Known;
 use crate::objects::{excess_json, json};
 use crate::stopped::is_stopped;
 use crate::subject::{Excess, Form, Subject, Told};
@@ -138,11 +139,19 @@ fn found(alloc: Global, subject: Subject<'_>) -> Result<Finding, AllocError>
 fn found_by_states(alloc: Global, job: Job, most: u32) -> Result<Finding, AllocError>
     ensures { IfOk result (λ f. IsFoundOf (slots job.entry.program.now job.entry.limits.gates) job.entry.limits.choices job.entry.limits.steps f) }
 {
-    let excess = match explore_merged(alloc, job, most as usize) {
-        Ok(tallies) => return Ok(Finding::Whole(tallies)),
-        Err(MergeFault::TooManyStates) => Excess::States(most),
-        Err(MergeFault::TooManyOutcomes) => Excess::Outcomes,
-        Err(MergeFault::Memory) => return Err(AllocError),
-    };
-    Ok(Finding::TooMany(excess, greatest_known(alloc, job, most)?))
+    match explore_merged(alloc, job, most as usize) {
+        Ok(tallies) => Ok(Finding::Whole(tallies)),
+        Err(MergeFault::TooManyStates) => found_too_many(alloc, job, most, Excess::States(most)),
+        Err(MergeFault::TooManyOutcomes) => found_too_many(alloc, job, most, Excess::Outcomes),
+        Err(MergeFault::Memory) => Err(AllocError),
+    }
+}
+
+// What there is too much of, and what is known then.
+fn found_too_many(alloc: Global, job: Job, most: u32, excess: Excess) -> Result<Finding, AllocError>
+    requires { IsExcessOf (slots job.program.now job.limits.gates) job.limits.choices job.limits.steps excess }
+    ensures { IfOk result (λ f. IsFoundOf (slots job.entry.program.now job.entry.limits.gates) job.entry.limits.choices job.entry.limits.steps f) }
+{
+    let known = greatest_known(alloc, job, most)?;
+    Ok(Finding::TooMany(excess, known))
 }

@@ -7,7 +7,7 @@ ghost use Rattle.cp_scope.specs.declared.fault.CheckFault.TheVariants.{Memory};
 use std::alloc::{AllocError, AllocFailed};
 
 /// The rules of the language, by their printed codes.
-#[derive(Clone, Copy, PartialEq, Eq)]
+#[derive(Clone, Copy, Debug, PartialEq, Eq)]
 pub enum Rule {
     /// A name is not visible, or a record has no such field.
     C1,
@@ -54,7 +54,7 @@ pub enum Rule {
 }
 
 /// Why a program is not accepted. A place is the number of tokens before it.
-#[derive(Clone, Copy, PartialEq, Eq)]
+#[derive(Clone, Copy, Debug, PartialEq, Eq)]
 pub enum CheckFault {
     /// A rule is broken at this token.
     Rule { at: usize, rule: Rule },

@@ -14,7 +14,7 @@ use crate::set::{self, SetValue};
 use cp_slots::{Argument, ArgumentValue};
 
 /// What a parameter is to be bound to.
-#[derive(Clone, Copy)]
+#[derive(Clone, Copy, Debug, PartialEq, Eq)]
 pub enum Bound {
     Scalar(i16),
     Set(SetValue),

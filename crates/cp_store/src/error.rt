@@ -1,7 +1,7 @@
 //! Run errors.
 
 /// The name of a run error.
-#[derive(Clone, Copy, PartialEq, Eq)]
+#[derive(Clone, Copy, Debug, PartialEq, Eq)]
 pub enum ErrorName {
     Overflow,
     ZeroDivisor,

@@ -5,7 +5,7 @@ ghost use Rattle.cp_store.specs.Inside.{HasCells, MovesBy};
 ghost use Rattle.cp_store.specs.Memory.{memory_of, moved, cell_at};
 
 /// Where a cell lies.
-#[derive(Clone, Copy, PartialEq, Eq)]
+#[derive(Clone, Copy, Debug, PartialEq, Eq)]
 pub enum Address {
     /// A cell of a component, by its number among those of all components.
     Permanent(usize),

@@ -12,7 +12,7 @@ use crate::memory::{Address, Room, cell};
 use cp_slots::SetOperation;
 
 /// A set of the numbers 0 to 127.
-#[derive(Clone, Copy, PartialEq, Eq)]
+#[derive(Clone, Copy, Debug, PartialEq, Eq)]
 pub struct SetValue {
     /// Bit number k is 1 where k is a member.
     pub members: u128,

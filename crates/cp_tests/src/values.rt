@@ -184,12 +184,12 @@ fn references(rt: HostRuntime) -> Result<(), Fail> {
     }];
     assert!(rt; 1 <= bounds.capacity());
     let evaluated = evaluate_arguments(&arguments, &cells, &[], &room, FRAME, &mut bounds);
-    assert!(rt; evaluated.is_ok());
+    assert_eq!(rt; evaluated, Ok(()));
     assert!(rt; room.cells.len() == 0 && room.references.len() == 0);
     assert!(rt; room.cells.capacity() >= 2 && room.references.capacity() >= 1);
     open_frame(&mut room, &[0, 0], 1);
     assert!(rt; bounds.len() == 1 && room.references.len() == 1);
-    assert!(rt; matches!(bounds[0], Bound::Reference(Address::Permanent(0))));
+    assert_eq!(rt; bounds[0], Bound::Reference(Address::Permanent(0)));
     bind_frame(
         &mut cells,
         &mut room,
@@ -197,10 +197,10 @@ fn references(rt: HostRuntime) -> Result<(), Fail> {
         &arguments,
         &[Bound::Reference(Address::Permanent(0))],
     );
-    assert!(rt; matches!(room.references[0], Address::Permanent(0)));
-    assert!(rt; cell(&cells, &room, room.references[0]) == 7);
+    assert_eq!(rt; room.references[0], Address::Permanent(0));
+    assert_eq!(rt; cell(&cells, &room, room.references[0]), 7);
     close_frame(&mut room, 0, 0);
-    assert!(rt; room.cells.is_empty());
+    assert_eq!(rt; room.cells.len(), 0);
     Ok(())
 }
 

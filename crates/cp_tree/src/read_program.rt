@@ -11,7 +11,6 @@ use crate::declaration::{
     Definition, Program, ProgramPart, ProgramPartKind, System, SystemDefinition, SystemKind,
 };
 use crate::fault::ParseFault;
-use crate::held::value_before;
 use crate::read_constant::identifier;
 use crate::read_part::{MAX_LEVEL, constant_definitions, parts, variable_groups};
 use crate::read_routine::{body, groups, routines};
@@ -77,8 +76,8 @@ fn system_definition(alloc: Global, cursor: &mut Cursor<'_>) -> Result<SystemDef
     let name = identifier(alloc, cursor)?;
     cursor.expect(Mark::Equal)?;
     let value = definition(alloc, cursor)?;
-    let definition = SystemDefinition { name, value };
-    Ok(value_before(cursor, definition, Mark::Semicolon)?)
+    cursor.expect(Mark::Semicolon)?;
+    Ok(SystemDefinition { name, value })
 }
 
 #[tactic(auto, unfolding(crate::specs::ReadingDeclarations::one_or_more))]

@@ -10,7 +10,6 @@ ghost use Rattle.cp_text.specs.declared.token.Mark.TheVariants as mark;
 use crate::cursor::Cursor;
 use crate::declaration::{Body, Group, ParameterGroup, Routine, RoutineKind};
 use crate::fault::ParseFault;
-use crate::held::value_before;
 use crate::read_constant::{identifier, identifiers};
 use crate::read_part::{MAX_LEVEL, parts};
 use crate::read_statement::statements;
@@ -153,15 +152,15 @@ fn named_routine(
     cursor.expect(Mark::Semicolon)?;
     let parts = parts(alloc, cursor)?;
     let body = body(alloc, cursor)?;
-    let routine = Routine {
+    cursor.expect(Mark::Semicolon)?;
+    Ok(Routine {
         at,
         is_entry,
         name,
         kind,
         parts,
         body,
-    };
-    Ok(value_before(cursor, routine, Mark::Semicolon)?)
+    })
 }
 
 #[tactic(auto, unfolding(crate::specs::ReadingDeclarations::routine_item))]
