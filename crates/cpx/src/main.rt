@@ -32,7 +32,7 @@ enum Asked {
 }
 
 fn main(rt: HostRuntime) -> ExitCode {
-    let code = match asked(&rt) {
+    let code = match read_words(&rt) {
         Ok(Asked::Options(options)) => explored::<HostRuntime, Brand, Brand>(
             &rt,
             rt.alloc(),
@@ -72,7 +72,7 @@ fn printed<T: Drop, E: Drop>(print: Result<T, E>) -> u8 {
 }
 
 /// What the program's arguments ask for. Arguments that are no text are refused.
-fn asked(rt: &HostRuntime) -> Result<Asked, AllocError> {
+fn read_words(rt: &HostRuntime) -> Result<Asked, AllocError> {
     let alloc = rt.alloc();
     let words = match env::args(rt) {
         Ok(words) => words,
