@@ -2,14 +2,6 @@
 
 use cp_machine::ErrorName;
 
-/// What an expectation says.
-#[derive(Clone, Copy, PartialEq, Eq)]
-pub enum Claim {
-    Never,
-    Sometimes,
-    Only,
-}
-
 /// The kind of an expected end.
 #[derive(Clone, Copy, PartialEq, Eq)]
 pub enum EndPattern {
@@ -23,19 +15,24 @@ pub enum EndPattern {
     Spins,
 }
 
-/// Of what it is said.
+/// What may be expected, or not.
 #[derive(Drop)]
 pub enum Topic {
-    /// Of ends of one of these kinds.
+    /// An end of one of these kinds.
     Ends(Vec<EndPattern>),
-    /// Of waiting for ever, by this process or by anybody.
+    /// Waiting for ever, by this process or by anybody.
     Waiting(Option<u8>),
-    /// Of displaying a value, as a report prints it.
+    /// Displaying a value, as a report prints it.
     Shown(String),
 }
 
+/// What an expectation says.
 #[derive(Drop)]
-pub struct Expectation {
-    pub claim: Claim,
-    pub topic: Topic,
+pub enum Expectation {
+    /// No schedule is so.
+    Never(Topic),
+    /// Some schedule is so.
+    Sometimes(Topic),
+    /// Each schedule that ends does so in one of these ways.
+    Only(Vec<EndPattern>),
 }

@@ -1,37 +1,29 @@
 //! Whether an expectation holds of schedules of any length.
 
-use crate::expectation::{Claim, EndPattern, Expectation, Topic};
-use cp_ends::found::{FoundEnd, FoundValue, MOST_VALUES};
-use cp_ends::{End, Found};
-use cp_run::OutcomeKind;
-use cp_slots::Resolved;
-use cp_waits::{Waiting, Waits};
-use cp_walk::text::push_output;
-use std::alloc::{AllocError, Global};
+ghost use Rattle.std.specs.Prelude.{◌≡◌, ℕ, not, find, option_map, nat_eq};
+ghost use Rattle.std.specs.List.{list_all};
+ghost use Rattle.std.specs.String.{string_bytes};
+ghost use lib.Pointwise.{pointwise};
+ghost use Rattle.cp_machine.specs.declared.gates.Gates.{Gates};
+ghost use Rattle.cp_slots.specs.Tables.{Tables};
+ghost use Rattle.cp_walk.specs.Text.{Spellings};
+ghost use Rattle.cp_ends_verdict.specs.Behaviour.{on_slots};
+ghost use Rattle.cp_ends_verdict.specs.Expectations.{asks_some, is_about, is_meant, is_named, is_other, settles};
+ghost use Rattle.cp_ends_verdict.specs.Expectations as match_spec;
+ghost use Rattle.cp_ends_verdict.specs.Judged as spec;
+ghost use Rattle.cp_ends_verdict.specs.Knowledge as known_spec;
 
-/// What is known of a program.
-#[derive(Clone, Copy)]
-pub struct Known<'a> {
-    pub found: &'a Found,
-    /// Of how many numbers the words may be that count.
-    pub most: usize,
-    /// Who may wait for ever, where it was asked.
-    pub waits: Option<&'a Waits>,
-}
-
-/// What a schedule shows.
-#[derive(Clone, Copy, Drop)]
-pub enum Witness<'a> {
-    End(&'a FoundEnd),
-    Value(&'a FoundValue),
-    Waiting(&'a Waiting),
-}
+use crate::expectation::{EndPattern, Expectation, Topic};
+use crate::known::{Known, KnownEnd, KnownValue, Witness};
+use crate::matching::{is_cut, is_meant, is_named};
+use cp_ends::found::MOST_VALUES;
+use cp_waits::Waiting;
 
 /// What is known of an expectation.
 #[derive(Clone, Copy, Drop)]
 pub enum Judgement<'a> {
     Holds,
-    /// A schedule is against it.
+    /// A schedule is against it, and this is the first.
     Against(Witness<'a>),
     /// There is no schedule that it asks for.
     Missing,
@@ -39,131 +31,164 @@ pub enum Judgement<'a> {
     Open,
 }
 
-impl<'a> Known<'a> {
-    /// Whether all schedules were looked at, and no stretch was cut.
-    pub fn is_whole(self) -> bool {
-        if self.found.stopped.is_some() {
+/// The first end of one of these kinds.
+fn first_named<'a>(ends: &'a [KnownEnd], patterns: &[EndPattern]) -> Option<&'a KnownEnd>
+    ensures { option_map (λ e. e.now) result ≡ find (λ e. is_named patterns.now e.end) ends.entry.now }
+{
+    for end in ends {
+        if is_named(patterns, end.end) {
+            return Some(end);
+        }
+    }
+    None
+}
+
+/// The first end of none of these kinds.
+fn first_other<'a>(ends: &'a [KnownEnd], patterns: &[EndPattern]) -> Option<&'a KnownEnd>
+    ensures { option_map (λ e. e.now) result ≡ find (λ e. is_other patterns.now e.end) ends.entry.now }
+{
+    for end in ends {
+        if !is_named(patterns, end.end) && !is_cut(end.end) {
+            return Some(end);
+        }
+    }
+    None
+}
+
+/// The first value that is printed so.
+fn first_shown<'a>(values: &'a [KnownValue], wanted: &str) -> Option<&'a KnownValue>
+    ensures { option_map (λ v. v.now) result ≡ find (λ v. pointwise nat_eq (string_bytes v.text) wanted.now) values.entry.now }
+{
+    for value in values {
+        if value.text.as_str() == wanted {
+            return Some(value);
+        }
+    }
+    None
+}
+
+/// The first of those who may wait for ever who is meant.
+fn first_waiting<'a>(list: &'a [Waiting], process: Option<u8>) -> Option<&'a Waiting>
+    ensures { option_map (λ w. w.now) result ≡ find (λ w. is_meant process w.process) list.entry.now }
+{
+    for waiting in list {
+        if is_meant(process, waiting.process) {
+            return Some(waiting);
+        }
+    }
+    None
+}
+
+fn end_witness<'a>(end: Option<&'a KnownEnd>) -> Option<Witness<'a>>
+    ensures { option_map known_spec.finding_of result ≡ option_map (λ e. known_spec.ended (known_spec.end_pair e.now)) end.entry }
+{
+    match end {
+        Some(end) => Some(Witness::End(end)),
+        None => None,
+    }
+}
+
+fn value_witness<'a>(value: Option<&'a KnownValue>) -> Option<Witness<'a>>
+    ensures { option_map known_spec.finding_of result ≡ option_map (λ v. known_spec.shown (known_spec.value_pair v.now)) value.entry }
+{
+    match value {
+        Some(value) => Some(Witness::Value(value)),
+        None => None,
+    }
+}
+
+fn waiting_witness<'a>(waiting: Option<&'a Waiting>) -> Option<Witness<'a>>
+    ensures { option_map known_spec.finding_of result ≡ option_map (λ w. known_spec.waiting_for_ever w.now) waiting.entry }
+{
+    match waiting {
+        Some(waiting) => Some(Witness::Waiting(waiting)),
+        None => None,
+    }
+}
+
+/// The first that a topic speaks of.
+fn first_about<'a>(known: &'a Known, topic: &Topic) -> Option<Witness<'a>>
+    ensures { (names : Spellings) → known_spec.HasTexts names known.entry.now.values.items → option_map known_spec.finding_of result ≡ find (is_about names topic.now) (known_spec.told_of topic.now known.entry.now) }
+{
+    match topic {
+        Topic::Ends(patterns) => end_witness(first_named(&known.ends, patterns)),
+        Topic::Waiting(process) => match &known.waits {
+            Some(list) => waiting_witness(first_waiting(list, *process)),
+            None => None,
+        },
+        Topic::Shown(text) => value_witness(first_shown(&known.values, text.as_str())),
+    }
+}
+
+/// The first that settles an expectation.
+fn first_settling<'a>(known: &'a Known, expectation: &Expectation) -> Option<Witness<'a>>
+    ensures { (names : Spellings) → known_spec.HasTexts names known.entry.now.values.items → option_map known_spec.finding_of result ≡ find (settles names expectation.now) (known_spec.speaks_of expectation.now known.entry.now) }
+{
+    match expectation {
+        Expectation::Never(topic) => first_about(known, topic),
+        Expectation::Sometimes(topic) => first_about(known, topic),
+        Expectation::Only(patterns) => end_witness(first_other(&known.ends, patterns)),
+    }
+}
+
+/// Whether no stretch was cut.
+fn has_no_cut(ends: &[KnownEnd]) -> bool
+    ensures { result ≡ list_all (λ e. not (match_spec.is_cut e.end)) ends.now }
+{
+    for end in ends {
+        if is_cut(end.end) {
             return false;
         }
-        !self.is_cut()
     }
+    true
+}
 
-    fn is_cut(self) -> bool {
-        for end in &self.found.ends {
-            if end.end == End::Over(OutcomeKind::StepLimit) {
-                return true;
-            }
-        }
-        false
-    }
+/// Whether all schedules were looked at, and no stretch was cut.
+pub fn is_whole(known: &Known) -> bool
+    ensures { result ≡ known_spec.is_whole known.now }
+{
+    known.looked.is_none() && has_no_cut(&known.ends)
+}
 
-    // The first end that is one of these, or that is none of them where others are looked for. A cut stretch is no end.
-    fn end(
-        self,
-        alloc: Global,
-        patterns: &[EndPattern],
-        others: bool,
-    ) -> Result<Option<Witness<'a>>, AllocError> {
-        for end in &self.found.ends {
-            let is_end = end.end != End::Over(OutcomeKind::StepLimit);
-            if is_end && is_one_of(patterns, end.end) != others {
-                let word = self.found.states.word(alloc, end.origin)?;
-                if word.len() <= self.most {
-                    return Ok(Some(Witness::End(end)));
-                }
-            }
-        }
-        Ok(None)
-    }
-
-    fn value(
-        self,
-        alloc: Global,
-        program: &Resolved,
-        wanted: &str,
-    ) -> Result<Option<Witness<'a>>, AllocError> {
-        for value in &self.found.values {
-            let mut text = String::new(alloc);
-            push_output(&mut text, program, [value.value].as_slice())?;
-            if text.as_str() == wanted {
-                let word = self.found.states.word(alloc, value.origin)?;
-                if word.len() <= self.most {
-                    return Ok(Some(Witness::Value(value)));
-                }
-            }
-        }
-        Ok(None)
-    }
-
-    fn waiting(self, process: Option<u8>) -> Option<Witness<'a>> {
-        let Some(Waits::Known(list)) = self.waits else {
-            return None;
-        };
-        for waiting in list {
-            let is_meant = match process {
-                Some(process) => waiting.process == process,
-                None => true,
-            };
-            if is_meant {
-                return Some(Witness::Waiting(waiting));
-            }
-        }
-        None
-    }
-
-    // Whether what is not known of a topic is not so.
-    fn is_settled(self, topic: &Topic) -> bool {
-        let is_known = match topic {
-            Topic::Ends(_) => true,
-            Topic::Waiting(_) => matches!(self.waits, Some(Waits::Known(_))),
-            Topic::Shown(_) => self.found.values.len() <= MOST_VALUES,
-        };
-        is_known && self.is_whole()
+/// Whether all is kept that a topic speaks of.
+fn is_kept(topic: &Topic, known: &Known) -> bool
+    ensures { result ≡ known_spec.is_kept topic.now known.now }
+{
+    match topic {
+        Topic::Ends(_) => true,
+        Topic::Waiting(_) => known.waits.is_some(),
+        Topic::Shown(_) => known.values.len() <= MOST_VALUES,
     }
 }
 
-fn is_one_of(patterns: &[EndPattern], end: End) -> bool {
-    for pattern in patterns {
-        if is_of(*pattern, end) {
-            return true;
-        }
+/// Whether what is not known of an expectation is not so.
+fn is_settled(expectation: &Expectation, known: &Known) -> bool
+    ensures { result ≡ known_spec.is_settled expectation.now known.now }
+{
+    match expectation {
+        Expectation::Never(topic) => is_kept(topic, known) && is_whole(known),
+        Expectation::Sometimes(topic) => is_kept(topic, known) && is_whole(known),
+        Expectation::Only(_) => is_whole(known),
     }
-    false
 }
 
-fn is_of(pattern: EndPattern, end: End) -> bool {
-    match (pattern, end) {
-        (EndPattern::Finished, End::Over(OutcomeKind::Finished)) => true,
-        (EndPattern::AllWaiting, End::Over(OutcomeKind::AllWaiting)) => true,
-        (EndPattern::AnyError, End::Over(OutcomeKind::RunError { .. })) => true,
-        (EndPattern::Error(wanted), End::Over(OutcomeKind::RunError { name, .. })) => {
-            wanted == name
-        }
-        (EndPattern::Alone, End::Alone(_)) => true,
-        (EndPattern::Spins, End::Spins(_)) => true,
-        _ => false,
+fn judged<'a>(expectation: &Expectation, found: Option<Witness<'a>>, settled: bool) -> Judgement<'a>
+    ensures { result ≡ spec.judgement_of (asks_some expectation.now) found.entry settled }
+{
+    match (expectation, found) {
+        (Expectation::Sometimes(_), Some(_)) => Judgement::Holds,
+        (Expectation::Sometimes(_), None) if settled => Judgement::Missing,
+        (Expectation::Sometimes(_), None) => Judgement::Open,
+        (_, Some(witness)) => Judgement::Against(witness),
+        (_, None) if settled => Judgement::Holds,
+        (_, None) => Judgement::Open,
     }
 }
 
 /// What is known of an expectation.
-pub fn judge<'a>(
-    alloc: Global,
-    program: &Resolved,
-    known: Known<'a>,
-    expectation: &Expectation,
-) -> Result<Judgement<'a>, AllocError> {
-    let others = expectation.claim == Claim::Only;
-    let witness = match &expectation.topic {
-        Topic::Ends(patterns) => known.end(alloc, patterns, others)?,
-        Topic::Waiting(process) => known.waiting(*process),
-        Topic::Shown(value) => known.value(alloc, program, value.as_str())?,
-    };
-    let is_settled = known.is_settled(&expectation.topic);
-    Ok(match (expectation.claim, witness) {
-        (Claim::Sometimes, Some(_)) => Judgement::Holds,
-        (Claim::Sometimes, None) if is_settled => Judgement::Missing,
-        (_, Some(witness)) => Judgement::Against(witness),
-        (_, None) if is_settled => Judgement::Holds,
-        _ => Judgement::Open,
-    })
+pub fn judge<'a>(known: &'a Known, expectation: &Expectation) -> Judgement<'a>
+    ensures { (r : Tables) (gates : Gates) (steps most : ℕ) → known_spec.IsKnown r gates steps most known.entry.now → spec.IsJudged r.names (on_slots r gates steps) known.entry.now expectation.now result }
+{
+    let found = first_settling(known, expectation);
+    judged(expectation, found, is_settled(expectation, known))
 }

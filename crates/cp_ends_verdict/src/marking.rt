@@ -1,15 +1,22 @@
 //! Whether all of some expectations hold of schedules of any length.
 
+ghost use Rattle.std.specs.Prelude.{◌≡◌, ◌≤◌, IfOk, false, None};
+ghost use Rattle.cp_ends.specs.Holds.{HasFindings};
+ghost use Rattle.cp_ends_verdict.specs.Knowledge.{IsKnown};
+ghost use Rattle.cp_ends_verdict.specs.Marked as spec;
+
 use crate::expectation::{Expectation, Topic};
-use crate::judging::{Judgement, Known, judge};
-use crate::reading::{Reading, expectations};
-use crate::words::{misread_text, missing_words, push_expectation, push_witness};
+use crate::judging::is_whole;
+use crate::knowing::known_of;
+use crate::known::{Known, Witness};
+use crate::verdict::{Mark, Verdict, mark_of, verdict_on};
+use crate::words::{missing_words, push_expectation, push_witness};
 use cp_ends::{Found, search_ends};
 use cp_legend::Legend;
 use cp_machine::Gates;
 use cp_run::Limits;
 use cp_slots::Resolved;
-use cp_waits::{Waits, graph_of, who_waits};
+use cp_waits::{Waiting, Waits, graph_of, who_waits};
 use std::alloc::{AllocError, Global};
 
 /// The program that is marked, and how many states there may be.
@@ -21,20 +28,6 @@ pub struct Subject<'a> {
     pub most: u32,
 }
 
-/// What is said of some expectations together.
-#[derive(Clone, Copy, PartialEq, Eq)]
-pub enum Mark {
-    Holds,
-    /// One of them does not hold.
-    Fails,
-    /// None of them fails, and one is not settled.
-    Open,
-    /// The same, since there are too many states.
-    TooMany,
-    /// There is no such expectation.
-    Misread,
-}
-
 /// A mark, and what is said with it.
 #[derive(Drop)]
 pub struct Marked {
@@ -42,49 +35,22 @@ pub struct Marked {
     pub text: String,
 }
 
-/// What all schedules of any length say of the expectations of a text.
-pub fn mark_ends(alloc: Global, subject: Subject<'_>, text: &str) -> Result<Marked, AllocError> {
-    match expectations(alloc, subject.legend, text)? {
-        Reading::Expectations(list) => {
-            if asks_waits(&list) && is_any(subject.limits.gates) {
-                return Ok(Marked {
-                    mark: Mark::Misread,
-                    text: String::from_str(alloc, "waiting can't be asked with --gates any\n")?,
-                });
-            }
-            mark_list(alloc, subject, &list)
-        }
-        Reading::Misread { wanted, place } => Ok(Marked {
-            mark: Mark::Misread,
-            text: misread_text(alloc, text, wanted, place)?,
-        }),
-    }
-}
-
-fn mark_list(
+/// What all schedules of any length say of some expectations.
+pub fn mark_list(
     alloc: Global,
     subject: Subject<'_>,
     list: &[Expectation],
-) -> Result<Marked, AllocError> {
-    let Subject {
-        program,
-        limits,
-        most,
-        ..
-    } = subject;
-    let found = search_ends(alloc, program, limits, most)?;
-    let waits = if asks_waits(list) && found.stopped.is_none() {
-        let graph = graph_of(alloc, program, limits, &found)?;
-        Some(who_waits(alloc, &graph, &found.states)?)
-    } else {
-        None
-    };
-    let known = Known {
-        found: &found,
-        most: most_numbers(alloc, &found)?,
-        waits: waits.as_ref(),
-    };
-    marked_by(alloc, subject, known, list)
+) -> Result<Marked, AllocError>
+    ensures mark { 1 ≤ subject.entry.most → spec.ask_waits list.now ≡ false → IfOk result (λ m. spec.IsMarkOf subject.entry.program.now subject.entry.limits.gates subject.entry.limits.steps subject.entry.most list.now m.mark) }
+    ensures meaning { 1 ≤ subject.entry.most → spec.ask_waits list.now ≡ false → IfOk result (λ m. spec.IsMeantMark subject.entry.program.now subject.entry.limits.gates subject.entry.limits.steps list.now m.mark) }
+{
+    let asks = ask_waits(list);
+    if asks && is_any(subject.limits.gates) {
+        return refused(alloc);
+    }
+    let known = knowledge(alloc, subject, asks)?;
+    let verdict = verdict_on(&known, list);
+    told(alloc, subject, &known, verdict)
 }
 
 // Whether anybody in line may go into a monitor that becomes free.
@@ -95,125 +61,159 @@ fn is_any(gates: Gates) -> bool {
     }
 }
 
-fn asks_waits(list: &[Expectation]) -> bool {
+fn refused(alloc: Global) -> Result<Marked, AllocError> {
+    Ok(Marked {
+        mark: Mark::Misread,
+        text: String::from_str(alloc, "waiting can't be asked with --gates any\n")?,
+    })
+}
+
+fn is_of_waiting(topic: &Topic) -> bool
+    ensures { result ≡ spec.is_of_waiting topic.now }
+{
+    match topic {
+        Topic::Waiting(_) => true,
+        _ => false,
+    }
+}
+
+fn asks_waits(expectation: &Expectation) -> bool
+    ensures { result ≡ spec.asks_waits expectation.now }
+{
+    match expectation {
+        Expectation::Never(topic) => is_of_waiting(topic),
+        Expectation::Sometimes(topic) => is_of_waiting(topic),
+        Expectation::Only(_) => false,
+    }
+}
+
+fn ask_waits(list: &[Expectation]) -> bool
+    ensures { result ≡ spec.ask_waits list.now }
+{
     for expectation in list {
-        if let Topic::Waiting(_) = &expectation.topic {
+        if asks_waits(expectation) {
             return true;
         }
     }
     false
 }
 
-// Of how many numbers the words may be that count: of any, or of as many as were looked at.
-fn most_numbers(alloc: Global, found: &Found) -> Result<usize, AllocError> {
-    Ok(match found.stopped {
-        None => usize::MAX,
-        Some(stopped) => found
-            .states
-            .word(alloc, found.states.origin(stopped))?
-            .len(),
+// What is known of the schedules of a program, and of who may wait for ever where that is asked.
+fn knowledge(alloc: Global, subject: Subject<'_>, asks: bool) -> Result<Known, AllocError>
+    ensures { 1 ≤ subject.entry.most → asks ≡ false → IfOk result (λ k. IsKnown subject.entry.program.now subject.entry.limits.gates subject.entry.limits.steps subject.entry.most k) }
+{
+    let Subject {
+        program,
+        limits,
+        most,
+        ..
+    } = subject;
+    let found = search_ends(alloc, program, limits, most)?;
+    let waits = waits_of(alloc, program, limits, &found, asks)?;
+    known_of(alloc, program, &found, waits)
+}
+
+// Who may wait for ever, where that is asked, all states are found, and it is settled.
+fn waits_of(
+    alloc: Global,
+    program: &Resolved,
+    limits: Limits,
+    found: &Found,
+    asks: bool,
+) -> Result<Option<Vec<Waiting>>, AllocError>
+    requires kept { HasFindings program.now found.now }
+    ensures { asks ≡ false → IfOk result (λ waits. waits ≡ None) }
+{
+    if !asks || found.stopped.is_some() {
+        return Ok(None);
+    }
+    let graph = graph_of(alloc, program, limits, found)?;
+    match who_waits(alloc, &graph, &found.states)? {
+        Waits::Known(list) => Ok(Some(list)),
+        Waits::NotSettled(_) => Ok(None),
+    }
+}
+
+// The mark of a verdict, and what is said with it.
+fn told(
+    alloc: Global,
+    subject: Subject<'_>,
+    known: &Known,
+    verdict: Verdict<'_>,
+) -> Result<Marked, AllocError>
+    ensures { IfOk result (λ m. m.mark ≡ spec.mark_of verdict.entry known.now.looked) }
+{
+    let text = match verdict {
+        Verdict::Holds => held(alloc, known)?,
+        Verdict::Fails {
+            expectation,
+            against,
+        } => failed(alloc, subject.legend, expectation, against)?,
+        Verdict::Open { expectation } => opened(alloc, subject, known, expectation)?,
+    };
+    Ok(Marked {
+        mark: mark_of(verdict, known),
+        text,
     })
 }
 
-// The first expectation that fails, or the first that is not settled, or that all hold.
-fn marked_by(
-    alloc: Global,
-    subject: Subject<'_>,
-    known: Known<'_>,
-    list: &[Expectation],
-) -> Result<Marked, AllocError> {
-    let mut open = None;
-    for expectation in list {
-        match judge(alloc, subject.program, known, expectation)? {
-            Judgement::Holds => {}
-            Judgement::Open => {
-                if open.is_none() {
-                    open = Some(expectation);
-                }
-            }
-            failing => return failed(alloc, subject, known, expectation, failing),
-        }
-    }
-    match open {
-        Some(expectation) => opened(alloc, subject, known, expectation),
-        None => Ok(Marked {
-            mark: Mark::Holds,
-            text: String::from_str(
-                alloc,
-                if known.is_whole() {
-                    "holds\nfor schedules of any length\n"
-                } else {
-                    "holds\nshown by a schedule\n"
-                },
-            )?,
-        }),
-    }
+fn held(alloc: Global, known: &Known) -> Result<String, AllocError> {
+    String::from_str(
+        alloc,
+        if is_whole(known) {
+            "holds\nfor schedules of any length\n"
+        } else {
+            "holds\nshown by a schedule\n"
+        },
+    )
 }
 
 fn failed(
     alloc: Global,
-    subject: Subject<'_>,
-    known: Known<'_>,
+    legend: &Legend,
     expectation: &Expectation,
-    judgement: Judgement<'_>,
-) -> Result<Marked, AllocError> {
+    against: Option<Witness<'_>>,
+) -> Result<String, AllocError> {
     let mut text = String::new(alloc);
     text.push_str("fails: ")?;
-    push_expectation(subject.legend, &mut text, expectation)?;
-    match judgement {
-        Judgement::Against(witness) => {
+    push_expectation(legend, &mut text, expectation)?;
+    match against {
+        Some(witness) => {
             text.push_str("\nfirst against it: ")?;
-            push_witness(
-                alloc,
-                subject.program,
-                subject.legend,
-                &mut text,
-                known,
-                witness,
-            )?;
+            push_witness(legend, &mut text, witness)?;
         }
-        _ => {
+        None => {
             text.push_str("\n")?;
-            text.push_str(missing_words(&expectation.topic))?;
+            text.push_str(missing_words(expectation))?;
         }
     }
     text.push_str("\n")?;
-    Ok(Marked {
-        mark: Mark::Fails,
-        text,
-    })
+    Ok(text)
 }
 
 fn opened(
     alloc: Global,
     subject: Subject<'_>,
-    known: Known<'_>,
+    known: &Known,
     expectation: &Expectation,
-) -> Result<Marked, AllocError> {
+) -> Result<String, AllocError> {
     let mut text = String::new(alloc);
-    if known.found.stopped.is_some() {
+    if let Some(choices) = known.looked {
         let most = subject.most;
-        let choices = known.most;
         write!(text, "too many states: there may be {most}\nnot settled: ")?;
         push_expectation(subject.legend, &mut text, expectation)?;
         write!(
             text,
             "\nno schedule of at most {choices} choices settles it (try greater --states)\n"
         )?;
-        return Ok(Marked {
-            mark: Mark::TooMany,
-            text,
-        });
+        return Ok(text);
     }
     text.push_str("not settled: ")?;
     push_expectation(subject.legend, &mut text, expectation)?;
-    text.push_str(if known.is_whole() {
+    text.push_str(if is_whole(known) {
         "\nit is not known to hold, and no schedule is known to be against it\n"
     } else {
         "\nsome schedules ended at step-limit, and none so far settles it (try greater --steps)\n"
     })?;
-    Ok(Marked {
-        mark: Mark::Open,
-        text,
-    })
+    Ok(text)
 }

@@ -1,6 +1,6 @@
 //! Expectations of schedules of any length, as they are written.
 
-use crate::expectation::{Claim, EndPattern, Expectation, Topic};
+use crate::expectation::{EndPattern, Expectation, Topic};
 use cp_legend::Legend;
 use cp_machine::ErrorName;
 use std::alloc::{AllocError, Global};
@@ -19,6 +19,14 @@ pub enum Wanted {
     And,
     /// `and`, `or` or an end.
     Joint,
+}
+
+// The word with which an expectation begins.
+#[derive(Clone, Copy, PartialEq, Eq)]
+enum Claim {
+    Never,
+    Sometimes,
+    Only,
 }
 
 /// What a text says.
@@ -116,25 +124,33 @@ impl<'a> Reader<'a> {
             return Ok(self.miss(Wanted::Claim));
         };
         self.go_on();
-        let topic = if claim == Claim::Only {
-            self.ends(alloc, Wanted::End)?
-        } else {
-            match self.word() {
-                "waiting" => {
-                    self.go_on();
-                    self.waiting(legend, claim)
-                }
-                "shown" => {
-                    self.go_on();
-                    self.shown(alloc)?
-                }
-                _ => self.ends(alloc, Wanted::Topic)?,
-            }
-        };
-        Ok(match topic {
-            Some(topic) => Some(Expectation { claim, topic }),
-            None => None,
+        Ok(match claim {
+            Claim::Never => self.topic(alloc, legend, claim)?.map(Expectation::Never),
+            Claim::Sometimes => self
+                .topic(alloc, legend, claim)?
+                .map(Expectation::Sometimes),
+            Claim::Only => self.ends(alloc, Wanted::End)?.map(Expectation::Only),
         })
+    }
+
+    // What follows `never` and `some`.
+    fn topic(
+        &mut self,
+        alloc: Global,
+        legend: &Legend,
+        claim: Claim,
+    ) -> Result<Option<Topic>, AllocError> {
+        match self.word() {
+            "waiting" => {
+                self.go_on();
+                Ok(self.waiting(legend, claim))
+            }
+            "shown" => {
+                self.go_on();
+                self.shown(alloc)
+            }
+            _ => Ok(self.ends(alloc, Wanted::Topic)?.map(Topic::Ends)),
+        }
     }
 
     // What follows `waiting`.
@@ -169,7 +185,11 @@ impl<'a> Reader<'a> {
     }
 
     // Ends, which `or` may join.
-    fn ends(&mut self, alloc: Global, wanted: Wanted) -> Result<Option<Topic>, AllocError> {
+    fn ends(
+        &mut self,
+        alloc: Global,
+        wanted: Wanted,
+    ) -> Result<Option<Vec<EndPattern>>, AllocError> {
         let mut ends = Vec::new(alloc);
         let mut wanted = wanted;
         for _ in 0..self.words.len() {
@@ -180,7 +200,7 @@ impl<'a> Reader<'a> {
             let end = self.with_name(end);
             ends.push(end)?;
             if self.is_over() || self.word() == "and" {
-                return Ok(Some(Topic::Ends(ends)));
+                return Ok(Some(ends));
             }
             wanted = Wanted::Joint;
             if self.word() == "or" {

@@ -1,15 +1,14 @@
 //! Expectations and what is said of them, in words.
 
-use crate::expectation::{Claim, EndPattern, Expectation, Topic};
-use crate::judging::{Known, Witness};
+use crate::expectation::{EndPattern, Expectation, Topic};
+use crate::known::Witness;
 use crate::reading::Wanted;
 use cp_ends::End;
 use cp_legend::Legend;
 use cp_run::OutcomeKind;
-use cp_slots::Resolved;
 use cp_story::kind_words;
 use cp_waits::{How, Waiting};
-use cp_walk::text::{error_name, push_output, push_word};
+use cp_walk::text::{error_name, push_word};
 use std::alloc::{AllocError, Global};
 
 /// Appends an expectation as it is written.
@@ -18,21 +17,25 @@ pub fn push_expectation(
     text: &mut String,
     expectation: &Expectation,
 ) -> Result<(), AllocError> {
-    text.push_str(match expectation.claim {
-        Claim::Never => "never ",
-        Claim::Sometimes => "some ",
-        Claim::Only => "only ",
-    })?;
-    match &expectation.topic {
-        Topic::Ends(patterns) => {
-            let mut before = "";
-            for pattern in patterns {
-                text.push_str(before)?;
-                push_pattern(text, *pattern)?;
-                before = " or ";
-            }
-            Ok(())
+    match expectation {
+        Expectation::Never(topic) => {
+            text.push_str("never ")?;
+            push_topic(legend, text, topic)
         }
+        Expectation::Sometimes(topic) => {
+            text.push_str("some ")?;
+            push_topic(legend, text, topic)
+        }
+        Expectation::Only(patterns) => {
+            text.push_str("only ")?;
+            push_patterns(text, patterns)
+        }
+    }
+}
+
+fn push_topic(legend: &Legend, text: &mut String, topic: &Topic) -> Result<(), AllocError> {
+    match topic {
+        Topic::Ends(patterns) => push_patterns(text, patterns),
         Topic::Waiting(None) => text.push_str("waiting"),
         Topic::Waiting(Some(process)) => {
             text.push_str("waiting ")?;
@@ -43,6 +46,16 @@ pub fn push_expectation(
             text.push_str(value.as_str())
         }
     }
+}
+
+fn push_patterns(text: &mut String, patterns: &[EndPattern]) -> Result<(), AllocError> {
+    let mut before = "";
+    for pattern in patterns {
+        text.push_str(before)?;
+        push_pattern(text, *pattern)?;
+        before = " or ";
+    }
+    Ok(())
 }
 
 fn push_pattern(text: &mut String, pattern: EndPattern) -> Result<(), AllocError> {
@@ -61,25 +74,20 @@ fn push_pattern(text: &mut String, pattern: EndPattern) -> Result<(), AllocError
 
 /// Appends a schedule and what it shows.
 pub fn push_witness(
-    alloc: Global,
-    program: &Resolved,
     legend: &Legend,
     text: &mut String,
-    known: Known<'_>,
     witness: Witness<'_>,
 ) -> Result<(), AllocError> {
     match witness {
-        Witness::End(found) => {
-            let word = known.found.states.word(alloc, found.origin)?;
-            push_word(text, word.as_slice())?;
+        Witness::End(known) => {
+            push_word(text, &known.word)?;
             text.push(' ')?;
-            push_end(text, found.end)
+            push_end(text, known.end)
         }
-        Witness::Value(found) => {
-            let word = known.found.states.word(alloc, found.origin)?;
-            push_word(text, word.as_slice())?;
+        Witness::Value(known) => {
+            push_word(text, &known.word)?;
             text.push_str(" shows ")?;
-            push_output(text, program, [found.value].as_slice())
+            text.push_str(known.text.as_str())
         }
         Witness::Waiting(waiting) => push_waiting(legend, text, waiting),
     }
@@ -118,12 +126,12 @@ fn push_waiting(legend: &Legend, text: &mut String, waiting: &Waiting) -> Result
 }
 
 /// What is said where no schedule is as an expectation asks.
-pub fn missing_words(topic: &Topic) -> &'static str {
-    match topic {
-        Topic::Ends(_) => "no schedule of any length ends so",
-        Topic::Waiting(None) => "nobody may wait for ever",
-        Topic::Waiting(Some(_)) => "it may not wait for ever",
-        Topic::Shown(_) => "no schedule of any length displays it",
+pub fn missing_words(expectation: &Expectation) -> &'static str {
+    match expectation {
+        Expectation::Sometimes(Topic::Waiting(None)) => "nobody may wait for ever",
+        Expectation::Sometimes(Topic::Waiting(Some(_))) => "it may not wait for ever",
+        Expectation::Sometimes(Topic::Shown(_)) => "no schedule of any length displays it",
+        _ => "no schedule of any length ends so",
     }
 }
 

@@ -2,6 +2,12 @@
 use Rattle.std.specs.Prelude.{◌≡◌, ◌⊎◌, ℕ, List}
 use Rattle.cp_walk.specs.Text.{Spellings}
 use Rattle.cp_run.specs.Table.{Line}
+use Rattle.cp_slots.specs.Tables.{Tables}
+use Rattle.cp_machine.specs.declared.gates.Gates.{Gates}
+use Rattle.cp_ends_verdict.specs.Marked.{IsMarkOf as IsEndsMarkOf, IsMeantMark}
+use Rattle.cp_ends_verdict.specs.declared.expectation.Expectation as ends_expectation
+use Rattle.cp_ends_verdict.specs.declared.verdict.Mark as ends_mark
+use Rattle.cp_ends_verdict.specs.declared.verdict.Mark.TheVariants as of_ends
 use Rattle.cp_verdict.specs.Marked.{IsMarkOf}
 use Rattle.cp_verdict.specs.declared.expectation.Expectation.{Expectation}
 use Rattle.cp_verdict.specs.declared.program.Mark.{Mark}
@@ -44,3 +50,14 @@ verdict_of mark.Open = Open
 -- There are too many rows, states or outcomes; or the mark of a program whose table has these rows is told.
 abbrev pub TellsMark : Spellings → List Expectation → List Line → Verdict → Type 0
 TellsMark names es lines verdict = (verdict ≡ TooMany) ⊎ ((m : Mark) × (verdict ≡ verdict_of m) × IsMarkOf names es lines m)
+
+abbrev pub ends_verdict_of : ends_mark.Mark → Verdict
+ends_verdict_of of_ends.Holds = Reported
+ends_verdict_of of_ends.Fails = Fails
+ends_verdict_of of_ends.Open = Open
+ends_verdict_of of_ends.TooMany = TooMany
+ends_verdict_of of_ends.Misread = Misread
+
+-- The mark by schedules of any length is told, and it is true of the program on its own names.
+abbrev pub TellsEndsMark : Tables → Gates → (steps most : ℕ) → List ends_expectation.Expectation → Verdict → Type 0
+TellsEndsMark r gates steps most es verdict = (m : ends_mark.Mark) × (verdict ≡ ends_verdict_of m) × IsEndsMarkOf r gates steps most es m × IsMeantMark r gates steps es m

@@ -1,13 +1,17 @@
 //! The mark of a program, as an answer.
 
-ghost use Rattle.std.specs.Prelude.{◌≡◌, IfOk};
+ghost use Rattle.std.specs.Prelude.{◌≡◌, ◌≤◌, IfOk, false};
+ghost use Rattle.cp_ends_verdict.specs.Marked.{ask_waits};
 ghost use Rattle.cp_run.specs.Slots.{slots};
 ghost use Rattle.cp_run.specs.Table.{table};
 ghost use Rattle.cpx_show.specs.Showing as spec;
 ghost use Rattle.cpx_show.specs.declared.answering.Verdict.TheVariants.{TooMany};
 
 use crate::answering::{Answer, Verdict};
-use cp_ends_verdict::{Mark as EndsMark, Subject as Endless, mark_ends};
+use cp_ends_verdict::{
+    Expectation as EndsExpectation, Mark as EndsMark, Reading, Subject as Endless,
+    expectations as ends_expectations, mark_list, misread_text as ends_misread_text,
+};
 use cp_legend::Legend;
 use cp_outcomes::completing::greatest_known;
 use cp_run::{Limits, MOST_CHOICES};
@@ -74,6 +78,25 @@ fn marked_ends(
     legend: &Legend,
     text: &str,
 ) -> Result<Answer, AllocError> {
+    match ends_expectations(alloc, legend, text)? {
+        Reading::Expectations(list) => judged_ends(alloc, options, program, legend, &list),
+        Reading::Misread { wanted, place } => Ok(Answer {
+            verdict: Verdict::Misread,
+            text: ends_misread_text(alloc, text, wanted, place)?,
+        }),
+    }
+}
+
+// What schedules of any length say of the expectations.
+fn judged_ends(
+    alloc: Global,
+    options: &Options,
+    program: &Resolved,
+    legend: &Legend,
+    list: &[EndsExpectation],
+) -> Result<Answer, AllocError>
+    ensures { 1 ≤ options.now.states → ask_waits list.now ≡ false → IfOk result (λ a. spec.TellsEndsMark program.now options.now.gates options.now.steps options.now.states list.now a.verdict) }
+{
     let Some(limits) = Limits::new(MOST_CHOICES, options.steps, options.gates) else {
         unreachable!()
     };
@@ -83,17 +106,23 @@ fn marked_ends(
         limits,
         most: options.states,
     };
-    let marked = mark_ends(alloc, subject, text)?;
+    let marked = mark_list(alloc, subject, list)?;
     Ok(Answer {
-        verdict: match marked.mark {
-            EndsMark::Holds => Verdict::Reported,
-            EndsMark::Fails => Verdict::Fails,
-            EndsMark::Open => Verdict::Open,
-            EndsMark::TooMany => Verdict::TooMany,
-            EndsMark::Misread => Verdict::Misread,
-        },
+        verdict: ends_verdict_of(marked.mark),
         text: marked.text,
     })
+}
+
+fn ends_verdict_of(mark: EndsMark) -> Verdict
+    ensures { result ≡ spec.ends_verdict_of mark }
+{
+    match mark {
+        EndsMark::Holds => Verdict::Reported,
+        EndsMark::Fails => Verdict::Fails,
+        EndsMark::Open => Verdict::Open,
+        EndsMark::TooMany => Verdict::TooMany,
+        EndsMark::Misread => Verdict::Misread,
+    }
 }
 
 // What the table within the limits of the options says of the expectations.

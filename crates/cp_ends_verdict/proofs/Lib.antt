@@ -1,0 +1,9 @@
+pub mod Finding
+pub mod Firsts
+pub mod Judgements
+pub mod Learning
+pub mod MarkSo
+pub mod Meant
+pub mod MeantMarks
+pub mod Telling
+pub mod Verdicts

@@ -1,0 +1,7 @@
+use Rattle.std.proofs.Common.{◌≡◌, drop, not}
+use Rattle.std.specs.List.{list_all}
+use Rattle.cp_ends_verdict.specs.Expectations.{is_cut}
+use Rattle.cp_ends_verdict.proofs.judging.has_no_cut.Given as goal
+
+abbrev pub invariant-loop-end : goal.invariant-loop-end
+invariant-loop-end l = list_all (λ e. not (is_cut e.end)) l.ends ≡ list_all (λ e. not (is_cut e.end)) (drop l.end-index l.ends)

@@ -1,0 +1,10 @@
+use Rattle.std.proofs.Common.{ℕ, take}
+use Rattle.cp_machine.specs.declared.gates.Gates.{Gates}
+use Rattle.cp_slots.specs.Tables.{Tables}
+use Rattle.cp_ends_verdict.specs.Behaviour.{on_slots}
+use Rattle.cp_ends_verdict.specs.Knowledge.{IsKnown}
+use Rattle.cp_ends_verdict.specs.Marked as spec
+use Rattle.cp_ends_verdict.proofs.verdict.verdict_on.Given as goal
+
+abbrev pub invariant-loop-expectation : goal.invariant-loop-expectation
+invariant-loop-expectation l = (r : Tables) (gates : Gates) (steps most : ℕ) → IsKnown r gates steps most l.known → spec.IsMarked r.names (on_slots r gates steps) l.known (take l.expectation-index l.list) l.verdict

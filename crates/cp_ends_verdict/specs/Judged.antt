@@ -1,0 +1,49 @@
+-- What is known of an expectation.
+use Rattle.std.specs.Prelude.{◌≡◌, ◌⊎◌, Bool, true, false, find, Option, None, Some}
+use Rattle.cp_walk.specs.Text.{Spellings}
+use Rattle.cp_ends.specs.Firsts.{is_up_to}
+use Rattle.cp_ends_verdict.specs.Behaviour.{Behaviour, Finding, IsSo, word_of}
+use Rattle.cp_ends_verdict.specs.Expectations.{HasSettling, IsTrue, asks_some, settles}
+use Rattle.cp_ends_verdict.specs.Knowledge.{finding_of, is_settled, speaks_of}
+use Rattle.cp_ends_verdict.specs.declared.expectation.Expectation.{Expectation}
+use Rattle.cp_ends_verdict.specs.declared.judging.Judgement.{Judgement}
+use Rattle.cp_ends_verdict.specs.declared.judging.Judgement.TheVariants.{Holds, Against, Missing, Open}
+use Rattle.cp_ends_verdict.specs.declared.known.Known.{Known}
+use Rattle.cp_ends_verdict.specs.declared.known.Witness.{Witness}
+
+-- It is so and settles the expectation, and no earlier word does.
+pub record IsFirstOf (names : Spellings) (b : Behaviour) (e : Expectation) (f : Finding) : Type 0 where
+  pub is_so : IsSo b f
+  pub settling : settles names e f ≡ true
+  pub first : (g : Finding) → IsSo b g → settles names e g ≡ true → is_up_to (word_of f) (word_of g) ≡ true
+
+-- it is true, and nothing that is not known could change that: all is known, or it asks for something that is so
+abbrev pub HoldsOf : Spellings → Behaviour → Known → Expectation → Type 0
+HoldsOf names b k e = IsTrue names b e × ((asks_some e ≡ true) ⊎ (is_settled e k ≡ true))
+
+-- it forbids something that is so: first by this word
+abbrev pub IsAgainst : Spellings → Behaviour → Expectation → Finding → Type 0
+IsAgainst names b e f = (asks_some e ≡ false) × IsFirstOf names b e f
+
+-- it asks for something that is not so, and all is known
+abbrev pub IsMissing : Spellings → Behaviour → Known → Expectation → Type 0
+IsMissing names b k e = (asks_some e ≡ true) × (HasSettling names b e → ⊥) × (is_settled e k ≡ true)
+
+-- nothing that is known settles it, and not all is known
+abbrev pub IsOpen : Spellings → Known → Expectation → Type 0
+IsOpen names k e = (find (settles names e) (speaks_of e k) ≡ None) × (is_settled e k ≡ false)
+
+abbrev pub IsJudged : Spellings → Behaviour → Known → Expectation → Judgement → Type 0
+IsJudged names b k e Holds = HoldsOf names b k e
+IsJudged names b k e (Against w) = IsAgainst names b e (finding_of w)
+IsJudged names b k e Missing = IsMissing names b k e
+IsJudged names b k e Open = IsOpen names k e
+
+-- the judgement from what settles it first, and whether all is known
+abbrev pub judgement_of : (asks : Bool) → Option Witness → (settled : Bool) → Judgement
+judgement_of true (Some w) settled = Holds
+judgement_of true None true = Missing
+judgement_of true None false = Open
+judgement_of false (Some w) settled = Against w
+judgement_of false None true = Holds
+judgement_of false None false = Open

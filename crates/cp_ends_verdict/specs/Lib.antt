@@ -1,0 +1,5 @@
+pub mod Behaviour
+pub mod Expectations
+pub mod Judged
+pub mod Knowledge
+pub mod Marked

@@ -1,0 +1,90 @@
+-- What is known of some expectations together.
+use Rattle.std.specs.Prelude.{◌≡◌, ◌⊎◌, ℕ, List, Bool, true, false, Option, None, Some, Contains}
+use Rattle.std.specs.List.{list_any}
+use Rattle.std.specs.Borrow.{Bor}
+use Rattle.cp_slots.specs.Tables.{Tables}
+use Rattle.cp_machine.specs.declared.gates.Gates.{Gates}
+use Rattle.cp_refine.specs.Named.{named_gates}
+use Rattle.cp_walk.specs.Text.{Spellings}
+use Rattle.cp_ends.specs.Whole.{OfItsPrograms}
+use Rattle.cp_ends_verdict.specs.Behaviour.{Behaviour, on_slots, on_names}
+use Rattle.cp_ends_verdict.specs.Expectations.{IsTrue}
+use Rattle.cp_ends_verdict.specs.Judged.{HoldsOf, IsAgainst, IsMissing, IsOpen}
+use Rattle.cp_ends_verdict.specs.Knowledge.{IsKnown, finding_of}
+use Rattle.cp_ends_verdict.specs.declared.expectation.Topic.{Topic}
+use Rattle.cp_ends_verdict.specs.declared.expectation.Topic.TheVariants as topic
+use Rattle.cp_ends_verdict.specs.declared.expectation.Expectation.{Expectation}
+use Rattle.cp_ends_verdict.specs.declared.expectation.Expectation.TheVariants.{Never, Sometimes, Only}
+use Rattle.cp_ends_verdict.specs.declared.judging.Judgement.{Judgement}
+use Rattle.cp_ends_verdict.specs.declared.judging.Judgement.TheVariants as judgement
+use Rattle.cp_ends_verdict.specs.declared.known.Known.{Known}
+use Rattle.cp_ends_verdict.specs.declared.known.Witness.{Witness}
+use Rattle.cp_ends_verdict.specs.declared.verdict.Mark.{Mark}
+use Rattle.cp_ends_verdict.specs.declared.verdict.Mark.TheVariants as mark
+use Rattle.cp_ends_verdict.specs.declared.verdict.Verdict.{Verdict}
+use Rattle.cp_ends_verdict.specs.declared.verdict.Verdict.TheVariants as verdict
+
+-- with the first schedule against it, or none where it asks for one and there is none
+abbrev pub FailsBy : Spellings → Behaviour → Known → Expectation → Option Witness → Type 0
+FailsBy names b k e (Some w) = IsAgainst names b e (finding_of w)
+FailsBy names b k e None = IsMissing names b k e
+
+abbrev pub IsMarked : Spellings → Behaviour → Known → List Expectation → Verdict → Type 0
+IsMarked names b k es verdict.Holds = (e : Expectation) → Contains es e → HoldsOf names b k e
+IsMarked names b k es (verdict.Fails e against) = Contains es e.now × FailsBy names b k e.now against
+IsMarked names b k es (verdict.Open e) = ((x : Expectation) → Contains es x → HoldsOf names b k x ⊎ IsOpen names k x) × (Contains es e.now × IsOpen names k e.now)
+
+-- the verdict on some expectations and one more
+abbrev pub joined : Verdict → Bor Expectation → Judgement → Verdict
+joined (verdict.Fails f against) e j = verdict.Fails f against
+joined verdict.Holds e judgement.Holds = verdict.Holds
+joined verdict.Holds e (judgement.Against w) = verdict.Fails e (Some w)
+joined verdict.Holds e judgement.Missing = verdict.Fails e None
+joined verdict.Holds e judgement.Open = verdict.Open e
+joined (verdict.Open f) e judgement.Holds = verdict.Open f
+joined (verdict.Open f) e (judgement.Against w) = verdict.Fails e (Some w)
+joined (verdict.Open f) e judgement.Missing = verdict.Fails e None
+joined (verdict.Open f) e judgement.Open = verdict.Open f
+
+-- ---- who asks who waits
+
+abbrev pub is_of_waiting : Topic → Bool
+is_of_waiting (topic.Waiting process) = true
+is_of_waiting t = false
+
+abbrev pub asks_waits : Expectation → Bool
+asks_waits (Never t) = is_of_waiting t
+asks_waits (Sometimes t) = is_of_waiting t
+asks_waits (Only ps) = false
+
+abbrev pub ask_waits : List Expectation → Bool
+ask_waits es = list_any asks_waits es
+
+-- ---- marks
+
+abbrev pub open_mark : Option ℕ → Mark
+open_mark None = mark.Open
+open_mark (Some d) = mark.TooMany
+
+abbrev pub mark_of : Verdict → Option ℕ → Mark
+mark_of verdict.Holds looked = mark.Holds
+mark_of (verdict.Fails e against) looked = mark.Fails
+mark_of (verdict.Open e) looked = open_mark looked
+
+-- The mark is that of a verdict by what is known, which is all that words of any length lead to, or all that words of so many numbers do.
+pub record IsMarkOf (r : Tables) (gates : Gates) (steps most : ℕ) (es : List Expectation) (m : Mark) : Type 0 where
+  pub known : Known
+  pub is_known : IsKnown r gates steps most known
+  pub verdict : Verdict
+  pub is : m ≡ mark_of verdict known.looked
+  pub marked : IsMarked r.names (on_slots r gates steps) known es verdict
+
+-- each holds, or one does not
+abbrev pub IsTrueMark : Spellings → Behaviour → List Expectation → Mark → Type 0
+IsTrueMark names b es mark.Holds = (e : Expectation) → Contains es e → IsTrue names b e
+IsTrueMark names b es mark.Fails = (e : Expectation) × Contains es e × (IsTrue names b e → ⊥)
+IsTrueMark names b es m = Unit {0}
+
+-- of whatever program was read, is accepted, and has these tables: it is true of its meaning
+abbrev pub IsMeantMark : Tables → Gates → ℕ → List Expectation → Mark → Type 0
+IsMeantMark r gates steps es m = OfItsPrograms r (λ t. IsTrueMark r.names (on_names t (named_gates gates) steps) es m)
