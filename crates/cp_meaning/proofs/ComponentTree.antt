@@ -124,7 +124,7 @@ Distinct cs = (n m : ℕ) → n < length cs → m < length cs → path_at cs n �
 with_own_path : (cs : List Component) (n : ℕ) → Distinct cs → n < length cs → component_with (path_at cs n) cs ≡ n
 with_own_path cs n distinct lt = distinct _ n (first_within cs n lt) lt (found (path_at cs n) cs (first_within cs n lt))
 
-around_step : (q : Path) (s : PathStep) → around (q ++ s ∷ []) ≡ q
+pub around_step : (q : Path) (s : PathStep) → around (q ++ s ∷ []) ≡ q
 around_step [] s = refl
 around_step (a ∷ []) s = refl
 around_step (a ∷ b ∷ q) s = ap (λ r. a ∷ r) (around_step (b ∷ q) s)

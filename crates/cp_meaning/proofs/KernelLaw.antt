@@ -16,7 +16,7 @@ use Rattle.cp_meaning.proofs.Stored.{SameComponents, permanents_kept}
 use Rattle.cp_meaning.proofs.Orderly.{inside_parts, inside_from, ProcessFits, IsAbsent, LineFits, line_at, Nobody, initialises_now, Orderly, SameKinds, which, within_set, replaced, absent_by_status, line_set, line_more, relined}
 use Rattle.cp_meaning.proofs.LineLaw.{OrderlyState, queue_waits, resumed, let_in_law}
 
-nobody_told : (m : ℕ) (ps : List Process) → is_anybody_inside m ps ≡ false → Nobody ps m
+pub nobody_told : (m : ℕ) (ps : List Process) → is_anybody_inside m ps ≡ false → Nobody ps m
 nobody_told m [] h q lt i = omega arith
 nobody_told m (p ∷ ps) h q lt i = go q (is_inside m p) refl h lt i (nobody_told m ps)
   where
@@ -25,12 +25,12 @@ nobody_told m (p ∷ ps) h q lt i = go q (is_inside m p) refl h lt i (nobody_tol
     go zero false e h lt i rest = (let bad : true ≡ false = sym i ∙ e in absurd cc)
     go (suc q) false e h lt i rest = rest h q (omega arith) i
 
-begun_process : (ps : List Process) (r : ℕ) → ((process_at ps r).status ≡ unstarted → ⊥) → r < length ps
+pub begun_process : (ps : List Process) (r : ℕ) → ((process_at ps r).status ≡ unstarted → ⊥) → r < length ps
 begun_process [] r h = absurd (h refl)
 begun_process (p ∷ ps) zero h = omega arith
 begun_process (p ∷ ps) (suc r) h = let lt = begun_process ps r h in omega arith
 
-delayed_told : (m : ℕ) (status : Status) → is_delayed_in m status ≡ true → status ≡ delayed m
+pub delayed_told : (m : ℕ) (status : Status) → is_delayed_in m status ≡ true → status ≡ delayed m
 delayed_told m unstarted h = cc
 delayed_told m ready h = cc
 delayed_told m (at_gate n) h = cc
@@ -38,19 +38,19 @@ delayed_told m (delayed n) h = ap delayed (eqb-true n m h)
 delayed_told m ended h = cc
 
 module _ (p : Program) (s : State) (pid : ℕ) (old : Orderly s.components s.processes) (none : s.pending ≡ None) (lt : pid < length s.processes) (is_ready : (process_at s.processes pid).status ≡ ready) (d : Doing) where
-  abbrev cs : List Component
+  abbrev pub cs : List Component
   cs = s.components
 
-  abbrev ds : List Component
+  abbrev pub ds : List Component
   ds = d.components
 
-  abbrev me : Process
+  abbrev pub me : Process
   me = process_at s.processes pid
 
-  abbrev become : Status → Process
+  abbrev pub become : Status → Process
   become status = record { component = me.component; status = status; calls = d.calls; items = d.items }
 
-  abbrev after : Status → List Process
+  abbrev pub after : Status → List Process
   after status = slice_set s.processes pid (become status)
 
   not_pending : (m : ℕ) {A : Type 0} → s.pending ≡ Some m → A
@@ -59,10 +59,10 @@ module _ (p : Program) (s : State) (pid : ℕ) (old : Orderly s.components s.pro
   absent : (m : ℕ) → IsAbsent pid (line_at cs m)
   absent m = absent_by_status cs s.processes m pid (line_at cs m) (λ h. (let bad : ready ≡ at_gate m = sym is_ready ∙ h in cc)) (old.lines m)
 
-  was_inside : (m : ℕ) → entry_in m (frames me.calls) ≡ true → is_inside m me ≡ true
+  pub was_inside : (m : ℕ) → entry_in m (frames me.calls) ≡ true → is_inside m me ≡ true
   was_inside m h = inside_from m me h (ap (waits_at m) is_ready)
 
-  here : (status : Status) → process_at (after status) pid ≡ become status
+  pub here : (status : Status) → process_at (after status) pid ≡ become status
   here status = go (which s.processes pid pid (become status) lt)
     where
       go : ((pid ≡ pid) × (process_at (after status) pid ≡ become status)) ⊎ ((pid ≡ pid → ⊥) × (process_at (after status) pid ≡ me)) → process_at (after status) pid ≡ become status
@@ -84,7 +84,7 @@ module _ (p : Program) (s : State) (pid : ℕ) (old : Orderly s.components s.pro
         go (inr free) = absurd (let bad : initialising ≡ uninitialised = sym ((old.processes q lq).starting m hq) ∙ free in cc)
 
     -- the process is as its item left it
-    moved : (status : Status) → ((m : ℕ) → IsMonitor cs m → is_inside m (become status) ≡ true → (q : ℕ) → q < length s.processes → is_inside m (process_at s.processes q) ≡ true → q ≡ pid) → Orderly ds (after status)
+    pub moved : (status : Status) → ((m : ℕ) → IsMonitor cs m → is_inside m (become status) ≡ true → (q : ℕ) → q < length s.processes → is_inside m (process_at s.processes q) ≡ true → q ≡ pid) → Orderly ds (after status)
     moved status inside =
         replaced cs ds s.processes pid (become status) old kinds good.status (inl lt) (fits_now status) initial_now inside
         (λ m. subst (LineFits ds (after status) m) (sym (good.layout.line m)) (line_set cs ds s.processes pid (become status) m (line_at cs m) (kinds.kind m) (absent m) (old.lines m)))
@@ -92,7 +92,7 @@ module _ (p : Program) (s : State) (pid : ℕ) (old : Orderly s.components s.pro
     inside_old : (status : Status) → NoneEntered cs (frames me.calls) (frames d.calls) → (m : ℕ) → IsMonitor cs m → is_inside m (become status) ≡ true → (q : ℕ) → q < length s.processes → is_inside m (process_at s.processes q) ≡ true → q ≡ pid
     inside_old status entered m mon h q lq hq = old.one_inside m mon q pid lq lt hq (was_inside m (entered m mon (inside_parts m (become status) h).0))
 
-    goes_on : (status : Status) → NoneEntered cs (frames me.calls) (frames d.calls) → Orderly ds (after status)
+    pub goes_on : (status : Status) → NoneEntered cs (frames me.calls) (frames d.calls) → Orderly ds (after status)
     goes_on status entered = moved status (inside_old status entered)
 
     -- nobody else was inside
@@ -100,7 +100,7 @@ module _ (p : Program) (s : State) (pid : ℕ) (old : Orderly s.components s.pro
     nobody_other n q status mon lq e ne h mine =
         ne (old.one_inside n (sym (kinds.kind n) ∙ mon) q pid (within_set s.processes pid q (become status) lq) lt (sym (ap (is_inside n) e) ∙ h) mine)
 
-    nobody_left : (n : ℕ) → Left cs (frames me.calls) (frames d.calls) n → IsMonitor ds n → Nobody (after ready) n
+    pub nobody_left : (n : ℕ) → Left cs (frames me.calls) (frames d.calls) n → IsMonitor ds n → Nobody (after ready) n
     nobody_left n left mon q lq h = go (which s.processes pid q (become ready) (within_set s.processes pid q (become ready) lq))
       where
         both : (entry_in n (frames me.calls) ≡ true) × (entry_in n (frames d.calls) ≡ false)
@@ -110,7 +110,7 @@ module _ (p : Program) (s : State) (pid : ℕ) (old : Orderly s.components s.pro
         go (inl e) = (let bad : true ≡ false = sym (inside_parts n (become ready) (sym (ap (is_inside n) e.1) ∙ h)).0 ∙ both.1 in absurd cc)
         go (inr e) = nobody_other n q ready mon lq e.1 e.0 h (was_inside n both.0)
 
-    nobody_delayed : (n : ℕ) → (IsMonitor cs n → (entry_in n (frames me.calls) ≡ true) ⊎ (initial_in n (frames me.calls) ≡ true)) → IsMonitor ds n → Nobody (after (delayed n)) n
+    pub nobody_delayed : (n : ℕ) → (IsMonitor cs n → (entry_in n (frames me.calls) ≡ true) ⊎ (initial_in n (frames me.calls) ≡ true)) → IsMonitor ds n → Nobody (after (delayed n)) n
     nobody_delayed n in_it mon q lq h = go (which s.processes pid q (become (delayed n)) (within_set s.processes pid q (become (delayed n)) lq))
       where
         other : (process_at (after (delayed n)) q ≡ process_at s.processes q) → (q ≡ pid → ⊥) → (entry_in n (frames me.calls) ≡ true) ⊎ (initial_in n (frames me.calls) ≡ true) → ⊥

@@ -1,4 +1,4 @@
-mod ComponentTree
+pub mod ComponentTree
 mod CountedPrograms
 mod Counts
 pub mod Exclusion
@@ -7,27 +7,27 @@ mod Features
 mod Following
 pub mod Frames
 pub mod Good
-mod Held
+pub mod Held
 pub mod Holder
-mod KernelLaw
+pub mod KernelLaw
 mod Least
 mod LeastPrograms
 pub mod LineLaw
 mod LinedPrograms
 mod Lines
-mod LocalLaw
+pub mod LocalLaw
 mod Order
 mod OrderPrograms
 pub mod Orderly
-mod OwnKernel
-mod OwnLocal
-mod OwnOpening
+pub mod OwnKernel
+pub mod OwnLocal
+pub mod OwnOpening
 pub mod OwnershipLemmas
 mod PlainItems
 mod Room
 mod Shown
 mod ShownPrograms
-mod Stored
+pub mod Stored
 mod TracedPrograms
 mod Traces
 mod Wanted

@@ -111,7 +111,7 @@ continuing_keeps base s m (Some r) = go (is_delayed_in m (process_at s.processes
     go true = readied base s r
     go false = let_in_keeps base s.gates s m
 
-process_found : (d : ℕ) (ps : List Process) (r : ℕ) → process_of d ps ≡ Some r → (r < length ps) × ((process_at ps r).component ≡ d)
+pub process_found : (d : ℕ) (ps : List Process) (r : ℕ) → process_of d ps ≡ Some r → (r < length ps) × ((process_at ps r).component ≡ d)
 process_found d [] r h = absurd (let bad : None ≡ Some r = h in cc)
 process_found d (p ∷ ps) r h = go (p.component == d) refl h (process_of d ps) refl (process_found d ps)
   where

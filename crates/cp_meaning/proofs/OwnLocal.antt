@@ -387,11 +387,11 @@ module _ (p : Program) (c : Call) (calls : List Call) (cs : List Component) (pid
     OutcomeFits (Ok k) = Fits k
     OutcomeFits (Err e) = Unit {0}
 
-    abbrev BoundFits : Outcome Environment → Type 0
+    abbrev pub BoundFits : Outcome Environment → Type 0
     BoundFits (Ok e) = (d : ℕ) (x : Name) → content_of x e ≡ Some (knows d) → Q d
     BoundFits (Err e) = Unit {0}
 
-    abbrev ParametersFit : List Parameter → Type 0
+    abbrev pub ParametersFit : List Parameter → Type 0
     ParametersFit [] = Unit {0}
     ParametersFit (q ∷ qs) = ((k n : ℕ) → q.ty ≡ component_of k → Q (of_system v k n)) × ParametersFit qs
 
@@ -434,7 +434,7 @@ module _ (p : Program) (c : Call) (calls : List Call) (cs : List Component) (pid
     fits_cons y (Ok k) (Err e) h g = tt
     fits_cons y (Err e) r h g = tt
 
-    bound_fits : (qs : List Parameter) (es : Expressions) → ParametersFit qs → BoundFits (bound v qs es)
+    pub bound_fits : (qs : List Parameter) (es : Expressions) → ParametersFit qs → BoundFits (bound v qs es)
     bound_fits [] es h = λ d x s. no_content x (knows d) s
     bound_fits (q ∷ qs) no_expressions h = λ d x s. no_content x (knows d) s
     bound_fits (q ∷ qs) (more_expressions e es) h = fits_cons q.name (bound_argument v q e) (bound v qs es) (argument_fits q e h.0) (bound_fits qs es h.1)

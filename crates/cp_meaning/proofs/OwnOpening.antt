@@ -23,7 +23,7 @@ first_value m x k h = go (append_content x (least_of (parameter_variables m.para
     go (inl t) = least_values x (parameter_variables m.parameters) k t
     go (inr t) = least_values x m.variables k t
 
-first_values : (p : Program) (ls : List Listed) (n : ℕ) (x : Name) (k : Content) → content_of x (permanents_at (map (first_component p) ls) n) ≡ Some k → IsValue k
+pub first_values : (p : Program) (ls : List Listed) (n : ℕ) (x : Name) (k : Content) → content_of x (permanents_at (map (first_component p) ls) n) ≡ Some k → IsValue k
 first_values p [] n x k h = absurd (let bad : None ≡ Some k = h in cc)
 first_values p (l ∷ ls) zero x k h = first_value (system_of p l.system) x k h
 first_values p (l ∷ ls) (suc n) x k h = first_values p ls n x k h

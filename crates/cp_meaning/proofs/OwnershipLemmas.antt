@@ -98,17 +98,17 @@ module _ (p : Program) (ok : IsWellFormed p) where
   abbrev base : List Component
   base = first_components p
 
-  distinct : Distinct base
+  pub distinct : Distinct base
   distinct n m = ok.paths n m
 
-  contained : ContainedEarlier base
+  pub contained : ContainedEarlier base
   contained n m t = ok.contained_earlier n m t
 
   module _ (s : State) (pid : ℕ) (owned : OwnedState base s) (orderly : OrderlyState s) (lt : pid < length s.processes) (is_ready : (process_at s.processes pid).status ≡ ready) where
     abbrev x : Process
     x = process_at s.processes pid
 
-    both : (calls : List Call) (items : List Item) → x.calls ≡ calls → x.items ≡ items → NonEmpty (frames calls) → HeldCalls base x.component calls → Bottom x.component (frames calls) →
+    pub both : (calls : List Call) (items : List Item) → x.calls ≡ calls → x.items ≡ items → NonEmpty (frames calls) → HeldCalls base x.component calls → Bottom x.component (frames calls) →
         GoodOutcome s.components (frames calls) (takes (record { program = p; calls = calls; components = s.components }) pid items) × OwnedBy p base x.component (frames calls) s.components (takes (record { program = p; calls = calls; components = s.components }) pid items)
     both [] items e i some held bottom = absurd some
     both (c ∷ calls) items e i some held bottom = (
@@ -123,7 +123,7 @@ module _ (p : Program) (ok : IsWellFormed p) where
       changed : (n : ℕ) (y : Name) → content_of y (permanents_at s.components n) ≢ content_of y (permanents_at t.components n) → HeldBy base x.component (frames x.calls) n ⊎ (IsStarted s t n × IsParameterOf p base n y)
       others : OthersKept s t pid
 
-    starts_process : (d : Doing) (move : Move) → Good s.components (frames x.calls) (frames d.calls) d.components d.items move → StartsProcess p s pid base owned lt is_ready d move
+    pub starts_process : (d : Doing) (move : Move) → Good s.components (frames x.calls) (frames d.calls) d.components d.items move → StartsProcess p s pid base owned lt is_ready d move
     starts_process d (starts c e) good = good.layout.kind c ∙ good.moves.1
     starts_process d stays good = tt
     starts_process d (enters n) good = tt

@@ -1,0 +1,5 @@
+pub mod reading
+pub mod pairs
+pub mod search
+pub mod limits
+pub mod names

@@ -1,0 +1,9 @@
+pub mod AtOnce
+pub mod Quiet
+pub mod Found
+pub mod Limited
+pub mod Search
+pub mod Through
+pub mod Started
+pub mod Whole
+pub mod OnSlots

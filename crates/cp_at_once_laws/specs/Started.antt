@@ -1,0 +1,23 @@
+-- Who may start a process: what the rules of the language say of it.
+use Rattle.std.specs.Prelude.{◌≡◌, ℕ, ◌<◌, List, [], ◌∷◌, ◌++◌, length}
+use Rattle.cp_tree.specs.declared.declaration.SystemKind.TheVariants as system_kind
+use Rattle.cp_tree.specs.Syntax.{Program}
+use Rattle.cp_meaning.specs.Types.{component_of}
+use Rattle.cp_meaning.specs.Declarations.{Parameter}
+use Rattle.cp_meaning.specs.Systems.{system_of}
+use Rattle.cp_meaning.specs.Components.{PathStep}
+use Rattle.cp_meaning.specs.State.{component_at}
+use Rattle.cp_meaning.specs.Steps.{first_components}
+
+-- no parameter is of a process type
+abbrev pub HasNoProcess : Program → List Parameter → Type 0
+HasNoProcess p [] = Unit {0}
+HasNoProcess p (q ∷ qs) = ((k : ℕ) → q.ty ≡ component_of k → (system_of p k).kind ≡ system_kind.Process → ⊥) × HasNoProcess p qs
+
+-- Who starts a process is the process around it.
+pub record StartsKnown (p : Program) : Type 0 where
+  -- no parameter of a system type is a process (C15)
+  pub unknown : (k : ℕ) → HasNoProcess p (system_of p k).parameters
+  -- a process is a variable of a process, since only the program has process variables (C13)
+  pub around : (n m : ℕ) (t : PathStep) → n < length (first_components p) → m < length (first_components p) → (component_at (first_components p) m).path ≡ (component_at (first_components p) n).path ++ t ∷ [] → (component_at (first_components p) m).kind ≡ system_kind.Process →
+      (component_at (first_components p) n).kind ≡ system_kind.Process
