@@ -5,7 +5,7 @@ use crate::page::push_tokens;
 use crate::rules::{mark_at, name_at};
 use crate::sorts::Asker;
 use cp_text::{Mark, Tokens};
-use std::alloc::{AllocError, Global};
+use std::alloc::AllocError;
 
 /// Whether the name at a token is that of a heading.
 fn is_heading(tokens: &Tokens, at: usize) -> bool {
@@ -71,35 +71,17 @@ fn arguments(tokens: &Tokens, call: usize) -> usize {
     number
 }
 
-/// How many arguments a call of a routine by this name should have, where that is known.
-fn wanted_by(tokens: &Tokens, name: &str) -> Option<usize> {
-    match name {
-        "delay" | "continue" | "empty" | "succ" | "pred" | "chr" | "ord" | "abs" | "display" => {
-            Some(1)
-        }
-        _ => Some(parameters(tokens, heading_of(tokens, name)?)),
-    }
-}
-
-fn push_numbers(
-    alloc: Global,
-    text: &mut String,
-    wanted: usize,
-    given: usize,
-) -> Result<(), AllocError> {
-    let plural = if wanted == 1 { "" } else { "s" };
-    text.push_str(format!(in alloc;
-        " takes {wanted} argument{plural}, but is called with {given}"
-    )?.as_str())
-}
-
 /// Says how many arguments a call has and should have. The answer tells whether something was said.
 pub fn push_counts(asker: &Asker, text: &mut String, at: usize) -> Result<bool, AllocError> {
     let tokens = asker.tokens;
     let after = after_designator(tokens, at);
     let name = name_at(tokens, after.saturating_sub(1));
-    let Some(wanted) = wanted_by(tokens, name) else {
-        return Ok(false);
+    let wanted = match name {
+        "delay" | "continue" | "empty" | "succ" | "pred" | "chr" | "ord" | "abs" | "display" => 1,
+        _ => match heading_of(tokens, name) {
+            Some(heading) => parameters(tokens, heading),
+            None => return Ok(false),
+        },
     };
     let given = arguments(tokens, at);
     push_tokens(
@@ -110,6 +92,10 @@ pub fn push_counts(asker: &Asker, text: &mut String, at: usize) -> Result<bool, 
             to: after,
         },
     )?;
-    push_numbers(asker.alloc, text, wanted, given)?;
+    let alloc = asker.alloc;
+    let plural = if wanted == 1 { "" } else { "s" };
+    text.push_str(format!(in alloc;
+        " takes {wanted} argument{plural}, but is called with {given}"
+    )?.as_str())?;
     Ok(true)
 }

@@ -3,8 +3,8 @@
 use crate::page::{line_number, push_marked_line, push_tokens};
 use crate::place::{Sought, find};
 use crate::rules::{mark_at, name_at};
-use crate::starts::{Care, Remark, remarks};
-use crate::waits::{Inner, inner_waits};
+use crate::starts::{Care, remarks};
+use crate::waits::inner_waits;
 use cp_text::{Kind, Mark, Tokens};
 use cp_tree::Program;
 use std::alloc::{AllocError, Global};
@@ -120,25 +120,6 @@ fn push_plain_delays(
     Ok(())
 }
 
-fn push_who_waits(hint: &mut String, source: &[u8], inner: &Inner) -> Result<(), AllocError> {
-    hint.push_str("whoever waits in ")?;
-    push_tokens(hint, source, inner.call)?;
-    hint.push_str(" is still inside ")?;
-    hint.push_str(inner.outer)?;
-    hint.push_str(", so that nobody else can come in there, not even to wake it")
-}
-
-fn push_inner_wait(
-    alloc: Global,
-    text: &mut String,
-    source: &[u8],
-    inner: &Inner,
-) -> Result<(), AllocError> {
-    let mut hint = String::new(alloc);
-    push_who_waits(&mut hint, source, inner)?;
-    push_hint(alloc, text, source, inner.call.from, hint.as_str())
-}
-
 fn push_inner_waits(
     alloc: Global,
     text: &mut String,
@@ -147,39 +128,12 @@ fn push_inner_waits(
     program: &Program,
 ) -> Result<(), AllocError> {
     for inner in &inner_waits(alloc, tokens, program)? {
-        push_inner_wait(alloc, text, source, inner)?;
-    }
-    Ok(())
-}
-
-fn push_skipped(
-    alloc: Global,
-    text: &mut String,
-    source: &[u8],
-    tokens: &Tokens,
-) -> Result<(), AllocError> {
-    for at in 0..tokens.count() {
-        if let Some(next) = skipped(tokens, at) {
-            push_hint(
-                alloc,
-                text,
-                source,
-                next,
-                "this never runs, since continue ends the call of the entry procedure",
-            )?;
-        }
-    }
-    Ok(())
-}
-
-fn push_remarks(
-    alloc: Global,
-    text: &mut String,
-    source: &[u8],
-    remarks: &[Remark],
-) -> Result<(), AllocError> {
-    for remark in remarks {
-        push_hint(alloc, text, source, remark.at, said_of(remark.care))?;
+        let mut hint = String::from_str(alloc, "whoever waits in ")?;
+        push_tokens(&mut hint, source, inner.call)?;
+        hint.push_str(" is still inside ")?;
+        hint.push_str(inner.outer)?;
+        hint.push_str(", so that nobody else can come in there, not even to wake it")?;
+        push_hint(alloc, text, source, inner.call.from, hint.as_str())?;
     }
     Ok(())
 }
@@ -192,9 +146,21 @@ pub fn push_hints(
     tokens: &Tokens,
     program: &Program,
 ) -> Result<(), AllocError> {
-    push_skipped(alloc, text, source, tokens)?;
+    for at in 0..tokens.count() {
+        if let Some(next) = skipped(tokens, at) {
+            push_hint(
+                alloc,
+                text,
+                source,
+                next,
+                "this never runs, since continue ends the call of the entry procedure",
+            )?;
+        }
+    }
     push_inner_waits(alloc, text, source, tokens, program)?;
     push_plain_delays(alloc, text, source, tokens)?;
-    let remarks = remarks(alloc, tokens, program)?;
-    push_remarks(alloc, text, source, &remarks)
+    for remark in &remarks(alloc, tokens, program)? {
+        push_hint(alloc, text, source, remark.at, said_of(remark.care))?;
+    }
+    Ok(())
 }

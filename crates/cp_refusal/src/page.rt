@@ -56,25 +56,6 @@ fn push_blanks(text: &mut String, number: usize) -> Result<(), AllocError> {
     Ok(())
 }
 
-/// Appends a line with its number, and below it a mark after so many bytes.
-fn push_numbered(
-    text: &mut String,
-    number: &str,
-    line: &[u8],
-    before: usize,
-) -> Result<(), AllocError> {
-    text.push_str(number)?;
-    text.push_str(" | ")?;
-    push_source(text, line)?;
-    text.push_str("\n")?;
-    push_blanks(text, number.len())?;
-    text.push_str(" | ")?;
-    for byte in &line[..before.min(line.len())] {
-        text.push(if *byte == b'\t' { '\t' } else { ' ' })?;
-    }
-    text.push_str("^\n")
-}
-
 /// Appends the line of a place with its number, and below it a mark under the place.
 pub fn push_marked_line(
     alloc: Global,
@@ -90,7 +71,16 @@ pub fn push_marked_line(
         .unwrap_or(rest.len())
         .min(rest.len())];
     let number = format!(in alloc; "{}", line_number(source, span.from))?;
-    push_numbered(text, number.as_str(), line, span.from.saturating_sub(start))
+    text.push_str(number.as_str())?;
+    text.push_str(" | ")?;
+    push_source(text, line)?;
+    text.push_str("\n")?;
+    push_blanks(text, number.len())?;
+    text.push_str(" | ")?;
+    for byte in &line[..span.from.saturating_sub(start).min(line.len())] {
+        text.push(if *byte == b'\t' { '\t' } else { ' ' })?;
+    }
+    text.push_str("^\n")
 }
 
 /// The most bytes of a source that are repeated within a sentence.

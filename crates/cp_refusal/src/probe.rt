@@ -52,28 +52,6 @@ fn push_piece(
     }
 }
 
-/// Drafts a program with some pieces put in at a place. Answers which tokens of the draft they are.
-fn put_in(
-    alloc: Global,
-    draft: &mut Draft,
-    tokens: &Tokens,
-    place: usize,
-    pieces: &[Piece],
-) -> Result<Extent, AllocError> {
-    draft.push_copies(alloc, tokens, Extent { from: 0, to: place })?;
-    let from = draft.count();
-    for piece in pieces {
-        push_piece(alloc, draft, tokens, *piece)?;
-    }
-    let to = draft.count();
-    let rest = Extent {
-        from: place,
-        to: tokens.count(),
-    };
-    draft.push_copies(alloc, tokens, rest)?;
-    Ok(Extent { from, to })
-}
-
 /// What the checker says of a program with some pieces put in at a place.
 pub fn asked(
     alloc: Global,
@@ -82,9 +60,19 @@ pub fn asked(
     pieces: &[Piece],
 ) -> Result<Reply, AllocError> {
     let mut draft = Draft::new(alloc);
-    let put = put_in(alloc, &mut draft, tokens, place, pieces)?;
+    draft.push_copies(alloc, tokens, Extent { from: 0, to: place })?;
+    let from = draft.count();
+    for piece in pieces {
+        push_piece(alloc, &mut draft, tokens, *piece)?;
+    }
+    let to = draft.count();
+    let rest = Extent {
+        from: place,
+        to: tokens.count(),
+    };
+    draft.push_copies(alloc, tokens, rest)?;
     match draft.tokens(alloc)? {
-        Some(tokens) => replied(alloc, &tokens, put),
+        Some(tokens) => replied(alloc, &tokens, Extent { from, to }),
         None => Ok(Reply::Unknown),
     }
 }

@@ -4,7 +4,7 @@ use crate::components::{Named, system_types, type_of_group};
 use crate::extent::Extent;
 use crate::rules::{mark_at, name_at};
 use cp_text::{Mark, Tokens};
-use cp_tree::{Body, PartKind, Program, ProgramPartKind, System, SystemKind, VariableGroup};
+use cp_tree::{Body, PartKind, Program, ProgramPartKind, SystemKind, VariableGroup};
 use std::alloc::{AllocError, Global};
 
 /// What is said of a component.
@@ -150,42 +150,6 @@ fn add_groups(
     Ok(())
 }
 
-/// Adds the remarks on the components of a system type.
-fn add_owned(
-    tokens: &Tokens,
-    program: &Program,
-    types: &[Named],
-    system: &System,
-    remarks: &mut Vec<Remark>,
-) -> Result<(), AllocError> {
-    let body = extent_of(tokens, &system.body);
-    for part in &system.parts {
-        if let PartKind::Variables(groups) = &part.kind {
-            add_groups(tokens, program, types, groups, body, remarks)?;
-        }
-    }
-    Ok(())
-}
-
-/// Adds the remarks on the components of all system types, and of the program.
-fn add_remarks(
-    tokens: &Tokens,
-    program: &Program,
-    types: &[Named],
-    remarks: &mut Vec<Remark>,
-) -> Result<(), AllocError> {
-    for named in types {
-        add_owned(tokens, program, types, named.system, remarks)?;
-    }
-    let body = extent_of(tokens, &program.body);
-    for part in &program.parts {
-        if let ProgramPartKind::Variables(groups) = &part.kind {
-            add_groups(tokens, program, types, groups, body, remarks)?;
-        }
-    }
-    Ok(())
-}
-
 /// The remarks on the starts of a program's components.
 pub fn remarks(
     alloc: Global,
@@ -194,6 +158,19 @@ pub fn remarks(
 ) -> Result<Vec<Remark>, AllocError> {
     let types = system_types(alloc, program)?;
     let mut remarks = Vec::new(alloc);
-    add_remarks(tokens, program, &types, &mut remarks)?;
+    for named in &types {
+        let body = extent_of(tokens, &named.system.body);
+        for part in &named.system.parts {
+            if let PartKind::Variables(groups) = &part.kind {
+                add_groups(tokens, program, &types, groups, body, &mut remarks)?;
+            }
+        }
+    }
+    let body = extent_of(tokens, &program.body);
+    for part in &program.parts {
+        if let ProgramPartKind::Variables(groups) = &part.kind {
+            add_groups(tokens, program, &types, groups, body, &mut remarks)?;
+        }
+    }
     Ok(remarks)
 }

@@ -137,20 +137,6 @@ fn add_inner<'a>(
     Ok(())
 }
 
-/// Adds the routines of a system type and, of a monitor type, the calls that may wait in another monitor.
-fn add_type<'a>(
-    tokens: &Tokens,
-    program: &'a Program,
-    named: Named<'a>,
-    known: &mut Vec<Known<'a>>,
-    found: &mut Vec<Inner<'a>>,
-) -> Result<(), AllocError> {
-    if named.system.kind == SystemKind::Monitor {
-        add_inner(tokens, program, named, known, found)?;
-    }
-    add_routines(tokens, program, named, known)
-}
-
 /// The calls, within monitors, of other monitors in which they may wait.
 pub fn inner_waits<'a>(
     alloc: Global,
@@ -160,7 +146,10 @@ pub fn inner_waits<'a>(
     let mut known = Vec::new(alloc);
     let mut found = Vec::new(alloc);
     for named in &system_types(alloc, program)? {
-        add_type(tokens, program, *named, &mut known, &mut found)?;
+        if named.system.kind == SystemKind::Monitor {
+            add_inner(tokens, program, *named, &known, &mut found)?;
+        }
+        add_routines(tokens, program, *named, &mut known)?;
     }
     Ok(found)
 }
