@@ -62,7 +62,7 @@ static LONGEST: [&str; 3] = [
 ];
 
 /// Words that are refused.
-static REFUSED: [&[&str]; 51] = [
+static REFUSED: [&[&str]; 53] = [
     &["cpx", "--choices", "21"],
     &["cpx", "--steps", "0"],
     &["cpx", "--steps", "100001"],
@@ -116,7 +116,9 @@ static REFUSED: [&[&str]; 51] = [
     &["cpx", "--waits"],
     &["cpx", "--merge", "--waits"],
     &["cpx", "--ends", "--waits", "--gates", "any"],
-    &["cpx", "--ends", "--at-once"],
+    &["cpx", "--at-once"],
+    &["cpx", "--ends", "--at-once", "--waits"],
+    &["cpx", "--ends", "--at-once", "--gates", "any"],
     &[
         "cpx",
         "--merge",
