@@ -1,3 +1,4 @@
+pub mod Graphs
 pub mod Keeps
 pub mod Legs
 pub mod Lines
