@@ -1,6 +1,17 @@
+pub mod Alike
 pub mod Edges
+pub mod Falling
+pub mod Graphs
 pub mod Insides
+pub mod Joined
 pub mod Legs
+pub mod Runs
+pub mod Saying
+pub mod Schedules
 pub mod Seeing
 pub mod Sets
+pub mod Standstills
+pub mod Told
+pub mod Trapped
+pub mod Uncut
 pub mod Ways

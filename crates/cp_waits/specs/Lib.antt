@@ -2,7 +2,10 @@ pub mod Graphs
 pub mod Keeps
 pub mod Legs
 pub mod Lines
+pub mod MayWait
+pub mod Named
 pub mod Passings
 pub mod Ranks
 pub mod Sets
+pub mod Traps
 pub mod Walks

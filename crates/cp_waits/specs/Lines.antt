@@ -18,6 +18,7 @@ use Rattle.cp_waits.specs.declared.waiting.Waits.{Waits}
 use Rattle.cp_waits.specs.declared.waiting.Waits.TheVariants.{Known, NotSettled}
 use Rattle.cp_waits.specs.Ranks.{AreRanks}
 use Rattle.cp_waits.specs.Sets.{has}
+use Rattle.cp_waits.specs.Traps.{HasTraps}
 use Rattle.cp_waits.specs.Walks.{IsRound}
 
 -- the word is the one of this origin, among those that were found
@@ -58,7 +59,7 @@ pub record NeverWaits (g : Graph) (q : ℕ) : Type 0 where
 
 abbrev pub IsShown : Graph → States → Waiting → How → Type 0
 IsShown g states line Throughout = ShowsRound g states (keeping.Waiting line.process) line
-IsShown g states line ForGood = ShowsRound g states (keeping.Waiting line.process) line ⊎ ShowsStandstill g states line
+IsShown g states line ForGood = (ShowsRound g states (keeping.Waiting line.process) line ⊎ ShowsStandstill g states line) × HasTraps g (keeping.Waiting line.process)
 IsShown g states line InItsCall = ShowsRound g states (keeping.Inside line.process) line × NeverWaits g line.process
 
 -- a line of a process

@@ -2,6 +2,7 @@
 
 ghost use Rattle.std.specs.Prelude.{◌≡◌};
 ghost use Rattle.cp_waits.specs.Ranks.{rank_in, passed_over_in};
+ghost use Rattle.cp_waits.specs.Traps.{is_trap_in};
 
 use crate::graph::{Edge, Graph};
 use crate::passing::Keeping;
@@ -100,6 +101,16 @@ impl Parts {
     {
         let part = self.parts.get(number as usize)?;
         part.passed_over
+    }
+
+    /// Whether no choice leads out of a component to where the process does otherwise.
+    pub fn is_trap(&self, number: u32) -> bool
+        ensures { result ≡ is_trap_in self.now number }
+    {
+        match self.parts.get(number as usize) {
+            Some(part) => part.is_trap,
+            None => false,
+        }
     }
 }
 

@@ -5,16 +5,19 @@
 pub mod building;
 pub mod components;
 pub mod graph;
+pub mod laws;
 pub mod passing;
 pub mod ranks;
 pub mod report;
 pub mod rounds;
 pub mod set;
 pub mod trails;
+pub mod traps;
 pub mod waiting;
 pub mod watching;
 
 pub use building::graph_of;
+pub use laws::law_lines_mean;
 pub use report::waits_report;
 pub use set::Set;
 pub use waiting::{How, Waiting, Waits, who_waits};

@@ -42,7 +42,8 @@ fn is_ranked_at(graph: &Graph, parts: &Parts, keeping: Keeping, state: usize, pl
     }
 }
 
-fn is_ranked(graph: &Graph, parts: &Parts, keeping: Keeping, state: usize, edge: &Edge) -> bool
+/// Whether the choice raises no number, and passes somebody over where the number stays.
+pub fn is_ranked(graph: &Graph, parts: &Parts, keeping: Keeping, state: usize, edge: &Edge) -> bool
     ensures { IsTrue result ↔ IsRanked graph.now keeping (rank_in parts.now) (passed_over_in parts.now) state edge.now }
 {
     let Some(to) = edge.to else {

@@ -1,7 +1,7 @@
 //! Who may wait for ever while others go on.
 
 ghost use Rattle.std.specs.Prelude.{◌≡◌, true, Contains, IfOk, IfSome, MatchOption};
-ghost use Rattle.cp_waits.specs.Lines.{SayWhoWaits, IsAnswer, IsLine, ShowsRound, StandsStillNever, NeverWaits};
+ghost use Rattle.cp_waits.specs.Lines.{SayWhoWaits, IsAnswer, ShowsRound, StandsStillNever, NeverWaits};
 ghost use Rattle.cp_waits.specs.Sets.{has};
 
 use crate::components::{Part, Parts, parts_of};
@@ -10,6 +10,7 @@ use crate::passing::Keeping;
 use crate::ranks::are_ranks;
 use crate::rounds::round_in;
 use crate::set::Set;
+use crate::traps::are_traps;
 use cp_ends::states::States;
 use std::alloc::{AllocError, Global};
 
@@ -93,10 +94,7 @@ fn answer_of(
         return round_of(alloc, graph, states, &parts, process, fair);
     }
     match still {
-        Some(still) => {
-            let waiting = standing_still(alloc, graph, states, process, &still)?;
-            Ok(Answer::Yes(waiting))
-        }
+        Some(still) => standing_still(alloc, graph, states, &parts, process, &still),
         None => {
             if !are_ranks(graph, &parts, keeping) {
                 return Ok(Answer::NotSettled);
@@ -117,14 +115,53 @@ fn round_of(
 ) -> Result<Answer, AllocError>
     ensures { IfOk result (λ answer. IsAnswer graph.now states.now process answer) }
 {
-    let how = if fair.is_trap {
-        How::ForGood
-    } else {
-        How::Throughout
-    };
+    if fair.is_trap {
+        return round_for_good(alloc, graph, states, parts, process, fair);
+    }
     let keeping = Keeping::Waiting(process);
     Ok(
-        match lasso(alloc, graph, states, parts, keeping, fair, process, how)? {
+        match lasso(
+            alloc,
+            graph,
+            states,
+            parts,
+            keeping,
+            fair,
+            process,
+            How::Throughout,
+        )? {
+            Some(waiting) => Answer::Yes(waiting),
+            None => Answer::NotSettled,
+        },
+    )
+}
+
+// The same where no choice makes it ready any more.
+fn round_for_good(
+    alloc: Global,
+    graph: &Graph,
+    states: &States,
+    parts: &Parts,
+    process: u8,
+    fair: Fair,
+) -> Result<Answer, AllocError>
+    ensures { IfOk result (λ answer. IsAnswer graph.now states.now process answer) }
+{
+    let keeping = Keeping::Waiting(process);
+    if !are_traps(graph, parts, keeping) {
+        return Ok(Answer::NotSettled);
+    }
+    Ok(
+        match lasso(
+            alloc,
+            graph,
+            states,
+            parts,
+            keeping,
+            fair,
+            process,
+            How::ForGood,
+        )? {
             Some(waiting) => Answer::Yes(waiting),
             None => Answer::NotSettled,
         },
@@ -136,20 +173,24 @@ fn standing_still(
     alloc: Global,
     graph: &Graph,
     states: &States,
+    parts: &Parts,
     process: u8,
     still: &Standstill,
-) -> Result<Waiting, AllocError>
+) -> Result<Answer, AllocError>
     requires known { Contains graph.now.standstills.items still.now }
     requires waits { has still.now.again.wait process ≡ true }
-    ensures { IfOk result (λ waiting. IsLine graph.now states.now process waiting) }
+    ensures { IfOk result (λ answer. IsAnswer graph.now states.now process answer) }
 {
-    Ok(Waiting {
+    if !are_traps(graph, parts, Keeping::Waiting(process)) {
+        return Ok(Answer::NotSettled);
+    }
+    Ok(Answer::Yes(Waiting {
         process,
         first: states.word(alloc, still.origin)?,
         again: Vec::new(alloc),
         step: still.again.step,
         how: How::ForGood,
-    })
+    }))
 }
 
 // The same of a process that waits in no round throughout.

@@ -1,0 +1,30 @@
+-- What is so of all elements of joined lists, or of one.
+use Rattle.std.proofs.Common.{◌⊎◌, inl, inr, ⊎_elim, List, [], ◌∷◌, ◌++◌}
+use Rattle.std.specs.List.{AllByRecursion as Each}
+use Rattle.cp_endless.specs.Moments.{AnyOf}
+
+pub each_left : {A : Type 0} (P : A → Type 0) (xs ys : List A) → Each P (xs ++ ys) → Each P xs
+each_left P [] ys e = tt
+each_left P (x ∷ xs) ys e = (e.0, each_left P xs ys e.1)
+
+pub each_right : {A : Type 0} (P : A → Type 0) (xs ys : List A) → Each P (xs ++ ys) → Each P ys
+each_right P [] ys e = e
+each_right P (x ∷ xs) ys e = each_right P xs ys e.1
+
+pub each_joined : {A : Type 0} (P : A → Type 0) (xs ys : List A) → Each P xs → Each P ys → Each P (xs ++ ys)
+each_joined P [] ys e f = f
+each_joined P (x ∷ xs) ys e f = (e.0, each_joined P xs ys e.1 f)
+
+pub any_split : {A : Type 0} (P : A → Type 0) (xs ys : List A) → AnyOf P (xs ++ ys) → AnyOf P xs ⊎ AnyOf P ys
+any_split P [] ys a = inr a
+any_split P (x ∷ xs) ys (inl p) = inl (inl p)
+any_split P (x ∷ xs) ys (inr a) = ⊎_elim (λ (l : AnyOf P xs). inl (inr l)) (λ (r : AnyOf P ys). inr r) (any_split P xs ys a)
+
+pub any_left : {A : Type 0} (P : A → Type 0) (xs ys : List A) → AnyOf P xs → AnyOf P (xs ++ ys)
+any_left P [] ys a = absurd a
+any_left P (x ∷ xs) ys (inl p) = inl p
+any_left P (x ∷ xs) ys (inr a) = inr (any_left P xs ys a)
+
+pub any_right : {A : Type 0} (P : A → Type 0) (xs ys : List A) → AnyOf P ys → AnyOf P (xs ++ ys)
+any_right P [] ys a = a
+any_right P (x ∷ xs) ys a = inr (any_right P xs ys a)

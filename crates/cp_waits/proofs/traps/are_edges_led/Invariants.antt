@@ -1,0 +1,11 @@
+use Rattle.std.proofs.Common.{◌≡◌, ◌≤◌, ◌<◌, ℕ, Some, slice_get}
+use Rattle.cp_waits.specs.declared.graph.Edge.{Edge}
+use Rattle.cp_waits.specs.Ranks.{rank_in, passed_over_in}
+use Rattle.cp_waits.specs.Traps.{LeadsToTrap, is_trap_in}
+use Rattle.cp_waits.specs.Walks.{first_edge}
+use Rattle.cp_waits.proofs.traps.are_edges_led.Given as goal
+
+abbrev pub invariant-loop-place : goal.invariant-loop-place
+invariant-loop-place l =
+    (k : ℕ) (e : Edge) → first_edge l.graph l.state ≤ k → k < l.place → slice_get l.graph.edges.items k ≡ Some e →
+    LeadsToTrap l.graph l.keeping (rank_in l.parts) (passed_over_in l.parts) (is_trap_in l.parts) l.is_trap l.state e
