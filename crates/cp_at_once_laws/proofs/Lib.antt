@@ -3,3 +3,4 @@ pub mod pairs
 pub mod search
 pub mod limits
 pub mod names
+pub mod rules

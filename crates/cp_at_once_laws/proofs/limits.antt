@@ -1,4 +1,5 @@
-mod Basics
+pub mod Basics
+pub mod More
 pub mod Closed
 pub mod Complete
 pub mod InStep

@@ -1,6 +1,12 @@
 pub mod Beside
 pub mod Commuting
 pub mod OnNames
+pub mod OneMover
 pub mod Opening
 pub mod States
 pub mod Laws
+pub mod QuietLegs
+pub mod Reached
+pub mod Repeating
+pub mod Values
+pub mod Waking

@@ -16,3 +16,4 @@ pub mod Meeting
 pub mod Waits
 pub mod Unknown
 pub mod Both
+pub mod Onwards

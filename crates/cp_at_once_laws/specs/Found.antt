@@ -1,13 +1,13 @@
 -- What the search that makes quiet steps at once finds, on the meaning of a program on its own names.
 use Rattle.std.specs.Prelude.{◌≡◌, ℕ, Contains, Bool, false, Option}
+use Rattle.cp_tree.specs.Read.{IsRead}
 use Rattle.cp_tree.specs.Syntax.{Tree}
-use Rattle.cp_meaning.specs.WellFormed.{IsWellFormed}
+use Rattle.cp_lawful.specs.Accepted.{IsAccepted}
 use Rattle.cp_meaning.specs.State.{first_gates, State}
 use Rattle.cp_machine.specs.declared.event.Event.{Event}
 use Rattle.cp_machine.specs.declared.shown.Shown.{Shown}
 use Rattle.cp_refine.specs.Named.{named}
 use Rattle.cp_at_once_laws.specs.AtOnce.{Fails, Spins, IsAlone, Marks, Comes, Finds, PicksQuiet}
-use Rattle.cp_at_once_laws.specs.Started.{StartsKnown}
 use Rattle.cp_at_once_laws.specs.Quiet.{names, IsSomewhere, IsQuietStep}
 
 -- nobody is ready, and somebody waits or nobody does
@@ -30,8 +30,8 @@ pub record FindsAll (t : Tree) (pick : State → Option ℕ) (row : ℕ → Stat
   pub alone : IsFound t pick row c waiting (IsAlone (names t))
   pub values : (v : Shown) → IsFound t pick row c waiting (Marks (names t) (ShowsValue t v))
 
--- whoever is taken at once, and however often in a row
+-- of each program that is read and breaks no rule, whoever is taken at once, and however often in a row
 abbrev pub AtOnceNames : Type 0
 AtOnceNames =
-    (t : Tree) → IsWellFormed t.program → StartsKnown t.program → (pick : State → Option ℕ) → PicksQuiet (names t) (IsSomewhere t) (IsQuietStep t) pick → (row : ℕ → State → ℕ) (c : ℕ) (waiting : Bool) →
+    (t : Tree) → IsRead t.program → IsAccepted t → (pick : State → Option ℕ) → PicksQuiet (names t) (IsSomewhere t) (IsQuietStep t) pick → (row : ℕ → State → ℕ) (c : ℕ) (waiting : Bool) →
     FindsAll t pick row c waiting

@@ -1,54 +1,56 @@
 -- The search at once on the slot machine: nothing is left out of the meaning of the program on its own names.
-use Rattle.std.specs.Prelude.{◌≡◌, ℕ, List, Bool, true, Some}
+use Rattle.std.specs.Prelude.{◌≡◌, ℕ, List, Bool, true, Contains}
 use Rattle.cp_tree.specs.Read.{IsRead}
 use Rattle.cp_tree.specs.Syntax.{Tree}
 use Rattle.cp_layout.specs.Laid.{plain, laid}
 use Rattle.cp_slots.specs.Tables.{Tables}
 use Rattle.cp_lawful.specs.Accepted.{IsAccepted}
-use Rattle.cp_meaning.specs.State.{first_gates, State}
+use Rattle.cp_meaning.specs.State.{first_gates}
 use Rattle.cp_machine.specs.Machine.{Machine}
 use Rattle.cp_machine.specs.declared.gates.Gates.TheVariants.{First}
 use Rattle.cp_machine.specs.declared.shown.Shown.{Shown}
-use Rattle.cp_resolved.specs.TreeLayouts.{layouts_of}
 use Rattle.cp_run.specs.declared.outcome.OutcomeKind.{OutcomeKind}
-use Rattle.cp_refine.specs.InStep.{CanGo}
-use Rattle.cp_refine.specs.Law.{Simulates}
-use Rattle.cp_endless.specs.Rounds.{SetsOut, spot_after}
-use Rattle.cp_endless.specs.Silent.{silent_slots}
-use Rattle.cp_at_once_laws.specs.AtOnce.{is_call}
-use Rattle.cp_at_once_laws.specs.Found.{ShowsValue}
-use Rattle.cp_at_once_laws.specs.Quiet.{names, IsQuietStep}
+use Rattle.cp_run.specs.Slots.{slots}
+use Rattle.cp_refine.specs.Named.{named}
+use Rattle.cp_endless.specs.Repeats.{IsAloneAfter, SpinsAfter}
+use Rattle.cp_endless.specs.Shown.{ShowsAfter}
+use Rattle.cp_endless.specs.Silent.{silent_slots, named_without_output}
+use Rattle.cp_at_once_laws.specs.AtOnce.{QuietLeg}
+use Rattle.cp_at_once_laws.specs.Quiet.{names, is_quiet}
 use Rattle.cp_at_once_laws.specs.Search.{SearchesAtOnce}
-use Rattle.cp_at_once_laws.specs.Started.{StartsKnown}
-use Rattle.cp_at_once_laws.specs.Whole.{LeavesNoEndOut}
+use Rattle.cp_at_once_laws.specs.Whole.{IsAloneBy, SpinsBy, LeavesNoEndOut}
 
--- the machine stands for the state on names
-abbrev pub OnSlots : Tree → Tables → State → Machine → Type 0
-OnSlots t r = Simulates t r (layouts_of t) first_gates
+-- no enter and no run error
+abbrev pub IsQuietEvent : Tables → Machine → ℕ → Type 0
+IsQuietEvent r m p = is_quiet ((silent_slots r First).event m p) ≡ true
 
--- what is taken for quiet on slots is a quiet step on names
-abbrev pub QuietThere : Tree → Tables → (Machine → ℕ → Type 0) → Type 0
-QuietThere t r Quiet = (s : State) (m : Machine) (p : ℕ) → OnSlots t r s m → CanGo (names t) s p → Quiet m p → IsQuietStep t s p
+-- What may be made at once on slots: a leg without an enter and a run error, after which each component is in the phase in which it was.
+pub record IsQuietOnSlots (r : Tables) (m : Machine) (p : ℕ) : Type 0 where
+  pub after : Machine
+  pub leg : QuietLeg (silent_slots r First) (IsQuietEvent r) m p after
+  pub phases : after.phases ≡ m.phases
 
--- A value that a schedule shows at a call is shown by a step that the search tells, on slots and on names.
-pub record IsValueTold (t : Tree) (r : Tables) (shown : Machine → ℕ → Type 0) (v : Shown) : Type 0 where
-  pub state : State
-  pub machine : Machine
-  pub process : ℕ
-  pub stands : OnSlots t r state machine
-  pub shows : ShowsValue t v state process
-  pub told : shown machine process
+-- each value that the step shows is told
+abbrev pub Tells : Tables → (Shown → Type 0) → Machine → ℕ → Type 0
+Tells r told m p = (v : Shown) → Contains ((slots r First).output ((slots r First).step m p)) v → told v
 
--- Each end, who goes on for ever, and each value that a schedule comes to, with any limit of steps, is told.
-pub record NothingLeft (t : Tree) (r : Tables) (known : OutcomeKind → Type 0) (alone spins : ℕ → Type 0) (shown : Machine → ℕ → Type 0) : Type 0 where
+-- Each end, who goes on for ever, and each value to which a schedule of the program comes on its own names, with any limit of steps, is told.
+pub record LeavesNone (t : Tree) (known : OutcomeKind → Type 0) (alone spins : ℕ → Type 0) (told : Shown → Type 0) : Type 0 where
   pub ends : LeavesNoEndOut (names t) known alone spins
-  pub values : (v : Shown) (limit : ℕ) (word : List ℕ) (begin : State) (first n : ℕ) (s : State) (q : ℕ) → SetsOut (names t) limit word begin first → spot_after (names t) n begin first ≡ Some (s, q) →
-      is_call ((names t).event s q) ≡ true → ShowsValue t v s q → IsValueTold t r shown v
+  pub values : (limit : ℕ) (word : List ℕ) (v : Shown) → ShowsAfter (named t first_gates) named_without_output limit word v → told v
 
--- Of the tables of each program that is read and breaks no rule: whatever the search takes for quiet, keeps and tells.
+-- Of the tables of each program that is read and breaks no rule: whatever the search keeps and tells.
 abbrev pub LeavesNothingOut : Type 0
 LeavesNothingOut =
-    (t : Tree) (r : Tables) → IsRead t.program → IsAccepted t → StartsKnown t.program → plain r ≡ laid t →
-    (quiet : Machine → ℕ → Bool) → QuietThere t r (λ m p. quiet m p ≡ true) → (steps most : ℕ) (kept : Machine → Bool) (known : OutcomeKind → Bool) (alone spins : ℕ → Bool) (shown : Machine → ℕ → Bool) →
-    SearchesAtOnce (silent_slots r First) steps most (λ m p. quiet m p ≡ true) (λ m. kept m ≡ true) (λ k. known k ≡ true) (λ q. alone q ≡ true) (λ q. spins q ≡ true) (λ m p. shown m p ≡ true) →
-    NothingLeft t r (λ k. known k ≡ true) (λ q. alone q ≡ true) (λ q. spins q ≡ true) (λ m p. shown m p ≡ true)
+    (t : Tree) (r : Tables) → IsRead t.program → IsAccepted t → plain r ≡ laid t →
+    (steps most : ℕ) (kept : Machine → Bool) (known : OutcomeKind → Bool) (alone spins : ℕ → Bool) (told : Shown → Bool) →
+    SearchesAtOnce (silent_slots r First) steps most (IsQuietOnSlots r) (λ m. kept m ≡ true) (λ k. known k ≡ true) (λ q. alone q ≡ true) (λ q. spins q ≡ true) (Tells r (λ v. told v ≡ true)) →
+    LeavesNone t (λ k. known k ≡ true) (λ q. alone q ≡ true) (λ q. spins q ≡ true) (λ v. told v ≡ true)
+
+-- A stretch that is seen to repeat on slots goes on for ever on names, and from some step on one process makes each of its steps: the one that is told.
+pub record RepeatsByOne (t : Tree) (r : Tables) : Type 0 where
+  pub alone : (limit : ℕ) (word : List ℕ) (q : ℕ) → IsAloneAfter (silent_slots r First) limit word q → IsAloneBy (names t) limit word q
+  pub spins : (limit : ℕ) (word : List ℕ) (q : ℕ) → SpinsAfter (silent_slots r First) limit word q → SpinsBy (names t) limit word q
+
+abbrev pub RepeatsByOneLaw : Type 0
+RepeatsByOneLaw = (t : Tree) (r : Tables) → IsRead t.program → IsAccepted t → plain r ≡ laid t → RepeatsByOne t r

@@ -1,7 +1,8 @@
 -- What may be made at once, on the meaning of a program on its own names that shows nothing.
 use Rattle.std.specs.Prelude.{◌≡◌, ℕ, List, Bool, true, false}
+use Rattle.cp_tree.specs.Read.{IsRead}
 use Rattle.cp_tree.specs.Syntax.{Tree}
-use Rattle.cp_meaning.specs.WellFormed.{IsWellFormed}
+use Rattle.cp_lawful.specs.Accepted.{IsAccepted}
 use Rattle.cp_meaning.specs.State.{component_at, first_gates, State}
 use Rattle.cp_machine.specs.declared.event.Event.{Event}
 use Rattle.cp_machine.specs.declared.event.Event.TheVariants.{Local, Kernel, Ended, Fault, OutputFull}
@@ -11,7 +12,6 @@ use Rattle.cp_run.specs.System.{System}
 use Rattle.cp_refine.specs.Running.{Happening, IsMet}
 use Rattle.cp_endless.specs.Silent.{silent_named}
 use Rattle.cp_at_once_laws.specs.AtOnce.{Commutes}
-use Rattle.cp_at_once_laws.specs.Started.{StartsKnown}
 
 -- the meaning that shows nothing, where the first of a line goes in
 abbrev pub names : Tree → System State
@@ -43,6 +43,6 @@ pub record IsQuietStep (t : Tree) (s : State) (p : ℕ) : Type 0 where
   pub event : is_quiet ((names t).event s p) ≡ true
   pub statuses : (n : ℕ) → (component_at ((names t).step s p).components n).status ≡ (component_at s.components n).status
 
--- such a step and one of another ready process may be made in either order
+-- such a step and one of another ready process may be made in either order, in each program that is read and breaks no rule
 abbrev pub CommutesLaw : Type 0
-CommutesLaw = (t : Tree) → IsWellFormed t.program → StartsKnown t.program → Commutes (names t) (IsSomewhere t) (IsQuietStep t)
+CommutesLaw = (t : Tree) → IsRead t.program → IsAccepted t → Commutes (names t) (IsSomewhere t) (IsQuietStep t)

@@ -27,21 +27,24 @@ IsOpeningKnown among begun known t (Goes r) = begun t r
 abbrev pub FollowsEach : {S : Type 0} → System S → (S → ℕ → Type 0) → S → Type 0
 FollowsEach {S} sys begun s = (p : ℕ) → may sys s p ≡ true → begun s p
 
--- one process alone is followed, whose leg is quiet, and fewer legs may be made at once then
-pub record FollowsOne {S : Type 0} (sys : System S) (Quiet : S → ℕ → Type 0) (begun : ℕ → S → ℕ → Type 0) (c : ℕ) (s : S) : Type 0 where
+-- some leg of a process is quiet
+abbrev pub HasQuietLeg : {S : Type 0} → System S → (S → ℕ → Type 0) → S → ℕ → Type 0
+HasQuietLeg {S} sys Quiet s p = (t : S) × QuietLeg sys Quiet s p t
+
+-- one process alone is followed, whose leg may be made at once, and fewer legs may be then
+pub record FollowsOne {S : Type 0} (sys : System S) (AtOnce : S → ℕ → Type 0) (begun : ℕ → S → ℕ → Type 0) (c : ℕ) (s : S) : Type 0 where
   pub process : ℕ
   pub left : ℕ
   pub fewer : c ≡ suc left
   pub may_be : may sys s process ≡ true
-  pub after : S
-  pub leg : QuietLeg sys Quiet s process after
+  pub at_once : AtOnce s process
   pub follows : begun left s process
 
--- The search at once leaves nothing of these out.
-pub record GoesThrough {S : Type 0} (sys : System S) (Quiet : S → ℕ → Type 0) (among : ℕ → S → Type 0) (begun : ℕ → S → ℕ → Type 0) (known : OutcomeKind → Type 0) : Type 0 where
+-- The search at once leaves nothing of these out. `AtOnce s p`: the leg of process p may be made at once.
+pub record GoesThrough {S : Type 0} (sys : System S) (AtOnce : S → ℕ → Type 0) (among : ℕ → S → Type 0) (begun : ℕ → S → ℕ → Type 0) (known : OutcomeKind → Type 0) : Type 0 where
   pub most : ℕ
   pub start : IsOpeningKnown (among most) (begun most) known sys.start (turn_at sys sys.start false 0)
-  pub choice : (c : ℕ) (s : S) → among c s → ((d : ℕ) × FollowsEach sys (begun d) s) ⊎ FollowsOne sys Quiet begun c s
+  pub choice : (c : ℕ) (s : S) → among c s → ((d : ℕ) × FollowsEach sys (begun d) s) ⊎ FollowsOne sys AtOnce begun c s
   pub stretch : (c : ℕ) (b : S) (f n : ℕ) (s : S) (q : ℕ) → begun c b f → spot_after sys n b f ≡ Some (s, q) → IsTurnKnown (among c) known (sys.step s q) (turn_after sys (sys.step s q) q (sys.event s q))
 
 -- in a stretch that is gone through, a process meets what is asked for

@@ -31,3 +31,7 @@ pub record LeavesNoEndOut {S : Type 0} (sys : System S) (known : OutcomeKind →
   pub ends : (limit : ℕ) (word : List ℕ) (kind : OutcomeKind) → kind ≢ StepLimit → EndsAfter sys limit word kind → known kind
   pub alone_for_ever : (limit : ℕ) (word : List ℕ) (q : ℕ) → IsAloneBy sys limit word q → alone q
   pub spins_for_ever : (limit : ℕ) (word : List ℕ) (q : ℕ) → SpinsBy sys limit word q → spins q
+
+-- an end that is no limit of steps is one with each greater limit too, after the same word
+abbrev pub GreaterLimits : {S : Type 0} → System S → Type 0
+GreaterLimits sys = (steps more : ℕ) (word : List ℕ) (kind : OutcomeKind) → kind ≢ StepLimit → EndsAfter sys steps word kind → EndsAfter sys (more + steps) word kind

@@ -3,4 +3,6 @@
 
 pub mod laws;
 
-pub use laws::{law_at_once, law_commute, law_nothing_left_out, law_words};
+pub use laws::{
+    law_at_once, law_commute, law_greater_limits, law_nothing_left_out, law_repeats, law_words,
+};

@@ -10,7 +10,7 @@ use Rattle.cp_endless.specs.Reachable.{EndsAfter}
 use Rattle.cp_endless.specs.Rounds.{SetsOut, spot_after}
 use Rattle.cp_at_once_laws.proofs.limits.Basics.{some_same}
 use Rattle.cp_at_once_laws.specs.AtOnce.{is_call, Comes, Fails, fails, later_fails, Commutes, NobodyReady, GoalStays, OwnGoal}
-use Rattle.cp_at_once_laws.specs.Through.{IsTurnKnown, GoesThrough, IsPlain}
+use Rattle.cp_at_once_laws.specs.Through.{IsTurnKnown, HasQuietLeg, GoesThrough, IsPlain}
 use Rattle.cp_at_once_laws.proofs.search.Goals.{errors_stay, own_errors}
 use Rattle.cp_at_once_laws.proofs.limits.Turns.{ready_in, none_ready}
 use Rattle.cp_at_once_laws.proofs.limits.Closed.{IsHit, hits}
@@ -18,7 +18,7 @@ use Rattle.cp_at_once_laws.proofs.limits.Landing.{Stands, R, Taken, closed, firs
 use Rattle.cp_at_once_laws.proofs.limits.Words.{stop_of, stop_turn, ends, meets_in}
 
 module _ {S : Type 0} (sys : System S) (Met : S → Type 0) (Quiet : S → ℕ → Type 0) (law : Commutes sys Met Quiet) (plain : IsPlain sys Met)
-    (among : ℕ → S → Type 0) (begun : ℕ → S → ℕ → Type 0) (known : OutcomeKind → Type 0) (through : GoesThrough sys Quiet among begun known) where
+    (among : ℕ → S → Type 0) (begun : ℕ → S → ℕ → Type 0) (known : OutcomeKind → Type 0) (through : GoesThrough sys (HasQuietLeg sys Quiet) among begun known) where
   abbrev Gone : ℕ → S → Type 0
   Gone = R sys Met Quiet law plain among begun known through
 

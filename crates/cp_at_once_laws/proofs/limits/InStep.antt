@@ -11,8 +11,7 @@ use Rattle.cp_refine.proofs.Alike.{goes_on, goes_same, may_go, may_same, opening
 use Rattle.cp_refine.proofs.Turns.{turn_same}
 use Rattle.cp_endless.specs.Rounds.{spot_after, spot_by}
 use Rattle.cp_at_once_laws.proofs.limits.Basics.{some_same}
-use Rattle.cp_at_once_laws.specs.AtOnce.{is_call, QuietLeg, calls_quietly, after_quiet}
-use Rattle.cp_at_once_laws.specs.Through.{IsTurnKnown, IsOpeningKnown, FollowsEach, FollowsOne, GoesThrough}
+use Rattle.cp_at_once_laws.specs.Through.{IsTurnKnown, IsOpeningKnown, FollowsEach, HasQuietLeg, FollowsOne, GoesThrough}
 
 module _ {S T : Type 0} (a : System S) (b : System T) (R : S → T → Type 0) (go : GoInStep a b R) (free : (s : S) (t : T) → R s t → a.is_pending s ≡ false) where
   -- where the one stands, the other does
@@ -36,26 +35,18 @@ module _ {S T : Type 0} (a : System S) (b : System T) (R : S → T → Type 0) (
           let y = on x g k in
           record { state = y.state; same = y.same; can = y.can; stands = ap (spot_by (b.step t f) (spot_after b n (b.step t f))) (sym (goes_same a b R go s t f r c) ∙ is) ∙ y.stands }
 
-  module _ (Qa : S → ℕ → Type 0) (Qb : T → ℕ → Type 0) (quiet : (s : S) (t : T) (p : ℕ) → R s t → CanGo a s p → Qb t p → Qa s p)
-      (amongb : ℕ → T → Type 0) (begunb : ℕ → T → ℕ → Type 0) (known : OutcomeKind → Type 0) (through : GoesThrough b Qb amongb begunb known) where
+  module _ (Qa : S → ℕ → Type 0) (AtOnce : T → ℕ → Type 0) (quick : (s : S) (t : T) (p : ℕ) → R s t → CanGo a s p → AtOnce t p → HasQuietLeg a Qa s p)
+      (amongb : ℕ → T → Type 0) (begunb : ℕ → T → ℕ → Type 0) (known : OutcomeKind → Type 0) (through : GoesThrough b AtOnce amongb begunb known) where
     abbrev pub Among : ℕ → S → Type 0
     Among c s = (t : T) × R s t × amongb c t
 
     abbrev pub Begun : ℕ → S → ℕ → Type 0
     Begun c s f = (t : T) × R s t × CanGo a s f × begunb c t f
 
-    quiet_leg : (t : T) (p : ℕ) (u : T) → QuietLeg b Qb t p u → (s : S) → R s t → CanGo a s p → (x : S) × QuietLeg a Qa s p x
-    quiet_leg _ _ _ (calls_quietly t p k h) s r c = (a.step s p, calls_quietly s p (quiet s t p r c k) (ap is_call (go.event s t p r c) ∙ h))
-    quiet_leg _ _ _ (after_quiet t p u k h l) s r c =
-        let local = go.event s t p r c ∙ h in
-        let next = go.step s t p r c in
-        let x = quiet_leg (b.step t p) p u l (a.step s p) next (record { below = c.below; ready = go.stays s t p r c local; free = free (a.step s p) (b.step t p) next }) in
-        (x.0, after_quiet s p x.0 (quiet s t p r c k) local x.1)
-
     chosen_alike : (s : S) (t : T) (p : ℕ) → R s t → may a s p ≡ true → CanGo a s p × (may b t p ≡ true)
     chosen_alike s t p r m = (may_go a s p (free s t r) m, sym (may_same a b s t go.processes (go.alike s t r) p) ∙ m)
 
-    choice : (c : ℕ) (s : S) → Among c s → ((d : ℕ) × FollowsEach a (Begun d) s) ⊎ FollowsOne a Qa Begun c s
+    choice : (c : ℕ) (s : S) → Among c s → ((d : ℕ) × FollowsEach a (Begun d) s) ⊎ FollowsOne a (HasQuietLeg a Qa) Begun c s
     choice c s x = by (through.choice c t x.2)
       where
         t : T
@@ -64,13 +55,12 @@ module _ {S T : Type 0} (a : System S) (b : System T) (R : S → T → Type 0) (
         r : R s t
         r = x.1
 
-        by : ((d : ℕ) × FollowsEach b (begunb d) t) ⊎ FollowsOne b Qb begunb c t → ((d : ℕ) × FollowsEach a (Begun d) s) ⊎ FollowsOne a Qa Begun c s
+        by : ((d : ℕ) × FollowsEach b (begunb d) t) ⊎ FollowsOne b AtOnce begunb c t → ((d : ℕ) × FollowsEach a (Begun d) s) ⊎ FollowsOne a (HasQuietLeg a Qa) Begun c s
         by (inl y) = inl (y.0, λ p m. (let k = chosen_alike s t p r m in (t, r, k.0, y.1 p k.1)))
         by (inr one) =
             let m = may_same a b s t go.processes (go.alike s t r) one.process ∙ one.may_be in
             let can = may_go a s one.process (free s t r) m in
-            let l = quiet_leg t one.process one.after one.leg s r can in
-            inr (record { process = one.process; left = one.left; fewer = one.fewer; may_be = m; after = l.0; leg = l.1; follows = (t, r, can, one.follows) })
+            inr (record { process = one.process; left = one.left; fewer = one.fewer; may_be = m; at_once = quick s t one.process r can one.at_once; follows = (t, r, can, one.follows) })
 
     turn_known : (c : ℕ) (s : S) (t : T) → R s t → (turn : Turn) → IsTurnKnown (amongb c) known t turn → IsTurnKnown (Among c) known s turn
     turn_known c s t r (Over kind) k = k
@@ -88,7 +78,7 @@ module _ {S T : Type 0} (a : System S) (b : System T) (R : S → T → Type 0) (
         turn_known c (a.step s q) (b.step y.state q) (go.step s y.state q y.same y.can) (turn_after a (a.step s q) q (a.event s q))
         (subst (IsTurnKnown (amongb c) known (b.step y.state q)) (sym (goes_same a b R go s y.state q y.same y.can)) (through.stretch c x.0 f n y.state q x.3 y.stands))
 
-    pub goes_through_too : GoesThrough a Qa Among Begun known
+    pub goes_through_too : GoesThrough a (HasQuietLeg a Qa) Among Begun known
     goes_through_too =
         record {
           most = through.most;

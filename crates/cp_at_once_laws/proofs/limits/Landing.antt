@@ -12,7 +12,7 @@ use Rattle.cp_refine.proofs.Alike.{may_go}
 use Rattle.cp_endless.specs.Rounds.{spot_after, spot_by}
 use Rattle.cp_endless.proofs.steps.Rounds.{from_there}
 use Rattle.cp_at_once_laws.specs.AtOnce.{Leg, calls, after_local, Commutes}
-use Rattle.cp_at_once_laws.specs.Through.{IsTurnKnown, IsOpeningKnown, FollowsEach, FollowsOne, GoesThrough, IsPlain}
+use Rattle.cp_at_once_laws.specs.Through.{IsTurnKnown, IsOpeningKnown, FollowsEach, HasQuietLeg, FollowsOne, GoesThrough, IsPlain}
 use Rattle.cp_at_once_laws.proofs.search.Front.{as_leg}
 use Rattle.cp_at_once_laws.proofs.limits.Turns.{CallTurn, nobody, alone, choice, ready_in, call_turn, local_turn, which_turn, none_ready, one_ready, head_ready}
 use Rattle.cp_at_once_laws.proofs.limits.Closed.{EachLeg, OneLeg}
@@ -43,7 +43,7 @@ module _ {S : Type 0} (sys : System S) (Met : S → Type 0) (Quiet : S → ℕ �
       let still = law.goes_on s q met ready e in
       ap (turn_after sys t q) e ∙ local_turn sys t q (plain.free t there) (plain.below t q there still) still
 
-  module _ (among : ℕ → S → Type 0) (begun : ℕ → S → ℕ → Type 0) (known : OutcomeKind → Type 0) (through : GoesThrough sys Quiet among begun known) where
+  module _ (among : ℕ → S → Type 0) (begun : ℕ → S → ℕ → Type 0) (known : OutcomeKind → Type 0) (through : GoesThrough sys (HasQuietLeg sys Quiet) among begun known) where
     -- ---- what is gone through leg by leg
 
     pub record Alone (c : ℕ) (s : S) : Type 0 where
@@ -97,7 +97,7 @@ module _ {S : Type 0} (sys : System S) (Met : S → Type 0) (Quiet : S → ℕ �
         may_be : (q : ℕ) → sys.is_ready s q ≡ true → may sys s q ≡ true
         may_be q ready = may_ready sys s q (plain.free s met) (plain.below s q met ready) ready
 
-    follows_one : (c : ℕ) (s : S) → Met s → FollowsOne sys Quiet begun c s → OneLeg sys Quiet R Taken c s
+    follows_one : (c : ℕ) (s : S) → Met s → FollowsOne sys (HasQuietLeg sys Quiet) begun c s → OneLeg sys Quiet R Taken c s
     follows_one c s met one =
         let ready = (may_go sys s one.process (plain.free s met) one.may_be).ready in
         record {
@@ -106,9 +106,9 @@ module _ {S : Type 0} (sys : System S) (Met : S → Type 0) (Quiet : S → ℕ �
           fewer = one.fewer;
           ready = ready;
           taken = record { left = one.left; begin = s; first = one.process; gone = one.follows; after = 0; stands = refl };
-          after = one.after;
-          leg = one.leg;
-          on = lands s one.process one.after (as_leg sys Met Quiet law s one.process one.after one.leg) met ready one.left s one.process 0 one.follows refl;
+          after = one.at_once.0;
+          leg = one.at_once.1;
+          on = lands s one.process one.at_once.0 (as_leg sys Met Quiet law s one.process one.at_once.0 one.at_once.1) met ready one.left s one.process 0 one.follows refl;
         }
 
     alone_each : (c : ℕ) (s : S) → Met s → Alone c s → EachLeg sys R Taken s
@@ -125,7 +125,7 @@ module _ {S : Type 0} (sys : System S) (Met : S → Type 0) (Quiet : S → ℕ �
     pub closed : (c : ℕ) (s : S) → Met s → R c s → EachLeg sys R Taken s ⊎ OneLeg sys Quiet R Taken c s
     closed c s met (inl k) = go (through.choice c s k.0)
       where
-        go : ((d : ℕ) × FollowsEach sys (begun d) s) ⊎ FollowsOne sys Quiet begun c s → EachLeg sys R Taken s ⊎ OneLeg sys Quiet R Taken c s
+        go : ((d : ℕ) × FollowsEach sys (begun d) s) ⊎ FollowsOne sys (HasQuietLeg sys Quiet) begun c s → EachLeg sys R Taken s ⊎ OneLeg sys Quiet R Taken c s
         go (inl x) = inl (follows_each x.0 s met x.1)
         go (inr one) = inr (follows_one c s met one)
     closed c s met (inr (inl a)) = inl (alone_each c s met a)

@@ -10,7 +10,7 @@ use Rattle.cp_refine.proofs.Turns.{Every, those_may}
 use Rattle.cp_endless.specs.Repeats.{IsKernelCall}
 use Rattle.cp_endless.specs.Rounds.{SetsOut, spot_after}
 use Rattle.cp_at_once_laws.specs.AtOnce.{is_call, QuietLeg, calls_quietly, after_quiet, after_steps, Spins, Marks, marks, later_marks, Commutes, GoalStays, OwnGoal}
-use Rattle.cp_at_once_laws.specs.Through.{GoesThrough, IsPlain}
+use Rattle.cp_at_once_laws.specs.Through.{HasQuietLeg, GoesThrough, IsPlain}
 use Rattle.cp_at_once_laws.proofs.search.Front.{same_or_not}
 use Rattle.cp_at_once_laws.proofs.search.Goals.{loops_stay, own_loops, marks_stay, own_marks}
 use Rattle.cp_at_once_laws.proofs.limits.Turns.{CallTurn, nobody, alone, choice, call_turn, which_turn, none_ready, head_ready}
@@ -53,7 +53,7 @@ pub record GoesAlone {S : Type 0} (sys : System S) (s : S) (q : ℕ) : Type 0 wh
   pub calls : (n : ℕ) → (m : ℕ) × (n ≤ m) × IsKernelCall (sys.event (after_steps sys m s q) q)
 
 module _ {S : Type 0} (sys : System S) (Met : S → Type 0) (Quiet : S → ℕ → Type 0) (law : Commutes sys Met Quiet) (plain : IsPlain sys Met)
-    (among : ℕ → S → Type 0) (begun : ℕ → S → ℕ → Type 0) (known : OutcomeKind → Type 0) (through : GoesThrough sys Quiet among begun known) where
+    (among : ℕ → S → Type 0) (begun : ℕ → S → ℕ → Type 0) (known : OutcomeKind → Type 0) (through : GoesThrough sys (HasQuietLeg sys Quiet) among begun known) where
   abbrev Back : (S → ℕ → Type 0) → Type 0
   Back Goal = GoalBack sys Met Quiet law plain among begun known through Goal
 

@@ -5,11 +5,11 @@ use Rattle.cp_run.specs.declared.outcome.OutcomeKind.{OutcomeKind}
 use Rattle.cp_run.specs.System.{System}
 use Rattle.cp_refine.specs.InStep.{CanGo, GoInStep}
 use Rattle.cp_endless.specs.Repeats.{IsKernelCall}
-use Rattle.cp_endless.specs.Rounds.{spot_after}
+use Rattle.cp_endless.specs.Rounds.{SetsOut, spot_after}
 use Rattle.cp_at_once_laws.proofs.limits.Basics.{some_same}
 use Rattle.cp_at_once_laws.specs.AtOnce.{after_steps, Commutes}
 use Rattle.cp_at_once_laws.specs.Search.{SearchesAtOnce}
-use Rattle.cp_at_once_laws.specs.Through.{IsPlain}
+use Rattle.cp_at_once_laws.specs.Through.{HasQuietLeg, IsPlain}
 use Rattle.cp_at_once_laws.specs.Whole.{GoesOnBy, LeavesNoEndOut}
 use Rattle.cp_at_once_laws.proofs.limits.Lonely.{EachStep, goes_alone, each_step}
 use Rattle.cp_at_once_laws.proofs.limits.Whole.{ends_told, loops_told, lonely_told}
@@ -26,6 +26,15 @@ module _ {S : Type 0} (sys : System S) (Met : S → Type 0) (Quiet : S → ℕ �
 
   back : (s : S) (q : ℕ) → Met s → sys.is_ready s q ≡ true → sys.event s q ≡ Local → never (sys.step s q) q → never s q
   back s q met ready local g = g
+
+  -- where the stretch stands to which a word leads, the state is met
+  pub met_there : (limit : ℕ) (word : List ℕ) (b : S) (f n : ℕ) (s : S) (q : ℕ) → SetsOut sys limit word b f → spot_after sys n b f ≡ Some (s, q) → Met s × (sys.is_ready s q ≡ true)
+  met_there limit word b f n s q out at = (a.met, a.ready)
+    where
+      a : Arrived sys Met Quiet law plain nowhere never back s q
+      a =
+          walks sys Met Quiet law plain nowhere never back n b f s q
+          (begins sys Met Quiet law plain nowhere never back (λ kind. ⊥) (λ k. k) (λ t met none k. absurd k) (λ s q kind met ready stop k. absurd k) limit word b f out) at
 
   module _ (limit : ℕ) (word : List ℕ) (q : ℕ) (g : GoesOnBy sys limit word q) where
     abbrev Here : S → ℕ → Type 0
@@ -61,18 +70,18 @@ module _ {S : Type 0} (sys : System S) (Met : S → Type 0) (Quiet : S → ℕ �
         }
 
 module _ {S T : Type 0} (a : System S) (b : System T) (R : S → T → Type 0) (go : GoInStep a b R) (free : (s : S) (t : T) → R s t → a.is_pending s ≡ false)
-    (Qa : S → ℕ → Type 0) (Qb : T → ℕ → Type 0) (quiet : (s : S) (t : T) (p : ℕ) → R s t → CanGo a s p → Qb t p → Qa s p) (Met : S → Type 0) (law : Commutes a Met Qa) (plain : IsPlain a Met)
-    (steps most : ℕ) (kept : T → Type 0) (known : OutcomeKind → Type 0) (alone spins : ℕ → Type 0) (shown : T → ℕ → Type 0) (search : SearchesAtOnce b steps most Qb kept known alone spins shown) where
+    (Qa : S → ℕ → Type 0) (AtOnce : T → ℕ → Type 0) (quick : (s : S) (t : T) (p : ℕ) → R s t → CanGo a s p → AtOnce t p → HasQuietLeg a Qa s p) (Met : S → Type 0) (law : Commutes a Met Qa) (plain : IsPlain a Met)
+    (steps most : ℕ) (kept : T → Type 0) (known : OutcomeKind → Type 0) (alone spins : ℕ → Type 0) (shown : T → ℕ → Type 0) (search : SearchesAtOnce b steps most AtOnce kept known alone spins shown) where
   pub no_end_left : LeavesNoEndOut a known alone spins
   no_end_left =
       record {
-        ends = ends_told a b R go free Qa Qb quiet Met law plain steps most kept known alone spins shown search;
+        ends = ends_told a b R go free Qa AtOnce quick Met law plain steps most kept known alone spins shown search;
         alone_for_ever = λ limit word q x.
             (let g = x.goes_on in
-            lonely_told a b R go free Qa Qb quiet Met law plain steps most kept known alone spins shown search limit word g.begin g.first g.since (g.moves 0).0 q g.sets_out (first_at a Met Qa law plain limit word q g)
+            lonely_told a b R go free Qa AtOnce quick Met law plain steps most kept known alone spins shown search limit word g.begin g.first g.since (g.moves 0).0 q g.sets_out (first_at a Met Qa law plain limit word q g)
             (goes_alone a Met Qa law plain q (g.moves 0).0 (each a Met Qa law plain limit word q g x.calls)));
         spins_for_ever = λ limit word q x.
             (let g = x.goes_on in
-            loops_told a b R go free Qa Qb quiet Met law plain steps most kept known alone spins shown search limit word g.begin g.first g.since (g.moves 0).0 q g.sets_out (first_at a Met Qa law plain limit word q g)
+            loops_told a b R go free Qa AtOnce quick Met law plain steps most kept known alone spins shown search limit word g.begin g.first g.since (g.moves 0).0 q g.sets_out (first_at a Met Qa law plain limit word q g)
             (λ n. subst (λ t. a.event t q ≡ Local) (same a Met Qa law plain limit word q g n) (x.local n)));
       }

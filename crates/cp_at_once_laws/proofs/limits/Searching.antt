@@ -52,17 +52,17 @@ module _ {S : Type 0} (sys : System S) where
       go Due e = refl
       go (Goes x) e = absurd cc
 
-  module _ (steps most : ℕ) (Quiet : S → ℕ → Type 0) (kept : S → Type 0) (known : OutcomeKind → Type 0) (alone spins : ℕ → Type 0) (shown : S → ℕ → Type 0) (search : SearchesAtOnce sys steps most Quiet kept known alone spins shown) where
+  module _ (steps most : ℕ) (AtOnce : S → ℕ → Type 0) (kept : S → Type 0) (known : OutcomeKind → Type 0) (alone spins : ℕ → Type 0) (shown : S → ℕ → Type 0) (search : SearchesAtOnce sys steps most AtOnce kept known alone spins shown) where
     abbrev pub Followed : ℕ → S → Type 0
-    Followed c s = IsFollowed sys steps Quiet kept known alone spins shown c s
+    Followed c s = IsFollowed sys steps AtOnce kept known alone spins shown c s
 
     abbrev pub Taken : ℕ → S → ℕ → Type 0
     Taken c b f = IsTaken sys steps known alone spins shown (Followed c) b f
 
-    choice_followed : (c : ℕ) (s : S) → Followed c s → ((d : ℕ) × FollowsEach sys (Taken d) s) ⊎ FollowsOne sys Quiet Taken c s
+    choice_followed : (c : ℕ) (s : S) → Followed c s → ((d : ℕ) × FollowsEach sys (Taken d) s) ⊎ FollowsOne sys AtOnce Taken c s
     choice_followed zero s k = inl (most, λ p m. search.on s p k m)
     choice_followed (suc c) s (inl k) = inl (most, λ p m. search.on s p k m)
-    choice_followed (suc c) s (inr x) = inr (record { process = x.0; left = c; fewer = refl; may_be = x.1; after = x.2.0; leg = x.2.1; follows = x.3 })
+    choice_followed (suc c) s (inr x) = inr (record { process = x.0; left = c; fewer = refl; may_be = x.1; at_once = x.2; follows = x.3 })
 
     by_comes : (c : ℕ) (b : S) (f n : ℕ) (s : S) (q : ℕ) → ComesOut sys steps known (Followed c) b f ⊎ GoesRound sys steps alone spins b f → spot_after sys n b f ≡ Some (s, q) → (turn : Turn) → turn_after sys (sys.step s q) q (sys.event s q) ≡ turn → IsTurnKnown (Followed c) known (sys.step s q) turn
     by_comes c b f n s q (inl out) at (Over kind) e = subst (IsIn (Followed c) known) (stands_still steps n b f s q (λ r. Choosing b) (Over kind) out.uncut at e (λ r bad. cc)) out.to
@@ -72,7 +72,7 @@ module _ {S : Type 0} (sys : System S) where
     by_comes c b f n s q (inr round) at Due e = absurd (never_still steps b f n s q round.repeats at (ap (spot_by (sys.step s q) (λ r. Some (sys.step s q, r))) e))
     by_comes c b f n s q (inr round) at (Goes r) e = tt
 
-    pub goes_through : GoesThrough sys Quiet Followed Taken known
+    pub goes_through : GoesThrough sys AtOnce Followed Taken known
     goes_through =
         record {
           most = most;
@@ -101,7 +101,7 @@ module _ {S : Type 0} (sys : System S) where
     arrives : (k : ℕ) → spot_after sys (steps + times k) b f ≡ Some (r.state, r.process)
     arrives k = from_there sys steps (times k) b f r.state r.process r.comes ∙ again k
 
-    any_moment : (P : Moment S → Type 0) (n : ℕ) (s : S) (p i : ℕ) (t : S) (q : ℕ) → i < n → spot_after sys i s p ≡ Some (t, q) → P (record { state = t; mover = q }) → AnyOf P (stretch_moments sys n s p)
+    pub any_moment : (P : Moment S → Type 0) (n : ℕ) (s : S) (p i : ℕ) (t : S) (q : ℕ) → i < n → spot_after sys i s p ≡ Some (t, q) → P (record { state = t; mover = q }) → AnyOf P (stretch_moments sys n s p)
     unfolding stretch_moments
     any_moment P zero s p i t q less is h = absurd (omega (arith, less))
     any_moment P (suc n) s p zero t q less is h = inl (subst (λ (x : S × ℕ). P (record { state = x.0; mover = x.1 })) (sym (some_same (s, p) (t, q) is)) h)

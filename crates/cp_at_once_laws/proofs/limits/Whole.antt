@@ -17,7 +17,7 @@ use Rattle.cp_at_once_laws.proofs.limits.Basics.{some_same, distance}
 use Rattle.cp_endless.proofs.steps.Rounds.{cut_if_on}
 use Rattle.cp_at_once_laws.specs.AtOnce.{is_call, after_steps, Spins, Commutes}
 use Rattle.cp_at_once_laws.specs.Search.{ComesOut, GoesRound, SearchesAtOnce}
-use Rattle.cp_at_once_laws.specs.Through.{GoesThrough, IsPlain}
+use Rattle.cp_at_once_laws.specs.Through.{HasQuietLeg, GoesThrough, IsPlain}
 use Rattle.cp_at_once_laws.proofs.limits.Complete.{end_known}
 use Rattle.cp_at_once_laws.proofs.limits.InStep.{StandsAlike, stands_alike, Among, Begun, goes_through_too}
 use Rattle.cp_at_once_laws.proofs.limits.Meeting.{GoesAlone, MovesOn, loops_there, alone_there, MarkThere, marks_there}
@@ -41,25 +41,25 @@ no_local_call : (e : Event) → e ≡ Local → IsKernelCall e → ⊥
 no_local_call e is call = subst IsKernelCall is call
 
 module _ {S T : Type 0} (a : System S) (b : System T) (R : S → T → Type 0) (go : GoInStep a b R) (free : (s : S) (t : T) → R s t → a.is_pending s ≡ false)
-    (Qa : S → ℕ → Type 0) (Qb : T → ℕ → Type 0) (quiet : (s : S) (t : T) (p : ℕ) → R s t → CanGo a s p → Qb t p → Qa s p) (Met : S → Type 0) (law : Commutes a Met Qa) (plain : IsPlain a Met)
-    (steps most : ℕ) (kept : T → Type 0) (known : OutcomeKind → Type 0) (alone spins : ℕ → Type 0) (shown : T → ℕ → Type 0) (search : SearchesAtOnce b steps most Qb kept known alone spins shown) where
+    (Qa : S → ℕ → Type 0) (AtOnce : T → ℕ → Type 0) (quick : (s : S) (t : T) (p : ℕ) → R s t → CanGo a s p → AtOnce t p → HasQuietLeg a Qa s p) (Met : S → Type 0) (law : Commutes a Met Qa) (plain : IsPlain a Met)
+    (steps most : ℕ) (kept : T → Type 0) (known : OutcomeKind → Type 0) (alone spins : ℕ → Type 0) (shown : T → ℕ → Type 0) (search : SearchesAtOnce b steps most AtOnce kept known alone spins shown) where
   abbrev among : ℕ → T → Type 0
-  among = Followed b steps most Qb kept known alone spins shown search
+  among = Followed b steps most AtOnce kept known alone spins shown search
 
   abbrev taken : ℕ → T → ℕ → Type 0
-  taken = Taken b steps most Qb kept known alone spins shown search
+  taken = Taken b steps most AtOnce kept known alone spins shown search
 
-  abbrev through : GoesThrough b Qb among taken known
-  through = goes_through b steps most Qb kept known alone spins shown search
+  abbrev through : GoesThrough b AtOnce among taken known
+  through = goes_through b steps most AtOnce kept known alone spins shown search
 
   abbrev amonga : ℕ → S → Type 0
-  amonga = Among a b R go free Qa Qb quiet among taken known through
+  amonga = Among a b R go free Qa AtOnce quick among taken known through
 
   abbrev beguna : ℕ → S → ℕ → Type 0
-  beguna = Begun a b R go free Qa Qb quiet among taken known through
+  beguna = Begun a b R go free Qa AtOnce quick among taken known through
 
-  abbrev there : GoesThrough a Qa amonga beguna known
-  there = goes_through_too a b R go free Qa Qb quiet among taken known through
+  abbrev there : GoesThrough a (HasQuietLeg a Qa) amonga beguna known
+  there = goes_through_too a b R go free Qa AtOnce quick among taken known through
 
   -- ---- ends
 

@@ -27,7 +27,7 @@ use Rattle.cp_at_once_laws.proofs.pairs.Staying.{step_stays}
 
 -- ---- who is ready is one of the processes
 
-within_of : (ps : List Process) (q : ℕ) → (process_at ps q).status ≡ ready → q < length ps
+pub within_of : (ps : List Process) (q : ℕ) → (process_at ps q).status ≡ ready → q < length ps
 within_of [] q e = absurd (let bad : unstarted ≡ ready = e in cc)
 within_of (x ∷ ps) zero e = omega arith
 within_of (x ∷ ps) (suc q) e = let h = within_of ps q e in omega (arith, h)

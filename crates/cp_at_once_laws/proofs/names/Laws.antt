@@ -1,6 +1,7 @@
 -- Quiet steps commute on the program's own names, and so the search that makes them at once finds all.
 use Rattle.std.proofs.Common.{ℕ, Bool, Option}
 use Rattle.cp_tree.specs.Syntax.{Tree}
+use Rattle.cp_lawful.proofs.Accepting.{well_formed}
 use Rattle.cp_meaning.specs.State.{State}
 use Rattle.cp_meaning.specs.WellFormed.{IsWellFormed}
 use Rattle.cp_at_once_laws.specs.AtOnce.{Marks, Commutes, PicksQuiet}
@@ -13,6 +14,7 @@ use Rattle.cp_at_once_laws.proofs.names.States.{Kept}
 use Rattle.cp_at_once_laws.proofs.pairs.Both.{beside}
 use Rattle.cp_at_once_laws.proofs.pairs.Unknown.{unknown_opening, unknown_step}
 use Rattle.cp_at_once_laws.proofs.pairs.Waits.{waiting_opening, waiting_step}
+use Rattle.cp_at_once_laws.proofs.rules.Started.{starts_known}
 use Rattle.cp_at_once_laws.proofs.search.Given.{found_of, errors_found, loops_found, alone_found}
 use Rattle.cp_at_once_laws.proofs.search.Goals.{marks_stay, own_marks}
 
@@ -46,7 +48,7 @@ module _ (t : Tree) (ok : IsWellFormed t.program) (rules : StartsKnown t.program
         }
 
 pub commute_law : CommutesLaw
-commute_law t ok rules = all_commute t ok rules
+commute_law t read ok = all_commute t (well_formed t ok) (starts_known t read ok)
 
 pub at_once_names : AtOnceNames
-at_once_names t ok rules pick picks row c waiting = all_found t ok rules pick picks row c waiting
+at_once_names t read ok pick picks row c waiting = all_found t (well_formed t ok) (starts_known t read ok) pick picks row c waiting

@@ -1,0 +1,3 @@
+pub mod Around
+pub mod Parameters
+pub mod Started
