@@ -4,4 +4,5 @@ pub mod Lines
 pub mod Passings
 pub mod Ranks
 pub mod Sets
+pub mod Told
 pub mod Walks
