@@ -1,83 +1,128 @@
-//! From the bytes of a source to the ends that are possible.
+//! From the bytes of a source to the bytes of an answer.
 
-ghost use Rattle.cp_ends.specs.Holds.{HasFindings};
+ghost use Rattle.std.specs.Prelude.{◌≡◌, ◌+◌, ◌≤◌, IfOk};
+ghost use Rattle.cp_text.specs.Reading.{AreOfText};
+ghost use Rattle.cp_tree.specs.Read.{IsRead};
+ghost use Rattle.cp_tree.specs.TreeView.{tree_view};
+ghost use Rattle.cp_tool.specs.Answered as stream;
+ghost use Rattle.cp_tool.specs.declared.answering.Ending.{Ending};
+ghost use Rattle.cp_ends_tool.specs.Answered as spec;
 
-use cp_at_once::{at_once_report, search_at_once};
+use crate::searching::answer_for;
 use cp_check::check;
 use cp_drops::{drop_checked, drop_program, drop_tree};
-use cp_ends::{Found, ends_report, search_ends};
 use cp_resolved::resolve;
-use cp_run::Limits;
-use cp_slots::Resolved;
 use cp_text::{Tokens, scan};
-use cp_tool::refusal::{check_reason, parse_reason, refusal, scan_reason};
-use cp_tool::transfer::{MOST_BYTES, ReadFault, read_source, write_text};
-use cp_tool::{Options, Sink, Source, Status};
+use cp_tool::answering::{Answer, Ending, code_of, refused, refused_at, written};
+use cp_tool::refusal::{check_reason, parse_reason, scan_reason};
+use cp_tool::transfer::{MOST_BYTES, ReadFault, read_source};
+use cp_tool::{Options, Sink, Source, Status, explore_stream};
 use cp_tree::{Tree, parse};
-use cp_waits::{Waits, graph_of, waits_report, who_waits};
-use cp_walk::Text;
 use std::alloc::{AllocError, Global};
+use std::thread::Threads;
 
-// A text, and the exit code where it is written whole.
-#[derive(Drop)]
-struct Answer {
-    code: u8,
-    text: Text,
+/// Reads a source, and writes what the options ask of it.
+///
+/// The whole text is built before the first write. Nothing is written after a failed read or where memory is refused, and a prefix of
+/// the text after a failed write.
+pub fn answer_stream<X: Threads + Sync, R: Source, W: Sink>(
+    rt: &X,
+    alloc: Global,
+    options: &Options,
+    source: &mut R,
+    sink: &mut W,
+) -> Status
+    // What is written is the answer to what was read, and nothing else; status 4 comes exactly where a call failed or took nothing.
+    ensures told { (ending : Ending) × (result.code ≡ stream.code_of ending) × stream.Tells (spec.IsAnswered options.now) (R.remaining source.old) (W.contents sink.old) (W.contents sink.new) ending × (R.failed_reads source.new + (W.failed_writes sink.new + W.empty_writes sink.new) ≡ R.failed_reads source.old + (W.failed_writes sink.old + W.empty_writes sink.old) + stream.faults_of_ending ending) }
+    ensures reads { R.reads source.new ≤ R.reads source.old + 65536 }
+{
+    if asks_ends(options) {
+        ends_stream(alloc, options, source, sink)
+    } else {
+        explore_stream(rt, alloc, options, source, sink)
+    }
+}
+
+// Whether it is asked for ends, and not for one schedule.
+fn asks_ends(options: &Options) -> bool
+    ensures { result ≡ spec.asks_ends options.now }
+{
+    options.ends && options.schedule.is_none()
 }
 
 /// Reads a source, looks for the ends that are possible with any number of choices, and writes which there are.
 ///
-/// The whole text is built before the first write. Nothing is written after a failed read or where memory is refused.
+/// The whole text is built before the first write. Nothing is written after a failed read or where memory is refused, and a prefix of
+/// the text after a failed write.
 pub fn ends_stream<R: Source, W: Sink>(
     alloc: Global,
     options: &Options,
     source: &mut R,
     sink: &mut W,
-) -> Status {
-    let code = match read_source(alloc, source, MOST_BYTES) {
-        Ok(bytes) => match answered(alloc, options, &bytes) {
-            Ok(answer) => written(sink, &answer),
-            Err(_) => 3,
-        },
-        Err(ReadFault::Memory) => 3,
-        Err(ReadFault::Failed) => 4,
-    };
-    Status { code }
-}
-
-fn written<W: Sink>(sink: &mut W, answer: &Answer) -> u8 {
-    match write_text(sink, answer.text.as_str().as_bytes()) {
-        Ok(()) => answer.code,
-        Err(_) => 4,
+) -> Status
+    ensures told { (ending : Ending) × (result.code ≡ stream.code_of ending) × stream.Tells (spec.AreEnds options.now) (R.remaining source.old) (W.contents sink.old) (W.contents sink.new) ending × (R.failed_reads source.new + (W.failed_writes sink.new + W.empty_writes sink.new) ≡ R.failed_reads source.old + (W.failed_writes sink.old + W.empty_writes sink.old) + stream.faults_of_ending ending) }
+    ensures reads { R.reads source.new ≤ R.reads source.old + 65536 }
+{
+    Status {
+        code: code_of(streamed(alloc, options, source, sink)),
     }
 }
 
-fn answered(alloc: Global, options: &Options, source: &[u8]) -> Result<Answer, AllocError> {
+fn streamed<R: Source, W: Sink>(
+    alloc: Global,
+    options: &Options,
+    source: &mut R,
+    sink: &mut W,
+) -> Ending
+    ensures told { stream.Tells (spec.AreEnds options.now) (R.remaining source.old) (W.contents sink.old) (W.contents sink.new) result }
+    ensures faults { R.failed_reads source.new + (W.failed_writes sink.new + W.empty_writes sink.new) ≡ R.failed_reads source.old + (W.failed_writes sink.old + W.empty_writes sink.old) + stream.faults_of_ending result }
+    ensures reads { R.reads source.new ≤ R.reads source.old + 65536 }
+{
+    match read_source(alloc, source, MOST_BYTES) {
+        Ok(bytes) => match answered(alloc, options, &bytes) {
+            Ok(answer) => written(sink, &answer),
+            Err(_) => Ending::OutOfMemory,
+        },
+        Err(ReadFault::Memory) => Ending::OutOfMemory,
+        Err(ReadFault::Failed) => Ending::ReadFailed,
+    }
+}
+
+// What is answered to a source.
+fn answered(alloc: Global, options: &Options, source: &[u8]) -> Result<Answer, AllocError>
+    ensures { IfOk result (λ a. stream.AnswersSource (spec.AreEnds options.now) source.now a.verdict a.text) }
+{
     match scan(alloc, source) {
         Ok(tokens) => parsed(alloc, options, &tokens),
         Err(fault) => refused(alloc, fault.line, scan_reason(fault.cause)),
     }
 }
 
-fn parsed(alloc: Global, options: &Options, tokens: &Tokens) -> Result<Answer, AllocError> {
+// What is answered to the tokens of a source.
+fn parsed(alloc: Global, options: &Options, tokens: &Tokens) -> Result<Answer, AllocError>
+    ensures { AreOfText tokens.now → IfOk result (λ a. stream.AnswersTokens (spec.AreEnds options.now) tokens.now a.verdict a.text) }
+{
     match parse(alloc, tokens) {
         Ok(tree) => checked(alloc, options, tokens, tree),
         Err(fault) => refused_at(alloc, tokens, parse_reason(&fault)),
     }
 }
 
+// What is answered to a tree.
 fn checked(
     alloc: Global,
     options: &Options,
     tokens: &Tokens,
     tree: Tree,
-) -> Result<Answer, AllocError> {
+) -> Result<Answer, AllocError>
+    ensures { IsRead (tree_view tree).program → IfOk result (λ a. stream.AnswersTree (spec.AreEnds options.now) tokens.now (tree_view tree) a.verdict a.text) }
+{
     match check(alloc, tree) {
         Ok(checked) => {
             let resolved = resolve(alloc, &checked);
             drop_checked(checked);
             let program = resolved?;
-            let answer = searched(alloc, options, &program);
+            let answer = answer_for(alloc, options, &program);
             drop_program(program);
             answer
         }
@@ -86,82 +131,4 @@ fn checked(
             refused_at(alloc, tokens, check_reason(&fault))
         }
     }
-}
-
-fn refused(alloc: Global, line: u32, reason: Option<&str>) -> Result<Answer, AllocError> {
-    let Some(reason) = reason else {
-        return Err(AllocError);
-    };
-    Ok(Answer {
-        code: 1,
-        text: Text::new(refusal(alloc, line, reason)?),
-    })
-}
-
-// The refusal at a token, or at the last one for the end of the source.
-fn refused_at(
-    alloc: Global,
-    tokens: &Tokens,
-    reason: Option<(usize, &str)>,
-) -> Result<Answer, AllocError> {
-    let Some((at, reason)) = reason else {
-        return Err(AllocError);
-    };
-    let line = tokens.line(at.min(tokens.count()));
-    refused(alloc, line, Some(reason))
-}
-
-fn searched(alloc: Global, options: &Options, program: &Resolved) -> Result<Answer, AllocError> {
-    let Some(limits) = Limits::new(options.choices, options.steps, options.gates) else {
-        unreachable!()
-    };
-    if options.at_once {
-        return at_once(alloc, options, program, limits);
-    }
-    let found = search_ends(alloc, program, limits, options.states)?;
-    if options.waits && found.stopped.is_none() {
-        return waited(alloc, program, limits, &found);
-    }
-    Ok(Answer {
-        code: code_of(&found),
-        text: ends_report(alloc, program, &found)?.text,
-    })
-}
-
-// The same with kernel calls at once.
-fn at_once(
-    alloc: Global,
-    options: &Options,
-    program: &Resolved,
-    limits: Limits,
-) -> Result<Answer, AllocError> {
-    let found = search_at_once(alloc, program, limits, options.states)?;
-    Ok(Answer {
-        code: if found.is_whole { 0 } else { 5 },
-        text: at_once_report(alloc, program, &found)?.text,
-    })
-}
-
-// And who may wait for ever.
-fn waited(
-    alloc: Global,
-    program: &Resolved,
-    limits: Limits,
-    found: &Found,
-) -> Result<Answer, AllocError>
-    requires kept { HasFindings program.now found.now }
-{
-    let graph = graph_of(alloc, program, limits, found)?;
-    let waits = who_waits(alloc, &graph, &found.states)?;
-    Ok(Answer {
-        code: match &waits {
-            Waits::Known(_) => 0,
-            Waits::NotSettled(_) => 5,
-        },
-        text: waits_report(alloc, program, found, &waits)?.text,
-    })
-}
-
-fn code_of(found: &Found) -> u8 {
-    if found.stopped.is_some() { 5 } else { 0 }
 }

@@ -1,6 +1,7 @@
-//! The program `cpx` with `--ends` as a library: the way from the bytes of a source to the bytes of an answer.
+//! The program `cpx` as a library: the way from the bytes of a source to the bytes of an answer, with `--ends` and without.
 #![tactic(auto)]
 
 pub mod answering;
+pub mod searching;
 
-pub use answering::ends_stream;
+pub use answering::{answer_stream, ends_stream};

@@ -7,5 +7,9 @@ pub mod Named
 pub mod Passings
 pub mod Ranks
 pub mod Sets
+<<<<<<< HEAD
 pub mod Traps
+=======
+pub mod Told
+>>>>>>> 6beae30f04f18f37edeeaed4780d7dcd79b1b32f
 pub mod Walks

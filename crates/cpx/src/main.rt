@@ -3,10 +3,9 @@
 
 ghost use Rattle.std.specs.Prelude.{◌≡◌};
 
-use cp_ends_tool::ends_stream;
+use cp_ends_tool::answer_stream;
 use cp_tool::{
-    OptionFault, Options, Reading, VERSION, Wrapped, asks_version, explore_stream, read_options,
-    reason_for,
+    OptionFault, Options, Reading, VERSION, Wrapped, asks_version, read_options, reason_for,
 };
 use std::alloc::{AllocError, Global};
 use std::env;
@@ -104,7 +103,7 @@ fn read<'a>(alloc: Global, words: &'a [&'a str]) -> Result<Asked, AllocError> {
     }
 }
 
-/// The status of exploring standard input; the blanks are for the counts of the streams' calls.
+/// The status of answering what standard input has; the blanks are for the counts of the streams' calls.
 fn explored<X: Threads + Sync, A: Ledger, B: Ledger>(
     rt: &X,
     alloc: Global,
@@ -121,8 +120,5 @@ fn explored<X: Threads + Sync, A: Ledger, B: Ledger>(
 {
     let mut source: Wrapped<Stdin, A> = Wrapped::new(input, reads);
     let mut sink: Wrapped<Stdout, B> = Wrapped::new(output, writes);
-    if options.ends && options.schedule.is_none() {
-        return ends_stream(alloc, options, &mut source, &mut sink).code;
-    }
-    explore_stream(rt, alloc, options, &mut source, &mut sink).code
+    answer_stream(rt, alloc, options, &mut source, &mut sink).code
 }

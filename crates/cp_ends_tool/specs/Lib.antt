@@ -1,0 +1,4 @@
+pub mod Answered
+pub mod AtOnce
+pub mod OfTables
+pub mod Waits

@@ -1,0 +1,130 @@
+//! From a program to the ends that are possible in schedules of any length.
+
+ghost use Rattle.std.specs.Prelude.{◌≡◌, ℕ, Option, None, IfOk};
+ghost use Rattle.cp_ends.specs.Holds.{HasFindings, Holds, SlotFindings};
+ghost use Rattle.cp_ends.specs.Told.{IsDepth};
+ghost use Rattle.cp_ends_tool.specs.Answered as spec;
+ghost use Rattle.cp_ends_tool.specs.AtOnce.{IsAtOnceReport};
+ghost use Rattle.cp_ends_tool.specs.OfTables.{OfPrograms};
+ghost use Rattle.cp_ends_tool.specs.Waits.{IsWaitsReport, verdict_on};
+
+use cp_at_once::{at_once_report, search_at_once};
+use cp_ends::{Found, ends_report, search_ends};
+use cp_run::Limits;
+use cp_slots::Resolved;
+use cp_tool::Options;
+use cp_tool::answering::{Answer, Verdict};
+use cp_waits::{Waits, graph_of, waits_report, who_waits};
+use std::alloc::{AllocError, Global};
+
+/// What is answered to a program.
+pub fn answer_for(
+    alloc: Global,
+    options: &Options,
+    program: &Resolved,
+) -> Result<Answer, AllocError>
+    ensures { IfOk result (λ a. OfPrograms program.now (λ t. spec.AreEndsBy options.now t program.now a.verdict a.text)) }
+{
+    let Some(limits) = Limits::new(options.choices, options.steps, options.gates) else {
+        unreachable!()
+    };
+    if options.at_once {
+        at_once_answer(alloc, options, program, limits)
+    } else {
+        ends_answer(alloc, options, program, limits)
+    }
+}
+
+// By a search that goes on from each state.
+fn ends_answer(
+    alloc: Global,
+    options: &Options,
+    program: &Resolved,
+    limits: Limits,
+) -> Result<Answer, AllocError>
+    requires steps { limits.steps ≡ options.now.steps }
+    requires gates { limits.gates ≡ options.now.gates }
+    ensures { IfOk result (λ a. OfPrograms program.now (λ t. spec.AreTold options.now t program.now a.verdict a.text)) }
+{
+    let found = search_ends(alloc, program, limits, options.states)?;
+    report_of(alloc, options, program, limits, &found)
+}
+
+// The report of what was found.
+fn report_of(
+    alloc: Global,
+    options: &Options,
+    program: &Resolved,
+    limits: Limits,
+    found: &Found,
+) -> Result<Answer, AllocError>
+    requires kept { HasFindings program.now found.now }
+    ensures { IfOk result (λ a. OfPrograms program.now (λ t. (f : SlotFindings) (to : Option ℕ) → Holds program.now found.now f → IsDepth f found.now.stopped to → spec.IsReportOf options.now t program.now f to a.verdict a.text)) }
+{
+    match found.stopped {
+        Some(_) => Ok(Answer {
+            verdict: Verdict::TooManyStates,
+            text: ends_report(alloc, program, found)?.text,
+        }),
+        None => {
+            if options.waits {
+                waits_answer(alloc, options, program, limits, found)
+            } else {
+                Ok(Answer {
+                    verdict: Verdict::Reported,
+                    text: ends_report(alloc, program, found)?.text,
+                })
+            }
+        }
+    }
+}
+
+// The report of what was found, and who may wait for ever.
+fn waits_answer(
+    alloc: Global,
+    options: &Options,
+    program: &Resolved,
+    limits: Limits,
+    found: &Found,
+) -> Result<Answer, AllocError>
+    requires kept { HasFindings program.now found.now }
+    requires whole { found.now.stopped ≡ None }
+    ensures { IfOk result (λ a. OfPrograms program.now (λ t. (f : SlotFindings) → Holds program.now found.now f → IsWaitsReport options.now t program.now f a.verdict a.text)) }
+{
+    let _ = options;
+    let graph = graph_of(alloc, program, limits, found)?;
+    let waits = who_waits(alloc, &graph, &found.states)?;
+    Ok(Answer {
+        verdict: verdict_on(&waits),
+        text: waits_report(alloc, program, found, &waits)?.text,
+    })
+}
+
+fn verdict_on(waits: &Waits) -> Verdict
+    ensures { result ≡ verdict_on waits.now }
+{
+    match waits {
+        Waits::Known(_) => Verdict::Reported,
+        Waits::NotSettled(_) => Verdict::NotSettled,
+    }
+}
+
+// By a search with kernel calls at once.
+fn at_once_answer(
+    alloc: Global,
+    options: &Options,
+    program: &Resolved,
+    limits: Limits,
+) -> Result<Answer, AllocError>
+    ensures { IfOk result (λ a. OfPrograms program.now (λ t. IsAtOnceReport options.now t program.now a.verdict a.text)) }
+{
+    let found = search_at_once(alloc, program, limits, options.states)?;
+    Ok(Answer {
+        verdict: if found.is_whole {
+            Verdict::Reported
+        } else {
+            Verdict::TooManyStates
+        },
+        text: at_once_report(alloc, program, &found)?.text,
+    })
+}
