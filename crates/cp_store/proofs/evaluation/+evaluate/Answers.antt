@@ -4,7 +4,7 @@ use Rattle.cp_store.specs.declared.error.ErrorName.{ErrorName}
 use Rattle.cp_store.specs.Inside.{CanGoThrough}
 use Rattle.cp_store.specs.Memory.{memory_of}
 use Rattle.cp_store.specs.Places.{distance, indexed_at}
-use Rattle.cp_store.proofs.Reaches.{address_there, address_through, goes_on, index_fails, index_goes, index_moves, index_spans, index_steps, reached, reached_in}
+use Rattle.cp_store.proofs.Reaches.{address_there, address_through, begins, goes_on, index_fails, index_goes, index_moves, index_spans, index_steps, moves, reached, reached_in}
 use Rattle.cp_store.proofs.evaluation.+evaluate.Goals as goal
 
 pub address-indexed-requires : goal.address-indexed-requires
@@ -72,3 +72,26 @@ pub element-cell-requires : goal.element-cell-requires
 element-cell-requires t c =
     let at_is = address_through (memory_of c.args.permanents.now c.args.room.now) c.args.frame.now c.args.place.now c.begun.result c.moved-start.result c.as_slice.result.now c.begun.ensures c.moved-start.ensures c.as_slice.ensures.value in
     reached (memory_of c.args.permanents.now c.args.room.now) c.args.frame.now c.args.place.now 1 c.requires c.in-Ok.at (sym at_is ∙ sym c.through.ensures ∙ c.in-Ok.is)
+
+pub address-begun-requires : goal.address-begun-requires
+address-begun-requires t c = begins (memory_of c.args.permanents.now c.args.room.now) c.args.frame.now c.args.place.now c.requires.0 c.requires.1
+
+pub address-moved-start-requires : goal.address-moved-start-requires
+address-moved-start-requires t c = rw c.begun.ensures (moves (memory_of c.args.permanents.now c.args.room.now) c.args.frame.now c.args.place.now c.requires.0 c.requires.1)
+
+pub element-begun-requires : goal.element-begun-requires
+element-begun-requires t c = begins (memory_of c.args.permanents.now c.args.room.now) c.args.frame.now c.args.place.now 1 c.requires
+
+pub element-moved-start-requires : goal.element-moved-start-requires
+element-moved-start-requires t c = rw c.begun.ensures (moves (memory_of c.args.permanents.now c.args.room.now) c.args.frame.now c.args.place.now 1 c.requires)
+
+pub loaded-begun-requires : goal.loaded-begun-requires
+loaded-begun-requires t c = begins (memory_of c.args.permanents.now c.args.room.now) c.args.frame.now c.args.place.now 1 c.requires
+
+pub loaded-moved-at-requires : goal.loaded-moved-at-requires
+loaded-moved-at-requires t c = rw c.begun.ensures (moves (memory_of c.args.permanents.now c.args.room.now) c.args.frame.now c.args.place.now 1 c.requires)
+
+pub loaded-cell-requires : goal.loaded-cell-requires
+loaded-cell-requires t c =
+    let there = address_there (memory_of c.args.permanents.now c.args.room.now) c.args.frame.now c.args.place.now c.begun.result c.moved-at.result c.as_slice.result.now c.begun.ensures c.moved-at.ensures c.as_slice.ensures.value c.in-empty.len_below in
+    reached (memory_of c.args.permanents.now c.args.room.now) c.args.frame.now c.args.place.now 1 c.requires c.moved-at.result (sym there)

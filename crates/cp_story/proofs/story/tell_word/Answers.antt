@@ -7,6 +7,7 @@ use Rattle.cp_run.specs.Run.{may, chosen, run_from}
 use Rattle.cp_run.specs.Slots.{slots}
 use Rattle.cp_run.specs.Trace.{chosen_lines, trace, trace_from}
 use Rattle.cp_run.proofs.Running.{refused_at, goes_at, drop_next, drop_all}
+use Rattle.cp_run.proofs.TraceBounds.{ticks_within}
 use Rattle.cp_run.proofs.TraceRuns.{over_run, over_lines, no_word_lines, not_over, some_left, refused_lines, chosen_further}
 use Rattle.cp_run.proofs.Tracing.{no_more}
 use Rattle.cp_story.specs.Told.{lines_of}
@@ -97,3 +98,18 @@ returns-clause-answer g c =
     let all : n ≡ length c.args.word.now = omega arith in
     let node = node_of c.loop-place.halt (machine_of c.loop-place.state) in
     c.in_ok-end-2.ensures ∙ sym (c.loop-place.invariant.same ∙ ap (λ w. further n (run_from sys c.args.limits.steps (c.args.limits.choices - n) w node)) (drop_all c.args.word.now n all) ∙ ap (λ i. further i (run_from sys c.args.limits.steps (c.args.limits.choices - i) [] node)) all)
+
+pub returns-then-is_over-clause-ticks : goal.returns-then-is_over-clause-ticks
+returns-then-is_over-clause-ticks g c = ticks_within _ _ _ _ _ c.loop-place.invariant.ticks c.loop-place.invariant.within
+
+pub returns-then-not-may-clause-ticks : goal.returns-then-not-may-clause-ticks
+returns-then-not-may-clause-ticks g c = ticks_within _ _ _ _ _ c.loop-place.invariant.ticks c.loop-place.invariant.within
+
+pub returns-clause-ticks : goal.returns-clause-ticks
+returns-clause-ticks g c = ticks_within _ _ _ _ _ c.loop-place.invariant.ticks c.loop-place.invariant.within
+
+pub returns-in_err-end-clause-ticks : goal.returns-in_err-end-clause-ticks
+returns-in_err-end-clause-ticks g c = ticks_within _ _ _ _ _ c.loop-place.invariant.ticks c.loop-place.invariant.within
+
+pub returns-in_err-end-2-clause-ticks : goal.returns-in_err-end-2-clause-ticks
+returns-in_err-end-2-clause-ticks g c = ticks_within _ _ _ _ _ c.loop-place.invariant.ticks c.loop-place.invariant.within
