@@ -1,9 +1,9 @@
 //! Why a target can't be assigned.
 
 use crate::declared::{Declared, Looked, declared_at};
-use crate::extent::{Extent, after_designator};
+use crate::extent::{Extent, after_designator, expression_at};
 use crate::page::push_tokens;
-use crate::rules::{mark_at, name_at};
+use crate::rules::{mark_at, mark_before, name_at};
 use crate::sorts::{Asker, Sort};
 use cp_text::Mark;
 use cp_tree::Program;
@@ -29,6 +29,20 @@ fn reason(declared: Option<Declared>, sort: Option<Sort>) -> &'static str {
     }
 }
 
+/// Says that an argument is no variable, where it is more than a name and its selectors.
+fn push_no_variable(asker: &Asker, text: &mut String, at: usize) -> Result<bool, AllocError> {
+    let argument = expression_at(asker.tokens, at);
+    let is_name = !name_at(asker.tokens, at).is_empty()
+        && argument.to == after_designator(asker.tokens, at);
+    let before = mark_before(asker.tokens, at);
+    if is_name || !matches!(before, Some(Mark::OpenParenthesis | Mark::Comma)) {
+        return Ok(false);
+    }
+    push_tokens(text, asker.source, argument)?;
+    text.push_str(" is an expression, and a var parameter takes a variable")?;
+    Ok(true)
+}
+
 /// Says why the target, the variable of a `for` or the argument at a token can't be assigned. The answer tells whether something was said.
 pub fn push_unchangeable(
     asker: &Asker,
@@ -36,6 +50,9 @@ pub fn push_unchangeable(
     program: &Program,
     at: usize,
 ) -> Result<bool, AllocError> {
+    if push_no_variable(asker, text, at)? {
+        return Ok(true);
+    }
     let after = after_designator(asker.tokens, at);
     if mark_at(asker.tokens, after) == Some(Mark::OpenParenthesis) {
         return Ok(false);

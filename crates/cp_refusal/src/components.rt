@@ -96,6 +96,38 @@ fn type_in_parts<'a>(program: &'a Program, parts: &'a [Part], name: &str) -> Opt
     None
 }
 
+/// The system type with a name.
+pub fn system_named<'a>(program: &'a Program, name: &str) -> Option<&'a System> {
+    for part in &program.parts {
+        if let ProgramPartKind::Types(all) = &part.kind {
+            for one in all {
+                match &one.value {
+                    Definition::System(system) if one.name.name.as_str() == name => {
+                        return Some(system);
+                    }
+                    _ => {}
+                }
+            }
+        }
+    }
+    None
+}
+
+/// The name of the type of a component that the program has.
+pub fn type_in_program<'a>(program: &'a Program, name: &str) -> Option<&'a str> {
+    for part in &program.parts {
+        let ProgramPartKind::Variables(groups) = &part.kind else {
+            continue;
+        };
+        for group in groups {
+            if has(&group.names, name) {
+                return Some(type_of_group(program, group));
+            }
+        }
+    }
+    None
+}
+
 /// The name of the type of a component that a system type has or is given.
 pub fn component_type<'a>(program: &'a Program, system: &'a System, name: &str) -> Option<&'a str> {
     match type_in_groups(&system.parameters, name) {

@@ -1,8 +1,8 @@
 //! What a name stands for at a place of a program: its innermost declaration.
 
 use cp_tree::{
-    Definition, Identifier, Part, PartKind, Program, ProgramPart, ProgramPartKind, Routine,
-    RoutineKind, System, SystemDefinition, VariableGroup,
+    ConstantDefinition, Definition, Group, Identifier, ParameterGroup, Part, PartKind, Program,
+    ProgramPart, ProgramPartKind, Routine, RoutineKind, System, SystemDefinition, VariableGroup,
 };
 
 /// What a name was declared as.
@@ -18,6 +18,13 @@ pub enum Declared {
     Function,
 }
 
+/// A declaration: of what it is, and the number of the token that it names.
+#[derive(Clone, Copy)]
+pub struct Found {
+    pub what: Declared,
+    pub at: usize,
+}
+
 /// A name, and the place where it is looked for.
 #[derive(Clone, Copy)]
 pub struct Looked<'a> {
@@ -29,63 +36,97 @@ fn is_this(looked: Looked, declared: &Identifier) -> bool {
     declared.at < looked.at && declared.name.as_str() == looked.name
 }
 
-fn is_among(looked: Looked, declared: &[Identifier]) -> bool {
-    declared.iter().any(|one| is_this(looked, one))
+// The declaration among these that has the name, as what they all are.
+fn among(looked: Looked, declared: &[Identifier], what: Declared) -> Option<Found> {
+    let one = declared.iter().find(|one| is_this(looked, one))?;
+    Some(Found { what, at: one.at })
 }
 
-fn is_variable(looked: Looked, groups: &[VariableGroup]) -> bool {
-    groups.iter().any(|group| is_among(looked, &group.names))
-}
-
-fn in_parts(parts: &[Part], looked: Looked) -> Option<Declared> {
-    for part in parts {
-        match &part.kind {
-            PartKind::Constants(all) if all.iter().any(|one| is_this(looked, &one.name)) => {
-                return Some(Declared::Constant);
-            }
-            PartKind::Types(all) if all.iter().any(|one| is_this(looked, &one.name)) => {
-                return Some(Declared::Type);
-            }
-            PartKind::Variables(groups) if is_variable(looked, groups) => {
-                return Some(Declared::Variable);
-            }
-            _ => {}
+fn in_variables(looked: Looked, groups: &[VariableGroup]) -> Option<Found> {
+    for group in groups {
+        if let Some(found) = among(looked, &group.names, Declared::Variable) {
+            return Some(found);
         }
     }
     None
 }
 
-fn in_routine(routine: &Routine, looked: Looked) -> Option<Declared> {
-    match &routine.kind {
-        RoutineKind::Procedure(groups) => {
-            for parameters in groups {
-                if is_among(looked, &parameters.group.names) {
-                    return Some(if parameters.is_var {
-                        Declared::VarParameter
-                    } else {
-                        Declared::Parameter
-                    });
-                }
-            }
-        }
-        RoutineKind::Function(groups, _) => {
-            if groups.iter().any(|group| is_among(looked, &group.names)) {
-                return Some(Declared::Parameter);
-            }
+fn in_groups(looked: Looked, groups: &[Group]) -> Option<Found> {
+    for group in groups {
+        if let Some(found) = among(looked, &group.names, Declared::Parameter) {
+            return Some(found);
         }
     }
-    in_parts(&routine.parts, looked)
+    None
+}
+
+fn in_constants(looked: Looked, all: &[ConstantDefinition]) -> Option<Found> {
+    let one = all.iter().find(|one| is_this(looked, &one.name))?;
+    Some(Found {
+        what: Declared::Constant,
+        at: one.name.at,
+    })
+}
+
+fn in_parts(parts: &[Part], looked: Looked) -> Option<Found> {
+    for part in parts {
+        let found = match &part.kind {
+            PartKind::Constants(all) => in_constants(looked, all),
+            PartKind::Types(all) => {
+                let one = all.iter().find(|one| is_this(looked, &one.name));
+                one.map(|one| Found {
+                    what: Declared::Type,
+                    at: one.name.at,
+                })
+            }
+            PartKind::Variables(groups) => in_variables(looked, groups),
+        };
+        if found.is_some() {
+            return found;
+        }
+    }
+    None
+}
+
+fn in_routine(routine: &Routine, looked: Looked) -> Option<Found> {
+    let found = match &routine.kind {
+        RoutineKind::Procedure(groups) => in_parameters(looked, groups),
+        RoutineKind::Function(groups, _) => in_groups(looked, groups),
+    };
+    found.or(in_parts(&routine.parts, looked))
+}
+
+fn in_parameters(looked: Looked, groups: &[ParameterGroup]) -> Option<Found> {
+    for parameters in groups {
+        let what = if parameters.is_var {
+            Declared::VarParameter
+        } else {
+            Declared::Parameter
+        };
+        if let Some(found) = among(looked, &parameters.group.names, what) {
+            return Some(found);
+        }
+    }
+    None
+}
+
+/// What a routine is.
+pub fn declared_as(routine: &Routine) -> Declared {
+    match routine.kind {
+        RoutineKind::Procedure(_) => Declared::Procedure,
+        RoutineKind::Function(_, _) => Declared::Function,
+    }
 }
 
 /// In the routine with the place, or else as one of the routines.
-fn in_routines(routines: &[Routine], looked: Looked, end: usize) -> Option<Declared> {
+fn in_routines(routines: &[Routine], looked: Looked, end: usize) -> Option<Found> {
     let mut named = None;
     let mut inner = None;
     for routine in routines {
         if is_this(looked, &routine.name) {
-            named = Some(match routine.kind {
-                RoutineKind::Procedure(_) => Declared::Procedure,
-                RoutineKind::Function(_, _) => Declared::Function,
+            named = Some(Found {
+                what: declared_as(routine),
+                at: routine.name.at,
             });
         }
         if routine.at <= looked.at {
@@ -99,18 +140,10 @@ fn in_routines(routines: &[Routine], looked: Looked, end: usize) -> Option<Decla
     }
 }
 
-fn in_system(system: &System, looked: Looked) -> Option<Declared> {
-    if let Some(found) = in_routines(&system.routines, looked, system.body.at) {
-        return Some(found);
-    }
-    if system
-        .parameters
-        .iter()
-        .any(|group| is_among(looked, &group.names))
-    {
-        return Some(Declared::Parameter);
-    }
-    in_parts(&system.parts, looked)
+fn in_system(system: &System, looked: Looked) -> Option<Found> {
+    in_routines(&system.routines, looked, system.body.at)
+        .or(in_groups(looked, &system.parameters))
+        .or(in_parts(&system.parts, looked))
 }
 
 /// The system type with the place, of those that are defined in a part.
@@ -127,23 +160,22 @@ fn system_at<'a>(definitions: &'a [SystemDefinition], looked: Looked) -> Option<
     found
 }
 
-fn in_program_part(part: &ProgramPart, looked: Looked) -> Option<Declared> {
+fn in_program_part(part: &ProgramPart, looked: Looked) -> Option<Found> {
     match &part.kind {
-        ProgramPartKind::Constants(all) if all.iter().any(|one| is_this(looked, &one.name)) => {
-            Some(Declared::Constant)
+        ProgramPartKind::Constants(all) => in_constants(looked, all),
+        ProgramPartKind::Types(all) => {
+            let one = all.iter().find(|one| is_this(looked, &one.name))?;
+            Some(Found {
+                what: Declared::Type,
+                at: one.name.at,
+            })
         }
-        ProgramPartKind::Types(all) if all.iter().any(|one| is_this(looked, &one.name)) => {
-            Some(Declared::Type)
-        }
-        ProgramPartKind::Variables(groups) if is_variable(looked, groups) => {
-            Some(Declared::Variable)
-        }
-        _ => None,
+        ProgramPartKind::Variables(groups) => in_variables(looked, groups),
     }
 }
 
 /// The system type with a place.
-fn enclosing<'a>(program: &'a Program, looked: Looked) -> Option<&'a System> {
+pub fn enclosing<'a>(program: &'a Program, looked: Looked) -> Option<&'a System> {
     let mut found = None;
     for part in &program.parts {
         if part.at <= looked.at {
@@ -160,8 +192,8 @@ fn enclosing<'a>(program: &'a Program, looked: Looked) -> Option<&'a System> {
     }
 }
 
-/// What a name stands for at a place; none where it is not declared, or is a constant of an enumeration.
-pub fn declared_at(program: &Program, looked: Looked) -> Option<Declared> {
+/// What a name stands for at a place, and where that is declared; none where it is not declared, or is a constant of an enumeration.
+pub fn find_declared(program: &Program, looked: Looked) -> Option<Found> {
     if let Some(system) = enclosing(program, looked) {
         if let Some(found) = in_system(system, looked) {
             return Some(found);
@@ -176,4 +208,46 @@ pub fn declared_at(program: &Program, looked: Looked) -> Option<Declared> {
         }
     }
     None
+}
+
+/// What a name stands for at a place; none where it is not declared, or is a constant of an enumeration.
+pub fn declared_at(program: &Program, looked: Looked) -> Option<Declared> {
+    find_declared(program, looked).map(|found| found.what)
+}
+
+fn is_in_routines(routines: &[Routine], looked: Looked) -> bool {
+    routines
+        .iter()
+        .any(|one| is_this(looked, &one.name) || in_routine(one, looked).is_some())
+}
+
+fn is_in_system(system: &System, looked: Looked) -> bool {
+    in_groups(looked, &system.parameters).is_some()
+        || in_parts(&system.parts, looked).is_some()
+        || is_in_routines(&system.routines, looked)
+}
+
+fn is_in_part(part: &ProgramPart, looked: Looked) -> bool {
+    if in_program_part(part, looked).is_some() {
+        return true;
+    }
+    match &part.kind {
+        ProgramPartKind::Types(all) => {
+            all.iter().any(|one| match &one.value {
+                Definition::System(system) => is_in_system(system, looked),
+                Definition::Type(_) => false,
+            })
+        }
+        _ => false,
+    }
+}
+
+/// Whether a name is declared in some block of a program, be it visible or not.
+pub fn is_declared_somewhere(program: &Program, name: &str) -> bool {
+    let looked = Looked {
+        name,
+        at: usize::MAX,
+    };
+    is_in_routines(&program.routines, looked)
+        || program.parts.iter().any(|part| is_in_part(part, looked))
 }

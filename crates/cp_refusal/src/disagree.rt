@@ -2,7 +2,7 @@
 
 use crate::extent::{
     Extent, after_bracket, after_designator, after_factor, after_selector, after_sign, after_sum,
-    after_term, expression_at, is_adding, is_multiplying, is_relation, until_of,
+    after_term, expression_at, is_adding, is_multiplying, is_relation, single, until_of,
 };
 use crate::page::push_tokens;
 use crate::rules::{mark_at, name_at};
@@ -89,66 +89,108 @@ fn operation(
     Ok(true)
 }
 
-/// One token.
-fn single(at: usize) -> Extent {
-    Extent {
-        from: at,
-        to: at.saturating_add(1),
-    }
+/// The operators of one level from a token on, each before an operand of the level below.
+struct Operators {
+    all: Vec<usize>,
+    /// The token after the last operand.
+    end: usize,
 }
 
-/// The first operation of a term whose operands do not agree.
-fn term(asker: &Asker, text: &mut String, at: usize) -> Result<bool, AllocError> {
-    let tokens = asker.tokens;
-    let mut operator = after_factor(tokens, at);
-    for _ in 0..tokens.count() {
-        if !is_multiplying(mark_at(tokens, operator)) {
-            return Ok(false);
+/// The operators of a term.
+fn multiplying(asker: &Asker, at: usize) -> Result<Operators, AllocError> {
+    let mut all = Vec::new(asker.alloc);
+    let mut end = after_factor(asker.tokens, at);
+    for _ in 0..asker.tokens.count() {
+        if !is_multiplying(mark_at(asker.tokens, end)) {
+            break;
         }
-        let from = operator.saturating_add(1);
-        let to = after_factor(tokens, from);
-        let left = Extent {
-            from: at,
-            to: operator,
-        };
-        if operation(asker, text, left, operator, Extent { from, to })? {
-            return Ok(true);
-        }
-        operator = to;
+        all.push(end)?;
+        end = after_factor(asker.tokens, end.saturating_add(1));
     }
-    Ok(false)
+    Ok(Operators { all, end })
+}
+
+/// The operators of a sum without its sign.
+fn adding(asker: &Asker, at: usize) -> Result<Operators, AllocError> {
+    let mut all = Vec::new(asker.alloc);
+    let mut end = after_term(asker.tokens, at);
+    for _ in 0..asker.tokens.count() {
+        if !is_adding(mark_at(asker.tokens, end)) {
+            break;
+        }
+        all.push(end)?;
+        end = after_term(asker.tokens, end.saturating_add(1));
+    }
+    Ok(Operators { all, end })
+}
+
+/// How many operators may be applied from a token on without a fault, by halving: what stands before a fault has a sort.
+fn sound_operators(asker: &Asker, at: usize, operators: &Operators) -> Result<usize, AllocError> {
+    let mut low: usize = 0;
+    let mut high = operators.all.len();
+    for _ in 0..20 {
+        if low >= high {
+            return Ok(low);
+        }
+        let middle = low + (high - low) / 2;
+        let to = match operators.all.get(middle.saturating_add(1)) {
+            Some(next) => *next,
+            None => operators.end,
+        };
+        if asker.sort_of(Extent { from: at, to })?.is_some() {
+            low = middle.saturating_add(1);
+        } else {
+            high = middle;
+        }
+    }
+    Ok(low)
+}
+
+/// The first operation of a level whose operands do not agree.
+fn first_operation(
+    asker: &Asker,
+    text: &mut String,
+    at: usize,
+    operators: &Operators,
+) -> Result<bool, AllocError> {
+    let number = sound_operators(asker, at, operators)?;
+    let Some(operator) = operators.all.get(number).copied() else {
+        return Ok(false);
+    };
+    let left = Extent {
+        from: at,
+        to: operator,
+    };
+    let right = Extent {
+        from: operator.saturating_add(1),
+        to: match operators.all.get(number.saturating_add(1)) {
+            Some(next) => *next,
+            None => operators.end,
+        },
+    };
+    operation(asker, text, left, operator, right)
+}
+
+fn term(asker: &Asker, text: &mut String, at: usize) -> Result<bool, AllocError> {
+    let operators = multiplying(asker, at)?;
+    first_operation(asker, text, at, &operators)
 }
 
 /// The first operation of a sum whose operands do not agree.
 fn sum(asker: &Asker, text: &mut String, at: usize) -> Result<bool, AllocError> {
-    let tokens = asker.tokens;
-    let first = after_sign(tokens, at);
-    let mut operator = after_term(tokens, first);
+    let first = after_sign(asker.tokens, at);
+    let operators = adding(asker, first)?;
     if first > at {
-        let value = Extent {
-            from: first,
-            to: operator,
+        let to = match operators.all.first() {
+            Some(next) => *next,
+            None => operators.end,
         };
+        let value = Extent { from: first, to };
         if unless(asker, text, "a sign", Wanted::Integer, value)? {
             return Ok(true);
         }
     }
-    for _ in 0..tokens.count() {
-        if !is_adding(mark_at(tokens, operator)) {
-            return Ok(false);
-        }
-        let from = operator.saturating_add(1);
-        let to = after_term(tokens, from);
-        let left = Extent {
-            from: at,
-            to: operator,
-        };
-        if operation(asker, text, left, operator, Extent { from, to })? {
-            return Ok(true);
-        }
-        operator = to;
-    }
-    Ok(false)
+    first_operation(asker, text, at, &operators)
 }
 
 /// The comparison that begins at a token, where there is one.
@@ -219,11 +261,7 @@ fn selectors(asker: &Asker, text: &mut String, at: usize) -> Result<bool, AllocE
             Some(Sort::Record | Sort::Component) if !is_index => {}
             Some(sort) => {
                 push_sort(asker, text, name, sort)?;
-                text.push_str(if is_index {
-                    ", and no array: it takes no index"
-                } else {
-                    ", and no record: it has no fields"
-                })?;
+                text.push_str(unselected(sort, is_index))?;
                 return Ok(true);
             }
             None => return Ok(false),
@@ -231,6 +269,19 @@ fn selectors(asker: &Asker, text: &mut String, at: usize) -> Result<bool, AllocE
         to = next;
     }
     Ok(false)
+}
+
+/// Why a value of this sort has no index, or no field.
+fn unselected(sort: Sort, is_index: bool) -> &'static str {
+    if is_index {
+        return ", and no array: it takes no index";
+    }
+    match sort {
+        Sort::Queue => {
+            ": a process waits by delay(q), is let go on by continue(q), and empty(q) asks whether none waits"
+        }
+        _ => ", and no record: it has no fields",
+    }
 }
 
 fn index_of(

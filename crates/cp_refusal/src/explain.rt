@@ -1,24 +1,21 @@
 //! The answer to a source: why it is refused, or what is rarely meant in it.
 
-use crate::candidates::{Candidate, may_stand, push_wanted};
-use crate::extent::{Extent, is_relation};
-use crate::hints::push_hints;
-use crate::page::{line_number, push_marked_line, push_tokens};
-use crate::place::{Sought, Span, find};
-use crate::rules::{Broken, mark_at, sentence};
+use crate::advice::{Refused, advice, is_reserved_name};
+use crate::candidates::push_wanted;
+use crate::draft::spelling;
+use crate::extent::single;
+use crate::foreign::sign_sentence;
+use crate::further_up::{Missing, what_is_missing};
+use crate::hints::hints;
+use crate::page::{line_number, push_tokens};
+use crate::place::{Sought, Span, find, is_coded};
+use crate::report::{Answer, Refusal};
+use crate::rules::{Broken, code, mark_at, sentence};
 use cp_check::{CheckFault, check};
 use cp_drops::{drop_checked, drop_tree};
-use cp_text::{Kind, Mark, ScanCause, ScanFault, Tokens, scan};
+use cp_text::{ScanCause, ScanFault, Tokens, scan};
 use cp_tree::{ParseFault, Program, Tree, parse};
 use std::alloc::{AllocError, Global};
-
-/// What is said of a source.
-#[derive(Drop)]
-pub enum Answer {
-    /// It is a program; with hints, if there are any.
-    Accepted(String),
-    Refused(String),
-}
 
 /// What is said of a source: where and why it is refused, or that it is accepted.
 pub fn refusal(alloc: Global, source: &[u8]) -> Result<Answer, AllocError> {
@@ -81,35 +78,18 @@ fn accepted(
     tokens: &Tokens,
     program: &Program,
 ) -> Result<Answer, AllocError> {
-    let mut text = String::from_str(alloc, "accepted\n")?;
-    push_hints(alloc, &mut text, source, tokens, program)?;
-    Ok(Answer::Accepted(text))
+    Ok(Answer::Accepted(hints(alloc, source, tokens, program)?))
 }
 
-/// A refusal: the sentence with the number of the line, the line with a mark, and where more is said.
-fn page(
-    alloc: Global,
-    source: &[u8],
-    span: Span,
-    sentence: &str,
-    more: &str,
-) -> Result<Answer, AllocError> {
-    let mut text = format!(in alloc; "line {}: ", line_number(source, span.from))?;
-    text.push_str(sentence)?;
-    text.push_str("\n")?;
-    push_marked_line(alloc, &mut text, source, span)?;
-    text.push_str(more)?;
-    text.push_str("\n")?;
-    Ok(Answer::Refused(text))
-}
-
-fn scan_sentence(cause: ScanCause) -> &'static str {
+// What is said of a piece of the source that is no lexeme.
+fn scan_sentence(cause: ScanCause, text: &[u8]) -> &'static str {
     match cause {
         ScanCause::TooLong => "the source has more than 65535 bytes",
-        ScanCause::BadByte =>
-            "this sign is none of the language; comments stand between double quotes, and integers are divided by div",
+        ScanCause::BadByte => sign_sentence(text),
         ScanCause::OpenComment => "this comment has no closing quote",
         ScanCause::OpenChar => "this character has no closing quote on its line",
+        ScanCause::BadChar if is_coded(text) =>
+            "this is no character: the code of a character is 0 to 127",
         ScanCause::BadChar =>
             "this is no character: between the quotes stands one sign, as 'a', or its code, as '(:97:)'; there are no strings",
         ScanCause::NumberTooLarge => "this number is larger than 32767",
@@ -124,16 +104,26 @@ fn scan_refused(alloc: Global, source: &[u8], fault: ScanFault) -> Result<Answer
     if fault.cause == ScanCause::Memory {
         return Err(AllocError);
     }
-    let sentence = scan_sentence(fault.cause);
-    match find(source, Sought::Fault(fault.cause)) {
-        Some(span) => page(
-            alloc,
-            source,
-            span,
-            sentence,
-            "see \"Lexemes\" in docs/LANGUAGE.md",
-        ),
-        None => Ok(Answer::Refused(format!(in alloc; "{sentence}\n")?)),
+    let span = find(source, Sought::Fault(fault.cause));
+    let text = match span {
+        Some(found) => fault_text(source, fault.cause, found),
+        None => &[],
+    };
+    Ok(Answer::Refused(Refusal {
+        kind: "scan",
+        sentence: String::from_str(alloc, scan_sentence(fault.cause, text))?,
+        more: "see \"Lexemes\" in docs/LANGUAGE.md",
+        span,
+        earlier: None,
+    }))
+}
+
+// What a sentence looks at: of a sign also what follows it.
+fn fault_text(source: &[u8], cause: ScanCause, span: Span) -> &[u8] {
+    let rest = &source[span.from.min(source.len())..];
+    match cause {
+        ScanCause::BadByte => rest,
+        _ => &rest[..span.len.min(rest.len())],
     }
 }
 
@@ -143,101 +133,45 @@ fn rule_broken(
     tokens: &Tokens,
     broken: Broken,
 ) -> Result<Answer, AllocError> {
-    let said = sentence(alloc, source, tokens, broken)?;
-    let span = span_of(source, broken.at, tokens);
-    page(
-        alloc,
-        source,
-        span,
-        said.as_str(),
-        "see the rule in docs/RULES.md",
-    )
+    Ok(Answer::Refused(Refusal {
+        kind: code(broken.rule),
+        sentence: sentence(alloc, source, tokens, broken)?,
+        more: "see the rule in docs/RULES.md",
+        span: Some(span_of(source, broken.at, tokens)),
+        earlier: None,
+    }))
 }
 
-/// The place of a token; at the end of the tokens that after the last.
+/// The place of a token; at the end of the tokens that after the last, and the beginning where there are none.
 fn span_of(source: &[u8], at: usize, tokens: &Tokens) -> Span {
     if let Some(span) = find(source, Sought::Token(at)) {
         return span;
     }
     match find(source, Sought::Token(tokens.count().saturating_sub(1))) {
-        Some(last) => Span {
-            from: last.from.saturating_add(last.len),
-            len: 1,
-        },
-        None => Span {
-            from: source.len(),
-            len: 1,
-        },
+        Some(last) => after(last),
+        None => Span { from: 0, len: 1 },
     }
 }
 
-/// What a beginner may have meant by a token that can't stand in its place.
-fn advice(alloc: Global, tokens: &Tokens, at: usize) -> Result<&'static str, AllocError> {
-    let before = match at.checked_sub(1) {
-        Some(place) => mark_at(tokens, place),
-        None => None,
-    };
-    let mark = mark_at(tokens, at);
-    if is_relation(mark) {
-        return relation_advice(alloc, tokens, at);
-    }
-    Ok(match (before, mark) {
-        (Some(Mark::Semicolon), Some(Mark::Else)) => ": no semicolon stands before else",
-        (_, Some(Mark::Comma))
-            if may_stand(alloc, tokens, at, Candidate::Mark(Mark::CloseBracket))? => {
-            ": where two indices are meant, write a[1][2], and array [1..2] of array [1..2] of .."
-        }
-        (_, Some(Mark::Const | Mark::Type | Mark::Var)) => {
-            ": constants, types and variables are declared before the routines, or an end is missing further up"
-        }
-        (_, Some(Mark::Entry)) => ": entry is a reserved word",
-        (None, Some(Mark::Period)) => ": there are no real numbers",
-        (_, None) => word_advice(tokens, at),
-        _ => "",
-    })
-}
-
-/// What may have been meant by a sign that compares.
-fn relation_advice(alloc: Global, tokens: &Tokens, at: usize) -> Result<&'static str, AllocError> {
-    if may_stand(alloc, tokens, at, Candidate::Mark(Mark::Becomes))? {
-        return Ok(": an assignment is written with :=");
-    }
-    if may_stand(alloc, tokens, at, Candidate::Mark(Mark::Times))? {
-        return Ok(
-            ": comparisons that and or or joins stand in parentheses, as (a = b) and (c = d)",
-        );
-    }
-    Ok("")
-}
-
-fn word_advice(tokens: &Tokens, at: usize) -> &'static str {
-    let before = match at.checked_sub(1) {
-        Some(place) => tokens.get(place),
-        None => None,
-    };
-    match (before, tokens.get(at)) {
-        (_, None) => ": an end may be missing further up",
-        (_, Some(Kind::Name(name))) if name.as_str() == "elsif" => { ": write else if" }
-        (Some(Kind::Name(name)), _) if name.as_str() == "return" => {
-            ": a function gives its result by an assignment to its own name"
-        }
-        _ => "",
+// The place after some bytes.
+fn after(span: Span) -> Span {
+    Span {
+        from: span.from.saturating_add(span.len),
+        len: 1,
     }
 }
 
-fn single(at: usize) -> Extent {
-    Extent {
-        from: at,
-        to: at.saturating_add(1),
+// What is expected in the place of a token, what stands there, and what may have been meant.
+fn unexpected(refused: Refused, missing: &Missing) -> Result<String, AllocError> {
+    let Refused {
+        alloc,
+        source,
+        tokens,
+        at,
+    } = refused;
+    if tokens.count() == 0 {
+        return String::from_str(alloc, "a program is missing");
     }
-}
-
-fn unexpected(
-    alloc: Global,
-    source: &[u8],
-    tokens: &Tokens,
-    at: usize,
-) -> Result<String, AllocError> {
     let mut text = String::from_str(alloc, "expected ")?;
     push_wanted(alloc, &mut text, tokens, at)?;
     if at < tokens.count() {
@@ -247,8 +181,43 @@ fn unexpected(
     } else {
         text.push_str(", found the end of the source")?;
     }
-    text.push_str(advice(alloc, tokens, at)?)?;
+    push_advice(refused, &mut text, missing)?;
     Ok(text)
+}
+
+fn push_advice(refused: Refused, text: &mut String, missing: &Missing) -> Result<(), AllocError> {
+    let (source, tokens) = (refused.source, refused.tokens);
+    match missing {
+        Missing::Semicolon(before) => {
+            let line = line_number(source, span_of(source, *before, tokens).from);
+            return write!(text, ": a semicolon may be missing at the end of line {line}");
+        }
+        Missing::End(open) => {
+            let line = line_number(source, span_of(source, *open, tokens).from);
+            text.push_str(": the ")?;
+            push_tokens(text, source, single(*open))?;
+            return write!(text, " of line {line} has no end");
+        }
+        Missing::Nothing => {}
+    }
+    if is_reserved_name(refused)? {
+        text.push_str(": ")?;
+        text.push_str(match mark_at(tokens, refused.at) {
+            Some(mark) => spelling(mark),
+            None => "",
+        })?;
+        return text.push_str(" is a reserved word");
+    }
+    text.push_str(advice(refused)?)
+}
+
+// The place further up that the excerpt shows too.
+fn earlier(source: &[u8], tokens: &Tokens, missing: &Missing) -> Option<Span> {
+    match missing {
+        Missing::Semicolon(before) => Some(after(span_of(source, *before, tokens))),
+        Missing::End(open) => Some(span_of(source, *open, tokens)),
+        Missing::Nothing => None,
+    }
 }
 
 fn parse_refused(
@@ -257,8 +226,18 @@ fn parse_refused(
     tokens: &Tokens,
     fault: &ParseFault,
 ) -> Result<Answer, AllocError> {
-    let (at, said) = match fault {
-        ParseFault::Unexpected(at) => (*at, unexpected(alloc, source, tokens, *at)?),
+    let mut missing = Missing::Nothing;
+    let (at, sentence) = match fault {
+        ParseFault::Unexpected(at) => {
+            let refused = Refused {
+                alloc,
+                source,
+                tokens,
+                at: *at,
+            };
+            missing = what_is_missing(refused)?;
+            (*at, unexpected(refused, &missing)?)
+        }
         ParseFault::OutsideProfile(at) => {
             let mut text = String::new(alloc);
             push_tokens(&mut text, source, single(*at))?;
@@ -271,12 +250,11 @@ fn parse_refused(
         ),
         ParseFault::Memory => return Err(AllocError),
     };
-    let span = span_of(source, at, tokens);
-    page(
-        alloc,
-        source,
-        span,
-        said.as_str(),
-        "see \"Grammar\" in docs/LANGUAGE.md",
-    )
+    Ok(Answer::Refused(Refusal {
+        kind: "parse",
+        sentence,
+        more: "see \"Grammar\" in docs/LANGUAGE.md",
+        span: Some(span_of(source, at, tokens)),
+        earlier: earlier(source, tokens, &missing),
+    }))
 }

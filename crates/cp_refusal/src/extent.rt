@@ -10,6 +10,14 @@ pub struct Extent {
     pub to: usize,
 }
 
+/// One token.
+pub fn single(at: usize) -> Extent {
+    Extent {
+        from: at,
+        to: at.saturating_add(1),
+    }
+}
+
 /// The number of the token after the bracket that closes the one at this number.
 pub fn after_bracket(tokens: &Tokens, at: usize) -> usize {
     let mut depth: usize = 0;

@@ -1,20 +1,15 @@
 //! What is legal, but rarely meant.
 
-use crate::page::{line_number, push_marked_line, push_tokens};
+use crate::called::is_standard;
+use crate::page::push_tokens;
 use crate::place::{Sought, find};
+use crate::report::{Hint, Hints};
 use crate::rules::{mark_at, name_at};
 use crate::starts::{Care, remarks};
 use crate::waits::inner_waits;
-use cp_text::{Kind, Mark, Tokens};
+use cp_text::{Mark, Tokens};
 use cp_tree::Program;
 use std::alloc::{AllocError, Global};
-
-fn is_continue(tokens: &Tokens, at: usize) -> bool {
-    match tokens.get(at) {
-        Some(Kind::Name(name)) => name.as_str() == "continue",
-        _ => false,
-    }
-}
 
 /// Whether a token begins a statement of a sequence, and no branch.
 fn is_in_sequence(tokens: &Tokens, at: usize) -> bool {
@@ -43,8 +38,8 @@ fn after_call(tokens: &Tokens, at: usize) -> usize {
 }
 
 /// The statement after a `continue` that every run of it skips, where there is one.
-fn skipped(tokens: &Tokens, at: usize) -> Option<usize> {
-    if !is_continue(tokens, at) || !is_in_sequence(tokens, at) {
+fn skipped(tokens: &Tokens, program: &Program, at: usize) -> Option<usize> {
+    if !is_in_sequence(tokens, at) || !is_standard(program, tokens, at, "continue") {
         return None;
     }
     let after = after_call(tokens, at);
@@ -58,20 +53,121 @@ fn skipped(tokens: &Tokens, at: usize) -> Option<usize> {
     }
 }
 
-/// Appends a hint at a token, with its line.
-fn push_hint(
+/// The most hints that are told.
+const MOST_HINTS: usize = 100;
+
+/// A program whose hints are gathered.
+struct Gathering<'a> {
     alloc: Global,
-    text: &mut String,
-    source: &[u8],
-    at: usize,
-    hint: &str,
-) -> Result<(), AllocError> {
-    let Some(span) = find(source, Sought::Token(at)) else {
-        return Ok(());
-    };
-    let line = line_number(source, span.from);
-    text.push_str(format!(in alloc; "hint: line {line}: {hint}\n")?.as_str())?;
-    push_marked_line(alloc, text, source, span)
+    source: &'a [u8],
+    tokens: &'a Tokens,
+    program: &'a Program,
+    hints: Hints,
+}
+
+impl<'a> Gathering<'a> {
+    /// Adds a hint at a token; only counts it where there are many.
+    fn add(&mut self, at: usize, sentence: &str) -> Result<(), AllocError> {
+        if self.hints.all.len() >= MOST_HINTS {
+            self.hints.more = self.hints.more.saturating_add(1);
+            return Ok(());
+        }
+        let Some(span) = find(self.source, Sought::Token(at)) else {
+            return Ok(());
+        };
+        let sentence = String::from_str(self.alloc, sentence)?;
+        self.hints.all.push(Hint { sentence, span })?;
+        Ok(())
+    }
+
+    fn add_skipped(&mut self) -> Result<(), AllocError> {
+        for at in 0..self.tokens.count() {
+            if let Some(next) = skipped(self.tokens, self.program, at) {
+                self.add(
+                    next,
+                    "this never runs, since continue ends the call of the entry procedure",
+                )?;
+            }
+        }
+        Ok(())
+    }
+
+    fn add_inner_waits(&mut self) -> Result<(), AllocError> {
+        for inner in &inner_waits(self.alloc, self.tokens, self.program)? {
+            let mut sentence = String::from_str(self.alloc, "whoever waits in ")?;
+            push_tokens(&mut sentence, self.source, inner.call)?;
+            sentence.push_str(" is still inside ")?;
+            sentence.push_str(inner.outer)?;
+            sentence.push_str(", so that nobody else can come in there, not even to wake it")?;
+            self.add(inner.call.from, sentence.as_str())?;
+        }
+        Ok(())
+    }
+
+    fn add_plain_delays(&mut self) -> Result<(), AllocError> {
+        let mut body = OUTSIDE;
+        for at in 0..self.tokens.count() {
+            body = body.after(self.tokens, at);
+            if body.comes_to_each(self.tokens, at)
+                && is_standard(self.program, self.tokens, at, "delay")
+            {
+                self.add(
+                    at,
+                    "every process that comes here waits; one queue holds one process, and a second one is the run error queue-in-use",
+                )?;
+            }
+        }
+        Ok(())
+    }
+
+    fn add_remarks(&mut self) -> Result<(), AllocError> {
+        for remark in &remarks(self.alloc, self.tokens, self.program)? {
+            self.add(remark.at, said_of(remark.care))?;
+        }
+        Ok(())
+    }
+}
+
+/// Where a walk over the tokens of a body is.
+#[derive(Clone, Copy)]
+struct Walk {
+    /// How many words are open that an `end` or `until` closes.
+    depth: usize,
+    /// Whether a call may have been left before, by a `continue`.
+    may_have_left: bool,
+}
+
+const OUTSIDE: Walk = Walk {
+    depth: 0,
+    may_have_left: false,
+};
+
+impl Walk {
+    /// After one more token.
+    fn after(self, tokens: &Tokens, at: usize) -> Walk {
+        match mark_at(tokens, at) {
+            Some(Mark::Begin | Mark::Case | Mark::Cycle | Mark::Record | Mark::Repeat) => Walk {
+                depth: self.depth.saturating_add(1),
+                may_have_left: self.depth > 0 && self.may_have_left,
+            },
+            Some(Mark::End | Mark::Until) => Walk {
+                depth: self.depth.saturating_sub(1),
+                ..self
+            },
+            _ => Walk {
+                may_have_left: self.may_have_left || name_at(tokens, at) == "continue",
+                ..self
+            },
+        }
+    }
+
+    /// Whether each call comes to the wait in a single queue that may stand at a token.
+    fn comes_to_each(self, tokens: &Tokens, at: usize) -> bool {
+        self.depth == 1
+            && !self.may_have_left
+            && is_in_sequence(tokens, at)
+            && mark_at(tokens, at.saturating_add(3)) == Some(Mark::CloseParenthesis)
+    }
 }
 
 fn said_of(care: Care) -> &'static str {
@@ -84,83 +180,26 @@ fn said_of(care: Care) -> &'static str {
     }
 }
 
-/// Whether each call of the routine around comes to the `delay` of a single queue at a token.
-fn is_plain_delay(tokens: &Tokens, at: usize, depth: usize) -> bool {
-    let queue_end = at.saturating_add(3);
-    depth == 1
-        && name_at(tokens, at) == "delay"
-        && is_in_sequence(tokens, at)
-        && mark_at(tokens, queue_end) == Some(Mark::CloseParenthesis)
-}
-
-fn push_plain_delays(
+/// A hint for each thing that is legal, but rarely meant.
+pub fn hints(
     alloc: Global,
-    text: &mut String,
-    source: &[u8],
-    tokens: &Tokens,
-) -> Result<(), AllocError> {
-    let mut depth: usize = 0;
-    for at in 0..tokens.count() {
-        match mark_at(tokens, at) {
-            Some(Mark::Begin | Mark::Case | Mark::Cycle | Mark::Record | Mark::Repeat) => depth =
-                depth.saturating_add(1),
-            Some(Mark::End | Mark::Until) => depth = depth.saturating_sub(1),
-            _ => {}
-        }
-        if is_plain_delay(tokens, at, depth) {
-            push_hint(
-                alloc,
-                text,
-                source,
-                at,
-                "every process that comes here waits; one queue holds one process, and a second one is the run error queue-in-use",
-            )?;
-        }
-    }
-    Ok(())
-}
-
-fn push_inner_waits(
-    alloc: Global,
-    text: &mut String,
     source: &[u8],
     tokens: &Tokens,
     program: &Program,
-) -> Result<(), AllocError> {
-    for inner in &inner_waits(alloc, tokens, program)? {
-        let mut hint = String::from_str(alloc, "whoever waits in ")?;
-        push_tokens(&mut hint, source, inner.call)?;
-        hint.push_str(" is still inside ")?;
-        hint.push_str(inner.outer)?;
-        hint.push_str(", so that nobody else can come in there, not even to wake it")?;
-        push_hint(alloc, text, source, inner.call.from, hint.as_str())?;
-    }
-    Ok(())
-}
-
-/// Appends a hint for each thing that is legal, but rarely meant.
-pub fn push_hints(
-    alloc: Global,
-    text: &mut String,
-    source: &[u8],
-    tokens: &Tokens,
-    program: &Program,
-) -> Result<(), AllocError> {
-    for at in 0..tokens.count() {
-        if let Some(next) = skipped(tokens, at) {
-            push_hint(
-                alloc,
-                text,
-                source,
-                next,
-                "this never runs, since continue ends the call of the entry procedure",
-            )?;
-        }
-    }
-    push_inner_waits(alloc, text, source, tokens, program)?;
-    push_plain_delays(alloc, text, source, tokens)?;
-    for remark in &remarks(alloc, tokens, program)? {
-        push_hint(alloc, text, source, remark.at, said_of(remark.care))?;
-    }
-    Ok(())
+) -> Result<Hints, AllocError> {
+    let mut gathering = Gathering {
+        alloc,
+        source,
+        tokens,
+        program,
+        hints: Hints {
+            all: Vec::new(alloc),
+            more: 0,
+        },
+    };
+    gathering.add_skipped()?;
+    gathering.add_inner_waits()?;
+    gathering.add_plain_delays()?;
+    gathering.add_remarks()?;
+    Ok(gathering.hints)
 }

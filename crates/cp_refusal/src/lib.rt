@@ -1,8 +1,11 @@
 //! Why a source is refused, in words, and hints on what is accepted.
 #![tactic(auto)]
 
+mod advice;
+mod called;
 mod candidates;
 mod changes;
+mod characters;
 mod components;
 mod counts;
 mod declared;
@@ -10,14 +13,20 @@ mod disagree;
 mod draft;
 mod explain;
 mod extent;
+mod foreign;
+mod further_up;
 mod hints;
 mod page;
 mod place;
 mod probe;
+mod report;
 mod rules;
 mod sorts;
+mod spelling;
 mod starts;
 mod waits;
 mod wanted;
 
-pub use explain::{Answer, refusal};
+pub use explain::refusal;
+pub use report::{Answer, Hint, Hints, Position, Refusal, position, text};
+pub use place::Span;

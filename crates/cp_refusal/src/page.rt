@@ -1,17 +1,9 @@
 //! A line of a source with a mark.
 
+use crate::characters::{Look, length, push_characters};
 use crate::extent::Extent;
 use crate::place::{Sought, Span, find};
 use std::alloc::{AllocError, Global};
-
-/// A byte as it is shown; what is no printed ASCII is a question mark.
-fn shown(byte: u8) -> char {
-    match byte {
-        b'\t' => '\t',
-        32..=126 => char::from(byte),
-        _ => '?',
-    }
-}
 
 /// Where the line of a place begins.
 fn line_start(source: &[u8], at: usize) -> usize {
@@ -41,14 +33,6 @@ pub fn line_number(source: &[u8], at: usize) -> u32 {
     number
 }
 
-/// Appends bytes of a source.
-pub fn push_source(text: &mut String, bytes: &[u8]) -> Result<(), AllocError> {
-    for byte in bytes {
-        text.push(shown(*byte))?;
-    }
-    Ok(())
-}
-
 fn push_blanks(text: &mut String, number: usize) -> Result<(), AllocError> {
     for _ in 0..number {
         text.push(' ')?;
@@ -56,7 +40,46 @@ fn push_blanks(text: &mut String, number: usize) -> Result<(), AllocError> {
     Ok(())
 }
 
-/// Appends the line of a place with its number, and below it a mark under the place.
+/// The line of a place, without what ends it.
+fn line_at(source: &[u8], start: usize) -> &[u8] {
+    let rest = &source[start.min(source.len())..];
+    let end = rest.iter().position(|byte| *byte == b'\n');
+    match rest[..end.unwrap_or(rest.len()).min(rest.len())] {
+        [ref line @ .., b'\r'] => line,
+        ref line => line,
+    }
+}
+
+/// The most bytes of a line that are shown.
+const MOST_SHOWN: usize = 160;
+
+/// The part of a line that is shown around a place: all of it where it is short.
+fn shown_part(line: &[u8], place: usize) -> Extent {
+    if line.len() <= MOST_SHOWN {
+        return Extent {
+            from: 0,
+            to: line.len(),
+        };
+    }
+    let from = whole_from(line, place.saturating_sub(MOST_SHOWN / 2));
+    Extent {
+        from,
+        to: from.saturating_add(MOST_SHOWN).min(line.len()),
+    }
+}
+
+/// The first place from this one on at which no character goes on.
+fn whole_from(line: &[u8], from: usize) -> usize {
+    for place in from..from.saturating_add(3) {
+        match line.get(place) {
+            Some(0x80..=0xBF) => {}
+            _ => return place,
+        }
+    }
+    from
+}
+
+/// Appends the line of a place with its number, and below it a mark under the place. Of a long line what is around the place is shown.
 pub fn push_marked_line(
     alloc: Global,
     text: &mut String,
@@ -64,23 +87,42 @@ pub fn push_marked_line(
     span: Span,
 ) -> Result<(), AllocError> {
     let start = line_start(source, span.from).min(source.len());
-    let rest = &source[start..];
-    let line = &rest[..rest
-        .iter()
-        .position(|b| *b == b'\n' || *b == b'\r')
-        .unwrap_or(rest.len())
-        .min(rest.len())];
+    let line = line_at(source, start);
+    let place = span.from.saturating_sub(start).min(line.len());
+    let part = shown_part(line, place);
     let number = format!(in alloc; "{}", line_number(source, span.from))?;
     text.push_str(number.as_str())?;
     text.push_str(" | ")?;
-    push_source(text, line)?;
+    text.push_str(if part.from > 0 { CUT } else { "" })?;
+    push_characters(text, line.get(part.from..part.to).unwrap_or(&[]), Look::Whole)?;
+    text.push_str(if part.to < line.len() { CUT } else { "" })?;
     text.push_str("\n")?;
     push_blanks(text, number.len())?;
     text.push_str(" | ")?;
-    for byte in &line[..span.from.saturating_sub(start).min(line.len())] {
-        text.push(if *byte == b'\t' { '\t' } else { ' ' })?;
-    }
+    push_blanks(text, if part.from > 0 { CUT.len() } else { 0 })?;
+    push_characters(text, line.get(part.from..place).unwrap_or(&[]), Look::Blank)?;
     text.push_str("^\n")
+}
+
+/// Stands where a line is cut.
+const CUT: &str = " .. ";
+
+/// Whether a token ends on the line on which the next one begins.
+pub fn are_on_one_line(source: &[u8], at: usize) -> bool {
+    let (Some(one), Some(next)) = (
+        find(source, Sought::Token(at)),
+        find(source, Sought::Token(at.saturating_add(1))),
+    ) else {
+        return true;
+    };
+    line_number(source, one.from) == line_number(source, next.from)
+}
+
+/// The column of a place, counted in characters from 1.
+pub fn column(source: &[u8], at: usize) -> usize {
+    let start = line_start(source, at).min(source.len());
+    let before = source.get(start..at).unwrap_or(&[]);
+    length(before).saturating_add(1)
 }
 
 /// The most bytes of a source that are repeated within a sentence.
@@ -101,12 +143,7 @@ pub fn push_tokens(text: &mut String, source: &[u8], extent: Extent) -> Result<(
         .saturating_add(last.len)
         .saturating_sub(first.from)
         .min(rest.len());
-    for byte in &rest[..len.min(MOST_REPEATED)] {
-        text.push(match *byte {
-            b'\n' | b'\r' | b'\t' => ' ',
-            other => shown(other),
-        })?;
-    }
+    push_characters(text, &rest[..len.min(MOST_REPEATED)], Look::OneLine)?;
     if len > MOST_REPEATED {
         text.push_str(" ..")?;
     }

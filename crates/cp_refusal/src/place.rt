@@ -167,13 +167,23 @@ fn is_token(shape: Shape) -> bool {
     !matches!(shape, Shape::Blank | Shape::Comment)
 }
 
+fn is_number(text: &[u8]) -> bool {
+    !text.is_empty() && digits_len(text) == text.len()
+}
+
+/// Whether a text between quotes gives a character by its code, be it one or none.
+pub fn is_coded(text: &[u8]) -> bool {
+    match text {
+        [_, b'(', b':', digits @ .., b':', b')', _] => is_number(digits),
+        _ => false,
+    }
+}
+
 /// Whether the text between two quotes is that of a character.
 fn is_character(text: &[u8]) -> bool {
     match text {
         [_, byte, _] => *byte >= 32 && *byte <= 126,
-        [_, b'(', b':', digits @ .., b':', b')', _] => {
-            !digits.is_empty() && digits_len(digits) == digits.len()
-        }
+        [_, b'(', b':', digits @ .., b':', b')', _] => is_number(digits) && value(digits) <= 127,
         _ => false,
     }
 }
@@ -229,4 +239,30 @@ pub fn find(source: &[u8], sought: Sought) -> Option<Span> {
         left = len.saturating_sub(1);
     }
     None
+}
+
+/// Whether a comment stands between the token of this number and the one before it.
+pub fn has_comment_before(source: &[u8], at: usize) -> bool {
+    let Some(before) = at.checked_sub(1) else {
+        return false;
+    };
+    match find(source, Sought::Token(before)) {
+        Some(span) => {
+            let end = span.from.saturating_add(span.len).min(source.len());
+            begins_with_comment(&source[end..])
+        }
+        None => false,
+    }
+}
+
+/// Whether the first piece that is no separator is a comment.
+fn begins_with_comment(text: &[u8]) -> bool {
+    for from in 0..text.len() {
+        match first_piece(&text[from..]).shape {
+            Shape::Blank => {}
+            Shape::Comment => return true,
+            _ => return false,
+        }
+    }
+    false
 }

@@ -2,11 +2,15 @@
 
 use crate::changes::push_unchangeable;
 use crate::counts::push_counts;
-use crate::declared::{Declared, Looked, declared_at};
+use crate::called::called_at;
+use crate::declared::{Declared, is_declared_somewhere};
 use crate::disagree::push_disagreement;
-use crate::extent::{Extent, after_designator, expression_at, statement_start};
-use crate::page::push_tokens;
+use crate::extent::{after_designator, expression_at, single, statement_start};
+use crate::foreign::{instead_of, is_start};
+use crate::page::{line_number, push_tokens};
+use crate::place::{Sought, find};
 use crate::sorts::{Asker, Sort};
+use crate::spelling::similar_declaration;
 use cp_scope::Rule;
 use cp_text::{Kind, Mark, Tokens};
 use cp_tree::Program;
@@ -28,53 +32,12 @@ pub fn name_at<'a>(tokens: &'a Tokens, at: usize) -> &'a str {
     }
 }
 
-fn mark_before(tokens: &Tokens, at: usize) -> Option<Mark> {
+/// The reserved word or sign before this number, where there is one.
+pub fn mark_before(tokens: &Tokens, at: usize) -> Option<Mark> {
     match at.checked_sub(1) {
         Some(before) => mark_at(tokens, before),
         None => None,
     }
-}
-
-/// Whether a name is declared anywhere as a variable, a parameter or a routine.
-fn is_declared(tokens: &Tokens, at: usize) -> bool {
-    let name = name_at(tokens, at);
-    for place in 0..tokens.count() {
-        let is_declaration = mark_at(tokens, place.saturating_add(1)) == Some(Mark::Colon)
-            || matches!(
-                mark_before(tokens, place),
-                Some(Mark::Procedure | Mark::Function | Mark::Entry)
-            );
-        if is_declaration && name_at(tokens, place) == name {
-            return true;
-        }
-    }
-    false
-}
-
-/// What stands in the language for a name of another one.
-fn instead_of(name: &str) -> &'static str {
-    match name {
-        "wait" => ": a process waits by delay(q), where q is a queue of the monitor",
-        "signal" => ": a process that waits is let go on by continue(q)",
-        "notify" => ": a process that waits is let go on by continue(q)",
-        "real" => ": there are no real numbers",
-        "string" => ": there are no strings, but single characters",
-        "write" => ": a value is shown by display",
-        "writeln" => ": a value is shown by display",
-        "print" => ": a value is shown by display",
-        "semaphore" => ": write a monitor with a queue",
-        _ => "",
-    }
-}
-
-fn undeclared(tokens: &Tokens, at: usize) -> &'static str {
-    if mark_before(tokens, at) == Some(Mark::Period) {
-        return " is no field of this record";
-    }
-    if is_declared(tokens, at) {
-        return " is not declared here: it is declared elsewhere, and a block sees only what is declared before it and around it; a system type sees no variable and no routine of the program";
-    }
-    " is not declared here"
 }
 
 /// What does not agree in a construct that begins with a name, a number or a character.
@@ -155,7 +118,7 @@ fn too_large(tokens: &Tokens, at: usize) -> &'static str {
 /// What is wrong with the token of this number, after its spelling.
 fn complaint(tokens: &Tokens, at: usize, rule: Rule) -> &'static str {
     match rule {
-        Rule::C1 => undeclared(tokens, at),
+        Rule::C1 => " is not declared here",
         Rule::C2 => " is declared twice in one block",
         Rule::C3 => " is no constant, and its value has to be known before the program runs",
         Rule::C4 => " is not the name of a type",
@@ -184,7 +147,7 @@ fn complaint(tokens: &Tokens, at: usize, rule: Rule) -> &'static str {
 }
 
 /// The number of a rule.
-fn code(rule: Rule) -> &'static str {
+pub fn code(rule: Rule) -> &'static str {
     match rule {
         Rule::C1 => "C1",
         Rule::C2 => "C2",
@@ -244,35 +207,141 @@ pub fn sentence(
 /// Says what is there and what is wanted, where that can be told.
 fn push_particular(asker: &Asker, text: &mut String, broken: Broken) -> Result<bool, AllocError> {
     match broken.rule {
+        Rule::C1 => push_undeclared(asker, text, broken),
         Rule::C5 => {
             Ok(push_misused(asker, text, broken)? || push_disagreement(asker, text, broken.at)?)
         }
         Rule::C6 => push_unchangeable(asker, text, broken.program, broken.at),
         Rule::C7 => push_counts(asker, text, broken.at),
+        Rule::C8 => push_no_start(asker, text, broken.at),
+        Rule::C17 => push_array(asker, text, broken.at),
         Rule::C21 => push_undisplayed(asker, text, broken.at),
         _ => Ok(false),
     }
 }
 
-/// Says that a procedure, a function or a type is used as what it is not.
-fn push_misused(asker: &Asker, text: &mut String, broken: Broken) -> Result<bool, AllocError> {
+/// Says of a name that is not visible where it is declared, what is meant by it elsewhere, or which name may have been meant.
+fn push_undeclared(asker: &Asker, text: &mut String, broken: Broken) -> Result<bool, AllocError> {
     let at = broken.at;
     let name = name_at(asker.tokens, at);
-    let after = mark_at(asker.tokens, after_designator(asker.tokens, at));
-    if name.is_empty() || after == Some(Mark::OpenParenthesis) {
-        return Ok(false);
+    push_tokens(text, asker.source, single(at))?;
+    if mark_before(asker.tokens, at) == Some(Mark::Period) {
+        text.push_str(" is no field of this record")?;
+        return Ok(true);
     }
-    let is_called = at == asker.place && after != Some(Mark::Becomes);
-    let said = match declared_at(broken.program, Looked { name, at }) {
-        Some(Declared::Procedure) if !is_called => " is a procedure, and has no value",
-        Some(Declared::Function) if is_called => {
+    text.push_str(" is not declared here")?;
+    if is_declared_somewhere(broken.program, name) {
+        text.push_str(ELSEWHERE)?;
+        return Ok(true);
+    }
+    let instead = instead_of(name);
+    if !instead.is_empty() {
+        text.push_str(instead)?;
+        return Ok(true);
+    }
+    if let Some(other) = similar_declaration(broken.program, asker.tokens, at) {
+        push_declared(asker, text, other)?;
+    }
+    Ok(true)
+}
+
+const ELSEWHERE: &str =
+    ": it is declared elsewhere, and a block sees only what is declared before it and around it; a system type sees no variable and no routine of the program";
+
+/// Says in which line the name at a token is declared.
+fn push_declared(asker: &Asker, text: &mut String, at: usize) -> Result<(), AllocError> {
+    text.push_str(": ")?;
+    push_tokens(text, asker.source, single(at))?;
+    let from = match find(asker.source, Sought::Token(at)) {
+        Some(span) => span.from,
+        None => 0,
+    };
+    write!(text, " is declared in line {}", line_number(asker.source, from))
+}
+
+/// How a name is used.
+#[derive(Clone, Copy, PartialEq, Eq)]
+enum Use {
+    /// As a statement that calls it.
+    Statement,
+    /// As what is assigned.
+    Target,
+    /// With arguments, in an expression.
+    Call,
+    /// Without arguments, in an expression.
+    Value,
+}
+
+fn use_of(asker: &Asker, at: usize) -> Use {
+    let after = mark_at(asker.tokens, after_designator(asker.tokens, at));
+    match after {
+        Some(Mark::Becomes) if at == asker.place => Use::Target,
+        _ if at == asker.place => Use::Statement,
+        Some(Mark::OpenParenthesis) => Use::Call,
+        _ => Use::Value,
+    }
+}
+
+fn misuse(what: Declared, used: Use, has_arguments: bool) -> &'static str {
+    match (what, used) {
+        (Declared::Function, Use::Statement) => {
             " is a function: a statement calls a procedure, and a function's value has to be used"
         }
-        Some(Declared::Type) => " is a type, and has no value",
-        _ => return Ok(false),
+        (Declared::Procedure, Use::Call | Use::Value) => " is a procedure, and has no value",
+        (Declared::Procedure, Use::Target) => " is a procedure, and can't be assigned",
+        (Declared::Type, Use::Value) => " is a type, and has no value",
+        (Declared::Type, _) => " is a type, and can't be called",
+        (Declared::Constant, _) if has_arguments => " is a constant, and can't be called",
+        (Declared::Variable | Declared::Parameter | Declared::VarParameter, _)
+            if has_arguments =>
+        {
+            " is a variable, and can't be called"
+        }
+        _ => "",
+    }
+}
+
+/// Says that what a name stands for is used as what it is not.
+fn push_misused(asker: &Asker, text: &mut String, broken: Broken) -> Result<bool, AllocError> {
+    let tokens = asker.tokens;
+    if name_at(tokens, broken.at).is_empty() {
+        return Ok(false);
+    }
+    let Some(called) = called_at(broken.program, tokens, broken.at) else {
+        return Ok(false);
     };
-    text.push_str(name)?;
+    let has_arguments = mark_at(tokens, called.tokens.to) == Some(Mark::OpenParenthesis);
+    let said = misuse(called.what, use_of(asker, broken.at), has_arguments);
+    if said.is_empty() {
+        return Ok(false);
+    }
+    push_tokens(text, asker.source, called.tokens)?;
     text.push_str(said)?;
+    Ok(true)
+}
+
+/// Says how processes are started, where a component is told to start.
+fn push_no_start(asker: &Asker, text: &mut String, at: usize) -> Result<bool, AllocError> {
+    if !is_start(name_at(asker.tokens, at)) {
+        return Ok(false);
+    }
+    push_tokens(text, asker.source, single(at))?;
+    text.push_str(" is no routine of this component: processes are started by init")?;
+    Ok(true)
+}
+
+/// Says how the components of an array are initialised.
+fn push_array(asker: &Asker, text: &mut String, at: usize) -> Result<bool, AllocError> {
+    let array = single(at);
+    if asker.sort_of(array)? != Some(Sort::Array) {
+        return Ok(false);
+    }
+    push_tokens(text, asker.source, array)?;
+    text.push_str(" is an array, and init takes its elements: init ")?;
+    push_tokens(text, asker.source, array)?;
+    text.push_str("[1](..), ")?;
+    push_tokens(text, asker.source, array)?;
+    text.push_str("[2](..)")?;
     Ok(true)
 }
 
@@ -292,14 +361,6 @@ fn push_undisplayed(asker: &Asker, text: &mut String, at: usize) -> Result<bool,
 }
 
 fn push_general(asker: &Asker, text: &mut String, broken: Broken) -> Result<(), AllocError> {
-    let token = Extent {
-        from: broken.at,
-        to: broken.at.saturating_add(1),
-    };
-    push_tokens(text, asker.source, token)?;
-    text.push_str(complaint(asker.tokens, broken.at, broken.rule))?;
-    if broken.rule == Rule::C1 {
-        text.push_str(instead_of(name_at(asker.tokens, broken.at)))?;
-    }
-    Ok(())
+    push_tokens(text, asker.source, single(broken.at))?;
+    text.push_str(complaint(asker.tokens, broken.at, broken.rule))
 }

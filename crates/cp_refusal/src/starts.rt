@@ -33,23 +33,28 @@ struct Walk {
     is_straight: bool,
     /// How many brackets are open.
     depth: usize,
+    /// How many words are open that an `end` or `until` closes.
+    level: usize,
 }
 
 const OUTSIDE: Walk = Walk {
     is_init: false,
     is_straight: false,
     depth: 0,
+    level: 0,
 };
 
 fn stepped(tokens: &Tokens, walk: Walk, at: usize) -> Walk {
     match mark_at(tokens, at) {
         Some(Mark::Init) => Walk {
             is_init: true,
-            is_straight: matches!(
-                mark_at(tokens, at.saturating_sub(1)),
-                Some(Mark::Begin | Mark::Semicolon)
-            ),
+            is_straight: walk.level == 1
+                && matches!(
+                    mark_at(tokens, at.saturating_sub(1)),
+                    Some(Mark::Begin | Mark::Semicolon)
+                ),
             depth: 0,
+            level: walk.level,
         },
         Some(Mark::OpenParenthesis | Mark::OpenBracket) => Walk {
             depth: walk.depth.saturating_add(1),
@@ -59,7 +64,18 @@ fn stepped(tokens: &Tokens, walk: Walk, at: usize) -> Walk {
             depth: walk.depth.saturating_sub(1),
             ..walk
         },
-        Some(Mark::Semicolon | Mark::End | Mark::Else | Mark::Until) => OUTSIDE,
+        Some(Mark::Semicolon | Mark::Else) => Walk {
+            level: walk.level,
+            ..OUTSIDE
+        },
+        Some(Mark::Begin | Mark::Case | Mark::Cycle | Mark::Repeat) => Walk {
+            level: walk.level.saturating_add(1),
+            ..OUTSIDE
+        },
+        Some(Mark::End | Mark::Until) => Walk {
+            level: walk.level.saturating_sub(1),
+            ..OUTSIDE
+        },
         _ => walk,
     }
 }

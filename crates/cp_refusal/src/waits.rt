@@ -1,5 +1,6 @@
 //! Where a process may wait while it is inside another monitor.
 
+use crate::called::is_standard;
 use crate::components::{Named, component_type, system_types};
 use crate::extent::{Extent, after_bracket};
 use crate::rules::{mark_at, name_at};
@@ -30,8 +31,8 @@ fn waits(known: &[Known], owner: &str, name: &str) -> bool {
         .any(|one| one.waits && one.owner == owner && one.name == name)
 }
 
-/// The number of the token after the name at this number and an index.
-fn after_index(tokens: &Tokens, at: usize) -> usize {
+/// The number of the token after the name at this number and an index, where it has one.
+pub fn after_index(tokens: &Tokens, at: usize) -> usize {
     let next = at.saturating_add(1);
     match mark_at(tokens, next) {
         Some(Mark::OpenBracket) => after_bracket(tokens, next),
@@ -74,7 +75,7 @@ fn may_wait(
     for at in body.from..body.to {
         let name = name_at(tokens, at);
         if !name.is_empty()
-            && (name == "delay"
+            && (is_standard(program, tokens, at, "delay")
                 || waits(known, named.name, name)
                 || waiting_call(tokens, program, named.system, known, at).is_some())
         {

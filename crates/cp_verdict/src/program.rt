@@ -15,6 +15,7 @@ use crate::marking::{Verdict, mark};
 use crate::seen::Seen;
 use crate::words::verdict_text;
 use cp_merged::{MergeFault, Tallies, Tally, explore_merged};
+use cp_run::OutcomeKind;
 use cp_slots::Resolved;
 use cp_walk::Job;
 use std::alloc::{AllocError, AllocFailed, Global};
@@ -55,6 +56,8 @@ pub enum Mark {
 pub struct Marked {
     pub mark: Mark,
     pub text: String,
+    /// Whether some schedules ended because one choice more was due than they may have.
+    pub wants_choices: bool,
 }
 
 fn mark_of(verdict: Verdict) -> Mark
@@ -105,9 +108,13 @@ pub fn mark_tallies<'a>(
     let seen = seen_of(alloc, tallies)?;
     let verdict = mark(alloc, program, expectations, &seen)?;
     let text = verdict_text(alloc, program, &seen, verdict)?;
+    let wants_choices = seen
+        .iter()
+        .any(|one| one.outcome.kind == OutcomeKind::ChoiceLimit);
     Ok(Marked {
         mark: mark_of(verdict),
         text,
+        wants_choices,
     })
 }
 

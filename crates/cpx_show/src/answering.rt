@@ -6,6 +6,7 @@ ghost use Rattle.cpx_show.specs.Showing as spec;
 
 use crate::marks::marked;
 use crate::parts::{Asked, Part};
+use crate::refusals::explained;
 use cp_check::check;
 use cp_drops::{drop_checked, drop_program, drop_tree};
 use cp_ends_story::{Subject as Endless, ends_story};
@@ -130,23 +131,9 @@ fn written<W: Sink>(sink: &mut W, answer: &Answer) -> Ending
 
 fn answered(alloc: Global, asked: &Asked, source: &[u8]) -> Result<Answer, AllocError> {
     match &asked.part {
-        Part::Refusal => explained(alloc, source),
+        Part::Refusal { json, file } => explained(alloc, source, *json, file),
         _ => scanned(alloc, asked, source),
     }
-}
-
-// Why the source is refused, in words.
-fn explained(alloc: Global, source: &[u8]) -> Result<Answer, AllocError> {
-    Ok(match cp_refusal::refusal(alloc, source)? {
-        cp_refusal::Answer::Accepted(text) => Answer {
-            verdict: Verdict::Reported,
-            text,
-        },
-        cp_refusal::Answer::Refused(text) => Answer {
-            verdict: Verdict::Refused,
-            text,
-        },
-    })
 }
 
 fn scanned(alloc: Global, asked: &Asked, source: &[u8]) -> Result<Answer, AllocError> {
@@ -241,7 +228,7 @@ fn shown(
         Part::Outcomes { json } => { surveyed(alloc, options, program, legend, &lines, *json) }
         Part::Ends { json } => { ended(alloc, options, program, legend, &lines, *json) }
         Part::Mark(words) => marked(alloc, options, program, legend, words.as_str(), source),
-        Part::Refusal => explained(alloc, source),
+        Part::Refusal { json, file } => explained(alloc, source, *json, file),
     }
 }
 

@@ -108,7 +108,13 @@ fn refusal<'a>(alloc: Global) -> Result<Command<'a>, AllocError> {
     let command = Command::new(alloc, "refusal")
         .about(REFUSAL)
         .override_usage("cpx_show refusal [OPTIONS] < PROGRAM")
-        .after_help("The options change nothing here.");
+        .after_help("The options of a run change nothing here.");
+    let command = command.arg(json(alloc))?.arg(option(
+        alloc,
+        "where",
+        "NAME",
+        "Begin places with NAME:LINE:COLUMN, as editors read them",
+    ))?;
     with_limits(alloc, command)
 }
 

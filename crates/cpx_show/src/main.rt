@@ -5,6 +5,7 @@ mod answering;
 mod command;
 mod marks;
 mod parts;
+mod refusals;
 
 ghost use Rattle.std.specs.Prelude.{◌≡◌};
 
@@ -30,14 +31,20 @@ enum Wish {
 
 fn main(rt: HostRuntime) -> ExitCode {
     let code = match read_words(&rt) {
-        Ok(Wish::Part(asked)) => shown::<Brand, Brand>(
-            rt.alloc(),
-            &asked,
-            rt.stdin(),
-            Blank::new(3),
-            rt.stdout(),
-            Blank::new(3),
-        ),
+        Ok(Wish::Part(asked)) => {
+            let code = shown::<Brand, Brand>(
+                rt.alloc(),
+                &asked,
+                rt.stdin(),
+                Blank::new(3),
+                rt.stdout(),
+                Blank::new(3),
+            );
+            if code == 1 && !asked.part.is_refusal() {
+                let _ = eprintln!(rt; "./show refusal says why");
+            }
+            code
+        }
         Ok(Wish::Version) => printed(print!(rt; "cpx_show {VERSION}\n")),
         Ok(Wish::Refused(why)) => {
             let _ = eprintln!(rt; "options refused: --help says which there are");

@@ -18,7 +18,7 @@ use cp_run::{Limits, MOST_CHOICES};
 use cp_slots::Resolved;
 use cp_tool::Options;
 use cp_verdict::{
-    Expectation, Mark, MarkFault, Misread, expectations, expected, mark_program, mark_tallies,
+    Expectation, Mark, MarkFault, Marked, Misread, expectations, expected, mark_program, mark_tallies,
     misread_text,
 };
 use cp_walk::Job;
@@ -139,10 +139,11 @@ fn judged(
     };
     let job = Job { program, limits };
     match mark_program(alloc, job, options.states, expectations) {
-        Ok(marked) => Ok(Answer {
-            verdict: verdict_of(marked.mark),
-            text: marked.text,
-        }),
+        Ok(marked) => {
+            let verdict = verdict_of(marked.mark);
+            let text = with_advice(marked, options.choices)?;
+            Ok(Answer { verdict, text })
+        }
         Err(MarkFault::Memory) => Err(AllocError),
         Err(MarkFault::TooManyStates) => {
             let said = format!(in alloc;
@@ -166,6 +167,15 @@ fn verdict_of(mark: Mark) -> Verdict
         Mark::Fails => Verdict::Fails,
         Mark::Open => Verdict::Open,
     }
+}
+
+// What is said with a mark, and what to try where no number of choices would settle it.
+fn with_advice(marked: Marked, choices: u8) -> Result<String, AllocError> {
+    let mut text = marked.text;
+    if marked.mark == Mark::Open && marked.wants_choices && choices == MOST_CHOICES {
+        text.push_str("./show mark --ends says what holds of schedules of any length\n")?;
+    }
+    Ok(text)
 }
 
 // What is said where there is too much, and the mark by schedules of fewer choices.

@@ -29,10 +29,17 @@ pub enum Part {
     Outcomes { json: bool },
     /// The ends that are possible in schedules of any length, as lines or as JSON.
     Ends { json: bool },
-    /// Why the source is refused.
-    Refusal,
+    /// Why the source is refused, as lines or as JSON; places begin with the name of its file, if one is given.
+    Refusal { json: bool, file: Option<String> },
     /// Whether the expectations of these words hold; with no words those of the source.
     Mark(String),
+}
+
+impl Part {
+    /// Whether it is asked why the source is refused.
+    pub fn is_refusal(&self) -> bool {
+        matches!(self, Part::Refusal { .. })
+    }
 }
 
 /// A part, and the options that are those of `cpx`.
@@ -74,7 +81,10 @@ fn read_matches(alloc: Global, matches: &ArgMatches<'_>) -> Result<Asked, Option
         "ends" => Part::Ends {
             json: inner.get_flag("json"),
         },
-        "refusal" => Part::Refusal,
+        "refusal" => Part::Refusal {
+            json: inner.get_flag("json"),
+            file: file_of(alloc, inner)?,
+        },
         "mark" => Part::Mark(given(alloc, inner)?),
         _ => return Err(OptionFault::Refused),
     };
@@ -87,6 +97,14 @@ fn read_matches(alloc: Global, matches: &ArgMatches<'_>) -> Result<Asked, Option
         outcome: outcome_of(inner),
         round: numbers_of(inner.get_str("again")),
     })
+}
+
+// The name of the file that the source is read from, if it is given.
+fn file_of(alloc: Global, matches: &ArgMatches<'_>) -> Result<Option<String>, AllocError> {
+    match matches.get_str("where") {
+        Some(name) => Ok(Some(String::from_str(alloc, name)?)),
+        None => Ok(None),
+    }
 }
 
 // The number of an outcome, from 1 on.

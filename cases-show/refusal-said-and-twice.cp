@@ -1,0 +1,1 @@
+var x: boolean; begin if x && x then x := x end.

@@ -1,0 +1,1 @@
+var x: bool; begin end.

@@ -1,0 +1,2 @@
+begin display('(:128:)');
+ display('ab') end.

@@ -1,0 +1,1 @@
+begin /* hello */ end.

@@ -1,0 +1,2 @@
+begin // hello
+end.

@@ -1,0 +1,1 @@
+type k = class; function entry g(x: integer): integer; begin g := x end; begin end; var c: k; begin init c; c.g(1) end.

@@ -1,0 +1,1 @@
+type k = class; procedure entry h; begin end; begin end; var c: k; x: integer; begin init c; x := c.h end.

@@ -1,0 +1,1 @@
+type m = monitor; var q: condition; begin end; begin end.

@@ -1,0 +1,1 @@
+const n = 2 * 3; begin end.

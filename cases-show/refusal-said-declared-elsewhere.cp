@@ -1,0 +1,1 @@
+type p = process; begin x := 1 end; var x, y: integer; begin end.

@@ -1,0 +1,1 @@
+type m = monitor; var q: queue; procedure entry e(b: boolean); begin if b then continue(q); delay(q) end; begin end; var a: m; begin init a end.

@@ -1,0 +1,1 @@
+procedure f; begin end; begin f() end.

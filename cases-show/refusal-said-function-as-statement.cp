@@ -1,0 +1,1 @@
+function f(x: integer): integer; begin f := x end; begin f(1) end.

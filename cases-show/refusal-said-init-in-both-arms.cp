@@ -1,0 +1,1 @@
+type p = process; begin end; var a: p; b: boolean; begin b := true; if b then begin init a end else begin init a end end.

@@ -1,0 +1,1 @@
+type p = process; begin end; var a: array [1..2] of p; begin init a end.

@@ -1,0 +1,1 @@
+var x: integer = 3; begin end.

@@ -1,0 +1,1 @@
+var x: int; begin end.

@@ -1,0 +1,3 @@
+type k = (u, v);
+var x: k;
+begin case 1 of foo: x := u end end.

@@ -1,0 +1,1 @@
+begin lock(s) end.

@@ -1,0 +1,6 @@
+var x: integer;
+begin
+  if x = 1 then begin
+    x := 2;
+  x := 3
+end.

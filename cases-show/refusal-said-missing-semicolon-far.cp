@@ -1,0 +1,7 @@
+var x: integer;
+begin
+  display(1)
+
+
+  display(2)
+end.

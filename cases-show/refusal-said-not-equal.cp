@@ -1,0 +1,1 @@
+var x: integer; begin if x != 1 then x := 2 end.

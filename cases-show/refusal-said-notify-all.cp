@@ -1,0 +1,1 @@
+begin notifyAll(q) end.

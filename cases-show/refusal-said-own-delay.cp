@@ -1,0 +1,1 @@
+procedure delay(k: integer); begin end; procedure continue(k: integer); begin end; begin delay(1); continue(2); delay(2) end.

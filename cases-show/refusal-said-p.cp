@@ -1,0 +1,1 @@
+begin P(s) end.

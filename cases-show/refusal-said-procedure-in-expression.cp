@@ -1,0 +1,1 @@
+var x: integer; procedure p(a: integer); begin end; begin x := p(1) end.

@@ -1,0 +1,1 @@
+type m = monitor; var q: queue; procedure entry e; begin if q.empty then delay(q) end; begin end; begin end.

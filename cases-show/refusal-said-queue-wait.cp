@@ -1,0 +1,1 @@
+type m = monitor; var q: queue; procedure entry e; begin q.wait end; begin end; begin end.

@@ -1,0 +1,1 @@
+var x: integer; begin read(x) end.

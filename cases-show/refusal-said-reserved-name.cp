@@ -1,0 +1,1 @@
+var cycle: integer; begin end.

@@ -1,0 +1,2 @@
+var receiver: integer;
+begin reciever := 1 end.

@@ -1,0 +1,1 @@
+begin sleep(1) end.

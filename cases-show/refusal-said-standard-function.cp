@@ -1,0 +1,1 @@
+begin chr(65) end.

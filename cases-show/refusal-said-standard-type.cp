@@ -1,0 +1,1 @@
+begin integer(1) end.

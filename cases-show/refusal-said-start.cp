@@ -1,0 +1,1 @@
+type p = process; begin end; var a: p; begin start a end.

@@ -1,0 +1,1 @@
+type t = 1..3; begin t(1) end.

@@ -1,0 +1,1 @@
+begin V(s) end.

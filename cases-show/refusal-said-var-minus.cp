@@ -1,0 +1,1 @@
+var v: integer; procedure p(var a: integer); begin a := 1 end; begin p(-v) end.

@@ -1,0 +1,1 @@
+type m = monitor; begin end; p = process(var c: m); begin end; begin end.

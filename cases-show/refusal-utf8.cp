@@ -1,0 +1,1 @@
+var x: integer; "Grüße an alle: ‮é " begin x := true end.

@@ -1,0 +1,75 @@
+//! What is called or used by a name, alone or as a routine of a component.
+
+use crate::components::{component_type, system_named, type_in_program};
+use crate::declared::{Declared, Looked, declared_as, declared_at, enclosing};
+use crate::extent::Extent;
+use crate::rules::{mark_at, name_at};
+use crate::waits::after_index;
+use cp_text::{Mark, Tokens};
+use cp_tree::Program;
+
+/// The tokens of a name, or of a component and its routine, and what they stand for.
+#[derive(Clone, Copy)]
+pub struct Called {
+    pub what: Declared,
+    pub tokens: Extent,
+}
+
+// What the language itself declares.
+fn predeclared(name: &str) -> Option<Declared> {
+    match name {
+        "display" | "delay" | "continue" => Some(Declared::Procedure),
+        "abs" | "chr" | "empty" | "ord" | "pred" | "succ" => Some(Declared::Function),
+        "boolean" | "char" | "integer" | "queue" => Some(Declared::Type),
+        _ => None,
+    }
+}
+
+// What a routine of a component is.
+fn routine_at(program: &Program, looked: Looked, routine: &str) -> Option<Declared> {
+    let owner = match enclosing(program, looked) {
+        Some(system) => component_type(program, system, looked.name)?,
+        None => type_in_program(program, looked.name)?,
+    };
+    let system = system_named(program, owner)?;
+    let found = system
+        .routines
+        .iter()
+        .find(|one| one.name.name.as_str() == routine)?;
+    Some(declared_as(found))
+}
+
+/// What the name at a token stands for, or the routine of the component that it names.
+pub fn called_at(program: &Program, tokens: &Tokens, at: usize) -> Option<Called> {
+    let looked = Looked {
+        name: name_at(tokens, at),
+        at,
+    };
+    let period = after_index(tokens, at);
+    if mark_at(tokens, period) == Some(Mark::Period) {
+        let routine = period.saturating_add(1);
+        let what = routine_at(program, looked, name_at(tokens, routine))?;
+        let to = routine.saturating_add(1);
+        return Some(Called {
+            what,
+            tokens: Extent { from: at, to },
+        });
+    }
+    if period != at.saturating_add(1) {
+        return None;
+    }
+    let what = declared_at(program, looked).or(predeclared(looked.name))?;
+    Some(Called {
+        what,
+        tokens: Extent {
+            from: at,
+            to: period,
+        },
+    })
+}
+
+/// Whether the name at a token is that of the language's own routine.
+pub fn is_standard(program: &Program, tokens: &Tokens, at: usize, routine: &str) -> bool {
+    let name = name_at(tokens, at);
+    name == routine && declared_at(program, Looked { name, at }).is_none()
+}

@@ -1,0 +1,116 @@
+//! What is missing further up than where the parser notices it.
+
+use crate::advice::Refused;
+use crate::candidates::Candidate;
+use crate::page::are_on_one_line;
+use crate::rules::mark_at;
+use cp_text::{Kind, Mark, Tokens};
+use std::alloc::AllocError;
+
+/// What is missing, and the number of the token that shows it.
+#[derive(Clone, Copy)]
+pub enum Missing {
+    Nothing,
+    /// A semicolon after this token, the last of its line.
+    Semicolon(usize),
+    /// The end of what this token opens.
+    End(usize),
+}
+
+/// What is missing before a token that the parser refuses.
+pub fn what_is_missing(refused: Refused) -> Result<Missing, AllocError> {
+    if let Some(before) = line_without_semicolon(refused)? {
+        return Ok(Missing::Semicolon(before));
+    }
+    if !is_after_a_block(refused) || !refused.takes(Candidate::Mark(Mark::End))? {
+        return Ok(Missing::Nothing);
+    }
+    Ok(match open_before(refused.tokens, refused.at) {
+        Some(open) => Missing::End(open),
+        None => Missing::Nothing,
+    })
+}
+
+// Whether what begins with a token follows a whole block.
+fn is_after_a_block(refused: Refused) -> bool {
+    match refused.tokens.get(refused.at) {
+        None => true,
+        Some(Kind::Mark(mark)) => matches!(
+            mark,
+            Mark::Const
+                | Mark::Type
+                | Mark::Var
+                | Mark::Procedure
+                | Mark::Function
+                | Mark::Period
+        ),
+        Some(_) => false,
+    }
+}
+
+// Whether a statement, a declaration or a routine can begin with a token.
+fn is_beginning(tokens: &Tokens, at: usize) -> bool {
+    match tokens.get(at) {
+        Some(Kind::Name(_)) => true,
+        Some(Kind::Mark(mark)) => matches!(
+            mark,
+            Mark::If
+                | Mark::Case
+                | Mark::While
+                | Mark::Repeat
+                | Mark::For
+                | Mark::Cycle
+                | Mark::Init
+                | Mark::Begin
+                | Mark::Var
+                | Mark::Type
+                | Mark::Const
+                | Mark::Procedure
+                | Mark::Function
+        ),
+        _ => false,
+    }
+}
+
+// Whether a construct can end with a token.
+fn is_ending(tokens: &Tokens, at: usize) -> bool {
+    match tokens.get(at) {
+        Some(Kind::Mark(mark)) => {
+            matches!(mark, Mark::CloseParenthesis | Mark::CloseBracket | Mark::End)
+        }
+        Some(_) => true,
+        None => false,
+    }
+}
+
+// The last token of an earlier line, after which a semicolon can stand and does not.
+fn line_without_semicolon(refused: Refused) -> Result<Option<usize>, AllocError> {
+    let Some(before) = refused.at.checked_sub(1) else {
+        return Ok(None);
+    };
+    let is_torn = is_ending(refused.tokens, before)
+        && is_beginning(refused.tokens, refused.at)
+        && !are_on_one_line(refused.source, before);
+    if is_torn && refused.takes(Candidate::Mark(Mark::Semicolon))? {
+        return Ok(Some(before));
+    }
+    Ok(None)
+}
+
+// The innermost word before a token that is open there.
+fn open_before(tokens: &Tokens, at: usize) -> Option<usize> {
+    let mut closed: usize = 0;
+    for place in (0..at).rev() {
+        match mark_at(tokens, place) {
+            Some(Mark::End | Mark::Until) => closed = closed.saturating_add(1),
+            Some(Mark::Begin | Mark::Case | Mark::Cycle | Mark::Record | Mark::Repeat) => {
+                if closed == 0 {
+                    return Some(place);
+                }
+                closed = closed.saturating_sub(1);
+            }
+            _ => {}
+        }
+    }
+    None
+}

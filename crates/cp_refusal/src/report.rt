@@ -1,0 +1,134 @@
+//! What is said of a source: why it is refused, or what is rarely meant in it.
+
+use crate::page::{column, line_number, push_marked_line};
+use crate::place::Span;
+use std::alloc::{AllocError, Global};
+
+/// Why a source is refused.
+#[derive(Drop)]
+pub struct Refusal {
+    /// The rule that is broken, as `C5`; for a source that can't be read to its end `scan` or `parse`.
+    pub kind: &'static str,
+    pub sentence: String,
+    /// Where more is said.
+    pub more: &'static str,
+    /// What is wrong; none where that is no place of the source.
+    pub span: Option<Span>,
+    /// A place further up that belongs to it, as a `begin` that has no `end`.
+    pub earlier: Option<Span>,
+}
+
+/// What is legal, but rarely meant.
+#[derive(Drop)]
+pub struct Hint {
+    pub sentence: String,
+    pub span: Span,
+}
+
+/// The first hints on a source, and how many more there are.
+#[derive(Drop)]
+pub struct Hints {
+    pub all: Vec<Hint>,
+    pub more: usize,
+}
+
+/// What is said of a source.
+#[derive(Drop)]
+pub enum Answer {
+    /// It is a program.
+    Accepted(Hints),
+    Refused(Refusal),
+}
+
+/// A place of a source, as an editor counts: lines, columns and characters from 1.
+#[derive(Clone, Copy)]
+pub struct Position {
+    pub line: u32,
+    pub column: usize,
+    pub length: usize,
+}
+
+/// Where some bytes of a source stand.
+pub fn position(source: &[u8], span: Span) -> Position {
+    Position {
+        line: line_number(source, span.from),
+        column: column(source, span.from),
+        length: span.len,
+    }
+}
+
+/// What is said of a source, as lines of text. Where a name of its file is given, places begin with it, as editors read them.
+pub fn text(
+    alloc: Global,
+    source: &[u8],
+    answer: &Answer,
+    file: Option<&str>,
+) -> Result<String, AllocError> {
+    let mut text = String::new(alloc);
+    match answer {
+        Answer::Accepted(hints) => push_accepted(alloc, &mut text, source, hints, file)?,
+        Answer::Refused(refusal) => push_refusal(alloc, &mut text, source, refusal, file)?,
+    }
+    Ok(text)
+}
+
+// A place before what is said of it: `line 2: `, or `program.cp:2:15: `.
+fn push_position(
+    text: &mut String,
+    source: &[u8],
+    span: Span,
+    file: Option<&str>,
+) -> Result<(), AllocError> {
+    let Position { line, column, .. } = position(source, span);
+    match file {
+        Some(name) => write!(text, "{name}:{line}:{column}: "),
+        None => write!(text, "line {line}: "),
+    }
+}
+
+fn push_refusal(
+    alloc: Global,
+    text: &mut String,
+    source: &[u8],
+    refusal: &Refusal,
+    file: Option<&str>,
+) -> Result<(), AllocError> {
+    if let Some(span) = refusal.span {
+        push_position(text, source, span, file)?;
+    }
+    text.push_str(refusal.sentence.as_str())?;
+    text.push_str("\n")?;
+    for span in [refusal.earlier, refusal.span] {
+        if let Some(span) = span {
+            push_marked_line(alloc, text, source, span)?;
+        }
+    }
+    if refusal.span.is_some() {
+        text.push_str(refusal.more)?;
+        text.push_str("\n")?;
+    }
+    Ok(())
+}
+
+fn push_accepted(
+    alloc: Global,
+    text: &mut String,
+    source: &[u8],
+    hints: &Hints,
+    file: Option<&str>,
+) -> Result<(), AllocError> {
+    text.push_str("accepted\n")?;
+    for hint in &hints.all {
+        text.push_str(if file.is_some() { "" } else { "hint: " })?;
+        push_position(text, source, hint.span, file)?;
+        text.push_str(if file.is_some() { "hint: " } else { "" })?;
+        text.push_str(hint.sentence.as_str())?;
+        text.push_str("\n")?;
+        push_marked_line(alloc, text, source, hint.span)?;
+    }
+    match hints.more {
+        0 => Ok(()),
+        1 => text.push_str("and 1 more hint\n"),
+        more => write!(text, "and {more} more hints\n"),
+    }
+}

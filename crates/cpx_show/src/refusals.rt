@@ -1,0 +1,79 @@
+//! Why a source is refused, as an answer.
+
+use crate::answering::{Answer, Verdict};
+use cp_refusal::{Answer as Said, Hints, Refusal, Span, position, refusal, text};
+use cp_story::objects::Object;
+use serde_json::Value;
+use std::alloc::{AllocError, Global};
+
+/// Why the source is refused, or that it is accepted; places begin with the name of its file, if one is given.
+pub fn explained(
+    alloc: Global,
+    source: &[u8],
+    as_json: bool,
+    file: &Option<String>,
+) -> Result<Answer, AllocError> {
+    let said = refusal(alloc, source)?;
+    let verdict = match &said {
+        Said::Accepted(_) => Verdict::Reported,
+        Said::Refused(_) => Verdict::Refused,
+    };
+    let text = if as_json {
+        json(alloc, source, &said)?
+    } else {
+        let file = match file {
+            Some(name) => Some(name.as_str()),
+            None => None,
+        };
+        text(alloc, source, &said, file)?
+    };
+    Ok(Answer { verdict, text })
+}
+
+// The same as one JSON object.
+fn json(alloc: Global, source: &[u8], said: &Said) -> Result<String, AllocError> {
+    let mut object = Object::new(alloc);
+    match said {
+        Said::Accepted(hints) => put_hints(alloc, &mut object, source, hints)?,
+        Said::Refused(refusal) => put_refusal(&mut object, source, refusal)?,
+    }
+    let mut text = object.done().to_string(alloc)?;
+    text.push('\n')?;
+    Ok(text)
+}
+
+fn put_position(object: &mut Object, source: &[u8], span: Span) -> Result<(), AllocError> {
+    let place = position(source, span);
+    object.number("line", u64::from(place.line))?;
+    object.number("column", place.column as u64)?;
+    object.number("length", place.length as u64)
+}
+
+fn put_refusal(object: &mut Object, source: &[u8], refusal: &Refusal) -> Result<(), AllocError> {
+    object.put("accepted", Value::Bool(false))?;
+    if let Some(span) = refusal.span {
+        put_position(object, source, span)?;
+    }
+    let is_rule = refusal.kind != "scan" && refusal.kind != "parse";
+    object.text(if is_rule { "rule" } else { "kind" }, refusal.kind)?;
+    object.text("sentence", refusal.sentence.as_str())?;
+    object.text("hint", refusal.more)
+}
+
+fn put_hints(
+    alloc: Global,
+    object: &mut Object,
+    source: &[u8],
+    hints: &Hints,
+) -> Result<(), AllocError> {
+    let mut all = Vec::new(alloc);
+    for hint in &hints.all {
+        let mut one = Object::new(alloc);
+        put_position(&mut one, source, hint.span)?;
+        one.text("sentence", hint.sentence.as_str())?;
+        all.push(one.done())?;
+    }
+    object.put("accepted", Value::Bool(true))?;
+    object.put("hints", Value::Array(all))?;
+    object.number("more", hints.more as u64)
+}
