@@ -1,1 +1,12 @@
 pub mod Keeping
+pub mod Noting
+pub mod Following
+pub mod Choices
+pub mod Arriving
+pub mod Nothing
+pub mod Legs
+pub mod Same
+pub mod Pending
+pub mod Tied
+pub mod Saying
+pub mod Unwinding

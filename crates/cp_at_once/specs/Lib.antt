@@ -1,1 +1,4 @@
-pub mod Kept
+pub mod Holds
+pub mod Legs
+pub mod Following
+pub mod Whole

@@ -1,6 +1,13 @@
 //! What a search finds.
 
-ghost use Rattle.std.specs.Prelude.{◌≡◌, []};
+ghost use Rattle.std.specs.Prelude.{◌≡◌, ◌≤◌, ◌∷◌, ℕ, List, [], IfOk, All, length, true};
+ghost use Rattle.std.specs.List.{list_any};
+ghost use Rattle.cp_slots.specs.Tables.{Tables};
+ghost use Rattle.cp_machine.specs.System.{Machine};
+ghost use Rattle.cp_ends.specs.Answer.{ends_tests};
+ghost use Rattle.cp_ends.specs.Graph.{LeadsToEnd, ShowsLast};
+ghost use Rattle.cp_at_once.specs.Following.{NotesEnd, NotesValues, SlotGraph};
+ghost use Rattle.cp_at_once.specs.Holds.{Holds, IsWordOf};
 
 use crate::kept::Kept;
 use crate::order::{place_of_end, place_of_value};
@@ -39,7 +46,9 @@ pub struct Found {
 impl Found {
     /// Nothing was found.
     pub fn new(alloc: Global) -> Found
-        ensures { result.kept.known.entries ≡ [] }
+        ensures kept { result.kept.known.entries ≡ [] }
+        ensures ends { result.ends.items ≡ [] }
+        ensures values { result.values.items ≡ [] }
     {
         Found {
             kept: Kept::new(alloc),
@@ -51,22 +60,21 @@ impl Found {
 
     /// A word leads to an end.
     pub fn add_end(&mut self, end: End, origin: &Origin) -> Result<(), AllocError>
-        ensures { self.new.kept ≡ self.old.kept }
+        ensures { IfOk result (λ _. (r : Tables) (g : SlotGraph) (most : ℕ) (states : List (Machine × List ℕ)) (word : List ℕ) → Holds r g most self.old states → IsWordOf states origin.now word → LeadsToEnd g end word → NotesEnd r g most self.old states self.new end) }
     {
-        let place = place_of_end(end);
-        if let Err(at) = self
-            .ends
-            .binary_search_by_key(&place, |found| place_of_end(found.end))
-        {
-            let origin = origin.copy();
-            self.ends.insert(at, FoundEnd { end, origin })?;
+        let ends = self.ends.as_slice();
+        let at = place_among_ends(ends, end);
+        if has_end_at(ends, at, end) {
+            return Ok(());
         }
+        let origin = origin.copy();
+        self.ends.insert(at, FoundEnd { end, origin })?;
         Ok(())
     }
 
     /// A word leads to a stretch that displays these values.
     pub fn add_values(&mut self, values: &[Shown], origin: &Origin) -> Result<(), AllocError>
-        ensures { self.new.kept ≡ self.old.kept }
+        ensures { IfOk result (λ _. (r : Tables) (g : SlotGraph) (most : ℕ) (states : List (Machine × List ℕ)) (word : List ℕ) → Holds r g most self.old states → IsWordOf states origin.now word → All (λ v. ShowsLast g v word) values.now → NotesValues r g most self.old states self.new values.now) }
     {
         for value in values {
             self.add_value(*value, origin)?;
@@ -75,17 +83,16 @@ impl Found {
     }
 
     fn add_value(&mut self, value: Shown, origin: &Origin) -> Result<(), AllocError>
-        ensures { self.new.kept ≡ self.old.kept }
+        ensures { IfOk result (λ _. (r : Tables) (g : SlotGraph) (most : ℕ) (states : List (Machine × List ℕ)) (word : List ℕ) → Holds r g most self.old states → IsWordOf states origin.now word → ShowsLast g value word → NotesValues r g most self.old states self.new (value ∷ [])) }
     {
-        let place = place_of_value(value);
-        if let Err(at) = self
-            .values
-            .binary_search_by_key(&place, |found| place_of_value(found.value))
-        {
-            let origin = origin.copy();
-            self.values.insert(at, FoundValue { value, origin })?;
-            self.values.truncate(MOST_VALUES + 1);
+        let values = self.values.as_slice();
+        let at = place_among_values(values, value);
+        if has_value_at(values, at, value) {
+            return Ok(());
         }
+        let origin = origin.copy();
+        self.values.insert(at, FoundValue { value, origin })?;
+        self.values.truncate(MOST_VALUES + 1);
         Ok(())
     }
 
@@ -94,5 +101,45 @@ impl Found {
         self.ends
             .iter()
             .any(|found| found.end == End::Over(OutcomeKind::StepLimit))
+    }
+}
+
+// Where this end stands among those that were found, or is to stand.
+fn place_among_ends(ends: &[FoundEnd], end: End) -> usize
+    ensures { result ≤ length ends.now }
+{
+    let place = place_of_end(end);
+    match ends.binary_search_by_key(&place, |found| place_of_end(found.end)) {
+        Ok(at) | Err(at) => at,
+    }
+}
+
+// Where this value stands among those that were found, or is to stand.
+fn place_among_values(values: &[FoundValue], value: Shown) -> usize
+    ensures { result ≤ length values.now }
+{
+    let place = place_of_value(value);
+    match values.binary_search_by_key(&place, |found| place_of_value(found.value)) {
+        Ok(at) | Err(at) => at,
+    }
+}
+
+// Whether this end stands at this place.
+fn has_end_at(ends: &[FoundEnd], at: usize, end: End) -> bool
+    ensures { result ≡ true → list_any (λ e. ends_tests.end e.end end) ends.now ≡ true }
+{
+    match ends.get(at) {
+        Some(found) => found.end == end,
+        None => false,
+    }
+}
+
+// Whether this value stands at this place.
+fn has_value_at(values: &[FoundValue], at: usize, value: Shown) -> bool
+    ensures { result ≡ true → list_any (λ v. ends_tests.value v.value value) values.now ≡ true }
+{
+    match values.get(at) {
+        Some(found) => found.value == value,
+        None => false,
     }
 }

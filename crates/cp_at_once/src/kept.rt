@@ -1,9 +1,13 @@
 //! The states that are kept.
 
-ghost use Rattle.std.specs.Prelude.{◌≡◌, ◌<◌, ◌^◌, [], length, true, IfOk};
+ghost use Rattle.std.specs.Prelude.{◌≡◌, ◌<◌, ◌^◌, ◌∷◌, ◌++◌, ℕ, List, [], length, reverse, false, IfOk};
 ghost use Rattle.cp_slots.specs.Tables.{Tables};
-ghost use Rattle.cp_machine.specs.System.{machine_of, output_of, IsStateOf};
-ghost use Rattle.cp_at_once.specs.Kept.{AreKept, IsQuietKey};
+ghost use Rattle.cp_key.specs.Key.{key_of};
+ghost use Rattle.cp_key.specs.Room.{IsMachineOf};
+ghost use Rattle.cp_machine.specs.System.{Machine, machine_of, IsStateOf};
+ghost use Rattle.cp_ends.specs.Holds.{IsAt, same_key};
+ghost use Rattle.cp_ends.specs.Searched.{has};
+ghost use Rattle.cp_at_once.specs.Holds.{AreStates, IsWordOf, numbers_at, state_at};
 
 use crate::origin::Origin;
 use cp_ends::state_key::StateKey;
@@ -37,13 +41,15 @@ impl Kept {
     }
 
     /// Whether the state with this key is kept.
-    pub fn contains(&self, key: &StateKey) -> bool {
+    pub fn contains(&self, key: &StateKey) -> bool
+        ensures { (r : Tables) (states : List (Machine × List ℕ)) (m : Machine) → AreStates r self.now.known.entries states → key.now.bytes.items ≡ key_of m → result ≡ has same_key states m }
+    {
         self.known.contains_key(key)
     }
 
     /// A state that was not kept is.
     pub fn add(&mut self, alloc: Global, key: &StateKey, origin: Origin) -> Result<(), AllocError>
-        ensures { IfOk result (λ _. (r : Tables) → AreKept r self.old.known.entries → IsQuietKey r key.now → AreKept r self.new.known.entries) }
+        ensures { IfOk result (λ _. (r : Tables) (states : List (Machine × List ℕ)) (m : Machine) (word : List ℕ) → AreStates r self.old.known.entries states → has same_key states m ≡ false → IsMachineOf r m → m.output ≡ [] → key.now.bytes.items ≡ key_of m → IsWordOf states origin word → AreStates r self.new.known.entries (states ++ (m, word) ∷ [])) }
     {
         let bytes = Vec::from_slice(alloc, key.bytes.as_slice())?;
         self.known.insert(StateKey { bytes }, origin)?;
@@ -52,9 +58,9 @@ impl Kept {
 
     /// A state becomes the one that is kept with this number; `false` where there is none.
     pub fn thaw_at(&self, number: u32, state: &mut State) -> bool
-        requires { (r : Tables) × IsStateOf r state.old × AreKept r self.now.known.entries }
-        ensures own { (r : Tables) → IsStateOf r state.old → AreKept r self.now.known.entries → IsStateOf r state.new }
-        ensures quiet { (r : Tables) → IsStateOf r state.old → AreKept r self.now.known.entries → result ≡ true → output_of (machine_of state.new) ≡ [] }
+        requires { (r : Tables) × (states : List (Machine × List ℕ)) × IsStateOf r state.old × AreStates r self.now.known.entries states }
+        ensures own { (r : Tables) (states : List (Machine × List ℕ)) → IsStateOf r state.old → AreStates r self.now.known.entries states → IsStateOf r state.new }
+        ensures at { (r : Tables) (states : List (Machine × List ℕ)) → AreStates r self.now.known.entries states → IsAt states number result (machine_of state.new) }
     {
         let Some((key, _)) = self.known.get_index(number as usize) else {
             return false;
@@ -65,7 +71,9 @@ impl Kept {
     }
 
     /// The numbers of a word.
-    pub fn word(&self, alloc: Global, origin: &Origin) -> Result<Vec<u8>, AllocError> {
+    pub fn word(&self, alloc: Global, origin: &Origin) -> Result<Vec<u8>, AllocError>
+        ensures { IfOk result (λ v. (r : Tables) (states : List (Machine × List ℕ)) (word : List ℕ) → AreStates r self.now.known.entries states → IsWordOf states origin.now word → v.items ≡ word) }
+    {
         let mut word = Vec::new(alloc);
         push_backwards(&mut word, origin.numbers.as_slice())?;
         let mut from = origin.state;
@@ -80,7 +88,10 @@ impl Kept {
     }
 
     // Appends the last numbers of a kept state's word, the last one first. Answers the kept state before.
-    fn push_origin(&self, word: &mut Vec<u8>, state: u32) -> Result<Option<u32>, AllocError> {
+    fn push_origin(&self, word: &mut Vec<u8>, state: u32) -> Result<Option<u32>, AllocError>
+        ensures from { IfOk result (λ from. from ≡ state_at self.now.known.entries state) }
+        ensures word { IfOk result (λ _. word.new.items ≡ word.old.items ++ reverse (numbers_at self.now.known.entries state)) }
+    {
         let Some((_, origin)) = self.known.get_index(state as usize) else {
             return Ok(None);
         };
@@ -89,9 +100,11 @@ impl Kept {
     }
 }
 
-fn push_backwards(word: &mut Vec<u8>, numbers: &[u8]) -> Result<(), AllocError> {
-    for number in numbers.iter().rev() {
-        word.push(*number)?;
+fn push_backwards(word: &mut Vec<u8>, numbers: &[u8]) -> Result<(), AllocError>
+    ensures { IfOk result (λ _. word.new.items ≡ word.old.items ++ reverse numbers.now) }
+{
+    for at in 0..numbers.len() {
+        word.push(numbers[numbers.len() - 1 - at])?;
     }
     Ok(())
 }

@@ -1,17 +1,21 @@
 //! Legs: the steps of a ready process up to and with its next kernel call or its end; and which of them are made at once.
 
-ghost use Rattle.std.specs.Prelude.{◌≡◌, true, false, IfSome};
-ghost use Rattle.cp_machine.specs.System.{machine_of, is_ready, is_pending, IsStateOf};
+ghost use Rattle.std.specs.Prelude.{◌≡◌, ℕ, Bool, [], true, false, IfSome};
+ghost use Rattle.cp_machine.specs.Bodies.{KeepBodies, has_moved};
+ghost use Rattle.cp_machine.specs.System.{Machine, machine_of, is_ready, is_pending, output_of, IsStateOf};
 ghost use Rattle.cp_run.specs.Run.{may};
 ghost use Rattle.cp_run.specs.Slots.{slots};
+ghost use Rattle.cp_at_once.specs.Legs.{EndsQuietly, HasLeg, ends_quietly};
 
-use cp_machine::{Event, Kernel, State, Ticks, local_step, step};
+use cp_machine::{Event, Kernel, Moved, State, Ticks, Watch, local_step, step};
 use cp_run::{Limits, wanted};
 use cp_slots::Resolved;
 use std::sync::ledger::Ledger;
 
 /// Whether a leg that ends in this event may be made at once: a kernel call that is no `enter`, or the end of the process.
-fn is_quiet(event: Event) -> bool {
+fn is_quiet(event: Event) -> bool
+    ensures { result ≡ ends_quietly event }
+{
     match event {
         Event::Kernel(Kernel::Enter) => false,
         Event::Kernel(_) | Event::Ended => true,
@@ -30,7 +34,10 @@ fn take_leg<S: Ledger>(
     requires own { IsStateOf program.now state.old }
     requires ready { is_ready (machine_of state.old) pid ≡ true }
     requires free { is_pending (machine_of state.old) ≡ false }
+    requires quiet { output_of (machine_of state.old) ≡ [] }
     ensures own { IsStateOf program.now state.new }
+    ensures leg { ends_quietly result ≡ true → EndsQuietly program.now limits.gates (machine_of state.old) pid (machine_of state.new) }
+    ensures kept { (moved : ℕ → Bool) (before : Machine) → KeepBodies moved before (machine_of state.old) → moved pid ≡ true → KeepBodies moved before (machine_of state.new) }
 {
     for _ in 0..limits.steps {
         if !local_step(program, state, pid, steps) {
@@ -46,12 +53,13 @@ fn take_leg<S: Ledger>(
     Event::Local
 }
 
-// Whether the leg of a ready process may be made at once. There is room for a state.
+// Whether the leg of a ready process may be made at once. There is room for a state, which differs by what some processes moved alone.
 fn has_quiet_leg<S: Ledger>(
     program: &Resolved,
     limits: Limits,
     state: &State,
     ahead: &mut State,
+    moved: &Moved,
     pid: u8,
     steps: &mut Ticks<S>,
 ) -> bool
@@ -59,11 +67,20 @@ fn has_quiet_leg<S: Ledger>(
     requires ahead { IsStateOf program.now ahead.old }
     requires ready { is_ready (machine_of state.now) pid ≡ true }
     requires free { is_pending (machine_of state.now) ≡ false }
+    requires quiet { output_of (machine_of state.now) ≡ [] }
+    requires kept { KeepBodies (has_moved moved.now) (machine_of state.now) (machine_of ahead.old) }
     ensures ahead { IsStateOf program.now ahead.new }
+    ensures kept { (moved : ℕ → Bool) → moved pid ≡ true → KeepBodies moved (machine_of state.now) (machine_of ahead.new) }
+    ensures leg { result ≡ true → HasLeg program.now limits.gates (machine_of state.now) pid }
 {
-    ahead.take_from(state);
+    ahead.take_moved(state, moved);
     let event = take_leg(program, limits, ahead, pid, steps);
-    is_quiet(event) && ahead.phases.as_slice() == state.phases.as_slice()
+    if !is_quiet(event) {
+        return false;
+    }
+    let before = state.phases.as_slice();
+    let after = ahead.phases.as_slice();
+    after == before
 }
 
 /// The least ready process whose leg may be made at once: it ends in a call that is no `enter` or in the end of the process, and leaves the status of each
@@ -77,17 +94,22 @@ pub fn process_at_once<S: Ledger>(
 ) -> Option<u8>
     requires own { IsStateOf program.now state.now }
     requires ahead { IsStateOf program.now ahead.old }
+    requires quiet { output_of (machine_of state.now) ≡ [] }
     ensures ahead { IsStateOf program.now ahead.new }
+    ensures leg { IfSome result (λ p. HasLeg program.now limits.gates (machine_of state.now) p) }
     ensures may { IfSome result (λ p. may (slots program.now limits.gates) (machine_of state.now) p ≡ true) }
 {
     if state.pending().is_some() {
         return None;
     }
     let numbers = wanted(program, limits, state);
+    let mut moved = Moved::everybody();
     for pid in numbers.as_slice() {
-        if has_quiet_leg(program, limits, state, ahead, *pid, steps) {
+        if has_quiet_leg(program, limits, state, ahead, &moved, *pid, steps) {
             return Some(*pid);
         }
+        moved = Moved::nobody();
+        moved.add(*pid);
     }
     None
 }

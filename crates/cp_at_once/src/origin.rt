@@ -1,5 +1,7 @@
 //! Where words come from.
 
+ghost use Rattle.std.specs.Prelude.{◌≡◌, ◌∷◌, [], None, Some};
+
 use arrayvec::ArrayVec;
 
 /// The most choices in a row that are made at once.
@@ -14,7 +16,10 @@ pub struct Origin {
 
 impl Origin {
     /// The word without numbers.
-    pub fn start() -> Origin {
+    pub fn start() -> Origin
+        ensures state { result.state ≡ None }
+        ensures numbers { result.numbers.items ≡ [] }
+    {
         Origin {
             state: None,
             numbers: ArrayVec::new(),
@@ -22,7 +27,10 @@ impl Origin {
     }
 
     /// The word of a kept state, and this number.
-    pub fn choice(state: u32, number: u8) -> Origin {
+    pub fn choice(state: u32, number: u8) -> Origin
+        ensures state { result.state ≡ Some state }
+        ensures numbers { result.numbers.items ≡ number ∷ [] }
+    {
         let mut numbers = ArrayVec::new();
         numbers.push(number);
         Origin {
@@ -32,7 +40,9 @@ impl Origin {
     }
 
     /// The same word once more.
-    pub fn copy(&self) -> Origin {
+    pub fn copy(&self) -> Origin
+        ensures { result ≡ self.now }
+    {
         let mut numbers = ArrayVec::new();
         let _ = numbers.try_extend_from_slice(self.numbers.as_slice());
         Origin {

@@ -1,10 +1,16 @@
 //! The search through the states that are kept.
 
-ghost use Rattle.std.specs.Prelude.{◌≡◌, [], true, IfOk};
-ghost use Rattle.cp_machine.specs.System.{machine_of, output_of, IsStateOf};
-ghost use Rattle.cp_run.specs.Run.{may};
-ghost use Rattle.cp_run.specs.Slots.{slots};
-ghost use Rattle.cp_at_once.specs.Kept.{AreKept};
+ghost use Rattle.std.specs.Prelude.{◌≡◌, ◌≤◌, ℕ, List, [], length, slice_get, Some, IfOk};
+ghost use Rattle.cp_slots.specs.Tables.{Tables};
+ghost use Rattle.cp_machine.specs.System.{Machine, machine_of, output_of, IsStateOf};
+ghost use Rattle.cp_ends.specs.Answer.{slot_graph};
+ghost use Rattle.cp_ends.specs.Arrivals.{goal_at};
+ghost use Rattle.cp_ends.specs.Graph.{ArrivesAt, LeadsToPlace};
+ghost use Rattle.cp_ends.specs.Holds.{SlotArrival};
+ghost use Rattle.cp_at_once.specs.Following.{AllGoOn, Answers, GoesOn, IsGoneThrough, IsKept, NotesArrival, SlotGraph};
+ghost use Rattle.cp_at_once.specs.Holds.{Holds, IsWordOf};
+ghost use Rattle.cp_at_once.specs.Legs.{HasLeg};
+ghost use Rattle.cp_at_once.specs.Whole.{IsAnswer};
 
 use crate::found::Found;
 use crate::leg::process_at_once;
@@ -36,7 +42,7 @@ pub fn search_at_once(
     limits: Limits,
     most: u32,
 ) -> Result<Found, AllocError>
-    ensures kept { IfOk result (λ found. AreKept program.now found.kept.known.entries) }
+    ensures { IfOk result (λ found. IsAnswer program.now limits.gates limits.steps most found) }
 {
     searched::<Brand>(alloc, program, limits, most, Blank::new(1))
 }
@@ -51,7 +57,7 @@ fn searched<S: Ledger>(
     requires name { blank.name ≡ S.name }
     requires parts { blank.parts ≡ S.parts }
     requires one { S.parts ≡ 1 }
-    ensures kept { IfOk result (λ found. AreKept program.now found.kept.known.entries) }
+    ensures { IfOk result (λ found. Answers program.now (slot_graph program.now limits.gates limits.steps) (HasLeg program.now limits.gates) most 8 found found.is_whole) }
 {
     let mut steps: Ticks<S> = Ticks::new(blank);
     let mut state = State::start(alloc, program, limits.gates)?;
@@ -76,6 +82,7 @@ fn searched<S: Ledger>(
         &mut steps,
     )?;
     if !is_room {
+        search.found.is_whole = false;
         return Ok(search.found);
     }
     let is_whole = search.go_on(
@@ -88,7 +95,10 @@ fn searched<S: Ledger>(
 impl Search {
     fn new(alloc: Global, program: &Resolved, state: &State) -> Result<Search, AllocError>
         requires own { IsStateOf program.now state.now }
-        ensures kept { IfOk result (λ s. AreKept program.now s.found.kept.known.entries) }
+        ensures kept { IfOk result (λ s. s.found.kept.known.entries ≡ []) }
+        ensures ends { IfOk result (λ s. s.found.ends.items ≡ []) }
+        ensures values { IfOk result (λ s. s.found.values.items ≡ []) }
+        ensures told { IfOk result (λ s. s.told.items ≡ []) }
         ensures ahead { IfOk result (λ s. IsStateOf program.now s.ahead) }
     {
         let _ = program;
@@ -115,9 +125,9 @@ impl Search {
     ) -> Result<bool, AllocError>
         requires own { IsStateOf program.now state.old }
         requires next { IsStateOf program.now next.old }
-        requires kept { AreKept program.now self.old.found.kept.known.entries }
         requires ahead { IsStateOf program.now self.old.ahead }
-        ensures kept { IfOk result (λ _. AreKept program.now self.new.found.kept.known.entries) }
+        requires begun { (states : List (Machine × List ℕ)) × Holds program.now (slot_graph program.now limits.gates limits.steps) most self.old.found states × IsGoneThrough (slot_graph program.now limits.gates limits.steps) (HasLeg program.now limits.gates) 8 0 self.old.found states }
+        ensures { IfOk result (λ is_whole. Answers program.now (slot_graph program.now limits.gates limits.steps) (HasLeg program.now limits.gates) most 8 self.new.found is_whole) }
     {
         for number in 0..most {
             if !self.found.kept.thaw_at(number, state) {
@@ -148,10 +158,9 @@ impl Search {
         requires own { IsStateOf program.now state.now }
         requires quiet { output_of (machine_of state.now) ≡ [] }
         requires next { IsStateOf program.now next.old }
-        requires kept { AreKept program.now self.old.found.kept.known.entries }
         requires ahead { IsStateOf program.now self.old.ahead }
         ensures next { IsStateOf program.now next.new }
-        ensures kept { IfOk result (λ _. AreKept program.now self.new.found.kept.known.entries) }
+        ensures found { IfOk result (λ is_room. (states : List (Machine × List ℕ)) (x : Machine × List ℕ) → Holds program.now (slot_graph program.now limits.gates limits.steps) most self.old.found states → slice_get states number ≡ Some x → machine_of state.now ≡ x.0 → AllGoOn program.now (slot_graph program.now limits.gates limits.steps) (HasLeg program.now limits.gates) most 8 self.old.found states self.new.found x.0 is_room) }
         ensures ahead { IsStateOf program.now self.new.ahead }
     {
         let numbers = wanted(program, limits, state);
@@ -189,23 +198,24 @@ impl Search {
     ) -> Result<bool, AllocError>
         requires own { IsStateOf program.now state.old }
         requires quiet { output_of (machine_of state.old) ≡ [] }
-        requires kept { AreKept program.now self.old.found.kept.known.entries }
         requires ahead { IsStateOf program.now self.old.ahead }
+        requires numbers { length origin.numbers.items ≤ 1 }
         ensures own { IsStateOf program.now state.new }
-        ensures kept { IfOk result (λ _. AreKept program.now self.new.found.kept.known.entries) }
+        ensures found { IfOk result (λ is_room. (states : List (Machine × List ℕ)) (word : List ℕ) (a : SlotArrival) → Holds program.now (slot_graph program.now limits.gates limits.steps) most self.old.found states → IsWordOf states origin word → ArrivesAt (slot_graph program.now limits.gates limits.steps) word a → goal_at arrival (machine_of state.old) ≡ a.goal → self.old.told.items ≡ a.shown → GoesOn program.now (slot_graph program.now limits.gates limits.steps) (HasLeg program.now limits.gates) most 8 self.old.found states self.new.found a is_room) }
         ensures ahead { IsStateOf program.now self.new.ahead }
     {
         let mut arrival = arrival;
         let mut origin = origin;
-        for _ in 0..IN_A_ROW {
+        for made in 0..IN_A_ROW {
             self.note(arrival, &origin)?;
-            if let Arrival::End(_) = arrival {
-                return Ok(true);
+            match arrival {
+                Arrival::End(_) => return Ok(true),
+                Arrival::Choice => {}
             }
             let Some(pid) = process_at_once(program, limits, state, &mut self.ahead, steps) else {
                 return self.keep(alloc, program, most, state, origin);
             };
-            let _ = origin.numbers.try_push(pid);
+            origin.numbers.push(pid);
             self.told.clear();
             arrival = choose(alloc, program, limits, state, pid, &mut self.told, steps)?;
         }
@@ -218,8 +228,8 @@ impl Search {
 
     // A word leads to where a stretch came to.
     fn note(&mut self, arrival: Arrival, origin: &Origin) -> Result<(), AllocError>
-        ensures kept { self.new.found.kept ≡ self.old.found.kept }
         ensures ahead { self.new.ahead ≡ self.old.ahead }
+        ensures found { IfOk result (λ _. (r : Tables) (g : SlotGraph) (most : ℕ) (states : List (Machine × List ℕ)) (word : List ℕ) (a : SlotArrival) (m : Machine) → Holds r g most self.old.found states → IsWordOf states origin.now word → ArrivesAt g word a → goal_at arrival m ≡ a.goal → self.old.told.items ≡ a.shown → NotesArrival r g most self.old.found states self.new.found a) }
     {
         self.found.add_values(self.told.as_slice(), origin)?;
         match arrival {
@@ -239,9 +249,8 @@ impl Search {
     ) -> Result<bool, AllocError>
         requires own { IsStateOf program.now state.now }
         requires quiet { output_of (machine_of state.now) ≡ [] }
-        requires kept { AreKept program.now self.old.found.kept.known.entries }
-        ensures kept { IfOk result (λ _. AreKept program.now self.new.found.kept.known.entries) }
         ensures ahead { self.new.ahead ≡ self.old.ahead }
+        ensures found { IfOk result (λ is_room. (g : SlotGraph) (states : List (Machine × List ℕ)) (word : List ℕ) → Holds program.now g most self.old.found states → IsWordOf states origin word → LeadsToPlace g (machine_of state.now) word → IsKept program.now g most self.old.found states self.new.found (machine_of state.now) is_room) }
     {
         let _ = program;
         self.key.take_from(state)?;

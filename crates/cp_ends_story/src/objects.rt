@@ -63,8 +63,7 @@ fn put_states(
 }
 
 fn put_at_once(object: &mut Object) -> Result<(), AllocError> {
-    object.put("at_once", Value::Bool(true))?;
-    object.put("proved", Value::Bool(false))
+    object.put("at_once", Value::Bool(true))
 }
 
 fn put_too_many(subject: Subject<'_>, object: &mut Object) -> Result<(), AllocError> {

@@ -106,7 +106,7 @@ fn push_second(
         Reach::StatesAtOnce(_) if findings.is_second => {
             text.push_str("too many states: there may be ")?;
             push_number(text, subject.most as usize)?;
-            text.push_str("\nso kernel calls are made at once, which is tested, not proved\n\n")
+            text.push_str("\nso kernel calls are made at once\n\n")
         }
         _ => Ok(()),
     }
@@ -369,7 +369,7 @@ fn push_last(
             push_complete(subject, text, findings, "complete: ", count)
         }
         Reach::StatesAtOnce(count) => {
-            let before = "complete with kernel calls at once (tested, not proved): ";
+            let before = "complete with kernel calls at once: ";
             push_complete(subject, text, findings, before, count)?;
             if subject.waits {
                 text.push_str(

@@ -92,7 +92,7 @@ fn ends<'a>(alloc: Global) -> Result<Command<'a>, AllocError> {
     let at_once = Arg::new(alloc, "at-once")
         .long("at-once")
         .action(ArgAction::SetTrue)
-        .help("Make kernel calls but enter at once: fewer states (tested, not proved)");
+        .help("Make kernel calls but enter at once: fewer states");
     let command = Command::new(alloc, "ends")
         .about(ENDS)
         .override_usage("cpx_show ends [OPTIONS] < PROGRAM");

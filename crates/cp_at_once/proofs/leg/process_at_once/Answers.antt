@@ -1,10 +1,12 @@
 use Rattle.std.proofs.Common.{rules, ◌≡◌, ◌∙◌, ◌<◌, false, true, get_or, length, sym, arith}
+use Rattle.cp_machine.specs.Bodies.{has_moved}
 use Rattle.cp_machine.specs.System.{machine_of, is_pending}
 use Rattle.cp_machine.proofs.CallerLemmas.{pending_is}
 use Rattle.cp_run.specs.Run.{may, those_below}
 use Rattle.cp_run.specs.Slots.{slots}
 use Rattle.cp_run.proofs.Choosing.{may_be_ready}
 use Rattle.cp_ends.proofs.Wanted.{may_those}
+use Rattle.cp_at_once.proofs.Legs.{kept_everybody}
 use Rattle.cp_at_once.proofs.leg.process_at_once.Goals as goal
 
 pub has_quiet_leg-requires-clause-ready : goal.has_quiet_leg-requires-clause-ready
@@ -29,3 +31,23 @@ returns-then-has_quiet_leg-clause-may g c =
     let lt : i < length all = omega arith in
     let on : may sys s (get_or all i 0) ≡ true = may_those sys s all listed i lt in
     search (rules, on)
+
+pub returns-then-has_quiet_leg-clause-leg : goal.returns-then-has_quiet_leg-clause-leg
+returns-then-has_quiet_leg-clause-leg g c =
+    let yes : c.has_quiet_leg.result ≡ true = search in
+    let leg = c.has_quiet_leg.ensures.leg yes in
+    search (rules, leg)
+
+pub loop-pid-init : goal.loop-pid-init
+loop-pid-init g c =
+    record {
+      ahead = c.requires.ahead;
+      kept = kept_everybody c.args.program.now c.args.state.now c.args.ahead.now (has_moved c.everybody-moved.result) c.requires.own c.requires.ahead c.everybody-moved.ensures;
+    }
+
+pub loop-pid-preserved : goal.loop-pid-preserved
+loop-pid-preserved g c =
+    record {
+      ahead = c.has_quiet_leg.ensures.ahead;
+      kept = c.has_quiet_leg.ensures.kept (has_moved c.add.new.self) c.add.ensures.this;
+    }

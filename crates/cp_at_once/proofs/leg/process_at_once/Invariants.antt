@@ -1,5 +1,10 @@
-use Rattle.cp_machine.specs.System.{IsStateOf}
+use Rattle.cp_machine.specs.Bodies.{KeepBodies, has_moved}
+use Rattle.cp_machine.specs.System.{machine_of, IsStateOf}
 use Rattle.cp_at_once.proofs.leg.process_at_once.Given as goal
 
 abbrev pub invariant-loop-pid : goal.invariant-loop-pid
-invariant-loop-pid g l = IsStateOf l.program l.ahead
+invariant-loop-pid g l =
+    record {
+      ahead : IsStateOf l.program l.ahead;
+      kept : KeepBodies (has_moved l.moved) (machine_of l.state) (machine_of l.ahead);
+    }

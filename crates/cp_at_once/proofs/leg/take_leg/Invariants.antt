@@ -1,5 +1,8 @@
-use Rattle.std.proofs.Common.{◌≡◌, true, false}
-use Rattle.cp_machine.specs.System.{machine_of, is_ready, is_pending, IsStateOf}
+use Rattle.std.proofs.Common.{◌≡◌, ℕ, Bool, [], true, false}
+use Rattle.cp_machine.specs.Bodies.{KeepBodies}
+use Rattle.cp_machine.specs.declared.gates.Gates.{Gates}
+use Rattle.cp_machine.specs.System.{Machine, machine_of, is_ready, is_pending, output_of, IsStateOf}
+use Rattle.cp_at_once.specs.Legs.{EndsQuietly}
 use Rattle.cp_at_once.proofs.leg.take_leg.Given as goal
 
 abbrev pub invariant-loop : goal.invariant-loop
@@ -8,4 +11,7 @@ invariant-loop g l =
       own : IsStateOf l.program l.state;
       ready : is_ready (machine_of l.state) l.pid ≡ true;
       free : is_pending (machine_of l.state) ≡ false;
+      quiet : output_of (machine_of l.state) ≡ [];
+      kept : (moved : ℕ → Bool) (before : Machine) → KeepBodies moved before (machine_of l.initial.state) → moved l.pid ≡ true → KeepBodies moved before (machine_of l.state);
+      leg : (gates : Gates) (n : Machine) → EndsQuietly l.program gates (machine_of l.state) l.pid n → EndsQuietly l.program gates (machine_of l.initial.state) l.pid n;
     }

@@ -1,0 +1,25 @@
+-- Before the search nothing is found.
+use Rattle.std.proofs.Common.{◌≡◌, ℕ, List, [], sym, subst, arith}
+use Rattle.std.specs.Prelude.{All}
+use Rattle.std.proofs.lemmas.List.Elements.{All-nil}
+use Rattle.cp_slots.specs.Tables.{Tables}
+use Rattle.cp_ends.specs.Graph.{LeadsToPlace, LeadsToEnd, ShowsLast}
+use Rattle.cp_at_once.specs.Following.{SlotGraph}
+use Rattle.cp_at_once.specs.Holds.{AreStates, HasWord, Holds}
+use Rattle.cp_at_once.specs.declared.found.Found.{Found}
+
+no_states : (r : Tables) → AreStates r [] []
+no_states r = record { keys = refl_nil; own = All-nil _; quiet = All-nil _; words = λ i e x at to. cc; before = λ i e at. absurd (cc) }
+  where
+    refl_nil : (◌≡◌ {A = List (List ℕ)}) [] []
+    refl_nil = cc
+
+pub nothing_found : (r : Tables) (g : SlotGraph) (most : ℕ) (found : Found) → found.kept.known.entries ≡ [] → found.ends.items ≡ [] → found.values.items ≡ [] → Holds r g most found []
+nothing_found r g most found kept ends values =
+    record {
+      kept = subst (λ es. AreStates r es []) (sym kept) (no_states r);
+      few = omega arith;
+      reached = All-nil (λ x. LeadsToPlace g x.0 x.1);
+      ends = subst (All (λ e. HasWord [] e.origin (LeadsToEnd g e.end))) (sym ends) (All-nil (λ e. HasWord [] e.origin (LeadsToEnd g e.end)));
+      values = subst (All (λ v. HasWord [] v.origin (ShowsLast g v.value))) (sym values) (All-nil (λ v. HasWord [] v.origin (ShowsLast g v.value)));
+    }

@@ -1,0 +1,79 @@
+-- What the search of the code answers.
+use Rattle.std.proofs.Common.{◌≡◌, ◌∙◌, ℕ, List, Bool, true, false, length, refl, sym, arith}
+use Rattle.std.specs.Prelude.{All, IfOk, Result}
+use Rattle.std.proofs.lemmas.List.Elements.{All-weaker}
+use Rattle.cp_slots.specs.Tables.{Tables}
+use Rattle.cp_machine.specs.declared.gates.Gates.{Gates}
+use Rattle.cp_machine.specs.declared.gates.Gates.TheVariants.{First, Any}
+use Rattle.cp_machine.specs.System.{Machine}
+use Rattle.cp_run.specs.declared.outcome.OutcomeKind.TheVariants.{StepLimit}
+use Rattle.cp_run.specs.Slots.{slots}
+use Rattle.cp_endless.specs.Silent.{silent_slots, without_output}
+use Rattle.cp_ends.specs.Answer.{slot_graph}
+use Rattle.cp_ends.specs.Ends.{EndsSo, ShowsSo}
+use Rattle.cp_ends.specs.Graph.{LeadsToPlace, LeadsToEnd, ShowsLast}
+use Rattle.cp_ends.specs.Holds.{same_key}
+use Rattle.cp_ends.specs.Searched.{has}
+use Rattle.cp_ends.specs.Whole.{LeadsToState}
+use Rattle.cp_ends.specs.declared.end.End.TheVariants.{Over, Alone, Spins}
+use Rattle.cp_ends.proofs.GoingOn.{ok_to}
+use Rattle.cp_ends.proofs.Searching.Lists.{all_at}
+use Rattle.cp_ends.proofs.words.Translated.{end_there, place_there, shows_there}
+use Rattle.cp_at_once_laws.specs.OnSlots.{LeavesNothingOut}
+use Rattle.cp_at_once.specs.Following.{Answers, IsGoneThrough, IsOneTooMany, knows_end, knows_value}
+use Rattle.cp_at_once.specs.Holds.{HasWord, Holds}
+use Rattle.cp_at_once.specs.Legs.{HasLeg}
+use Rattle.cp_at_once.specs.Whole.{HasTooMany, IsAnswer, IsComplete}
+use Rattle.cp_at_once.specs.declared.found.Found.{Found}
+use Rattle.cp_at_once.proofs.Following.{States}
+use Rattle.cp_at_once.proofs.Pending.{never_pending}
+use Rattle.cp_at_once.proofs.Same.{key_same, key_self}
+use Rattle.cp_at_once.proofs.Tied.{searches}
+
+module _ (nothing_out : LeavesNothingOut) (r : Tables) (steps most : ℕ) (found : Found) where
+  -- ---- words
+
+  module _ (gates : Gates) (states : States) (h : Holds r (slot_graph r gates steps) most found states) where
+    place : (s : Machine) (word : List ℕ) → LeadsToPlace (slot_graph r gates steps) s word → LeadsToState (slots r gates) without_output steps s word
+    place s word leads = place_there (slots r gates) without_output same_key steps key_same key_self s word leads
+
+    reached : All (λ x. LeadsToState (slots r gates) without_output steps x.0 x.1) states
+    reached = All-weaker (λ x. LeadsToPlace (slot_graph r gates steps) x.0 x.1) (λ x. LeadsToState (slots r gates) without_output steps x.0 x.1) (λ x k. place x.0 x.1 k) states h.reached
+
+    ends : All (λ e. HasWord states e.origin (EndsSo (silent_slots r gates) steps e.end)) found.ends.items
+    ends = All-weaker (λ e. HasWord states e.origin (LeadsToEnd (slot_graph r gates steps) e.end)) (λ e. HasWord states e.origin (EndsSo (silent_slots r gates) steps e.end)) (λ e k. (k.0, k.1, end_there (slots r gates) without_output same_key steps key_same key_self e.end k.0 k.2)) found.ends.items h.ends
+
+    values : All (λ v. HasWord states v.origin (ShowsSo (slots r gates) without_output steps v.value)) found.values.items
+    values = All-weaker (λ v. HasWord states v.origin (ShowsLast (slot_graph r gates steps) v.value)) (λ v. HasWord states v.origin (ShowsSo (slots r gates) without_output steps v.value)) (λ v k. (k.0, k.1, shows_there (slots r gates) without_output same_key steps key_same key_self v.value k.0 k.2)) found.values.items h.values
+
+    too_many : IsOneTooMany (slot_graph r gates steps) most states → HasTooMany r gates steps most states
+    too_many k = record { full = (let few = h.few in let full = k.full in omega (arith, few, full)); state = k.state; word = k.word; leads = place k.state k.word k.leads; new = k.new }
+
+  -- ---- nothing is left out
+
+  complete : (states : States) → Holds r (slot_graph r First steps) most found states → IsGoneThrough (slot_graph r First steps) (HasLeg r First) 8 (length states) found states → knows_end found (Over StepLimit) ≡ false → IsComplete r steps found states
+  complete states h t uncut =
+      let all = searches r steps found states uncut t (λ i x at. never_pending r steps x.1 x.0 (all_at (λ x. LeadsToState (slots r First) without_output steps x.0 x.1) states i x (reached First states h) at)) in
+      record {
+        search = all;
+        meaning = λ t read accepted laid_so. nothing_out t r read accepted laid_so steps 8 (λ m. has same_key states m) (λ k. knows_end found (Over k)) (λ q. knows_end found (Alone q)) (λ q. knows_end found (Spins q)) (λ v. knows_value found v) all;
+      }
+
+  -- ---- the answer
+
+  true_false : true ≡ false → ⊥
+  true_false e = cc
+
+  whole : (gates : Gates) (states : States) → Holds r (slot_graph r gates steps) most found states → IsGoneThrough (slot_graph r gates steps) (HasLeg r gates) 8 (length states) found states → gates ≡ First → knows_end found (Over StepLimit) ≡ false → IsComplete r steps found states
+  whole First states h t is uncut = complete states h t uncut
+  whole Any states h t is uncut = absurd (cc)
+
+  by : (gates : Gates) (b : Bool) → b ≡ found.is_whole → Answers r (slot_graph r gates steps) (HasLeg r gates) most 8 found b → IsAnswer r gates steps most found
+  by gates true e (states, h, t) =
+      record { states = states; kept = h.kept; few = h.few; reached = reached gates states h; ends = ends gates states h; values = values gates states h; whole = λ is first uncut. whole gates states h t first uncut; too_many = λ none. absurd (true_false (e ∙ none)) }
+  by gates false e (states, h, many) =
+      record { states = states; kept = h.kept; few = h.few; reached = reached gates states h; ends = ends gates states h; values = values gates states h; whole = λ is first uncut. absurd (true_false (sym (e ∙ is))); too_many = λ none. too_many gates states h many }
+
+-- of the code's result
+pub says : {E : Type 0} → LeavesNothingOut → (r : Tables) (gates : Gates) (steps most : ℕ) (result : Result Found E) → IfOk result (λ found. Answers r (slot_graph r gates steps) (HasLeg r gates) most 8 found found.is_whole) → IfOk result (λ found. IsAnswer r gates steps most found)
+says out r gates steps most result h = ok_to result _ _ h (λ found a. by out r steps most found gates found.is_whole refl a)
