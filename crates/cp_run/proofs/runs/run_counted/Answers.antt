@@ -4,6 +4,7 @@ use Rattle.cp_machine.specs.System.{machine_of}
 use Rattle.cp_run.specs.Code.{answer_of, node_of, further}
 use Rattle.cp_run.specs.Run.{Answer, Ended, may, run, run_from}
 use Rattle.cp_run.specs.Slots.{slots}
+use Rattle.cp_run.proofs.TraceBounds.{ticks_within}
 use Rattle.cp_run.proofs.Running.{over_at, limit_at, refused_at, goes_at, drop_next}
 use Rattle.cp_run.proofs.runs.run_counted.Goals as goal
 
@@ -72,3 +73,21 @@ returns-clause-answer g c =
     ∙ ap (λ n. further n (run_from sys c.args.limits.steps (c.args.limits.choices - n) (drop n word) node)) at
     ∙ ap (λ (w : List ℕ). further (length word) (run_from sys c.args.limits.steps (c.args.limits.choices - length word) w node)) (drop-length word) in
     subst (λ (a : Answer). IfOk c.end_of_word.result (λ end. answer_of end ≡ a)) (sym reached) c.end_of_word.ensures
+
+pub returns-in-Ended-clause-ticks : goal.returns-in-Ended-clause-ticks
+returns-in-Ended-clause-ticks g c = ticks_within _ _ _ _ _ c.loop-place.invariant.ticks c.loop-place.invariant.within
+
+pub returns-then-place-limits-clause-ticks : goal.returns-then-place-limits-clause-ticks
+returns-then-place-limits-clause-ticks g c = ticks_within _ _ _ _ _ c.loop-place.invariant.ticks c.loop-place.invariant.within
+
+pub returns-then-not-may-clause-ticks : goal.returns-then-not-may-clause-ticks
+returns-then-not-may-clause-ticks g c = ticks_within _ _ _ _ _ c.loop-place.invariant.ticks c.loop-place.invariant.within
+
+pub returns-clause-ticks : goal.returns-clause-ticks
+returns-clause-ticks g c = ticks_within _ _ _ _ _ c.loop-place.invariant.ticks c.loop-place.invariant.within
+
+pub returns-in_err-outcome-in-Ended-clause-ticks : goal.returns-in_err-outcome-in-Ended-clause-ticks
+returns-in_err-outcome-in-Ended-clause-ticks g c = ticks_within _ _ _ _ _ c.loop-place.invariant.ticks c.loop-place.invariant.within
+
+pub returns-in_err-outcome-in-Choice-clause-ticks : goal.returns-in_err-outcome-in-Choice-clause-ticks
+returns-in_err-outcome-in-Choice-clause-ticks g c = ticks_within _ _ _ _ _ c.loop-place.invariant.ticks c.loop-place.invariant.within
