@@ -1,3 +1,4 @@
 pub mod Around
 pub mod Parameters
 pub mod Started
+pub mod StartsKnown

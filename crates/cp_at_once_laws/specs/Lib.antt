@@ -4,6 +4,5 @@ pub mod Found
 pub mod Limited
 pub mod Search
 pub mod Through
-pub mod Started
 pub mod Whole
 pub mod OnSlots

@@ -7,7 +7,7 @@ use Rattle.cp_meaning.specs.WellFormed.{IsWellFormed}
 use Rattle.cp_at_once_laws.specs.AtOnce.{Marks, Commutes, PicksQuiet}
 use Rattle.cp_at_once_laws.specs.Found.{ShowsValue, FindsAll, AtOnceNames}
 use Rattle.cp_at_once_laws.specs.Quiet.{names, IsSomewhere, IsQuietStep, CommutesLaw}
-use Rattle.cp_at_once_laws.specs.Started.{StartsKnown}
+use Rattle.cp_at_once_laws.proofs.rules.StartsKnown.{StartsKnown}
 use Rattle.cp_at_once_laws.proofs.names.Beside.{BesideLaw}
 use Rattle.cp_at_once_laws.proofs.names.Commuting.{commutes, shows_there, shows_back}
 use Rattle.cp_at_once_laws.proofs.names.States.{Kept}

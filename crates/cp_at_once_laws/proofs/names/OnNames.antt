@@ -24,7 +24,7 @@ use Rattle.cp_at_once_laws.specs.Found.{ShowsValue}
 use Rattle.cp_at_once_laws.specs.Quiet.{names, IsSomewhere, IsQuietStep}
 use Rattle.cp_at_once_laws.specs.OnSlots.{IsQuietOnSlots, Tells, LeavesNone, LeavesNothingOut}
 use Rattle.cp_at_once_laws.specs.Search.{SearchesAtOnce}
-use Rattle.cp_at_once_laws.specs.Started.{StartsKnown}
+use Rattle.cp_at_once_laws.proofs.rules.StartsKnown.{StartsKnown}
 use Rattle.cp_at_once_laws.specs.Through.{HasQuietLeg, IsPlain}
 use Rattle.cp_at_once_laws.proofs.limits.NothingLeft.{met_there, no_end_left}
 use Rattle.cp_at_once_laws.proofs.limits.Whole.{IsShown, marks_told}

@@ -17,7 +17,7 @@ use Rattle.cp_run.specs.Run.{turn_after}
 use Rattle.cp_refine.specs.Named.{event_of}
 use Rattle.cp_at_once_laws.specs.AtOnce.{is_call}
 use Rattle.cp_at_once_laws.specs.Quiet.{names, IsSomewhere}
-use Rattle.cp_at_once_laws.specs.Started.{StartsKnown}
+use Rattle.cp_at_once_laws.proofs.rules.StartsKnown.{StartsKnown}
 use Rattle.cp_at_once_laws.specs.Through.{IsPlain}
 use Rattle.cp_at_once_laws.proofs.limits.Turns.{local_turn}
 use Rattle.cp_at_once_laws.proofs.limits.Words.{EventKind, is_local, is_kernel, is_stop, which_event, stop_turn}

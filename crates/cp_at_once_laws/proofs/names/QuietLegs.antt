@@ -38,7 +38,7 @@ use Rattle.cp_endless.proofs.names.Meant.{leaves}
 use Rattle.cp_at_once_laws.specs.AtOnce.{is_call, QuietLeg, calls_quietly, after_quiet}
 use Rattle.cp_at_once_laws.specs.OnSlots.{IsQuietEvent, IsQuietOnSlots}
 use Rattle.cp_at_once_laws.specs.Quiet.{names, is_quiet, IsQuietStep}
-use Rattle.cp_at_once_laws.specs.Started.{StartsKnown}
+use Rattle.cp_at_once_laws.proofs.rules.StartsKnown.{StartsKnown}
 use Rattle.cp_at_once_laws.specs.Through.{HasQuietLeg}
 use Rattle.cp_at_once_laws.proofs.names.Commuting.{within_of}
 use Rattle.cp_at_once_laws.proofs.names.Reached.{unpending}

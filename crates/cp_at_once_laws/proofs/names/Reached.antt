@@ -5,7 +5,7 @@ use Rattle.cp_meaning.specs.State.{first_gates, State}
 use Rattle.cp_meaning.specs.Steps.{IsReached, at_first, by_step, by_admission, by_forgetting}
 use Rattle.cp_meaning.specs.WellFormed.{IsWellFormed}
 use Rattle.cp_meaning.proofs.OwnershipLemmas.{reached}
-use Rattle.cp_at_once_laws.specs.Started.{StartsKnown}
+use Rattle.cp_at_once_laws.proofs.rules.StartsKnown.{StartsKnown}
 use Rattle.cp_at_once_laws.proofs.pairs.Facts.{facts}
 use Rattle.cp_at_once_laws.proofs.pairs.Fit.{ProcessesUnknown}
 use Rattle.cp_at_once_laws.proofs.pairs.Shape.{step_stands}

@@ -28,7 +28,7 @@ use Rattle.cp_endless.proofs.steps.Rounds.{from_there, rounds, happens_early}
 use Rattle.cp_at_once_laws.specs.AtOnce.{Commutes}
 use Rattle.cp_at_once_laws.specs.OnSlots.{RepeatsByOneLaw}
 use Rattle.cp_at_once_laws.specs.Quiet.{names, IsSomewhere, IsQuietStep}
-use Rattle.cp_at_once_laws.specs.Started.{StartsKnown}
+use Rattle.cp_at_once_laws.proofs.rules.StartsKnown.{StartsKnown}
 use Rattle.cp_at_once_laws.specs.Through.{IsPlain}
 use Rattle.cp_at_once_laws.specs.Whole.{GoesOnBy, IsAloneBy, SpinsBy}
 use Rattle.cp_at_once_laws.proofs.limits.Basics.{some_same, distance}

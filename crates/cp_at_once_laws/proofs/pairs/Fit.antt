@@ -11,7 +11,7 @@ use Rattle.cp_meaning.proofs.Held.{Known}
 use Rattle.cp_meaning.proofs.LineLaw.{OrderlyState}
 use Rattle.cp_meaning.proofs.OwnKernel.{OwnedState}
 use Rattle.std.specs.Prelude.{true}
-pub use Rattle.cp_at_once_laws.specs.Started.{HasNoProcess, StartsKnown}
+pub use Rattle.cp_at_once_laws.proofs.rules.StartsKnown.{HasNoProcess, StartsKnown}
 
 -- who is delayed in a monitor has an open entry of it or initialises it; and who is unstarted has no open call
 pub record Waits (cs : List Component) (x : Process) : Type 0 where

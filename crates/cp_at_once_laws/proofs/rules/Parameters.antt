@@ -47,7 +47,7 @@ use Rattle.cp_resolved.proofs.agreeing.DifferentTokens.{all_numbered, all_few}
 use Rattle.cp_resolved.proofs.declarations.EnumerationsRead.{read_few, read_different}
 use Rattle.cp_resolved.proofs.declarations.Reserving.{pending_fresh}
 use Rattle.cp_resolved.proofs.declarations.SmallTexts.{read_small}
-use Rattle.cp_at_once_laws.specs.Started.{HasNoProcess}
+use Rattle.cp_at_once_laws.proofs.rules.StartsKnown.{HasNoProcess}
 
 module _ (p : Program) where
   abbrev ks_of : Tokens

@@ -1,4 +1,4 @@
--- Who may start a process: what the rules of the language say of it.
+-- Who may start a process: what the rules C13 and C15 say of it.
 use Rattle.std.specs.Prelude.{◌≡◌, ℕ, ◌<◌, List, [], ◌∷◌, ◌++◌, length}
 use Rattle.cp_tree.specs.declared.declaration.SystemKind.TheVariants as system_kind
 use Rattle.cp_tree.specs.Syntax.{Program}
