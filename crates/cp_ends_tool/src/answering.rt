@@ -14,7 +14,7 @@ use cp_tool::refusal::{check_reason, parse_reason, refusal, scan_reason};
 use cp_tool::transfer::{MOST_BYTES, ReadFault, read_source, write_text};
 use cp_tool::{Options, Sink, Source, Status};
 use cp_tree::{Tree, parse};
-use cp_waits::{Waits, graph_of, waits_report, who_waits};
+use cp_waits::{Waits, find_waits, waits_report};
 use cp_walk::Text;
 use std::alloc::{AllocError, Global};
 
@@ -151,8 +151,7 @@ fn waited(
 ) -> Result<Answer, AllocError>
     requires kept { HasFindings program.now found.now }
 {
-    let graph = graph_of(alloc, program, limits, found)?;
-    let waits = who_waits(alloc, &graph, &found.states)?;
+    let waits = find_waits(alloc, program, limits, found)?;
     Ok(Answer {
         code: match &waits {
             Waits::Known(_) => 0,

@@ -16,7 +16,7 @@ use cp_legend::Legend;
 use cp_machine::Gates;
 use cp_run::Limits;
 use cp_slots::Resolved;
-use cp_waits::{Waiting, Waits, graph_of, who_waits};
+use cp_waits::{Waiting, Waits, find_waits};
 use std::alloc::{AllocError, Global};
 
 /// The program that is marked, and how many states there may be.
@@ -127,8 +127,7 @@ fn waits_of(
     if !asks || found.stopped.is_some() {
         return Ok(None);
     }
-    let graph = graph_of(alloc, program, limits, found)?;
-    match who_waits(alloc, &graph, &found.states)? {
+    match find_waits(alloc, program, limits, found)? {
         Waits::Known(list) => Ok(Some(list)),
         Waits::NotSettled(_) => Ok(None),
     }
