@@ -1,7 +1,6 @@
 -- Ranks of the states of a graph are ranks of its machine: whoever has them waits for ever in no fair schedule.
 use Rattle.std.proofs.Common.{◌≡◌, ◌⊎◌, inl, inr, ⊎_elim, ◌∙◌, ◌<◌, ◌≤◌, ℕ, zero, suc, Bool, true, false, if◌then◌else◌, List, [], ◌∷◌, map, Option, None, Some, refl, sym, ap, subst, arith}
 use Rattle.std.specs.Prelude.{Contains, nat_lt, slice_get}
-use Rattle.std.specs.List.{AllByRecursion as Each}
 use Rattle.std.proofs.lemmas.Bool.{lt-ltb, ltb-true}
 use Rattle.cp_run.specs.System.{System}
 use Rattle.cp_run.specs.Run.{Node, Choosing, may, chosen}
@@ -9,7 +8,7 @@ use Rattle.cp_endless.specs.Fair.{IsServed}
 use Rattle.cp_endless.specs.Moments.{AnyOf, Moment, moments}
 use Rattle.cp_endless.specs.Ranks.{GoesWaiting, RankForbidsWaiting, RankForbidsLingering, WaitsOrIsServed}
 use Rattle.cp_endless.specs.Settled.{IsClosedSet}
-use Rattle.cp_endless.specs.WaitsForEver.{MayLinger, NeverWaitsForEver, WaitsIn, WaitsSometime}
+use Rattle.cp_endless.specs.WaitsForEver.{MayLinger, NeverWaitsForEver, WaitsIn}
 use Rattle.cp_ends.proofs.words.Edges.{some_same}
 use Rattle.cp_endless.proofs.waiting.Ranks.{no_waiting, no_linger}
 use Rattle.cp_ends.proofs.Searching.Lists.{place_of}

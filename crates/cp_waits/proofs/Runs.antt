@@ -1,11 +1,11 @@
 -- A way along the edges of a graph is a run of its machine.
-use Rattle.std.proofs.Common.{◌≡◌, ◌⊎◌, inl, inr, ⊎_elim, ◌∙◌, ◌<◌, ℕ, zero, suc, Bool, true, false, if◌then◌else◌, List, [], ◌∷◌, ◌++◌, map, length, Option, None, Some, refl, sym, ap, subst, arith}
+use Rattle.std.proofs.Common.{◌≡◌, ◌⊎◌, inl, inr, ⊎_elim, ◌∙◌, ◌<◌, ℕ, Bool, true, false, if◌then◌else◌, List, [], ◌∷◌, map, length, None, Some, refl, sym, ap, subst, arith}
 use Rattle.std.specs.Prelude.{slice_get}
 use Rattle.std.specs.List.{AllByRecursion as Each}
 use Rattle.cp_run.specs.System.{System}
 use Rattle.cp_run.specs.Run.{Node, Halted, Choosing, may, chosen}
 use Rattle.cp_endless.specs.Fair.{IsServed}
-use Rattle.cp_endless.specs.Lasso.{HasLasso, HasLingeringLasso, IsWaitingLoop, WaitsAlong}
+use Rattle.cp_endless.specs.Lasso.{HasLasso, IsWaitingLoop, WaitsAlong}
 use Rattle.cp_endless.specs.Moments.{AnyOf, Moment, moments, moments_along, states_along}
 use Rattle.cp_endless.specs.Reachable.{LeadsTo, node_after}
 use Rattle.cp_ends.proofs.words.Edges.{some_same}

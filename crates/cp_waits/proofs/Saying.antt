@@ -1,5 +1,5 @@
 -- Lines say of a machine what they say of its graph.
-use Rattle.std.proofs.Common.{◌≡◌, ◌⊎◌, inl, inr, ⊎_elim, ◌∙◌, ◌<◌, ◌≤◌, ℕ, zero, suc, Bool, true, false, List, [], ◌∷◌, ◌++◌, length, map, get_or, Option, None, Some, refl, sym, ap, subst, arith}
+use Rattle.std.proofs.Common.{◌≡◌, ◌⊎◌, inl, inr, ⊎_elim, ◌∙◌, ◌<◌, ℕ, zero, suc, Bool, true, List, [], ◌∷◌, ◌++◌, get_or, Some, sym, subst, arith}
 use Rattle.std.specs.Prelude.{Contains, slice_get}
 use Rattle.std.specs.List.{AllPairs}
 use Rattle.std.proofs.lemmas.Bool.{cases_order}
@@ -20,7 +20,7 @@ use Rattle.cp_waits.specs.declared.waiting.How.TheVariants.{Throughout, ForGood,
 use Rattle.cp_waits.specs.declared.waiting.Waiting.{Waiting}
 use Rattle.cp_waits.specs.declared.waiting.Waits.{Waits}
 use Rattle.cp_waits.specs.declared.waiting.Waits.TheVariants.{Known, NotSettled}
-use Rattle.cp_waits.specs.Lines.{AreLines, HasNoLine, HasRanks, IsLine, IsShown, NeverWaits, SayWhoWaits, ShowsRound, ShowsStandstill, StandsStillNever}
+use Rattle.cp_waits.specs.Lines.{AreLines, HasNoLine, HasRanks, IsShown, NeverWaits, SayWhoWaits, ShowsRound, ShowsStandstill, StandsStillNever}
 use Rattle.cp_waits.specs.MayWait.{AreLasso, AreLingeringLasso, AreStandstill, AreWaits, HasLine, MayWait, ShowWaiting, StandsStillAfter, TellWaits, WaitsForGood}
 use Rattle.cp_waits.specs.Sets.{has}
 use Rattle.cp_waits.specs.Traps.{HasTraps}

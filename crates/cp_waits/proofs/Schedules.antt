@@ -1,10 +1,10 @@
 -- A lasso is a schedule without end: its first word, and then its loop again and again.
-use Rattle.std.proofs.Common.{◌≡◌, ◌⊎◌, inl, inr, ⊎_elim, ◌∙◌, ◌<◌, ◌≤◌, ℕ, zero, suc, Bool, true, false, List, [], ◌∷◌, ◌++◌, length, drop, get_or, Option, Some, refl, sym, ap, subst, arith}
+use Rattle.std.proofs.Common.{◌≡◌, ◌⊎◌, inl, inr, ⊎_elim, ◌∙◌, ◌<◌, ◌≤◌, ℕ, zero, suc, Bool, true, false, List, [], ◌∷◌, length, Some, refl, sym, ap, subst, arith}
 use Rattle.std.specs.List.{AllByRecursion as Each}
 use Rattle.cp_run.specs.System.{System}
 use Rattle.cp_run.specs.Run.{Node, Halted, Choosing, may, chosen, opened}
-use Rattle.cp_endless.specs.Fair.{IsEndless, IsFair, IsServed}
-use Rattle.cp_endless.specs.Lasso.{HasLasso, HasLingeringLasso, WaitsAlong}
+use Rattle.cp_endless.specs.Fair.{IsFair, IsServed}
+use Rattle.cp_endless.specs.Lasso.{HasLasso, WaitsAlong}
 use Rattle.cp_endless.specs.Moments.{AnyOf, Moment, moments, moments_along, states_along}
 use Rattle.cp_endless.specs.Reachable.{node_after}
 use Rattle.cp_endless.specs.WaitsForEver.{WaitsFrom, WaitsIn, WaitsSometime}

@@ -1,9 +1,9 @@
 -- A standstill of a graph is a stretch of its machine that goes on for ever without a choice.
-use Rattle.std.proofs.Common.{◌≡◌, ◌⊎◌, inl, inr, ◌∙◌, ◌<◌, ℕ, suc, Bool, true, false, List, [], ◌∷◌, ◌++◌, Option, None, Some, refl, sym, ap, subst}
+use Rattle.std.proofs.Common.{◌≡◌, inl, inr, ◌∙◌, ◌<◌, ℕ, Bool, true, List, [], ◌∷◌, ◌++◌, Some, refl, sym, ap}
 use Rattle.std.specs.Prelude.{Contains, slice_get}
 use Rattle.cp_machine.specs.System.{Machine}
 use Rattle.cp_run.specs.System.{System}
-use Rattle.cp_run.specs.Run.{Choosing, may}
+use Rattle.cp_run.specs.Run.{Choosing}
 use Rattle.cp_endless.specs.Reachable.{LeadsTo}
 use Rattle.cp_endless.specs.Rounds.{SetsOut}
 use Rattle.cp_ends.specs.Holds.{IsWordOf}

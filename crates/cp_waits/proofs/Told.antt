@@ -45,7 +45,7 @@ use Rattle.cp_ends.proofs.named.Keys.{key_same, key_self}
 use Rattle.cp_ends.proofs.named.Kinds.{are_settled}
 use Rattle.cp_waits.specs.Graphs.{IsGraphOfAll, IsSlotGraphOf}
 use Rattle.cp_waits.specs.Lines.{SayWhoWaits}
-use Rattle.cp_waits.specs.MayWait.{AreWaits, HasLine, ShowWaiting, StandsStillAfter, TellWaits, WaitsForGood}
+use Rattle.cp_waits.specs.MayWait.{AreWaits, HasLine, ShowWaiting, TellWaits, WaitsForGood}
 use Rattle.cp_waits.specs.Named.{AreWaitsOnNames, LinesMeaningLaw, LingersBy, ShowOnNames, TellOfAll, TellOnNames, WaitsBy}
 use Rattle.cp_waits.specs.declared.graph.Graph.{Graph}
 use Rattle.cp_waits.specs.declared.waiting.How.{How}

@@ -31,7 +31,7 @@ use Rattle.cp_waits.specs.Ranks.{IsPassedOver, IsRanked}
 use Rattle.cp_waits.specs.Sets.{has}
 use Rattle.cp_waits.specs.Traps.{HasTraps, IsStateLed, LeadsToTrap}
 use Rattle.cp_waits.specs.Walks.{IsEdge}
-use Rattle.cp_waits.proofs.Falling.{Along, AreApart, along, at_of, index_here, index_in, keeps_on, who, who_below, who_is}
+use Rattle.cp_waits.proofs.Falling.{AreApart, along, at_of, index_here, index_in, keeps_on, who, who_below, who_is}
 use Rattle.cp_waits.proofs.Runs.{edge_at}
 
 -- ---- fewer moments

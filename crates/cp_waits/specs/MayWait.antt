@@ -1,5 +1,5 @@
 -- What the lines say of a machine: who may wait for ever in schedules of any length, and in which one.
-use Rattle.std.specs.Prelude.{◌≡◌, ◌≢◌, ◌⊎◌, ◌↔◌, ◌<◌, ℕ, suc, List, [], ◌∷◌, Bool, Contains}
+use Rattle.std.specs.Prelude.{◌≡◌, ◌⊎◌, ◌↔◌, ◌<◌, ℕ, suc, List, [], ◌∷◌, Bool, Contains}
 use Rattle.std.specs.List.{AllPairs}
 use Rattle.cp_run.specs.System.{System}
 use Rattle.cp_endless.specs.Lasso.{HasLasso, HasLingeringLasso}
