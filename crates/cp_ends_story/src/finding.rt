@@ -6,7 +6,7 @@ use crate::subject::{Findings, KnownEnd, KnownValue, Reach, Subject};
 use cp_at_once::search_at_once;
 use cp_ends::{Found, search_ends};
 use cp_machine::Gates;
-use cp_waits::{Waits, graph_of, who_waits};
+use cp_waits::{Waits, find_waits};
 use std::alloc::{AllocError, Global};
 
 /// What is found by following each state, or, where that was asked for or there are too many of them, with kernel calls at once.
@@ -39,8 +39,7 @@ fn is_first_in_line(subject: Subject<'_>) -> bool {
 fn found_by_states(alloc: Global, subject: Subject<'_>) -> Result<Findings, AllocError> {
     let found = search_ends(alloc, subject.program, subject.limits, subject.most)?;
     let waits = if subject.waits && found.stopped.is_none() {
-        let graph = graph_of(alloc, subject.program, subject.limits, &found)?;
-        Some(who_waits(alloc, &graph, &found.states)?)
+        Some(find_waits(alloc, subject.program, subject.limits, &found)?)
     } else {
         None
     };

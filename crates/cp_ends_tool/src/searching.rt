@@ -14,7 +14,7 @@ use cp_run::Limits;
 use cp_slots::Resolved;
 use cp_tool::Options;
 use cp_tool::answering::{Answer, Verdict};
-use cp_waits::{Waits, graph_of, waits_report, who_waits};
+use cp_waits::{Waits, find_waits, waits_report};
 use std::alloc::{AllocError, Global};
 
 /// What is answered to a program.
@@ -92,8 +92,7 @@ fn waits_answer(
     ensures { IfOk result (λ a. OfPrograms program.now (λ t. (f : SlotFindings) → Holds program.now found.now f → IsWaitsReport options.now t program.now f a.verdict a.text)) }
 {
     let _ = options;
-    let graph = graph_of(alloc, program, limits, found)?;
-    let waits = who_waits(alloc, &graph, &found.states)?;
+    let waits = find_waits(alloc, program, limits, found)?;
     Ok(Answer {
         verdict: verdict_on(&waits),
         text: waits_report(alloc, program, found, &waits)?.text,

@@ -1,6 +1,7 @@
 pub mod Finding
 pub mod Firsts
 pub mod Judgements
+pub mod KnownWaits
 pub mod Learning
 pub mod MarkSo
 pub mod Meant

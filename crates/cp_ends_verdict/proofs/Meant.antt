@@ -1,5 +1,5 @@
 -- What is so of the slot machine is so of the program on its own names; and where no stretch is cut, nothing else is.
-use Rattle.std.proofs.Common.{◌≡◌, inl, inr, ◌∙◌, ◌+◌, ℕ, Bool, true, false, not, ◌&&◌, ◌||◌, List, [], ◌∷◌, map, refl, sym, ap, subst}
+use Rattle.std.proofs.Common.{◌≡◌, ◌⊎◌, inl, inr, ◌∙◌, ◌+◌, ◌<◌, ℕ, Bool, true, false, not, ◌&&◌, ◌||◌, List, [], ◌∷◌, map, refl, sym, ap, subst}
 use Rattle.cp_tree.specs.Syntax.{Tree}
 use Rattle.cp_tree.specs.Read.{IsRead}
 use Rattle.cp_layout.specs.Laid.{plain, laid}
@@ -14,11 +14,14 @@ use Rattle.cp_run.specs.Run.{opened}
 use Rattle.cp_run.specs.Slots.{slots}
 use Rattle.cp_run.specs.System.{System}
 use Rattle.cp_refine.specs.Named.{gates_of}
+use Rattle.cp_refine.proofs.Meaning.{goes_in_step}
 use Rattle.cp_endless.specs.Meaning.{MeansTheSame}
 use Rattle.cp_endless.specs.Reachable.{EndsAfter, node_after}
 use Rattle.cp_endless.specs.Repeats.{CallsAt, EndsAtEachLimit}
 use Rattle.cp_endless.specs.Rounds.{SetsOut, chosen_spot, spot_after}
-use Rattle.cp_endless.specs.Silent.{without_output, silent_slots, silent_named}
+use Rattle.cp_endless.specs.Silent.{in_call_on_names, in_call_on_slots, silent_named, silent_slots, waits_on_names, waits_on_slots, without_output}
+use Rattle.cp_endless.specs.Standstill.{MayStandStill}
+use Rattle.cp_endless.specs.WaitsForEver.{MayLinger, MayWaitForEver}
 use Rattle.cp_endless.proofs.names.Meant.{endless_meaning}
 use Rattle.cp_endless.proofs.steps.Repeating.{repeating}
 use Rattle.cp_walk.specs.Text.{Spellings}
@@ -175,15 +178,26 @@ module _ (t : Tree) (r : Tables) (g : Gates) (read : IsRead t.program) (ok : IsA
   shown_there v word (inr x) =
       inr (each_limit word (again_ends (slots r (gates_of g)) without_output steps word v x), (means (steps + steps)).values.back word v (again_shown (slots r (gates_of g)) without_output steps word v x))
 
+  count : a.processes ≡ b.processes
+  count = (goes_in_step t r g read ok same).processes
+
   waits_there : (q : ℕ) → (on_slots r (gates_of g) steps).waits q → (on_names t g steps).waits q
-  waits_there q (inl w) = inl ((means steps).waits.back q w)
-  waits_there q (inr (inl x)) = inr (inl (x.0, (means steps).waits.still_back x.0 q x.1))
-  waits_there q (inr (inr l)) = inr (inr ((means steps).lingers.back q l))
+  waits_there q (less, how) = (subst (λ n. q < n) (sym count) less, by how)
+    where
+      by : MayWaitForEver b waits_on_slots q steps ⊎ (((word : List ℕ) × MayStandStill b waits_on_slots q steps word) ⊎ MayLinger b in_call_on_slots waits_on_slots q steps) →
+          MayWaitForEver a waits_on_names q steps ⊎ (((word : List ℕ) × MayStandStill a waits_on_names q steps word) ⊎ MayLinger a in_call_on_names waits_on_names q steps)
+      by (inl w) = inl ((means steps).waits.back q w)
+      by (inr (inl x)) = inr (inl (x.0, (means steps).waits.still_back x.0 q x.1))
+      by (inr (inr l)) = inr (inr ((means steps).lingers.back q l))
 
   waits_back : (q : ℕ) → (on_names t g steps).waits q → (on_slots r (gates_of g) steps).waits q
-  waits_back q (inl w) = inl ((means steps).waits.there q w)
-  waits_back q (inr (inl x)) = inr (inl (x.0, (means steps).waits.still_there x.0 q x.1))
-  waits_back q (inr (inr l)) = inr (inr ((means steps).lingers.there q l))
+  waits_back q (less, how) = (subst (λ n. q < n) count less, by how)
+    where
+      by : MayWaitForEver a waits_on_names q steps ⊎ (((word : List ℕ) × MayStandStill a waits_on_names q steps word) ⊎ MayLinger a in_call_on_names waits_on_names q steps) →
+          MayWaitForEver b waits_on_slots q steps ⊎ (((word : List ℕ) × MayStandStill b waits_on_slots q steps word) ⊎ MayLinger b in_call_on_slots waits_on_slots q steps)
+      by (inl w) = inl ((means steps).waits.there q w)
+      by (inr (inl x)) = inr (inl (x.0, (means steps).waits.still_there x.0 q x.1))
+      by (inr (inr l)) = inr (inr ((means steps).lingers.there q l))
 
   -- what is so on slots
   pub there : (f : Finding) → IsSo (on_slots r (gates_of g) steps) f → IsSo (on_names t g steps) f

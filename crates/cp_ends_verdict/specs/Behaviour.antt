@@ -1,5 +1,5 @@
 -- What schedules of any length do: how they end, which values they show, and who may wait for ever.
-use Rattle.std.specs.Prelude.{◌⊎◌, ℕ, List, [], Bool}
+use Rattle.std.specs.Prelude.{◌⊎◌, ◌<◌, ℕ, List, [], Bool}
 use Rattle.cp_tree.specs.Syntax.{Tree}
 use Rattle.cp_slots.specs.Tables.{Tables}
 use Rattle.cp_machine.specs.declared.gates.Gates as slot_gates
@@ -16,7 +16,8 @@ use Rattle.cp_ends.specs.declared.end.End.{End}
 
 -- The process may wait for ever while others go on: in a fair schedule without end, in a stretch without end, or again and again in its call.
 abbrev pub MayWait : {S : Type 0} → System S → (inside waiting : S → ℕ → Bool) → (steps q : ℕ) → Type 0
-MayWait sys inside waiting steps q = MayWaitForEver sys waiting q steps ⊎ (((word : List ℕ) × MayStandStill sys waiting q steps word) ⊎ MayLinger sys inside waiting q steps)
+MayWait sys inside waiting steps q =
+    (q < sys.processes) × (MayWaitForEver sys waiting q steps ⊎ (((word : List ℕ) × MayStandStill sys waiting q steps word) ⊎ MayLinger sys inside waiting q steps))
 
 -- which words end so, which words show this value, and who may wait for ever
 pub record Behaviour : Type 1 where

@@ -1,9 +1,10 @@
 -- What is known of some expectations together.
-use Rattle.std.specs.Prelude.{◌≡◌, ◌⊎◌, ℕ, List, Bool, true, false, Option, None, Some, Contains}
+use Rattle.std.specs.Prelude.{◌≡◌, ◌⊎◌, ◌&&◌, ℕ, List, Bool, true, false, not, Option, None, Some, Contains}
 use Rattle.std.specs.List.{list_any}
 use Rattle.std.specs.Borrow.{Bor}
 use Rattle.cp_slots.specs.Tables.{Tables}
 use Rattle.cp_machine.specs.declared.gates.Gates.{Gates}
+use Rattle.cp_machine.specs.declared.gates.Gates.TheVariants.{First, Any}
 use Rattle.cp_refine.specs.Named.{named_gates}
 use Rattle.cp_walk.specs.Text.{Spellings}
 use Rattle.cp_ends.specs.Whole.{OfItsPrograms}
@@ -59,6 +60,15 @@ asks_waits (Only ps) = false
 
 abbrev pub ask_waits : List Expectation → Bool
 ask_waits es = list_any asks_waits es
+
+-- anybody in line may go into a monitor that becomes free
+abbrev pub is_any : Gates → Bool
+is_any First = false
+is_any Any = true
+
+-- who waits can't be asked then
+abbrev pub can_be_asked : Gates → List Expectation → Bool
+can_be_asked gates es = not (ask_waits es && is_any gates)
 
 -- ---- marks
 

@@ -1,9 +1,11 @@
 //! Whether all of some expectations hold of schedules of any length.
 
-ghost use Rattle.std.specs.Prelude.{◌≡◌, ◌≤◌, IfOk, false, None};
+ghost use Rattle.std.specs.Prelude.{◌≡◌, ◌≤◌, ◌<◌, ◌^◌, ℕ, IfOk, false, true};
 ghost use Rattle.cp_ends.specs.Holds.{HasFindings};
-ghost use Rattle.cp_ends_verdict.specs.Knowledge.{IsKnown};
+ghost use Rattle.cp_ends.specs.Whole.{IsAnswer};
+ghost use Rattle.cp_ends_verdict.specs.Knowledge.{IsKnown, KnowsWaits};
 ghost use Rattle.cp_ends_verdict.specs.Marked as spec;
+ghost use Rattle.cp_ends_verdict.specs.declared.verdict.Mark.TheVariants.{Misread};
 
 use crate::expectation::{Expectation, Topic};
 use crate::judging::is_whole;
@@ -16,7 +18,7 @@ use cp_legend::Legend;
 use cp_machine::Gates;
 use cp_run::Limits;
 use cp_slots::Resolved;
-use cp_waits::{Waiting, Waits, graph_of, who_waits};
+use cp_waits::{Waiting, Waits, find_waits};
 use std::alloc::{AllocError, Global};
 
 /// The program that is marked, and how many states there may be.
@@ -41,8 +43,9 @@ pub fn mark_list(
     subject: Subject<'_>,
     list: &[Expectation],
 ) -> Result<Marked, AllocError>
-    ensures mark { 1 ≤ subject.entry.most → spec.ask_waits list.now ≡ false → IfOk result (λ m. spec.IsMarkOf subject.entry.program.now subject.entry.limits.gates subject.entry.limits.steps subject.entry.most list.now m.mark) }
-    ensures meaning { 1 ≤ subject.entry.most → spec.ask_waits list.now ≡ false → IfOk result (λ m. spec.IsMeantMark subject.entry.program.now subject.entry.limits.gates subject.entry.limits.steps list.now m.mark) }
+    ensures mark { 1 ≤ subject.entry.most → spec.can_be_asked subject.entry.limits.gates list.now ≡ true → IfOk result (λ m. spec.IsMarkOf subject.entry.program.now subject.entry.limits.gates subject.entry.limits.steps subject.entry.most list.now m.mark) }
+    ensures refused { spec.can_be_asked subject.entry.limits.gates list.now ≡ false → IfOk result (λ m. m.mark ≡ Misread) }
+    ensures meaning { 1 ≤ subject.entry.most → spec.can_be_asked subject.entry.limits.gates list.now ≡ true → IfOk result (λ m. spec.IsMeantMark subject.entry.program.now subject.entry.limits.gates subject.entry.limits.steps list.now m.mark) }
 {
     let asks = ask_waits(list);
     if asks && is_any(subject.limits.gates) {
@@ -54,14 +57,18 @@ pub fn mark_list(
 }
 
 // Whether anybody in line may go into a monitor that becomes free.
-fn is_any(gates: Gates) -> bool {
+fn is_any(gates: Gates) -> bool
+    ensures { result ≡ spec.is_any gates }
+{
     match gates {
         Gates::First => false,
         Gates::Any => true,
     }
 }
 
-fn refused(alloc: Global) -> Result<Marked, AllocError> {
+fn refused(alloc: Global) -> Result<Marked, AllocError>
+    ensures { IfOk result (λ m. m.mark ≡ Misread) }
+{
     Ok(Marked {
         mark: Mark::Misread,
         text: String::from_str(alloc, "waiting can't be asked with --gates any\n")?,
@@ -100,7 +107,7 @@ fn ask_waits(list: &[Expectation]) -> bool
 
 // What is known of the schedules of a program, and of who may wait for ever where that is asked.
 fn knowledge(alloc: Global, subject: Subject<'_>, asks: bool) -> Result<Known, AllocError>
-    ensures { 1 ≤ subject.entry.most → asks ≡ false → IfOk result (λ k. IsKnown subject.entry.program.now subject.entry.limits.gates subject.entry.limits.steps subject.entry.most k) }
+    ensures { 1 ≤ subject.entry.most → IfOk result (λ k. IsKnown subject.entry.program.now subject.entry.limits.gates subject.entry.limits.steps subject.entry.most k) }
 {
     let Subject {
         program,
@@ -122,13 +129,12 @@ fn waits_of(
     asks: bool,
 ) -> Result<Option<Vec<Waiting>>, AllocError>
     requires kept { HasFindings program.now found.now }
-    ensures { asks ≡ false → IfOk result (λ waits. waits ≡ None) }
+    ensures { IfOk result (λ waits. (most : ℕ) → most < 2 ^ 32 → IsAnswer program.now limits.gates limits.steps most found.now → KnowsWaits program.now limits.gates limits.steps waits) }
 {
     if !asks || found.stopped.is_some() {
         return Ok(None);
     }
-    let graph = graph_of(alloc, program, limits, found)?;
-    match who_waits(alloc, &graph, &found.states)? {
+    match find_waits(alloc, program, limits, found)? {
         Waits::Known(list) => Ok(Some(list)),
         Waits::NotSettled(_) => Ok(None),
     }

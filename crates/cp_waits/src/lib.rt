@@ -4,6 +4,7 @@
 
 pub mod building;
 pub mod components;
+pub mod finding;
 pub mod graph;
 pub mod laws;
 pub mod passing;
@@ -16,8 +17,8 @@ pub mod traps;
 pub mod waiting;
 pub mod watching;
 
-pub use building::graph_of;
+pub use finding::find_waits;
 pub use laws::law_lines_mean;
 pub use report::waits_report;
 pub use set::Set;
-pub use waiting::{How, Waiting, Waits, who_waits};
+pub use waiting::{How, Waiting, Waits};

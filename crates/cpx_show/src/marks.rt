@@ -1,7 +1,7 @@
 //! The mark of a program, as an answer.
 
-ghost use Rattle.std.specs.Prelude.{◌≡◌, ◌≤◌, IfOk, false};
-ghost use Rattle.cp_ends_verdict.specs.Marked.{ask_waits};
+ghost use Rattle.std.specs.Prelude.{◌≡◌, ◌≤◌, IfOk, true};
+ghost use Rattle.cp_ends_verdict.specs.Marked.{can_be_asked};
 ghost use Rattle.cp_run.specs.Slots.{slots};
 ghost use Rattle.cp_run.specs.Table.{table};
 ghost use Rattle.cpx_show.specs.Showing as spec;
@@ -95,7 +95,7 @@ fn judged_ends(
     legend: &Legend,
     list: &[EndsExpectation],
 ) -> Result<Answer, AllocError>
-    ensures { 1 ≤ options.now.states → ask_waits list.now ≡ false → IfOk result (λ a. spec.TellsEndsMark program.now options.now.gates options.now.steps options.now.states list.now a.verdict) }
+    ensures { 1 ≤ options.now.states → can_be_asked options.now.gates list.now ≡ true → IfOk result (λ a. spec.TellsEndsMark program.now options.now.gates options.now.steps options.now.states list.now a.verdict) }
 {
     let Some(limits) = Limits::new(MOST_CHOICES, options.steps, options.gates) else {
         unreachable!()
