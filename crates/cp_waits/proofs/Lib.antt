@@ -1,6 +1,10 @@
+pub mod Adding
 pub mod Edges
+pub mod Graphs
 pub mod Insides
 pub mod Legs
+pub mod Numbers
 pub mod Seeing
 pub mod Sets
+pub mod Standing
 pub mod Ways

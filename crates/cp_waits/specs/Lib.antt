@@ -1,3 +1,5 @@
+pub mod Building
+pub mod Graphs
 pub mod Keeps
 pub mod Legs
 pub mod Lines
