@@ -1,3 +1,4 @@
+pub mod Adding
 pub mod Alike
 pub mod Edges
 pub mod Falling
@@ -5,11 +6,13 @@ pub mod Graphs
 pub mod Insides
 pub mod Joined
 pub mod Legs
+pub mod Numbers
 pub mod Runs
 pub mod Saying
 pub mod Schedules
 pub mod Seeing
 pub mod Sets
+pub mod Standing
 pub mod Standstills
 pub mod Told
 pub mod Trapped

@@ -1,10 +1,18 @@
 //! The graph of the states that were found.
 
-ghost use Rattle.std.specs.Prelude.{◌≡◌, [], true};
-ghost use Rattle.cp_machine.specs.System.{machine_of, output_of, IsStateOf};
-ghost use Rattle.cp_run.specs.Run.{may};
+ghost use Rattle.std.specs.Prelude.{◌≡◌, ◌≤◌, ◌<◌, ◌^◌, ◌∷◌, ℕ, List, Some, IfOk, [], length, slice_get, true};
+ghost use Rattle.cp_slots.specs.Tables.{Tables};
+ghost use Rattle.cp_machine.specs.System.{Machine, machine_of, output_of, IsStateOf};
+ghost use Rattle.cp_machine.specs.declared.gates.Gates as slot_gates;
+ghost use Rattle.cp_run.specs.Run.{Choosing, may, those_below};
 ghost use Rattle.cp_run.specs.Slots.{slots};
-ghost use Rattle.cp_ends.specs.Holds.{HasFindings};
+ghost use Rattle.cp_endless.specs.Settled.{IsIn};
+ghost use Rattle.cp_endless.specs.Silent.{silent_slots, in_call_on_slots, waits_on_slots};
+ghost use Rattle.cp_ends.specs.Firsts.{HasWord};
+ghost use Rattle.cp_ends.specs.Holds.{AreStates, HasFindings};
+ghost use Rattle.cp_waits.specs.Building.{AddsChoicesOnSlots, AddsStill, AreAll, IsOfStretch, IsSlotGraphTo};
+ghost use Rattle.cp_waits.specs.Graphs.{IsGraphOfAll, IsNumber, IsSlotGraphOf};
+ghost use Rattle.cp_waits.specs.Legs.{Comes, Leg};
 
 use crate::graph::{Edge, Graph, Standstill};
 use crate::passing::Passing;
@@ -34,6 +42,7 @@ pub fn graph_of(
     found: &Found,
 ) -> Result<Graph, AllocError>
     requires kept { HasFindings program.now found.now }
+    ensures { IfOk result (λ graph. IsGraphOfAll program.now limits.gates limits.steps found.now graph) }
 {
     built::<Brand>(alloc, program, limits, found, Blank::new(1))
 }
@@ -49,6 +58,7 @@ fn built<S: Ledger>(
     requires name { blank.name ≡ S.name }
     requires parts { blank.parts ≡ S.parts }
     requires one { S.parts ≡ 1 }
+    ensures { IfOk result (λ graph. IsGraphOfAll program.now limits.gates limits.steps found.now graph) }
 {
     let mut steps: Ticks<S> = Ticks::new(blank);
     let mut builder = Builder {
@@ -81,6 +91,7 @@ impl Builder {
         requires own { IsStateOf program.now state.old }
         requires next { IsStateOf program.now next.old }
         requires kept { HasFindings program.now found.now }
+        ensures { IfOk result (λ _. (states : List (Machine × List ℕ)) → AreAll program.now limits.gates limits.steps found.now states → IsSlotGraphTo program.now limits.gates limits.steps states 0 self.old.graph → IsSlotGraphOf program.now limits.gates limits.steps states self.new.graph) }
     {
         for number in 0..u32::MAX {
             if !found.states.thaw_at(number, state) {
@@ -108,40 +119,40 @@ impl Builder {
         requires quiet { output_of (machine_of state.now) ≡ [] }
         requires next { IsStateOf program.now next.old }
         ensures next { IsStateOf program.now next.new }
+        ensures graph { IfOk result (λ _. (states : List (Machine × List ℕ)) (x : Machine × List ℕ) → AreAll program.now limits.gates limits.steps found.now states → self.old.graph.processes ≡ length program.now.processes → slice_get states number ≡ Some x → machine_of state.now ≡ x.0 → AddsChoicesOnSlots program.now limits.gates limits.steps states number x.0 (those_below (length program.now.processes) (may (slots program.now limits.gates) x.0)) self.old.graph self.new.graph) }
     {
         let numbers = wanted(program, limits, state);
         for process in numbers.as_slice() {
             next.take_from(state);
-            let origin = Origin::Choice {
-                state: number,
-                number: *process,
-            };
-            self.take_choice(alloc, program, limits, found, next, *process, origin, steps)?;
+            self.take_choice(alloc, program, limits, found, number, next, *process, steps)?;
         }
         Ok(())
     }
 
+    // Takes a choice of the state with this number.
     fn take_choice<S: Ledger>(
         &mut self,
         alloc: Global,
         program: &Resolved,
         limits: Limits,
         found: &Found,
+        number: u32,
         state: &mut State,
         process: u8,
-        origin: Origin,
         steps: &mut Ticks<S>,
     ) -> Result<(), AllocError>
         requires own { IsStateOf program.now state.old }
         requires may { may (slots program.now limits.gates) (machine_of state.old) process ≡ true }
         requires quiet { output_of (machine_of state.old) ≡ [] }
         ensures own { IsStateOf program.now state.new }
+        ensures graph { IfOk result (λ _. (states : List (Machine × List ℕ)) (x : Machine × List ℕ) → AreAll program.now limits.gates limits.steps found.now states → self.old.graph.processes ≡ length program.now.processes → slice_get states number ≡ Some x → machine_of state.old ≡ x.0 → AddsChoicesOnSlots program.now limits.gates limits.steps states number x.0 (process ∷ []) self.old.graph self.new.graph) }
     {
         let mut passing = Passing::new(self.graph.everybody());
         let came = choose(alloc, program, limits, state, process, &mut passing, steps)?;
-        let to = match came {
-            Came::Choice => self.number_of(found, state)?,
-            Came::End | Came::Repeats(_) => None,
+        let to = self.number_after(came, found, state)?;
+        let origin = Origin::Choice {
+            state: number,
+            number: process,
         };
         self.note_standstill(came, origin)?;
         self.graph.edges.push(Edge {
@@ -152,8 +163,27 @@ impl Builder {
         Ok(())
     }
 
+    // The number of the state to which a stretch came, if a choice is due there.
+    fn number_after(
+        &mut self,
+        came: Came,
+        found: &Found,
+        state: &State,
+    ) -> Result<Option<u32>, AllocError>
+        ensures graph { self.new.graph ≡ self.old.graph }
+        ensures number { IfOk result (λ to. (r : Tables) (gates : slot_gates.Gates) (steps : ℕ) (leg : Leg Machine) (due : List Machine) (seen : Passing) (states : List (Machine × List ℕ)) → AreAll r gates steps found.now states → IsIn (HasWord states) (λ kind. Unit {0}) leg.node → Comes r gates steps leg due seen came (machine_of state.now) → IsNumber states leg.node to) }
+    {
+        match came {
+            Came::Choice => self.number_of(found, state),
+            Came::End | Came::Repeats(_) => Ok(None),
+        }
+    }
+
     // The number of a state that was found.
-    fn number_of(&mut self, found: &Found, state: &State) -> Result<Option<u32>, AllocError> {
+    fn number_of(&mut self, found: &Found, state: &State) -> Result<Option<u32>, AllocError>
+        ensures graph { self.new.graph ≡ self.old.graph }
+        ensures number { IfOk result (λ to. (r : Tables) (states : List (Machine × List ℕ)) → AreStates r found.now.states.known.entries states → length states < 2 ^ 32 → HasWord states (machine_of state.now) → IsNumber states (Choosing (machine_of state.now)) to) }
+    {
         self.key.take_from(state)?;
         let Some(number) = found.states.known.get_index_of(&self.key) else {
             return Ok(None);
@@ -165,7 +195,12 @@ impl Builder {
     }
 
     // A word leads to a stretch that may go on for ever without a choice.
-    fn note_standstill(&mut self, came: Came, origin: Origin) -> Result<(), AllocError> {
+    fn note_standstill(&mut self, came: Came, origin: Origin) -> Result<(), AllocError>
+        ensures processes { self.new.graph.processes ≡ self.old.graph.processes }
+        ensures edges { self.new.graph.edges.items ≡ self.old.graph.edges.items }
+        ensures ends { self.new.graph.ends.items ≡ self.old.graph.ends.items }
+        ensures still { IfOk result (λ _. (r : Tables) (gates : slot_gates.Gates) (steps : ℕ) (leg : Leg Machine) (due : List Machine) (seen : Passing) (m : Machine) → length r.processes ≤ 16 → self.old.graph.processes ≡ length r.processes → IsOfStretch (silent_slots r gates) steps leg → Comes r gates steps leg due seen came m → AddsStill (silent_slots r gates) in_call_on_slots waits_on_slots steps leg origin self.old.graph self.new.graph) }
+    {
         let Came::Repeats(again) = came else {
             return Ok(());
         };

@@ -1,6 +1,6 @@
 //! The states, and what happens between them.
 
-ghost use Rattle.std.specs.Prelude.{◌≡◌, ◌&&◌, ℕ, nat_lt, length, slice_get};
+ghost use Rattle.std.specs.Prelude.{◌≡◌, ◌&&◌, ◌∷◌, ◌++◌, ℕ, [], IfOk, nat_lt, length, slice_get};
 ghost use Rattle.cp_waits.specs.Sets.{has};
 ghost use Rattle.cp_waits.specs.Walks.{first_edge, end_edge};
 
@@ -38,7 +38,12 @@ pub struct Graph {
 
 impl Graph {
     /// There is no state yet.
-    pub fn new(alloc: Global, processes: u8) -> Graph {
+    pub fn new(alloc: Global, processes: u8) -> Graph
+        ensures processes { result.processes ≡ processes }
+        ensures edges { result.edges.items ≡ [] }
+        ensures standstills { result.standstills.items ≡ [] }
+        ensures ends { result.ends.items ≡ [] }
+    {
         Graph {
             processes,
             edges: Vec::new(alloc),
@@ -48,7 +53,12 @@ impl Graph {
     }
 
     /// The edges that were added since are those of the next state.
-    pub fn end_state(&mut self) -> Result<(), AllocError> {
+    pub fn end_state(&mut self) -> Result<(), AllocError>
+        ensures processes { self.new.processes ≡ self.old.processes }
+        ensures edges { self.new.edges.items ≡ self.old.edges.items }
+        ensures standstills { self.new.standstills.items ≡ self.old.standstills.items }
+        ensures ends { IfOk result (λ _. self.new.ends.items ≡ self.old.ends.items ++ length self.old.edges.items ∷ []) }
+    {
         let end = self.edges.len();
         self.ends.push(end)?;
         Ok(())

@@ -1,0 +1,13 @@
+use Rattle.std.proofs.Common.{sym, subst}
+use Rattle.cp_machine.specs.System.{machine_of}
+use Rattle.cp_waits.specs.Legs.{Comes}
+use Rattle.cp_waits.proofs.Numbers.{choosing_in, choosing_number, halted_none}
+use Rattle.cp_waits.proofs.Legs.{ok_to}
+use Rattle.cp_waits.proofs.building.Builder.number_after.Goals as goal
+
+pub returns-in-Choice-clause-number : goal.returns-in-Choice-clause-number
+returns-in-Choice-clause-number c =
+    ok_to c.number_of.result _ _ c.number_of.ensures.number (λ to is r gates steps leg due seen states all among comes.
+    (let m = machine_of c.args.state.now in
+    let here = subst (λ k. Comes r gates steps leg due seen k m) c.in-Choice.is comes in
+    choosing_number states leg.node m to here.0 (is r states all.held all.few (choosing_in _ leg.node m here.0 among))))

@@ -1,0 +1,40 @@
+use Rattle.std.proofs.Common.{◌≡◌, ◌∙◌, ◌∷◌, [], Some, ap, refl, sym, subst, true}
+use Rattle.cp_machine.specs.System.{Machine, machine_of}
+use Rattle.cp_run.specs.Run.{may, chosen}
+use Rattle.cp_run.specs.Slots.{slots}
+use Rattle.cp_endless.specs.Silent.{silent_slots, in_call_on_slots, waits_on_slots}
+use Rattle.cp_ends.specs.Firsts.{HasWord}
+use Rattle.cp_ends.proofs.Searching.Lists.{contains_at}
+use Rattle.cp_waits.specs.Building.{AddsChoicesOnSlots}
+use Rattle.cp_waits.specs.Graphs.{IsNumber}
+use Rattle.cp_waits.specs.Legs.{Comes, choice_leg}
+use Rattle.cp_waits.specs.declared.graph.Graph.{Graph}
+use Rattle.cp_waits.proofs.Adding.{adds_one_choice}
+use Rattle.cp_waits.proofs.Insides.{everybody_is}
+use Rattle.cp_waits.proofs.Numbers.{few_processes, quiet_may}
+use Rattle.cp_waits.proofs.Standing.{choice_of_stretch}
+use Rattle.cp_waits.proofs.building.Builder.take_choice.Goals as goal
+
+pub returns-clause-graph : goal.returns-clause-graph
+returns-clause-graph g c = λ states x all count at same.
+    (let r = c.args.program.now in
+    let gates = c.args.limits.gates in
+    let steps = c.args.limits.steps in
+    let quiet = silent_slots r gates in
+    let m = machine_of c.args.state.now in
+    let p = c.args.process in
+    let last = machine_of c.choose.new.state in
+    let passing = c.choose.new.passing in
+    let came = c.in_ok-came.came in
+    let here = at ∙ ap (λ (k : Machine). Some (k, x.1)) (sym same) in
+    let known : HasWord states m = (x.1, contains_at states c.args.number (m, x.1) here) in
+    let allowed : may quiet m p ≡ true = sym (ap (λ f. f p) (quiet_may r gates m)) ∙ c.requires.may in
+    let comes : Comes r gates steps (choice_leg quiet steps m p) (m ∷ []) passing came last = c.in_ok-came.ensures.comes (c.new-passing.ensures r gates (λ q lt. everybody_is r c.args.state.now q c.requires.own c.args.state.now.few c.everybody.result c.args.self.now.graph.processes count c.everybody.ensures lt)) in
+    let leads : IsNumber states (chosen quiet steps m p) c.in_ok-to.to = c.in_ok-to.ensures.number r gates steps (choice_leg quiet steps m p) (m ∷ []) passing states all (all.closed.on m p known allowed) comes in
+    let same_graph = c.number_after.ensures.graph in
+    let mid = c.number_after.new.self.graph in
+    let noted : Graph = c.note_standstill.new.self.graph in
+    let new : Graph = record noted { edges = c.push.new.self } in
+    let still = c.in_ok-note_standstill.ensures.still r gates steps (choice_leg quiet steps m p) (m ∷ []) passing last (few_processes r c.args.state.now c.requires.own c.args.state.now.few) (ap (λ (g : Graph). g.processes) same_graph ∙ count) (choice_of_stretch quiet steps m p) comes in
+    let more : AddsChoicesOnSlots r gates steps states c.args.number m (p ∷ []) mid new = adds_one_choice quiet in_call_on_slots waits_on_slots steps states c.args.number (m, x.1) p c.in_ok-to.to passing came last mid noted new here allowed leads comes still c.note_standstill.ensures.processes c.note_standstill.ensures.ends c.note_standstill.ensures.edges refl refl refl c.in_ok-push.ensures.items in
+    subst (λ n. AddsChoicesOnSlots r gates steps states c.args.number n (p ∷ []) c.args.self.now.graph new) same (subst (λ (g : Graph). AddsChoicesOnSlots r gates steps states c.args.number m (p ∷ []) g new) same_graph more))
