@@ -70,3 +70,9 @@ pub returns-in-Goes-clause-lines : goal.returns-in-Goes-clause-lines
 returns-in-Goes-clause-lines g c =
     let e : is_pending (machine_of c.args.state.now) ≡ true = pending_is (machine_of c.args.state.now) c.pending.result true c.pending.ensures c.if-is_none.ensures in
     ok_as c.tell_stretch-in-Goes.result _ _ c.tell_stretch-in-Goes.ensures.lines (λ h is. behind_admission (slots c.args.program.now c.args.limits.gates) c.args.limits.steps (machine_of c.args.state.now) (machine_of c.admit.new.self) c.args.process (Goes c.in-Goes.next) (lines_of c.args.events.now.items) (lines_of c.push_event.new.events.items) (lines_of c.tell_stretch-in-Goes.new.events.items) e c.admit.ensures.after c.in-Goes.ensures.turn c.in_ok-push_event.ensures is)
+
+pub returns-then-is_none-clause-steps : goal.returns-then-is_none-clause-steps
+returns-then-is_none-clause-steps g c = c.tell_stretch.ensures.steps
+
+pub returns-in-Goes-clause-steps : goal.returns-in-Goes-clause-steps
+returns-in-Goes-clause-steps g c = c.tell_stretch-in-Goes.ensures.steps

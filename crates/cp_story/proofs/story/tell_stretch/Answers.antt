@@ -66,3 +66,24 @@ pub returns-clause-lines : goal.returns-clause-lines
 returns-clause-lines g c =
     let done : c.args.limits.steps - c.loop.counter ≡ 0 = omega arith in
     lines_used_up (slots c.args.program.now c.args.limits.gates) (c.args.limits.steps - c.loop.counter) (machine_of c.loop.state) c.loop.going _ (lines_of c.loop.events.items) done c.loop.invariant.lines
+
+pub returns-in-Over-clause-steps : goal.returns-in-Over-clause-steps
+returns-in-Over-clause-steps g c =
+    let lt : c.loop.counter < c.args.limits.steps = omega arith in
+    let more = counted (succeeds c.step-event.result) c.loop.steps c.step-event.new.ticks c.step-event.ensures.ticks in
+    let so_far = c.loop.invariant.steps in
+    omega (arith, lt, more, so_far)
+
+pub returns-in-Due-clause-steps : goal.returns-in-Due-clause-steps
+returns-in-Due-clause-steps g c =
+    let lt : c.loop.counter < c.args.limits.steps = omega arith in
+    let more = counted (succeeds c.step-event.result) c.loop.steps c.step-event.new.ticks c.step-event.ensures.ticks in
+    let so_far = c.loop.invariant.steps in
+    omega (arith, lt, more, so_far)
+
+pub returns-in_err-push_step-clause-steps : goal.returns-in_err-push_step-clause-steps
+returns-in_err-push_step-clause-steps g c =
+    let lt : c.loop.counter < c.args.limits.steps = omega arith in
+    let more = counted (succeeds c.step-event.result) c.loop.steps c.step-event.new.ticks c.step-event.ensures.ticks in
+    let so_far = c.loop.invariant.steps in
+    omega (arith, lt, more, so_far)
