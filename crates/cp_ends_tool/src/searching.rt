@@ -1,8 +1,9 @@
 //! From a program to the ends that are possible in schedules of any length.
 
 ghost use Rattle.std.specs.Prelude.{◌≡◌, ℕ, Option, None, IfOk};
-ghost use Rattle.cp_ends.specs.Holds.{HasFindings, Holds, SlotFindings};
+ghost use Rattle.cp_ends.specs.Holds.{HasFindings};
 ghost use Rattle.cp_ends.specs.Told.{IsDepth};
+ghost use Rattle.cp_ends.specs.Whole.{IsAnswer};
 ghost use Rattle.cp_ends_tool.specs.Answered as spec;
 ghost use Rattle.cp_ends_tool.specs.AtOnce.{IsAtOnceReport};
 ghost use Rattle.cp_ends_tool.specs.OfTables.{OfPrograms};
@@ -59,7 +60,9 @@ fn report_of(
     found: &Found,
 ) -> Result<Answer, AllocError>
     requires kept { HasFindings program.now found.now }
-    ensures { IfOk result (λ a. OfPrograms program.now (λ t. (f : SlotFindings) (to : Option ℕ) → Holds program.now found.now f → IsDepth f found.now.stopped to → spec.IsReportOf options.now t program.now f to a.verdict a.text)) }
+    requires steps { limits.steps ≡ options.now.steps }
+    requires gates { limits.gates ≡ options.now.gates }
+    ensures { IfOk result (λ a. OfPrograms program.now (λ t. (x : IsAnswer program.now limits.gates limits.steps options.now.states found.now) (to : Option ℕ) → IsDepth x.findings found.now.stopped to → spec.IsReportOf options.now t program.now x.findings to a.verdict a.text)) }
 {
     match found.stopped {
         Some(_) => Ok(Answer {
@@ -89,7 +92,9 @@ fn waits_answer(
 ) -> Result<Answer, AllocError>
     requires kept { HasFindings program.now found.now }
     requires whole { found.now.stopped ≡ None }
-    ensures { IfOk result (λ a. OfPrograms program.now (λ t. (f : SlotFindings) → Holds program.now found.now f → IsWaitsReport options.now t program.now f a.verdict a.text)) }
+    requires steps { limits.steps ≡ options.now.steps }
+    requires gates { limits.gates ≡ options.now.gates }
+    ensures { IfOk result (λ a. OfPrograms program.now (λ t. (x : IsAnswer program.now limits.gates limits.steps options.now.states found.now) → IsWaitsReport options.now t program.now x.findings a.verdict a.text)) }
 {
     let _ = options;
     let waits = find_waits(alloc, program, limits, found)?;
