@@ -196,10 +196,12 @@ pub fn is_reserved_name(refused: Refused) -> Result<bool, AllocError> {
             .is_some_and(|byte| byte.is_ascii_alphabetic()),
         None => false,
     };
-    Ok(is_word
-        && !is_system_parameter(refused)
-        && refused.takes(Candidate::Name)?
-        && !refused.takes_mark(Mark::Not)?
-        && !refused.takes_mark(Mark::While)?
-        && !refused.takes_mark(Mark::Begin)?)
+    Ok(
+        is_word
+            && !is_system_parameter(refused)
+            && refused.takes(Candidate::Name)?
+            && !refused.takes_mark(Mark::Not)?
+            && !refused.takes_mark(Mark::While)?
+            && !refused.takes_mark(Mark::Begin)?,
+    )
 }

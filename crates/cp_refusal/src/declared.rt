@@ -216,9 +216,7 @@ pub fn declared_at(program: &Program, looked: Looked) -> Option<Declared> {
 }
 
 fn is_in_routines(routines: &[Routine], looked: Looked) -> bool {
-    routines
-        .iter()
-        .any(|one| is_this(looked, &one.name) || in_routine(one, looked).is_some())
+    routines.iter().any(|one| is_this(looked, &one.name) || in_routine(one, looked).is_some())
 }
 
 fn is_in_system(system: &System, looked: Looked) -> bool {

@@ -90,6 +90,7 @@ fn operation(
 }
 
 /// The operators of one level from a token on, each before an operand of the level below.
+#[derive(Drop)]
 struct Operators {
     all: Vec<usize>,
     /// The token after the last operand.

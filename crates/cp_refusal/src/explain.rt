@@ -190,7 +190,10 @@ fn push_advice(refused: Refused, text: &mut String, missing: &Missing) -> Result
     match missing {
         Missing::Semicolon(before) => {
             let line = line_number(source, span_of(source, *before, tokens).from);
-            return write!(text, ": a semicolon may be missing at the end of line {line}");
+            return write!(
+                text,
+                ": a semicolon may be missing at the end of line {line}"
+            );
         }
         Missing::End(open) => {
             let line = line_number(source, span_of(source, *open, tokens).from);

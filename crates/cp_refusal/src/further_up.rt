@@ -37,12 +37,7 @@ fn is_after_a_block(refused: Refused) -> bool {
         None => true,
         Some(Kind::Mark(mark)) => matches!(
             mark,
-            Mark::Const
-                | Mark::Type
-                | Mark::Var
-                | Mark::Procedure
-                | Mark::Function
-                | Mark::Period
+            Mark::Const | Mark::Type | Mark::Var | Mark::Procedure | Mark::Function | Mark::Period
         ),
         Some(_) => false,
     }
@@ -76,7 +71,10 @@ fn is_beginning(tokens: &Tokens, at: usize) -> bool {
 fn is_ending(tokens: &Tokens, at: usize) -> bool {
     match tokens.get(at) {
         Some(Kind::Mark(mark)) => {
-            matches!(mark, Mark::CloseParenthesis | Mark::CloseBracket | Mark::End)
+            matches!(
+                mark,
+                Mark::CloseParenthesis | Mark::CloseBracket | Mark::End
+            )
         }
         Some(_) => true,
         None => false,

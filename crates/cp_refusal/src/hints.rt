@@ -57,6 +57,7 @@ fn skipped(tokens: &Tokens, program: &Program, at: usize) -> Option<usize> {
 const MOST_HINTS: usize = 100;
 
 /// A program whose hints are gathered.
+#[derive(Drop)]
 struct Gathering<'a> {
     alloc: Global,
     source: &'a [u8],

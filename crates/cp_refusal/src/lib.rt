@@ -28,5 +28,5 @@ mod waits;
 mod wanted;
 
 pub use explain::refusal;
-pub use report::{Answer, Hint, Hints, Position, Refusal, position, text};
 pub use place::Span;
+pub use report::{Answer, Hint, Hints, Position, Refusal, position_of, text};

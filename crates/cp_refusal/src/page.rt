@@ -40,13 +40,14 @@ fn push_blanks(text: &mut String, number: usize) -> Result<(), AllocError> {
     Ok(())
 }
 
-/// The line of a place, without what ends it.
+/// The line that begins at a place, without what ends it.
 fn line_at(source: &[u8], start: usize) -> &[u8] {
     let rest = &source[start.min(source.len())..];
     let end = rest.iter().position(|byte| *byte == b'\n');
-    match rest[..end.unwrap_or(rest.len()).min(rest.len())] {
-        [ref line @ .., b'\r'] => line,
-        ref line => line,
+    let line = &rest[..end.unwrap_or(rest.len()).min(rest.len())];
+    match line {
+        [before @ .., b'\r'] => before,
+        _ => line,
     }
 }
 
@@ -94,7 +95,11 @@ pub fn push_marked_line(
     text.push_str(number.as_str())?;
     text.push_str(" | ")?;
     text.push_str(if part.from > 0 { CUT } else { "" })?;
-    push_characters(text, line.get(part.from..part.to).unwrap_or(&[]), Look::Whole)?;
+    push_characters(
+        text,
+        line.get(part.from..part.to).unwrap_or(&[]),
+        Look::Whole,
+    )?;
     text.push_str(if part.to < line.len() { CUT } else { "" })?;
     text.push_str("\n")?;
     push_blanks(text, number.len())?;

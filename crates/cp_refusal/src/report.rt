@@ -49,7 +49,7 @@ pub struct Position {
 }
 
 /// Where some bytes of a source stand.
-pub fn position(source: &[u8], span: Span) -> Position {
+pub fn position_of(source: &[u8], span: Span) -> Position {
     Position {
         line: line_number(source, span.from),
         column: column(source, span.from),
@@ -79,7 +79,7 @@ fn push_position(
     span: Span,
     file: Option<&str>,
 ) -> Result<(), AllocError> {
-    let Position { line, column, .. } = position(source, span);
+    let Position { line, column, .. } = position_of(source, span);
     match file {
         Some(name) => write!(text, "{name}:{line}:{column}: "),
         None => write!(text, "line {line}: "),

@@ -1,8 +1,8 @@
 //! What is wrong where a rule is broken.
 
+use crate::called::called_at;
 use crate::changes::push_unchangeable;
 use crate::counts::push_counts;
-use crate::called::called_at;
 use crate::declared::{Declared, is_declared_somewhere};
 use crate::disagree::push_disagreement;
 use crate::extent::{after_designator, expression_at, single, statement_start};
@@ -256,7 +256,11 @@ fn push_declared(asker: &Asker, text: &mut String, at: usize) -> Result<(), Allo
         Some(span) => span.from,
         None => 0,
     };
-    write!(text, " is declared in line {}", line_number(asker.source, from))
+    write!(
+        text,
+        " is declared in line {}",
+        line_number(asker.source, from)
+    )
 }
 
 /// How a name is used.
@@ -292,9 +296,7 @@ fn misuse(what: Declared, used: Use, has_arguments: bool) -> &'static str {
         (Declared::Type, Use::Value) => " is a type, and has no value",
         (Declared::Type, _) => " is a type, and can't be called",
         (Declared::Constant, _) if has_arguments => " is a constant, and can't be called",
-        (Declared::Variable | Declared::Parameter | Declared::VarParameter, _)
-            if has_arguments =>
-        {
+        (Declared::Variable | Declared::Parameter | Declared::VarParameter, _) if has_arguments => {
             " is a variable, and can't be called"
         }
         _ => "",

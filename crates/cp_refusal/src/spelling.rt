@@ -7,11 +7,7 @@ use cp_tree::Program;
 
 // What is left of two names where they first differ.
 fn after_prefix<'a>(one: &'a [u8], other: &'a [u8]) -> (&'a [u8], &'a [u8]) {
-    let count = one
-        .iter()
-        .zip(other)
-        .take_while(|(a, b)| *a == *b)
-        .count();
+    let count = one.iter().zip(other).take_while(|(a, b)| *a == *b).count();
     (
         one.get(count..).unwrap_or(&[]),
         other.get(count..).unwrap_or(&[]),

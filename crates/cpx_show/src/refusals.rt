@@ -1,7 +1,7 @@
 //! Why a source is refused, as an answer.
 
 use crate::answering::{Answer, Verdict};
-use cp_refusal::{Answer as Said, Hints, Refusal, Span, position, refusal, text};
+use cp_refusal::{Answer as Said, Hints, Refusal, Span, position_of, refusal, text};
 use cp_story::objects::Object;
 use serde_json::Value;
 use std::alloc::{AllocError, Global};
@@ -43,7 +43,7 @@ fn json(alloc: Global, source: &[u8], said: &Said) -> Result<String, AllocError>
 }
 
 fn put_position(object: &mut Object, source: &[u8], span: Span) -> Result<(), AllocError> {
-    let place = position(source, span);
+    let place = position_of(source, span);
     object.number("line", u64::from(place.line))?;
     object.number("column", place.column as u64)?;
     object.number("length", place.length as u64)
