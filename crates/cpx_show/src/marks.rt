@@ -18,8 +18,8 @@ use cp_run::{Limits, MOST_CHOICES};
 use cp_slots::Resolved;
 use cp_tool::Options;
 use cp_verdict::{
-    Expectation, Mark, MarkFault, Marked, Misread, expectations, expected, mark_program, mark_tallies,
-    misread_text,
+    Expectation, Mark, MarkFault, Marked, Misread, expectations, expected, mark_program,
+    mark_tallies, misread_text,
 };
 use cp_walk::Job;
 use std::alloc::{AllocError, Global};
