@@ -116,7 +116,7 @@ record AreAlike (a b : End) : Type 0 where
   uncut_too : is_cut b ≡ false
 
 -- what settles an expectation is no stretch that was cut
-settling_uncut : (names : Spellings) (e : Expectation) (end : End) (word : List ℕ) → settles names e (Ends end word) ≡ true → is_cut end ≡ false
+pub settling_uncut : (names : Spellings) (e : Expectation) (end : End) (word : List ℕ) → settles names e (Ends end word) ≡ true → is_cut end ≡ false
 settling_uncut names e (Over Finished) word h = refl
 settling_uncut names e (Over AllWaiting) word h = refl
 settling_uncut names e (Over (RunError name process line)) word h = refl
@@ -145,7 +145,7 @@ settling_alike names (Sometimes (topic.Waiting process)) a b word h = refl
 settling_alike names (Sometimes (topic.Shown text)) a b word h = refl
 settling_alike names (Only ps) a b word h = ap (λ x. not x && not (is_cut a)) (h.named ps.items) ∙ ap (λ x. not (is_named ps.items b) && not x) (h.uncut ∙ sym h.uncut_too)
 
-limit_cut : (kind : OutcomeKind) → is_cut (Over kind) ≡ false → kind ≡ StepLimit → ⊥
+pub limit_cut : (kind : OutcomeKind) → is_cut (Over kind) ≡ false → kind ≡ StepLimit → ⊥
 limit_cut StepLimit h e = absurd (cc)
 limit_cut Finished h e = absurd (cc)
 limit_cut AllWaiting h e = absurd (cc)

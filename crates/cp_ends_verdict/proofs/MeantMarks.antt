@@ -12,9 +12,9 @@ use Rattle.cp_meaning.specs.State.{Gates, first_gates, any_gates}
 use Rattle.cp_refine.specs.Named.{gates_of}
 use Rattle.cp_ends_verdict.specs.Behaviour.{on_slots, on_names}
 use Rattle.cp_ends_verdict.specs.Expectations.{HasSettling, IsTrue}
-use Rattle.cp_ends_verdict.specs.Judged.{HoldsOf}
+use Rattle.cp_ends_verdict.specs.Judged.{HoldsOf, IsJudged}
 use Rattle.cp_ends_verdict.specs.Knowledge.{IsKnown, finding_of, is_kept, is_settled, is_whole}
-use Rattle.cp_ends_verdict.specs.Marked.{FailsBy, IsMarked, IsMarkOf, IsMeantMark, IsTrueMark, mark_of, open_mark}
+use Rattle.cp_ends_verdict.specs.Marked.{IsJudgedToFail, IsMarked, IsMarkOf, IsMeantMark, IsTrueMark, mark_of, open_mark}
 use Rattle.cp_ends_verdict.specs.declared.expectation.Expectation.{Expectation}
 use Rattle.cp_ends_verdict.specs.declared.expectation.Expectation.TheVariants.{Never, Sometimes, Only}
 use Rattle.cp_ends_verdict.specs.declared.known.Known.{Known}
@@ -25,7 +25,7 @@ use Rattle.cp_ends_verdict.specs.declared.verdict.Verdict.TheVariants as verdict
 use Rattle.cp_ends_verdict.proofs.Judgements.{both}
 use Rattle.cp_ends_verdict.proofs.Meant.{back, there}
 
-settled_whole : (e : Expectation) (k : Known) → is_settled e k ≡ true → is_whole k ≡ true
+pub settled_whole : (e : Expectation) (k : Known) → is_settled e k ≡ true → is_whole k ≡ true
 settled_whole (Never t) k s = (both (is_kept t k) (is_whole k) s).1
 settled_whole (Sometimes t) k s = (both (is_kept t k) (is_whole k) s).1
 settled_whole (Only ps) k s = s
@@ -52,7 +52,7 @@ module _ (t : Tree) (r : Tables) (g : Gates) (read : IsRead t.program) (ok : IsA
   holds (Only ps) (is, inr all) = λ x. is (settling_back (Only ps) all x)
 
   -- what fails is not
-  fails : (e : Expectation) (against : Option Witness) → FailsBy r.names (on_slots r (gates_of g) steps) k e against → IsTrue r.names (on_names t g steps) e → ⊥
+  fails : (e : Expectation) (against : Option Witness) → IsJudgedToFail (IsJudged r.names (on_slots r (gates_of g) steps) k) e against → IsTrue r.names (on_names t g steps) e → ⊥
   fails (Never topic) (Some w) f is = is (settling_there (Never topic) (finding_of w, f.1.is_so, f.1.settling))
   fails (Sometimes topic) (Some w) f is = absurd (let e = f.0 in cc)
   fails (Only ps) (Some w) f is = is (settling_there (Only ps) (finding_of w, f.1.is_so, f.1.settling))

@@ -1,5 +1,5 @@
 -- What is known of an expectation.
-use Rattle.std.specs.Prelude.{◌≡◌, ◌⊎◌, Bool, true, false, find, Option, None, Some}
+use Rattle.std.specs.Prelude.{◌≡◌, ◌⊎◌, Bool, true, false, find, Option, None, Some, option_map}
 use Rattle.cp_walk.specs.Text.{Spellings}
 use Rattle.cp_ends.specs.Firsts.{is_up_to}
 use Rattle.cp_ends_verdict.specs.Behaviour.{Behaviour, Finding, IsSo, word_of}
@@ -47,3 +47,7 @@ judgement_of true None false = Open
 judgement_of false (Some w) settled = Against w
 judgement_of false None true = Holds
 judgement_of false None false = Open
+
+-- it is the judgement by the first that is known to settle it
+abbrev pub IsJudgedBy : Spellings → Known → Expectation → Judgement → Type 0
+IsJudgedBy names k e j = (found : Option Witness) × (option_map finding_of found ≡ find (settles names e) (speaks_of e k)) × (j ≡ judgement_of (asks_some e) found (is_settled e k))

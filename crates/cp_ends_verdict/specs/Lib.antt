@@ -1,3 +1,4 @@
+pub mod AtOnce
 pub mod Behaviour
 pub mod Expectations
 pub mod Judged

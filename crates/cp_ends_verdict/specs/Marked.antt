@@ -10,8 +10,8 @@ use Rattle.cp_walk.specs.Text.{Spellings}
 use Rattle.cp_ends.specs.Whole.{OfItsPrograms}
 use Rattle.cp_ends_verdict.specs.Behaviour.{Behaviour, on_slots, on_names}
 use Rattle.cp_ends_verdict.specs.Expectations.{IsTrue}
-use Rattle.cp_ends_verdict.specs.Judged.{HoldsOf, IsAgainst, IsMissing, IsOpen}
-use Rattle.cp_ends_verdict.specs.Knowledge.{IsKnown, finding_of}
+use Rattle.cp_ends_verdict.specs.Judged.{IsJudged}
+use Rattle.cp_ends_verdict.specs.Knowledge.{IsKnown}
 use Rattle.cp_ends_verdict.specs.declared.expectation.Topic.{Topic}
 use Rattle.cp_ends_verdict.specs.declared.expectation.Topic.TheVariants as topic
 use Rattle.cp_ends_verdict.specs.declared.expectation.Expectation.{Expectation}
@@ -25,15 +25,20 @@ use Rattle.cp_ends_verdict.specs.declared.verdict.Mark.TheVariants as mark
 use Rattle.cp_ends_verdict.specs.declared.verdict.Verdict.{Verdict}
 use Rattle.cp_ends_verdict.specs.declared.verdict.Verdict.TheVariants as verdict
 
--- with the first schedule against it, or none where it asks for one and there is none
-abbrev pub FailsBy : Spellings → Behaviour → Known → Expectation → Option Witness → Type 0
-FailsBy names b k e (Some w) = IsAgainst names b e (finding_of w)
-FailsBy names b k e None = IsMissing names b k e
+-- it is judged to fail: with a schedule against it, or none where it asks for one and there is none
+abbrev pub IsJudgedToFail : (Expectation → Judgement → Type 0) → Expectation → Option Witness → Type 0
+IsJudgedToFail J e (Some w) = J e (judgement.Against w)
+IsJudgedToFail J e None = J e judgement.Missing
 
+-- The verdict is by judgements: each holds; or this one fails; or none fails, and this one is open.
+abbrev pub AreJudged : (Expectation → Judgement → Type 0) → List Expectation → Verdict → Type 0
+AreJudged J es verdict.Holds = (e : Expectation) → Contains es e → J e judgement.Holds
+AreJudged J es (verdict.Fails e against) = Contains es e.now × IsJudgedToFail J e.now against
+AreJudged J es (verdict.Open e) = ((x : Expectation) → Contains es x → J x judgement.Holds ⊎ J x judgement.Open) × (Contains es e.now × J e.now judgement.Open)
+
+-- by judgements of what a program does
 abbrev pub IsMarked : Spellings → Behaviour → Known → List Expectation → Verdict → Type 0
-IsMarked names b k es verdict.Holds = (e : Expectation) → Contains es e → HoldsOf names b k e
-IsMarked names b k es (verdict.Fails e against) = Contains es e.now × FailsBy names b k e.now against
-IsMarked names b k es (verdict.Open e) = ((x : Expectation) → Contains es x → HoldsOf names b k x ⊎ IsOpen names k x) × (Contains es e.now × IsOpen names k e.now)
+IsMarked names b k es v = AreJudged (IsJudged names b k) es v
 
 -- the verdict on some expectations and one more
 abbrev pub joined : Verdict → Bor Expectation → Judgement → Verdict

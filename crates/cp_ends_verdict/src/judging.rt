@@ -187,7 +187,8 @@ fn judged<'a>(expectation: &Expectation, found: Option<Witness<'a>>, settled: bo
 
 /// What is known of an expectation.
 pub fn judge<'a>(known: &'a Known, expectation: &Expectation) -> Judgement<'a>
-    ensures { (r : Tables) (gates : Gates) (steps most : ℕ) → known_spec.IsKnown r gates steps most known.entry.now → spec.IsJudged r.names (on_slots r gates steps) known.entry.now expectation.now result }
+    ensures slots { (r : Tables) (gates : Gates) (steps most : ℕ) → known_spec.IsKnown r gates steps most known.entry.now → spec.IsJudged r.names (on_slots r gates steps) known.entry.now expectation.now result }
+    ensures known { (names : Spellings) → known_spec.HasTexts names known.entry.now.values.items → spec.IsJudgedBy names known.entry.now expectation.now result }
 {
     let found = first_settling(known, expectation);
     judged(expectation, found, is_settled(expectation, known))

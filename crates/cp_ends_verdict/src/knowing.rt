@@ -107,7 +107,7 @@ fn known_values(
 }
 
 /// A value as a report prints it.
-fn text_of(alloc: Global, program: &Resolved, value: Shown) -> Result<String, AllocError>
+pub fn text_of(alloc: Global, program: &Resolved, value: Shown) -> Result<String, AllocError>
     ensures { IfOk result (λ s. string_bytes s ≡ output_text program.now.names (value ∷ [])) }
 {
     let mut text = String::new(alloc);

@@ -1,9 +1,11 @@
 //! What is expected of a program in schedules of any length, and whether it holds.
 #![tactic(auto)]
 
+pub mod at_once;
 pub mod expectation;
 pub mod judging;
 pub mod knowing;
+pub mod knowing_at_once;
 pub mod known;
 pub mod marking;
 pub mod matching;
@@ -11,8 +13,9 @@ pub mod reading;
 pub mod verdict;
 pub mod words;
 
+pub use at_once::{mark_at_once, mark_in_turn};
 pub use expectation::Expectation;
-pub use marking::{Marked, Subject, mark_list};
+pub use marking::{Marked, Subject};
 pub use reading::{Reading, expectations};
 pub use verdict::Mark;
 pub use words::misread_text;

@@ -56,8 +56,8 @@ pub fn mark_list(
     told(alloc, subject, &known, verdict)
 }
 
-// Whether anybody in line may go into a monitor that becomes free.
-fn is_any(gates: Gates) -> bool
+/// Whether anybody in line may go into a monitor that becomes free.
+pub fn is_any(gates: Gates) -> bool
     ensures { result ≡ spec.is_any gates }
 {
     match gates {
@@ -94,7 +94,8 @@ fn asks_waits(expectation: &Expectation) -> bool
     }
 }
 
-fn ask_waits(list: &[Expectation]) -> bool
+/// Whether one of some expectations asks who waits.
+pub fn ask_waits(list: &[Expectation]) -> bool
     ensures { result ≡ spec.ask_waits list.now }
 {
     for expectation in list {
@@ -154,7 +155,13 @@ fn told(
         Verdict::Fails {
             expectation,
             against,
-        } => failed(alloc, subject.legend, expectation, against)?,
+        } => failed(
+            alloc,
+            subject.legend,
+            expectation,
+            against,
+            "first against it: ",
+        )?,
         Verdict::Open { expectation } => opened(alloc, subject, known, expectation)?,
     };
     Ok(Marked {
@@ -174,18 +181,21 @@ fn held(alloc: Global, known: &Known) -> Result<String, AllocError> {
     )
 }
 
-fn failed(
+/// Says that an expectation fails, and by which schedule, with what stands before that.
+pub fn failed(
     alloc: Global,
     legend: &Legend,
     expectation: &Expectation,
     against: Option<Witness<'_>>,
+    before: &str,
 ) -> Result<String, AllocError> {
     let mut text = String::new(alloc);
     text.push_str("fails: ")?;
     push_expectation(legend, &mut text, expectation)?;
     match against {
         Some(witness) => {
-            text.push_str("\nfirst against it: ")?;
+            text.push_str("\n")?;
+            text.push_str(before)?;
             push_witness(legend, &mut text, witness)?;
         }
         None => {

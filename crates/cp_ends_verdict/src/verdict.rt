@@ -4,7 +4,9 @@ ghost use Rattle.std.specs.Prelude.{◌≡◌, ℕ};
 ghost use Rattle.cp_machine.specs.declared.gates.Gates.{Gates};
 ghost use Rattle.cp_slots.specs.Tables.{Tables};
 ghost use Rattle.cp_ends_verdict.specs.Behaviour.{on_slots};
-ghost use Rattle.cp_ends_verdict.specs.Knowledge.{IsKnown};
+ghost use Rattle.cp_walk.specs.Text.{Spellings};
+ghost use Rattle.cp_ends_verdict.specs.Judged.{IsJudgedBy};
+ghost use Rattle.cp_ends_verdict.specs.Knowledge.{HasTexts, IsKnown};
 ghost use Rattle.cp_ends_verdict.specs.Marked as spec;
 
 use crate::expectation::Expectation;
@@ -65,7 +67,8 @@ fn joined<'a>(
 
 /// What is known of some expectations together.
 pub fn verdict_on<'a>(known: &'a Known, list: &'a [Expectation]) -> Verdict<'a>
-    ensures { (r : Tables) (gates : Gates) (steps most : ℕ) → IsKnown r gates steps most known.entry.now → spec.IsMarked r.names (on_slots r gates steps) known.entry.now list.entry.now result }
+    ensures slots { (r : Tables) (gates : Gates) (steps most : ℕ) → IsKnown r gates steps most known.entry.now → spec.IsMarked r.names (on_slots r gates steps) known.entry.now list.entry.now result }
+    ensures known { (names : Spellings) → HasTexts names known.entry.now.values.items → spec.AreJudged (IsJudgedBy names known.entry.now) list.entry.now result }
 {
     let mut verdict = Verdict::Holds;
     for expectation in list {

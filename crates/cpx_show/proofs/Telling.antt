@@ -8,7 +8,7 @@ use Rattle.cp_run.specs.declared.limits.Limits.{Limits}
 use Rattle.cp_tool.specs.declared.options.Options.{Options}
 use Rattle.cp_verdict.specs.declared.expectation.Expectation.{Expectation}
 use Rattle.cp_ends_verdict.specs.declared.expectation.Expectation as ends_expectation
-use Rattle.cpx_show.specs.Showing.{Verdict, TellsMark, TellsEndsMark}
+use Rattle.cpx_show.specs.Showing.{Verdict, TellsMark, TellsEndsMark, TellsMarkAtOnce}
 
 abbrev pub TellsWithin : ℕ → ℕ → Gates → Tables → List Expectation → Verdict → Type 0
 TellsWithin choices steps gates r es verdict = TellsMark r.names es (table (slots r gates) choices steps) verdict
@@ -23,3 +23,6 @@ pub told_ends : (o : Options) (l : Limits) (r : Tables) (es : List ends_expectat
 told_ends o l r es verdict same h =
     let a = subst (λ (n : ℕ). TellsEndsMark r l.gates n o.states es verdict) same.1 h in
     subst (λ (g : Gates). TellsEndsMark r g o.steps o.states es verdict) same.2 a
+
+pub told_at_once : (o : Options) (l : Limits) (r : Tables) (es : List ends_expectation.Expectation) (verdict : Verdict) {choices : ℕ} → (l.choices ≡ choices) × (l.steps ≡ o.steps) × (l.gates ≡ o.gates) → TellsMarkAtOnce r l.steps es verdict → TellsMarkAtOnce r o.steps es verdict
+told_at_once o l r es verdict same h = subst (λ (n : ℕ). TellsMarkAtOnce r n es verdict) same.1 h

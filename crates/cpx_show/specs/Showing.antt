@@ -4,7 +4,7 @@ use Rattle.cp_walk.specs.Text.{Spellings}
 use Rattle.cp_run.specs.Table.{Line}
 use Rattle.cp_slots.specs.Tables.{Tables}
 use Rattle.cp_machine.specs.declared.gates.Gates.{Gates}
-use Rattle.cp_ends_verdict.specs.Marked.{IsMarkOf as IsEndsMarkOf, IsMeantMark}
+use Rattle.cp_ends_verdict.specs.AtOnce.{IsMarkAtOnce, IsMarkInTurn}
 use Rattle.cp_ends_verdict.specs.declared.expectation.Expectation as ends_expectation
 use Rattle.cp_ends_verdict.specs.declared.verdict.Mark as ends_mark
 use Rattle.cp_ends_verdict.specs.declared.verdict.Mark.TheVariants as of_ends
@@ -58,6 +58,10 @@ ends_verdict_of of_ends.Open = Open
 ends_verdict_of of_ends.TooMany = TooMany
 ends_verdict_of of_ends.Misread = Misread
 
--- The mark by schedules of any length is told, and it is true of the program on its own names.
+-- The mark by schedules of any length is told, by all states or, where there are too many, with kernel calls at once; it is true of the program on its own names.
 abbrev pub TellsEndsMark : Tables → Gates → (steps most : ℕ) → List ends_expectation.Expectation → Verdict → Type 0
-TellsEndsMark r gates steps most es verdict = (m : ends_mark.Mark) × (verdict ≡ ends_verdict_of m) × IsEndsMarkOf r gates steps most es m × IsMeantMark r gates steps es m
+TellsEndsMark r gates steps most es verdict = (m : ends_mark.Mark) × (verdict ≡ ends_verdict_of m) × IsMarkInTurn r gates steps most es m
+
+-- the mark with kernel calls at once from the first is told
+abbrev pub TellsMarkAtOnce : Tables → ℕ → List ends_expectation.Expectation → Verdict → Type 0
+TellsMarkAtOnce r steps es verdict = (m : ends_mark.Mark) × (verdict ≡ ends_verdict_of m) × IsMarkAtOnce r steps es m

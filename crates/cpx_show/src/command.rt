@@ -28,7 +28,7 @@ const MARK: &str =
     "Says whether what is expected of all schedules holds: never OUTCOME, some OUTCOME, only OUTCOME..";
 
 const EXPECTATIONS: &str =
-    "With --ends of schedules of any length, without outputs; END may be alone or spins as well, and\nwhat is expected may be never waiting, some waiting, some waiting PROCESS, never shown VALUE\nor some shown VALUE.\n\nOUTCOME: finished, all-waiting, run-error or run-error NAME; after it, if wanted,\noutput VALUES, where .. stands for any rest. Several expectations are joined by and.\nWithout words those in comments of the program are taken: (* expect never all-waiting *)\n\nStatus: 0 holds, 6 fails, 7 not settled; 1 to 5 as cpx";
+    "With --ends of schedules of any length, without outputs; END may be alone or spins as well, and\nwhat is expected may be never waiting, some waiting, some waiting PROCESS, never shown VALUE\nor some shown VALUE. With too many states kernel calls are made at once, but for waiting.\n\nOUTCOME: finished, all-waiting, run-error or run-error NAME; after it, if wanted,\noutput VALUES, where .. stands for any rest. Several expectations are joined by and.\nWithout words those in comments of the program are taken: (* expect never all-waiting *)\n\nStatus: 0 holds, 6 fails, 7 not settled; 1 to 5 as cpx";
 
 /// The command with all its parts; `clap` adds `--help` and `-h` to each.
 pub fn command<'a>(alloc: Global) -> Result<Command<'a>, AllocError> {
@@ -89,10 +89,7 @@ fn ends<'a>(alloc: Global) -> Result<Command<'a>, AllocError> {
         .long("waits")
         .action(ArgAction::SetTrue)
         .help("Tell as well who may wait for ever while others go on");
-    let at_once = Arg::new(alloc, "at-once")
-        .long("at-once")
-        .action(ArgAction::SetTrue)
-        .help("Make kernel calls but enter at once: fewer states");
+    let at_once = at_once(alloc, "Make kernel calls but enter at once: fewer states");
     let command = Command::new(alloc, "ends")
         .about(ENDS)
         .override_usage("cpx_show ends [OPTIONS] < PROGRAM");
@@ -102,6 +99,13 @@ fn ends<'a>(alloc: Global) -> Result<Command<'a>, AllocError> {
         "States that there may be in all, 1 to 10000000 [default: 200000]",
     ))?;
     Ok(command.arg(json(alloc))?)
+}
+
+fn at_once<'a>(alloc: Global, help: &'a str) -> Arg<'a> {
+    Arg::new(alloc, "at-once")
+        .long("at-once")
+        .action(ArgAction::SetTrue)
+        .help(help)
 }
 
 fn refusal<'a>(alloc: Global) -> Result<Command<'a>, AllocError> {
@@ -127,7 +131,12 @@ fn mark<'a>(alloc: Global) -> Result<Command<'a>, AllocError> {
         .about(MARK)
         .override_usage("cpx_show mark [OPTIONS] [EXPECTATION..] < PROGRAM")
         .after_help(EXPECTATIONS);
-    with_limits(alloc, command.arg(expectation)?.arg(ends_switch(alloc))?)
+    let at_once = at_once(
+        alloc,
+        "With --ends: make kernel calls but enter at once, so fewer states; not for waiting",
+    );
+    let command = command.arg(expectation)?.arg(ends_switch(alloc))?;
+    with_limits(alloc, command.arg(at_once)?)
 }
 
 fn ends_switch<'a>(alloc: Global) -> Arg<'a> {

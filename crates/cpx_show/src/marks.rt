@@ -1,6 +1,7 @@
 //! The mark of a program, as an answer.
 
-ghost use Rattle.std.specs.Prelude.{◌≡◌, ◌≤◌, IfOk, true};
+ghost use Rattle.std.specs.Prelude.{◌≡◌, ◌≤◌, IfOk, false, true};
+ghost use Rattle.cp_ends_verdict.specs.AtOnce.{can_be_at_once};
 ghost use Rattle.cp_ends_verdict.specs.Marked.{can_be_asked};
 ghost use Rattle.cp_run.specs.Slots.{slots};
 ghost use Rattle.cp_run.specs.Table.{table};
@@ -10,7 +11,8 @@ ghost use Rattle.cpx_show.specs.declared.answering.Verdict.TheVariants.{TooMany}
 use crate::answering::{Answer, Verdict};
 use cp_ends_verdict::{
     Expectation as EndsExpectation, Mark as EndsMark, Reading, Subject as Endless,
-    expectations as ends_expectations, mark_list, misread_text as ends_misread_text,
+    expectations as ends_expectations, mark_at_once, mark_in_turn,
+    misread_text as ends_misread_text,
 };
 use cp_legend::Legend;
 use cp_outcomes::completing::greatest_known;
@@ -95,6 +97,24 @@ fn judged_ends(
     legend: &Legend,
     list: &[EndsExpectation],
 ) -> Result<Answer, AllocError>
+    ensures in_turn { options.now.at_once ≡ false → 1 ≤ options.now.states → can_be_asked options.now.gates list.now ≡ true → IfOk result (λ a. spec.TellsEndsMark program.now options.now.gates options.now.steps options.now.states list.now a.verdict) }
+    ensures at_once { options.now.at_once ≡ true → can_be_at_once options.now.gates list.now ≡ true → IfOk result (λ a. spec.TellsMarkAtOnce program.now options.now.steps list.now a.verdict) }
+{
+    if options.at_once {
+        judged_at_once(alloc, options, program, legend, list)
+    } else {
+        judged_in_turn(alloc, options, program, legend, list)
+    }
+}
+
+// The same without calls at once, but where there are too many states.
+fn judged_in_turn(
+    alloc: Global,
+    options: &Options,
+    program: &Resolved,
+    legend: &Legend,
+    list: &[EndsExpectation],
+) -> Result<Answer, AllocError>
     ensures { 1 ≤ options.now.states → can_be_asked options.now.gates list.now ≡ true → IfOk result (λ a. spec.TellsEndsMark program.now options.now.gates options.now.steps options.now.states list.now a.verdict) }
 {
     let Some(limits) = Limits::new(MOST_CHOICES, options.steps, options.gates) else {
@@ -106,7 +126,33 @@ fn judged_ends(
         limits,
         most: options.states,
     };
-    let marked = mark_list(alloc, subject, list)?;
+    let marked = mark_in_turn(alloc, subject, list)?;
+    Ok(Answer {
+        verdict: ends_verdict_of(marked.mark),
+        text: marked.text,
+    })
+}
+
+// The same with calls at once.
+fn judged_at_once(
+    alloc: Global,
+    options: &Options,
+    program: &Resolved,
+    legend: &Legend,
+    list: &[EndsExpectation],
+) -> Result<Answer, AllocError>
+    ensures { can_be_at_once options.now.gates list.now ≡ true → IfOk result (λ a. spec.TellsMarkAtOnce program.now options.now.steps list.now a.verdict) }
+{
+    let Some(limits) = Limits::new(MOST_CHOICES, options.steps, options.gates) else {
+        unreachable!()
+    };
+    let subject = Endless {
+        program,
+        legend,
+        limits,
+        most: options.states,
+    };
+    let marked = mark_at_once(alloc, subject, list)?;
     Ok(Answer {
         verdict: ends_verdict_of(marked.mark),
         text: marked.text,

@@ -1,10 +1,16 @@
 use Rattle.std.proofs.Common.{ℕ, take}
 use Rattle.cp_machine.specs.declared.gates.Gates.{Gates}
 use Rattle.cp_slots.specs.Tables.{Tables}
+use Rattle.cp_walk.specs.Text.{Spellings}
 use Rattle.cp_ends_verdict.specs.Behaviour.{on_slots}
-use Rattle.cp_ends_verdict.specs.Knowledge.{IsKnown}
+use Rattle.cp_ends_verdict.specs.Judged.{IsJudgedBy}
+use Rattle.cp_ends_verdict.specs.Knowledge.{HasTexts, IsKnown}
 use Rattle.cp_ends_verdict.specs.Marked as spec
 use Rattle.cp_ends_verdict.proofs.verdict.verdict_on.Given as goal
 
 abbrev pub invariant-loop-expectation : goal.invariant-loop-expectation
-invariant-loop-expectation l = (r : Tables) (gates : Gates) (steps most : ℕ) → IsKnown r gates steps most l.known → spec.IsMarked r.names (on_slots r gates steps) l.known (take l.expectation-index l.list) l.verdict
+invariant-loop-expectation l =
+    record {
+      slots : (r : Tables) (gates : Gates) (steps most : ℕ) → IsKnown r gates steps most l.known → spec.IsMarked r.names (on_slots r gates steps) l.known (take l.expectation-index l.list) l.verdict;
+      known : (names : Spellings) → HasTexts names l.known.values.items → spec.AreJudged (IsJudgedBy names l.known) (take l.expectation-index l.list) l.verdict;
+    }

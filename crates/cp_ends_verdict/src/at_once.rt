@@ -1,0 +1,188 @@
+//! Whether all of some expectations hold of schedules of any length, by a search that makes kernel calls at once.
+
+ghost use Rattle.std.specs.Prelude.{◌≡◌, ◌≤◌, ◌⊎◌, IfOk, false, true};
+ghost use Rattle.cp_ends_verdict.specs.AtOnce as spec;
+ghost use Rattle.cp_ends_verdict.specs.Marked.{can_be_asked, mark_of as spec_mark_of};
+ghost use Rattle.cp_ends_verdict.specs.declared.verdict.Mark.TheVariants.{Misread};
+
+use crate::expectation::Expectation;
+use crate::judging::is_whole;
+use crate::knowing_at_once::known_at_once;
+use crate::known::Known;
+use crate::marking::{Marked, Subject, ask_waits, failed, is_any, mark_list};
+use crate::verdict::{Mark, Verdict, mark_of, verdict_on};
+use crate::words::push_expectation;
+use cp_at_once::search_at_once;
+use cp_machine::Gates;
+use std::alloc::{AllocError, Global};
+
+/// What all schedules of any length say of some expectations; where there are too many states, what kernel calls at once say, if these may be made and there are
+/// not too many states then as well.
+pub fn mark_in_turn(
+    alloc: Global,
+    subject: Subject<'_>,
+    list: &[Expectation],
+) -> Result<Marked, AllocError>
+    ensures { 1 ≤ subject.entry.most → can_be_asked subject.entry.limits.gates list.now ≡ true → IfOk result (λ m. spec.IsMarkInTurn subject.entry.program.now subject.entry.limits.gates subject.entry.limits.steps subject.entry.most list.now m.mark) }
+{
+    let marked = mark_list(alloc, subject, list)?;
+    match marked.mark {
+        Mark::TooMany => marked_again(alloc, subject, list, marked),
+        _ => Ok(marked),
+    }
+}
+
+// The same, where there are too many states.
+fn marked_again(
+    alloc: Global,
+    subject: Subject<'_>,
+    list: &[Expectation],
+    marked: Marked,
+) -> Result<Marked, AllocError>
+    ensures { IfOk result (λ m. spec.IsAgain subject.entry.program.now subject.entry.limits.gates subject.entry.limits.steps list.now marked.mark m.mark) }
+{
+    if can_be_at_once(subject.limits.gates, list) {
+        let again = mark_at_once(alloc, subject, list)?;
+        told_again(alloc, subject, marked, again)
+    } else {
+        Ok(marked)
+    }
+}
+
+// The mark that kernel calls at once give, if there are not too many states then as well.
+fn told_again(
+    alloc: Global,
+    subject: Subject<'_>,
+    marked: Marked,
+    again: Marked,
+) -> Result<Marked, AllocError>
+    ensures { IfOk result (λ m. (m.mark ≡ marked.mark) ⊎ (m.mark ≡ again.mark)) }
+{
+    match again.mark {
+        Mark::TooMany => with_line(marked, "so there are with kernel calls at once\n"),
+        _ => {
+            let most = subject.most;
+            let line = format!(in alloc;
+                "too many states: there may be {most}, so kernel calls were made at once\n"
+            )?;
+            with_line(again, line.as_str())
+        }
+    }
+}
+
+fn with_line(marked: Marked, line: &str) -> Result<Marked, AllocError>
+    ensures { IfOk result (λ m. m.mark ≡ marked.mark) }
+{
+    let mut text = marked.text;
+    text.push_str(line)?;
+    Ok(Marked {
+        mark: marked.mark,
+        text,
+    })
+}
+
+// Whether kernel calls at once can settle it: not who waits, and not where anybody in line may go into a monitor.
+fn can_be_at_once(gates: Gates, list: &[Expectation]) -> bool
+    ensures { result ≡ spec.can_be_at_once gates list.now }
+{
+    !is_any(gates) && !ask_waits(list)
+}
+
+/// What schedules of any length say of some expectations, where kernel calls are made at once.
+pub fn mark_at_once(
+    alloc: Global,
+    subject: Subject<'_>,
+    list: &[Expectation],
+) -> Result<Marked, AllocError>
+    ensures mark { spec.can_be_at_once subject.entry.limits.gates list.now ≡ true → IfOk result (λ m. spec.IsMarkAtOnce subject.entry.program.now subject.entry.limits.steps list.now m.mark) }
+    ensures refused { spec.can_be_at_once subject.entry.limits.gates list.now ≡ false → IfOk result (λ m. m.mark ≡ Misread) }
+{
+    if !can_be_at_once(subject.limits.gates, list) {
+        return refused(alloc);
+    }
+    let Subject {
+        program,
+        limits,
+        most,
+        ..
+    } = subject;
+    let found = search_at_once(alloc, program, limits, most)?;
+    let known = known_at_once(alloc, program, &found)?;
+    let verdict = verdict_on(&known, list);
+    told(alloc, subject, &known, verdict)
+}
+
+fn refused(alloc: Global) -> Result<Marked, AllocError>
+    ensures { IfOk result (λ m. m.mark ≡ Misread) }
+{
+    Ok(Marked {
+        mark: Mark::Misread,
+        text: String::from_str(alloc, "waiting can't be asked with --at-once\n")?,
+    })
+}
+
+// The mark of a verdict, and what is said with it.
+fn told(
+    alloc: Global,
+    subject: Subject<'_>,
+    known: &Known,
+    verdict: Verdict<'_>,
+) -> Result<Marked, AllocError>
+    ensures { IfOk result (λ m. m.mark ≡ spec_mark_of verdict.entry known.now.looked) }
+{
+    let text = match verdict {
+        Verdict::Holds => held(alloc, known)?,
+        Verdict::Fails {
+            expectation,
+            against,
+        } => failed(
+            alloc,
+            subject.legend,
+            expectation,
+            against,
+            "a schedule against it: ",
+        )?,
+        Verdict::Open { expectation } => opened(alloc, subject, known, expectation)?,
+    };
+    Ok(Marked {
+        mark: mark_of(verdict, known),
+        text,
+    })
+}
+
+fn held(alloc: Global, known: &Known) -> Result<String, AllocError> {
+    String::from_str(
+        alloc,
+        if is_whole(known) {
+            "holds\nfor schedules of any length, by those in which kernel calls are made at once\n"
+        } else {
+            "holds\nshown by a schedule\n"
+        },
+    )
+}
+
+fn opened(
+    alloc: Global,
+    subject: Subject<'_>,
+    known: &Known,
+    expectation: &Expectation,
+) -> Result<String, AllocError> {
+    let mut text = String::new(alloc);
+    if known.looked.is_some() {
+        let most = subject.most;
+        write!(
+            text,
+            "too many states with kernel calls at once: there may be {most}\n"
+        )?;
+    }
+    text.push_str("not settled: ")?;
+    push_expectation(subject.legend, &mut text, expectation)?;
+    text.push_str(if known.looked.is_some() {
+        "\nno schedule that was found settles it (try greater --states)\n"
+    } else if is_whole(known) {
+        "\nit is not known to hold, and no schedule is known to be against it\n"
+    } else {
+        "\nsome schedules ended at step-limit, and none so far settles it (try greater --steps)\n"
+    })?;
+    Ok(text)
+}
