@@ -1,6 +1,6 @@
 //! The data of a page: one JSON object.
 
-ghost use Rattle.std.specs.Prelude.{◌≡◌};
+ghost use Rattle.std.specs.Prelude.{◌≡◌, All, IfOk};
 ghost use Rattle.cp_machine.specs.System.{IsStateOf};
 
 use crate::graph::Graph;
@@ -15,6 +15,8 @@ use crate::variables::kept_variables;
 use cp_legend::Legend;
 use cp_machine::{Gates, State, Ticks};
 use cp_merged::{Tallies, Tally};
+use cp_run::Limits;
+use cp_slots::Resolved;
 use cp_walk::Job;
 use std::alloc::{AllocError, Global};
 use std::marker::Brand;
@@ -107,36 +109,67 @@ fn put_name(json: &mut Json, name: &str, type_name: &str) -> Result<(), AllocErr
     json.close()
 }
 
-// The states and the edges, with the tables on which they stand.
+// The variables, the states and the edges, with the tables on which they stand.
 fn put_graph(
     alloc: Global,
     json: &mut Json,
     subject: Subject<'_>,
     tallies: &[Tally],
 ) -> Result<(), AllocError> {
-    let state = State::start(alloc, subject.program, subject.limits.gates)?;
-    let mut register = Register::new(alloc, subject.legend)?;
-    let kept = kept_variables(alloc, subject.legend)?;
-    let variables = register.variables(&kept, &state.permanents)?;
-    let views = first_views(alloc, subject, &mut register, &state)?;
-    json.name("variables")?;
-    json.value(&variables)?;
-    let teller = Teller {
-        register,
+    let mut teller = first_teller(alloc, subject.legend)?;
+    put_variables(alloc, json, subject, &mut teller)?;
+    let views = first_views(alloc, subject, &mut teller.register)?;
+    let mut graph = Graph::new(alloc, teller, merging_for(tallies));
+    put_states(alloc, json, subject, tallies, &mut graph, &views)
+}
+
+// A teller who has told nothing yet.
+fn first_teller(alloc: Global, legend: &Legend) -> Result<Teller<'_>, AllocError> {
+    let kept = kept_variables(alloc, legend)?;
+    Ok(Teller {
+        register: Register::new(alloc, legend)?,
         kept,
         told: Vec::new(alloc),
         going: 0,
-    };
-    let mut graph = Graph::new(alloc, teller, merging_for(tallies));
-    let start = explored::<Brand>(alloc, subject, &mut graph, tallies, Blank::new(1))?;
-    json.name("start")?;
-    json.open()?;
-    json.place(start)?;
-    json.places(&views)?;
-    json.close()?;
+    })
+}
+
+// The states and the edges that are found, with the tables.
+fn put_states(
+    alloc: Global,
+    json: &mut Json,
+    subject: Subject<'_>,
+    tallies: &[Tally],
+    graph: &mut Graph<'_>,
+    views: &[usize],
+) -> Result<(), AllocError> {
+    let start = explored::<Brand>(alloc, subject, graph, tallies, Blank::new(1))?;
+    put_start(json, start, views)?;
     json.name("nodes")?;
     json.value(&graph.rows(alloc)?)?;
-    put_tables(json, graph.teller.register)
+    put_tables(json, &graph.teller.register)
+}
+
+// The variables that stay, with their first values.
+fn put_variables(
+    alloc: Global,
+    json: &mut Json,
+    subject: Subject<'_>,
+    teller: &mut Teller<'_>,
+) -> Result<(), AllocError> {
+    let state = State::start(alloc, subject.program, subject.limits.gates)?;
+    let variables = teller.register.variables(&teller.kept, &state.permanents)?;
+    json.name("variables")?;
+    json.value(&variables)
+}
+
+// The edge before the first choice, and where each process stands before it is started.
+fn put_start(json: &mut Json, edge: usize, views: &[usize]) -> Result<(), AllocError> {
+    json.name("start")?;
+    json.open()?;
+    json.place(edge)?;
+    json.places(views)?;
+    json.close()
 }
 
 // Which states are merged where these are the outcomes.
@@ -153,13 +186,11 @@ fn first_views(
     alloc: Global,
     subject: Subject<'_>,
     register: &mut Register<'_>,
-    state: &State,
-) -> Result<Vec<usize>, AllocError>
-    requires { IsStateOf subject.program.now state.now }
-{
+) -> Result<Vec<usize>, AllocError> {
+    let state = State::start(alloc, subject.program, subject.limits.gates)?;
     let mut views = Vec::new(alloc);
     for process in 0..subject.program.processes() {
-        views.push(register.place_view(subject.program, state, process)?)?;
+        views.push(register.place_view(subject.program, &state, process)?)?;
     }
     Ok(views)
 }
@@ -195,28 +226,71 @@ fn explored<S: Ledger>(
         subject.word,
         &mut ticks,
     )?;
-    let mut laid = 0usize;
-    for (place, tally) in tallies.iter().enumerate() {
-        if place < LAID && laid < most {
-            let word = tally.first.as_slice();
-            let more = graph.lay(alloc, program, limits, &mut states, start, word, &mut ticks)?;
-            laid = laid.saturating_add(more);
-        }
-    }
+    lay_first(
+        alloc,
+        program,
+        limits,
+        graph,
+        tallies,
+        &mut states,
+        most,
+        start,
+        &mut ticks,
+    )?;
     Ok(start)
 }
 
-fn put_tables(json: &mut Json, register: Register<'_>) -> Result<(), AllocError> {
-    json.name("edges")?;
-    json.value(&register.edges.into_rows()?)?;
-    json.name("events")?;
-    json.value(&register.events.into_rows()?)?;
-    json.name("views")?;
-    json.value(&register.views.into_rows()?)?;
-    json.name("frames")?;
-    json.value(&register.frames.into_rows()?)?;
-    json.name("ends")?;
-    json.value(&register.ends.into_rows()?)?;
-    json.name("strings")?;
-    json.value(&register.strings.into_rows()?)
+// Goes along the first schedules, until so many states were gone on from for them.
+fn lay_first<S: Ledger>(
+    alloc: Global,
+    program: &Resolved,
+    limits: Limits,
+    graph: &mut Graph<'_>,
+    tallies: &[Tally],
+    states: &mut Vec<State>,
+    most: usize,
+    start: usize,
+    ticks: &mut Ticks<S>,
+) -> Result<(), AllocError>
+    requires { All (λ s. IsStateOf program.now s) states.old.items }
+{
+    let mut left = most;
+    for tally in tallies.get(0..LAID).unwrap_or(tallies) {
+        left = lay_tally(
+            alloc, program, limits, graph, tally, states, left, start, ticks,
+        )?;
+    }
+    Ok(())
+}
+
+// Goes along the first schedule of an outcome, if states may still be gone on from; the answer is how many may then.
+fn lay_tally<S: Ledger>(
+    alloc: Global,
+    program: &Resolved,
+    limits: Limits,
+    graph: &mut Graph<'_>,
+    tally: &Tally,
+    states: &mut Vec<State>,
+    left: usize,
+    start: usize,
+    ticks: &mut Ticks<S>,
+) -> Result<usize, AllocError>
+    requires { All (λ s. IsStateOf program.now s) states.old.items }
+    ensures { IfOk result (λ _. All (λ s. IsStateOf program.now s) states.new.items) }
+{
+    if left == 0 {
+        return Ok(0);
+    }
+    let word = tally.first.as_slice();
+    let laid = graph.lay(alloc, program, limits, states, start, word, ticks)?;
+    Ok(left.saturating_sub(laid))
+}
+
+fn put_tables(json: &mut Json, register: &Register<'_>) -> Result<(), AllocError> {
+    register.edges.put(json, "edges")?;
+    register.events.put(json, "events")?;
+    register.views.put(json, "views")?;
+    register.frames.put(json, "frames")?;
+    register.ends.put(json, "ends")?;
+    register.strings.put(json, "strings")
 }

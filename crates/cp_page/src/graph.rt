@@ -120,12 +120,32 @@ impl<'a> Graph<'a> {
         }
         let before = copy_at(alloc, program, states, at)?;
         for process in 0..program.processes() {
-            if may(program, limits, &before, process) {
-                let edge = self.take(alloc, program, limits, states, at, &before, process, ticks)?;
-                self.add_edge(at, edge)?;
-            }
+            self.go_on(alloc, program, limits, states, at, &before, process, ticks)?;
         }
         Ok(())
+    }
+
+    // Goes on from a state with a process, if it may be chosen.
+    fn go_on<S: Ledger>(
+        &mut self,
+        alloc: Global,
+        program: &Resolved,
+        limits: Limits,
+        states: &mut Vec<State>,
+        at: usize,
+        before: &State,
+        process: u8,
+        ticks: &mut Ticks<S>,
+    ) -> Result<(), AllocError>
+        requires own { IsStateOf program.now before.now }
+        requires all { All (λ s. IsStateOf program.now s) states.old.items }
+        ensures { IfOk result (λ _. All (λ s. IsStateOf program.now s) states.new.items) }
+    {
+        if !may(program, limits, before, process) {
+            return Ok(());
+        }
+        let edge = self.take(alloc, program, limits, states, at, before, process, ticks)?;
+        self.add_edge(at, edge)
     }
 
     // The edge of a choice in a state.
@@ -307,14 +327,28 @@ impl<'a> Graph<'a> {
         ensures { IfOk result (λ _. All (λ s. IsStateOf program.now s) states.new.items) }
     {
         for at in 0..most {
-            if at >= states.len() {
-                break;
-            }
-            if self.depth_of(at) < limits.choices {
-                self.expand(alloc, program, limits, states, at, ticks)?;
-            }
+            self.explore_at(alloc, program, limits, states, at, ticks)?;
         }
         Ok(())
+    }
+
+    // Goes on from a state, if there is one at this place and fewer than K choices lead to it.
+    fn explore_at<S: Ledger>(
+        &mut self,
+        alloc: Global,
+        program: &Resolved,
+        limits: Limits,
+        states: &mut Vec<State>,
+        at: usize,
+        ticks: &mut Ticks<S>,
+    ) -> Result<(), AllocError>
+        requires { All (λ s. IsStateOf program.now s) states.old.items }
+        ensures { IfOk result (λ _. All (λ s. IsStateOf program.now s) states.new.items) }
+    {
+        if self.depth_of(at) >= limits.choices {
+            return Ok(());
+        }
+        self.expand(alloc, program, limits, states, at, ticks)
     }
 
     /// Goes on from the states along a word, up to so many; the answer is how many there were.
@@ -334,16 +368,54 @@ impl<'a> Graph<'a> {
         let mut edge = Some(start);
         let mut count = 0usize;
         for number in word {
-            let Some(at) = self.target_of(edge) else {
-                break;
-            };
-            if self.is_open(at) {
-                self.expand(alloc, program, limits, states, at, ticks)?;
-                count = count.saturating_add(1);
-            }
-            edge = self.edge_of(at, *number);
+            edge = self.lay_choice(
+                alloc, program, limits, states, edge, *number, &mut count, ticks,
+            )?;
         }
         Ok(count)
+    }
+
+    // Goes on from the state after an edge, if it was not gone on from; the answer is the edge of the choice of a process there.
+    fn lay_choice<S: Ledger>(
+        &mut self,
+        alloc: Global,
+        program: &Resolved,
+        limits: Limits,
+        states: &mut Vec<State>,
+        edge: Option<usize>,
+        process: u8,
+        count: &mut usize,
+        ticks: &mut Ticks<S>,
+    ) -> Result<Option<usize>, AllocError>
+        requires { All (λ s. IsStateOf program.now s) states.old.items }
+        ensures { IfOk result (λ _. All (λ s. IsStateOf program.now s) states.new.items) }
+    {
+        let Some(at) = self.target_of(edge) else {
+            return Ok(None);
+        };
+        let opened = self.expand_once(alloc, program, limits, states, at, ticks)?;
+        *count = count.saturating_add(opened);
+        Ok(self.edge_of(at, process))
+    }
+
+    // Goes on from a state, if it was not gone on from; the answer is how many states that were.
+    fn expand_once<S: Ledger>(
+        &mut self,
+        alloc: Global,
+        program: &Resolved,
+        limits: Limits,
+        states: &mut Vec<State>,
+        at: usize,
+        ticks: &mut Ticks<S>,
+    ) -> Result<usize, AllocError>
+        requires { All (λ s. IsStateOf program.now s) states.old.items }
+        ensures { IfOk result (λ _. All (λ s. IsStateOf program.now s) states.new.items) }
+    {
+        if !self.is_open(at) {
+            return Ok(0);
+        }
+        self.expand(alloc, program, limits, states, at, ticks)?;
+        Ok(1)
     }
 
     fn target_of(&self, edge: Option<usize>) -> Option<usize> {

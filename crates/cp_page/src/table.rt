@@ -48,10 +48,10 @@ impl Table {
         self.place(&row)
     }
 
-    /// The rows as a list.
-    pub fn into_rows(self) -> Result<Json, AllocError> {
-        let mut rows = self.rows;
-        rows.close()?;
-        Ok(rows)
+    /// Appends a member of this name, the rows as a list.
+    pub fn put(&self, json: &mut Json, name: &str) -> Result<(), AllocError> {
+        json.name(name)?;
+        json.value(&self.rows)?;
+        json.close()
     }
 }
