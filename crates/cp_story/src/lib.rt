@@ -1,21 +1,25 @@
 //! One schedule told in names: its events, as text and as JSON.
 #![tactic(auto)]
 
-mod aim;
+pub mod aim;
 mod changes;
 pub mod event;
-mod happening;
+pub mod happening;
 pub mod objects;
-mod observer;
+pub mod observer;
 pub mod story;
 mod tables;
 mod texts;
 mod words;
 
+pub use aim::{Aim, NONE, aim_of};
 pub use event::{Change, Choice, Event, Happening, OpenCall, Queue};
+pub use happening::arguments;
 pub use objects::json;
+pub use observer::Observer;
 pub use story::{MOST_NUMBERS, Story, Wait, tell};
 pub use texts::text;
 pub use words::{
-    Stop, happening_words, kind_words, output_words, push_call, push_shown, stop_words, wait_words,
+    Stop, error_words, happening_words, kind_words, output_words, push_call, push_shown,
+    stop_words, wait_words,
 };

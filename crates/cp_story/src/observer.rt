@@ -26,9 +26,10 @@ pub struct Observer<'a> {
     /// The choice that was taken, where no event has come since.
     pub choice: Option<Choice>,
     /// The open calls of monitors of each process, the innermost last.
-    calls: Vec<Vec<OpenCall>>,
+    pub calls: Vec<Vec<OpenCall>>,
     statuses: Vec<Status>,
-    permanents: Vec<i16>,
+    /// The cells of all components.
+    pub permanents: Vec<i16>,
 }
 
 impl<'a> Observer<'a> {

@@ -15,6 +15,7 @@ use cp_legend::{Legend, legend_of};
 use cp_machine::Ticks;
 use cp_merged::word::word_of;
 use cp_outcomes::{First, Form, Subject as Survey, first_of_outcome, outcomes};
+use cp_page::{Subject as Played, page};
 use cp_resolved::resolve;
 use cp_run::{Limits, MOST_CHOICES};
 use cp_slots::Resolved;
@@ -225,6 +226,7 @@ fn shown(
     let lines = lines_of(alloc, source)?;
     match &asked.part {
         Part::Trace { .. } | Part::Lanes => shown_once(alloc, asked, program, legend, &lines),
+        Part::Page { states } => paged(alloc, asked, program, legend, *states, source),
         Part::Outcomes { json } => { surveyed(alloc, options, program, legend, &lines, *json) }
         Part::Ends { json } => { ended(alloc, options, program, legend, &lines, *json) }
         Part::Mark(words) => marked(alloc, options, program, legend, words.as_str(), source),
@@ -242,12 +244,7 @@ fn shown_once(
 ) -> Result<Answer, AllocError> {
     let word = match schedule_asked(alloc, asked, program)? {
         First::Word(word) => word,
-        First::None(count) => {
-            return Ok(Answer {
-                verdict: Verdict::Misread,
-                text: format!(in alloc; "there is no outcome of this number: there are {count}\n")?,
-            });
-        }
+        First::None(count) => return no_outcome(alloc, count),
     };
     let word = word.as_slice();
     let text = match &asked.part {
@@ -257,6 +254,45 @@ fn shown_once(
     Ok(Answer {
         verdict: Verdict::Reported,
         text,
+    })
+}
+
+// That there is no outcome of a number.
+fn no_outcome(alloc: Global, count: usize) -> Result<Answer, AllocError> {
+    Ok(Answer {
+        verdict: Verdict::Misread,
+        text: format!(in alloc; "there is no outcome of this number: there are {count}\n")?,
+    })
+}
+
+// A page on which the scheduler is played.
+fn paged(
+    alloc: Global,
+    asked: &Asked,
+    program: &Resolved,
+    legend: &Legend,
+    states: u32,
+    source: &[u8],
+) -> Result<Answer, AllocError> {
+    let options = &asked.options;
+    let Some(limits) = Limits::new(options.choices, options.steps, options.gates) else {
+        unreachable!()
+    };
+    let word = match schedule_asked(alloc, asked, program)? {
+        First::Word(word) => word,
+        First::None(count) => return no_outcome(alloc, count),
+    };
+    let subject = Played {
+        program,
+        legend,
+        limits,
+        states,
+        source,
+        word: word.as_slice(),
+    };
+    Ok(Answer {
+        verdict: Verdict::Reported,
+        text: page(alloc, subject)?,
     })
 }
 

@@ -15,6 +15,9 @@ const TRACE: &str = "Tells one schedule in names: a line for each kernel call";
 
 const LANES: &str = "Draws one schedule as a picture: SVG with a lane for each process";
 
+const PAGE: &str =
+    "Writes a page on which you play the scheduler: one file of HTML, which needs no network";
+
 const OUTCOMES: &str =
     "Tells the outcomes of all schedules in words: shares, first schedules, and whether these are all";
 
@@ -34,6 +37,7 @@ const EXPECTATIONS: &str =
 pub fn command<'a>(alloc: Global) -> Result<Command<'a>, AllocError> {
     let command = with_part(described(alloc), trace(alloc))?;
     let command = with_part(command, lanes(alloc))?;
+    let command = with_part(command, page(alloc))?;
     let command = with_part(command, outcomes(alloc))?;
     let command = with_part(command, ends(alloc))?;
     let command = with_part(command, refusal(alloc))?;
@@ -75,6 +79,34 @@ fn lanes<'a>(alloc: Global) -> Result<Command<'a>, AllocError> {
         "cpx_show lanes --schedule WORD|--outcome N [OPTIONS] < PROGRAM > PICTURE.svg",
     );
     with_schedule(alloc, command)
+}
+
+fn page<'a>(alloc: Global) -> Result<Command<'a>, AllocError> {
+    let schedule = option(
+        alloc,
+        "schedule",
+        "WORD",
+        "A schedule that is laid out at its beginning when the page is opened",
+    );
+    let outcome = option(
+        alloc,
+        "outcome",
+        "N",
+        "In place of --schedule: the first schedule of the outcome that `outcomes` tells with this number",
+    );
+    let command = Command::new(alloc, "page")
+        .about(PAGE)
+        .override_usage("cpx_show page [OPTIONS] < PROGRAM > PAGE.html")
+        .arg(schedule)?
+        .arg(outcome)?
+        .arg(choices(alloc))?;
+    let command = with_run(alloc, command)?;
+    // The option has a name of its own: of the other parts it limits the states that are counted.
+    let states = Arg::new(alloc, "page-states")
+        .long("states")
+        .value_name("N")
+        .help("States that the page goes on from, 1 to 100000 [default: 2000]");
+    Ok(command.arg(states)?)
 }
 
 fn outcomes<'a>(alloc: Global) -> Result<Command<'a>, AllocError> {
@@ -179,18 +211,22 @@ fn with_schedule<'a>(alloc: Global, command: Command<'a>) -> Result<Command<'a>,
 }
 
 fn with_limits<'a>(alloc: Global, command: Command<'a>) -> Result<Command<'a>, AllocError> {
-    let command = command.arg(option(
-        alloc,
-        "choices",
-        "K",
-        "Choices of a schedule, 0 to 100 [default: 100]",
-    ))?;
+    let command = command.arg(choices(alloc))?;
     let command = with_run(alloc, command)?;
     let command = command.arg(merge(alloc))?;
     command.arg(states(
         alloc,
         "States that a layer may have, 1 to 10000000 [default: 200000]",
     ))
+}
+
+fn choices<'a>(alloc: Global) -> Arg<'a> {
+    option(
+        alloc,
+        "choices",
+        "K",
+        "Choices of a schedule, 0 to 100 [default: 100]",
+    )
 }
 
 // How a run goes.

@@ -12,6 +12,11 @@ const SHARED: [&str; 3] = ["steps", "gates", "states"];
 /// How many choices a schedule has where the words do not say so.
 const USUAL_CHOICES: &str = "100";
 
+/// How many states a page goes on from where the words do not say so, and at most.
+const USUAL_STATES: u32 = 2000;
+
+const MOST_STATES: u32 = 100_000;
+
 /// How the program is given its source.
 const READING: Reading<'static> = Reading {
     program: "cpx_show PART",
@@ -25,6 +30,8 @@ pub enum Part {
     Trace { json: bool },
     /// The schedule as a picture.
     Lanes,
+    /// A page on which the scheduler is played, which goes on from so many states.
+    Page { states: u32 },
     /// The outcomes of all schedules, as lines or as JSON.
     Outcomes { json: bool },
     /// The ends that are possible in schedules of any length, as lines or as JSON.
@@ -75,6 +82,9 @@ fn read_matches(alloc: Global, matches: &ArgMatches<'_>) -> Result<Asked, Option
             json: inner.get_flag("json"),
         },
         "lanes" => Part::Lanes,
+        "page" => Part::Page {
+            states: page_states(inner).unwrap_or(USUAL_STATES),
+        },
         "outcomes" => Part::Outcomes {
             json: inner.get_flag("json"),
         },
@@ -107,6 +117,18 @@ fn file_of(alloc: Global, matches: &ArgMatches<'_>) -> Result<Option<String>, Al
     }
 }
 
+// How many states a page goes on from; none where the words say what is no such number.
+fn page_states(matches: &ArgMatches<'_>) -> Option<u32> {
+    let Some(states) = matches.get_str("page-states") else {
+        return Some(USUAL_STATES);
+    };
+    match states.parse::<u32>() {
+        Ok(0) | Err(_) => None,
+        Ok(states) if states > MOST_STATES => None,
+        Ok(states) => Some(states),
+    }
+}
+
 // The number of an outcome, from 1 on.
 fn outcome_of(matches: &ArgMatches<'_>) -> Option<usize> {
     match matches.get_str("outcome")?.parse::<u32>() {
@@ -117,6 +139,9 @@ fn outcome_of(matches: &ArgMatches<'_>) -> Option<usize> {
 
 // What is wrong with how one schedule is named, if it is to be shown.
 fn choice_fault(name: &str, matches: &ArgMatches<'_>) -> &'static str {
+    if name == "page" {
+        return page_fault(matches);
+    }
     if name != "trace" && name != "lanes" {
         return "";
     }
@@ -129,6 +154,21 @@ fn choice_fault(name: &str, matches: &ArgMatches<'_>) -> &'static str {
         None if matches.get_str("again").is_some() => "--again: only beside --schedule",
         None => "",
     }
+}
+
+// What is wrong with the schedule with which a page is opened, or with its states; it may be opened with none.
+fn page_fault(matches: &ArgMatches<'_>) -> &'static str {
+    let is_given = matches.get_str("outcome").is_some();
+    if is_given && matches.get_str("schedule").is_some() {
+        return "--outcome: not beside --schedule";
+    }
+    if is_given && outcome_of(matches).is_none() {
+        return "--outcome: a number from 1 on is wanted";
+    }
+    if page_states(matches).is_none() {
+        return "--states: a number 1 to 100000 is wanted";
+    }
+    ""
 }
 
 // The words of the expectations that are given, joined by spaces.

@@ -1,0 +1,29 @@
+//! A page on which the scheduler is played: the states of a program, what each choice leads to, and the counts of all schedules.
+#![tactic(auto)]
+
+mod data;
+mod ends;
+mod events;
+mod graph;
+mod json;
+mod keys;
+mod markup;
+mod outcomes;
+mod register;
+mod returned;
+mod script_counts;
+mod script_lanes;
+mod script_moves;
+mod script_panels;
+mod script_play;
+mod source;
+mod style;
+mod subject;
+mod table;
+mod teller;
+mod variables;
+mod views;
+mod writing;
+
+pub use subject::Subject;
+pub use writing::page;

@@ -1,0 +1,86 @@
+//! The outcomes of all schedules.
+
+ghost use Rattle.std.specs.Prelude.{◌≡◌, map, IfOk, IfSome};
+ghost use Rattle.cp_run.specs.Slots.{slots};
+ghost use Rattle.cp_run.specs.Table.{table};
+ghost use Rattle.cp_walk.specs.Report.{same_outcome};
+ghost use Rattle.cp_merged.specs.Code.{tally_of};
+ghost use Rattle.cp_merged.specs.Tallies.{tally};
+
+use crate::ends::outcome_row;
+use crate::json::Json;
+use cp_legend::Legend;
+use cp_machine::Shown;
+use cp_merged::{MergeFault, Tallies, Tally, explore_merged};
+use cp_natural::push_natural;
+use cp_run::OutcomeKind;
+use cp_story::push_shown;
+use cp_walk::Job;
+use std::alloc::{AllocError, Global};
+
+/// The most outcomes that a page has.
+pub const MOST: usize = 2000;
+
+/// The outcomes of all schedules, if there are not too many states or outcomes.
+pub fn survey(alloc: Global, job: Job, states: usize) -> Result<Option<Tallies>, AllocError>
+    ensures { IfOk result (λ found. IfSome found (λ ts. map tally_of ts ≡ tally same_outcome (table (slots job.entry.program.now job.entry.limits.gates) job.entry.limits.choices job.entry.limits.steps))) }
+{
+    match explore_merged(alloc, job, states) {
+        Ok(tallies) => Ok(Some(tallies)),
+        Err(MergeFault::Memory) => Err(AllocError),
+        Err(_) => Ok(None),
+    }
+}
+
+/// Whether a schedule ends because it displays too much.
+pub fn has_output_limit(tallies: &[Tally]) -> bool {
+    for tally in tallies {
+        if tally.outcome.kind == OutcomeKind::OutputLimit {
+            return true;
+        }
+    }
+    false
+}
+
+/// The outcomes: `[end, output, count, [number, ..]]`, the numbers those of the first schedule.
+pub fn outcome_rows(alloc: Global, legend: &Legend, tallies: &[Tally]) -> Result<Json, AllocError> {
+    let mut rows = Json::new(alloc);
+    rows.open()?;
+    for (place, tally) in tallies.iter().enumerate() {
+        if place < MOST {
+            push_outcome(alloc, legend, &mut rows, tally)?;
+        }
+    }
+    rows.close()?;
+    Ok(rows)
+}
+
+fn push_outcome(
+    alloc: Global,
+    legend: &Legend,
+    rows: &mut Json,
+    tally: &Tally,
+) -> Result<(), AllocError> {
+    rows.open()?;
+    let end = outcome_row(alloc, tally.outcome.kind)?;
+    rows.value(&end)?;
+    let output = output_text(alloc, legend, tally.outcome.output.as_slice())?;
+    rows.quoted(output.as_str())?;
+    let mut count = String::new(alloc);
+    push_natural(&mut count, &tally.count)?;
+    rows.quoted(count.as_str())?;
+    rows.processes(tally.first.as_slice())?;
+    rows.close()
+}
+
+// The displayed values with a space between them.
+fn output_text(alloc: Global, legend: &Legend, values: &[Shown]) -> Result<String, AllocError> {
+    let mut text = String::new(alloc);
+    for value in values {
+        if !text.is_empty() {
+            text.push(' ')?;
+        }
+        push_shown(legend, &mut text, *value)?;
+    }
+    Ok(text)
+}

@@ -1,0 +1,175 @@
+//! The script of the page: data, elements, and a word that is played.
+
+/// Text of the script.
+pub const PLAY: &str = r##"
+"use strict";
+// A student plays the scheduler.
+//
+// The state of play is a word and a place in it. `play(word)` folds the events along the word over the state at the start, and all that is
+// shown is computed from that and from the data. So nothing has to be kept in step, and going back is playing a shorter word.
+// Texts of the program are only ever set as texts.
+//
+// The data are one object (the README of the crate cp_page has them). A text or a row is named by its place in a table.
+
+const D = JSON.parse(document.getElementById("data").textContent);
+const S = D.strings;
+const K = D.choices;
+const PROCESSES = [...D.processes.keys()];
+const MONITORS = [...D.monitors.keys()];
+const KINDS = {
+  "finished": ["\u2713", "finished"],
+  "all-waiting": ["\u25a0", "all wait"],
+  "run-error": ["\u2717", "run error"],
+  "choice-limit": ["\u2026", "limit of choices"],
+  "step-limit": ["\u2026", "limit of steps"],
+  "output-limit": ["\u2026", "limit of output"],
+  "beyond": ["?", "leave this page"],
+};
+const kindText = kind => KINDS[kind].join(" ");
+const person = p => `${p} ${D.processes[p][0]}`;
+const monitor = m => D.monitors[m][0];
+
+let word = [];
+let at = 0;
+
+// ---- elements ----
+
+function fill(element, attributes, kids) {
+  for (const [name, value] of Object.entries(attributes)) {
+    if (name === "onclick") element.addEventListener("click", value);
+    else if (value !== false) element.setAttribute(name, value);
+  }
+  element.append(...kids.flat(9).filter(kid => kid !== null && kid !== undefined && kid !== false));
+  return element;
+}
+const $ = id => document.getElementById(id);
+const el = (tag, attributes, ...kids) => fill(document.createElement(tag), attributes, kids);
+const svg = (tag, attributes, ...kids) => fill(document.createElementNS("http://www.w3.org/2000/svg", tag), attributes, kids);
+const disc = (p, status) => el("span", { class: "num " + status }, String(p));
+const mark = kind => el("span", { class: "kind " + kind }, kindText(kind));
+const hue = m => "m" + m % 8;
+
+function number(n) {
+  const digits = n.toString();
+  if (digits.length <= 15) return digits.replace(/\B(?=(\d{3})+$)/g, ",");
+  const power = [...String(digits.length - 1)].map(d => "\u2070\u00b9\u00b2\u00b3\u2074\u2075\u2076\u2077\u2078\u2079"[d]).join("");
+  return `${digits[0]}.${digits.slice(1, 3)}\u00d710${power}`;
+}
+const schedules = n => number(n) + (n === 1n ? " schedule" : " schedules");
+
+// ---- the graph ----
+
+const EVENTS = D.events.map(([kind, p, line, whom, text, woken, letIn, changes, view]) => {
+  return { kind, p, line, m: whom, text, woken, letIn, changes, view };
+});
+const EDGES = D.edges.map(([events, to]) => ({ events: events.map(e => EVENTS[e]), to }));
+const NODES = D.nodes.map(([gate, pairs]) => {
+  const options = pairs.filter((_, i) => i % 2 === 0);
+  return { gate, options, edges: pairs.filter((_, i) => i % 2 === 1), isOpen: pairs[1] < 0 };
+});
+const edgeOf = (node, p) => NODES[node].edges[NODES[node].options.indexOf(p)];
+const isWholeGraph = NODES.every(node => !node.isOpen);
+
+const ENDS = D.ends.map(([kind, error, p, line]) => ({ kind, error, p, line }));
+const CHOICE_LIMIT = { kind: "choice-limit", error: "", p: 0, line: 0 };
+const BEYOND = { kind: "beyond", error: "", p: 0, line: 0 };
+
+function endSentence({ kind, error, p, line }) {
+  return {
+    "finished": () => "Finished: every process has ended.",
+    "all-waiting": () => "All wait, and nobody is left who could wake them.",
+    "run-error": () => `Run error ${error}: ${person(p)}, line ${line}.`,
+    "choice-limit": () => `The limit of ${K} choices. What follows is not told: try more --choices.`,
+    "step-limit": () => `${number(D.steps)} steps of ${person(p)} without an end${line ? ", line " + line : ""}: try more --steps.`,
+    "output-limit": () => "1,000 values have been displayed, and no more can be.",
+    "beyond": () => `What follows is not in this page, which goes on from ${number(D.states)} states: try more --states.`,
+  }[kind]();
+}
+
+// What an event was, in the words of `./show trace`.
+function wordsOf({ kind, m, text, woken, letIn }) {
+  const says = S[text];
+  const isLost = kind === "c" && woken.length === 0;
+  const what = {
+    e: () => `enters ${monitor(m)}.${says}`,
+    g: () => `waits at the gate for ${monitor(m)}.${says}`,
+    a: () => `is let in to ${monitor(m)}.${says}`,
+    l: () => `leaves ${monitor(m)}${says && ": " + says}`,
+    d: () => `waits in ${monitor(m)}.${says}`,
+    c: () => `continues ${monitor(m)}.${says}${isLost ? ", where nobody waits" : ""}`,
+    s: () => `starts ${person(m)}`,
+    o: () => `displays ${says}`,
+    x: () => "ends",
+  }[kind]();
+  return what + woken.map(q => `, wakes ${person(q)}`).join("") + letIn.map(q => `, lets ${person(q)} in`).join("");
+}
+
+// ---- a word, played ----
+
+function play(numbers) {
+  const s = {
+    rows: [],
+    status: PROCESSES.map(p => p ? "unstarted" : "ready"),
+    place: PROCESSES.map(() => ""),
+    line: PROCESSES.map(() => 0),
+    view: D.start[1].slice(),
+    calls: PROCESSES.map(() => []),
+    holder: MONITORS.map(() => null),
+    gate: MONITORS.map(() => []),
+    values: D.variables.map(([, , , value]) => S[value]),
+    output: [],
+    used: 0,
+    node: -1,
+    end: null,
+    refused: null,
+  };
+  follow(s, D.start[0], null);
+  for (const p of numbers) {
+    if (s.end || !NODES[s.node].options.includes(p)) return { ...s, refused: p };
+    const { options, gate } = NODES[s.node];
+    s.used++;
+    follow(s, edgeOf(s.node, p), { p, options, isGate: gate >= 0 });
+  }
+  return s;
+}
+
+function follow(s, edge, choice) {
+  const { events, to } = EDGES[edge];
+  events.forEach((event, i) => happen(s, event, i ? null : choice));
+  s.node = Math.max(to, -1);
+  if (to < 0) [s.node, s.end] = [-1, ENDS[-1 - to]];
+  else if (s.used === K) s.end = CHOICE_LIMIT;
+  else if (NODES[to].isOpen) s.end = BEYOND;
+}
+
+function happen(s, event, choice) {
+  const { kind, p, m, text, woken, letIn, changes } = event;
+  const row = { event, choice, line: event.line, used: s.used, words: `${person(p)} ${wordsOf(event)}` };
+  const enter = q => {
+    s.status[q] = "ready";
+    s.holder[m] = q;
+    s.gate[m] = s.gate[m].filter(other => other !== q);
+  };
+  if (kind === "e" || kind === "g") s.calls[p].push({ monitor: m, text: S[text], line: event.line });
+  if (kind === "e" || kind === "a") enter(p);
+  if (kind === "g") {
+    s.status[p] = "gate";
+    s.gate[m].push(p);
+  }
+  if (kind === "s") [s.status[m], s.view[m]] = ["ready", text];
+  if (kind === "o") s.output.push(S[text]);
+  if (kind === "x") s.status[p] = "ended";
+  if (kind === "d") [s.status[p], s.place[p]] = ["delayed", S[text]];
+  // The line of a return is that of its call, and belongs to the way: ways with different calls may meet in one state.
+  if (kind === "l") row.line = s.calls[p].at(-1).line;
+  if (kind === "l" || kind === "c") s.calls[p].pop();
+  if (kind === "l" || kind === "d" || kind === "c") {
+    s.holder[m] = null;
+    [...woken, ...letIn].forEach(enter);
+  }
+  for (let i = 0; i < changes.length; i += 2) s.values[changes[i]] = S[changes[i + 1]];
+  if (row.line) s.line[p] = row.line;
+  s.view[p] = event.view;
+  s.rows.push(row);
+}
+"##;

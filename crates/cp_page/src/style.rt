@@ -1,0 +1,137 @@
+//! How the page looks: light, dark and printed.
+
+/// The style sheet.
+pub const STYLE: &str = r##"
+:root { color-scheme: light dark; --ink: #1f2933; --grey: #5a6672; --pale: #98a2ad; --ground: #ffffff; --band: #f4f6fa; --line: #d5dae1; --red: #b3261e; --green: #2e7d32; --limit: #6a7580; --mark: #fff3bf; --soft: 18%; --focus: #1a5fb4 }
+@media (prefers-color-scheme: dark) {
+  :root { --ink: #e6eaee; --grey: #a3aeb9; --pale: #75808b; --ground: #14181d; --band: #1c2229; --line: #36404a; --red: #ff8a80; --green: #7ccb80; --limit: #98a2ad; --mark: #4a4012; --soft: 24%; --focus: #8ab4f8 }
+}
+.m0 { --c: #2f6fb3 }
+.m1 { --c: #c8641b }
+.m2 { --c: #3b7d3a }
+.m3 { --c: #7a4fa3 }
+.m4 { --c: #1f7a7a }
+.m5 { --c: #a83e78 }
+.m6 { --c: #7a5a36 }
+.m7 { --c: #6b6a12 }
+@media (prefers-color-scheme: dark) {
+  .m0 { --c: #6ea8e6 }
+  .m1 { --c: #ee9350 }
+  .m2 { --c: #7fbf7d }
+  .m3 { --c: #b794dd }
+  .m4 { --c: #5cbcbc }
+  .m5 { --c: #e083b6 }
+  .m6 { --c: #bf9a6e }
+  .m7 { --c: #b7b54f }
+}
+* { box-sizing: border-box }
+body { margin: 0; background: var(--ground); color: var(--ink); font: clamp(14px, 5px + .62vw, 21px)/1.4 system-ui, "DejaVu Sans", "Segoe UI", sans-serif; display: flex; flex-direction: column; height: 100vh }
+header { padding: .5em 1em .4em; border-bottom: 1px solid var(--line); display: flex; flex-wrap: wrap; gap: .3em 1em; align-items: center }
+h1 { font-size: 1.25em; margin: 0; flex: 1 1 16em }
+h2 { font-size: 1em; margin: 0 0 .4em; color: var(--grey); font-weight: 600 }
+button, input, summary { font: inherit; color: inherit }
+button { background: var(--ground); border: 1px solid var(--pale); border-radius: .4em; padding: .12em .6em; cursor: pointer }
+button:hover:enabled { border-color: var(--ink); background: var(--band) }
+button:disabled { opacity: .4; cursor: default }
+:focus-visible { outline: 3px solid var(--focus); outline-offset: 1px }
+#word { font-family: ui-monospace, "DejaVu Sans Mono", monospace; background: var(--band); border: 1px solid var(--line); border-radius: .4em; padding: .12em .5em; width: 17em; max-width: 60vw }
+main { display: grid; grid-template-columns: minmax(0, 28fr) minmax(0, 28fr) minmax(0, 44fr); gap: 0 1em; padding: .6em 1em; flex: 1; min-height: 0 }
+main > section { overflow: auto; min-height: 0; padding: 2px }
+@media (max-width: 1150px) {
+  body { display: block; height: auto }
+  main { grid-template-columns: minmax(0, 1fr) minmax(0, 1fr); }
+  #picture { grid-column: 1 / 3 }
+  #text { max-height: 80vh }
+}
+@media (max-width: 720px) {
+  main { display: block }
+  main > section { margin-bottom: 1em }
+  #text { max-height: 40vh }
+}
+#outcomes { list-style: none; margin: 0; padding: 0; display: flex; flex-wrap: wrap; gap: .35em; flex: 1 1 100%; max-height: 5.6em; overflow: auto }
+#outcomes li { border: 1px solid var(--line); border-left: .35em solid var(--k); border-radius: .4em; padding: .1em .5em }
+#outcomes li.sum { border: 0; padding-left: 0 }
+#outcomes li.gone { opacity: .62; border-style: dashed }
+#outcomes button { padding: 0 .4em; margin-left: .35em; font-size: .9em }
+.finished { --k: var(--green) }
+.all-waiting, .run-error { --k: var(--red) }
+.choice-limit, .step-limit, .output-limit, .beyond { --k: var(--limit) }
+.kind { color: var(--k); font-weight: 600 }
+small, .quiet { color: var(--grey); font-size: .88em }
+#source { margin: 0; padding: 0; list-style: none; font: .86em/1.5 ui-monospace, "DejaVu Sans Mono", monospace }
+#source li { display: flex; white-space: pre-wrap; border-radius: .25em }
+#source li.here { background: var(--mark) }
+#source li.done code { text-decoration: underline; text-decoration-thickness: 2px }
+#source .no { width: 2.4em; padding-right: .7em; text-align: right; color: var(--grey); flex: none }
+#source .who { width: var(--who); flex: none; text-align: right; white-space: normal }
+#source code { font: inherit; flex: 1; min-width: 0; overflow-wrap: anywhere }
+#source .remark { color: var(--grey) }
+#source b { font-weight: 600; color: var(--focus) }
+.num { display: inline-block; min-width: 1.45em; padding: 0 .3em; border-radius: 1em; text-align: center; background: var(--ink); color: var(--ground); border: 2px solid var(--ink); font: 600 .85em/1.35 system-ui, sans-serif }
+.num.gate, .num.delayed { background: var(--ground); color: var(--ink) }
+.num.gate { border-style: dashed }
+.num.delayed { border-style: dotted }
+.num.ended, .num.unstarted { background: var(--ground); color: var(--pale); border-color: var(--pale) }
+.card { border: 1px solid var(--line); border-radius: .5em; padding: .4em .6em; margin-bottom: .5em }
+.card.now { border-color: var(--ink) }
+.card.off { opacity: .62 }
+.card p { margin: .12em 0 }
+.card .num.big { font-size: 1.15em }
+.go { display: block; width: 100%; text-align: left; margin: .25em 0 .1em; padding: .3em .6em; border-width: 2px; border-color: var(--ink) }
+.go.next { box-shadow: inset .45em 0 var(--focus); padding-left: 1em }
+.monitor { border-left: .45em solid var(--c) }
+.monitor h3 { color: color-mix(in srgb, var(--c) 80%, var(--ink)) }
+h3 { margin: 0; font-size: 1em; display: inline }
+.value { font-family: ui-monospace, "DejaVu Sans Mono", monospace; font-size: .92em; margin-right: 1em; display: inline-block }
+.value.new { background: var(--mark); font-weight: 600; border-radius: .2em; padding: 0 .2em }
+.bar { display: flex; height: .8em; border-radius: .3em; overflow: hidden; margin: .2em 0; border: 1px solid var(--ground) }
+.bar i { flex-basis: 0; min-width: 3px; background: var(--k); border-right: 1px solid var(--ground) }
+.bar .second { opacity: .55 }
+.bar .all-waiting { background: repeating-linear-gradient(135deg, var(--red) 0 4px, var(--ground) 4px 7px) }
+.bar .run-error { background: repeating-linear-gradient(90deg, var(--red) 0 3px, var(--ground) 3px 5px) }
+.bar .choice-limit, .bar .step-limit, .bar .output-limit, .bar .beyond { background: radial-gradient(var(--limit) 32%, transparent 36%) 0 0 / 6px 6px }
+#end { border-width: 2px; border-color: var(--k); font-size: 1.08em }
+#end strong { color: var(--k) }
+.bar { width: 100% }
+footer { padding: .2em 1em; border-top: 1px solid var(--line); display: flex; gap: 1em; justify-content: space-between }
+#keys { white-space: nowrap }
+#warn { color: var(--red); font-weight: 600; flex: 1 1 100% }
+#warn:empty { display: none }
+svg { display: block; max-width: none }
+svg text { fill: var(--ink); font: 13px system-ui, "DejaVu Sans", sans-serif }
+svg .dim, svg text.dim { fill: var(--grey) }
+svg .ahead { fill: var(--ground); opacity: .66 }
+svg .band { fill: var(--band) }
+svg .band.at { fill: var(--mark) }
+svg .life { stroke: var(--pale); stroke-width: 1.5 }
+svg .dot { fill: var(--ink) }
+svg .arrow { stroke: var(--ink); stroke-width: 1.5; fill: none }
+svg .arrow.in { stroke-dasharray: 5 3 }
+svg .box { fill: color-mix(in srgb, var(--c) var(--soft), var(--ground)); stroke: var(--c); stroke-width: 1.6 }
+svg .hold { fill: var(--c) }
+svg text.lab { font-size: 12.5px }
+svg text.inv { fill: var(--ground); font-weight: 700; font-size: 12px; text-anchor: middle }
+svg .wait { stroke: var(--c); stroke-width: 1.8 }
+svg .wait.ever { stroke: var(--red); stroke-width: 3 }
+svg .changed { fill: color-mix(in srgb, var(--c) 80%, var(--ink)) }
+svg .opt { fill: var(--ground); stroke: var(--pale) }
+svg .taken .opt { fill: var(--ink); stroke: var(--ink) }
+svg .pick { cursor: pointer }
+svg .pick:hover .opt { stroke: var(--ink); stroke-width: 2 }
+svg text.on { fill: var(--pale); font-size: 11px; text-anchor: middle }
+svg .taken text.on { fill: var(--ground); font-weight: 700 }
+svg .hit { fill: transparent; cursor: pointer }
+svg .loud { font-weight: 700 }
+svg text.ended { fill: var(--k); font-size: 15px }
+svg text .dim { fill: var(--grey) }
+details { margin-top: .6em }
+details ol { margin: .3em 0; padding-left: 2.4em }
+kbd { border: 1px solid var(--pale); border-radius: .25em; padding: 0 .3em; font: .85em ui-monospace, monospace }
+@media print {
+  body { display: block; height: auto }
+  :root { --ground: #fff; --ink: #000 }
+  main { display: block; height: auto }
+  main > section { overflow: visible; break-inside: avoid-page; max-height: none !important }
+  button, #tools, footer { display: none }
+}
+"##;

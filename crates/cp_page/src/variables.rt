@@ -1,0 +1,170 @@
+//! The variables that stay: those of monitors, and the own ones of processes.
+
+use crate::json::Json;
+use crate::register::Register;
+use cp_legend::{Component, Legend, Shape};
+use cp_slots::ComponentKind;
+use std::alloc::{AllocError, Global};
+
+/// Whose a variable is. That of a class belongs to what contains the class.
+#[derive(Clone, Copy)]
+pub enum Owner {
+    Monitor(u8),
+    Process(u8),
+}
+
+/// A variable that stays, by its cells among those of all components.
+#[derive(Drop)]
+pub struct Kept {
+    pub owner: Owner,
+    /// Its name in what it belongs to.
+    pub name: String,
+    pub shape: Shape,
+    pub at: usize,
+    pub end: usize,
+}
+
+/// The variables that stay, those of a component after another.
+pub fn kept_variables(alloc: Global, legend: &Legend) -> Result<Vec<Kept>, AllocError> {
+    let mut kept = Vec::new(alloc);
+    let mut process = 0;
+    for component in &legend.components {
+        let owner = owner_of(legend, component, process);
+        if let Owner::Process(number) = owner {
+            process = number;
+        }
+        push_kept(alloc, legend, component, owner, &mut kept)?;
+    }
+    Ok(kept)
+}
+
+// Whose the variables of a component are, where this process is the last one before it: components follow what contains them, and the
+// program contains all that is in no other process.
+fn owner_of(legend: &Legend, component: &Component, process: u8) -> Owner {
+    match (component.kind, component.monitor) {
+        (_, Some(monitor)) => Owner::Monitor(monitor),
+        (ComponentKind::Process(number), None) => Owner::Process(number),
+        (_, None) => {
+            let within = inner_path(legend.process_name(process), component.path.as_str());
+            Owner::Process(if within.is_some() { process } else { 0 })
+        }
+    }
+}
+
+// What of a path comes after that of what contains it.
+fn inner_path<'a>(outer: &str, path: &'a str) -> Option<&'a str> {
+    path.strip_prefix(outer)?.strip_prefix(".")
+}
+
+fn push_kept(
+    alloc: Global,
+    legend: &Legend,
+    component: &Component,
+    owner: Owner,
+    kept: &mut Vec<Kept>,
+) -> Result<(), AllocError> {
+    for variable in legend.variables_of(component) {
+        let cells = legend.shapes.cells_of(variable.shape);
+        if cells > 0 {
+            let at = component.base.saturating_add(variable.slot);
+            kept.push(Kept {
+                owner,
+                name: name_of(alloc, legend, component, owner, variable.name.as_str())?,
+                shape: variable.shape,
+                at,
+                end: at.saturating_add(cells),
+            })?;
+        }
+    }
+    Ok(())
+}
+
+// The name of a variable in what it belongs to: that of a class inside comes before it.
+fn name_of(
+    alloc: Global,
+    legend: &Legend,
+    component: &Component,
+    owner: Owner,
+    variable: &str,
+) -> Result<String, AllocError> {
+    let path = component.path.as_str();
+    let outer = match owner {
+        Owner::Monitor(monitor) => legend.monitor_name(monitor),
+        Owner::Process(process) => legend.process_name(process),
+    };
+    let inner = if path == outer {
+        ""
+    } else {
+        inner_path(outer, path).unwrap_or(path)
+    };
+    let mut name = String::from_str(alloc, inner)?;
+    if !inner.is_empty() {
+        name.push('.')?;
+    }
+    name.push_str(variable)?;
+    Ok(name)
+}
+
+impl<'a> Register<'a> {
+    /// The place of the text of a value, whose cells begin at a place.
+    pub fn place_value(
+        &mut self,
+        shape: Shape,
+        cells: &[i16],
+        at: usize,
+    ) -> Result<usize, AllocError> {
+        let value = self.legend.value(self.alloc, shape, cells, at)?;
+        let text = value.text(self.alloc)?;
+        self.strings.place_text(text.as_str())
+    }
+
+    /// The variables that stay, with their values: `[0, monitor, name, value]` or `[1, process, name, value]`; of queues the value is -1.
+    pub fn variables(&mut self, kept: &[Kept], cells: &[i16]) -> Result<Json, AllocError> {
+        let mut rows = Json::new(self.alloc);
+        rows.open()?;
+        for variable in kept {
+            let row = self.variable(variable, cells)?;
+            rows.value(&row)?;
+        }
+        rows.close()?;
+        Ok(rows)
+    }
+
+    fn variable(&mut self, variable: &Kept, cells: &[i16]) -> Result<Json, AllocError> {
+        let (kind, owner) = match variable.owner {
+            Owner::Monitor(monitor) => (0, monitor),
+            Owner::Process(process) => (1, process),
+        };
+        let mut row = Json::new(self.alloc);
+        row.open()?;
+        row.number(kind)?;
+        row.number(i64::from(owner))?;
+        row.place(self.strings.place_text(variable.name.as_str())?)?;
+        if self.legend.shapes.is_queues(variable.shape) {
+            row.number(-1)?;
+        } else {
+            row.place(self.place_value(variable.shape, cells, variable.at)?)?;
+        }
+        row.close()?;
+        Ok(row)
+    }
+
+    /// The variables that stay and have other values than before, each with its value now.
+    pub fn changes(
+        &mut self,
+        kept: &[Kept],
+        before: &[i16],
+        now: &[i16],
+    ) -> Result<Vec<usize>, AllocError> {
+        let mut changes = Vec::new(self.alloc);
+        for (place, variable) in kept.iter().enumerate() {
+            let is_same = before.get(variable.at..variable.end)
+                == now.get(variable.at..variable.end);
+            if !is_same && !self.legend.shapes.is_queues(variable.shape) {
+                changes.push(place)?;
+                changes.push(self.place_value(variable.shape, now, variable.at)?)?;
+            }
+        }
+        Ok(changes)
+    }
+}

@@ -1,0 +1,32 @@
+//! The whole page.
+
+use crate::data::data;
+use crate::json::Json;
+use crate::markup::{BEGIN, BETWEEN, BODY, END, HEAD, SCRIPT, SCRIPT_HASH, STYLE_HASH};
+use crate::script_counts::COUNTS;
+use crate::script_lanes::LANES;
+use crate::script_moves::MOVES;
+use crate::script_panels::PANELS;
+use crate::script_play::PLAY;
+use crate::style::STYLE;
+use crate::subject::Subject;
+use std::alloc::{AllocError, Global};
+
+/// The page on which a program is played: one file of HTML, which loads nothing.
+pub fn page(alloc: Global, subject: Subject<'_>) -> Result<String, AllocError> {
+    let data = data(alloc, subject)?;
+    with_data(alloc, &data)
+}
+
+// The page with these data.
+fn with_data(alloc: Global, data: &Json) -> Result<String, AllocError> {
+    let mut text = String::new(alloc);
+    for part in [BEGIN, STYLE_HASH, BETWEEN, SCRIPT_HASH, HEAD, STYLE, BODY] {
+        text.push_str(part)?;
+    }
+    text.push_str(data.as_str())?;
+    for part in [SCRIPT, PLAY, COUNTS, PANELS, LANES, MOVES, END] {
+        text.push_str(part)?;
+    }
+    Ok(text)
+}

@@ -1,0 +1,202 @@
+"""The data of a page, read and played without a browser."""
+import json
+import re
+import sys
+
+EVENTS = {"e": "enter", "g": "enter", "l": "leave", "d": "delay", "c": "continue", "s": "init", "o": "display", "x": "end", "a": "admit"}
+KEYS = ("event", "process", "woken", "let_in", "monitor", "routine", "queue", "target_process", "line", "status", "holders")
+
+
+def data_of(page):
+    return json.loads(re.search(rb'<script type="application/json" id="data">(.*?)</script>', page, re.S).group(1))
+
+
+class Play:
+    """A word that is played over the graph of a page, choice by choice."""
+
+    def __init__(self, data):
+        self.data, self.strings = data, data["strings"]
+        self.status = [{"is": "ready" if p == 0 else "unstarted"} for p in range(len(data["processes"]))]
+        self.holders = [None] * len(data["monitors"])
+        self.lines = [[] for _ in data["monitors"]]
+        self.calls = [[] for _ in data["processes"]]
+        self.values = [self.strings[value] if value >= 0 else None for *_, value in data["variables"]]
+        self.events, self.output, self.used = [], [], 0
+        self.follow(data["start"][0], None)
+
+    def options(self):
+        return self.data["nodes"][self.node][1][::2]
+
+    def is_open(self):
+        """Whether the page does not go on from here."""
+        return self.end is None and self.data["nodes"][self.node][1][1] < 0
+
+    def take(self, number):
+        pairs, options = self.data["nodes"][self.node][1], self.options()
+        self.used += 1
+        self.follow(pairs[2 * options.index(number) + 1], {"number": number, "options": options})
+
+    def follow(self, edge, choice):
+        events, to = self.data["edges"][edge]
+        for place, event in enumerate(events):
+            self.happen(self.data["events"][event], choice if place == 0 else None)
+        if to < 0:
+            self.end = self.data["ends"][-1 - to]
+        else:
+            self.end = ["choice-limit", "", 0, 0] if self.used == self.data["choices"] else None
+        self.node = to
+
+    def enter(self, process, monitor):
+        self.status[process] = {"is": "ready"}
+        self.holders[monitor] = process
+        if process in self.lines[monitor]:
+            self.lines[monitor].remove(process)
+
+    def happen(self, event, choice):
+        kind, process, line, whom, text, woken, let_in, changes, _ = event
+        text = "" if kind == "s" else self.strings[text]
+        told = {"event": EVENTS[kind], "process": process, "woken": woken, "let_in": let_in}
+        if kind in "eg":
+            self.calls[process].append((whom, text, line))
+            told["monitor"], told["routine"] = whom, text.split("(")[0]
+        if kind in "ea":
+            self.enter(process, whom)
+        if kind == "g":
+            self.status[process] = {"is": "gate", "monitor": whom}
+            self.lines[whom].append(process)
+        if kind == "s":
+            self.status[whom] = {"is": "ready"}
+            told["target_process"] = whom
+        if kind == "o":
+            self.output.append(text)
+        if kind == "x":
+            self.status[process] = {"is": "ended"}
+        if kind == "d":
+            self.status[process] = {"is": "delayed", "monitor": whom, "queue": text}
+        if kind in "dc":
+            told["queue"] = text
+        if kind in "dcla":
+            told["monitor"], told["routine"] = whom, self.calls[process][-1][1].split("(")[0]
+        if kind == "l":
+            line = self.calls[process][-1][2]
+        if kind in "lc":
+            self.calls[process].pop()
+        if kind in "ldc":
+            self.holders[whom] = None
+            for other in woken + let_in:
+                self.enter(other, whom)
+        told["changes"] = self.changed(changes)
+        if line:
+            told["line"] = line
+        if choice:
+            told["choice"] = choice
+        told["status"], told["holders"] = [dict(status) for status in self.status], list(self.holders)
+        self.events.append(told)
+
+    def changed(self, changes):
+        """What changed in monitors; the other values are kept as well."""
+        told = []
+        for place, value in zip(changes[::2], changes[1::2]):
+            is_own, owner, name, _ = self.data["variables"][place]
+            self.values[place] = self.strings[value]
+            if not is_own:
+                told.append((owner, self.strings[name], self.strings[value]))
+        return told
+
+
+def written(value):
+    """A value of JSON as the text of a trace has it."""
+    if isinstance(value, bool):
+        return str(value).lower()
+    if isinstance(value, list):
+        return "[" + ", ".join(map(written, value)) + "]"
+    if isinstance(value, dict):
+        return "(" + ", ".join(f"{name}: {written(member)}" for name, member in value.items()) + ")"
+    return str(value)
+
+
+def event_fault(ours, theirs):
+    """What differs between the events that were played and those of a trace; empty where nothing does."""
+    for a, b in zip(ours, theirs):
+        for key in KEYS:
+            if a.get(key) != b.get(key):
+                return f"{key}: {a.get(key)} {b.get(key)}"
+        choices = [choice and (choice["number"], choice["options"]) for choice in (a.get("choice"), b.get("choice"))]
+        if choices[0] != choices[1]:
+            return f"choice: {choices}"
+        # A set and a list are one kind in JSON.
+        plain = [[(owner, name, re.sub(r"[\[\]{}]", "", value)) for owner, name, value in changes] for changes in
+                 (a["changes"], [(c["monitor"], c["name"], written(c["value"])) for c in b["changes"]])]
+        if plain[0] != plain[1]:
+            return f"changes: {plain}"
+    return "" if len(ours) == len(theirs) else f"{len(ours)} events, {len(theirs)}"
+
+
+def random_plays(data, count, rng):
+    """Random ways to an end, or to where the page ends."""
+    for _ in range(count):
+        play, word = Play(data), []
+        while play.end is None and not play.is_open():
+            word.append(rng.choice(play.options()))
+            play.take(word[-1])
+        yield word, play
+
+
+def is_whole(data):
+    """Whether the page goes on from all its states."""
+    return all(pairs[1] >= 0 for _, pairs in data["nodes"])
+
+
+def heights_of(data):
+    """The most choices that can follow each state; None where there is no bound."""
+    edges = data["edges"]
+    following = [[edges[edge][1] for edge in pairs[1::2] if edge >= 0 and edges[edge][1] >= 0] for _, pairs in data["nodes"]]
+    before = [[] for _ in following]
+    for node, nodes in enumerate(following):
+        for other in nodes:
+            before[other].append(node)
+    missing = [len(nodes) for nodes in following]
+    heights = [None] * len(following)
+    done = [node for node, count in enumerate(missing) if count == 0]
+    while done:
+        node = done.pop()
+        heights[node] = 1 + max((heights[other] for other in following[node]), default=0)
+        for other in before[node]:
+            missing[other] -= 1
+            if missing[other] == 0:
+                done.append(other)
+    return heights
+
+
+def counts_of(data):
+    """How many schedules come to each outcome, added up over the graph: (kind, error, process, line, output) -> count."""
+    sys.setrecursionlimit(100000)
+    memo, heights, nodes, edges = {}, heights_of(data), data["nodes"], data["edges"]
+    shown = [" ".join(data["strings"][data["events"][e][4]] for e in events if data["events"][e][0] == "o") for events, _ in edges]
+
+    def ways(node, left):
+        key = node, left if heights[node] is None else min(left, heights[node])
+        if key in memo:
+            return memo[key]
+        found = {} if left else {("choice-limit", "", 0, 0, ""): 1}
+        for edge in nodes[node][1][1::2] if left else ():
+            for outcome, count in through(edge, left).items():
+                found[outcome] = found.get(outcome, 0) + count
+        memo[key] = found
+        return found
+
+    def through(edge, left):
+        to = edges[edge][1]
+        rest = ways(to, left - 1) if to >= 0 else {(*limited(data["ends"][-1 - to]), ""): 1}
+        added = {}
+        for (*end, output), count in rest.items():
+            outcome = (*end, " ".join(filter(None, [shown[edge], output])))
+            added[outcome] = added.get(outcome, 0) + count
+        return added
+
+    return through(data["start"][0], data["choices"] + 1)
+
+
+def limited(end):
+    """An end without who came to it, if that is no run error."""
+    return end if end[0] == "run-error" else [end[0], "", 0, 0]
