@@ -24,6 +24,7 @@ use Rattle.cp_meaning.specs.Names.{Name, same_name}
 use Rattle.cp_meaning.specs.Types.{Ty, ordinal, queue_type, set_over, array_over, record_with, component_of}
 use Rattle.cp_meaning.specs.Declarations.{names_of, Parameter}
 use Rattle.cp_meaning.specs.Systems.{declared, own_meaning}
+use Rattle.cp_resolved.specs.BodiesFormed.{DistinctLaw}
 use Rattle.cp_resolved.specs.Distinct.{IsOther, AreDistinct, all_names, part_names, kind_names, parameter_names, AreApart, IsDistinctRoutine, IsDistinctSystem, IsDistinctDefinition, IsDistinctPart, IsNoComponent, AreValues, IsDistinct}
 use Rattle.cp_resolved.specs.Judging.{Place, places_of, AreAgreed, tokens_of}
 use Rattle.cp_resolved.specs.Openings.{Opening, openings_of, meaning_in}
@@ -203,7 +204,7 @@ values_at tokens p [] (o ∷ os) n h = absurd h
 values_at tokens p (x ∷ xs) (o ∷ os) zero h = all_values o.meaning.parameters h.0.parameters
 values_at tokens p (x ∷ xs) (o ∷ os) (suc n) h = values_at tokens p xs os n h.1
 
-pub accepted_distinct : (t : Tree) → IsRead t.program → IsAccepted t → IsDistinct t.program
+pub accepted_distinct : DistinctLaw
 accepted_distinct t read accepted =
     record {
       parts = parts_distinct start t.program.parts (parts_sound t accepted);

@@ -8,14 +8,14 @@ use Rattle.cp_layout.specs.Laid.{plain, laid}
 use Rattle.cp_layout.specs.LaidComponents.{Listing}
 use Rattle.cp_layout.specs.Layers.{Layer}
 use Rattle.cp_slots.specs.Tables.{Tables}
-use Rattle.cp_resolved.specs.Soundness.{IsModest, NamesHold}
+use Rattle.cp_resolved.specs.Soundness.{IsModest, NamesHold, SoundLaw}
 use Rattle.cp_resolved.proofs.components.Handed.{First, program_first, program_handed}
 use Rattle.cp_resolved.proofs.sound.SoundComponents.{Tabled, tabled, layer_of, listing_of, room_of, listed, images, components_sound, apart_sound, components_own, processes_sound, processes_own, routines_own, takes_nothing}
 use Rattle.cp_resolved.proofs.sound.SoundItems.{items_sound, routines_sound}
 use Rattle.cp_resolved.proofs.sound.SoundParameters.{parameters_sound, rising_sound}
 use Rattle.cp_resolved.proofs.laid.Whole.{ProgramLaid, program_laid}
 
-pub laid_sound : (t : Tables) (tree : Tree) → plain t ≡ laid tree → IsModest t → NamesHold t → IsSound t
+pub laid_sound : SoundLaw
 laid_sound t tree e m n =
     let l : Layer = layer_of tree in
     let c : Listing = listing_of l in
