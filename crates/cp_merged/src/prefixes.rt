@@ -1,4 +1,4 @@
-//! How many words lead to one place.
+//! The words that lead to one place.
 
 ghost use Rattle.std.specs.Prelude.{◌≡◌, ◌+◌, ◌^◌, ◌<◌, not};
 ghost use Rattle.cp_merged.specs.Layers.{lesser, up_to};
@@ -8,14 +8,14 @@ use cp_natural::Natural;
 
 /// How many words lead to one place, and the first of them in dictionary order.
 #[derive(Drop)]
-pub struct Lead {
+pub struct Prefixes {
     pub count: Natural,
     pub first: Word,
 }
 
-impl Lead {
-    /// Counts the words of another lead to the same place.
-    pub fn merge(&mut self, other: &Lead)
+impl Prefixes {
+    /// Counts other words that lead to the same place.
+    pub fn merge(&mut self, other: &Prefixes)
         requires { self.old.count + other.now.count < 10 ^ 126 }
         ensures count { self.new.count ≡ self.old.count + other.now.count }
         ensures first { self.new.first.items ≡ lesser self.old.first.items other.now.first.items }

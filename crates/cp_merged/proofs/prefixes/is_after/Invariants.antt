@@ -1,5 +1,5 @@
 use Rattle.std.proofs.Common.{◌≡◌, take}
-use Rattle.cp_merged.proofs.lead.is_after.Given as goal
+use Rattle.cp_merged.proofs.prefixes.is_after.Given as goal
 
 -- both begin alike
 abbrev pub invariant-loop-at : goal.invariant-loop-at

@@ -1,7 +1,7 @@
 use Rattle.std.proofs.Common.{◌≡◌, ◌∙◌, not, ap}
 use Rattle.cp_merged.specs.Layers.{up_to}
 use Rattle.cp_merged.proofs.Adding.{lesser_after, lesser_up_to}
-use Rattle.cp_merged.proofs.lead.Lead.merge.Goals as goal
+use Rattle.cp_merged.proofs.prefixes.Prefixes.merge.Goals as goal
 
 pub returns-then-is_after-clause-first : goal.returns-then-is_after-clause-first
 returns-then-is_after-clause-first c =

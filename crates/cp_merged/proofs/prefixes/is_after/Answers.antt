@@ -1,8 +1,8 @@
 use Rattle.std.proofs.Common.{◌⊎◌, inl, inr, ◌+◌, ◌<◌, ◌≤◌, length, drop, get_or, arith}
 use Rattle.std.proofs.lemmas.List.{drop_more}
 use Rattle.cp_merged.proofs.Order.{after_all, after_at}
-use Rattle.cp_merged.proofs.lead.is_after.Goals as goal
-use Rattle.cp_merged.proofs.lead.is_after.Goals.{then-word-other, else-word-other}
+use Rattle.cp_merged.proofs.prefixes.is_after.Goals as goal
+use Rattle.cp_merged.proofs.prefixes.is_after.Goals.{then-word-other, else-word-other}
 
 pub returns-then-word-at : goal.returns-then-word-at
 returns-then-word-at c =
