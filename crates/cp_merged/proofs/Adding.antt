@@ -13,8 +13,8 @@ use Rattle.cp_walk.specs.Report.{outcome_numbers, same_outcome}
 use Rattle.cp_merged.specs.Layers.{up_to, lesser, Lead, with_lead, with_tally}
 use Rattle.cp_merged.specs.Code.{keyed, end_of}
 use Rattle.cp_merged.specs.declared.end_key.EndKey.{EndKey}
-use Rattle.cp_merged.specs.declared.lead.Lead as code
-use Rattle.cp_merged.specs.declared.state_key.StateKey.{StateKey}
+use Rattle.cp_merged.specs.declared.prefixes.Prefixes as code
+use Rattle.cp_merged.specs.declared.state_row.StateRow.{StateRow}
 
 -- the order of words by slices
 pub is_less : (w v : List ℕ) → is_lt (slice_cmp nat_cmp w v) ≡ not (up_to v w)
@@ -57,68 +57,67 @@ abbrev ended : EndKey → ℕ → List ℕ → Tally
 ended k count word = record { first = record { word = word; outcome = k.outcome }; count = count }
 
 -- what is known of a key, with more
-abbrev Adds : code.Lead → code.Lead → code.Lead → Type 0
+abbrev Adds : code.Prefixes → code.Prefixes → code.Prefixes → Type 0
 Adds now x v = (v.count ≡ now.count + x.count) × (v.first.items ≡ lesser now.first.items x.first.items)
 
 -- nothing is known
-abbrev IsNone : code.Lead → code.Lead → Type 0
+abbrev IsNone : code.Prefixes → code.Prefixes → Type 0
 IsNone z x = (z.count ≡ 0) × (z.first.items ≡ x.first.items)
 
-none_first : (z now x v : code.Lead) → IsNone z x → now ≡ z → Adds now x v → (v.count ≡ x.count) × (v.first.items ≡ x.first.items)
+none_first : (z now x v : code.Prefixes) → IsNone z x → now ≡ z → Adds now x v → (v.count ≡ x.count) × (v.first.items ≡ x.first.items)
 none_first z now x v n e a =
-    (let c = ap (λ (y : code.Lead). y.count) e in let f = a.0 in let g = n.0 in omega (arith, c, f, g), a.1 ∙ ap (λ w. lesser w x.first.items) (ap (λ (y : code.Lead). y.first.items) e ∙ n.1) ∙ lesser_self x.first.items)
+    (let c = ap (λ (y : code.Prefixes). y.count) e in let f = a.0 in let g = n.0 in omega (arith, c, f, g), a.1 ∙ ap (λ w. lesser w x.first.items) (ap (λ (y : code.Prefixes). y.first.items) e ∙ n.1) ∙ lesser_self x.first.items)
 
-pub added_state : (es new : List (StateKey × code.Lead)) (k : StateKey) (z now x v : code.Lead) → new ≡ insert_entry (λ a b. pointwise nat_eq a.bytes.items b.bytes.items) es k v → now ≡ unwrap_or (lookup (λ j. pointwise nat_eq k.bytes.items j.bytes.items) es) z → IsNone z x → Adds now x v → map keyed new ≡ with_lead (pointwise nat_eq) (map keyed es) (keyed (k, x))
+pub added_state : (es new : List (StateRow × code.Prefixes)) (k : StateRow) (z now x v : code.Prefixes) → new ≡ insert_entry (λ a b. pointwise nat_eq a.row.numbers b.row.numbers) es k v → now ≡ unwrap_or (lookup (λ j. pointwise nat_eq k.row.numbers j.row.numbers) es) z → IsNone z x → Adds now x v → map keyed new ≡ with_lead (pointwise nat_eq) (map keyed es) (keyed (k, x))
 added_state [] new k z now x v put is none adds =
     let f = none_first z now x v none is adds in
-    ap (map keyed) put ∙ ap (λ c. scored k.bytes.items c v.first.items ∷ []) f.0 ∙ ap (λ w. scored k.bytes.items x.count w ∷ []) f.1
-added_state (e ∷ es) new k z now x v put is none adds = ap (map keyed) put ∙ by (pointwise nat_eq k.bytes.items e.0.bytes.items) refl is (λ i. added_state es (insert_entry (λ a b. pointwise nat_eq a.bytes.items b.bytes.items) es k v) k z now x v refl i none adds)
+    ap (map keyed) put ∙ ap (λ c. scored k.row.numbers c v.first.items ∷ []) f.0 ∙ ap (λ w. scored k.row.numbers x.count w ∷ []) f.1
+added_state (e ∷ es) new k z now x v put is none adds = ap (map keyed) put ∙ by (pointwise nat_eq k.row.numbers e.0.row.numbers) refl is (λ i. added_state es (insert_entry (λ a b. pointwise nat_eq a.row.numbers b.row.numbers) es k v) k z now x v refl i none adds)
   where
     at : List ℕ
-    at = k.bytes.items
+    at = k.row.numbers
 
-    by : (b : Bool) → pointwise nat_eq at e.0.bytes.items ≡ b → now ≡ unwrap_or (cond b (Some e.1) (lookup (λ j. pointwise nat_eq at j.bytes.items) es)) z → (now ≡ unwrap_or (lookup (λ j. pointwise nat_eq at j.bytes.items) es) z → map keyed (insert_entry (λ a b. pointwise nat_eq a.bytes.items b.bytes.items) es k v) ≡ with_lead (pointwise nat_eq) (map keyed es) (keyed (k, x))) → map keyed (insert_entry (λ a b. pointwise nat_eq a.bytes.items b.bytes.items) (e ∷ es) k v) ≡ with_lead (pointwise nat_eq) (map keyed (e ∷ es)) (keyed (k, x))
+    by : (b : Bool) → pointwise nat_eq at e.0.row.numbers ≡ b → now ≡ unwrap_or (cond b (Some e.1) (lookup (λ j. pointwise nat_eq at j.row.numbers) es)) z → (now ≡ unwrap_or (lookup (λ j. pointwise nat_eq at j.row.numbers) es) z → map keyed (insert_entry (λ a b. pointwise nat_eq a.row.numbers b.row.numbers) es k v) ≡ with_lead (pointwise nat_eq) (map keyed es) (keyed (k, x))) → map keyed (insert_entry (λ a b. pointwise nat_eq a.row.numbers b.row.numbers) (e ∷ es) k v) ≡ with_lead (pointwise nat_eq) (map keyed (e ∷ es)) (keyed (k, x))
     by true q i on =
-        let flip : pointwise nat_eq e.0.bytes.items at ≡ true = nat_list_eq_equiv.symm e.0.bytes.items at ∙ q in
-        let count : v.count ≡ e.1.count + x.count = adds.0 ∙ ap (λ (y : code.Lead). y.count + x.count) i in
-        let first : v.first.items ≡ lesser e.1.first.items x.first.items = adds.1 ∙ ap (λ (y : code.Lead). lesser y.first.items x.first.items) i in
-        simp (q, flip) (ap (λ c. scored e.0.bytes.items c v.first.items ∷ map keyed es) count ∙ ap (λ w. scored e.0.bytes.items (e.1.count + x.count) w ∷ map keyed es) first)
+        let flip : pointwise nat_eq e.0.row.numbers at ≡ true = nat_list_eq_equiv.symm e.0.row.numbers at ∙ q in
+        let count : v.count ≡ e.1.count + x.count = adds.0 ∙ ap (λ (y : code.Prefixes). y.count + x.count) i in
+        let first : v.first.items ≡ lesser e.1.first.items x.first.items = adds.1 ∙ ap (λ (y : code.Prefixes). lesser y.first.items x.first.items) i in
+        simp (q, flip) (ap (λ c. scored e.0.row.numbers c v.first.items ∷ map keyed es) count ∙ ap (λ w. scored e.0.row.numbers (e.1.count + x.count) w ∷ map keyed es) first)
     by false q i on =
-        let flip : pointwise nat_eq e.0.bytes.items at ≡ false = nat_list_eq_equiv.symm e.0.bytes.items at ∙ q in
+        let flip : pointwise nat_eq e.0.row.numbers at ≡ false = nat_list_eq_equiv.symm e.0.row.numbers at ∙ q in
         simp (q, flip) (ap (λ l. keyed e ∷ l) (on i))
 
 -- the state was known
-pub known_state : (es : List (StateKey × code.Lead)) (k : StateKey) (now x v : code.Lead) → lookup (λ j. pointwise nat_eq k.bytes.items j.bytes.items) es ≡ Some now → Adds now x v → map keyed (set_value (λ j. pointwise nat_eq k.bytes.items j.bytes.items) es v) ≡ with_lead (pointwise nat_eq) (map keyed es) (keyed (k, x))
+pub known_state : (es : List (StateRow × code.Prefixes)) (k : StateRow) (now x v : code.Prefixes) → lookup (λ j. pointwise nat_eq k.row.numbers j.row.numbers) es ≡ Some now → Adds now x v → map keyed (set_value (λ j. pointwise nat_eq k.row.numbers j.row.numbers) es v) ≡ with_lead (pointwise nat_eq) (map keyed es) (keyed (k, x))
 known_state [] k now x v is adds = absurd (cc)
-known_state (e ∷ es) k now x v is adds = by (pointwise nat_eq k.bytes.items e.0.bytes.items) refl is (λ i. known_state es k now x v i adds)
+known_state (e ∷ es) k now x v is adds = by (pointwise nat_eq k.row.numbers e.0.row.numbers) refl is (λ i. known_state es k now x v i adds)
   where
     at : List ℕ
-    at = k.bytes.items
+    at = k.row.numbers
 
-    others : List (StateKey × code.Lead)
-    others = set_value (λ j. pointwise nat_eq at j.bytes.items) es v
+    others : List (StateRow × code.Prefixes)
+    others = set_value (λ j. pointwise nat_eq at j.row.numbers) es v
 
-    by : (b : Bool) → pointwise nat_eq at e.0.bytes.items ≡ b → cond b (Some e.1) (lookup (λ j. pointwise nat_eq at j.bytes.items) es) ≡ Some now → (lookup (λ j. pointwise nat_eq at j.bytes.items) es ≡ Some now → map keyed others ≡ with_lead (pointwise nat_eq) (map keyed es) (keyed (k, x))) → map keyed (cond b ((e.0, v) ∷ es) (e ∷ others)) ≡ with_lead (pointwise nat_eq) (map keyed (e ∷ es)) (keyed (k, x))
+    by : (b : Bool) → pointwise nat_eq at e.0.row.numbers ≡ b → cond b (Some e.1) (lookup (λ j. pointwise nat_eq at j.row.numbers) es) ≡ Some now → (lookup (λ j. pointwise nat_eq at j.row.numbers) es ≡ Some now → map keyed others ≡ with_lead (pointwise nat_eq) (map keyed es) (keyed (k, x))) → map keyed (cond b ((e.0, v) ∷ es) (e ∷ others)) ≡ with_lead (pointwise nat_eq) (map keyed (e ∷ es)) (keyed (k, x))
     by true q i on =
-        let flip : pointwise nat_eq e.0.bytes.items at ≡ true = nat_list_eq_equiv.symm e.0.bytes.items at ∙ q in
+        let flip : pointwise nat_eq e.0.row.numbers at ≡ true = nat_list_eq_equiv.symm e.0.row.numbers at ∙ q in
         let same : e.1 ≡ now = ap (λ o. unwrap_or o e.1) i in
-        let count : v.count ≡ e.1.count + x.count = adds.0 ∙ ap (λ (y : code.Lead). y.count + x.count) (sym same) in
-        let first : v.first.items ≡ lesser e.1.first.items x.first.items = adds.1 ∙ ap (λ (y : code.Lead). lesser y.first.items x.first.items) (sym same) in
-        simp flip (ap (λ c. scored e.0.bytes.items c v.first.items ∷ map keyed es) count ∙ ap (λ w. scored e.0.bytes.items (e.1.count + x.count) w ∷ map keyed es) first)
+        let count : v.count ≡ e.1.count + x.count = adds.0 ∙ ap (λ (y : code.Prefixes). y.count + x.count) (sym same) in
+        let first : v.first.items ≡ lesser e.1.first.items x.first.items = adds.1 ∙ ap (λ (y : code.Prefixes). lesser y.first.items x.first.items) (sym same) in
+        simp flip (ap (λ c. scored e.0.row.numbers c v.first.items ∷ map keyed es) count ∙ ap (λ w. scored e.0.row.numbers (e.1.count + x.count) w ∷ map keyed es) first)
     by false q i on =
-        let flip : pointwise nat_eq e.0.bytes.items at ≡ false = nat_list_eq_equiv.symm e.0.bytes.items at ∙ q in
+        let flip : pointwise nat_eq e.0.row.numbers at ≡ false = nat_list_eq_equiv.symm e.0.row.numbers at ∙ q in
         simp flip (ap (λ l. keyed e ∷ l) (on i))
 
 -- the state is new
-pub new_state : (es new : List (StateKey × code.Lead)) (k j : StateKey) (x : code.Lead) → new ≡ insert_entry (λ a b. pointwise nat_eq a.bytes.items b.bytes.items) es j x → j.bytes.items ≡ k.bytes.items → lookup (λ i. pointwise nat_eq k.bytes.items i.bytes.items) es ≡ None → map keyed new ≡ with_lead (pointwise nat_eq) (map keyed es) (keyed (k, x))
-new_state es new k j x put same none =
-    let z : code.Lead = record { count = 0; first = x.first } in
-    let found : lookup (λ i. pointwise nat_eq j.bytes.items i.bytes.items) es ≡ None = ap (λ b. lookup (λ (i : StateKey). pointwise nat_eq b i.bytes.items) es) same ∙ none in
-    let now : z ≡ unwrap_or (lookup (λ i. pointwise nat_eq j.bytes.items i.bytes.items) es) z = sym (ap (λ o. unwrap_or o z) found) in
+pub new_state : (es new : List (StateRow × code.Prefixes)) (k : StateRow) (x : code.Prefixes) → new ≡ insert_entry (λ a b. pointwise nat_eq a.row.numbers b.row.numbers) es k x → lookup (λ j. pointwise nat_eq k.row.numbers j.row.numbers) es ≡ None → map keyed new ≡ with_lead (pointwise nat_eq) (map keyed es) (keyed (k, x))
+new_state es new k x put none =
+    let z : code.Prefixes = record { count = 0; first = x.first } in
+    let now : z ≡ unwrap_or (lookup (λ j. pointwise nat_eq k.row.numbers j.row.numbers) es) z = sym (ap (λ o. unwrap_or o z) none) in
     let count : x.count ≡ 0 + x.count = omega arith in
-    added_state es new j z z x x put now (refl, refl) (count, sym (lesser_self x.first.items)) ∙ ap (λ b. with_lead (pointwise nat_eq) (map keyed es) (scored b x.count x.first.items)) same
+    added_state es new k z z x x put now (refl, refl) (count, sym (lesser_self x.first.items))
 
-pub added_end : (es new : List (EndKey × code.Lead)) (k : EndKey) (z now x v : code.Lead) → new ≡ insert_entry (λ a b. same_outcome a.outcome b.outcome) es k v → now ≡ unwrap_or (lookup (λ j. same_outcome k.outcome j.outcome) es) z → IsNone z x → Adds now x v → map end_of new ≡ with_tally same_outcome (map end_of es) (end_of (k, x))
+pub added_end : (es new : List (EndKey × code.Prefixes)) (k : EndKey) (z now x v : code.Prefixes) → new ≡ insert_entry (λ a b. same_outcome a.outcome b.outcome) es k v → now ≡ unwrap_or (lookup (λ j. same_outcome k.outcome j.outcome) es) z → IsNone z x → Adds now x v → map end_of new ≡ with_tally same_outcome (map end_of es) (end_of (k, x))
 added_end [] new k z now x v put is none adds =
     let f = none_first z now x v none is adds in
     ap (map end_of) put ∙ ap (λ c. ended k c v.first.items ∷ []) f.0 ∙ ap (λ w. ended k x.count w ∷ []) f.1
@@ -127,36 +126,36 @@ added_end (e ∷ es) new k z now x v put is none adds = ap (map end_of) put ∙ 
     by : (b : Bool) → same_outcome k.outcome e.0.outcome ≡ b → now ≡ unwrap_or (cond b (Some e.1) (lookup (λ j. same_outcome k.outcome j.outcome) es)) z → (now ≡ unwrap_or (lookup (λ j. same_outcome k.outcome j.outcome) es) z → map end_of (insert_entry (λ a b. same_outcome a.outcome b.outcome) es k v) ≡ with_tally same_outcome (map end_of es) (end_of (k, x))) → map end_of (insert_entry (λ a b. same_outcome a.outcome b.outcome) (e ∷ es) k v) ≡ with_tally same_outcome (map end_of (e ∷ es)) (end_of (k, x))
     by true q i on =
         let flip : same_outcome e.0.outcome k.outcome ≡ true = nat_list_eq_equiv.symm (outcome_numbers e.0.outcome) (outcome_numbers k.outcome) ∙ q in
-        let count : v.count ≡ e.1.count + x.count = adds.0 ∙ ap (λ (y : code.Lead). y.count + x.count) i in
-        let first : v.first.items ≡ lesser e.1.first.items x.first.items = adds.1 ∙ ap (λ (y : code.Lead). lesser y.first.items x.first.items) i in
+        let count : v.count ≡ e.1.count + x.count = adds.0 ∙ ap (λ (y : code.Prefixes). y.count + x.count) i in
+        let first : v.first.items ≡ lesser e.1.first.items x.first.items = adds.1 ∙ ap (λ (y : code.Prefixes). lesser y.first.items x.first.items) i in
         simp (q, flip) (ap (λ c. ended e.0 c v.first.items ∷ map end_of es) count ∙ ap (λ w. ended e.0 (e.1.count + x.count) w ∷ map end_of es) first)
     by false q i on =
         let flip : same_outcome e.0.outcome k.outcome ≡ false = nat_list_eq_equiv.symm (outcome_numbers e.0.outcome) (outcome_numbers k.outcome) ∙ q in
         simp (q, flip) (ap (λ l. end_of e ∷ l) (on i))
 
 -- the end was known
-pub known_end : (es : List (EndKey × code.Lead)) (k : EndKey) (now x v : code.Lead) → lookup (λ j. same_outcome k.outcome j.outcome) es ≡ Some now → Adds now x v → map end_of (set_value (λ j. same_outcome k.outcome j.outcome) es v) ≡ with_tally same_outcome (map end_of es) (end_of (k, x))
+pub known_end : (es : List (EndKey × code.Prefixes)) (k : EndKey) (now x v : code.Prefixes) → lookup (λ j. same_outcome k.outcome j.outcome) es ≡ Some now → Adds now x v → map end_of (set_value (λ j. same_outcome k.outcome j.outcome) es v) ≡ with_tally same_outcome (map end_of es) (end_of (k, x))
 known_end [] k now x v is adds = absurd (cc)
 known_end (e ∷ es) k now x v is adds = by (same_outcome k.outcome e.0.outcome) refl is (λ i. known_end es k now x v i adds)
   where
-    others : List (EndKey × code.Lead)
+    others : List (EndKey × code.Prefixes)
     others = set_value (λ j. same_outcome k.outcome j.outcome) es v
 
     by : (b : Bool) → same_outcome k.outcome e.0.outcome ≡ b → cond b (Some e.1) (lookup (λ j. same_outcome k.outcome j.outcome) es) ≡ Some now → (lookup (λ j. same_outcome k.outcome j.outcome) es ≡ Some now → map end_of others ≡ with_tally same_outcome (map end_of es) (end_of (k, x))) → map end_of (cond b ((e.0, v) ∷ es) (e ∷ others)) ≡ with_tally same_outcome (map end_of (e ∷ es)) (end_of (k, x))
     by true q i on =
         let flip : same_outcome e.0.outcome k.outcome ≡ true = nat_list_eq_equiv.symm (outcome_numbers e.0.outcome) (outcome_numbers k.outcome) ∙ q in
         let same : e.1 ≡ now = ap (λ o. unwrap_or o e.1) i in
-        let count : v.count ≡ e.1.count + x.count = adds.0 ∙ ap (λ (y : code.Lead). y.count + x.count) (sym same) in
-        let first : v.first.items ≡ lesser e.1.first.items x.first.items = adds.1 ∙ ap (λ (y : code.Lead). lesser y.first.items x.first.items) (sym same) in
+        let count : v.count ≡ e.1.count + x.count = adds.0 ∙ ap (λ (y : code.Prefixes). y.count + x.count) (sym same) in
+        let first : v.first.items ≡ lesser e.1.first.items x.first.items = adds.1 ∙ ap (λ (y : code.Prefixes). lesser y.first.items x.first.items) (sym same) in
         simp flip (ap (λ c. ended e.0 c v.first.items ∷ map end_of es) count ∙ ap (λ w. ended e.0 (e.1.count + x.count) w ∷ map end_of es) first)
     by false q i on =
         let flip : same_outcome e.0.outcome k.outcome ≡ false = nat_list_eq_equiv.symm (outcome_numbers e.0.outcome) (outcome_numbers k.outcome) ∙ q in
         simp flip (ap (λ l. end_of e ∷ l) (on i))
 
 -- the end is new
-pub new_end : (es new : List (EndKey × code.Lead)) (k : EndKey) (x : code.Lead) → new ≡ insert_entry (λ a b. same_outcome a.outcome b.outcome) es k x → lookup (λ j. same_outcome k.outcome j.outcome) es ≡ None → map end_of new ≡ with_tally same_outcome (map end_of es) (end_of (k, x))
+pub new_end : (es new : List (EndKey × code.Prefixes)) (k : EndKey) (x : code.Prefixes) → new ≡ insert_entry (λ a b. same_outcome a.outcome b.outcome) es k x → lookup (λ j. same_outcome k.outcome j.outcome) es ≡ None → map end_of new ≡ with_tally same_outcome (map end_of es) (end_of (k, x))
 new_end es new k x put none =
-    let z : code.Lead = record { count = 0; first = x.first } in
+    let z : code.Prefixes = record { count = 0; first = x.first } in
     let now : z ≡ unwrap_or (lookup (λ j. same_outcome k.outcome j.outcome) es) z = sym (ap (λ o. unwrap_or o z) none) in
     let count : x.count ≡ 0 + x.count = omega arith in
     added_end es new k z z x x put now (refl, refl) (count, sym (lesser_self x.first.items))

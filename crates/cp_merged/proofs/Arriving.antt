@@ -1,16 +1,15 @@
--- What arrives at a front of the code arrives at the front that it stands for.
-use Rattle.std.proofs.Common.{◌≡◌, ◌∙◌, inl, inr, ◌+◌, ◌<◌, ◌≤◌, ℕ, Bool, true, false, cond, if◌then◌else◌, List, [], ◌∷◌, length, map, Some, refl, sym, ap, subst, arith}
+-- What is added to a frontier of the code arrives at the front that it stands for.
+use Rattle.std.proofs.Common.{◌≡◌, ◌∙◌, inl, inr, ◌+◌, ◌<◌, ◌≤◌, ℕ, Bool, true, false, cond, if◌then◌else◌, List, [], ◌∷◌, ◌++◌, length, map, Some, refl, sym, ap, subst, arith}
 use Rattle.std.specs.Prelude.{nat_eq, IfSome, IfOk, Result, Ok, Err, ◌^◌}
-use Rattle.std.specs.List.{AllByRecursion as Each}
 use Rattle.std.specs.Map.{lookup}
 use Rattle.std.proofs.lemmas.List.{length-map}
-use Rattle.std.proofs.lemmas.List.Elements.{All-from_recursion, recursion_from_All}
 use lib.Pointwise.{pointwise}
 use Rattle.cp_slots.specs.Tables.{Tables}
 use Rattle.cp_machine.specs.System.{Machine, machine_of, output_of, IsStateOf}
 use Rattle.cp_machine.specs.declared.gates.Gates.{Gates}
 use Rattle.cp_run.specs.Slots.{slots}
 use Rattle.cp_run.specs.Code.{node_of}
+use Rattle.cp_run.specs.Run.{Node, may, chosen}
 use Rattle.cp_run.specs.declared.outcome.OutcomeKind.{OutcomeKind}
 use Rattle.cp_run.specs.declared.outcome.Halt.{Halt}
 use Rattle.cp_run.specs.declared.outcome.Halt.TheVariants.{Choice, Ended as HasEnded}
@@ -19,14 +18,18 @@ use Rattle.cp_key.specs.Key.{key_of}
 use Rattle.cp_key.specs.Room.{IsMachineOf}
 use Rattle.cp_key.proofs.Keys.{key_tells}
 use Rattle.cp_key.proofs.Owned.{machine_own}
+use Rattle.cp_states.specs.Rows.{IsRowOf, KeepParts}
+use Rattle.cp_states.specs.declared.store.Store.{Store}
+use Rattle.cp_states.proofs.Alone.{one_machine, one_row}
+use Rattle.cp_states.proofs.Following.{row_on}
 use Rattle.cp_walk.specs.Groups.{Tally}
 use Rattle.cp_walk.specs.Report.{same_outcome}
-use Rattle.cp_merged.specs.Layers.{Lead, Front, IsSound, merged_lead, with_lead, merged_tally, with_tally, arrived}
+use Rattle.cp_merged.specs.Layers.{Lead, Front, IsSound, lesser, merged_lead, with_lead, merged_tally, with_tally, arrived, after_choice}
 use Rattle.cp_merged.specs.Code.{keyed, end_of}
-use Rattle.cp_merged.specs.Holds.{same_key, frozen, AreLeads, AreEnds, Holds, words_of, counts, total}
+use Rattle.cp_merged.specs.Holds.{same_key, IsLeadTo, AreLeadsTo, AreLeads, AreEnds, Holds, words_of, counts, total}
 use Rattle.cp_merged.specs.declared.end_key.EndKey.{EndKey}
-use Rattle.cp_merged.specs.declared.lead.Lead as code
-use Rattle.cp_merged.specs.declared.state_key.StateKey.{StateKey}
+use Rattle.cp_merged.specs.declared.prefixes.Prefixes as code
+use Rattle.cp_merged.specs.declared.state_row.StateRow.{StateRow}
 use Rattle.cp_merged.proofs.Exact.{one_list}
 use Rattle.std.proofs.lemmas.Cmp.{nat_list_eq_equiv}
 
@@ -49,7 +52,7 @@ longer_with (u ∷ us) t = by (same_outcome u.first.outcome t.first.outcome) (lo
     by false l = omega (arith, l)
 
 -- too many outcomes stay as they are
-pub ends_full : (es : List (EndKey × code.Lead)) (ts : List Tally) (t : Tally) → 50000 < length es → AreEnds es ts → AreEnds es (with_tally same_outcome ts t)
+pub ends_full : (es : List (EndKey × code.Prefixes)) (ts : List Tally) (t : Tally) → 50000 < length es → AreEnds es ts → AreEnds es (with_tally same_outcome ts t)
 ends_full es ts t l (inl e) =
     let a = ap length e in
     let b = length-map es end_of in
@@ -57,24 +60,24 @@ ends_full es ts t l (inl e) =
     inr (l, omega (arith, l, a, b, c))
 ends_full es ts t l (inr m) = let c = longer_with ts t in let n = m.1 in inr (l, omega (arith, c, n))
 
-pub ends_more : (es new : List (EndKey × code.Lead)) (ts : List Tally) (t : Tally) → length es ≤ 50000 → map end_of new ≡ with_tally same_outcome (map end_of es) t → AreEnds es ts → AreEnds new (with_tally same_outcome ts t)
+pub ends_more : (es new : List (EndKey × code.Prefixes)) (ts : List Tally) (t : Tally) → length es ≤ 50000 → map end_of new ≡ with_tally same_outcome (map end_of es) t → AreEnds es ts → AreEnds new (with_tally same_outcome ts t)
 ends_more es new ts t l put (inl e) = inl (put ∙ ap (λ us. with_tally same_outcome us t) e)
 ends_more es new ts t l put (inr m) = let n = m.0 in absurd (omega (arith, l, n))
 
 -- the entries are the tallies, where there are not too many
-pub ends_are : (es : List (EndKey × code.Lead)) (ts : List Tally) → length es ≤ 50000 → AreEnds es ts → map end_of es ≡ ts
+pub ends_are : (es : List (EndKey × code.Prefixes)) (ts : List Tally) → length es ≤ 50000 → AreEnds es ts → map end_of es ≡ ts
 ends_are es ts l (inl e) = e
 ends_are es ts l (inr m) = let n = m.0 in absurd (omega (arith, l, n))
 
-pub ends_few : (es : List (EndKey × code.Lead)) (ts : List Tally) → length es ≤ 50000 → AreEnds es ts → length ts ≤ 50000
+pub ends_few : (es : List (EndKey × code.Prefixes)) (ts : List Tally) → length es ≤ 50000 → AreEnds es ts → length ts ≤ 50000
 ends_few es ts l h = let e = ap length (ends_are es ts l h) in let m = length-map es end_of in omega (arith, l, e, m)
 
-pub ends_many : (es : List (EndKey × code.Lead)) (ts : List Tally) → 50000 < length es → AreEnds es ts → 50000 < length ts
+pub ends_many : (es : List (EndKey × code.Prefixes)) (ts : List Tally) → 50000 < length es → AreEnds es ts → 50000 < length ts
 ends_many es ts l (inl e) = let a = ap length e in let m = length-map es end_of in omega (arith, l, a, m)
 ends_many es ts l (inr m) = m.1
 
 -- what is known of an outcome is no more than all
-known_end : (es : List (EndKey × code.Lead)) (p : EndKey → Bool) (n bound : ℕ) → counts (map end_of es) + n < bound → IfSome (lookup p es) (λ y. y.count + n < bound)
+known_end : (es : List (EndKey × code.Prefixes)) (p : EndKey → Bool) (n bound : ℕ) → counts (map end_of es) + n < bound → IfSome (lookup p es) (λ y. y.count + n < bound)
 known_end [] p n bound l = tt
 known_end (e ∷ es) p n bound l = by (p e.0) (known_end es p n bound (omega (arith, l)))
   where
@@ -82,19 +85,18 @@ known_end (e ∷ es) p n bound l = by (p e.0) (known_end es p n bound (omega (ar
     by true h = omega (arith, l)
     by false h = h
 
-pub room_for_end : (es : List (EndKey × code.Lead)) (ts : List Tally) (p : EndKey → Bool) (n bound : ℕ) → length es ≤ 50000 → AreEnds es ts → counts ts + n < bound → IfSome (lookup p es) (λ y. y.count + n < bound)
+pub room_for_end : (es : List (EndKey × code.Prefixes)) (ts : List Tally) (p : EndKey → Bool) (n bound : ℕ) → length es ≤ 50000 → AreEnds es ts → counts ts + n < bound → IfSome (lookup p es) (λ y. y.count + n < bound)
 room_for_end es ts p n bound few h l = known_end es p n bound (let e = ap counts (ends_are es ts few h) in omega (arith, l, e))
 
 -- ---- states
 
-words_keyed : (es : List (StateKey × code.Lead)) (xs : List (Lead Machine)) → map keyed es ≡ map frozen xs → words_of (map keyed es) ≡ words_of xs
-words_keyed es xs e = ap words_of e ∙ of_frozen xs
-  where
-    of_frozen : (ys : List (Lead Machine)) → words_of (map frozen ys) ≡ words_of ys
-    of_frozen [] = refl
-    of_frozen (y ∷ ys) = ap (λ n. y.count + n) (of_frozen ys)
+leads_words : (r : Tables) (store : Store) (ys : List (Lead (List ℕ))) (xs : List (Lead Machine)) → AreLeadsTo r store ys xs → words_of ys ≡ words_of xs
+leads_words r store [] [] h = refl
+leads_words r store [] (x ∷ xs) h = absurd h
+leads_words r store (y ∷ ys) [] h = absurd h
+leads_words r store (y ∷ ys) (x ∷ xs) h = let rest = leads_words r store ys xs h.1 in let here = h.0.count in omega (arith, rest, here)
 
-known_state : (es : List (StateKey × code.Lead)) (p : StateKey → Bool) (n bound : ℕ) → words_of (map keyed es) + n < bound → IfSome (lookup p es) (λ y. y.count + n < bound)
+known_state : (es : List (StateRow × code.Prefixes)) (p : StateRow → Bool) (n bound : ℕ) → words_of (map keyed es) + n < bound → IfSome (lookup p es) (λ y. y.count + n < bound)
 known_state [] p n bound l = tt
 known_state (e ∷ es) p n bound l = by (p e.0) (known_state es p n bound (omega (arith, l)))
   where
@@ -102,35 +104,64 @@ known_state (e ∷ es) p n bound l = by (p e.0) (known_state es p n bound (omega
     by true h = omega (arith, l)
     by false h = h
 
-pub room_for_state : (es : List (StateKey × code.Lead)) (xs : List (Lead Machine)) (p : StateKey → Bool) (n bound : ℕ) → map keyed es ≡ map frozen xs → words_of xs + n < bound → IfSome (lookup p es) (λ y. y.count + n < bound)
-room_for_state es xs p n bound e l = known_state es p n bound (let w = words_keyed es xs e in omega (arith, l, w))
+pub room_for_state : (r : Tables) (store : Store) (es : List (StateRow × code.Prefixes)) (xs : List (Lead Machine)) (p : StateRow → Bool) (n bound : ℕ) → AreLeads r store es xs → words_of xs + n < bound → IfSome (lookup p es) (λ y. y.count + n < bound)
+room_for_state r store es xs p n bound h l = known_state es p n bound (let w = leads_words r store (map keyed es) xs h in omega (arith, l, w))
 
-with_frozen : (xs : List (Lead Machine)) (x : Lead Machine) → with_lead (pointwise nat_eq) (map frozen xs) (frozen x) ≡ map frozen (with_lead same_key xs x)
-unfolding same_key
-with_frozen [] x = refl
-with_frozen (y ∷ ys) x = by (pointwise nat_eq (key_of y.state) (key_of x.state)) (with_frozen ys x)
-  where
-    by : (b : Bool) → with_lead (pointwise nat_eq) (map frozen ys) (frozen x) ≡ map frozen (with_lead same_key ys x) → (if b then merged_lead (frozen y) (frozen x) ∷ map frozen ys else frozen y ∷ with_lead (pointwise nat_eq) (map frozen ys) (frozen x)) ≡ map frozen (if b then merged_lead y x ∷ ys else y ∷ with_lead same_key ys x)
-    by true on = refl
-    by false on = ap (λ l. frozen y ∷ l) on
+both_true : (a b : Bool) → (a ≡ true → b ≡ true) → (b ≡ true → a ≡ true) → a ≡ b
+both_true true b on back = sym (on refl)
+both_true false true on back = back refl
+both_true false false on back = refl
 
-own_with : (r : Tables) (xs : List (Lead Machine)) (x : Lead Machine) → Each (λ y. IsMachineOf r y.state) xs → IsMachineOf r x.state → Each (λ y. IsMachineOf r y.state) (with_lead same_key xs x)
-own_with r [] x h m = (m, tt)
-own_with r (y ∷ ys) x h m = by (same_key y.state x.state) (own_with r ys x h.1 m)
+-- in one store, rows are the same exactly where the machines of a program are
+same_rows : (r : Tables) (store : Store) (row other : List ℕ) (m n : Machine) → IsMachineOf r m → IsMachineOf r n → IsRowOf store row m → IsRowOf store other n → pointwise nat_eq row other ≡ same_key m n
+same_rows r store row other m n mine theirs a b = both_true (pointwise nat_eq row other) (same_key m n) on back
   where
-    by : (b : Bool) → Each (λ z. IsMachineOf r z.state) (with_lead same_key ys x) → Each (λ z. IsMachineOf r z.state) (if b then merged_lead y x ∷ ys else y ∷ with_lead same_key ys x)
-    by true on = (h.0, h.1)
+    on : pointwise nat_eq row other ≡ true → same_key m n ≡ true
+    on h =
+        let e : row ≡ other = one_list row other h in
+        let same : m ≡ n = one_machine store row m n (mine.fits.threads ∙ sym theirs.fits.threads) a (subst (λ l. IsRowOf store l n) (sym e) b) in
+        ap (same_key m) (sym same) ∙ key_own m
+
+    back : same_key m n ≡ true → pointwise nat_eq row other ≡ true
+    back h =
+        let same : m ≡ n = key_sound m n h in
+        let e : row ≡ other = one_row store row other m a (subst (IsRowOf store other) (sym same) b) in
+        ap (pointwise nat_eq row) (sym e) ∙ nat_list_eq_equiv.refl row
+
+lead_row : (r : Tables) (store : Store) (row : List ℕ) (m : Machine) (word : List ℕ) (count : ℕ) → IsRowOf store row m → IsMachineOf r m → IsLeadTo r store (record { state = row; first = word; count = count }) (record { state = m; first = word; count = count })
+lead_row r store row m word count is own = record { row = is; first = refl; count = refl; own = own }
+
+merged_row : (r : Tables) (store : Store) (row : List ℕ) (m : Machine) (word : List ℕ) (count : ℕ) (y : Lead (List ℕ)) (x : Lead Machine) → IsLeadTo r store y x → IsLeadTo r store (merged_lead y (record { state = row; first = word; count = count })) (merged_lead x (record { state = m; first = word; count = count }))
+merged_row r store row m word count y x h = record { row = h.row; first = ap (λ w. lesser w word) h.first; count = ap (λ k. k + count) h.count; own = h.own }
+
+with_row : (r : Tables) (store : Store) (ys : List (Lead (List ℕ))) (xs : List (Lead Machine)) (row : List ℕ) (m : Machine) (word : List ℕ) (count : ℕ) → IsRowOf store row m → IsMachineOf r m → AreLeadsTo r store ys xs → AreLeadsTo r store (with_lead (pointwise nat_eq) ys (record { state = row; first = word; count = count })) (with_lead same_key xs (record { state = m; first = word; count = count }))
+with_row r store [] [] row m word count is own h = (lead_row r store row m word count is own, tt)
+with_row r store [] (x ∷ xs) row m word count is own h = absurd h
+with_row r store (y ∷ ys) [] row m word count is own h = absurd h
+with_row r store (y ∷ ys) (x ∷ xs) row m word count is own h =
+    let same = same_rows r store y.state row x.state m h.0.own own h.0.row is in
+    subst (λ c. AreLeadsTo r store (if c then merged_lead y low ∷ ys else y ∷ with_lead (pointwise nat_eq) ys low) (with_lead same_key (x ∷ xs) high)) (sym same) (by (same_key x.state m) (with_row r store ys xs row m word count is own h.1))
+  where
+    low : Lead (List ℕ)
+    low = record { state = row; first = word; count = count }
+
+    high : Lead Machine
+    high = record { state = m; first = word; count = count }
+
+    by : (b : Bool) → AreLeadsTo r store (with_lead (pointwise nat_eq) ys low) (with_lead same_key xs high) → AreLeadsTo r store (if b then merged_lead y low ∷ ys else y ∷ with_lead (pointwise nat_eq) ys low) (if b then merged_lead x high ∷ xs else x ∷ with_lead same_key xs high)
+    by true on = (merged_row r store row m word count y x h.0, h.1)
     by false on = (h.0, on)
 
-abbrev lead_at : Machine → code.Lead → Lead Machine
-lead_at m x = record { state = m; first = x.first.items; count = x.count }
+-- leads stay where the store keeps its parts
+pub leads_on : (r : Tables) (s t : Store) (ys : List (Lead (List ℕ))) (xs : List (Lead Machine)) → KeepParts s t → AreLeadsTo r s ys xs → AreLeadsTo r t ys xs
+leads_on r s t [] [] kept h = tt
+leads_on r s t [] (x ∷ xs) kept h = absurd h
+leads_on r s t (y ∷ ys) [] kept h = absurd h
+leads_on r s t (y ∷ ys) (x ∷ xs) kept h = (record { row = row_on s t y.state x.state kept h.0.row; first = h.0.first; count = h.0.count; own = h.0.own }, leads_on r s t ys xs kept h.1)
 
-pub leads_more : (r : Tables) (es new : List (StateKey × code.Lead)) (xs : List (Lead Machine)) (key : List ℕ) (s : State) (x : code.Lead) → key ≡ key_of (machine_of s) → map keyed new ≡ with_lead (pointwise nat_eq) (map keyed es) (record { state = key; first = x.first.items; count = x.count }) → IsStateOf r s → AreLeads r es xs → AreLeads r new (with_lead same_key xs (lead_at (machine_of s) x))
-leads_more r es new xs key s x k put own h =
-    record {
-      keys = put ∙ ap (λ l. with_lead (pointwise nat_eq) l (record { state = key; first = x.first.items; count = x.count })) h.keys ∙ ap (λ b. with_lead (pointwise nat_eq) (map frozen xs) (record { state = b; first = x.first.items; count = x.count })) k ∙ with_frozen xs (lead_at (machine_of s) x);
-      own = All-from_recursion (λ y. IsMachineOf r y.state) (with_lead same_key xs (lead_at (machine_of s) x)) (own_with r xs (lead_at (machine_of s) x) (recursion_from_All (λ y. IsMachineOf r y.state) xs h.own) (machine_own r s own));
-    }
+pub leads_more : (r : Tables) (s t : Store) (es new : List (StateRow × code.Prefixes)) (xs : List (Lead Machine)) (row : List ℕ) (state : State) (x : code.Prefixes) → KeepParts s t → IsRowOf t row (machine_of state) → map keyed new ≡ with_lead (pointwise nat_eq) (map keyed es) (record { state = row; first = x.first.items; count = x.count }) → IsStateOf r state → AreLeads r s es xs → AreLeads r t new (with_lead same_key xs (record { state = machine_of state; first = x.first.items; count = x.count }))
+leads_more r s t es new xs row state x kept is put own h =
+    subst (λ ys. AreLeadsTo r t ys (with_lead same_key xs (record { state = machine_of state; first = x.first.items; count = x.count }))) (sym put) (with_row r t (map keyed es) xs row (machine_of state) x.first.items x.count is (machine_own r state own) (leads_on r s t (map keyed es) xs kept h))
 
 -- ---- fronts
 
@@ -140,14 +171,22 @@ counts_small f n l = omega (arith, l)
 pub words_small : (f : Front Machine) (n : ℕ) → total f + n < 10 ^ 126 → words_of f.layer + n < 10 ^ 126
 words_small f n l = omega (arith, l)
 
-pub ended_holds : {A E : Type 0} (q : Result A E) (es new_es : List (EndKey × code.Lead)) (ss new_ss : List (StateKey × code.Lead)) (kind : OutcomeKind) (x : code.Lead) (s : State) (halt : Halt) → halt ≡ HasEnded kind → new_ss ≡ ss → IfOk q (λ _. (ts : List Tally) → AreEnds es ts → AreEnds new_es (with_tally same_outcome ts (record { first = record { word = x.first.items; outcome = record { kind = kind; output = output_of (machine_of s) } }; count = x.count }))) → IfOk q (λ _. (r : Tables) (gates : Gates) (f : Front Machine) → IsStateOf r s → Holds r es ss f → Holds r new_es new_ss (arrived (slots r gates) same_outcome same_key x.first.items x.count (node_of halt (machine_of s)) f))
-ended_holds (Err e) es new_es ss new_ss kind x s halt is same go = tt
-ended_holds (Ok u) es new_es ss new_ss kind x s halt is same go = λ r gates f own h.
-    subst (λ (y : Halt). Holds r new_es new_ss (arrived (slots r gates) same_outcome same_key x.first.items x.count (node_of y (machine_of s)) f)) (sym is)
-    (record { ended = go f.ended h.ended; layer = subst (λ (l : List (StateKey × code.Lead)). AreLeads r l f.layer) (sym same) h.layer })
+pub ended_holds : {A E : Type 0} (q : Result A E) (s new_s : Store) (es new_es : List (EndKey × code.Prefixes)) (ss new_ss : List (StateRow × code.Prefixes)) (kind : OutcomeKind) (x : code.Prefixes) (state : State) (halt : Halt) → halt ≡ HasEnded kind → new_s ≡ s → new_ss ≡ ss → IfOk q (λ _. (ts : List Tally) → AreEnds es ts → AreEnds new_es (with_tally same_outcome ts (record { first = record { word = x.first.items; outcome = record { kind = kind; output = output_of (machine_of state) } }; count = x.count }))) → IfOk q (λ _. (r : Tables) (gates : Gates) (f : Front Machine) → IsStateOf r state → Holds r s es ss f → Holds r new_s new_es new_ss (arrived (slots r gates) same_outcome same_key x.first.items x.count (node_of halt (machine_of state)) f))
+ended_holds (Err e) s new_s es new_es ss new_ss kind x state halt is store same go = tt
+ended_holds (Ok u) s new_s es new_es ss new_ss kind x state halt is store same go = λ r gates f own h.
+    subst (λ (y : Halt). Holds r new_s new_es new_ss (arrived (slots r gates) same_outcome same_key x.first.items x.count (node_of y (machine_of state)) f)) (sym is)
+    (record { ended = go f.ended h.ended; layer = subst (λ (t : Store). AreLeads r t new_ss f.layer) (sym store) (subst (λ (l : List (StateRow × code.Prefixes)). AreLeads r s l f.layer) (sym same) h.layer) })
 
-pub waits_holds : {A E : Type 0} (q : Result A E) (es new_es : List (EndKey × code.Lead)) (ss new_ss : List (StateKey × code.Lead)) (x : code.Lead) (s : State) (halt : Halt) → halt ≡ Choice → new_es ≡ es → IfOk q (λ _. (r : Tables) (xs : List (Lead Machine)) → IsStateOf r s → AreLeads r ss xs → AreLeads r new_ss (with_lead same_key xs (record { state = machine_of s; first = x.first.items; count = x.count }))) → IfOk q (λ _. (r : Tables) (gates : Gates) (f : Front Machine) → IsStateOf r s → Holds r es ss f → Holds r new_es new_ss (arrived (slots r gates) same_outcome same_key x.first.items x.count (node_of halt (machine_of s)) f))
-waits_holds (Err e) es new_es ss new_ss x s halt is same go = tt
-waits_holds (Ok u) es new_es ss new_ss x s halt is same go = λ r gates f own h.
-    subst (λ (y : Halt). Holds r new_es new_ss (arrived (slots r gates) same_outcome same_key x.first.items x.count (node_of y (machine_of s)) f)) (sym is)
-    (record { ended = subst (λ (l : List (EndKey × code.Lead)). AreEnds l f.ended) (sym same) h.ended; layer = go r f.layer own h.layer })
+pub waits_holds : {A E : Type 0} (q : Result A E) (s new_s : Store) (es new_es : List (EndKey × code.Prefixes)) (ss new_ss : List (StateRow × code.Prefixes)) (x : code.Prefixes) (state : State) (halt : Halt) → halt ≡ Choice → new_es ≡ es → IfOk q (λ _. (r : Tables) (xs : List (Lead Machine)) → IsStateOf r state → AreLeads r s ss xs → AreLeads r new_s new_ss (with_lead same_key xs (record { state = machine_of state; first = x.first.items; count = x.count }))) → IfOk q (λ _. (r : Tables) (gates : Gates) (f : Front Machine) → IsStateOf r state → Holds r s es ss f → Holds r new_s new_es new_ss (arrived (slots r gates) same_outcome same_key x.first.items x.count (node_of halt (machine_of state)) f))
+waits_holds (Err e) s new_s es new_es ss new_ss x state halt is same go = tt
+waits_holds (Ok u) s new_s es new_es ss new_ss x state halt is same go = λ r gates f own h.
+    subst (λ (y : Halt). Holds r new_s new_es new_ss (arrived (slots r gates) same_outcome same_key x.first.items x.count (node_of y (machine_of state)) f)) (sym is)
+    (record { ended = subst (λ (l : List (EndKey × code.Prefixes)). AreEnds l f.ended) (sym same) h.ended; layer = go r f.layer own h.layer })
+
+-- words go one choice on
+pub choice_holds : {A E : Type 0} (q : Result A E) (r : Tables) (gates : Gates) (steps : ℕ) (s new_s : Store) (es new_es : List (EndKey × code.Prefixes)) (ss new_ss : List (StateRow × code.Prefixes)) (m : Machine) (word longer : List ℕ) (count p : ℕ) (node : Node Machine) → may (slots r gates) m p ≡ true → chosen (slots r gates) steps m p ≡ node → longer ≡ word ++ p ∷ [] → IfOk q (λ _. (f : Front Machine) → Holds r s es ss f → Holds r new_s new_es new_ss (arrived (slots r gates) same_outcome same_key longer count node f)) → IfOk q (λ _. (f : Front Machine) → Holds r s es ss f → Holds r new_s new_es new_ss (after_choice (slots r gates) same_outcome same_key steps (record { state = m; first = word; count = count }) p f))
+choice_holds (Err e) r gates steps s new_s es new_es ss new_ss m word longer count p node is to long go = tt
+choice_holds (Ok u) r gates steps s new_s es new_es ss new_ss m word longer count p node is to long go = λ f h.
+    subst (λ (b : Bool). Holds r new_s new_es new_ss (if b then arrived (slots r gates) same_outcome same_key (word ++ p ∷ []) count (chosen (slots r gates) steps m p) f else f)) (sym is)
+    (subst (λ (n : Node Machine). Holds r new_s new_es new_ss (arrived (slots r gates) same_outcome same_key (word ++ p ∷ []) count n f)) (sym to)
+    (subst (λ (w : List ℕ). Holds r new_s new_es new_ss (arrived (slots r gates) same_outcome same_key w count node f)) long (go f h)))

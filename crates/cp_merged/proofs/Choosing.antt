@@ -16,6 +16,10 @@ pub ok_to : {A E : Type 0} (r : Result A E) (P Q : A → Type 0) → IfOk r P �
 ok_to (Ok a) P Q h f = f a h
 ok_to (Err e) P Q h f = h
 
+pub ok_any : {A E : Type 0} (r : Result A E) (P : Type 0) → P → IfOk r (λ _. P)
+ok_any (Ok a) P h = h
+ok_any (Err e) P h = tt
+
 pub length_those : (n : ℕ) (f : ℕ → Bool) → length (those_below n f) ≤ n
 length_those zero f = omega arith
 length_those (suc n) f = by (f n) (length_those n f)

@@ -3,25 +3,25 @@ use Rattle.std.proofs.Common.{◌≡◌, ◌∙◌, ◌+◌, ◌*◌, ◌^◌, �
 use Rattle.std.proofs.Math.Nat.{pow-le-pow_right}
 use Rattle.std.specs.List.{AllByRecursion as Each}
 use Rattle.std.proofs.lemmas.List.{length-map}
-use Rattle.std.proofs.lemmas.List.Elements.{All-head, All-tail}
 use Rattle.cp_slots.specs.Tables.{Tables}
 use Rattle.cp_machine.specs.System.{Machine, output_of}
 use Rattle.cp_machine.specs.declared.shown.Shown.{Shown}
 use Rattle.cp_run.specs.declared.outcome.OutcomeKind.TheVariants.{ChoiceLimit}
 use Rattle.cp_machine.specs.declared.gates.Gates.{Gates}
 use Rattle.cp_run.specs.Slots.{slots, processes_of}
-use Rattle.cp_key.specs.Key.{key_of}
 use Rattle.cp_key.specs.Room.{IsMachineOf}
+use Rattle.cp_states.specs.Rows.{IsRowOf, KeepParts}
+use Rattle.cp_states.specs.declared.store.Store.{Store}
 use Rattle.cp_walk.specs.Groups.{Tally}
 use Rattle.cp_walk.specs.Report.{same_outcome}
 use Rattle.cp_merged.specs.Layers.{Lead, Front, after_choices, after_layer, at_limit, with_tally, front_at, by_layers}
 use Rattle.cp_merged.specs.Code.{keyed}
-use Rattle.cp_merged.specs.Holds.{same_key, frozen, AreLeads, AreEnds, Holds, words_of, counts, total}
+use Rattle.cp_merged.specs.Holds.{same_key, AreLeadsTo, AreLeads, AreEnds, Holds, words_of, counts, total}
 use Rattle.cp_merged.specs.TooMany.{HasTooManyStates}
 use Rattle.cp_merged.specs.declared.end_key.EndKey.{EndKey}
-use Rattle.cp_merged.specs.declared.lead.Lead as code
-use Rattle.cp_merged.specs.declared.state_key.StateKey.{StateKey}
-use Rattle.cp_merged.proofs.Arriving.{key_sound, key_own}
+use Rattle.cp_merged.specs.declared.prefixes.Prefixes as code
+use Rattle.cp_merged.specs.declared.state_row.StateRow.{StateRow}
+use Rattle.cp_merged.proofs.Arriving.{key_sound, key_own, leads_on}
 use Rattle.cp_merged.proofs.Exact.{exact_outcomes}
 use Rattle.cp_merged.proofs.Fronts.{IsLead, IsFrontOf, OneEach, is_front, ends_later, front_choices, once_choices}
 use Rattle.cp_merged.proofs.Fitting.{states_many}
@@ -29,45 +29,32 @@ use Rattle.cp_merged.proofs.Totals.{total_at, total_choices, counts_with}
 
 -- ---- the next of some leads
 
-pub record IsNext (r : Tables) (e : StateKey × code.Lead) (es : List (StateKey × code.Lead)) (xs : List (Lead Machine)) : Type 0 where
+pub record IsNext (r : Tables) (store : Store) (e : StateRow × code.Prefixes) (es : List (StateRow × code.Prefixes)) (xs : List (Lead Machine)) : Type 0 where
   pub lead : Lead Machine
   pub rest : List (Lead Machine)
   pub is : xs ≡ lead ∷ rest
-  pub key : e.0.bytes.items ≡ key_of lead.state
+  pub row : IsRowOf store e.0.row.numbers lead.state
   pub first : e.1.first.items ≡ lead.first
   pub count : e.1.count ≡ lead.count
   pub own : IsMachineOf r lead.state
-  pub left : AreLeads r es rest
+  pub left : AreLeads r store es rest
 
-abbrev front_of : List (Lead (List ℕ)) → Lead (List ℕ)
-front_of [] = record { state = []; first = []; count = 0 }
-front_of (x ∷ xs) = x
+pub next_lead : (r : Tables) (store : Store) (e : StateRow × code.Prefixes) (es : List (StateRow × code.Prefixes)) (xs : List (Lead Machine)) → AreLeads r store (e ∷ es) xs → IsNext r store e es xs
+next_lead r store e es [] h = absurd h
+next_lead r store e es (x ∷ xs) h = record { lead = x; rest = xs; is = refl; row = h.0.row; first = h.0.first; count = h.0.count; own = h.0.own; left = h.1 }
 
-abbrev rest_of : List (Lead (List ℕ)) → List (Lead (List ℕ))
-rest_of [] = []
-rest_of (x ∷ xs) = xs
+pub no_lead : (r : Tables) (store : Store) (xs : List (Lead Machine)) → AreLeads r store [] xs → xs ≡ []
+no_lead r store [] h = refl
+no_lead r store (x ∷ xs) h = absurd h
 
-pub next_lead : (r : Tables) (e : StateKey × code.Lead) (es : List (StateKey × code.Lead)) (xs : List (Lead Machine)) → AreLeads r (e ∷ es) xs → IsNext r e es xs
-next_lead r e es [] h = (let bad : suc (length (map keyed es)) ≡ 0 = ap length h.keys in absurd (omega (arith, bad)))
-next_lead r e es (x ∷ xs) h =
-    let same : keyed e ≡ frozen x = ap front_of h.keys in
-    record {
-      lead = x;
-      rest = xs;
-      is = refl;
-      key = ap (λ y. y.state) same;
-      first = ap (λ y. y.first) same;
-      count = ap (λ y. y.count) same;
-      own = All-head (λ y. IsMachineOf r y.state) x xs h.own;
-      left = record { keys = ap rest_of h.keys; own = All-tail (λ y. IsMachineOf r y.state) x xs h.own };
-    }
+rows_length : (r : Tables) (store : Store) (ys : List (Lead (List ℕ))) (xs : List (Lead Machine)) → AreLeadsTo r store ys xs → length ys ≡ length xs
+rows_length r store [] [] h = refl
+rows_length r store [] (x ∷ xs) h = absurd h
+rows_length r store (y ∷ ys) [] h = absurd h
+rows_length r store (y ∷ ys) (x ∷ xs) h = ap suc (rows_length r store ys xs h.1)
 
-pub no_lead : (r : Tables) (xs : List (Lead Machine)) → AreLeads r [] xs → xs ≡ []
-no_lead r [] h = refl
-no_lead r (x ∷ xs) h = (let bad : 0 ≡ suc (length (map frozen xs)) = ap length h.keys in absurd (omega (arith, bad)))
-
-pub leads_length : (r : Tables) (es : List (StateKey × code.Lead)) (xs : List (Lead Machine)) → AreLeads r es xs → length es ≡ length xs
-leads_length r es xs h = let a = length-map es keyed in let b = length-map xs frozen in let c = ap length h.keys in omega (arith, a, b, c)
+pub leads_length : (r : Tables) (store : Store) (es : List (StateRow × code.Prefixes)) (xs : List (Lead Machine)) → AreLeads r store es xs → length es ≡ length xs
+leads_length r store es xs h = let a = length-map es keyed in let c = rows_length r store (map keyed es) xs h in omega (arith, a, c)
 
 -- ---- numbers of words
 
@@ -89,11 +76,11 @@ module _ (r : Tables) (gates : Gates) (steps : ℕ) where
   made d = front_at (slots r gates) same_outcome same_key steps d
 
   -- while layer d + 1 is made
-  pub record Making (d : ℕ) (ends : List (EndKey × code.Lead)) (states rest : List (StateKey × code.Lead)) : Type 0 where
+  pub record Making (d : ℕ) (store : Store) (ends : List (EndKey × code.Prefixes)) (states rest : List (StateRow × code.Prefixes)) : Type 0 where
     pub front : Front Machine
     pub leads : List (Lead Machine)
-    pub holds : Holds r ends states front
-    pub left : AreLeads r rest leads
+    pub holds : Holds r store ends states front
+    pub left : AreLeads r store rest leads
     pub comes : after_layer (slots r gates) same_outcome same_key steps leads front ≡ made (d + 1)
     pub small : total front + 16 * words_of leads < 10 ^ 126
     pub sound : IsFrontOf (slots r gates) same_outcome exact_outcomes same_key key_sound steps (suc d) front
@@ -117,9 +104,9 @@ module _ (r : Tables) (gates : Gates) (steps : ℕ) where
       let b = below in
       omega (arith, t, p, e, b)
 
-  pub making_start : (d : ℕ) (ends : List (EndKey × code.Lead)) (states es : List (StateKey × code.Lead)) → processes_of r ≤ 16 → d < 100 → AreLeads r es (made d).layer → Holds r ends states (record { ended = (made d).ended; layer = [] }) → Making d ends states es
+  pub making_start : (d : ℕ) (store : Store) (ends : List (EndKey × code.Prefixes)) (states es : List (StateRow × code.Prefixes)) → processes_of r ≤ 16 → d < 100 → AreLeads r store es (made d).layer → Holds r store ends states (record { ended = (made d).ended; layer = [] }) → Making d store ends states es
   unfolding front_at
-  making_start d ends states es few l left holds =
+  making_start d store ends states es few l left holds =
       let sound = is_front (slots r gates) same_outcome exact_outcomes same_key key_sound steps d in
       record {
         front = record { ended = (made d).ended; layer = [] };
@@ -136,13 +123,13 @@ module _ (r : Tables) (gates : Gates) (steps : ℕ) where
       next : (n : ℕ) → suc n ≡ n + 1
       next n = omega arith
 
-  pub making_next : (d : ℕ) (ends : List (EndKey × code.Lead)) (states es : List (StateKey × code.Lead)) (e : StateKey × code.Lead) (m : Making d ends states (e ∷ es)) → IsNext r e es m.leads
-  making_next d ends states es e m = next_lead r e es m.leads m.left
+  pub making_next : (d : ℕ) (store : Store) (ends : List (EndKey × code.Prefixes)) (states es : List (StateRow × code.Prefixes)) (e : StateRow × code.Prefixes) (m : Making d store ends states (e ∷ es)) → IsNext r store e es m.leads
+  making_next d store ends states es e m = next_lead r store e es m.leads m.left
 
-  pub making_more : (d : ℕ) (ends new_ends : List (EndKey × code.Lead)) (states new_states es : List (StateKey × code.Lead)) (e : StateKey × code.Lead) (m : Making d ends states (e ∷ es)) (t : Machine) → processes_of r ≤ 16 → e.0.bytes.items ≡ key_of t → t ≡ (making_next d ends states es e m).lead.state → ((f : Front Machine) → Holds r ends states f → Holds r new_ends new_states (after_choices (slots r gates) same_outcome same_key steps (record { state = t; first = e.1.first.items; count = e.1.count }) (processes_of r) f)) → Making d new_ends new_states es
+  pub making_more : (d : ℕ) (store new_store : Store) (ends new_ends : List (EndKey × code.Prefixes)) (states new_states es : List (StateRow × code.Prefixes)) (e : StateRow × code.Prefixes) (m : Making d store ends states (e ∷ es)) (t : Machine) → processes_of r ≤ 16 → KeepParts store new_store → t ≡ (making_next d store ends states es e m).lead.state → ((f : Front Machine) → Holds r store ends states f → Holds r new_store new_ends new_states (after_choices (slots r gates) same_outcome same_key steps (record { state = t; first = e.1.first.items; count = e.1.count }) (processes_of r) f)) → Making d new_store new_ends new_states es
   unfolding making_next
-  making_more d ends new_ends states new_states es e m t few key at go =
-      let n = next_lead r e es m.leads m.left in
+  making_more d store new_store ends new_ends states new_states es e m t few kept at go =
+      let n = next_lead r store e es m.leads m.left in
       let here = subst (Each (IsLead (slots r gates) same_outcome exact_outcomes same_key key_sound steps d)) n.is m.lead in
       let after = total_choices (slots r gates) same_outcome same_key steps n.lead (processes_of r) m.front in
       let words = ap words_of n.is in
@@ -151,8 +138,8 @@ module _ (r : Tables) (gates : Gates) (steps : ℕ) where
       record {
         front = after_choices (slots r gates) same_outcome same_key steps n.lead (processes_of r) m.front;
         leads = n.rest;
-        holds = subst (λ x. Holds r new_ends new_states (after_choices (slots r gates) same_outcome same_key steps x (processes_of r) m.front)) (lead_same t e.1.first.items e.1.count n.lead at n.first n.count) (go m.front m.holds);
-        left = n.left;
+        holds = subst (λ x. Holds r new_store new_ends new_states (after_choices (slots r gates) same_outcome same_key steps x (processes_of r) m.front)) (lead_same t e.1.first.items e.1.count n.lead at n.first n.count) (go m.front m.holds);
+        left = leads_on r store new_store (map keyed es) n.rest kept n.left;
         comes = ap (λ xs. after_layer (slots r gates) same_outcome same_key steps xs m.front) (sym n.is) ∙ m.comes;
         small = omega (arith, after, words, few16, old);
         sound = front_choices (slots r gates) same_outcome exact_outcomes same_key key_sound steps d n.lead (processes_of r) m.front here.0 m.sound;
@@ -160,28 +147,28 @@ module _ (r : Tables) (gates : Gates) (steps : ℕ) where
         once = once_choices (slots r gates) same_outcome exact_outcomes same_key key_sound steps n.lead (processes_of r) m.front m.once;
       }
 
-  pub making_done : (d : ℕ) (ends : List (EndKey × code.Lead)) (states : List (StateKey × code.Lead)) → Making d ends states [] → Holds r ends states (made (d + 1))
-  making_done d ends states m = subst (Holds r ends states) (ap (λ xs. after_layer (slots r gates) same_outcome same_key steps xs m.front) (sym (no_lead r m.leads m.left)) ∙ m.comes) m.holds
+  pub making_done : (d : ℕ) (store : Store) (ends : List (EndKey × code.Prefixes)) (states : List (StateRow × code.Prefixes)) → Making d store ends states [] → Holds r store ends states (made (d + 1))
+  making_done d store ends states m = subst (Holds r store ends states) (ap (λ xs. after_layer (slots r gates) same_outcome same_key steps xs m.front) (sym (no_lead r store m.leads m.left)) ∙ m.comes) m.holds
 
-  pub making_many : (d most : ℕ) (ends : List (EndKey × code.Lead)) (states left : List (StateKey × code.Lead)) → most < length states → Making d ends states left → HasTooManyStates (slots r gates) steps most (d + 1)
-  making_many d most ends states left l m =
-      let n = leads_length r states m.front.layer m.holds.layer in
+  pub making_many : (d most : ℕ) (store : Store) (ends : List (EndKey × code.Prefixes)) (states left : List (StateRow × code.Prefixes)) → most < length states → Making d store ends states left → HasTooManyStates (slots r gates) steps most (d + 1)
+  making_many d most store ends states left l m =
+      let n = leads_length r store states m.front.layer m.holds.layer in
       subst (HasTooManyStates (slots r gates) steps most) (next d) (states_many (slots r gates) same_outcome exact_outcomes same_key key_sound key_own steps most (suc d) m.front.layer (omega (arith, l, n)) m.sound.1 m.once)
     where
       next : (n : ℕ) → suc n ≡ n + 1
       next n = omega arith
 
-  pub making_room : (d : ℕ) (ends : List (EndKey × code.Lead)) (states es : List (StateKey × code.Lead)) (e : StateKey × code.Lead) → d < 100 → Making d ends states (e ∷ es) → length e.1.first.items < 100
-  making_room d ends states es e l m =
-      let n = next_lead r e es m.leads m.left in
+  pub making_room : (d : ℕ) (store : Store) (ends : List (EndKey × code.Prefixes)) (states es : List (StateRow × code.Prefixes)) (e : StateRow × code.Prefixes) → d < 100 → Making d store ends states (e ∷ es) → length e.1.first.items < 100
+  making_room d store ends states es e l m =
+      let n = next_lead r store e es m.leads m.left in
       let here = subst (Each (IsLead (slots r gates) same_outcome exact_outcomes same_key key_sound steps d)) n.is m.lead in
       let size = here.0.0 in
       let same = ap length n.first in
       omega (arith, l, size, same)
 
-  pub making_small : (d : ℕ) (ends : List (EndKey × code.Lead)) (states es : List (StateKey × code.Lead)) (e : StateKey × code.Lead) → Making d ends states (e ∷ es) → (f : Front Machine) × Holds r ends states f × (total f + 16 * e.1.count < 10 ^ 126)
-  making_small d ends states es e m =
-      let n = next_lead r e es m.leads m.left in
+  pub making_small : (d : ℕ) (store : Store) (ends : List (EndKey × code.Prefixes)) (states es : List (StateRow × code.Prefixes)) (e : StateRow × code.Prefixes) → Making d store ends states (e ∷ es) → (f : Front Machine) × Holds r store ends states f × (total f + 16 * e.1.count < 10 ^ 126)
+  making_small d store ends states es e m =
+      let n = next_lead r store e es m.leads m.left in
       let words = ap words_of n.is in
       let same = n.count in
       let old = m.small in
@@ -189,18 +176,18 @@ module _ (r : Tables) (gates : Gates) (steps : ℕ) where
 
   -- ---- the last layer
 
-  pub record Ending (choices : ℕ) (ends : List (EndKey × code.Lead)) (rest : List (StateKey × code.Lead)) : Type 0 where
+  pub record Ending (choices : ℕ) (store : Store) (ends : List (EndKey × code.Prefixes)) (rest : List (StateRow × code.Prefixes)) : Type 0 where
     pub tallies : List Tally
     pub leads : List (Lead Machine)
     pub ended : AreEnds ends tallies
-    pub left : AreLeads r rest leads
+    pub left : AreLeads r store rest leads
     pub comes : at_limit (slots r gates) same_outcome leads tallies ≡ by_layers (slots r gates) same_outcome same_key choices steps
     pub small : counts tallies + words_of leads < 10 ^ 126
     pub lead : Each (IsLead (slots r gates) same_outcome exact_outcomes same_key key_sound steps choices) leads
 
-  pub ending_start : (choices : ℕ) (ends : List (EndKey × code.Lead)) (es : List (StateKey × code.Lead)) → processes_of r ≤ 16 → choices ≤ 100 → AreLeads r es (made choices).layer → AreEnds ends (made choices).ended → Ending choices ends es
+  pub ending_start : (choices : ℕ) (store : Store) (ends : List (EndKey × code.Prefixes)) (es : List (StateRow × code.Prefixes)) → processes_of r ≤ 16 → choices ≤ 100 → AreLeads r store es (made choices).layer → AreEnds ends (made choices).ended → Ending choices store ends es
   unfolding by_layers
-  ending_start choices ends es few l left ended =
+  ending_start choices store ends es few l left ended =
       let t = total_at (slots r gates) same_outcome same_key steps few choices in
       let p : 16 ^ choices ≤ 16 ^ 100 = pow-le-pow_right {n = 16} (omega arith) {i = choices} {j = 100} l in
       let b = below in
@@ -214,13 +201,13 @@ module _ (r : Tables) (gates : Gates) (steps : ℕ) where
         lead = (is_front (slots r gates) same_outcome exact_outcomes same_key key_sound steps choices).1;
       }
 
-  pub ending_next : (choices : ℕ) (ends : List (EndKey × code.Lead)) (es : List (StateKey × code.Lead)) (e : StateKey × code.Lead) (m : Ending choices ends (e ∷ es)) → IsNext r e es m.leads
-  ending_next choices ends es e m = next_lead r e es m.leads m.left
+  pub ending_next : (choices : ℕ) (store : Store) (ends : List (EndKey × code.Prefixes)) (es : List (StateRow × code.Prefixes)) (e : StateRow × code.Prefixes) (m : Ending choices store ends (e ∷ es)) → IsNext r store e es m.leads
+  ending_next choices store ends es e m = next_lead r store e es m.leads m.left
 
-  pub ending_more : (choices : ℕ) (ends new_ends : List (EndKey × code.Lead)) (es : List (StateKey × code.Lead)) (e : StateKey × code.Lead) (m : Ending choices ends (e ∷ es)) (o : List Shown) (w : List ℕ) → o ≡ output_of (ending_next choices ends es e m).lead.state → w ≡ e.1.first.items → ((ts : List Tally) → AreEnds ends ts → AreEnds new_ends (with_tally same_outcome ts (limited w o e.1.count))) → Ending choices new_ends es
+  pub ending_more : (choices : ℕ) (store new_store : Store) (ends new_ends : List (EndKey × code.Prefixes)) (es : List (StateRow × code.Prefixes)) (e : StateRow × code.Prefixes) (m : Ending choices store ends (e ∷ es)) (o : List Shown) (w : List ℕ) → new_store ≡ store → o ≡ output_of (ending_next choices store ends es e m).lead.state → w ≡ e.1.first.items → ((ts : List Tally) → AreEnds ends ts → AreEnds new_ends (with_tally same_outcome ts (limited w o e.1.count))) → Ending choices new_store new_ends es
   unfolding ending_next
-  ending_more choices ends new_ends es e m o w at word go =
-      let n = next_lead r e es m.leads m.left in
+  ending_more choices store new_store ends new_ends es e m o w same at word go =
+      let n = next_lead r store e es m.leads m.left in
       let here = subst (Each (IsLead (slots r gates) same_outcome exact_outcomes same_key key_sound steps choices)) n.is m.lead in
       let is : limited w o e.1.count ≡ limit_tally n.lead = limit_same w o e.1.count n.lead (word ∙ n.first) at n.count in
       let words = ap words_of n.is in
@@ -230,26 +217,26 @@ module _ (r : Tables) (gates : Gates) (steps : ℕ) where
         tallies = with_tally same_outcome m.tallies (limit_tally n.lead);
         leads = n.rest;
         ended = subst (λ t. AreEnds new_ends (with_tally same_outcome m.tallies t)) is (go m.tallies m.ended);
-        left = n.left;
+        left = subst (λ (s : Store). AreLeads r s es n.rest) (sym same) n.left;
         comes = ap (λ xs. at_limit (slots r gates) same_outcome xs m.tallies) (sym n.is) ∙ m.comes;
         small = omega (arith, words, more, old);
         lead = here.1;
       }
 
-  pub ending_done : (choices : ℕ) (ends : List (EndKey × code.Lead)) → Ending choices ends [] → AreEnds ends (by_layers (slots r gates) same_outcome same_key choices steps)
-  ending_done choices ends m = subst (AreEnds ends) (ap (λ xs. at_limit (slots r gates) same_outcome xs m.tallies) (sym (no_lead r m.leads m.left)) ∙ m.comes) m.ended
+  pub ending_done : (choices : ℕ) (store : Store) (ends : List (EndKey × code.Prefixes)) → Ending choices store ends [] → AreEnds ends (by_layers (slots r gates) same_outcome same_key choices steps)
+  ending_done choices store ends m = subst (AreEnds ends) (ap (λ xs. at_limit (slots r gates) same_outcome xs m.tallies) (sym (no_lead r store m.leads m.left)) ∙ m.comes) m.ended
 
-  pub ending_small : (choices : ℕ) (ends : List (EndKey × code.Lead)) (es : List (StateKey × code.Lead)) (e : StateKey × code.Lead) → Ending choices ends (e ∷ es) → (ts : List Tally) × AreEnds ends ts × (counts ts + e.1.count < 10 ^ 126)
-  ending_small choices ends es e m =
-      let n = next_lead r e es m.leads m.left in
+  pub ending_small : (choices : ℕ) (store : Store) (ends : List (EndKey × code.Prefixes)) (es : List (StateRow × code.Prefixes)) (e : StateRow × code.Prefixes) → Ending choices store ends (e ∷ es) → (ts : List Tally) × AreEnds ends ts × (counts ts + e.1.count < 10 ^ 126)
+  ending_small choices store ends es e m =
+      let n = next_lead r store e es m.leads m.left in
       let words = ap words_of n.is in
       let same = n.count in
       let old = m.small in
       (m.tallies, m.ended, omega (arith, words, same, old))
 
-  pub ending_room : (choices : ℕ) (ends : List (EndKey × code.Lead)) (es : List (StateKey × code.Lead)) (e : StateKey × code.Lead) → choices ≤ 100 → Ending choices ends (e ∷ es) → length e.1.first.items ≤ 100
-  ending_room choices ends es e l m =
-      let n = next_lead r e es m.leads m.left in
+  pub ending_room : (choices : ℕ) (store : Store) (ends : List (EndKey × code.Prefixes)) (es : List (StateRow × code.Prefixes)) (e : StateRow × code.Prefixes) → choices ≤ 100 → Ending choices store ends (e ∷ es) → length e.1.first.items ≤ 100
+  ending_room choices store ends es e l m =
+      let n = next_lead r store e es m.leads m.left in
       let here = subst (Each (IsLead (slots r gates) same_outcome exact_outcomes same_key key_sound steps choices)) n.is m.lead in
       let size = here.0.0 in
       let same = ap length n.first in

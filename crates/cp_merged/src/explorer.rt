@@ -1,9 +1,10 @@
 //! The outcomes of all schedules.
 
 ghost use Rattle.std.specs.Prelude.{◌≡◌, ◌+◌, ◌^◌, ◌<◌, ◌≤◌, [], length, map, IfOk, IfErr};
-ghost use Rattle.cp_machine.specs.System.{IsStateOf};
+ghost use Rattle.cp_machine.specs.System.{machine_of, IsStateOf};
 ghost use Rattle.cp_run.specs.Slots.{slots};
 ghost use Rattle.cp_run.specs.Table.{table};
+ghost use Rattle.cp_states.specs.Rows.{IsRowOf};
 ghost use Rattle.cp_walk.specs.Report.{same_outcome};
 ghost use Rattle.cp_merged.specs.Code.{end_of, tally_of};
 ghost use Rattle.cp_merged.specs.Holds.{same_key, AreEnds};
@@ -14,17 +15,17 @@ ghost use Rattle.cp_merged.specs.Told.{rows_in};
 ghost use Rattle.cp_merged.specs.TooMany.{FitsBefore, IsDueFault};
 
 use crate::fault::MergeFault;
-use crate::front::{Ends, Front, MOST_OUTCOMES};
+use crate::frontier::{Ends, Frontier, MOST_OUTCOMES};
 use crate::layering::{end_layer, next_layer};
-use crate::lead::Lead;
 use crate::ordered::sorted;
+use crate::prefixes::Prefixes;
 use crate::tallies::Tallies;
 use crate::word::Word;
-use cp_key::Parts;
 use cp_machine::{Moved, State, Ticks};
 use cp_natural::Natural;
 use cp_run::{Limits, open};
 use cp_slots::Resolved;
+use cp_states::Row;
 use cp_walk::Job;
 use std::alloc::Global;
 use std::marker::Brand;
@@ -72,63 +73,73 @@ fn ends_of<S: Ledger, C: Ledger>(
 {
     let mut steps: Ticks<S> = Ticks::new(steps);
     let mut calls: Ticks<C> = Ticks::new(calls);
-    let mut front = Front::new(alloc);
-    let mut state = first_layer(
-        alloc, program, limits, most, &mut front, &mut steps, &mut calls,
+    let mut frontier = Frontier::new(alloc);
+    let (mut state, mut row) = first_layer(
+        alloc,
+        program,
+        limits,
+        most,
+        &mut frontier,
+        &mut steps,
+        &mut calls,
     )?;
     let Ok(mut next) = state.copy(alloc) else {
         return Err(MergeFault::Memory);
     };
     for depth in 0..limits.choices {
         one_layer(
-            alloc, program, limits, most, depth, &mut state, &mut next, &mut front, &mut steps,
+            alloc,
+            program,
+            limits,
+            most,
+            depth,
+            &mut state,
+            &mut row,
+            &mut next,
+            &mut frontier,
+            &mut steps,
             &mut calls,
         )?;
     }
-    last_layer(alloc, program, limits, most, &mut state, &mut front)?;
-    Ok(front.into_ends())
+    last_layer(alloc, program, limits, most, &mut state, &mut frontier)?;
+    Ok(frontier.into_ends())
 }
 
-/// The layer of no choice, and the state that leads to it.
+/// The layer of no choice; the state that leads to it, and its row.
 fn first_layer<S: Ledger, C: Ledger>(
     alloc: Global,
     program: &Resolved,
     limits: Limits,
     most: usize,
-    front: &mut Front,
+    frontier: &mut Frontier,
     steps: &mut Ticks<S>,
     calls: &mut Ticks<C>,
-) -> Result<State, MergeFault>
-    requires ended { front.old.ended.entries ≡ [] }
-    requires layer { front.old.layer.entries ≡ [] }
-    ensures own { IfOk result (λ state. IsStateOf program.now state) }
-    ensures reached { IfOk result (λ _. Reached program.now limits.gates limits.choices limits.steps most 0 front.new.ended.entries front.new.layer.entries) }
+) -> Result<(State, Row), MergeFault>
+    requires ended { frontier.old.ended.entries ≡ [] }
+    requires layer { frontier.old.layer.entries ≡ [] }
+    ensures own { IfOk result (λ found. IsStateOf program.now found.0) }
+    ensures row { IfOk result (λ found. IsRowOf frontier.new.store found.1.numbers (machine_of found.0)) }
+    ensures reached { IfOk result (λ _. Reached program.now limits.gates limits.choices limits.steps most 0 frontier.new.store frontier.new.ended.entries frontier.new.layer.entries) }
     ensures fault { IfErr result (λ e. IsDueFault (slots program.now limits.gates) limits.choices limits.steps most e) }
 {
     let Ok(mut state) = State::start(alloc, program, limits.gates) else {
         return Err(MergeFault::Memory);
     };
     let halt = open(program, limits, &mut state, steps, calls);
-    let one = Lead {
+    let one = Prefixes {
         count: Natural::one(),
         first: Word::new(),
     };
-    let none = Parts::none();
-    let Ok(()) = front.arrive(
-        alloc,
-        &state,
-        halt,
-        &state,
-        &none,
-        &Moved::everybody(),
-        &one,
-    ) else {
+    let Ok(row) = frontier.store.row_anew(alloc, &state) else {
         return Err(MergeFault::Memory);
     };
-    if front.layer.len() > most {
+    let Ok(()) = frontier.add(alloc, &state, halt, &state, &row, &Moved::nobody(), &one) else {
+        return Err(MergeFault::Memory);
+    };
+    if frontier.layer.len() > most {
         return Err(MergeFault::TooManyStates);
     }
-    Ok(state)
+    Ok((state, row))
 }
 
 /// The layer after that of `depth` choices.
@@ -139,26 +150,29 @@ fn one_layer<S: Ledger, C: Ledger>(
     most: usize,
     depth: u8,
     state: &mut State,
+    row: &mut Row,
     next: &mut State,
-    front: &mut Front,
+    frontier: &mut Frontier,
     steps: &mut Ticks<S>,
     calls: &mut Ticks<C>,
 ) -> Result<(), MergeFault>
     requires own { IsStateOf program.now state.old }
     requires next { IsStateOf program.now next.old }
+    requires row { IsRowOf frontier.old.store row.old.numbers (machine_of state.old) }
     requires due { depth < limits.choices }
-    requires reached { Reached program.now limits.gates limits.choices limits.steps most depth front.old.ended.entries front.old.layer.entries }
+    requires reached { Reached program.now limits.gates limits.choices limits.steps most depth frontier.old.store frontier.old.ended.entries frontier.old.layer.entries }
     ensures own { IsStateOf program.now state.new }
     ensures next { IsStateOf program.now next.new }
-    ensures reached { IfOk result (λ _. Reached program.now limits.gates limits.choices limits.steps most (depth + 1) front.new.ended.entries front.new.layer.entries) }
+    ensures row { IfOk result (λ _. IsRowOf frontier.new.store row.new.numbers (machine_of state.new)) }
+    ensures reached { IfOk result (λ _. Reached program.now limits.gates limits.choices limits.steps most (depth + 1) frontier.new.store frontier.new.ended.entries frontier.new.layer.entries) }
     ensures fault { IfErr result (λ e. IsDueFault (slots program.now limits.gates) limits.choices limits.steps most e) }
 {
-    if front.ended.len() > MOST_OUTCOMES {
+    if frontier.ended.len() > MOST_OUTCOMES {
         return Err(MergeFault::TooManyOutcomes);
     }
-    let layer = front.take_layer(alloc);
+    let layer = frontier.take_layer(alloc);
     next_layer(
-        alloc, program, limits, most, depth, &layer, state, next, front, steps, calls,
+        alloc, program, limits, most, depth, &layer, state, row, next, frontier, steps, calls,
     )
 }
 
@@ -169,21 +183,21 @@ fn last_layer(
     limits: Limits,
     most: usize,
     state: &mut State,
-    front: &mut Front,
+    frontier: &mut Frontier,
 ) -> Result<(), MergeFault>
     requires own { IsStateOf program.now state.old }
-    requires reached { Reached program.now limits.gates limits.choices limits.steps most limits.choices front.old.ended.entries front.old.layer.entries }
-    ensures ended { IfOk result (λ _. AreEnds front.new.ended.entries (by_layers (slots program.now limits.gates) same_outcome same_key limits.choices limits.steps)) }
-    ensures few { IfOk result (λ _. length front.new.ended.entries ≤ 50000) }
+    requires reached { Reached program.now limits.gates limits.choices limits.steps most limits.choices frontier.old.store frontier.old.ended.entries frontier.old.layer.entries }
+    ensures ended { IfOk result (λ _. AreEnds frontier.new.ended.entries (by_layers (slots program.now limits.gates) same_outcome same_key limits.choices limits.steps)) }
+    ensures few { IfOk result (λ _. length frontier.new.ended.entries ≤ 50000) }
     ensures within { IfOk result (λ _. FitsBefore (slots program.now limits.gates) limits.choices limits.steps most (limits.choices + 1)) }
     ensures fault { IfErr result (λ e. IsDueFault (slots program.now limits.gates) limits.choices limits.steps most e) }
 {
     let _ = most;
-    let layer = front.take_layer(alloc);
-    let Ok(()) = end_layer(alloc, program, limits, state, &layer, front) else {
+    let layer = frontier.take_layer(alloc);
+    let Ok(()) = end_layer(alloc, program, limits, state, &layer, frontier) else {
         return Err(MergeFault::Memory);
     };
-    if front.ended.len() > MOST_OUTCOMES {
+    if frontier.ended.len() > MOST_OUTCOMES {
         return Err(MergeFault::TooManyOutcomes);
     }
     Ok(())

@@ -1,9 +1,9 @@
 //! From layer to layer.
 
 ghost use Rattle.std.specs.Prelude.{◌≡◌, ◌+◌, ◌*◌, ◌^◌, ◌<◌, ◌≤◌, [], true, length, IfOk, IfErr};
-ghost use Rattle.cp_key.specs.Known.{ArePartsOf};
 ghost use Rattle.cp_machine.specs.Bodies.{has_moved, KeepBodies};
 ghost use Rattle.cp_machine.specs.System.{Machine, machine_of, IsStateOf};
+ghost use Rattle.cp_states.specs.Rows.{IsRowOf, KeepParts};
 ghost use Rattle.cp_run.specs.Run.{may};
 ghost use Rattle.cp_run.specs.Slots.{slots, processes_of};
 ghost use Rattle.cp_walk.specs.Report.{same_outcome};
@@ -13,13 +13,13 @@ ghost use Rattle.cp_merged.specs.Holds.{same_key, AreLeads, AreEnds, Holds, tota
 ghost use Rattle.cp_merged.specs.TooMany.{HasTooManyStates};
 
 use crate::fault::MergeFault;
-use crate::front::{Front, Layer};
-use crate::lead::Lead;
+use crate::frontier::{Frontier, Layer};
+use crate::prefixes::Prefixes;
 use crate::word::longer;
-use cp_key::{Parts, thaw, thaw_output};
 use cp_machine::{Moved, State, Ticks};
 use cp_run::{Limits, OutcomeKind, choose, wanted};
 use cp_slots::Resolved;
+use cp_states::Row;
 use std::alloc::{AllocError, Global};
 use std::sync::ledger::Ledger;
 
@@ -29,32 +29,32 @@ fn take_choice<S: Ledger, C: Ledger>(
     program: &Resolved,
     limits: Limits,
     state: &mut State,
-    lead: &Lead,
+    prefixes: &Prefixes,
     process: u8,
     before: &State,
-    known: &Parts,
+    known: &Row,
     moved: &mut Moved,
-    front: &mut Front,
+    frontier: &mut Frontier,
     steps: &mut Ticks<S>,
     calls: &mut Ticks<C>,
 ) -> Result<(), AllocError>
     requires own { IsStateOf program.now state.old }
     requires may { may (slots program.now limits.gates) (machine_of state.old) process ≡ true }
-    requires room { length lead.now.first.items < 100 }
-    requires small { (f : layers.Front Machine) × Holds program.now front.old.ended.entries front.old.layer.entries f × (total f + lead.now.count < 10 ^ 126) }
+    requires room { length prefixes.now.first.items < 100 }
+    requires small { (f : layers.Front Machine) × Holds program.now frontier.old.store frontier.old.ended.entries frontier.old.layer.entries f × (total f + prefixes.now.count < 10 ^ 126) }
     requires copied { machine_of state.old ≡ machine_of before.now }
-    requires known { ArePartsOf known.now (machine_of before.now) }
-    requires all { length known.now.bodies.rests.items ≡ length (machine_of state.old).threads + 1 }
+    requires known { IsRowOf frontier.old.store known.now.numbers (machine_of before.now) }
     ensures own { IsStateOf program.now state.new }
-    ensures kept { KeepBodies (has_moved moved.new) (machine_of state.old) (machine_of state.new) }
-    ensures front { IfOk result (λ _. (f : layers.Front Machine) → Holds program.now front.old.ended.entries front.old.layer.entries f → Holds program.now front.new.ended.entries front.new.layer.entries (layers.after_choice (slots program.now limits.gates) same_outcome same_key limits.steps (record { state = machine_of state.old; first = lead.now.first.items; count = lead.now.count }) process f)) }
+    ensures moved { KeepBodies (has_moved moved.new) (machine_of state.old) (machine_of state.new) }
+    ensures kept { IfOk result (λ _. KeepParts frontier.old.store frontier.new.store) }
+    ensures front { IfOk result (λ _. (f : layers.Front Machine) → Holds program.now frontier.old.store frontier.old.ended.entries frontier.old.layer.entries f → Holds program.now frontier.new.store frontier.new.ended.entries frontier.new.layer.entries (layers.after_choice (slots program.now limits.gates) same_outcome same_key limits.steps (record { state = machine_of state.old; first = prefixes.now.first.items; count = prefixes.now.count }) process f)) }
 {
     let halt = choose(program, limits, state, process, moved, steps, calls);
-    let arriving = Lead {
-        count: lead.count,
-        first: longer(lead.first.as_slice(), process),
+    let arriving = Prefixes {
+        count: prefixes.count,
+        first: longer(prefixes.first.as_slice(), process),
     };
-    front.arrive(alloc, state, halt, before, known, moved, &arriving)
+    frontier.add(alloc, state, halt, before, known, moved, &arriving)
 }
 
 /// A lead goes one choice on with each process that may be chosen, in a copy of its state. `moved` are the processes whose bodies the
@@ -64,31 +64,32 @@ fn take_choices<S: Ledger, C: Ledger>(
     program: &Resolved,
     limits: Limits,
     state: &State,
-    lead: &Lead,
+    prefixes: &Prefixes,
     next: &mut State,
-    known: &Parts,
+    known: &Row,
     moved: &mut Moved,
-    front: &mut Front,
+    frontier: &mut Frontier,
     steps: &mut Ticks<S>,
     calls: &mut Ticks<C>,
 ) -> Result<(), AllocError>
     requires own { IsStateOf program.now state.now }
     requires next { IsStateOf program.now next.old }
-    requires room { length lead.now.first.items < 100 }
-    requires small { (f : layers.Front Machine) × Holds program.now front.old.ended.entries front.old.layer.entries f × (total f + 16 * lead.now.count < 10 ^ 126) }
-    requires known { ArePartsOf known.now (machine_of state.now) }
-    requires all { length known.now.bodies.rests.items ≡ length (machine_of state.now).threads + 1 }
-    requires kept { KeepBodies (has_moved moved.old) (machine_of state.now) (machine_of next.old) }
+    requires room { length prefixes.now.first.items < 100 }
+    requires small { (f : layers.Front Machine) × Holds program.now frontier.old.store frontier.old.ended.entries frontier.old.layer.entries f × (total f + 16 * prefixes.now.count < 10 ^ 126) }
+    requires known { IsRowOf frontier.old.store known.now.numbers (machine_of state.now) }
+    requires moved { KeepBodies (has_moved moved.old) (machine_of state.now) (machine_of next.old) }
     ensures next { IsStateOf program.now next.new }
-    ensures kept { KeepBodies (has_moved moved.new) (machine_of state.now) (machine_of next.new) }
-    ensures front { IfOk result (λ _. (f : layers.Front Machine) → Holds program.now front.old.ended.entries front.old.layer.entries f → Holds program.now front.new.ended.entries front.new.layer.entries (layers.after_choices (slots program.now limits.gates) same_outcome same_key limits.steps (record { state = machine_of state.now; first = lead.now.first.items; count = lead.now.count }) (processes_of program.now) f)) }
+    ensures moved { KeepBodies (has_moved moved.new) (machine_of state.now) (machine_of next.new) }
+    ensures kept { IfOk result (λ _. KeepParts frontier.old.store frontier.new.store) }
+    ensures front { IfOk result (λ _. (f : layers.Front Machine) → Holds program.now frontier.old.store frontier.old.ended.entries frontier.old.layer.entries f → Holds program.now frontier.new.store frontier.new.ended.entries frontier.new.layer.entries (layers.after_choices (slots program.now limits.gates) same_outcome same_key limits.steps (record { state = machine_of state.now; first = prefixes.now.first.items; count = prefixes.now.count }) (processes_of program.now) f)) }
 {
     let numbers = wanted(program, limits, state);
     for process in numbers.as_slice() {
         next.take_moved(state, moved);
         *moved = Moved::nobody();
         take_choice(
-            alloc, program, limits, next, lead, *process, state, known, moved, front, steps, calls,
+            alloc, program, limits, next, prefixes, *process, state, known, moved, frontier, steps,
+            calls,
         )?;
     }
     Ok(())
@@ -103,33 +104,36 @@ pub fn next_layer<S: Ledger, C: Ledger>(
     depth: u8,
     layer: &Layer,
     state: &mut State,
+    row: &mut Row,
     next: &mut State,
-    front: &mut Front,
+    frontier: &mut Frontier,
     steps: &mut Ticks<S>,
     calls: &mut Ticks<C>,
 ) -> Result<(), MergeFault>
     requires own { IsStateOf program.now state.old }
     requires next { IsStateOf program.now next.old }
+    requires row { IsRowOf frontier.old.store row.old.numbers (machine_of state.old) }
     requires due { depth < limits.choices }
-    requires layer { AreLeads program.now layer.now.entries (front_at (slots program.now limits.gates) same_outcome same_key limits.steps depth).layer }
-    requires front { Holds program.now front.old.ended.entries front.old.layer.entries (record { ended = (front_at (slots program.now limits.gates) same_outcome same_key limits.steps depth).ended; layer = [] }) }
+    requires layer { AreLeads program.now frontier.old.store layer.now.entries (front_at (slots program.now limits.gates) same_outcome same_key limits.steps depth).layer }
+    requires front { Holds program.now frontier.old.store frontier.old.ended.entries frontier.old.layer.entries (record { ended = (front_at (slots program.now limits.gates) same_outcome same_key limits.steps depth).ended; layer = [] }) }
     ensures own { IsStateOf program.now state.new }
     ensures next { IsStateOf program.now next.new }
-    ensures front { IfOk result (λ _. Holds program.now front.new.ended.entries front.new.layer.entries (front_at (slots program.now limits.gates) same_outcome same_key limits.steps (depth + 1))) }
-    ensures few { IfOk result (λ _. length front.new.layer.entries ≤ most) }
+    ensures row { IfOk result (λ _. IsRowOf frontier.new.store row.new.numbers (machine_of state.new)) }
+    ensures front { IfOk result (λ _. Holds program.now frontier.new.store frontier.new.ended.entries frontier.new.layer.entries (front_at (slots program.now limits.gates) same_outcome same_key limits.steps (depth + 1))) }
+    ensures few { IfOk result (λ _. length frontier.new.layer.entries ≤ most) }
     ensures many { IfErr result (λ e. IsStates e (HasTooManyStates (slots program.now limits.gates) limits.steps most (depth + 1))) }
 {
     let _ = depth;
-    let mut known = Parts::none();
     let mut moved = Moved::everybody();
-    for (key, lead) in layer.iter() {
-        known = thaw(key.bytes.as_slice(), &known, state, &mut moved);
+    for (key, prefixes) in layer.iter() {
+        frontier.store.take(&key.row, row, state, &mut moved);
+        *row = key.row;
         let Ok(()) = take_choices(
-            alloc, program, limits, state, lead, next, &known, &mut moved, front, steps, calls,
+            alloc, program, limits, state, prefixes, next, row, &mut moved, frontier, steps, calls,
         ) else {
             return Err(MergeFault::Memory);
         };
-        if front.layer.len() > most {
+        if frontier.layer.len() > most {
             return Err(MergeFault::TooManyStates);
         }
     }
@@ -143,18 +147,18 @@ pub fn end_layer(
     limits: Limits,
     state: &mut State,
     layer: &Layer,
-    front: &mut Front,
+    frontier: &mut Frontier,
 ) -> Result<(), AllocError>
     requires own { IsStateOf program.now state.old }
-    requires layer { AreLeads program.now layer.now.entries (front_at (slots program.now limits.gates) same_outcome same_key limits.steps limits.choices).layer }
-    requires ended { AreEnds front.old.ended.entries (front_at (slots program.now limits.gates) same_outcome same_key limits.steps limits.choices).ended }
-    ensures { IfOk result (λ _. AreEnds front.new.ended.entries (by_layers (slots program.now limits.gates) same_outcome same_key limits.choices limits.steps)) }
+    requires layer { AreLeads program.now frontier.old.store layer.now.entries (front_at (slots program.now limits.gates) same_outcome same_key limits.steps limits.choices).layer }
+    requires ended { AreEnds frontier.old.ended.entries (front_at (slots program.now limits.gates) same_outcome same_key limits.steps limits.choices).ended }
+    ensures { IfOk result (λ _. AreEnds frontier.new.ended.entries (by_layers (slots program.now limits.gates) same_outcome same_key limits.choices limits.steps)) }
 {
     let _ = program;
     let _ = limits;
-    for (key, lead) in layer.iter() {
-        thaw_output(key.bytes.as_slice(), state);
-        front.end(alloc, OutcomeKind::ChoiceLimit, state, lead)?;
+    for (key, prefixes) in layer.iter() {
+        frontier.store.take_output(&key.row, state);
+        frontier.end(alloc, OutcomeKind::ChoiceLimit, state, prefixes)?;
     }
     Ok(())
 }

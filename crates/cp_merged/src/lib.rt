@@ -4,13 +4,14 @@
 pub mod end_key;
 pub mod explorer;
 pub mod fault;
-pub mod front;
+pub mod frontier;
 pub mod laws;
 pub mod layering;
-pub mod lead;
 pub mod ordered;
+pub mod prefixes;
 pub mod report;
 pub mod state_key;
+pub mod state_row;
 pub mod tallies;
 pub mod tally;
 pub mod word;

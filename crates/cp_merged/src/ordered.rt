@@ -5,7 +5,7 @@ ghost use Rattle.std.specs.List.Sorted.{IsPermutation, IsSortedBy};
 ghost use Rattle.cp_merged.specs.Code.{end_of, tally_of, by_word};
 ghost use Rattle.cp_merged.specs.Told.{rows_in};
 
-use crate::front::Ends;
+use crate::frontier::Ends;
 use crate::tallies::Tallies;
 use crate::tally::Tally;
 use std::alloc::{AllocError, Global};
@@ -15,11 +15,11 @@ fn found(alloc: Global, ends: Ends) -> Result<Vec<Tally>, AllocError>
     ensures { IfOk result (λ v. map tally_of v.items ≡ map end_of ends.entries) }
 {
     let mut tallies = Vec::new(alloc);
-    for (key, lead) in ends {
+    for (key, prefixes) in ends {
         tallies.push(Tally {
             outcome: key.outcome,
-            count: lead.count,
-            first: lead.first,
+            count: prefixes.count,
+            first: prefixes.first,
         })?;
     }
     Ok(tallies)

@@ -14,7 +14,7 @@ pub one_layer-requires-clause-reached : goal.one_layer-requires-clause-reached
 one_layer-requires-clause-reached g c = c.loop-depth.invariant.reached
 
 pub loop-depth-preserved : goal.loop-depth-preserved
-loop-depth-preserved g c = record { own = c.one_layer.ensures.own; next = c.one_layer.ensures.next; reached = c.in_ok-one_layer.ensures.reached }
+loop-depth-preserved g c = record { own = c.one_layer.ensures.own; next = c.one_layer.ensures.next; row = c.in_ok-one_layer.ensures.row; reached = c.in_ok-one_layer.ensures.reached }
 
 pub returns-in_err-one_layer-clause-fault : goal.returns-in_err-one_layer-clause-fault
 returns-in_err-one_layer-clause-fault g c =
@@ -25,15 +25,15 @@ returns-in_err-one_layer-clause-fault g c =
 pub last_layer-requires-clause-reached : goal.last_layer-requires-clause-reached
 last_layer-requires-clause-reached g c =
     let l = c.args.limits in
-    let front = c.loop-depth.front in
+    let front = c.loop-depth.frontier in
     let same : c.loop-depth.depth ≡ l.choices = omega arith in
-    subst (λ d. Reached c.args.program.now l.gates l.choices l.steps c.args.most d front.ended.entries front.layer.entries) same c.loop-depth.invariant.reached
+    subst (λ d. Reached c.args.program.now l.gates l.choices l.steps c.args.most d front.store front.ended.entries front.layer.entries) same c.loop-depth.invariant.reached
 
 pub returns-clause-ends : goal.returns-clause-ends
 returns-clause-ends g c =
     let l = c.args.limits in
     let r = c.args.program.now in
-    ap (map end_of) c.into_ends.ensures ∙ ends_are c.last_layer.new.front.ended.entries (by_layers (slots r l.gates) same_outcome same_key l.choices l.steps) c.in_ok-last_layer.ensures.few c.in_ok-last_layer.ensures.ended
+    ap (map end_of) c.into_ends.ensures ∙ ends_are c.last_layer.new.frontier.ended.entries (by_layers (slots r l.gates) same_outcome same_key l.choices l.steps) c.in_ok-last_layer.ensures.few c.in_ok-last_layer.ensures.ended
 
 pub returns-clause-small : goal.returns-clause-small
 returns-clause-small g c =

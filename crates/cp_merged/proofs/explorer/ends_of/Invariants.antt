@@ -1,4 +1,5 @@
-use Rattle.cp_machine.specs.System.{IsStateOf}
+use Rattle.cp_machine.specs.System.{machine_of, IsStateOf}
+use Rattle.cp_states.specs.Rows.{IsRowOf}
 use Rattle.cp_merged.specs.Reached.{Reached}
 use Rattle.cp_merged.proofs.explorer.ends_of.Given as goal
 
@@ -7,5 +8,6 @@ invariant-loop-depth g l =
     record {
       own : IsStateOf l.program l.state;
       next : IsStateOf l.program l.next;
-      reached : Reached l.program l.limits.gates l.limits.choices l.limits.steps l.most l.depth l.front.ended.entries l.front.layer.entries;
+      row : IsRowOf l.frontier.store l.row.numbers (machine_of l.state);
+      reached : Reached l.program l.limits.gates l.limits.choices l.limits.steps l.most l.depth l.frontier.store l.frontier.ended.entries l.frontier.layer.entries;
     }

@@ -1,7 +1,7 @@
 use Rattle.std.proofs.Common.{◌≤◌, length}
-use Rattle.cp_key.specs.Known.{ArePartsOf}
 use Rattle.cp_machine.specs.Bodies.{has_moved, KeepBodies}
 use Rattle.cp_machine.specs.System.{machine_of, IsStateOf}
+use Rattle.cp_states.specs.Rows.{IsRowOf}
 use Rattle.cp_merged.proofs.Making.{Making}
 use Rattle.cp_merged.proofs.layering.next_layer.Given as goal
 
@@ -10,8 +10,8 @@ invariant-loop-key g l =
     record {
       own : IsStateOf l.program l.state;
       next : IsStateOf l.program l.next;
-      known : ArePartsOf l.known (machine_of l.state);
-      kept : KeepBodies (has_moved l.moved) (machine_of l.state) (machine_of l.next);
-      few : length l.front.layer.entries ≤ l.most;
-      making : Making l.program l.limits.gates l.limits.steps l.depth l.front.ended.entries l.front.layer.entries l.key-iterator;
+      row : IsRowOf l.frontier.store l.row.numbers (machine_of l.state);
+      moved : KeepBodies (has_moved l.moved) (machine_of l.state) (machine_of l.next);
+      few : length l.frontier.layer.entries ≤ l.most;
+      making : Making l.program l.limits.gates l.limits.steps l.depth l.frontier.store l.frontier.ended.entries l.frontier.layer.entries l.key-iterator;
     }

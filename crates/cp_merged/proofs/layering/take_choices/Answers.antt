@@ -4,6 +4,7 @@ use Rattle.cp_machine.specs.Bodies.{has_moved, KeepBodies}
 use Rattle.cp_machine.specs.System.{Machine, machine_of}
 use Rattle.cp_run.specs.Run.{may, those_below}
 use Rattle.cp_run.specs.Slots.{slots}
+use Rattle.cp_states.proofs.Following.{parts_on, parts_same, row_on}
 use Rattle.cp_walk.specs.Report.{same_outcome}
 use Rattle.cp_merged.specs.Layers as layers
 use Rattle.cp_merged.specs.Holds.{same_key, Holds}
@@ -25,7 +26,7 @@ pub take_choice-requires-clause-small : goal.take_choice-requires-clause-small
 take_choice-requires-clause-small g c =
     let s = machine_of c.args.state.now in
     let sys = slots c.args.program.now c.args.limits.gates in
-    let x : layers.Lead Machine = record { state = s; first = c.args.lead.now.first.items; count = c.args.lead.now.count } in
+    let x : layers.Lead Machine = record { state = s; first = c.args.prefixes.now.first.items; count = c.args.prefixes.now.count } in
     let i = c.loop-process.process-index in
     let numbers = c.as_slice-process-items.result.now in
     let f = c.requires.small.0 in
@@ -37,28 +38,43 @@ take_choice-requires-clause-small g c =
     let sixteen = c.requires.own.sound.few in
     (after_list sys same_outcome same_key c.args.limits.steps x (take i numbers) f, c.loop-process.invariant.front f c.requires.small.1, room_for_one sys same_outcome same_key c.args.limits.steps x (take i numbers) f (omega (arith, taken, lt, all, few, sixteen)) c.requires.small.2)
 
+pub take_choice-requires-clause-own : goal.take_choice-requires-clause-own
+take_choice-requires-clause-own g c = c.take_moved.ensures.own c.args.program.now c.loop-process.invariant.next c.requires.own
+
+pub loop-process-init : goal.loop-process-init
+loop-process-init g c =
+    record {
+      next = c.requires.next;
+      moved = c.requires.moved;
+      known = c.requires.known;
+      kept = parts_same c.args.frontier.now.store;
+      front = λ f h. h;
+    }
+
 pub loop-process-preserved : goal.loop-process-preserved
 loop-process-preserved g c =
     let s = machine_of c.args.state.now in
     let r = c.args.program.now in
     let sys = slots r c.args.limits.gates in
     let steps = c.args.limits.steps in
-    let word = c.args.lead.now.first.items in
-    let count = c.args.lead.now.count in
+    let word = c.args.prefixes.now.first.items in
+    let count = c.args.prefixes.now.count in
     let x : layers.Lead Machine = record { state = s; first = word; count = count } in
     let i = c.loop-process.process-index in
     let numbers = c.as_slice-process-items.result.now in
     let p = get_or numbers i 0 in
     let lt : i < length numbers = omega arith in
-    let new = c.take_choice.new.front in
+    let new = c.take_choice.new.frontier in
     record {
       next = c.take_choice.ensures.own;
-      kept = subst (λ m. KeepBodies (has_moved c.take_choice.new.moved) m (machine_of c.take_choice.new.state)) c.take_moved.ensures.same c.take_choice.ensures.kept;
+      moved = subst (λ m. KeepBodies (has_moved c.take_choice.new.moved) m (machine_of c.take_choice.new.state)) c.take_moved.ensures.same c.take_choice.ensures.moved;
+      known = row_on c.loop-process.frontier.store new.store c.args.known.now.numbers s c.in_ok-take_choice.ensures.kept c.loop-process.invariant.known;
+      kept = parts_on c.args.frontier.now.store c.loop-process.frontier.store new.store c.loop-process.invariant.kept c.in_ok-take_choice.ensures.kept;
       front = λ f h.
           (let g : layers.Front Machine = after_list sys same_outcome same_key steps x (take i numbers) f in
           let on = c.in_ok-take_choice.ensures.front g (c.loop-process.invariant.front f h) in
-          let here = subst (λ m. Holds r new.ended.entries new.layer.entries (layers.after_choice sys same_outcome same_key steps (record { state = m; first = word; count = count }) p g)) c.take_moved.ensures.same on in
-          subst (Holds r new.ended.entries new.layer.entries) (sym (list_more sys same_outcome same_key steps x (take i numbers) p f) ∙ ap (λ ps. after_list sys same_outcome same_key steps x ps f) (sym (take_more numbers i 0 lt))) here);
+          let here = subst (λ m. Holds r new.store new.ended.entries new.layer.entries (layers.after_choice sys same_outcome same_key steps (record { state = m; first = word; count = count }) p g)) c.take_moved.ensures.same on in
+          subst (Holds r new.store new.ended.entries new.layer.entries) (sym (list_more sys same_outcome same_key steps x (take i numbers) p f) ∙ ap (λ ps. after_list sys same_outcome same_key steps x ps f) (sym (take_more numbers i 0 lt))) here);
     }
 
 pub returns-clause-front : goal.returns-clause-front
@@ -67,11 +83,11 @@ returns-clause-front g c = λ f h.
     let r = c.args.program.now in
     let sys = slots r c.args.limits.gates in
     let steps = c.args.limits.steps in
-    let x : layers.Lead Machine = record { state = s; first = c.args.lead.now.first.items; count = c.args.lead.now.count } in
+    let x : layers.Lead Machine = record { state = s; first = c.args.prefixes.now.first.items; count = c.args.prefixes.now.count } in
     let i = c.loop-process.process-index in
     let numbers = c.as_slice-process-items.result.now in
-    let new = c.loop-process.front in
+    let new = c.loop-process.frontier in
     let listed : numbers ≡ those_below sys.processes (may sys s) = c.as_slice-process-items.ensures.value ∙ c.wanted-numbers.ensures in
     let whole : take i numbers ≡ numbers = take_all i numbers (omega arith) in
     let all = ap (λ ps. after_list sys same_outcome same_key steps x ps f) (whole ∙ listed) ∙ list_those sys same_outcome same_key steps x sys.processes f in
-    subst (Holds r new.ended.entries new.layer.entries) all (c.loop-process.invariant.front f h))
+    subst (Holds r new.store new.ended.entries new.layer.entries) all (c.loop-process.invariant.front f h))

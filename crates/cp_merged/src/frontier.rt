@@ -1,0 +1,180 @@
+//! Where words have arrived: at ends, and at the states of a layer.
+
+ghost use Rattle.std.specs.Prelude.{◌≡◌, ◌+◌, ◌^◌, ◌<◌, [], List, map, IfOk, IfSome, nat_eq};
+ghost use Rattle.std.specs.Map.{lookup};
+ghost use lib.Pointwise.{pointwise};
+ghost use Rattle.cp_slots.specs.Tables.{Tables};
+ghost use Rattle.cp_machine.specs.Bodies.{has_moved, KeepBodies};
+ghost use Rattle.cp_machine.specs.System.{Machine, machine_of, output_of, IsStateOf};
+ghost use Rattle.cp_machine.specs.declared.gates.Gates.{Gates};
+ghost use Rattle.cp_states.specs.Rows.{IsRowOf, KeepParts};
+ghost use Rattle.cp_run.specs.Slots.{slots};
+ghost use Rattle.cp_run.specs.Code.{node_of};
+ghost use Rattle.cp_walk.specs.Groups.{Tally};
+ghost use Rattle.cp_walk.specs.Report.{same_outcome};
+ghost use Rattle.cp_merged.specs.Layers as layers;
+ghost use Rattle.cp_merged.specs.Layers.{with_lead, with_tally, arrived};
+ghost use Rattle.cp_merged.specs.Code.{keyed, end_of};
+ghost use Rattle.cp_merged.specs.Holds.{same_key, AreLeads, AreEnds, Holds, words_of, counts, total};
+
+use crate::end_key::EndKey;
+use crate::prefixes::Prefixes;
+use crate::state_row::StateRow;
+use crate::word::word_of;
+use cp_machine::{Moved, State};
+use cp_run::{Halt, OutcomeKind, outcome_at};
+use cp_states::{Row, Store};
+use indexmap::IndexMap;
+use std::alloc::{AllocError, Global};
+use std::mem;
+
+/// The most outcomes that are kept.
+pub const MOST_OUTCOMES: usize = 50_000;
+
+/// The states of a layer.
+pub type Layer = IndexMap<StateRow, Prefixes>;
+
+/// The outcomes of the words that have ended.
+pub type Ends = IndexMap<EndKey, Prefixes>;
+
+// A state that is known takes no memory.
+fn add_row(layer: &mut Layer, key: StateRow, prefixes: &Prefixes) -> Result<(), AllocError>
+    requires { IfSome (lookup (λ k. pointwise nat_eq key.row.numbers k.row.numbers) layer.old.entries) (λ y. y.count + prefixes.now.count < 10 ^ 126) }
+    ensures { IfOk result (λ _. map keyed layer.new.entries ≡ with_lead (pointwise nat_eq) (map keyed layer.old.entries) (keyed (key, prefixes.now))) }
+{
+    match layer.get_mut(&key) {
+        Some(known) => known.merge(prefixes),
+        None => {
+            layer.insert(key, copy_of(prefixes))?;
+        }
+    }
+    Ok(())
+}
+
+// An end that is known takes no memory.
+fn add_end(ended: &mut Ends, key: EndKey, prefixes: &Prefixes) -> Result<(), AllocError>
+    requires { IfSome (lookup (λ k. same_outcome key.outcome k.outcome) ended.old.entries) (λ y. y.count + prefixes.now.count < 10 ^ 126) }
+    ensures { IfOk result (λ _. map end_of ended.new.entries ≡ with_tally same_outcome (map end_of ended.old.entries) (end_of (key, prefixes.now))) }
+{
+    match ended.get_mut(&key) {
+        Some(known) => known.merge(prefixes),
+        None => {
+            ended.insert(key, copy_of(prefixes))?;
+        }
+    }
+    Ok(())
+}
+
+fn copy_of(prefixes: &Prefixes) -> Prefixes
+    ensures { result ≡ prefixes.now }
+{
+    Prefixes {
+        count: prefixes.count,
+        first: word_of(prefixes.first.as_slice()),
+    }
+}
+
+/// Where words have arrived: the outcomes of those that have ended, and the layer that is made.
+#[derive(Drop)]
+pub struct Frontier {
+    pub ended: Ends,
+    pub layer: Layer,
+    /// The parts of all states so far.
+    pub store: Store,
+}
+
+impl Frontier {
+    /// Nothing has arrived.
+    pub fn new(alloc: Global) -> Frontier
+        ensures ended { result.ended.entries ≡ [] }
+        ensures layer { result.layer.entries ≡ [] }
+    {
+        Frontier {
+            ended: IndexMap::new(alloc),
+            layer: IndexMap::new(alloc),
+            store: Store::new(alloc),
+        }
+    }
+
+    /// The layer, in whose place an empty one begins.
+    pub fn take_layer(&mut self, alloc: Global) -> Layer
+        ensures layer { result.entries ≡ self.old.layer.entries }
+        ensures empty { self.new.layer.entries ≡ [] }
+        ensures ended { self.new.ended.entries ≡ self.old.ended.entries }
+        ensures store { self.new.store ≡ self.old.store }
+    {
+        mem::replace(&mut self.layer, IndexMap::new(alloc))
+    }
+
+    /// The outcomes.
+    pub fn into_ends(self) -> Ends
+        ensures { result.entries ≡ self.ended.entries }
+    {
+        self.ended
+    }
+
+    /// Words end in a state. Where there are too many outcomes already, nothing changes.
+    pub fn end(
+        &mut self,
+        alloc: Global,
+        kind: OutcomeKind,
+        state: &State,
+        prefixes: &Prefixes,
+    ) -> Result<(), AllocError>
+        requires { (ts : List Tally) × AreEnds self.old.ended.entries ts × (counts ts + prefixes.now.count < 10 ^ 126) }
+        ensures ended { IfOk result (λ _. (ts : List Tally) → AreEnds self.old.ended.entries ts → AreEnds self.new.ended.entries (with_tally same_outcome ts (record { first = record { word = prefixes.now.first.items; outcome = record { kind = kind; output = output_of (machine_of state.now) } }; count = prefixes.now.count }))) }
+        ensures layer { self.new.layer.entries ≡ self.old.layer.entries }
+        ensures store { self.new.store ≡ self.old.store }
+    {
+        if self.ended.len() > MOST_OUTCOMES {
+            return Ok(());
+        }
+        let outcome = outcome_at(alloc, kind, state)?;
+        add_end(&mut self.ended, EndKey { outcome }, prefixes)?;
+        Ok(())
+    }
+
+    /// A choice is due in a state that words lead to. The state before has the row `known`, and these processes moved since.
+    pub fn add_state(
+        &mut self,
+        alloc: Global,
+        state: &State,
+        before: &State,
+        known: &Row,
+        moved: &Moved,
+        prefixes: &Prefixes,
+    ) -> Result<(), AllocError>
+        requires small { (r : Tables) × (xs : List (layers.Lead Machine)) × AreLeads r self.old.store self.old.layer.entries xs × (words_of xs + prefixes.now.count < 10 ^ 126) }
+        requires known { IsRowOf self.old.store known.now.numbers (machine_of before.now) }
+        requires moved { KeepBodies (has_moved moved.now) (machine_of before.now) (machine_of state.now) }
+        ensures layer { IfOk result (λ _. (r : Tables) (xs : List (layers.Lead Machine)) → IsStateOf r state.now → AreLeads r self.old.store self.old.layer.entries xs → AreLeads r self.new.store self.new.layer.entries (with_lead same_key xs (record { state = machine_of state.now; first = prefixes.now.first.items; count = prefixes.now.count }))) }
+        ensures ended { self.new.ended.entries ≡ self.old.ended.entries }
+        ensures kept { IfOk result (λ _. KeepParts self.old.store self.new.store) }
+    {
+        let row = self.store.row_after(alloc, state, before, known, moved)?;
+        add_row(&mut self.layer, StateRow { row }, prefixes)
+    }
+
+    /// Words arrive at a state, where the run stands still.
+    pub fn add(
+        &mut self,
+        alloc: Global,
+        state: &State,
+        halt: Halt,
+        before: &State,
+        known: &Row,
+        moved: &Moved,
+        prefixes: &Prefixes,
+    ) -> Result<(), AllocError>
+        requires small { (r : Tables) × (f : layers.Front Machine) × Holds r self.old.store self.old.ended.entries self.old.layer.entries f × (total f + prefixes.now.count < 10 ^ 126) }
+        requires known { IsRowOf self.old.store known.now.numbers (machine_of before.now) }
+        requires moved { KeepBodies (has_moved moved.now) (machine_of before.now) (machine_of state.now) }
+        ensures front { IfOk result (λ _. (r : Tables) (gates : Gates) (f : layers.Front Machine) → IsStateOf r state.now → Holds r self.old.store self.old.ended.entries self.old.layer.entries f → Holds r self.new.store self.new.ended.entries self.new.layer.entries (arrived (slots r gates) same_outcome same_key prefixes.now.first.items prefixes.now.count (node_of halt (machine_of state.now)) f)) }
+        ensures kept { IfOk result (λ _. KeepParts self.old.store self.new.store) }
+    {
+        match halt {
+            Halt::Ended(kind) => self.end(alloc, kind, state, prefixes),
+            Halt::Choice => self.add_state(alloc, state, before, known, moved, prefixes),
+        }
+    }
+}

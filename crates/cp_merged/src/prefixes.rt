@@ -1,0 +1,45 @@
+//! The words that lead to one place.
+
+ghost use Rattle.std.specs.Prelude.{◌≡◌, ◌+◌, ◌^◌, ◌<◌, not};
+ghost use Rattle.cp_merged.specs.Layers.{lesser, up_to};
+
+use crate::word::{Word, word_of};
+use cp_natural::Natural;
+
+/// How many words lead to one place, and the first of them in dictionary order.
+#[derive(Drop)]
+pub struct Prefixes {
+    pub count: Natural,
+    pub first: Word,
+}
+
+impl Prefixes {
+    /// Counts other words that lead to the same place.
+    pub fn merge(&mut self, other: &Prefixes)
+        requires { self.old.count + other.now.count < 10 ^ 126 }
+        ensures count { self.new.count ≡ self.old.count + other.now.count }
+        ensures first { self.new.first.items ≡ lesser self.old.first.items other.now.first.items }
+    {
+        self.count = self.count.plus(&other.count);
+        if is_after(self.first.as_slice(), other.first.as_slice()) {
+            self.first = word_of(other.first.as_slice());
+        }
+    }
+}
+
+// Whether a word comes after another one in dictionary order. Words are short, and most differ soon.
+fn is_after(word: &[u8], other: &[u8]) -> bool
+    ensures { result ≡ not (up_to word.now other.now) }
+{
+    let count = if word.len() < other.len() {
+        word.len()
+    } else {
+        other.len()
+    };
+    for at in 0..count {
+        if word[at] != other[at] {
+            return other[at] < word[at];
+        }
+    }
+    other.len() < word.len()
+}

@@ -1,0 +1,27 @@
+//! Who is in the monitors, who waits at their gates, and which gate waits for a choice.
+
+use crate::guards::are_guards;
+use cp_machine::{Gates, Guard};
+
+/// What the monitors of a state have.
+#[derive(Drop)]
+pub struct Admission {
+    pub guards: Vec<Guard>,
+    pub pending: Option<u8>,
+    pub gates: Gates,
+}
+
+impl Admission {
+    ghost use Rattle.std.specs.Prelude.{◌≡◌, true};
+    ghost use Rattle.cp_states.specs.Admitted.{admitted_by};
+    ghost use Rattle.cp_states.specs.Gated.{gated_by};
+
+    /// Whether it is what these have.
+    #[inline(always)]
+    pub fn is(&self, guards: &[Guard], pending: Option<u8>, gates: Gates) -> bool
+        ensures one { result ≡ true → admitted_by self.now ≡ gated_by guards.now pending gates }
+        ensures same { admitted_by self.now ≡ gated_by guards.now pending gates → result ≡ true }
+    {
+        self.pending == pending && self.gates == gates && are_guards(&self.guards, guards)
+    }
+}

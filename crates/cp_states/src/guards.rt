@@ -1,0 +1,120 @@
+//! Monitors: their hashes, whether those of two states are one, and copies.
+
+ghost use Rattle.std.specs.Prelude.{◌≡◌, length, map, true, IfOk};
+ghost use Rattle.cp_machine.specs.Machine.{monitor_of};
+ghost use Rattle.cp_states.specs.Codes.{gates_code, monitor_with, monitors_with, option_code};
+ghost use Rattle.cp_states.specs.Gated.{gated_by, gated_hash};
+
+use crate::hashing::{Compared, hash_with, mixed, settled};
+use arrayvec::ArrayVec;
+use cp_machine::{Gates, Guard};
+use std::alloc::{AllocError, Global};
+
+#[inline(always)]
+fn option_number(pid: Option<u8>) -> u64
+    ensures { result ≡ option_code pid }
+{
+    match pid {
+        None => 0,
+        Some(pid) => 1 + u64::from(pid),
+    }
+}
+
+#[inline(always)]
+fn gates_number(gates: Gates) -> u64
+    ensures { result ≡ gates_code gates }
+{
+    match gates {
+        Gates::First => 0,
+        Gates::Any => 1,
+    }
+}
+
+#[inline(always)]
+fn hash_with_guard(hash: u64, guard: &Guard) -> u64
+    ensures { result ≡ monitor_with hash (monitor_of guard.now) }
+{
+    let holder = mixed(hash, option_number(guard.holder));
+    hash_with(holder, guard.line.as_slice())
+}
+
+#[inline(always)]
+fn hash_with_guards(hash: u64, guards: &[Guard]) -> u64
+    ensures { result ≡ monitors_with hash (map monitor_of guards.now) }
+{
+    let mut hash = hash;
+    for guard in guards {
+        hash = hash_with_guard(hash, guard);
+    }
+    hash
+}
+
+/// The hash of monitors, and of which gate waits for a choice.
+#[inline(always)]
+#[tactic(auto, unfolding(crate::specs::Gated::gated_hash))]
+pub fn hash_of_guards(guards: &[Guard], pending: Option<u8>, gates: Gates) -> u32
+    ensures { result ≡ gated_hash (gated_by guards.now pending gates) }
+{
+    let hash = mixed(option_number(pending), gates_number(gates));
+    settled(hash_with_guards(hash, guards))
+}
+
+// Whether two monitors are one.
+#[inline(always)]
+fn is_guard(guard: &Guard, other: &Guard) -> bool
+    ensures one { result ≡ true → monitor_of guard.now ≡ monitor_of other.now }
+    ensures same { monitor_of guard.now ≡ monitor_of other.now → result ≡ true }
+{
+    guard.holder == other.holder && Compared::are(guard.line.as_slice(), other.line.as_slice())
+}
+
+/// Whether the monitors of two lists are one.
+#[inline(always)]
+pub fn are_guards(guards: &[Guard], others: &[Guard]) -> bool
+    ensures one { result ≡ true → map monitor_of guards.now ≡ map monitor_of others.now }
+    ensures same { map monitor_of guards.now ≡ map monitor_of others.now → result ≡ true }
+{
+    if guards.len() != others.len() {
+        return false;
+    }
+    for at in 0..guards.len() {
+        if !is_guard(&guards[at], &others[at]) {
+            return false;
+        }
+    }
+    true
+}
+
+fn copy_of_guard(from: &Guard) -> Guard
+    ensures { monitor_of result ≡ monitor_of from.now }
+{
+    let mut line = ArrayVec::new();
+    if !from.line.is_empty() {
+        let _ = line.try_extend_from_slice(from.line.as_slice());
+    }
+    Guard {
+        holder: from.holder,
+        line,
+    }
+}
+
+/// Monitors once more.
+pub fn copies_of_guards(alloc: Global, from: &[Guard]) -> Result<Vec<Guard>, AllocError>
+    ensures { IfOk result (λ gs. map monitor_of gs.items ≡ map monitor_of from.now) }
+{
+    let mut guards = Vec::with_capacity(alloc, from.len())?;
+    for guard in from {
+        guards.push(copy_of_guard(guard))?;
+    }
+    Ok(guards)
+}
+
+/// Monitors become others, which are as many.
+pub fn take_guards(mine: &mut Vec<Guard>, theirs: &[Guard])
+    requires { length mine.old.items ≡ length theirs.now }
+    ensures { map monitor_of mine.new.items ≡ map monitor_of theirs.now }
+{
+    for at in 0..mine.len() {
+        mine[at] = copy_of_guard(&theirs[at]);
+    }
+}
