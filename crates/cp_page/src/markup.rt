@@ -8,13 +8,13 @@ pub const BEGIN: &str = r##"<!DOCTYPE html>
 <meta http-equiv="Content-Security-Policy" content="default-src 'none'; base-uri 'none'; form-action 'none'; style-src 'sha256-"##;
 
 /// The SHA-256 of the style sheet to the base 64.
-pub const STYLE_HASH: &str = "nM0RPcaHzCnvYX0wI+Mqm90kI8rXVk/nFJr1JP5/g7k=";
+pub const STYLE_HASH: &str = "pkaKXGmDosM+8ZDT0j3VHBSKjrED0yJ0hjuldTDOyZU=";
 
 /// Between the hashes.
 pub const BETWEEN: &str = "'; script-src 'sha256-";
 
 /// The SHA-256 of the script to the base 64.
-pub const SCRIPT_HASH: &str = "EEvHlcwc+q5UFS/CP1GxsK9gpVePAxPZtd4qoXd8wGA=";
+pub const SCRIPT_HASH: &str = "8J9HEiRUiHViT7ifEpJGRpeHv8xQawd7/hjpX3XIc3A=";
 
 /// Between the hash of the script and the style sheet.
 pub const HEAD: &str = r##"'">
