@@ -8,7 +8,7 @@ use cp_machine::State;
 use cp_run::OutcomeKind;
 use cp_slots::Resolved;
 use cp_story::{error_words, kind_words};
-use std::alloc::{AllocError, Global};
+use std::alloc::Global;
 
 /// An end where a stretch came to it: `[kind, error, process, line]`. Of a limit it is said who was going on, and where.
 pub fn end_row(
@@ -17,25 +17,20 @@ pub fn end_row(
     state: &State,
     kind: OutcomeKind,
     going: u8,
-) -> Result<Json, AllocError>
+) -> Json
     requires { IsStateOf program.now state.now }
 {
     match kind {
         OutcomeKind::StepLimit | OutcomeKind::OutputLimit => {
-            row(
-                alloc,
-                kind_words(kind),
-                "",
-                going,
-                next_line(program, state, going),
-            )
+            let line = next_line(program, state, going);
+            row(alloc, kind_words(kind), "", going, line)
         }
-        _ => outcome_row(alloc, kind),
+        _ => plain_row(alloc, kind),
     }
 }
 
-/// The end of an outcome: `[kind, error, process, line]`.
-pub fn outcome_row(alloc: Global, kind: OutcomeKind) -> Result<Json, AllocError> {
+/// An end as it is told of schedules: `[kind, error, process, line]`.
+pub fn plain_row(alloc: Global, kind: OutcomeKind) -> Json {
     match kind {
         OutcomeKind::RunError {
             name,
@@ -46,13 +41,13 @@ pub fn outcome_row(alloc: Global, kind: OutcomeKind) -> Result<Json, AllocError>
     }
 }
 
-fn row(alloc: Global, kind: &str, error: &str, process: u8, line: u32) -> Result<Json, AllocError> {
+fn row(alloc: Global, kind: &str, error: &str, process: u8, line: u32) -> Json {
     let mut row = Json::new(alloc);
-    row.open()?;
-    row.quoted(kind)?;
-    row.quoted(error)?;
-    row.number(i64::from(process))?;
-    row.number(i64::from(line))?;
-    row.close()?;
-    Ok(row)
+    row.open();
+    row.quoted(kind);
+    row.quoted(error);
+    row.number(i64::from(process));
+    row.number(i64::from(line));
+    row.close();
+    row
 }

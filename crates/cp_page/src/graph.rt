@@ -229,8 +229,8 @@ impl<'a> Graph<'a> {
     {
         match halt {
             Halt::Ended(kind) => {
-                let row = end_row(alloc, program, &state, kind, self.teller.going)?;
-                let place = self.teller.register.ends.place(&row)?;
+                let row = end_row(alloc, program, &state, kind, self.teller.going);
+                let place = self.teller.register.ends.place(&row);
                 self.edge_to(alloc, None, place)
             }
             Halt::Choice => {
@@ -299,14 +299,14 @@ impl<'a> Graph<'a> {
         place: usize,
     ) -> Result<usize, AllocError> {
         let mut row = Json::new(alloc);
-        row.open()?;
-        row.places(&self.teller.told)?;
+        row.open();
+        row.places(&self.teller.told);
         match target {
-            Some(state) => row.place(state)?,
-            None => row.below(place)?,
+            Some(state) => row.place(state),
+            None => row.below(place),
         }
-        row.close()?;
-        let edge = self.teller.register.edges.place(&row)?;
+        row.close();
+        let edge = self.teller.register.edges.place(&row);
         if edge >= self.targets.len() {
             self.targets.push(target)?;
         }
@@ -441,33 +441,35 @@ impl<'a> Graph<'a> {
     }
 
     /// The states: `[gate, [number, edge, ..]]`, where the gate is -1 if a process is chosen, and an edge -1 if the state was not gone on from.
-    pub fn rows(&self, alloc: Global) -> Result<Json, AllocError> {
+    pub fn rows(&self, alloc: Global) -> Json {
         let mut rows = Json::new(alloc);
-        rows.open()?;
+        rows.open();
         for node in &self.nodes {
-            rows.open()?;
-            match node.gate {
-                Some(monitor) => rows.number(i64::from(monitor))?,
-                None => rows.number(-1)?,
-            }
-            push_edges(&mut rows, node)?;
-            rows.close()?;
+            node.put(&mut rows);
         }
-        rows.close()?;
-        Ok(rows)
+        rows.close();
+        rows
     }
 }
 
-fn push_edges(rows: &mut Json, node: &Node) -> Result<(), AllocError> {
-    rows.open()?;
-    for (place, option) in node.options.as_slice().iter().enumerate() {
-        rows.number(i64::from(*option))?;
-        match node.edges.get(place) {
-            Some(edge) => rows.place(*edge)?,
-            None => rows.number(-1)?,
+impl Node {
+    fn put(&self, rows: &mut Json) {
+        rows.open();
+        rows.number(match self.gate {
+            Some(monitor) => i64::from(monitor),
+            None => -1,
+        });
+        rows.open();
+        for (place, option) in self.options.as_slice().iter().enumerate() {
+            rows.number(i64::from(*option));
+            match self.edges.get(place) {
+                Some(edge) => rows.place(*edge),
+                None => rows.number(-1),
+            }
         }
+        rows.close();
+        rows.close();
     }
-    rows.close()
 }
 
 fn copy_of(alloc: Global, calls: &[Vec<OpenCall>]) -> Result<Vec<Vec<OpenCall>>, AllocError> {

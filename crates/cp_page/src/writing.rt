@@ -24,7 +24,7 @@ fn with_data(alloc: Global, data: &Json) -> Result<String, AllocError> {
     for part in [BEGIN, STYLE_HASH, BETWEEN, SCRIPT_HASH, HEAD, STYLE, BODY] {
         text.push_str(part)?;
     }
-    text.push_str(data.as_str())?;
+    text.push_str(data.text()?)?;
     for part in [SCRIPT, PLAY, COUNTS, PANELS, LANES, MOVES, END] {
         text.push_str(part)?;
     }
