@@ -3,13 +3,14 @@
 ghost use Rattle.std.specs.Prelude.{◌≡◌, All, IfOk};
 ghost use Rattle.cp_machine.specs.System.{IsStateOf};
 
+use crate::endless::endless;
 use crate::graph::Graph;
 use crate::json::Json;
 use crate::keys::Merging;
 use crate::outcomes::{MOST, first_words, has_output_limit, outcome_rows, survey};
 use crate::register::Register;
 use crate::source::source_lines;
-use crate::subject::Subject;
+use crate::subject::{Length, Subject};
 use crate::teller::Teller;
 use crate::variables::kept_variables;
 use cp_legend::Legend;
@@ -36,7 +37,10 @@ pub fn data(alloc: Global, subject: Subject<'_>) -> Result<Json, AllocError> {
     put_names(&mut json, subject.legend);
     json.name("source");
     json.value(&source_lines(alloc, subject.source)?);
-    put_counted(alloc, &mut json, subject)?;
+    match subject.length {
+        Length::Limited => put_counted(alloc, &mut json, subject)?,
+        Length::Any => put_endless(alloc, &mut json, subject)?,
+    }
     json.end();
     Ok(json)
 }
@@ -76,11 +80,22 @@ fn put_tallies(
     Ok(())
 }
 
+// The graph, the ends that are possible in schedules of any length, and who may wait for ever.
+fn put_endless(alloc: Global, json: &mut Json, subject: Subject<'_>) -> Result<(), AllocError> {
+    let endless = endless(alloc, subject)?;
+    let words = endless.words(alloc)?;
+    put_graph(alloc, json, subject, Merging::WithoutOutput, &words)?;
+    endless.put(alloc, json, subject.legend)
+}
+
 fn put_limits(json: &mut Json, subject: Subject<'_>) {
     json.name("format");
     json.number(1);
     json.name("choices");
-    json.number(i64::from(subject.limits.choices));
+    match subject.length {
+        Length::Limited => json.number(i64::from(subject.limits.choices)),
+        Length::Any => json.nothing(),
+    }
     json.name("steps");
     json.number(i64::from(subject.limits.steps));
     json.name("gates");
@@ -92,6 +107,8 @@ fn put_limits(json: &mut Json, subject: Subject<'_>) {
     json.number(i64::from(subject.states));
     json.name("word");
     json.processes(subject.word);
+    json.name("round");
+    json.place(subject.round);
 }
 
 // The names and types of processes and monitors.
@@ -134,7 +151,7 @@ fn put_graph(
     words: &[Vec<u8>],
 ) -> Result<(), AllocError> {
     let teller = first_teller(alloc, subject.legend)?;
-    let mut graph = Graph::new(alloc, teller, merging);
+    let mut graph = Graph::new(alloc, teller, merging, subject.length);
     put_variables(alloc, json, subject, &mut graph.teller)?;
     put_states(alloc, json, subject, words, &mut graph)
 }

@@ -8,11 +8,14 @@ ghost use Rattle.cp_run.specs.Slots.{slots};
 use crate::ends::end_row;
 use crate::json::Json;
 use crate::keys::{Merging, key_of};
+use crate::quiet::{Led, arrival_of, quiet_choice, quiet_opening};
+use crate::subject::Length;
 use crate::teller::Teller;
 use arrayvec::ArrayVec;
+use cp_ends::end::Arrival;
 use cp_machine::{State, Ticks};
 use cp_merged::state_key::StateKey;
-use cp_run::{Halt, Limits, may, wanted};
+use cp_run::{Limits, may, wanted};
 use cp_slots::Resolved;
 use cp_story::{Observer, OpenCall};
 use indexmap::IndexMap;
@@ -38,6 +41,7 @@ struct Node {
 pub struct Graph<'a> {
     pub teller: Teller<'a>,
     merging: Merging,
+    length: Length,
     nodes: Vec<Node>,
     known: IndexMap<StateKey, usize>,
     /// The state that each edge leads to, where it leads to no end.
@@ -72,10 +76,11 @@ fn push_state(program: &Resolved, states: &mut Vec<State>, state: State) -> Resu
 
 impl<'a> Graph<'a> {
     /// A graph without states.
-    pub fn new(alloc: Global, teller: Teller<'a>, merging: Merging) -> Graph<'a> {
+    pub fn new(alloc: Global, teller: Teller<'a>, merging: Merging, length: Length) -> Graph<'a> {
         Graph {
             teller,
             merging,
+            length,
             nodes: Vec::new(alloc),
             known: IndexMap::new(alloc),
             targets: Vec::new(alloc),
@@ -99,7 +104,14 @@ impl<'a> Graph<'a> {
         let halt = self
             .teller
             .tell_opening(alloc, program, limits, &mut state, ticks, &mut observer)?;
-        self.arrive(alloc, program, limits, states, halt, state, &observer, 0)
+        let led = match self.length {
+            Length::Limited => Led {
+                arrival: arrival_of(halt),
+                state,
+            },
+            Length::Any => quiet_opening(alloc, program, limits, ticks)?,
+        };
+        self.arrive(alloc, program, limits, states, led, &observer, 0)
     }
 
     // Goes on from a state with each process that may be chosen.
@@ -177,10 +189,15 @@ impl<'a> Graph<'a> {
             ticks,
             &mut observer,
         )?;
+        let led = match self.length {
+            Length::Limited => Led {
+                arrival: arrival_of(halt),
+                state,
+            },
+            Length::Any => quiet_choice(alloc, program, limits, before, process, ticks)?,
+        };
         let depth = self.depth_of(at).saturating_add(1);
-        self.arrive(
-            alloc, program, limits, states, halt, state, &observer, depth,
-        )
+        self.arrive(alloc, program, limits, states, led, &observer, depth)
     }
 
     fn depth_of(&self, at: usize) -> u8 {
@@ -218,24 +235,23 @@ impl<'a> Graph<'a> {
         program: &Resolved,
         limits: Limits,
         states: &mut Vec<State>,
-        halt: Halt,
-        state: State,
+        led: Led,
         observer: &Observer<'a>,
         depth: u8,
     ) -> Result<usize, AllocError>
-        requires own { IsStateOf program.now state }
+        requires own { IsStateOf program.now led.state }
         requires all { All (λ s. IsStateOf program.now s) states.old.items }
         ensures { IfOk result (λ _. All (λ s. IsStateOf program.now s) states.new.items) }
     {
-        match halt {
-            Halt::Ended(kind) => {
-                let row = end_row(alloc, program, &state, kind, self.teller.going);
+        match led.arrival {
+            Arrival::End(end) => {
+                let row = end_row(alloc, program, &led.state, end, self.teller.going);
                 let place = self.teller.register.ends.place(&row);
                 self.edge_to(alloc, None, place)
             }
-            Halt::Choice => {
+            Arrival::Choice => {
                 let place = self.place_state(
-                    alloc, program, limits, states, state, observer, depth,
+                    alloc, program, limits, states, led.state, observer, depth,
                 )?;
                 self.edge_to(alloc, Some(place), place)
             }
@@ -332,7 +348,7 @@ impl<'a> Graph<'a> {
         Ok(())
     }
 
-    // Goes on from a state, if there is one at this place and fewer than K choices lead to it.
+    // Goes on from a state, if there is one at this place and fewer than K choices lead to it, where there is such a limit.
     fn explore_at<S: Ledger>(
         &mut self,
         alloc: Global,
@@ -345,7 +361,7 @@ impl<'a> Graph<'a> {
         requires { All (λ s. IsStateOf program.now s) states.old.items }
         ensures { IfOk result (λ _. All (λ s. IsStateOf program.now s) states.new.items) }
     {
-        if self.depth_of(at) >= limits.choices {
+        if self.length == Length::Limited && self.depth_of(at) >= limits.choices {
             return Ok(());
         }
         self.expand(alloc, program, limits, states, at, ticks)

@@ -158,6 +158,12 @@ impl Json {
         self.raw(if truth { "true" } else { "false" });
     }
 
+    /// `null`.
+    pub fn nothing(&mut self) {
+        self.part();
+        self.raw("null");
+    }
+
     /// Another text, as one value.
     pub fn value(&mut self, value: &Json) {
         self.part();

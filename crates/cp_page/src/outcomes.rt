@@ -9,6 +9,7 @@ ghost use Rattle.cp_merged.specs.Tallies.{tally};
 
 use crate::ends::plain_row;
 use crate::json::Json;
+use cp_ends::End;
 use cp_legend::Legend;
 use cp_machine::Shown;
 use cp_merged::{MergeFault, Tallies, Tally, explore_merged};
@@ -63,7 +64,7 @@ fn push_outcome(
     let mut count = String::new(alloc);
     push_natural(&mut count, &tally.count)?;
     rows.open();
-    rows.value(&plain_row(alloc, tally.outcome.kind));
+    rows.value(&plain_row(alloc, End::Over(tally.outcome.kind)));
     rows.quoted(output.as_str());
     rows.quoted(count.as_str());
     rows.processes(tally.first.as_slice());

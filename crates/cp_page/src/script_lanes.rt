@@ -178,6 +178,25 @@ function endWords(s) {
   return kindText(kind) + (error && ` ${error}: ${person(p)}, line ${line}`) + shown;
 }
 
+function bracket(from, to) {
+  const [top, low] = [y(from) - 8, y(to) + 8];
+  return svg("path", { d: `M9 ${low}H4V${top}H9`, class: "round", "marker-end": "url(#turn)" });
+}
+
+// A bracket at the left of each time that the round at the end is gone.
+function roundShapes(s) {
+  if (s.again >= 0 && s.again < s.rows.length) return [bracket(s.again, s.rows.length - 1)];
+  const round = roundOf(s);
+  if (!round) return [];
+  const { numbers } = round;
+  const brackets = [];
+  for (let from = round.back; from >= 0 && numbers.every((p, i) => p === s.numbers[from + i]); from -= numbers.length) {
+    const places = [...s.rows.keys()].filter(i => s.rows[i].used > from && s.rows[i].used <= from + numbers.length);
+    brackets.push(bracket(places[0], places.at(-1)));
+  }
+  return brackets;
+}
+
 function pictureOf(s, plan) {
   const { rows } = s;
   const { laneX, changeX, width, bottom } = plan;
@@ -187,15 +206,16 @@ function pictureOf(s, plan) {
   return [
     rows.map((r, i) => (i % 2 === 0 || isNow(r)) && rect(0, TOP + i * H, width, H, 0, isNow(r) ? "band at" : "band")),
     f.lives.map(([from, to], p) => svg("line", { x1: laneX(p) + 12, x2: laneX(p) + 12, y1: from, y2: to, class: "life" })),
-    monitorShapes(f, plan, s.end && s.end.kind === "all-waiting"),
+    monitorShapes(f, plan, s.end && (s.end.kind === "all-waiting" || isAlone(s.end.kind))),
     rows.map(({ event }, i) => svg("circle", { cx: laneX(event.p) + 12, cy: y(i), r: event.kind === "x" ? 3 : 4.5, class: "dot" })),
     f.labels,
     f.arrows.map(([x1, y1, x2, y2, look]) => svg("line", { x1, y1, x2, y2, class: "arrow " + look, "marker-end": "url(#tip)" })),
     rows.map((r, i) => [
-      text(8, y(i) + 4, "dim", String(i + 1)),
+      text(12, y(i) + 4, "dim", String(i + 1)),
       text(changeX, y(i) + 4, "lab", changed(r).map(([look, what], j) => svg("tspan", { class: look, dx: j ? 10 : 0 }, what))),
     ]),
     reached < rows.length && rect(0, TOP + reached * H, width, bottom - TOP - reached * H + 30, 0, "ahead"),
+    roundShapes(s),
     headShapes(plan),
     s.end && text(26, bottom + 44, "loud ended " + s.end.kind, endWords(s)),
     rows.map((r, i) => rowShapes(r, i, width)),

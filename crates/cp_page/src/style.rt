@@ -2,9 +2,9 @@
 
 /// The style sheet.
 pub const STYLE: &str = r##"
-:root { color-scheme: light dark; --ink: #1f2933; --grey: #5a6672; --pale: #98a2ad; --ground: #ffffff; --band: #f4f6fa; --line: #d5dae1; --red: #b3261e; --green: #2e7d32; --limit: #6a7580; --mark: #fff3bf; --soft: 18%; --focus: #1a5fb4 }
+:root { color-scheme: light dark; --ink: #1f2933; --grey: #5a6672; --pale: #98a2ad; --ground: #ffffff; --band: #f4f6fa; --line: #d5dae1; --red: #b3261e; --green: #2e7d32; --limit: #6a7580; --ever: #8a5a00; --mark: #fff3bf; --soft: 18%; --focus: #1a5fb4 }
 @media screen and (prefers-color-scheme: dark) {
-  :root { --ink: #e6eaee; --grey: #a3aeb9; --pale: #75808b; --ground: #14181d; --band: #1c2229; --line: #36404a; --red: #ff8a80; --green: #7ccb80; --limit: #98a2ad; --mark: #4a4012; --soft: 24%; --focus: #8ab4f8 }
+  :root { --ink: #e6eaee; --grey: #a3aeb9; --pale: #75808b; --ground: #14181d; --band: #1c2229; --line: #36404a; --red: #ff8a80; --green: #7ccb80; --limit: #98a2ad; --ever: #e6b450; --mark: #4a4012; --soft: 24%; --focus: #8ab4f8 }
 }
 .m0 { --c: #2f6fb3 }
 .m1 { --c: #c8641b }
@@ -58,6 +58,7 @@ main > section { overflow: auto; min-height: 0; padding: 2px }
 .finished { --k: var(--green) }
 .all-waiting, .run-error { --k: var(--red) }
 .choice-limit, .step-limit, .output-limit, .beyond { --k: var(--limit) }
+.alone, .spins, .for-ever, .waits { --k: var(--ever) }
 .kind { color: var(--k); font-weight: 600 }
 small, .quiet { color: var(--grey); font-size: .88em }
 #source { margin: 0; padding: 0; list-style: none; font: .86em/1.5 ui-monospace, "DejaVu Sans Mono", monospace }
@@ -93,7 +94,12 @@ h3 { margin: 0; font-size: 1em; display: inline }
 .bar .run-error { background: repeating-linear-gradient(90deg, var(--red) 0 3px, var(--ground) 3px 5px) }
 .bar .choice-limit, .bar .step-limit, .bar .output-limit, .bar .beyond { background: radial-gradient(var(--limit) 32%, transparent 36%) 0 0 / 6px 6px }
 #end { border-width: 2px; border-color: var(--k); font-size: 1.08em }
-#end strong { color: var(--k) }
+#end strong, #round strong { color: var(--k) }
+.card.for-ever { border: 2px solid var(--k) }
+.card ul { margin: .1em 0; padding-left: 1.4em }
+.loss { display: block }
+.word { font-family: ui-monospace, "DejaVu Sans Mono", monospace }
+#can { margin: 0 0 .4em }
 .bar { width: 100% }
 footer { padding: .2em 1em; border-top: 1px solid var(--line); display: flex; gap: 1em; justify-content: space-between }
 #keys { white-space: nowrap }
@@ -105,6 +111,8 @@ svg .dim, svg text.dim { fill: var(--grey) }
 svg .ahead { fill: var(--ground); opacity: .66 }
 svg .band { fill: var(--band) }
 svg .band.at { fill: var(--mark) }
+svg .round { stroke: var(--ever); stroke-width: 2; fill: none }
+svg .round.tip { fill: var(--ever); stroke: none }
 svg .life { stroke: var(--pale); stroke-width: 1.5 }
 svg .dot { fill: var(--ink) }
 svg .arrow { stroke: var(--ink); stroke-width: 1.5; fill: none }
