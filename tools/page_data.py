@@ -14,8 +14,8 @@ def data_of(page):
 class Play:
     """A word that is played over the graph of a page, choice by choice."""
 
-    def __init__(self, data):
-        self.data, self.strings = data, data["strings"]
+    def __init__(self, data, is_brief=False):
+        self.data, self.strings, self.is_brief = data, data["strings"], is_brief
         self.status = [{"is": "ready" if p == 0 else "unstarted"} for p in range(len(data["processes"]))]
         self.holders = [None] * len(data["monitors"])
         self.lines = [[] for _ in data["monitors"]]
@@ -38,6 +38,8 @@ class Play:
 
     def follow(self, edge, choice):
         events, to = self.data["edges"][edge]
+        if self.is_brief and to < 0 and self.data["ends"][-1 - to][0] == "alone":
+            events = first_round(events)
         for place, event in enumerate(events):
             self.happen(self.data["events"][event], choice if place == 0 else None)
         if to < 0:
@@ -132,11 +134,54 @@ def event_fault(ours, theirs):
     return "" if len(ours) == len(theirs) else f"{len(ours)} events, {len(theirs)}"
 
 
-def random_plays(data, count, rng):
-    """Random ways to an end, or to where the page ends."""
+def first_round(events):
+    """The least beginning after which the rest repeats the part at its end, twice at least: what the page shows of a stretch that never ends."""
+    for end in range(1, len(events)):
+        for length in range(1, end + 1):
+            begin = end - length
+            if len(events) - begin >= 2 * length and all(events[at] == events[at - length] for at in range(end, len(events))):
+                return events[:end]
+    return events
+
+
+def played(data, word):
+    """A word that can be played, or None."""
+    play = Play(data)
+    for number in word:
+        if play.end is not None or number not in play.options() or play.is_open():
+            return None
+        play.take(number)
+    return play
+
+
+def prospects_of(data):
+    """What can come from each state: its ends as (kind, error, process, line), "for-ever" for a way without an end, "beyond" for where the page ends."""
+    ways = [[data["edges"][edge][1] if edge >= 0 else None for edge in pairs[1::2]] for _, pairs in data["nodes"]]
+    found = [{"beyond" if to is None else tuple(told(data["ends"][-1 - to])) for to in goals if to is None or to < 0} for goals in ways]
+    for node, height in enumerate(heights_of(data)):
+        if height is None:
+            found[node].add("for-ever")
+    is_done = False
+    while not is_done:
+        is_done = True
+        for node, goals in enumerate(ways):
+            more = set().union(*(found[to] for to in goals if to is not None and to >= 0))
+            if not more <= found[node]:
+                found[node] |= more
+                is_done = False
+    return found
+
+
+def told(end):
+    """An end without the line of who goes on, as it is told of schedules of any length."""
+    return [*end[:3], 0] if end[0] in ("alone", "spins") else limited(end)
+
+
+def random_plays(data, count, rng, most=60):
+    """Random ways to an end, or to where the page ends, or of so many choices."""
     for _ in range(count):
         play, word = Play(data), []
-        while play.end is None and not play.is_open():
+        while play.end is None and not play.is_open() and len(word) < most:
             word.append(rng.choice(play.options()))
             play.take(word[-1])
         yield word, play

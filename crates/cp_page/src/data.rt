@@ -3,13 +3,14 @@
 ghost use Rattle.std.specs.Prelude.{◌≡◌, All, IfOk};
 ghost use Rattle.cp_machine.specs.System.{IsStateOf};
 
+use crate::endless::endless;
 use crate::graph::Graph;
 use crate::json::Json;
 use crate::keys::Merging;
-use crate::outcomes::{MOST, has_output_limit, outcome_rows, survey};
+use crate::outcomes::{MOST, first_words, has_output_limit, outcome_rows, survey};
 use crate::register::Register;
 use crate::source::source_lines;
-use crate::subject::Subject;
+use crate::subject::{Length, Subject};
 use crate::teller::Teller;
 use crate::variables::kept_variables;
 use cp_legend::Legend;
@@ -30,27 +31,28 @@ const LAID: usize = 500;
 
 /// The data of a page.
 pub fn data(alloc: Global, subject: Subject<'_>) -> Result<Json, AllocError> {
+    let mut json = Json::new(alloc);
+    json.begin();
+    put_limits(&mut json, subject);
+    put_names(&mut json, subject.legend);
+    json.name("source");
+    json.value(&source_lines(alloc, subject.source)?);
+    match subject.length {
+        Length::Limited => put_counted(alloc, &mut json, subject)?,
+        Length::Any => put_endless(alloc, &mut json, subject)?,
+    }
+    json.end();
+    Ok(json)
+}
+
+// The graph, and the outcomes of all schedules with their counts.
+fn put_counted(alloc: Global, json: &mut Json, subject: Subject<'_>) -> Result<(), AllocError> {
     let job = Job {
         program: subject.program,
         limits: subject.limits,
     };
     let found = survey(alloc, job, LAYER)?;
-    let tallies = rows_of(&found);
-    let mut json = Json::new(alloc);
-    json.begin()?;
-    put_limits(&mut json, subject)?;
-    put_names(&mut json, subject.legend)?;
-    put_graph(alloc, &mut json, subject, tallies)?;
-    json.name("source")?;
-    json.value(&source_lines(alloc, subject.source)?)?;
-    json.name("isWhole")?;
-    json.truth(found.is_some())?;
-    json.name("more")?;
-    json.place(tallies.len().saturating_sub(MOST))?;
-    json.name("outcomes")?;
-    json.value(&outcome_rows(alloc, subject.legend, tallies)?)?;
-    json.end()?;
-    Ok(json)
+    put_tallies(alloc, json, subject, rows_of(&found), found.is_some())
 }
 
 fn rows_of(found: &Option<Tallies>) -> &[Tally] {
@@ -60,53 +62,84 @@ fn rows_of(found: &Option<Tallies>) -> &[Tally] {
     }
 }
 
-fn put_limits(json: &mut Json, subject: Subject<'_>) -> Result<(), AllocError> {
-    json.name("format")?;
-    json.number(1)?;
-    json.name("choices")?;
-    json.number(i64::from(subject.limits.choices))?;
-    json.name("steps")?;
-    json.number(i64::from(subject.limits.steps))?;
-    json.name("gates")?;
+fn put_tallies(
+    alloc: Global,
+    json: &mut Json,
+    subject: Subject<'_>,
+    tallies: &[Tally],
+    is_whole: bool,
+) -> Result<(), AllocError> {
+    let words = first_words(alloc, tallies, LAID)?;
+    put_graph(alloc, json, subject, merging_for(tallies), &words)?;
+    json.name("isWhole");
+    json.truth(is_whole);
+    json.name("more");
+    json.place(tallies.len().saturating_sub(MOST));
+    json.name("outcomes");
+    json.value(&outcome_rows(alloc, subject.legend, tallies)?);
+    Ok(())
+}
+
+// The graph, the ends that are possible in schedules of any length, and who may wait for ever.
+fn put_endless(alloc: Global, json: &mut Json, subject: Subject<'_>) -> Result<(), AllocError> {
+    let endless = endless(alloc, subject)?;
+    let words = endless.words(alloc)?;
+    put_graph(alloc, json, subject, Merging::WithoutOutput, &words)?;
+    endless.put(alloc, json, subject.legend)
+}
+
+fn put_limits(json: &mut Json, subject: Subject<'_>) {
+    json.name("format");
+    json.number(1);
+    json.name("choices");
+    match subject.length {
+        Length::Limited => json.number(i64::from(subject.limits.choices)),
+        Length::Any => json.nothing(),
+    }
+    json.name("steps");
+    json.number(i64::from(subject.limits.steps));
+    json.name("gates");
     json.quoted(match subject.limits.gates {
         Gates::First => "first",
         Gates::Any => "any",
-    })?;
-    json.name("states")?;
-    json.number(i64::from(subject.states))?;
-    json.name("word")?;
-    json.processes(subject.word)
+    });
+    json.name("states");
+    json.number(i64::from(subject.states));
+    json.name("word");
+    json.processes(subject.word);
+    json.name("round");
+    json.place(subject.round);
 }
 
 // The names and types of processes and monitors.
-fn put_names(json: &mut Json, legend: &Legend) -> Result<(), AllocError> {
-    json.name("processes")?;
-    json.open()?;
+fn put_names(json: &mut Json, legend: &Legend) {
+    json.name("processes");
+    json.open();
     for process in 0..legend.processes() {
         put_name(
             json,
             legend.process_name(process),
             legend.process_type(process),
-        )?;
+        );
     }
-    json.close()?;
-    json.name("monitors")?;
-    json.open()?;
+    json.close();
+    json.name("monitors");
+    json.open();
     for monitor in 0..legend.monitors() {
         put_name(
             json,
             legend.monitor_name(monitor),
             legend.monitor_type(monitor),
-        )?;
+        );
     }
-    json.close()
+    json.close();
 }
 
-fn put_name(json: &mut Json, name: &str, type_name: &str) -> Result<(), AllocError> {
-    json.open()?;
-    json.quoted(name)?;
-    json.quoted(type_name)?;
-    json.close()
+fn put_name(json: &mut Json, name: &str, type_name: &str) {
+    json.open();
+    json.quoted(name);
+    json.quoted(type_name);
+    json.close();
 }
 
 // The variables, the states and the edges, with the tables on which they stand.
@@ -114,40 +147,24 @@ fn put_graph(
     alloc: Global,
     json: &mut Json,
     subject: Subject<'_>,
-    tallies: &[Tally],
+    merging: Merging,
+    words: &[Vec<u8>],
 ) -> Result<(), AllocError> {
-    let mut teller = first_teller(alloc, subject.legend)?;
-    put_variables(alloc, json, subject, &mut teller)?;
-    let views = first_views(alloc, subject, &mut teller.register)?;
-    let mut graph = Graph::new(alloc, teller, merging_for(tallies));
-    put_states(alloc, json, subject, tallies, &mut graph, &views)
+    let teller = first_teller(alloc, subject.legend)?;
+    let mut graph = Graph::new(alloc, teller, merging, subject.length);
+    put_variables(alloc, json, subject, &mut graph.teller)?;
+    put_states(alloc, json, subject, words, &mut graph)
 }
 
 // A teller who has told nothing yet.
 fn first_teller(alloc: Global, legend: &Legend) -> Result<Teller<'_>, AllocError> {
     let kept = kept_variables(alloc, legend)?;
     Ok(Teller {
-        register: Register::new(alloc, legend)?,
+        register: Register::new(alloc, legend),
         kept,
         told: Vec::new(alloc),
         going: 0,
     })
-}
-
-// The states and the edges that are found, with the tables.
-fn put_states(
-    alloc: Global,
-    json: &mut Json,
-    subject: Subject<'_>,
-    tallies: &[Tally],
-    graph: &mut Graph<'_>,
-    views: &[usize],
-) -> Result<(), AllocError> {
-    let start = explored::<Brand>(alloc, subject, graph, tallies, Blank::new(1))?;
-    put_start(json, start, views)?;
-    json.name("nodes")?;
-    json.value(&graph.rows(alloc)?)?;
-    put_tables(json, &graph.teller.register)
 }
 
 // The variables that stay, with their first values.
@@ -158,18 +175,31 @@ fn put_variables(
     teller: &mut Teller<'_>,
 ) -> Result<(), AllocError> {
     let state = State::start(alloc, subject.program, subject.limits.gates)?;
-    let variables = teller.register.variables(&teller.kept, &state.permanents)?;
-    json.name("variables")?;
-    json.value(&variables)
+    let variables = teller.register.variables(&teller.kept, &state.permanents);
+    json.name("variables");
+    json.value(&variables);
+    Ok(())
 }
 
-// The edge before the first choice, and where each process stands before it is started.
-fn put_start(json: &mut Json, edge: usize, views: &[usize]) -> Result<(), AllocError> {
-    json.name("start")?;
-    json.open()?;
-    json.place(edge)?;
-    json.places(views)?;
-    json.close()
+// The states and the edges that are found, with the tables.
+fn put_states(
+    alloc: Global,
+    json: &mut Json,
+    subject: Subject<'_>,
+    words: &[Vec<u8>],
+    graph: &mut Graph<'_>,
+) -> Result<(), AllocError> {
+    let views = first_views(alloc, subject, &mut graph.teller.register)?;
+    let start = explored::<Brand>(alloc, subject, graph, words, Blank::new(1))?;
+    json.name("start");
+    json.open();
+    json.place(start);
+    json.places(&views);
+    json.close();
+    json.name("nodes");
+    json.value(&graph.rows(alloc));
+    graph.teller.register.put(json);
+    Ok(())
 }
 
 // Which states are merged where these are the outcomes.
@@ -190,17 +220,17 @@ fn first_views(
     let state = State::start(alloc, subject.program, subject.limits.gates)?;
     let mut views = Vec::new(alloc);
     for process in 0..subject.program.processes() {
-        views.push(register.place_view(subject.program, &state, process)?)?;
+        views.push(register.place_view(subject.program, &state, process))?;
     }
     Ok(views)
 }
 
-// Finds the states: the first ones, and those along the first schedules. The answer is the edge before the first choice.
+// Finds the states: the first ones, and those along words. The answer is the edge before the first choice.
 fn explored<S: Ledger>(
     alloc: Global,
     subject: Subject<'_>,
     graph: &mut Graph<'_>,
-    tallies: &[Tally],
+    words: &[Vec<u8>],
     blank: Blank,
 ) -> Result<usize, AllocError>
     requires name { blank.name ≡ S.name }
@@ -226,12 +256,12 @@ fn explored<S: Ledger>(
         subject.word,
         &mut ticks,
     )?;
-    lay_first(
+    lay_words(
         alloc,
         program,
         limits,
         graph,
-        tallies,
+        words,
         &mut states,
         most,
         start,
@@ -240,13 +270,13 @@ fn explored<S: Ledger>(
     Ok(start)
 }
 
-// Goes along the first schedules, until so many states were gone on from for them.
-fn lay_first<S: Ledger>(
+// Goes along words, until so many states were gone on from for them.
+fn lay_words<S: Ledger>(
     alloc: Global,
     program: &Resolved,
     limits: Limits,
     graph: &mut Graph<'_>,
-    tallies: &[Tally],
+    words: &[Vec<u8>],
     states: &mut Vec<State>,
     most: usize,
     start: usize,
@@ -255,21 +285,21 @@ fn lay_first<S: Ledger>(
     requires { All (λ s. IsStateOf program.now s) states.old.items }
 {
     let mut left = most;
-    for tally in tallies.get(0..LAID).unwrap_or(tallies) {
-        left = lay_tally(
-            alloc, program, limits, graph, tally, states, left, start, ticks,
+    for word in words {
+        left = lay_word(
+            alloc, program, limits, graph, word, states, left, start, ticks,
         )?;
     }
     Ok(())
 }
 
-// Goes along the first schedule of an outcome, if states may still be gone on from; the answer is how many may then.
-fn lay_tally<S: Ledger>(
+// Goes along a word, if states may still be gone on from; the answer is how many may then.
+fn lay_word<S: Ledger>(
     alloc: Global,
     program: &Resolved,
     limits: Limits,
     graph: &mut Graph<'_>,
-    tally: &Tally,
+    word: &[u8],
     states: &mut Vec<State>,
     left: usize,
     start: usize,
@@ -281,16 +311,6 @@ fn lay_tally<S: Ledger>(
     if left == 0 {
         return Ok(0);
     }
-    let word = tally.first.as_slice();
     let laid = graph.lay(alloc, program, limits, states, start, word, ticks)?;
     Ok(left.saturating_sub(laid))
-}
-
-fn put_tables(json: &mut Json, register: &Register<'_>) -> Result<(), AllocError> {
-    register.edges.put(json, "edges")?;
-    register.events.put(json, "events")?;
-    register.views.put(json, "views")?;
-    register.frames.put(json, "frames")?;
-    register.ends.put(json, "ends")?;
-    register.strings.put(json, "strings")
 }

@@ -37,18 +37,18 @@ impl<'a> Register<'a> {
             _ => event.line.unwrap_or(0),
         };
         let mut row = Json::new(self.alloc);
-        row.open()?;
-        row.quoted(told.letter)?;
-        row.number(i64::from(event.plain.process))?;
-        row.number(i64::from(line))?;
-        row.number(i64::from(told.whom))?;
-        row.place(told.text)?;
-        row.processes(event.woken.as_slice())?;
-        row.processes(event.let_in.as_slice())?;
-        row.places(&beside.changes)?;
-        row.place(beside.view)?;
-        row.close()?;
-        self.events.place(&row)
+        row.open();
+        row.quoted(told.letter);
+        row.number(i64::from(event.plain.process));
+        row.number(i64::from(line));
+        row.number(i64::from(told.whom));
+        row.place(told.text);
+        row.processes(event.woken.as_slice());
+        row.processes(event.let_in.as_slice());
+        row.places(&beside.changes);
+        row.place(beside.view);
+        row.close();
+        Ok(self.events.place(&row))
     }
 
     fn told(&mut self, event: &Event, beside: &Beside) -> Result<Told, AllocError> {
@@ -60,24 +60,24 @@ impl<'a> Register<'a> {
             } => self.call_told(if *waits { "g" } else { "e" }, *call, arguments),
             Happening::Admit(call) => self.call_told("a", *call, &[]),
             Happening::Leave(call) => {
-                let text = self.strings.place_text(beside.returned.as_str())?;
+                let text = self.strings.place_text(beside.returned.as_str());
                 Ok(about("l", call.monitor, text))
             }
-            Happening::Delay(queue, _) => self.queue_told("d", queue),
-            Happening::Continue(queue, _) => self.queue_told("c", queue),
+            Happening::Delay(queue, _) => Ok(self.queue_told("d", queue)),
+            Happening::Continue(queue, _) => Ok(self.queue_told("c", queue)),
             Happening::Start(process) => Ok(about("s", *process, beside.started)),
             Happening::Display(shown) => {
                 let mut text = String::new(self.alloc);
                 push_shown(self.legend, &mut text, *shown)?;
-                Ok(about("o", 0, self.strings.place_text(text.as_str())?))
+                Ok(about("o", 0, self.strings.place_text(text.as_str())))
             }
             Happening::End => Ok(about("x", 0, 0)),
         }
     }
 
-    fn queue_told(&mut self, letter: &'static str, queue: &Queue) -> Result<Told, AllocError> {
-        let text = self.strings.place_text(queue.name.as_str())?;
-        Ok(about(letter, queue.monitor, text))
+    fn queue_told(&mut self, letter: &'static str, queue: &Queue) -> Told {
+        let text = self.strings.place_text(queue.name.as_str());
+        about(letter, queue.monitor, text)
     }
 
     // A call by its routine and its arguments.
@@ -100,7 +100,7 @@ impl<'a> Register<'a> {
             }
             text.push(')')?;
         }
-        let text = self.strings.place_text(text.as_str())?;
+        let text = self.strings.place_text(text.as_str());
         Ok(about(letter, call.monitor, text))
     }
 }

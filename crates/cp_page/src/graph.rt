@@ -8,11 +8,14 @@ ghost use Rattle.cp_run.specs.Slots.{slots};
 use crate::ends::end_row;
 use crate::json::Json;
 use crate::keys::{Merging, key_of};
+use crate::quiet::{Led, arrival_of, quiet_choice, quiet_opening};
+use crate::subject::Length;
 use crate::teller::Teller;
 use arrayvec::ArrayVec;
+use cp_ends::end::Arrival;
 use cp_machine::{State, Ticks};
 use cp_merged::state_key::StateKey;
-use cp_run::{Halt, Limits, may, wanted};
+use cp_run::{Limits, may, wanted};
 use cp_slots::Resolved;
 use cp_story::{Observer, OpenCall};
 use indexmap::IndexMap;
@@ -38,6 +41,7 @@ struct Node {
 pub struct Graph<'a> {
     pub teller: Teller<'a>,
     merging: Merging,
+    length: Length,
     nodes: Vec<Node>,
     known: IndexMap<StateKey, usize>,
     /// The state that each edge leads to, where it leads to no end.
@@ -72,10 +76,11 @@ fn push_state(program: &Resolved, states: &mut Vec<State>, state: State) -> Resu
 
 impl<'a> Graph<'a> {
     /// A graph without states.
-    pub fn new(alloc: Global, teller: Teller<'a>, merging: Merging) -> Graph<'a> {
+    pub fn new(alloc: Global, teller: Teller<'a>, merging: Merging, length: Length) -> Graph<'a> {
         Graph {
             teller,
             merging,
+            length,
             nodes: Vec::new(alloc),
             known: IndexMap::new(alloc),
             targets: Vec::new(alloc),
@@ -99,7 +104,14 @@ impl<'a> Graph<'a> {
         let halt = self
             .teller
             .tell_opening(alloc, program, limits, &mut state, ticks, &mut observer)?;
-        self.arrive(alloc, program, limits, states, halt, state, &observer, 0)
+        let led = match self.length {
+            Length::Limited => Led {
+                arrival: arrival_of(halt),
+                state,
+            },
+            Length::Any => quiet_opening(alloc, program, limits, ticks)?,
+        };
+        self.arrive(alloc, program, limits, states, led, &observer, 0)
     }
 
     // Goes on from a state with each process that may be chosen.
@@ -177,10 +189,15 @@ impl<'a> Graph<'a> {
             ticks,
             &mut observer,
         )?;
+        let led = match self.length {
+            Length::Limited => Led {
+                arrival: arrival_of(halt),
+                state,
+            },
+            Length::Any => quiet_choice(alloc, program, limits, before, process, ticks)?,
+        };
         let depth = self.depth_of(at).saturating_add(1);
-        self.arrive(
-            alloc, program, limits, states, halt, state, &observer, depth,
-        )
+        self.arrive(alloc, program, limits, states, led, &observer, depth)
     }
 
     fn depth_of(&self, at: usize) -> u8 {
@@ -218,24 +235,23 @@ impl<'a> Graph<'a> {
         program: &Resolved,
         limits: Limits,
         states: &mut Vec<State>,
-        halt: Halt,
-        state: State,
+        led: Led,
         observer: &Observer<'a>,
         depth: u8,
     ) -> Result<usize, AllocError>
-        requires own { IsStateOf program.now state }
+        requires own { IsStateOf program.now led.state }
         requires all { All (λ s. IsStateOf program.now s) states.old.items }
         ensures { IfOk result (λ _. All (λ s. IsStateOf program.now s) states.new.items) }
     {
-        match halt {
-            Halt::Ended(kind) => {
-                let row = end_row(alloc, program, &state, kind, self.teller.going)?;
-                let place = self.teller.register.ends.place(&row)?;
+        match led.arrival {
+            Arrival::End(end) => {
+                let row = end_row(alloc, program, &led.state, end, self.teller.going);
+                let place = self.teller.register.ends.place(&row);
                 self.edge_to(alloc, None, place)
             }
-            Halt::Choice => {
+            Arrival::Choice => {
                 let place = self.place_state(
-                    alloc, program, limits, states, state, observer, depth,
+                    alloc, program, limits, states, led.state, observer, depth,
                 )?;
                 self.edge_to(alloc, Some(place), place)
             }
@@ -299,14 +315,14 @@ impl<'a> Graph<'a> {
         place: usize,
     ) -> Result<usize, AllocError> {
         let mut row = Json::new(alloc);
-        row.open()?;
-        row.places(&self.teller.told)?;
+        row.open();
+        row.places(&self.teller.told);
         match target {
-            Some(state) => row.place(state)?,
-            None => row.below(place)?,
+            Some(state) => row.place(state),
+            None => row.below(place),
         }
-        row.close()?;
-        let edge = self.teller.register.edges.place(&row)?;
+        row.close();
+        let edge = self.teller.register.edges.place(&row);
         if edge >= self.targets.len() {
             self.targets.push(target)?;
         }
@@ -332,7 +348,7 @@ impl<'a> Graph<'a> {
         Ok(())
     }
 
-    // Goes on from a state, if there is one at this place and fewer than K choices lead to it.
+    // Goes on from a state, if there is one at this place and fewer than K choices lead to it, where there is such a limit.
     fn explore_at<S: Ledger>(
         &mut self,
         alloc: Global,
@@ -345,7 +361,7 @@ impl<'a> Graph<'a> {
         requires { All (λ s. IsStateOf program.now s) states.old.items }
         ensures { IfOk result (λ _. All (λ s. IsStateOf program.now s) states.new.items) }
     {
-        if self.depth_of(at) >= limits.choices {
+        if self.length == Length::Limited && self.depth_of(at) >= limits.choices {
             return Ok(());
         }
         self.expand(alloc, program, limits, states, at, ticks)
@@ -441,33 +457,35 @@ impl<'a> Graph<'a> {
     }
 
     /// The states: `[gate, [number, edge, ..]]`, where the gate is -1 if a process is chosen, and an edge -1 if the state was not gone on from.
-    pub fn rows(&self, alloc: Global) -> Result<Json, AllocError> {
+    pub fn rows(&self, alloc: Global) -> Json {
         let mut rows = Json::new(alloc);
-        rows.open()?;
+        rows.open();
         for node in &self.nodes {
-            rows.open()?;
-            match node.gate {
-                Some(monitor) => rows.number(i64::from(monitor))?,
-                None => rows.number(-1)?,
-            }
-            push_edges(&mut rows, node)?;
-            rows.close()?;
+            node.put(&mut rows);
         }
-        rows.close()?;
-        Ok(rows)
+        rows.close();
+        rows
     }
 }
 
-fn push_edges(rows: &mut Json, node: &Node) -> Result<(), AllocError> {
-    rows.open()?;
-    for (place, option) in node.options.as_slice().iter().enumerate() {
-        rows.number(i64::from(*option))?;
-        match node.edges.get(place) {
-            Some(edge) => rows.place(*edge)?,
-            None => rows.number(-1)?,
+impl Node {
+    fn put(&self, rows: &mut Json) {
+        rows.open();
+        rows.number(match self.gate {
+            Some(monitor) => i64::from(monitor),
+            None => -1,
+        });
+        rows.open();
+        for (place, option) in self.options.as_slice().iter().enumerate() {
+            rows.number(i64::from(*option));
+            match self.edges.get(place) {
+                Some(edge) => rows.place(*edge),
+                None => rows.number(-1),
+            }
         }
+        rows.close();
+        rows.close();
     }
-    rows.close()
 }
 
 fn copy_of(alloc: Global, calls: &[Vec<OpenCall>]) -> Result<Vec<Vec<OpenCall>>, AllocError> {

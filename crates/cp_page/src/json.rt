@@ -6,11 +6,12 @@ ghost use Rattle.cp_page.specs.Escaping as spec;
 use std::alloc::{AllocError, Global};
 
 /// A text of JSON in printable ASCII, without the characters that begin a tag, end one or name a character: in a page it ends nothing and begins
-/// nothing.
+/// nothing. Where memory is refused it takes nothing more, and says so at the end.
 #[derive(Drop)]
 pub struct Json {
     alloc: Global,
     text: String,
+    is_refused: bool,
     pub ghost inert: { spec.all_inert (string_bytes text) ≡ true },
 }
 
@@ -54,139 +55,185 @@ impl Json {
         Json {
             alloc,
             text: String::new(alloc),
+            is_refused: false,
         }
     }
 
-    /// The text.
-    pub fn as_str(&self) -> &str
-        ensures { spec.all_inert result.now ≡ true }
+    /// The text, if no memory was refused.
+    pub fn text(&self) -> Result<&str, AllocError>
+        ensures { IfOk result (λ text. spec.all_inert text.now ≡ true) }
     {
-        self.text.as_str()
+        if self.is_refused {
+            return Err(AllocError);
+        }
+        Ok(self.text.as_str())
+    }
+
+    /// Memory was refused for what was to be told.
+    pub fn refuse(&mut self) {
+        self.is_refused = true;
     }
 
     // Appends signs of JSON.
-    fn raw(&mut self, signs: &str) -> Result<(), AllocError> {
-        push_signs(&mut self.text, signs)
+    fn raw(&mut self, signs: &str) {
+        if !self.is_refused && push_signs(&mut self.text, signs).is_err() {
+            self.is_refused = true;
+        }
+    }
+
+    // Appends a sign of JSON.
+    fn sign(&mut self, sign: char) {
+        if !self.is_refused && push_inert(&mut self.text, sign).is_err() {
+            self.is_refused = true;
+        }
     }
 
     // A comma, where something stands before in the same list.
-    fn part(&mut self) -> Result<(), AllocError> {
+    fn part(&mut self) {
         match self.text.as_str().as_bytes().last() {
-            None | Some(b'[') | Some(b'{') | Some(b':') => Ok(()),
+            None | Some(b'[') | Some(b'{') | Some(b':') => {}
             Some(_) => self.raw(","),
         }
     }
 
     /// Begins a list.
-    pub fn open(&mut self) -> Result<(), AllocError> {
-        self.part()?;
-        self.raw("[")
+    pub fn open(&mut self) {
+        self.part();
+        self.raw("[");
     }
 
     /// Ends a list.
-    pub fn close(&mut self) -> Result<(), AllocError> {
-        self.raw("]")
+    pub fn close(&mut self) {
+        self.raw("]");
     }
 
     /// Begins an object.
-    pub fn begin(&mut self) -> Result<(), AllocError> {
-        self.part()?;
-        self.raw("{")
+    pub fn begin(&mut self) {
+        self.part();
+        self.raw("{");
     }
 
     /// Ends an object.
-    pub fn end(&mut self) -> Result<(), AllocError> {
-        self.raw("}")
+    pub fn end(&mut self) {
+        self.raw("}");
     }
 
     /// The name of a member, whose value comes next.
-    pub fn name(&mut self, name: &str) -> Result<(), AllocError> {
-        self.quoted(name)?;
-        self.raw(":")
+    pub fn name(&mut self, name: &str) {
+        self.quoted(name);
+        self.raw(":");
     }
 
     /// A number.
-    pub fn number(&mut self, number: i64) -> Result<(), AllocError> {
-        self.part()?;
-        let digits = format!(in self.alloc; "{number}")?;
-        self.raw(digits.as_str())
+    pub fn number(&mut self, number: i64) {
+        self.part();
+        match format!(in self.alloc; "{number}") {
+            Ok(digits) => self.raw(digits.as_str()),
+            Err(_) => self.refuse(),
+        }
     }
 
     /// A place in a list.
-    pub fn place(&mut self, place: usize) -> Result<(), AllocError> {
-        self.part()?;
-        let digits = format!(in self.alloc; "{place}")?;
-        self.raw(digits.as_str())
+    pub fn place(&mut self, place: usize) {
+        self.part();
+        match format!(in self.alloc; "{place}") {
+            Ok(digits) => self.raw(digits.as_str()),
+            Err(_) => self.refuse(),
+        }
     }
 
     /// -1 less a place: below all places.
-    pub fn below(&mut self, place: usize) -> Result<(), AllocError> {
-        self.part()?;
-        let digits = format!(in self.alloc; "-{}", place.saturating_add(1))?;
-        self.raw(digits.as_str())
+    pub fn below(&mut self, place: usize) {
+        self.part();
+        self.raw("-");
+        match format!(in self.alloc; "{}", place.saturating_add(1)) {
+            Ok(digits) => self.raw(digits.as_str()),
+            Err(_) => self.refuse(),
+        }
     }
 
     /// `true` or `false`.
-    pub fn truth(&mut self, truth: bool) -> Result<(), AllocError> {
-        self.part()?;
-        self.raw(if truth { "true" } else { "false" })
+    pub fn truth(&mut self, truth: bool) {
+        self.part();
+        self.raw(if truth { "true" } else { "false" });
+    }
+
+    /// `null`.
+    pub fn nothing(&mut self) {
+        self.part();
+        self.raw("null");
     }
 
     /// Another text, as one value.
-    pub fn value(&mut self, value: &Json) -> Result<(), AllocError> {
-        self.part()?;
-        self.raw(value.as_str())
+    pub fn value(&mut self, value: &Json) {
+        self.part();
+        match value.text() {
+            Ok(text) => self.raw(text),
+            Err(_) => self.refuse(),
+        }
     }
 
     /// A list of numbers of processes.
-    pub fn processes(&mut self, processes: &[u8]) -> Result<(), AllocError> {
-        self.open()?;
+    pub fn processes(&mut self, processes: &[u8]) {
+        self.open();
         for process in processes {
-            self.number(i64::from(*process))?;
+            self.number(i64::from(*process));
         }
-        self.close()
+        self.close();
     }
 
     /// A list of places.
-    pub fn places(&mut self, places: &[usize]) -> Result<(), AllocError> {
-        self.open()?;
+    pub fn places(&mut self, places: &[usize]) {
+        self.open();
         for place in places {
-            self.place(*place)?;
+            self.place(*place);
         }
-        self.close()
+        self.close();
     }
 
     /// A text in quotes.
-    pub fn quoted(&mut self, text: &str) -> Result<(), AllocError> {
-        self.part()?;
-        self.raw("\"")?;
-        for character in text.chars() {
-            self.escaped(character)?;
+    pub fn quoted(&mut self, text: &str) {
+        self.quoted_parts(&[text]);
+    }
+
+    /// A text in quotes, which is given in parts.
+    pub fn quoted_parts(&mut self, parts: &[&str]) {
+        self.part();
+        self.raw("\"");
+        for part in parts {
+            self.letters(part);
         }
-        self.raw("\"")
+        self.raw("\"");
+    }
+
+    fn letters(&mut self, text: &str) {
+        for character in text.chars() {
+            self.escaped(character);
+        }
     }
 
     // A character of a text in quotes: as it is, or by its number.
-    fn escaped(&mut self, character: char) -> Result<(), AllocError> {
+    fn escaped(&mut self, character: char) {
         if character == '"' || character == '\\' || character == '\n' || !is_inert(character) {
             let number = u32::from(character);
             if number < 0x10000 {
-                return self.unit(number);
+                self.unit(number);
+                return;
             }
             let above = number - 0x10000;
-            self.unit(0xd800 + above / 0x400)?;
-            return self.unit(0xdc00 + above % 0x400);
+            self.unit(0xd800 + above / 0x400);
+            self.unit(0xdc00 + above % 0x400);
+            return;
         }
-        push_inert(&mut self.text, character)
+        self.sign(character);
     }
 
     // A unit of UTF-16 by its four digits.
-    fn unit(&mut self, unit: u32) -> Result<(), AllocError> {
-        self.raw("\\u")?;
+    fn unit(&mut self, unit: u32) {
+        self.raw("\\u");
         for divisor in [0x1000u32, 0x100, 0x10, 1] {
-            push_inert(&mut self.text, digit(unit / divisor % 16))?;
+            self.sign(digit(unit / divisor % 16));
         }
-        Ok(())
     }
 }
 

@@ -2,6 +2,7 @@
 #![tactic(auto)]
 
 mod data;
+mod endless;
 mod ends;
 mod events;
 mod graph;
@@ -9,6 +10,7 @@ mod json;
 mod keys;
 mod markup;
 mod outcomes;
+mod quiet;
 mod register;
 mod returned;
 mod script_counts;
@@ -16,6 +18,7 @@ mod script_lanes;
 mod script_moves;
 mod script_panels;
 mod script_play;
+mod script_rounds;
 mod source;
 mod style;
 mod subject;
@@ -25,5 +28,5 @@ mod variables;
 mod views;
 mod writing;
 
-pub use subject::Subject;
+pub use subject::{Length, Subject};
 pub use writing::page;

@@ -8,13 +8,13 @@ pub const BEGIN: &str = r##"<!DOCTYPE html>
 <meta http-equiv="Content-Security-Policy" content="default-src 'none'; base-uri 'none'; form-action 'none'; style-src 'sha256-"##;
 
 /// The SHA-256 of the style sheet to the base 64.
-pub const STYLE_HASH: &str = "nM0RPcaHzCnvYX0wI+Mqm90kI8rXVk/nFJr1JP5/g7k=";
+pub const STYLE_HASH: &str = "/bsSi82Ez+fmhyLMTaaEdavTk5Z6lMA5BvU2xMalYQo=";
 
 /// Between the hashes.
 pub const BETWEEN: &str = "'; script-src 'sha256-";
 
 /// The SHA-256 of the script to the base 64.
-pub const SCRIPT_HASH: &str = "EEvHlcwc+q5UFS/CP1GxsK9gpVePAxPZtd4qoXd8wGA=";
+pub const SCRIPT_HASH: &str = "aCPNjqt8pFQrp3KTvIN+AdOhx8qJ+AwxRvxlrPjT0VU=";
 
 /// Between the hash of the script and the style sheet.
 pub const HEAD: &str = r##"'">
@@ -46,6 +46,7 @@ pub const BODY: &str = r##"</style>
 </main>
 <svg width="0" height="0" aria-hidden="true"><defs id="patterns">
 <marker id="tip" viewBox="0 0 8 8" refX="7" refY="4" markerWidth="7" markerHeight="7" orient="auto"><path d="M0 0L8 4L0 8z" class="dot"/></marker>
+<marker id="turn" viewBox="0 0 8 8" refX="7" refY="4" markerWidth="5" markerHeight="5" orient="auto"><path d="M0 0L8 4L0 8z" class="round tip"/></marker>
 </defs></svg>
 <footer class="quiet"><span id="said" aria-live="polite" role="status"></span><span id="keys"><kbd>0</kbd> <kbd>1</kbd> .. choose, <kbd>&#8592;</kbd> back, <kbd>&#8594;</kbd> on, <kbd>Home</kbd> <kbd>End</kbd></span></footer>
 <noscript><p>This page needs JavaScript. The same can be had in words: ./show outcomes and ./show trace.</p></noscript>

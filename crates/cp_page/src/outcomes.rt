@@ -7,8 +7,9 @@ ghost use Rattle.cp_walk.specs.Report.{same_outcome};
 ghost use Rattle.cp_merged.specs.Code.{tally_of};
 ghost use Rattle.cp_merged.specs.Tallies.{tally};
 
-use crate::ends::outcome_row;
+use crate::ends::plain_row;
 use crate::json::Json;
+use cp_ends::End;
 use cp_legend::Legend;
 use cp_machine::Shown;
 use cp_merged::{MergeFault, Tallies, Tally, explore_merged};
@@ -45,13 +46,11 @@ pub fn has_output_limit(tallies: &[Tally]) -> bool {
 /// The outcomes: `[end, output, count, [number, ..]]`, the numbers those of the first schedule.
 pub fn outcome_rows(alloc: Global, legend: &Legend, tallies: &[Tally]) -> Result<Json, AllocError> {
     let mut rows = Json::new(alloc);
-    rows.open()?;
-    for (place, tally) in tallies.iter().enumerate() {
-        if place < MOST {
-            push_outcome(alloc, legend, &mut rows, tally)?;
-        }
+    rows.open();
+    for tally in tallies.get(0..MOST).unwrap_or(tallies) {
+        push_outcome(alloc, legend, &mut rows, tally)?;
     }
-    rows.close()?;
+    rows.close();
     Ok(rows)
 }
 
@@ -61,16 +60,16 @@ fn push_outcome(
     rows: &mut Json,
     tally: &Tally,
 ) -> Result<(), AllocError> {
-    rows.open()?;
-    let end = outcome_row(alloc, tally.outcome.kind)?;
-    rows.value(&end)?;
     let output = output_text(alloc, legend, tally.outcome.output.as_slice())?;
-    rows.quoted(output.as_str())?;
     let mut count = String::new(alloc);
     push_natural(&mut count, &tally.count)?;
-    rows.quoted(count.as_str())?;
-    rows.processes(tally.first.as_slice())?;
-    rows.close()
+    rows.open();
+    rows.value(&plain_row(alloc, End::Over(tally.outcome.kind)));
+    rows.quoted(output.as_str());
+    rows.quoted(count.as_str());
+    rows.processes(tally.first.as_slice());
+    rows.close();
+    Ok(())
 }
 
 // The displayed values with a space between them.
@@ -83,4 +82,17 @@ fn output_text(alloc: Global, legend: &Legend, values: &[Shown]) -> Result<Strin
         push_shown(legend, &mut text, *value)?;
     }
     Ok(text)
+}
+
+/// The first schedules of the first outcomes, up to so many.
+pub fn first_words(
+    alloc: Global,
+    tallies: &[Tally],
+    most: usize,
+) -> Result<Vec<Vec<u8>>, AllocError> {
+    let mut words = Vec::new(alloc);
+    for tally in tallies.get(0..most).unwrap_or(tallies) {
+        words.push(Vec::from_slice(alloc, tally.first.as_slice())?)?;
+    }
+    Ok(words)
 }

@@ -1,8 +1,9 @@
 //! The tables of a page, on which its graph stands.
 
+use crate::json::Json;
 use crate::table::Table;
 use cp_legend::Legend;
-use std::alloc::{AllocError, Global};
+use std::alloc::Global;
 
 /// Texts, frames, views, events, edges and ends, each once.
 #[derive(Drop)]
@@ -19,16 +20,26 @@ pub struct Register<'a> {
 
 impl<'a> Register<'a> {
     /// Empty tables.
-    pub fn new(alloc: Global, legend: &'a Legend) -> Result<Register<'a>, AllocError> {
-        Ok(Register {
+    pub fn new(alloc: Global, legend: &'a Legend) -> Register<'a> {
+        Register {
             alloc,
             legend,
-            strings: Table::new(alloc)?,
-            frames: Table::new(alloc)?,
-            views: Table::new(alloc)?,
-            events: Table::new(alloc)?,
-            edges: Table::new(alloc)?,
-            ends: Table::new(alloc)?,
-        })
+            strings: Table::new(alloc),
+            frames: Table::new(alloc),
+            views: Table::new(alloc),
+            events: Table::new(alloc),
+            edges: Table::new(alloc),
+            ends: Table::new(alloc),
+        }
+    }
+
+    /// Appends the tables.
+    pub fn put(&self, json: &mut Json) {
+        self.edges.put(json, "edges");
+        self.events.put(json, "events");
+        self.views.put(json, "views");
+        self.frames.put(json, "frames");
+        self.ends.put(json, "ends");
+        self.strings.put(json, "strings");
     }
 }

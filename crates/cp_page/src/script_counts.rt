@@ -4,7 +4,7 @@
 pub const COUNTS: &str = r##"// ---- what can still come ----
 // An outcome is a text "kind<tab>what is displayed from here on".
 
-const endText = ({ kind, error, p, line }) => error ? `${kind} ${error} process ${p} line ${line}` : kind;
+const endText = ({ kind, error, p, line }) => error ? `${kind} ${error} process ${p} line ${line}` : isAlone(kind) ? `${kind} process ${p}` : kind;
 const kindOf = outcome => outcome.split(/[ \t]/)[0];
 const RANK = Object.keys(KINDS);
 const byKind = (a, b) => RANK.indexOf(kindOf(a)) - RANK.indexOf(kindOf(b));
@@ -74,13 +74,13 @@ function behind(outcome, shown) {
 
 // ---- the outcomes of the program ----
 
-const outcomes = D.isWhole ? reported() : found();
+const outcomes = D.isWhole || isEndless ? reported() : found();
 outcomes.sort((a, b) => byKind(a.key, b.key));
 
 function reported() {
   return D.outcomes.map(([[kind, error, p, line], output, count, first]) => {
     const end = { kind, error, p, line };
-    return { end, output, count: BigInt(count), first, key: endText(end) + "\t" + output };
+    return { end, output, count: count === "" ? null : BigInt(count), first, key: endText(end) + "\t" + output };
   });
 }
 
@@ -113,7 +113,7 @@ function found() {
 // The word of an outcome with the fewest switches, of these the shortest, of these the first in dictionary order. A switch is a choice of
 // another process than the one that made the last step, where that one could be chosen. It is looked for where the page has all states.
 function simplest(outcome) {
-  if (outcome.simplest === undefined) outcome.simplest = isWholeGraph && D.isWhole ? cheapest(outcome) : null;
+  if (outcome.simplest === undefined) outcome.simplest = isWholeGraph && D.isWhole && !isEndless ? cheapest(outcome) : null;
   return outcome.simplest;
 }
 
@@ -165,6 +165,7 @@ function cheapest(outcome) {
 // Counts the ways on: with what is displayed, or by kinds alone where that is too much. Where the page has all states its own counts have
 // to be those of the program.
 function count() {
+  if (isEndless) return checkEnds();
   for (isBrief of [false, true]) {
     memo = new Map();
     room = MOST_COUNTS;

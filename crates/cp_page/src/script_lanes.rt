@@ -5,10 +5,25 @@ pub const LANES: &str = r##"// ---- the lanes of all that is laid out: what lies
 
 const H = 27;
 const TOP = 58;
-const EACH = 6.6; // The width of a letter.
+const LABEL = "12.5px";
+const LOUD = "700 13px";
 const y = i => TOP + i * H + H / 2;
-const fits = (text, width, size = EACH) => text.length * size <= width;
-const cut = (text, width) => fits(text, width) ? text : text.slice(0, Math.max(2, width / EACH - 1)) + "\u2026";
+const pen = document.createElement("canvas").getContext("2d");
+
+function widthOf(text, look = LABEL) {
+  pen.font = look + ' system-ui, "DejaVu Sans", sans-serif';
+  return pen.measureText(text).width;
+}
+
+const fits = (text, width, look) => widthOf(text, look) <= width;
+
+function cut(text, width, look) {
+  if (fits(text, width, look)) return text;
+  let end = text.length - 1;
+  while (end > 1 && !fits(text.slice(0, end) + "\u2026", width, look)) end--;
+  return text.slice(0, end) + "\u2026";
+}
+
 const text = (x, y, kind, ...what) => svg("text", { x, y, class: kind }, ...what);
 const rect = (x, y, width, height, rx, kind, more) => svg("rect", { x, y, width, height: Math.max(2, height), rx, class: kind, ...more });
 
@@ -35,13 +50,15 @@ function planOf(rows, panel, scale) {
   const n = PROCESSES.length;
   const options = Math.max(2, ...rows.map(r => r.choice ? r.choice.options.length : 0));
   const choices = 42 + 20 * options;
-  const need = 46 + 7.2 * Math.max(0, ...rows.map(r => saying(r.event)[0].length));
-  const space = (panel.clientWidth / scale - choices - 25 * MONITORS.length - 150) / n;
-  const lane = Math.max(104, Math.min(230, need, space));
+  const need = 46 + Math.max(0, ...rows.map(r => widthOf(saying(r.event)[0])));
+  const changes = Math.max(60, ...rows.map(r => 10 + widthOf(changed(r).map(c => c[1]).join("   "))));
+  const space = (panel.clientWidth / scale - choices - 25 * MONITORS.length - Math.min(changes, 150) - 18) / n;
+  const labels = [...rows.map(r => widthOf(saying(r.event).at(-1), LOUD) + 8), ...D.processes.map(([label]) => widthOf(label, LOUD) + 2)];
+  const least = Math.min(96, 34 + Math.max(...labels));
+  const lane = Math.max(least, Math.min(230, need, space));
   const laneX = p => choices + p * lane;
   const barX = m => laneX(n) + 8 + 25 * m;
   const changeX = barX(MONITORS.length) + 8;
-  const changes = Math.max(60, ...rows.map(r => 7 * changed(r).map(c => c[1]).join("  ").length));
   return { lane, laneX, barX, changeX, width: changeX + changes, bottom: TOP + rows.length * H };
 }
 
@@ -75,7 +92,7 @@ function layOut(rows, plan) {
     }
     if (kind === "s") {
       f.lives[m][0] = y(i);
-      const end = x + 7 * (2 + saying(event)[0].length);
+      const end = x + 14 + widthOf(saying(event)[0]);
       f.arrows.push([Math.min(end, laneX(p) + lane - 12), y(i), laneX(m) + 10, y(i), ""]);
     }
     if (kind === "x") f.lives[p][1] = y(i);
@@ -87,12 +104,15 @@ function layOut(rows, plan) {
 function labelOf(event, x, i, space) {
   const { kind } = event;
   const says = saying(event);
-  const size = kind === "d" ? 7.4 : EACH;
+  const size = kind === "d" ? LOUD : LABEL;
   const look = kind === "l" || kind === "x" ? "lab dim" : kind === "d" ? "lab loud" : "lab";
-  return text(x, y(i) + 4.5, look, says.find(t => fits(t, space, size)) || cut(says.at(-1), space));
+  return text(x, y(i) + 4.5, look, says.find(t => fits(t, space, size)) || cut(says.at(-1), space, size));
 }
 
-const pill = (value, x, i) => [rect(x - 2, y(i) - 9, 14 + 7 * value.length, 18, 9, "dot"), text(x + 5 + 3.5 * value.length, y(i) + 4.5, "inv", value)];
+function pill(value, x, i) {
+  const width = 14 + widthOf(value, "700 12px");
+  return [rect(x - 2, y(i) - 9, width, 18, 9, "dot"), text(x - 2 + width / 2, y(i) + 4.5, "inv", value)];
+}
 
 // [look, words] of what changed, of a monitor or of a process.
 function changed({ event: { changes } }) {
@@ -144,10 +164,10 @@ function headShapes({ lane, laneX, barX }) {
   const processes = D.processes.map(([label], p) => [
     rect(laneX(p) + 2, 26, 21, 21, 11, "dot"),
     text(laneX(p) + 12.5, 41, "inv", String(p)),
-    text(laneX(p) + 28, 41, "loud", cut(label, lane - 34)),
+    text(laneX(p) + 28, 41, "loud", cut(label, lane - 29, LOUD)),
   ]);
   const monitors = D.monitors.map(([label], m) => {
-    return svg("g", { transform: `translate(${barX(m) + 8} 50) rotate(-32)` }, text(0, 0, "changed loud " + hue(m), cut(label, 90)));
+    return svg("g", { transform: `translate(${barX(m) + 8} 50) rotate(-32)` }, text(0, 0, "changed loud " + hue(m), cut(label, 90, LOUD)));
   });
   return [processes, monitors];
 }
@@ -156,6 +176,25 @@ function endWords(s) {
   const { kind, error, p, line } = s.end;
   const shown = s.output.length ? " \u00b7 displayed " + s.output.join(" ") : "";
   return kindText(kind) + (error && ` ${error}: ${person(p)}, line ${line}`) + shown;
+}
+
+function bracket(from, to) {
+  const [top, low] = [y(from) - 8, y(to) + 8];
+  return svg("path", { d: `M9 ${low}H4V${top}H9`, class: "round", "marker-end": "url(#turn)" });
+}
+
+// A bracket at the left of each time that the round at the end is gone.
+function roundShapes(s) {
+  if (s.again >= 0 && s.again < s.rows.length) return [bracket(s.again, s.rows.length - 1)];
+  const round = roundOf(s);
+  if (!round) return [];
+  const { numbers } = round;
+  const brackets = [];
+  for (let from = round.back; from >= 0 && numbers.every((p, i) => p === s.numbers[from + i]); from -= numbers.length) {
+    const places = [...s.rows.keys()].filter(i => s.rows[i].used > from && s.rows[i].used <= from + numbers.length);
+    brackets.push(bracket(places[0], places.at(-1)));
+  }
+  return brackets;
 }
 
 function pictureOf(s, plan) {
@@ -167,15 +206,16 @@ function pictureOf(s, plan) {
   return [
     rows.map((r, i) => (i % 2 === 0 || isNow(r)) && rect(0, TOP + i * H, width, H, 0, isNow(r) ? "band at" : "band")),
     f.lives.map(([from, to], p) => svg("line", { x1: laneX(p) + 12, x2: laneX(p) + 12, y1: from, y2: to, class: "life" })),
-    monitorShapes(f, plan, s.end && s.end.kind === "all-waiting"),
+    monitorShapes(f, plan, s.end && (s.end.kind === "all-waiting" || isAlone(s.end.kind))),
     rows.map(({ event }, i) => svg("circle", { cx: laneX(event.p) + 12, cy: y(i), r: event.kind === "x" ? 3 : 4.5, class: "dot" })),
     f.labels,
     f.arrows.map(([x1, y1, x2, y2, look]) => svg("line", { x1, y1, x2, y2, class: "arrow " + look, "marker-end": "url(#tip)" })),
     rows.map((r, i) => [
-      text(8, y(i) + 4, "dim", String(i + 1)),
+      text(12, y(i) + 4, "dim", String(i + 1)),
       text(changeX, y(i) + 4, "lab", changed(r).map(([look, what], j) => svg("tspan", { class: look, dx: j ? 10 : 0 }, what))),
     ]),
     reached < rows.length && rect(0, TOP + reached * H, width, bottom - TOP - reached * H + 30, 0, "ahead"),
+    roundShapes(s),
     headShapes(plan),
     s.end && text(26, bottom + 44, "loud ended " + s.end.kind, endWords(s)),
     rows.map((r, i) => rowShapes(r, i, width)),
@@ -203,8 +243,10 @@ function wordsList(rows) {
 function showLanes(s) {
   const { rows } = s;
   const panel = $("picture");
-  const scale = parseFloat(getComputedStyle(panel).fontSize) / 15;
-  const plan = planOf(rows, panel, scale);
+  const usual = parseFloat(getComputedStyle(panel).fontSize) / 15;
+  const plan = planOf(rows, panel, usual);
+  // A picture that is a little too wide is made smaller.
+  const scale = Math.min(usual, Math.max(.8 * usual, (panel.clientWidth - 4) / plan.width));
   const picture = svg("svg", {
     width: plan.width * scale,
     height: (plan.bottom + 62) * scale,

@@ -29,17 +29,26 @@ function show(note = "") {
   showSource(s, fresh);
   $("word").value = word.join(".") || "none";
   $("first").disabled = $("back").disabled = at === 0;
-  $("forward").disabled = $("last").disabled = at === word.length;
+  const round = roundOf(s);
+  const isAgain = round && at === word.length;
+  $("last").disabled = at === word.length;
+  $("forward").disabled = at === word.length && !isAgain;
+  $("forward").textContent = isAgain ? "once more \u21bb" : "on \u2192";
+  if (focus === "again") ($("again") || document.querySelector(".go") || $("back")).focus();
   if (focus.startsWith("go")) ($(focus) || document.querySelector(".go") || $("back")).focus();
   const next = s.end ? endSentence(s.end) : "Choose " + NODES[s.node].options.join(" or ") + ".";
-  $("said").textContent = `${note}${s.used} of ${word.length} choices. ${fresh.map(r => r.words).join("; ")}. ${next}`;
+  const met = round ? ` Back in state ${s.node}, where it was ${afterChoices(round.back)}: ${roundSentences(round).join("; ")}.` : "";
+  $("said").textContent = `${note}${s.used} of ${word.length} choices. ${fresh.map(r => r.words).join("; ")}.${met} ${next}`;
   history.replaceState(null, "", `#w=${word.join(".")}${at < word.length ? "&at=" + at : ""}`);
 }
 
 const MOVES = {
   first: () => 0,
   back: () => Math.max(0, at - 1),
-  forward: () => Math.min(word.length, at + 1),
+  forward: () => {
+    if (at === word.length) word = withRound(word);
+    return Math.min(word.length, at + 1);
+  },
   last: () => word.length,
 };
 const KEYS = { Home: "first", ArrowLeft: "back", Backspace: "back", ArrowRight: "forward", End: "last" };

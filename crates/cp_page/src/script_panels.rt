@@ -96,7 +96,7 @@ function statusOf(s, p) {
 
 function endCard(s) {
   const { kind, line } = s.end;
-  const waiting = kind === "all-waiting" ? PROCESSES.filter(p => !isOver(s, p)) : [];
+  const waiting = kind === "all-waiting" || isAlone(kind) ? PROCESSES.filter(p => !isOver(s, p) && s.status[p] !== "ready") : [];
   return el("div", { class: "card " + kind, id: "end" },
     el("p", {}, el("strong", {}, KINDS[kind][0] + " " + endSentence(s.end))),
     line > 0 && el("p", { class: "value" }, D.source[line - 1].trim()),
@@ -147,7 +147,7 @@ function choiceButton(s, p) {
   const does = EDGES[edge].events.map(e => (e.p === p ? "" : e.p + " ") + wordsOf(e)).join("; ") || "goes on";
   const look = word[at] === p ? "go next" : "go";
   return el("button", { class: look, id: "go" + p, onclick: () => choose(p) },
-    el("kbd", {}, keyOf(p)), " ", does, outlook(through(edge, K - s.used), s.output.join(" ")));
+    el("kbd", {}, keyOf(p)), " ", does, isEndless ? lossShown(s, edge) : outlook(through(edge, K - s.used), s.output.join(" ")));
 }
 
 function monitorCard(s, old, m) {
@@ -167,15 +167,18 @@ function monitorCard(s, old, m) {
     el("p", {}, el("h3", {}, label), " ", el("small", {}, type), " \u00b7 ", inside, line), el("p", {}, variablesOf(0, m).map(variable)));
 }
 
+const recent = values => (values.length > 60 ? "\u2026 " : "") + values.slice(-60).join(" ");
+
 function showPlay(s, old) {
   const gate = s.end ? -1 : NODES[s.node].gate;
   const question = gate < 0 ? "Who goes on?" : `Who is let in to ${monitor(gate)}?`;
   $("play").replaceChildren(
+    ...(isEndless ? [roundShown(s), !s.end && prospectsLine(s)] : []).filter(part => part),
     s.end ? endCard(s) : el("h2", {}, question),
     ...PROCESSES.map(p => processCard(s, old, p)),
     ...(MONITORS.length ? [el("h2", {}, "Monitors")] : []),
     ...MONITORS.map(m => monitorCard(s, old, m)),
-    el("p", {}, el("small", {}, "displayed so far: "), el("span", { class: "value" }, s.output.join(" ") || "nothing")));
+    el("p", {}, el("small", {}, "displayed so far: "), el("span", { class: "value" }, recent(s.output) || "nothing")));
 }
 
 // ---- the outcomes ----
@@ -215,15 +218,17 @@ function outcomeChip(s, here, isPart, outcome) {
     layButton("first", outcome.playable, "Lay out its first schedule", outcome));
 }
 
+const showEveryChip = () => {
+  showsAll = true;
+  show();
+};
+
 function showOutcomes(s) {
+  if (isEndless) return showEnds(s);
   const here = s.end ? new Map([[endText(s.end) + "\t", 1n]]) : ways(s.node, K - s.used);
   const isPart = [...here.keys()].some(outcome => kindOf(outcome) === "beyond");
   const chips = outcomes.slice(0, showsAll ? outcomes.length : MOST_CHIPS).map(o => outcomeChip(s, here, isPart, o));
-  const showAll = () => {
-    showsAll = true;
-    show();
-  };
-  if (chips.length < outcomes.length) chips.push(el("li", {}, el("button", { onclick: showAll }, `all ${outcomes.length} outcomes`)));
+  if (chips.length < outcomes.length) chips.push(el("li", {}, el("button", { onclick: showEveryChip }, `all ${outcomes.length} outcomes`)));
   if (D.more) chips.push(el("li", { class: "sum" }, `and ${D.more} outcomes more`));
   const all = () => (D.more ? "more than " : "") + schedules(total(outcomes.map(o => o.count)));
   const head = D.isWhole ? all() : "too many schedules to count; " + (outcomes.length ? "found:" : "no end was found");

@@ -13,7 +13,8 @@ pub const PLAY: &str = r##"
 
 const D = JSON.parse(document.getElementById("data").textContent);
 const S = D.strings;
-const K = D.choices;
+const isEndless = D.choices === null; // Schedules have any length.
+const K = isEndless ? Infinity : D.choices;
 const PROCESSES = [...D.processes.keys()];
 const MONITORS = [...D.monitors.keys()];
 const KINDS = {
@@ -23,8 +24,13 @@ const KINDS = {
   "choice-limit": ["\u2026", "limit of choices"],
   "step-limit": ["\u2026", "limit of steps"],
   "output-limit": ["\u2026", "limit of output"],
+  "alone": ["\u221e", "goes on alone"],
+  "spins": ["\u221e", "goes on without a call"],
+  "for-ever": ["\u221e", "going on for ever"],
+  "waits": ["\u21bb", "waiting for ever"],
   "beyond": ["?", "leave this page"],
 };
+const isAlone = kind => kind === "alone" || kind === "spins";
 const kindText = kind => KINDS[kind].join(" ");
 const person = p => `${p} ${D.processes[p][0]}`;
 const monitor = m => D.monitors[m][0];
@@ -62,7 +68,22 @@ const schedules = n => number(n) + (n === 1n ? " schedule" : " schedules");
 const EVENTS = D.events.map(([kind, p, line, whom, text, woken, letIn, changes, view]) => {
   return { kind, p, line, m: whom, text, woken, letIn, changes, view };
 });
-const EDGES = D.edges.map(([events, to]) => ({ events: events.map(e => EVENTS[e]), to }));
+// A stretch that goes on for ever is told up to the end of its first round: where the round begins, and where the next one would.
+function firstRound(events) {
+  let best = [0, events.length];
+  for (let length = 1; 2 * length <= events.length && length <= 500; length++) {
+    let from = events.length - length;
+    while (from > 0 && events[from - 1] === events[from - 1 + length]) from--;
+    if (from + 2 * length <= events.length && from + length < best[1]) best = [from, from + length];
+  }
+  return best;
+}
+
+const EDGES = D.edges.map(([places, to]) => {
+  const isAlone = to < 0 && D.ends[-1 - to][0] === "alone";
+  const [again, end] = isAlone ? firstRound(places) : [-1, places.length];
+  return { events: places.slice(0, end).map(e => EVENTS[e]), to, again };
+});
 const NODES = D.nodes.map(([gate, pairs]) => {
   const options = pairs.filter((_, i) => i % 2 === 0);
   return { gate, options, edges: pairs.filter((_, i) => i % 2 === 1), isOpen: pairs[1] < 0 };
@@ -80,6 +101,8 @@ function endSentence({ kind, error, p, line }) {
     "all-waiting": () => "All wait, and nobody is left who could wake them.",
     "run-error": () => `Run error ${error}: ${person(p)}, line ${line}.`,
     "choice-limit": () => `The limit of ${K} choices. What follows is not told: try more --choices.`,
+    "alone": () => `${person(p)} goes on for ever, and nobody else can.`,
+    "spins": () => `${person(p)} goes on for ever without a call${line ? ", line " + line : ""}, and nobody else does.`,
     "step-limit": () => `${number(D.steps)} steps of ${person(p)} without an end${line ? ", line " + line : ""}: try more --steps.`,
     "output-limit": () => "1,000 values have been displayed, and no more can be.",
     "beyond": () => `What follows is not in this page, which goes on from ${number(D.states)} states: try more --states.`,
@@ -118,8 +141,11 @@ function play(numbers) {
     gate: MONITORS.map(() => []),
     values: D.variables.map(([, , , value]) => S[value]),
     output: [],
+    numbers,
     used: 0,
     node: -1,
+    nodes: [], // The state after each number of choices.
+    again: -1, // The row with which a round without a choice begins.
     end: null,
     refused: null,
   };
@@ -134,12 +160,14 @@ function play(numbers) {
 }
 
 function follow(s, edge, choice) {
-  const { events, to } = EDGES[edge];
+  const { events, to, again } = EDGES[edge];
+  if (again >= 0) s.again = s.rows.length + again;
   events.forEach((event, i) => happen(s, event, i ? null : choice));
   s.node = Math.max(to, -1);
   if (to < 0) [s.node, s.end] = [-1, ENDS[-1 - to]];
   else if (s.used === K) s.end = CHOICE_LIMIT;
   else if (NODES[to].isOpen) s.end = BEYOND;
+  s.nodes.push(s.node);
 }
 
 function happen(s, event, choice) {
@@ -161,7 +189,7 @@ function happen(s, event, choice) {
   if (kind === "x") s.status[p] = "ended";
   if (kind === "d") [s.status[p], s.place[p]] = ["delayed", S[text]];
   // The line of a return is that of its call, and belongs to the way: ways with different calls may meet in one state.
-  if (kind === "l") row.line = s.calls[p].at(-1).line;
+  if (kind === "l" && s.calls[p].length) row.line = s.calls[p].at(-1).line;
   if (kind === "l" || kind === "c") s.calls[p].pop();
   if (kind === "l" || kind === "d" || kind === "c") {
     s.holder[m] = null;
@@ -170,6 +198,8 @@ function happen(s, event, choice) {
   for (let i = 0; i < changes.length; i += 2) s.values[changes[i]] = S[changes[i + 1]];
   if (row.line) s.line[p] = row.line;
   s.view[p] = event.view;
+  row.statuses = s.status.slice();
+  row.inside = s.calls.map(calls => calls.length > 0);
   s.rows.push(row);
 }
 "##;

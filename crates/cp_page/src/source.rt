@@ -8,12 +8,12 @@ use std::str;
 /// no UTF-8, and for marks that turn or hide text.
 pub fn source_lines(alloc: Global, source: &[u8]) -> Result<Json, AllocError> {
     let mut lines = Json::new(alloc);
-    lines.open()?;
+    lines.open();
     for line in source.split(|byte| *byte == b'\n') {
         let text = readable(alloc, line)?;
-        lines.quoted(text.as_str())?;
+        lines.quoted(text.as_str());
     }
-    lines.close()?;
+    lines.close();
     Ok(lines)
 }
 

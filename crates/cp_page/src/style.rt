@@ -2,9 +2,9 @@
 
 /// The style sheet.
 pub const STYLE: &str = r##"
-:root { color-scheme: light dark; --ink: #1f2933; --grey: #5a6672; --pale: #98a2ad; --ground: #ffffff; --band: #f4f6fa; --line: #d5dae1; --red: #b3261e; --green: #2e7d32; --limit: #6a7580; --mark: #fff3bf; --soft: 18%; --focus: #1a5fb4 }
-@media (prefers-color-scheme: dark) {
-  :root { --ink: #e6eaee; --grey: #a3aeb9; --pale: #75808b; --ground: #14181d; --band: #1c2229; --line: #36404a; --red: #ff8a80; --green: #7ccb80; --limit: #98a2ad; --mark: #4a4012; --soft: 24%; --focus: #8ab4f8 }
+:root { color-scheme: light dark; --ink: #1f2933; --grey: #5a6672; --pale: #98a2ad; --ground: #ffffff; --band: #f4f6fa; --line: #d5dae1; --red: #b3261e; --green: #2e7d32; --limit: #6a7580; --ever: #8a5a00; --mark: #fff3bf; --soft: 18%; --focus: #1a5fb4 }
+@media screen and (prefers-color-scheme: dark) {
+  :root { --ink: #e6eaee; --grey: #a3aeb9; --pale: #75808b; --ground: #14181d; --band: #1c2229; --line: #36404a; --red: #ff8a80; --green: #7ccb80; --limit: #98a2ad; --ever: #e6b450; --mark: #4a4012; --soft: 24%; --focus: #8ab4f8 }
 }
 .m0 { --c: #2f6fb3 }
 .m1 { --c: #c8641b }
@@ -14,7 +14,7 @@ pub const STYLE: &str = r##"
 .m5 { --c: #a83e78 }
 .m6 { --c: #7a5a36 }
 .m7 { --c: #6b6a12 }
-@media (prefers-color-scheme: dark) {
+@media screen and (prefers-color-scheme: dark) {
   .m0 { --c: #6ea8e6 }
   .m1 { --c: #ee9350 }
   .m2 { --c: #7fbf7d }
@@ -27,6 +27,7 @@ pub const STYLE: &str = r##"
 * { box-sizing: border-box }
 body { margin: 0; background: var(--ground); color: var(--ink); font: clamp(14px, 5px + .62vw, 21px)/1.4 system-ui, "DejaVu Sans", "Segoe UI", sans-serif; display: flex; flex-direction: column; height: 100vh }
 header { padding: .5em 1em .4em; border-bottom: 1px solid var(--line); display: flex; flex-wrap: wrap; gap: .3em 1em; align-items: center }
+h1, .card, #outcomes, footer { overflow-wrap: anywhere }
 h1 { font-size: 1.25em; margin: 0; flex: 1 1 16em }
 h2 { font-size: 1em; margin: 0 0 .4em; color: var(--grey); font-weight: 600 }
 button, input, summary { font: inherit; color: inherit }
@@ -44,8 +45,9 @@ main > section { overflow: auto; min-height: 0; padding: 2px }
   #text { max-height: 80vh }
 }
 @media (max-width: 720px) {
-  main { display: block }
+  main { display: flex; flex-direction: column }
   main > section { margin-bottom: 1em }
+  #play { order: -1 }
   #text { max-height: 40vh }
 }
 #outcomes { list-style: none; margin: 0; padding: 0; display: flex; flex-wrap: wrap; gap: .35em; flex: 1 1 100%; max-height: 5.6em; overflow: auto }
@@ -56,6 +58,7 @@ main > section { overflow: auto; min-height: 0; padding: 2px }
 .finished { --k: var(--green) }
 .all-waiting, .run-error { --k: var(--red) }
 .choice-limit, .step-limit, .output-limit, .beyond { --k: var(--limit) }
+.alone, .spins, .for-ever, .waits { --k: var(--ever) }
 .kind { color: var(--k); font-weight: 600 }
 small, .quiet { color: var(--grey); font-size: .88em }
 #source { margin: 0; padding: 0; list-style: none; font: .86em/1.5 ui-monospace, "DejaVu Sans Mono", monospace }
@@ -91,7 +94,12 @@ h3 { margin: 0; font-size: 1em; display: inline }
 .bar .run-error { background: repeating-linear-gradient(90deg, var(--red) 0 3px, var(--ground) 3px 5px) }
 .bar .choice-limit, .bar .step-limit, .bar .output-limit, .bar .beyond { background: radial-gradient(var(--limit) 32%, transparent 36%) 0 0 / 6px 6px }
 #end { border-width: 2px; border-color: var(--k); font-size: 1.08em }
-#end strong { color: var(--k) }
+#end strong, #round strong { color: var(--k) }
+.card.for-ever { border: 2px solid var(--k) }
+.card ul { margin: .1em 0; padding-left: 1.4em }
+.loss { display: block }
+.word { font-family: ui-monospace, "DejaVu Sans Mono", monospace }
+#can { margin: 0 0 .4em }
 .bar { width: 100% }
 footer { padding: .2em 1em; border-top: 1px solid var(--line); display: flex; gap: 1em; justify-content: space-between }
 #keys { white-space: nowrap }
@@ -103,6 +111,8 @@ svg .dim, svg text.dim { fill: var(--grey) }
 svg .ahead { fill: var(--ground); opacity: .66 }
 svg .band { fill: var(--band) }
 svg .band.at { fill: var(--mark) }
+svg .round { stroke: var(--ever); stroke-width: 2; fill: none }
+svg .round.tip { fill: var(--ever); stroke: none }
 svg .life { stroke: var(--pale); stroke-width: 1.5 }
 svg .dot { fill: var(--ink) }
 svg .arrow { stroke: var(--ink); stroke-width: 1.5; fill: none }
@@ -129,7 +139,7 @@ details ol { margin: .3em 0; padding-left: 2.4em }
 kbd { border: 1px solid var(--pale); border-radius: .25em; padding: 0 .3em; font: .85em ui-monospace, monospace }
 @media print {
   body { display: block; height: auto }
-  :root { --ground: #fff; --ink: #000 }
+  :root { color-scheme: light; --ink: #000 }
   main { display: block; height: auto }
   main > section { overflow: visible; break-inside: avoid-page; max-height: none !important }
   button, #tools, footer { display: none }

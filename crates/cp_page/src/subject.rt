@@ -4,16 +4,28 @@ use cp_legend::Legend;
 use cp_run::Limits;
 use cp_slots::Resolved;
 
+/// Which schedules a page is about.
+#[derive(Clone, Copy, PartialEq, Eq)]
+pub enum Length {
+    /// Those of up to K choices, which are counted.
+    Limited,
+    /// Those of any length: which ends are possible, and who may wait for ever.
+    Any,
+}
+
 /// A program, and how much of it a page has.
 #[derive(Clone, Copy)]
 pub struct Subject<'a> {
     pub program: &'a Resolved,
     pub legend: &'a Legend,
     pub limits: Limits,
+    pub length: Length,
     /// How many states are gone on from.
     pub states: u32,
     /// The bytes of the source.
     pub source: &'a [u8],
     /// The schedule that is laid out when the page is opened.
     pub word: &'a [u8],
+    /// How many numbers at its end are a round that can be gone again and again.
+    pub round: usize,
 }

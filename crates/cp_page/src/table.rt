@@ -14,44 +14,59 @@ pub struct Table {
 
 impl Table {
     /// A table without rows.
-    pub fn new(alloc: Global) -> Result<Table, AllocError> {
+    pub fn new(alloc: Global) -> Table {
         let mut rows = Json::new(alloc);
-        rows.open()?;
-        Ok(Table {
+        rows.open();
+        Table {
             alloc,
             rows,
             places: IndexMap::new(alloc),
-        })
+        }
     }
 
-    /// How many rows there are.
-    pub fn len(&self) -> usize {
-        self.places.len()
+    /// The place of a row, which is added where it is new. Any place where memory is refused, which the list of rows remembers.
+    pub fn place(&mut self, row: &Json) -> usize {
+        match self.found(row) {
+            Ok(place) => place,
+            Err(_) => self.refuse(),
+        }
     }
 
-    /// The place of a row, which is added where it is new.
-    pub fn place(&mut self, row: &Json) -> Result<usize, AllocError> {
-        let key = String::from_str(self.alloc, row.as_str())?;
+    /// Memory was refused for a row. The answer is any place.
+    pub fn refuse(&mut self) -> usize {
+        self.rows.refuse();
+        0
+    }
+
+    fn found(&mut self, row: &Json) -> Result<usize, AllocError> {
+        let key = String::from_str(self.alloc, row.text()?)?;
         if let Some(place) = self.places.get(&key) {
             return Ok(*place);
         }
         let place = self.places.len();
-        self.rows.value(row)?;
+        self.rows.value(row);
         self.places.insert(key, place)?;
         Ok(place)
     }
 
     /// The place of a text.
-    pub fn place_text(&mut self, text: &str) -> Result<usize, AllocError> {
+    pub fn place_text(&mut self, text: &str) -> usize {
         let mut row = Json::new(self.alloc);
-        row.quoted(text)?;
+        row.quoted(text);
+        self.place(&row)
+    }
+
+    /// The place of a text in parts.
+    pub fn place_texts(&mut self, parts: &[&str]) -> usize {
+        let mut row = Json::new(self.alloc);
+        row.quoted_parts(parts);
         self.place(&row)
     }
 
     /// Appends a member of this name, the rows as a list.
-    pub fn put(&self, json: &mut Json, name: &str) -> Result<(), AllocError> {
-        json.name(name)?;
-        json.value(&self.rows)?;
-        json.close()
+    pub fn put(&self, json: &mut Json, name: &str) {
+        json.name(name);
+        json.value(&self.rows);
+        json.close();
     }
 }

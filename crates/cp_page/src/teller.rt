@@ -53,13 +53,13 @@ impl<'a> Teller<'a> {
             .changes(&self.kept, &observer.permanents, &state.permanents)?;
         let event = observer.observe(alloc, state, plain, aim)?;
         let started = match event.happening {
-            Happening::Start(other) => self.register.place_view(program, state, other)?,
+            Happening::Start(other) => self.register.place_view(program, state, other),
             _ => 0,
         };
         let beside = Beside {
             returned,
             changes,
-            view: self.register.place_view(program, state, process)?,
+            view: self.register.place_view(program, state, process),
             started,
         };
         let place = self.register.place_event(&event, &beside)?;

@@ -107,46 +107,44 @@ fn name_of(
 
 impl<'a> Register<'a> {
     /// The place of the text of a value, whose cells begin at a place.
-    pub fn place_value(
-        &mut self,
-        shape: Shape,
-        cells: &[i16],
-        at: usize,
-    ) -> Result<usize, AllocError> {
+    pub fn place_value(&mut self, shape: Shape, cells: &[i16], at: usize) -> usize {
+        match self.value_text(shape, cells, at) {
+            Ok(text) => self.strings.place_text(text.as_str()),
+            Err(_) => self.strings.refuse(),
+        }
+    }
+
+    fn value_text(&self, shape: Shape, cells: &[i16], at: usize) -> Result<String, AllocError> {
         let value = self.legend.value(self.alloc, shape, cells, at)?;
-        let text = value.text(self.alloc)?;
-        self.strings.place_text(text.as_str())
+        value.text(self.alloc)
     }
 
     /// The variables that stay, with their values: `[0, monitor, name, value]` or `[1, process, name, value]`; of queues the value is -1.
-    pub fn variables(&mut self, kept: &[Kept], cells: &[i16]) -> Result<Json, AllocError> {
+    pub fn variables(&mut self, kept: &[Kept], cells: &[i16]) -> Json {
         let mut rows = Json::new(self.alloc);
-        rows.open()?;
+        rows.open();
         for variable in kept {
-            let row = self.variable(variable, cells)?;
-            rows.value(&row)?;
+            self.put_variable(&mut rows, variable, cells);
         }
-        rows.close()?;
-        Ok(rows)
+        rows.close();
+        rows
     }
 
-    fn variable(&mut self, variable: &Kept, cells: &[i16]) -> Result<Json, AllocError> {
+    fn put_variable(&mut self, rows: &mut Json, variable: &Kept, cells: &[i16]) {
         let (kind, owner) = match variable.owner {
             Owner::Monitor(monitor) => (0, monitor),
             Owner::Process(process) => (1, process),
         };
-        let mut row = Json::new(self.alloc);
-        row.open()?;
-        row.number(kind)?;
-        row.number(i64::from(owner))?;
-        row.place(self.strings.place_text(variable.name.as_str())?)?;
+        rows.open();
+        rows.number(kind);
+        rows.number(i64::from(owner));
+        rows.place(self.strings.place_text(variable.name.as_str()));
         if self.legend.shapes.is_queues(variable.shape) {
-            row.number(-1)?;
+            rows.number(-1);
         } else {
-            row.place(self.place_value(variable.shape, cells, variable.at)?)?;
+            rows.place(self.place_value(variable.shape, cells, variable.at));
         }
-        row.close()?;
-        Ok(row)
+        rows.close();
     }
 
     /// The variables that stay and have other values than before, each with its value now.
@@ -162,7 +160,7 @@ impl<'a> Register<'a> {
                 == now.get(variable.at..variable.end);
             if !is_same && !self.legend.shapes.is_queues(variable.shape) {
                 changes.push(place)?;
-                changes.push(self.place_value(variable.shape, now, variable.at)?)?;
+                changes.push(self.place_value(variable.shape, now, variable.at))?;
             }
         }
         Ok(changes)

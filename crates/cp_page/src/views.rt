@@ -8,73 +8,63 @@ use cp_machine::{Entry, Process, State};
 use cp_slots::Resolved;
 use cp_store::Frame;
 use cp_story::aim_of;
-use std::alloc::AllocError;
 
 impl<'a> Register<'a> {
     /// The place of the view of a process: `[line, [frame, ..]]`, the outermost frame first. The line is 0 where a call comes to its end.
-    pub fn place_view(
-        &mut self,
-        program: &Resolved,
-        state: &State,
-        process: u8,
-    ) -> Result<usize, AllocError>
+    pub fn place_view(&mut self, program: &Resolved, state: &State, process: u8) -> usize
         requires { IsStateOf program.now state.now }
     {
         let mut row = Json::new(self.alloc);
-        row.open()?;
-        row.number(i64::from(next_line(program, state, process)))?;
-        let frames = self.frames_of(state, process)?;
-        row.places(&frames)?;
-        row.close()?;
+        row.open();
+        row.number(i64::from(next_line(program, state, process)));
+        self.put_frames(&mut row, state, process);
+        row.close();
         self.views.place(&row)
     }
 
-    fn frames_of(&mut self, state: &State, process: u8) -> Result<Vec<usize>, AllocError> {
-        let mut frames = Vec::new(self.alloc);
-        let Some(process) = state.processes.get(process as usize) else {
-            return Ok(frames);
-        };
-        if process.stack.is_empty() {
-            return Ok(frames);
-        }
-        for entry in &process.stack {
-            if let Some(frame) = outer_frame(entry) {
-                frames.push(self.place_frame(process, frame)?)?;
+    fn put_frames(&mut self, row: &mut Json, state: &State, process: u8) {
+        row.open();
+        if let Some(process) = state.processes.get(process as usize)
+            && !process.stack.is_empty()
+        {
+            for entry in &process.stack {
+                if let Some(frame) = outer_frame(entry) {
+                    row.place(self.place_frame(process, frame));
+                }
             }
+            row.place(self.place_frame(process, process.frame));
         }
-        frames.push(self.place_frame(process, process.frame)?)?;
-        Ok(frames)
+        row.close();
     }
 
     // The place of a frame: `[name, variable, value, variable, value, ..]`.
-    fn place_frame(&mut self, process: &Process, frame: Frame) -> Result<usize, AllocError> {
+    fn place_frame(&mut self, process: &Process, frame: Frame) -> usize {
         let mut row = Json::new(self.alloc);
-        row.open()?;
-        row.place(self.place_frame_name(frame)?)?;
+        row.open();
+        row.place(self.place_frame_name(frame));
         let legend = self.legend;
         if let Some(routine) = legend.routines.get(frame.routine) {
             for variable in &routine.variables {
                 let at = frame.base.saturating_add(variable.slot);
-                row.place(self.strings.place_text(variable.name.as_str())?)?;
-                row.place(self.place_value(variable.shape, &process.room.cells, at)?)?;
+                row.place(self.strings.place_text(variable.name.as_str()));
+                row.place(self.place_value(variable.shape, &process.room.cells, at));
             }
         }
-        row.close()?;
+        row.close();
         self.frames.place(&row)
     }
 
     // The path of the component, and the routine where it is no initial statement.
-    fn place_frame_name(&mut self, frame: Frame) -> Result<usize, AllocError> {
-        let mut name = String::new(self.alloc);
-        if let Some(component) = self.legend.components.get(frame.component) {
-            name.push_str(component.path.as_str())?;
-        }
+    fn place_frame_name(&mut self, frame: Frame) -> usize {
+        let path = match self.legend.components.get(frame.component) {
+            Some(component) => component.path.as_str(),
+            None => "",
+        };
         let routine = self.legend.routine_name(frame.routine);
-        if !routine.is_empty() {
-            name.push('.')?;
-            name.push_str(routine)?;
+        if routine.is_empty() {
+            return self.strings.place_text(path);
         }
-        self.strings.place_text(name.as_str())
+        self.strings.place_texts(&[path, ".", routine])
     }
 }
 

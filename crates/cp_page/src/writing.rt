@@ -8,6 +8,7 @@ use crate::script_lanes::LANES;
 use crate::script_moves::MOVES;
 use crate::script_panels::PANELS;
 use crate::script_play::PLAY;
+use crate::script_rounds::ROUNDS;
 use crate::style::STYLE;
 use crate::subject::Subject;
 use std::alloc::{AllocError, Global};
@@ -24,8 +25,8 @@ fn with_data(alloc: Global, data: &Json) -> Result<String, AllocError> {
     for part in [BEGIN, STYLE_HASH, BETWEEN, SCRIPT_HASH, HEAD, STYLE, BODY] {
         text.push_str(part)?;
     }
-    text.push_str(data.as_str())?;
-    for part in [SCRIPT, PLAY, COUNTS, PANELS, LANES, MOVES, END] {
+    text.push_str(data.text()?)?;
+    for part in [SCRIPT, PLAY, COUNTS, ROUNDS, PANELS, LANES, MOVES, END] {
         text.push_str(part)?;
     }
     Ok(text)

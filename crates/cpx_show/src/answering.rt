@@ -15,7 +15,7 @@ use cp_legend::{Legend, legend_of};
 use cp_machine::Ticks;
 use cp_merged::word::word_of;
 use cp_outcomes::{First, Form, Subject as Survey, first_of_outcome, outcomes};
-use cp_page::{Subject as Played, page};
+use cp_page::{Length, Subject as Played, page};
 use cp_resolved::resolve;
 use cp_run::{Limits, MOST_CHOICES};
 use cp_slots::Resolved;
@@ -286,9 +286,15 @@ fn paged(
         program,
         legend,
         limits,
+        length: if options.ends {
+            Length::Any
+        } else {
+            Length::Limited
+        },
         states,
         source,
         word: word.as_slice(),
+        round: asked.round,
     };
     Ok(Answer {
         verdict: Verdict::Reported,

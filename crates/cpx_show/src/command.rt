@@ -98,8 +98,8 @@ fn page<'a>(alloc: Global) -> Result<Command<'a>, AllocError> {
         .about(PAGE)
         .override_usage("cpx_show page [OPTIONS] < PROGRAM > PAGE.html")
         .arg(schedule)?
-        .arg(outcome)?
-        .arg(choices(alloc))?;
+        .arg(outcome)?;
+    let command = with_rounds(alloc, command)?.arg(choices(alloc))?;
     let command = with_run(alloc, command)?;
     // The option has a name of its own: of the other parts it limits the states that are counted.
     let states = Arg::new(alloc, "page-states")
@@ -107,6 +107,23 @@ fn page<'a>(alloc: Global) -> Result<Command<'a>, AllocError> {
         .value_name("N")
         .help("States that the page goes on from, 1 to 100000 [default: 2000]");
     Ok(command.arg(states)?)
+}
+
+// Schedules of any length, and a round of one.
+fn with_rounds<'a>(alloc: Global, command: Command<'a>) -> Result<Command<'a>, AllocError> {
+    let ends = Arg::new(alloc, "ends")
+        .long("ends")
+        .action(ArgAction::SetTrue)
+        .help(
+            "Play schedules of any length: which ends can come, and rounds in which a process waits for ever",
+        );
+    let again = option(
+        alloc,
+        "again",
+        "WORD",
+        "With --schedule: a round after it that can be gone again and again; with it --ends is as good as given",
+    );
+    command.arg(ends)?.arg(again)
 }
 
 fn outcomes<'a>(alloc: Global) -> Result<Command<'a>, AllocError> {

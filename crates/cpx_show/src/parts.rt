@@ -162,13 +162,35 @@ fn page_fault(matches: &ArgMatches<'_>) -> &'static str {
     if is_given && matches.get_str("schedule").is_some() {
         return "--outcome: not beside --schedule";
     }
+    let has_round = matches.get_str("again").is_some();
+    if has_round && matches.get_str("schedule").is_none() {
+        return "--again: only beside --schedule";
+    }
+    if has_round || matches.get_flag("ends") {
+        return endless_page_fault(matches);
+    }
     if is_given && outcome_of(matches).is_none() {
         return "--outcome: a number from 1 on is wanted";
     }
-    if page_states(matches).is_none() {
-        return "--states: a number 1 to 100000 is wanted";
+    page_states_fault(matches)
+}
+
+// The same where schedules have any length.
+fn endless_page_fault(matches: &ArgMatches<'_>) -> &'static str {
+    if matches.get_str("outcome").is_some() {
+        return "--outcome: not beside --ends";
     }
-    ""
+    if matches.get_str("choices").is_some() {
+        return "--choices: not beside --ends";
+    }
+    page_states_fault(matches)
+}
+
+fn page_states_fault(matches: &ArgMatches<'_>) -> &'static str {
+    match page_states(matches) {
+        Some(_) => "",
+        None => "--states: a number 1 to 100000 is wanted",
+    }
 }
 
 // The words of the expectations that are given, joined by spaces.

@@ -1,0 +1,146 @@
+//! Schedules of any length: the ends that are possible, and who may wait for ever.
+
+ghost use Rattle.std.specs.Prelude.{IfOk, IfSome};
+ghost use Rattle.cp_ends.specs.Whole.{IsAnswer};
+ghost use Rattle.cp_waits.specs.Named.{TellOfAll};
+
+use crate::ends::plain_row;
+use crate::json::Json;
+use crate::subject::Subject;
+use cp_ends::{Found, search_ends};
+use cp_legend::Legend;
+use cp_waits::{How, Waiting, Waits, find_waits};
+use std::alloc::{AllocError, Global};
+
+/// How many states there may be in all.
+const MOST: u32 = 200_000;
+
+/// What is possible in schedules of any length.
+#[derive(Drop)]
+pub struct Endless {
+    pub found: Found,
+    /// Who may wait for ever, where there are not too many states.
+    pub waits: Option<Waits>,
+}
+
+/// Which ends are possible, and who may wait for ever.
+pub fn endless(alloc: Global, subject: Subject<'_>) -> Result<Endless, AllocError>
+    ensures ends { IfOk result (λ e. IsAnswer subject.program.now subject.limits.gates subject.limits.steps 200000 e.found) }
+    ensures waits { IfOk result (λ e. IfSome e.waits (λ waits. TellOfAll subject.program.now subject.limits.gates subject.limits.steps e.found waits)) }
+{
+    let Subject {
+        program,
+        limits,
+        ..
+    } = subject;
+    let found = search_ends(alloc, program, limits, MOST)?;
+    let waits = match found.stopped {
+        None => Some(find_waits(alloc, program, limits, &found)?),
+        Some(_) => None,
+    };
+    Ok(Endless { found, waits })
+}
+
+impl Endless {
+    /// The words along which the page goes on to their ends: the first ones of the ends, and the rounds.
+    pub fn words(&self, alloc: Global) -> Result<Vec<Vec<u8>>, AllocError> {
+        let mut words = Vec::new(alloc);
+        for end in &self.found.ends {
+            words.push(self.found.states.word(alloc, end.origin)?)?;
+        }
+        if let Some(Waits::Known(list)) = &self.waits {
+            for waiting in list {
+                words.push(whole_word(alloc, waiting)?)?;
+            }
+        }
+        Ok(words)
+    }
+
+    /// The ends, how far was looked, and who may wait for ever.
+    pub fn put(&self, alloc: Global, json: &mut Json, legend: &Legend) -> Result<(), AllocError> {
+        json.name("isWhole");
+        json.truth(self.found.stopped.is_none());
+        json.name("found");
+        json.place(self.found.states.len());
+        self.put_reach(alloc, json)?;
+        json.name("more");
+        json.number(0);
+        json.name("outcomes");
+        self.put_ends(alloc, json)?;
+        json.name("waits");
+        match &self.waits {
+            Some(Waits::Known(list)) => put_waits(json, legend, list),
+            _ => json.nothing(),
+        }
+        Ok(())
+    }
+
+    // Of how many choices all schedules were looked at, where there are too many states to look at all.
+    fn put_reach(&self, alloc: Global, json: &mut Json) -> Result<(), AllocError> {
+        let Some(stopped) = self.found.stopped else {
+            return Ok(());
+        };
+        let states = &self.found.states;
+        let word = states.word(alloc, states.origin(stopped))?;
+        json.name("within");
+        json.place(word.len());
+        Ok(())
+    }
+
+    // The ends as outcomes without output and count: `[end, "", "", [number, ..]]`.
+    fn put_ends(&self, alloc: Global, json: &mut Json) -> Result<(), AllocError> {
+        json.open();
+        for end in &self.found.ends {
+            let word = self.found.states.word(alloc, end.origin)?;
+            json.open();
+            json.value(&plain_row(alloc, end.end));
+            json.quoted("");
+            json.quoted("");
+            json.processes(&word);
+            json.close();
+        }
+        json.close();
+        Ok(())
+    }
+}
+
+// The word that leads to a round, and that of the round.
+fn whole_word(alloc: Global, waiting: &Waiting) -> Result<Vec<u8>, AllocError> {
+    let mut word = Vec::from_slice(alloc, &waiting.first)?;
+    word.extend_from_slice(&waiting.again)?;
+    Ok(word)
+}
+
+// Who may wait for ever: `[process, how, [other, ..], [number, ..], [number, ..]]`, the others those that go on meanwhile.
+fn put_waits(json: &mut Json, legend: &Legend, list: &[Waiting]) {
+    json.open();
+    for waiting in list {
+        put_waiting(json, legend, waiting);
+    }
+    json.close();
+}
+
+fn put_waiting(json: &mut Json, legend: &Legend, waiting: &Waiting) {
+    json.open();
+    json.number(i64::from(waiting.process));
+    json.quoted(how_words(waiting.how));
+    json.open();
+    let others = waiting.step.without(waiting.process);
+    for process in 0..legend.processes() {
+        if others.has(process) {
+            json.number(i64::from(process));
+        }
+    }
+    json.close();
+    json.processes(&waiting.first);
+    json.processes(&waiting.again);
+    json.close();
+}
+
+fn how_words(how: How) -> &'static str {
+    match how {
+        How::Throughout => "throughout",
+        How::ForGood => "for good",
+        How::InItsCall => "in its call",
+    }
+}
