@@ -102,20 +102,20 @@ unfolding is_sometimes
 only_apart h = absurd (let t : false ≡ true = ap is_sometimes h in cc)
 
 -- the judgement is that of all rows
-judged_by : (claim : Claim) (named : Outcome → Bool) (lines : List Line) (found : Option Row) (open : Bool) → first_settling claim named lines ≡ option_map row_line found → has_open claim named lines ≡ open → IsJudgedBy claim named lines (judgement_of claim found open)
+judged_by : (claim : Claim) (named : Outcome → Bool) (lines : List Line) (found : Option Row) (left : Bool) → first_settling claim named lines ≡ option_map row_line found → has_open claim named lines ≡ left → IsJudgedBy claim named lines (judgement_of claim found left)
 judged_by Never named lines None false f w = (ap not (any_where named lines ∙ ap is_some f), w)
 judged_by Never named lines None true f w = (f, w)
-judged_by Never named lines (Some r) open f w = (never_apart, ap not (any_where named lines ∙ ap is_some f), f)
+judged_by Never named lines (Some r) left f w = (never_apart, ap not (any_where named lines ∙ ap is_some f), f)
 judged_by Sometimes named lines None false f w = (refl, any_where named lines ∙ ap is_some f, w)
 judged_by Sometimes named lines None true f w = (f, w)
-judged_by Sometimes named lines (Some r) open f w = (refl, any_where named lines ∙ ap is_some f, f)
+judged_by Sometimes named lines (Some r) left f w = (refl, any_where named lines ∙ ap is_some f, f)
 judged_by Only named lines None false f w = (only_all named lines (ap is_none f) w, w)
 judged_by Only named lines None true f w = (f, w)
-judged_by Only named lines (Some r) open f w = (only_apart, only_not named lines (ap is_some f), f)
+judged_by Only named lines (Some r) left f w = (only_apart, only_not named lines (ap is_some f), f)
 
-pub judged : (claim : Claim) (named : Outcome → Bool) (seen : List Seen) (found : Option Row) (open : Bool) (j : Judgement) → option_map row_line found ≡ first_settling claim named (map line_of seen) → open ≡ has_open claim named (map line_of seen) → j ≡ judgement_of claim found open → (lines : List Line) → map line_of seen ≡ outcomes_of lines → IsJudgedBy claim named lines j
-judged claim named seen found open j f w is lines e =
+pub judged : (claim : Claim) (named : Outcome → Bool) (seen : List Seen) (found : Option Row) (left : Bool) (j : Judgement) → option_map row_line found ≡ first_settling claim named (map line_of seen) → left ≡ has_open claim named (map line_of seen) → j ≡ judgement_of claim found left → (lines : List Line) → map line_of seen ≡ outcomes_of lines → IsJudgedBy claim named lines j
+judged claim named seen found left j f w is lines e =
     let first : first_settling claim named lines ≡ option_map row_line found = sym (found_in (settles_by claim named) lines) ∙ ap (first_settling claim named) (sym e) ∙ sym f in
-    let rest : has_open claim named lines ≡ open = sym (open_of claim named lines) ∙ ap (has_open claim named) (sym e) ∙ sym w in
+    let rest : has_open claim named lines ≡ left = sym (open_of claim named lines) ∙ ap (has_open claim named) (sym e) ∙ sym w in
     let P : Judgement → Type 0 = λ j. IsJudgedBy claim named lines j in
-    subst P (sym is) (judged_by claim named lines found open first rest)
+    subst P (sym is) (judged_by claim named lines found left first rest)

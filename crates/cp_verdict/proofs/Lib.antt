@@ -2,7 +2,7 @@ pub mod Displayed
 pub mod Exact
 pub mod Finding
 pub mod Lasting
-pub mod Marking
+pub mod Marks
 pub mod Meant
-pub mod Reading
 pub mod Tallied
+pub mod Verdicts

@@ -39,12 +39,12 @@ IsJudged names e lines j = IsJudgedBy e.claim (is_one_of names e.outcomes.items)
 
 -- the judgement from the first row that settles an expectation, and whether some other might
 abbrev pub judgement_of : Claim → Option Row → Bool → Judgement
-judgement_of Sometimes (Some r) open = Shown r
+judgement_of Sometimes (Some r) left = Shown r
 judgement_of Sometimes None false = Missing
 judgement_of Sometimes None true = Unsettled
-judgement_of Never (Some r) open = Against r
+judgement_of Never (Some r) left = Against r
 judgement_of Never None false = Holds
 judgement_of Never None true = Unsettled
-judgement_of Only (Some r) open = Against r
+judgement_of Only (Some r) left = Against r
 judgement_of Only None false = Holds
 judgement_of Only None true = Unsettled

@@ -62,13 +62,13 @@ fn has_open(
     Ok(false)
 }
 
-fn settled(claim: Claim, found: Option<Row>, open: bool) -> Judgement
-    ensures { result ≡ spec.judgement_of claim found open }
+fn settled(claim: Claim, found: Option<Row>, left_open: bool) -> Judgement
+    ensures { result ≡ spec.judgement_of claim found left_open }
 {
     match (claim, found) {
         (Claim::Sometimes, Some(shown)) => Judgement::Shown(shown),
         (_, Some(against)) => Judgement::Against(against),
-        (_, None) if open => Judgement::Unsettled,
+        (_, None) if left_open => Judgement::Unsettled,
         (Claim::Sometimes, None) => Judgement::Missing,
         (_, None) => Judgement::Holds,
     }
@@ -83,7 +83,7 @@ pub fn judge(
 ) -> Result<Judgement, AllocError>
     ensures { IfOk result (λ j. (lines : List Line) → map spec.line_of seen.now ≡ outcomes_of lines → spec.IsJudged program.now.names expectation.now lines j) }
 {
-    let open = has_open(alloc, program, expectation, seen)?;
+    let left_open = has_open(alloc, program, expectation, seen)?;
     let found = first_settling(alloc, program, expectation, seen)?;
-    Ok(settled(expectation.claim, found, open))
+    Ok(settled(expectation.claim, found, left_open))
 }

@@ -1,6 +1,6 @@
 //! Whether values are an expected output.
 
-ghost use Rattle.std.specs.Prelude.{◌≡◌, ◌++◌, ◌∷◌, [], IfOk, List, Bool, map, string_bytes};
+ghost use Rattle.std.specs.Prelude.{◌≡◌, ◌++◌, ℕ, IfOk, List, Bool, map, string_bytes};
 ghost use Rattle.cp_verdict.specs.Marks as marks;
 ghost use Rattle.cp_verdict.specs.Outputs as spec;
 
@@ -8,6 +8,7 @@ use crate::expectation::OutputItem;
 use std::alloc::{AllocError, Global};
 
 /// Whether printed values are such an output: each is the value at its place, and `..` stands for any.
+#[tactic(auto, using(crate::proofs::Marks::some_first, crate::proofs::Marks::marked_last))]
 pub fn reads_as(alloc: Global, items: &[OutputItem], printed: &[String]) -> Result<bool, AllocError>
     ensures { IfOk result (λ b. b ≡ spec.reads_as items.now (map string_bytes printed.now)) }
 {
@@ -33,6 +34,7 @@ fn is_marked(counts: &[bool], number: usize) -> bool
 }
 
 /// The marks after one value more, which is printed so.
+#[tactic(auto, using(crate::proofs::Marks::value_more))]
 fn after_value(
     alloc: Global,
     counts: &[bool],
@@ -66,6 +68,7 @@ fn push_value(
 }
 
 /// The marks after any values more.
+#[tactic(auto, using(crate::proofs::Marks::rest_more))]
 fn after_rest(alloc: Global, counts: &[bool], printed: &[String]) -> Result<Vec<bool>, AllocError>
     ensures { IfOk result (λ v. (rest : List (List ℕ) → Bool) → marks.some_rest v.items rest (map string_bytes printed.now) ≡ marks.some_rest counts.now (spec.from_some rest) (map string_bytes printed.now)) }
 {

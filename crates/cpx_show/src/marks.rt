@@ -118,9 +118,10 @@ fn judged_in_turn(
         most: options.states,
     };
     let marked = mark_in_turn(alloc, subject, list)?;
+    let text = ends_told(alloc, examinee, &marked)?;
     Ok(Answer {
         verdict: ends_verdict_of(marked.mark),
-        text: ends_told(alloc, examinee, &marked)?,
+        text,
     })
 }
 
@@ -148,9 +149,10 @@ fn judged_at_once(
         most: options.states,
     };
     let marked = mark_at_once(alloc, subject, list)?;
+    let text = ends_told(alloc, examinee, &marked)?;
     Ok(Answer {
         verdict: ends_verdict_of(marked.mark),
-        text: ends_told(alloc, examinee, &marked)?,
+        text,
     })
 }
 

@@ -1,4 +1,4 @@
-use Rattle.cp_verdict.proofs.Marking.{judged_all, judged_more}
+use Rattle.cp_verdict.proofs.Verdicts.{judged_all, judged_more}
 use Rattle.cp_verdict.proofs.marking.judge_each.Goals as goal
 
 pub loop-expectation-init : goal.loop-expectation-init

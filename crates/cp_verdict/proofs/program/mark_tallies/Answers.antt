@@ -1,7 +1,7 @@
 use Rattle.std.proofs.Common.{◌∙◌, ap, map, sym, subst}
 use Rattle.cp_verdict.specs.Judged.{line_of}
 use Rattle.cp_verdict.specs.Marked.{IsMarkOf}
-use Rattle.cp_verdict.proofs.Marking.{marked}
+use Rattle.cp_verdict.proofs.Verdicts.{marked}
 use Rattle.cp_verdict.proofs.Tallied.{heads, heads_of}
 use Rattle.cp_verdict.proofs.program.mark_tallies.Goals as goal
 
