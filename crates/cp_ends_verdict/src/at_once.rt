@@ -10,7 +10,7 @@ use crate::judging::is_whole;
 use crate::knowing_at_once::known_at_once;
 use crate::known::Known;
 use crate::marking::{Subject, ask_waits, is_any, mark_list};
-use crate::telling::{Marked, open_words, said_of_each};
+use crate::saying::{Marked, open_words, said_of_each};
 use crate::verdict::{Mark, Verdict, mark_of, verdict_on};
 use cp_at_once::search_at_once;
 use cp_machine::Gates;

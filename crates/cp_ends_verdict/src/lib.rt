@@ -10,7 +10,7 @@ pub mod known;
 pub mod marking;
 pub mod matching;
 pub mod reading;
-pub mod telling;
+pub mod saying;
 pub mod verdict;
 pub mod words;
 
@@ -18,6 +18,6 @@ pub use at_once::{mark_at_once, mark_in_turn};
 pub use expectation::Expectation;
 pub use marking::Subject;
 pub use reading::{Reading, expectations};
-pub use telling::{Marked, Said, Standing};
+pub use saying::{Marked, Said, Standing};
 pub use verdict::Mark;
 pub use words::misread_text;

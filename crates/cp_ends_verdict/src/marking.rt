@@ -11,7 +11,7 @@ use crate::expectation::{Expectation, Topic};
 use crate::judging::is_whole;
 use crate::knowing::known_of;
 use crate::known::Known;
-use crate::telling::{Marked, open_words, said_of_each};
+use crate::saying::{Marked, open_words, said_of_each};
 use crate::verdict::{Mark, Verdict, mark_of, verdict_on};
 use cp_ends::{Found, search_ends};
 use cp_legend::Legend;

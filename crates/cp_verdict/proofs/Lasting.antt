@@ -198,12 +198,12 @@ no_limit names (outcome.Shows text ∷ ps) none output = absurd (cc)
 no_limit names (outcome.End kind wanted ∷ ps) none output = ap (λ b. b || is_one_of names ps (record { kind = ChoiceLimit; output = output })) (no_kind kind (has_output names wanted output)) ∙ no_limit names ps none output
 
 skipped : {S : Type 0} (sys : System S) (steps : ℕ) (q : Outcome → Bool) → Skips q → Stays sys steps q
-skipped sys steps q skips s p h kind = let none = skips (sys.output s) in absurd (cc)
+skipped sys steps q skips s p h kind = absurd (let t : true ≡ false = sym h ∙ skips (sys.output s) in cc)
 
 -- a row that is named at the limit shows a value, and so do those that go on from it
 one_stays : (names : Spellings) (p : OutcomePattern) (output more : List Shown) (kind : OutcomeKind) → fits names (record { kind = ChoiceLimit; output = output }) p ≡ true → fits names (record { kind = kind; output = output ++ more }) p ≡ true
 one_stays names (outcome.Shows text) output more kind h = any_on (λ v. is_printed (string_bytes text) (value_text names v)) output more h
-one_stays names (outcome.End wanted values) output more kind h = let none = no_kind wanted (has_output names values output) in absurd (cc)
+one_stays names (outcome.End wanted values) output more kind h = absurd (let t : true ≡ false = sym h ∙ no_kind wanted (has_output names values output) in cc)
 
 named_stays : (names : Spellings) (ps : List OutcomePattern) (output more : List Shown) (kind : OutcomeKind) → is_one_of names ps (record { kind = ChoiceLimit; output = output }) ≡ true → is_one_of names ps (record { kind = kind; output = output ++ more }) ≡ true
 named_stays names [] output more kind h = h

@@ -1,9 +1,6 @@
 use Rattle.cp_verdict.proofs.Verdicts.{judged_all, judged_more}
 use Rattle.cp_verdict.proofs.marking.judge_each.Goals as goal
 
-pub loop-expectation-init : goal.loop-expectation-init
-loop-expectation-init c = λ lines same. tt
-
 pub loop-expectation-preserved : goal.loop-expectation-preserved
 loop-expectation-preserved c = λ lines same.
     judged_more c.args.program.now.names lines c.args.expectations.now c.loop-expectation.expectation-index _ c.loop-expectation.judgements.items c.push.new.self.items c.in_ok-judgement.judgement
