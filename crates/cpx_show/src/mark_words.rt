@@ -246,7 +246,17 @@ fn told_as_json(
         items.push(judged_object(alloc, examinee, expectation, judgement, marked)?)?;
     }
     object.put("expectations", Value::Array(items))?;
-    object.put("complete", Value::Bool(marked.stops.is_empty()))?;
+    put_limits(alloc, &mut object, marked)?;
+    if let Some(name) = doubtful(examinee, reading) {
+        let mut note = String::new(alloc);
+        push_doubt(&mut note, name)?;
+        object.text("note", note.as_str().trim_end())?;
+    }
+    line(alloc, object)
+}
+
+// Whether no schedule ended at a limit, or at which some did.
+fn put_limits(alloc: Global, object: &mut Object, marked: &Marked) -> Result<(), AllocError> {
     let mut stops = String::new(alloc);
     marked.stops.push_to(&mut stops)?;
     let mut limits = Vec::new(alloc);
@@ -255,13 +265,8 @@ fn told_as_json(
             limits.push(Value::String(String::from_str(alloc, name)?))?;
         }
     }
-    object.put("limits", Value::Array(limits))?;
-    if let Some(name) = doubtful(examinee, reading) {
-        let mut note = String::new(alloc);
-        push_doubt(&mut note, name)?;
-        object.text("note", note.as_str().trim_end())?;
-    }
-    line(alloc, object)
+    object.put("complete", Value::Bool(marked.stops.is_empty()))?;
+    object.put("limits", Value::Array(limits))
 }
 
 /// What schedules of any length say of the expectations.
