@@ -9,9 +9,9 @@ use crate::expectation::Expectation;
 use crate::judging::is_whole;
 use crate::knowing_at_once::known_at_once;
 use crate::known::Known;
-use crate::marking::{Marked, Subject, ask_waits, failed, is_any, mark_list};
+use crate::marking::{Subject, ask_waits, is_any, mark_list};
+use crate::saying::{Marked, open_words, said_of_each};
 use crate::verdict::{Mark, Verdict, mark_of, verdict_on};
-use crate::words::push_expectation;
 use cp_at_once::search_at_once;
 use cp_machine::Gates;
 use std::alloc::{AllocError, Global};
@@ -59,26 +59,15 @@ fn told_again(
     ensures { IfOk result (λ m. (m.mark ≡ marked.mark) ⊎ (m.mark ≡ again.mark)) }
 {
     match again.mark {
-        Mark::TooMany => with_line(marked, "so there are with kernel calls at once\n"),
+        Mark::TooMany => marked.with_line("so there are with kernel calls at once\n"),
         _ => {
             let most = subject.most;
             let line = format!(in alloc;
                 "too many states: there may be {most}, so kernel calls were made at once\n"
             )?;
-            with_line(again, line.as_str())
+            again.with_line(line.as_str())
         }
     }
-}
-
-fn with_line(marked: Marked, line: &str) -> Result<Marked, AllocError>
-    ensures { IfOk result (λ m. m.mark ≡ marked.mark) }
-{
-    let mut text = marked.text;
-    text.push_str(line)?;
-    Ok(Marked {
-        mark: marked.mark,
-        text,
-    })
 }
 
 // Whether kernel calls at once can settle it: not who waits, and not where anybody in line may go into a monitor.
@@ -98,7 +87,7 @@ pub fn mark_at_once(
     ensures refused { spec.can_be_at_once subject.entry.limits.gates list.now ≡ false → IfOk result (λ m. m.mark ≡ Misread) }
 {
     if !can_be_at_once(subject.limits.gates, list) {
-        return refused(alloc);
+        return Marked::misread(alloc, "waiting can't be asked with --at-once\n");
     }
     let Subject {
         program,
@@ -109,16 +98,7 @@ pub fn mark_at_once(
     let found = search_at_once(alloc, program, limits, most)?;
     let known = known_at_once(alloc, program, &found)?;
     let verdict = verdict_on(&known, list);
-    told(alloc, subject, &known, verdict)
-}
-
-fn refused(alloc: Global) -> Result<Marked, AllocError>
-    ensures { IfOk result (λ m. m.mark ≡ Misread) }
-{
-    Ok(Marked {
-        mark: Mark::Misread,
-        text: String::from_str(alloc, "waiting can't be asked with --at-once\n")?,
-    })
+    told(alloc, subject, &known, list, verdict)
 }
 
 // The mark of a verdict, and what is said with it.
@@ -126,63 +106,47 @@ fn told(
     alloc: Global,
     subject: Subject<'_>,
     known: &Known,
+    list: &[Expectation],
     verdict: Verdict<'_>,
 ) -> Result<Marked, AllocError>
     ensures { IfOk result (λ m. m.mark ≡ spec_mark_of verdict.entry known.now.looked) }
 {
-    let text = match verdict {
-        Verdict::Holds => held(alloc, known)?,
-        Verdict::Fails {
-            expectation,
-            against,
-        } => failed(
-            alloc,
-            subject.legend,
-            expectation,
-            against,
-            "a schedule against it: ",
-        )?,
-        Verdict::Open { expectation } => opened(alloc, subject, known, expectation)?,
-    };
-    Ok(Marked {
-        mark: mark_of(verdict, known),
-        text,
-    })
-}
-
-fn held(alloc: Global, known: &Known) -> Result<String, AllocError> {
-    String::from_str(
-        alloc,
-        if is_whole(known) {
-            "holds\nfor schedules of any length, by those in which kernel calls are made at once\n"
-        } else {
-            "holds\nshown by a schedule\n"
-        },
-    )
-}
-
-fn opened(
-    alloc: Global,
-    subject: Subject<'_>,
-    known: &Known,
-    expectation: &Expectation,
-) -> Result<String, AllocError> {
-    let mut text = String::new(alloc);
-    if known.looked.is_some() {
+    let mark = mark_of(verdict, known);
+    let mut note = String::new(alloc);
+    if mark == Mark::Holds {
+        note.push_str(held_words(known))?;
+    }
+    if mark == Mark::TooMany {
         let most = subject.most;
         write!(
-            text,
+            note,
             "too many states with kernel calls at once: there may be {most}\n"
         )?;
     }
-    text.push_str("not settled: ")?;
-    push_expectation(subject.legend, &mut text, expectation)?;
-    text.push_str(if known.looked.is_some() {
-        "\nno schedule that was found settles it (try greater --states)\n"
-    } else if is_whole(known) {
-        "\nit is not known to hold, and no schedule is known to be against it\n"
+    let open = match known.looked {
+        Some(_) => "no schedule that was found settles it (try greater --states)",
+        None => open_words(known),
+    };
+    let each = said_of_each(
+        alloc,
+        subject.legend,
+        known,
+        list,
+        "a schedule against it: ",
+        open,
+    )?;
+    Ok(Marked {
+        mark,
+        note,
+        each,
+        last: String::new(alloc),
+    })
+}
+
+fn held_words(known: &Known) -> &'static str {
+    if is_whole(known) {
+        "for schedules of any length, by those in which kernel calls are made at once\n"
     } else {
-        "\nsome schedules ended at step-limit, and none so far settles it (try greater --steps)\n"
-    })?;
-    Ok(text)
+        "shown by a schedule\n"
+    }
 }

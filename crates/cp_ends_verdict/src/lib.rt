@@ -10,12 +10,14 @@ pub mod known;
 pub mod marking;
 pub mod matching;
 pub mod reading;
+pub mod saying;
 pub mod verdict;
 pub mod words;
 
 pub use at_once::{mark_at_once, mark_in_turn};
 pub use expectation::Expectation;
-pub use marking::{Marked, Subject};
+pub use marking::Subject;
 pub use reading::{Reading, expectations};
+pub use saying::{Marked, Said, Standing};
 pub use verdict::Mark;
 pub use words::misread_text;

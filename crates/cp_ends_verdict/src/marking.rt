@@ -10,9 +10,9 @@ ghost use Rattle.cp_ends_verdict.specs.declared.verdict.Mark.TheVariants.{Misrea
 use crate::expectation::{Expectation, Topic};
 use crate::judging::is_whole;
 use crate::knowing::known_of;
-use crate::known::{Known, Witness};
+use crate::known::Known;
+use crate::saying::{Marked, open_words, said_of_each};
 use crate::verdict::{Mark, Verdict, mark_of, verdict_on};
-use crate::words::{missing_words, push_expectation, push_witness};
 use cp_ends::{Found, search_ends};
 use cp_legend::Legend;
 use cp_machine::Gates;
@@ -30,13 +30,6 @@ pub struct Subject<'a> {
     pub most: u32,
 }
 
-/// A mark, and what is said with it.
-#[derive(Drop)]
-pub struct Marked {
-    pub mark: Mark,
-    pub text: String,
-}
-
 /// What all schedules of any length say of some expectations.
 pub fn mark_list(
     alloc: Global,
@@ -49,11 +42,11 @@ pub fn mark_list(
 {
     let asks = ask_waits(list);
     if asks && is_any(subject.limits.gates) {
-        return refused(alloc);
+        return Marked::misread(alloc, "waiting can't be asked with --gates any\n");
     }
     let known = knowledge(alloc, subject, asks)?;
     let verdict = verdict_on(&known, list);
-    told(alloc, subject, &known, verdict)
+    told(alloc, subject, &known, list, verdict)
 }
 
 /// Whether anybody in line may go into a monitor that becomes free.
@@ -64,15 +57,6 @@ pub fn is_any(gates: Gates) -> bool
         Gates::First => false,
         Gates::Any => true,
     }
-}
-
-fn refused(alloc: Global) -> Result<Marked, AllocError>
-    ensures { IfOk result (λ m. m.mark ≡ Misread) }
-{
-    Ok(Marked {
-        mark: Mark::Misread,
-        text: String::from_str(alloc, "waiting can't be asked with --gates any\n")?,
-    })
 }
 
 fn is_of_waiting(topic: &Topic) -> bool
@@ -146,90 +130,48 @@ fn told(
     alloc: Global,
     subject: Subject<'_>,
     known: &Known,
+    list: &[Expectation],
     verdict: Verdict<'_>,
 ) -> Result<Marked, AllocError>
     ensures { IfOk result (λ m. m.mark ≡ spec.mark_of verdict.entry known.now.looked) }
 {
-    let text = match verdict {
-        Verdict::Holds => held(alloc, known)?,
-        Verdict::Fails {
-            expectation,
-            against,
-        } => failed(
-            alloc,
-            subject.legend,
-            expectation,
-            against,
-            "first against it: ",
+    let mark = mark_of(verdict, known);
+    let mut note = String::new(alloc);
+    let mut open = String::new(alloc);
+    if mark == Mark::Holds {
+        note.push_str(held_words(known))?;
+    }
+    match known.looked {
+        Some(choices) => write!(
+            open,
+            "no schedule of at most {choices} choices settles it (try greater --states)"
         )?,
-        Verdict::Open { expectation } => opened(alloc, subject, known, expectation)?,
-    };
+        None => open.push_str(open_words(known))?,
+    }
+    if mark == Mark::TooMany {
+        let most = subject.most;
+        write!(note, "too many states: there may be {most}\n")?;
+    }
+    let each = said_of_each(
+        alloc,
+        subject.legend,
+        known,
+        list,
+        "first against it: ",
+        open.as_str(),
+    )?;
     Ok(Marked {
-        mark: mark_of(verdict, known),
-        text,
+        mark,
+        note,
+        each,
+        last: String::new(alloc),
     })
 }
 
-fn held(alloc: Global, known: &Known) -> Result<String, AllocError> {
-    String::from_str(
-        alloc,
-        if is_whole(known) {
-            "holds\nfor schedules of any length\n"
-        } else {
-            "holds\nshown by a schedule\n"
-        },
-    )
-}
-
-/// Says that an expectation fails, and by which schedule, with what stands before that.
-pub fn failed(
-    alloc: Global,
-    legend: &Legend,
-    expectation: &Expectation,
-    against: Option<Witness<'_>>,
-    before: &str,
-) -> Result<String, AllocError> {
-    let mut text = String::new(alloc);
-    text.push_str("fails: ")?;
-    push_expectation(legend, &mut text, expectation)?;
-    match against {
-        Some(witness) => {
-            text.push_str("\n")?;
-            text.push_str(before)?;
-            push_witness(legend, &mut text, witness)?;
-        }
-        None => {
-            text.push_str("\n")?;
-            text.push_str(missing_words(expectation))?;
-        }
-    }
-    text.push_str("\n")?;
-    Ok(text)
-}
-
-fn opened(
-    alloc: Global,
-    subject: Subject<'_>,
-    known: &Known,
-    expectation: &Expectation,
-) -> Result<String, AllocError> {
-    let mut text = String::new(alloc);
-    if let Some(choices) = known.looked {
-        let most = subject.most;
-        write!(text, "too many states: there may be {most}\nnot settled: ")?;
-        push_expectation(subject.legend, &mut text, expectation)?;
-        write!(
-            text,
-            "\nno schedule of at most {choices} choices settles it (try greater --states)\n"
-        )?;
-        return Ok(text);
-    }
-    text.push_str("not settled: ")?;
-    push_expectation(subject.legend, &mut text, expectation)?;
-    text.push_str(if is_whole(known) {
-        "\nit is not known to hold, and no schedule is known to be against it\n"
+fn held_words(known: &Known) -> &'static str {
+    if is_whole(known) {
+        "for schedules of any length\n"
     } else {
-        "\nsome schedules ended at step-limit, and none so far settles it (try greater --steps)\n"
-    })?;
-    Ok(text)
+        "shown by a schedule\n"
+    }
 }

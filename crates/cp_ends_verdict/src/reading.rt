@@ -3,6 +3,7 @@
 use crate::expectation::{EndPattern, Expectation, Topic};
 use cp_legend::Legend;
 use cp_machine::ErrorName;
+use cp_verdict::value_of;
 use std::alloc::{AllocError, Global};
 
 /// What could have stood where a text of expectations goes wrong.
@@ -176,7 +177,10 @@ impl<'a> Reader<'a> {
         if self.is_over() {
             return Ok(self.miss(Wanted::Value));
         }
-        let value = String::from_str(alloc, self.word())?;
+        let Some(value) = value_of(self.word()) else {
+            return Ok(self.miss(Wanted::Value));
+        };
+        let value = String::from_str(alloc, value)?;
         self.go_on();
         if !self.is_over() && self.word() != "and" {
             return Ok(self.miss(Wanted::And));

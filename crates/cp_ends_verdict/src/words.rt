@@ -7,6 +7,7 @@ use cp_ends::End;
 use cp_legend::Legend;
 use cp_run::OutcomeKind;
 use cp_story::kind_words;
+use cp_verdict::{as_name, push_doubt, push_readable, push_value};
 use cp_waits::{How, Waiting};
 use cp_walk::text::{error_name, push_word};
 use std::alloc::{AllocError, Global};
@@ -43,7 +44,7 @@ fn push_topic(legend: &Legend, text: &mut String, topic: &Topic) -> Result<(), A
         }
         Topic::Shown(value) => {
             text.push_str("shown ")?;
-            text.push_str(value.as_str())
+            push_value(text, value.as_str())
         }
     }
 }
@@ -153,13 +154,28 @@ pub fn misread_text(
         Wanted::And => "and",
         Wanted::Joint => "and, or, finished, all-waiting, run-error, alone or spins",
     })?;
-    match text.split_whitespace().nth(place) {
-        Some(word) => {
-            said.push_str(", found \"")?;
-            said.push_str(word)?;
-            said.push_str("\"\n")?;
-        }
-        None => said.push_str(", found the end\n")?,
-    }
+    let Some(word) = text.split_whitespace().nth(place) else {
+        said.push_str(", found the end\n")?;
+        return Ok(said);
+    };
+    said.push_str(", found \"")?;
+    push_readable(&mut said, word.as_bytes())?;
+    said.push_str("\"\n")?;
+    push_advice(&mut said, wanted, word)?;
     Ok(said)
+}
+
+// What can't be asked of schedules of any length, where the word asks for it.
+fn push_advice(text: &mut String, wanted: Wanted, word: &str) -> Result<(), AllocError> {
+    match wanted {
+        Wanted::Value => match as_name(word) {
+            Some(name) => push_doubt(text, name),
+            None => Ok(()),
+        },
+        Wanted::Joint if word == "output" => text.push_str("outputs can't be asked with --ends\n"),
+        Wanted::End | Wanted::Joint if word == "shown" => text.push_str(
+            "with --ends it can be asked whether one value is never shown, or in some schedule\n",
+        ),
+        _ => Ok(()),
+    }
 }

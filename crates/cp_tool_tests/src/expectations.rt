@@ -6,8 +6,8 @@ use std::test::Fail;
 fn read_again(alloc: Global, text: &str) -> Result<String, Fail> {
     let mut again = String::new(alloc);
     match expectations(alloc, text) {
-        Ok(all) => {
-            for expectation in &all {
+        Ok(reading) => {
+            for expectation in &reading.expectations {
                 push_expectation(&mut again, expectation)?;
                 again.push_str(";")?;
             }
@@ -34,8 +34,21 @@ fn reads_expectations(rt: HostRuntime) -> Result<(), Fail> {
             "never finished output - or all-waiting output ..;",
         ),
         (
+            "only finished output (finished) .. 2 .. or shown (red)",
+            "only finished output (finished) .. 2 .. or shown red;",
+        ),
+        (
+            "some shown -32768 and never shown 'a' shown '(:32:)'",
+            "some shown -32768;never shown 'a' or shown '(:32:)';",
+        ),
+        (
             "only finished output finished",
-            "only finished output finished;",
+            "expected a value, - or .., found \"finished\"\nfinished begins an outcome; as a value it is written (finished)\n",
+        ),
+        ("never shown 32768", "expected a value, found \"32768\"\n"),
+        (
+            "never finished output 1, 2",
+            "expected a value, - or .., found \"1,\"\n",
         ),
         (
             "always finished",
@@ -43,11 +56,11 @@ fn reads_expectations(rt: HostRuntime) -> Result<(), Fail> {
         ),
         (
             "never",
-            "expected finished, all-waiting or run-error, found the end\n",
+            "expected finished, all-waiting, run-error or shown, found the end\n",
         ),
         (
             "never deadlock",
-            "expected finished, all-waiting or run-error, found \"deadlock\"\n",
+            "expected finished, all-waiting, run-error or shown, found \"deadlock\"\n",
         ),
         (
             "never finished output",
@@ -55,11 +68,11 @@ fn reads_expectations(rt: HostRuntime) -> Result<(), Fail> {
         ),
         (
             "never finished with",
-            "expected output, and, or, finished, all-waiting or run-error, found \"with\"\n",
+            "expected output, and, or, finished, all-waiting, run-error or shown, found \"with\"\n",
         ),
         (
-            "never finished output 1 .. 2",
-            "expected and, or, finished, all-waiting or run-error, found \"2\"\n",
+            "never finished output - 2",
+            "expected and, or, finished, all-waiting, run-error or shown, found \"2\"\n",
         ),
     ] {
         assert_eq!(rt; read_again(rt.alloc(), text)?.as_str(), again);
@@ -73,11 +86,15 @@ fn finds_expectations_in_comments(rt: HostRuntime) -> Result<(), Fail> {
         ("begin end.", ""),
         (
             "\"(* expect never all-waiting *)\" begin end.",
-            "never all-waiting ",
+            " never all-waiting ",
+        ),
+        (
+            "begin end. \"(* expect\tnever\r\nfinished *)\" \"(* expected *)\"",
+            " never  finished ",
         ),
         (
             "begin \" (* expect never\n all-waiting\" display('\"') end. \"(* expect some finished*)\"",
-            "never  all-waiting and some finished",
+            " never  all-waiting and  some finished",
         ),
         ("\"expect never all-waiting\" begin end.", ""),
     ] {

@@ -5,11 +5,12 @@ use Rattle.std.specs.List.{list_any, list_all}
 use Rattle.cp_run.specs.Table.{Line}
 use Rattle.cp_run.specs.declared.outcome.Outcome.{Outcome}
 use Rattle.cp_walk.specs.Report.{same_outcome, firsts, outcomes_of}
-use Rattle.cp_verdict.specs.Expectations.{is_limit, settles_by}
-use Rattle.cp_verdict.specs.Judged.{line_of, is_whole, first_settling, judgement_of, IsJudgedBy}
+use Rattle.cp_verdict.specs.Expectations.{is_limit, is_open_by, settles_by}
+use Rattle.cp_verdict.specs.Judged.{line_of, row_line, has_open, first_settling, judgement_of, IsJudgedBy}
 use Rattle.cp_verdict.specs.declared.expectation.Claim.{Claim}
 use Rattle.cp_verdict.specs.declared.expectation.Claim.TheVariants.{Never, Sometimes, Only}
 use Rattle.cp_verdict.specs.declared.judging.Judgement.{Judgement}
+use Rattle.cp_verdict.specs.declared.seen.Row.{Row}
 use Rattle.cp_verdict.specs.declared.seen.Seen.{Seen}
 use Rattle.cp_verdict.proofs.Exact.{exact}
 
@@ -66,15 +67,15 @@ any_where q (l ∷ ls) = split (q l.outcome) (any_where q ls)
     split true e = refl
     split false e = e
 
-whole_of : (lines : List Line) → is_whole (outcomes_of lines) ≡ is_whole lines
-whole_of lines = all_unless (λ o. is_limit o.kind) (outcomes_of lines) ∙ ap is_none (found_in (λ o. is_limit o.kind) lines) ∙ sym (all_unless (λ o. is_limit o.kind) lines)
+open_of : (claim : Claim) (named : Outcome → Bool) (lines : List Line) → has_open claim named (outcomes_of lines) ≡ has_open claim named lines
+open_of claim named lines = any_where (is_open_by claim named) (outcomes_of lines) ∙ ap is_some (found_in (is_open_by claim named) lines) ∙ sym (any_where (is_open_by claim named) lines)
 
-only_all : (named : Outcome → Bool) (ls : List Line) → is_none (first_settling Only named ls) ≡ true → is_whole ls ≡ true → list_all (λ l. named l.outcome) ls ≡ true
+only_all : (named : Outcome → Bool) (ls : List Line) → is_none (first_settling Only named ls) ≡ true → has_open Only named ls ≡ false → list_all (λ l. named l.outcome) ls ≡ true
 only_all named [] h w = refl
 only_all named (l ∷ ls) h w = split (named l.outcome) (is_limit l.outcome.kind) h w (only_all named ls)
   where
-    split : (b c : Bool) → is_none (cond (not b && not c) (Some l) (first_settling Only named ls)) ≡ true → (not c && is_whole ls) ≡ true → (is_none (first_settling Only named ls) ≡ true → is_whole ls ≡ true → list_all (λ l. named l.outcome) ls ≡ true) → (b && list_all (λ l. named l.outcome) ls) ≡ true
-    split true true h w on = absurd (cc)
+    split : (b c : Bool) → is_none (cond (not b && not c) (Some l) (first_settling Only named ls)) ≡ true → ((c && not b) || has_open Only named ls) ≡ false → (is_none (first_settling Only named ls) ≡ true → has_open Only named ls ≡ false → list_all (λ l. named l.outcome) ls ≡ true) → (b && list_all (λ l. named l.outcome) ls) ≡ true
+    split true true h w on = on h w
     split true false h w on = on h w
     split false true h w on = absurd (cc)
     split false false h w on = absurd (cc)
@@ -92,7 +93,7 @@ is_sometimes Never = false
 is_sometimes Sometimes = true
 is_sometimes Only = false
 
-never_apart : Never ≢ Sometimes
+pub never_apart : Never ≢ Sometimes
 unfolding is_sometimes
 never_apart h = absurd (let t : false ≡ true = ap is_sometimes h in cc)
 
@@ -101,20 +102,20 @@ unfolding is_sometimes
 only_apart h = absurd (let t : false ≡ true = ap is_sometimes h in cc)
 
 -- the judgement is that of all rows
-judged_by : (claim : Claim) (named : Outcome → Bool) (lines : List Line) (found : Option Seen) (whole : Bool) → first_settling claim named lines ≡ option_map line_of found → is_whole lines ≡ whole → IsJudgedBy claim named lines (judgement_of claim found whole)
-judged_by Never named lines None true f w = (ap not (any_where named lines ∙ ap is_some f), w)
-judged_by Never named lines None false f w = (f, w)
-judged_by Never named lines (Some s) whole f w = (never_apart, ap not (any_where named lines ∙ ap is_some f), f)
-judged_by Sometimes named lines None true f w = (refl, any_where named lines ∙ ap is_some f, w)
-judged_by Sometimes named lines None false f w = (f, w)
-judged_by Sometimes named lines (Some s) whole f w = (refl, any_where named lines ∙ ap is_some f, f)
-judged_by Only named lines None true f w = (only_all named lines (ap is_none f) w, w)
-judged_by Only named lines None false f w = (f, w)
-judged_by Only named lines (Some s) whole f w = (only_apart, only_not named lines (ap is_some f), f)
+judged_by : (claim : Claim) (named : Outcome → Bool) (lines : List Line) (found : Option Row) (left : Bool) → first_settling claim named lines ≡ option_map row_line found → has_open claim named lines ≡ left → IsJudgedBy claim named lines (judgement_of claim found left)
+judged_by Never named lines None false f w = (ap not (any_where named lines ∙ ap is_some f), w)
+judged_by Never named lines None true f w = (f, w)
+judged_by Never named lines (Some r) left f w = (never_apart, ap not (any_where named lines ∙ ap is_some f), f)
+judged_by Sometimes named lines None false f w = (refl, any_where named lines ∙ ap is_some f, w)
+judged_by Sometimes named lines None true f w = (f, w)
+judged_by Sometimes named lines (Some r) left f w = (refl, any_where named lines ∙ ap is_some f, f)
+judged_by Only named lines None false f w = (only_all named lines (ap is_none f) w, w)
+judged_by Only named lines None true f w = (f, w)
+judged_by Only named lines (Some r) left f w = (only_apart, only_not named lines (ap is_some f), f)
 
-pub judged : (claim : Claim) (named : Outcome → Bool) (seen : List Seen) (found : Option Seen) (whole : Bool) (j : Judgement) → option_map line_of found ≡ first_settling claim named (map line_of seen) → whole ≡ is_whole (map line_of seen) → j ≡ judgement_of claim found whole → (lines : List Line) → map line_of seen ≡ outcomes_of lines → IsJudgedBy claim named lines j
-judged claim named seen found whole j f w is lines e =
-    let first : first_settling claim named lines ≡ option_map line_of found = sym (found_in (settles_by claim named) lines) ∙ ap (first_settling claim named) (sym e) ∙ sym f in
-    let rest : is_whole lines ≡ whole = sym (whole_of lines) ∙ ap is_whole (sym e) ∙ sym w in
+pub judged : (claim : Claim) (named : Outcome → Bool) (seen : List Seen) (found : Option Row) (left : Bool) (j : Judgement) → option_map row_line found ≡ first_settling claim named (map line_of seen) → left ≡ has_open claim named (map line_of seen) → j ≡ judgement_of claim found left → (lines : List Line) → map line_of seen ≡ outcomes_of lines → IsJudgedBy claim named lines j
+judged claim named seen found left j f w is lines e =
+    let first : first_settling claim named lines ≡ option_map row_line found = sym (found_in (settles_by claim named) lines) ∙ ap (first_settling claim named) (sym e) ∙ sym f in
+    let rest : has_open claim named lines ≡ left = sym (open_of claim named lines) ∙ ap (has_open claim named) (sym e) ∙ sym w in
     let P : Judgement → Type 0 = λ j. IsJudgedBy claim named lines j in
-    subst P (sym is) (judged_by claim named lines found whole first rest)
+    subst P (sym is) (judged_by claim named lines found left first rest)

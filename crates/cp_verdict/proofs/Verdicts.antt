@@ -1,38 +1,102 @@
--- Verdicts on some expectations, from the judgement of each.
-use Rattle.std.proofs.Common.{◌≡◌, ◌⊎◌, inl, inr, List, [], ◌∷◌, map, sym, subst}
+-- The judgements of some expectations and one more, and the mark of all.
+use Rattle.std.proofs.Common.{◌≡◌, ◌⊎◌, inl, inr, ◌∙◌, ◌+◌, ◌<◌, ◌≤◌, ℕ, Bool, true, false, ◌||◌, if◌then◌else◌, List, [], ◌∷◌, ◌++◌, length, get_or, take, Option, None, Some, refl, sym, ap, subst, arith}
 use Rattle.std.specs.Borrow.{Bor}
+use Rattle.std.proofs.lemmas.List.{take_all, take_more}
 use Rattle.cp_walk.specs.Text.{Spellings}
-use Rattle.cp_run.specs.Table.{Line, Here, There}
-use Rattle.cp_walk.specs.Report.{outcomes_of}
-use Rattle.cp_verdict.specs.Judged.{line_of, IsJudged}
-use Rattle.cp_verdict.specs.Marked.{HoldsOf, OpenOf, Each, IsMarked, verdict_of}
+use Rattle.cp_run.specs.Table.{Line, IsAmong, Here, There}
+use Rattle.cp_verdict.specs.Judged.{row_line, IsJudged}
+use Rattle.cp_verdict.specs.Marked.{HoldsOf, FailsOf, OpenOf, Each, IsMarkOf, AreJudged, is_against, is_unsettled, has_against, has_unsettled, mark_of}
 use Rattle.cp_verdict.specs.declared.expectation.Expectation.{Expectation}
 use Rattle.cp_verdict.specs.declared.judging.Judgement.{Judgement}
 use Rattle.cp_verdict.specs.declared.judging.Judgement.TheVariants as judgement
-use Rattle.cp_verdict.specs.declared.marking.Verdict.{Verdict}
-use Rattle.cp_verdict.specs.declared.marking.Verdict.TheVariants as verdict
-use Rattle.cp_verdict.specs.declared.seen.Seen.{Seen}
+use Rattle.cp_verdict.specs.declared.marking.Mark.{Mark}
+use Rattle.cp_verdict.specs.declared.marking.Mark.TheVariants as mark
 
-each_left : (P Q : Expectation → Type 0) (es : List Expectation) → Each P es → Each (λ x. P x ⊎ Q x) es
-each_left P Q [] h = tt
-each_left P Q (e ∷ es) h = (inl h.0, each_left P Q es h.1)
+module _ (names : Spellings) (lines : List Line) where
+  one_more : (es : List Expectation) (js : List Judgement) (e : Expectation) (j : Judgement) → AreJudged names lines es js → IsJudged names e lines j → AreJudged names lines (es ++ e ∷ []) (js ++ j ∷ [])
+  one_more [] [] e j m h = (h, tt)
+  one_more [] (k ∷ js) e j m h = absurd m
+  one_more (f ∷ es) [] e j m h = absurd m
+  one_more (f ∷ es) (k ∷ js) e j m h = (m.0, one_more es js e j m.1 h)
 
-held : (names : Spellings) (lines : List Line) (b : Bor Expectation) (es : List Expectation) (others : Verdict) → HoldsOf names lines b.now → IsMarked names es lines others → IsMarked names (b.now ∷ es) lines others
-held names lines b es verdict.Holds h m = (h, m)
-held names lines b es (verdict.Fails e against) h m = (There b.now es m.0, m.1)
-held names lines b es (verdict.Open e) h m = ((inl h, m.0), There b.now es m.1, m.2)
+  pub judged_more : (list : List Expectation) (i : ℕ) (e : Bor Expectation) (js all : List Judgement) (j : Judgement) → i < length list → e.now ≡ get_or list i e.now → all ≡ js ++ j ∷ [] → AreJudged names lines (take i list) js → IsJudged names e.now lines j → AreJudged names lines (take (i + 1) list) all
+  judged_more list i e js all j less item is m h =
+      let longer : take (i + 1) list ≡ take i list ++ e.now ∷ [] = take_more list i e.now less ∙ ap (λ x. take i list ++ x ∷ []) (sym item) in
+      subst (λ es. AreJudged names lines es all) (sym longer) (subst (AreJudged names lines (take i list ++ e.now ∷ [])) (sym is) (one_more (take i list) js e.now j m h))
 
-joined : (names : Spellings) (lines : List Line) (b : Bor Expectation) (es : List Expectation) (j : Judgement) (others : Verdict) → IsJudged names b.now lines j → IsMarked names es lines others → IsMarked names (b.now ∷ es) lines (verdict_of b j others)
-joined names lines b es (judgement.Against s) others j m = (Here es, (j.1, j.0, j.2))
-joined names lines b es judgement.Missing others j m = (Here es, (j.1, j.0, j.2))
-joined names lines b es judgement.Holds others j m = held names lines b es others (j.0, inl j.1) m
-joined names lines b es (judgement.Shown s) others j m = held names lines b es others (j.1, inr j.0) m
-joined names lines b es judgement.Unsettled verdict.Holds j m = ((inr j, each_left (HoldsOf names lines) (OpenOf names lines) es m), Here es, j)
-joined names lines b es judgement.Unsettled (verdict.Fails e against) j m = (There b.now es m.0, m.1)
-joined names lines b es judgement.Unsettled (verdict.Open e) j m = ((inr j, m.0), Here es, j)
+  pub judged_all : (list : List Expectation) (i : ℕ) (js : List Judgement) → length list ≤ i → AreJudged names lines (take i list) js → AreJudged names lines list js
+  judged_all list i js le m = subst (λ es. AreJudged names lines es js) (take_all i list le) m
 
-pub marked : (names : Spellings) (seen : List Seen) (all es : List Expectation) (b : Bor Expectation) (j : Judgement) (others result : Verdict) → all ≡ b.now ∷ es → result ≡ verdict_of b j others → ((lines : List Line) → map line_of seen ≡ outcomes_of lines → IsJudged names b.now lines j) → ((lines : List Line) → map line_of seen ≡ outcomes_of lines → IsMarked names es lines others) → (lines : List Line) → map line_of seen ≡ outcomes_of lines → IsMarked names all lines result
-marked names seen all es b j others result is e one rest lines h =
-    let P : Verdict → Type 0 = λ v. IsMarked names (b.now ∷ es) lines v in
-    let Q : List Expectation → Type 0 = λ l. IsMarked names l lines result in
-    subst Q (sym is) (subst P (sym e) (joined names lines b es j others (one lines h) (rest lines h)))
+  -- ---- the mark
+
+  fails_by : (e : Expectation) (j : Judgement) → IsJudged names e lines j → is_against j ≡ true → (against : Option Line) × FailsOf names lines e against
+  fails_by e (judgement.Against r) h a = (Some (row_line r), (h.1, h.0, h.2))
+  fails_by e judgement.Missing h a = (None, (h.1, h.0, h.2))
+  fails_by e judgement.Holds h a = absurd (cc)
+  fails_by e (judgement.Shown r) h a = absurd (cc)
+  fails_by e judgement.Unsettled h a = absurd (cc)
+
+  some_fails : (es : List Expectation) (js : List Judgement) → AreJudged names lines es js → has_against js ≡ true → IsMarkOf names es lines mark.Fails
+  some_fails [] [] m h = absurd (cc)
+  some_fails [] (j ∷ js) m h = absurd m
+  some_fails (e ∷ es) [] m h = absurd m
+  some_fails (e ∷ es) (j ∷ js) m h = split (is_against j) refl h
+    where
+      split : (b : Bool) → is_against j ≡ b → (b || has_against js) ≡ true → IsMarkOf names (e ∷ es) lines mark.Fails
+      split true a h = let f = fails_by e j m.0 a in (e, f.0, Here es, f.1)
+      split false a h = let f = some_fails es js m.1 h in (f.0, f.1, There e es f.2, f.3)
+
+  holds_by : (e : Expectation) (j : Judgement) → IsJudged names e lines j → is_against j ≡ false → is_unsettled j ≡ false → HoldsOf names lines e
+  holds_by e judgement.Holds h a u = (h.0, inl h.1)
+  holds_by e (judgement.Shown r) h a u = (h.1, inr h.0)
+  holds_by e (judgement.Against r) h a u = absurd (cc)
+  holds_by e judgement.Missing h a u = absurd (cc)
+  holds_by e judgement.Unsettled h a u = absurd (cc)
+
+  open_by : (e : Expectation) (j : Judgement) → IsJudged names e lines j → is_unsettled j ≡ true → OpenOf names lines e
+  open_by e judgement.Unsettled h u = h
+  open_by e judgement.Holds h u = absurd (cc)
+  open_by e (judgement.Shown r) h u = absurd (cc)
+  open_by e (judgement.Against r) h u = absurd (cc)
+  open_by e judgement.Missing h u = absurd (cc)
+
+  neither : (a b : Bool) → (a || b) ≡ false → (a ≡ false) × (b ≡ false)
+  neither true b h = absurd (cc)
+  neither false b h = (refl, h)
+
+  each_holds : (es : List Expectation) (js : List Judgement) → AreJudged names lines es js → has_against js ≡ false → has_unsettled js ≡ false → IsMarkOf names es lines mark.Holds
+  each_holds [] [] m a u = tt
+  each_holds [] (j ∷ js) m a u = absurd m
+  each_holds (e ∷ es) [] m a u = absurd m
+  each_holds (e ∷ es) (j ∷ js) m a u =
+      let none = neither (is_against j) (has_against js) a in
+      let settled = neither (is_unsettled j) (has_unsettled js) u in
+      (holds_by e j m.0 none.0 settled.0, each_holds es js m.1 none.1 settled.1)
+
+  each_open : (es : List Expectation) (js : List Judgement) → AreJudged names lines es js → has_against js ≡ false → Each (λ x. HoldsOf names lines x ⊎ OpenOf names lines x) es
+  each_open [] [] m a = tt
+  each_open [] (j ∷ js) m a = absurd m
+  each_open (e ∷ es) [] m a = absurd m
+  each_open (e ∷ es) (j ∷ js) m a = let none = neither (is_against j) (has_against js) a in (split (is_unsettled j) refl none.0, each_open es js m.1 none.1)
+    where
+      split : (b : Bool) → is_unsettled j ≡ b → is_against j ≡ false → HoldsOf names lines e ⊎ OpenOf names lines e
+      split true u n = inr (open_by e j m.0 u)
+      split false u n = inl (holds_by e j m.0 n u)
+
+  some_open : (es : List Expectation) (js : List Judgement) → AreJudged names lines es js → has_unsettled js ≡ true → (e : Expectation) × IsAmong e es × OpenOf names lines e
+  some_open [] [] m h = absurd (cc)
+  some_open [] (j ∷ js) m h = absurd m
+  some_open (e ∷ es) [] m h = absurd m
+  some_open (e ∷ es) (j ∷ js) m h = split (is_unsettled j) refl h
+    where
+      split : (b : Bool) → is_unsettled j ≡ b → (b || has_unsettled js) ≡ true → (x : Expectation) × IsAmong x (e ∷ es) × OpenOf names lines x
+      split true u h = (e, Here es, open_by e j m.0 u)
+      split false u h = let f = some_open es js m.1 h in (f.0, There e es f.1, f.2)
+
+  pub marked : (es : List Expectation) (js : List Judgement) → AreJudged names lines es js → IsMarkOf names es lines (mark_of js)
+  marked es js m = split (has_against js) (has_unsettled js) refl refl
+    where
+      split : (a u : Bool) → has_against js ≡ a → has_unsettled js ≡ u → IsMarkOf names es lines (if a then mark.Fails else (if u then mark.Open else mark.Holds))
+      split true u h k = some_fails es js m h
+      split false true h k = (each_open es js m h, some_open es js m k)
+      split false false h k = each_holds es js m h k

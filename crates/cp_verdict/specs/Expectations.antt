@@ -1,7 +1,6 @@
 -- Which outcomes an expectation names, and when it is true of some rows.
-use Rattle.std.specs.Prelude.{List, ◌++◌, Bool, true, false, not, ◌&&◌, nat_eq, Option, None, Some, if◌then◌else◌, string_bytes, codes}
-use Rattle.std.specs.List.{list_any, list_all, starts_with}
-use lib.Pointwise.{pointwise}
+use Rattle.std.specs.Prelude.{ℕ, List, Bool, true, false, not, ◌&&◌, map, Option, None, Some, string_bytes}
+use Rattle.std.specs.List.{list_any, list_all}
 use Rattle.cp_store.specs.declared.error.ErrorName.{ErrorName}
 use Rattle.cp_store.specs.declared.error.ErrorName.TheVariants.{Overflow, ZeroDivisor, Range, NoCase, QueueInUse, NotInit, InitTwice}
 use Rattle.cp_machine.specs.declared.shown.Shown.{Shown}
@@ -9,14 +8,16 @@ use Rattle.cp_run.specs.declared.outcome.Outcome.{Outcome}
 use Rattle.cp_run.specs.declared.outcome.OutcomeKind.{OutcomeKind}
 use Rattle.cp_run.specs.declared.outcome.OutcomeKind.TheVariants.{Finished, AllWaiting, RunError, ChoiceLimit, StepLimit, OutputLimit}
 use Rattle.cp_run.specs.Table.{Line}
-use Rattle.cp_walk.specs.Text.{Spellings, output_text}
+use Rattle.cp_walk.specs.Text.{Spellings}
 use Rattle.cp_verdict.specs.declared.expectation.Claim.{Claim}
 use Rattle.cp_verdict.specs.declared.expectation.Claim.TheVariants.{Never, Sometimes, Only}
 use Rattle.cp_verdict.specs.declared.expectation.KindPattern.{KindPattern}
 use Rattle.cp_verdict.specs.declared.expectation.KindPattern.TheVariants as pattern
 use Rattle.cp_verdict.specs.declared.expectation.OutputPattern.{OutputPattern}
 use Rattle.cp_verdict.specs.declared.expectation.OutcomePattern.{OutcomePattern}
+use Rattle.cp_verdict.specs.declared.expectation.OutcomePattern.TheVariants as outcome
 use Rattle.cp_verdict.specs.declared.expectation.Expectation.{Expectation}
+use Rattle.cp_verdict.specs.Outputs.{value_text, is_printed, reads_as}
 
 abbrev pub is_same_error : ErrorName → ErrorName → Bool
 is_same_error Overflow Overflow = true
@@ -42,17 +43,17 @@ is_limit StepLimit = true
 is_limit OutputLimit = true
 is_limit kind = false
 
--- The printed values, with a space after each, are the text; or they begin with it, where any may follow.
-abbrev pub reads_as : Spellings → OutputPattern → List Shown → Bool
-reads_as names p values =
-    if p.open then starts_with nat_eq (output_text names values ++ codes " ") (string_bytes p.text) else pointwise nat_eq (output_text names values ++ codes " ") (string_bytes p.text)
-
 abbrev pub has_output : Spellings → Option OutputPattern → List Shown → Bool
 has_output names None values = true
-has_output names (Some p) values = reads_as names p values
+has_output names (Some p) values = reads_as p.items.items (map (value_text names) values)
+
+-- one of the values is printed so
+abbrev pub shows : Spellings → List ℕ → List Shown → Bool
+shows names text values = list_any (λ v. is_printed text (value_text names v)) values
 
 abbrev pub fits : Spellings → Outcome → OutcomePattern → Bool
-fits names o p = is_of_kind p.kind o.kind && has_output names p.output o.output
+fits names o (outcome.End kind output) = is_of_kind kind o.kind && has_output names output o.output
+fits names o (outcome.Shows text) = shows names (string_bytes text) o.output
 
 abbrev pub is_one_of : Spellings → List OutcomePattern → Outcome → Bool
 is_one_of names ps o = list_any (fits names o) ps
@@ -74,3 +75,12 @@ settles_by Only named o = not (named o) && not (is_limit o.kind)
 
 abbrev pub settles : Spellings → Expectation → Outcome → Bool
 settles names e o = settles_by e.claim (is_one_of names e.outcomes.items) o
+
+-- a run that a limit stopped, of which what it would come to might settle the expectation
+abbrev pub is_open_by : Claim → (Outcome → Bool) → Outcome → Bool
+is_open_by Never named o = is_limit o.kind
+is_open_by Sometimes named o = is_limit o.kind
+is_open_by Only named o = is_limit o.kind && not (named o)
+
+abbrev pub is_open : Spellings → Expectation → Outcome → Bool
+is_open names e o = is_open_by e.claim (is_one_of names e.outcomes.items) o

@@ -1,9 +1,10 @@
 //! Expectations in the comments of a source.
 
+use crate::readable::push_readable;
 use std::alloc::{AllocError, Global};
 
-/// How the comment of an expectation begins, after blanks.
-const OPENING: &str = "(* expect ";
+/// How the comment of an expectation begins, after blanks and before one.
+const OPENING: &str = "(* expect";
 
 /// What a byte of a source belongs to.
 #[derive(Clone, Copy, PartialEq, Eq)]
@@ -24,11 +25,10 @@ fn after(within: Within, byte: u8) -> Within {
     }
 }
 
-/// A byte of a comment, as ASCII on one line.
-fn readable(byte: u8) -> u8 {
+/// A byte of a comment, with a blank for what separates words.
+fn separated(byte: u8) -> u8 {
     match byte {
-        b'\n' => b' ',
-        128..=255 => b'?',
+        b'\t' | b'\r' | b'\n' => b' ',
         _ => byte,
     }
 }
@@ -40,9 +40,7 @@ fn comments(alloc: Global, source: &[u8]) -> Result<Vec<u8>, AllocError> {
     for byte in source {
         let next = after(within, *byte);
         match (within, next) {
-            (Within::Comment, Within::Comment) => {
-                text.push(readable(*byte))?;
-            }
+            (Within::Comment, Within::Comment) => text.push(separated(*byte))?,
             (Within::Comment, _) => text.push(b'\n')?,
             _ => {}
         }
@@ -51,22 +49,31 @@ fn comments(alloc: Global, source: &[u8]) -> Result<Vec<u8>, AllocError> {
     Ok(text)
 }
 
+/// The text of a comment's expectations, if it has some.
+fn expectation_of(comment: &str) -> Option<&str> {
+    let rest = comment.trim_ascii().strip_prefix(OPENING)?;
+    let rest = rest.strip_suffix("*)").unwrap_or(rest);
+    if rest.starts_with(" ") {
+        Some(rest)
+    } else {
+        None
+    }
+}
+
 /// The text of the expectations in a source, joined by `and`; empty where there are none. A comment of theirs begins with `(* expect`,
 /// and may end with `*)`.
 pub fn expected(alloc: Global, source: &[u8]) -> Result<String, AllocError> {
     let mut joined = String::new(alloc);
     let bytes = comments(alloc, source)?;
-    let Ok(text) = std::str::from_utf8(&bytes) else {
-        return Ok(joined);
-    };
-    for comment in text.split('\n') {
-        let Some(rest) = comment.trim().strip_prefix(OPENING) else {
-            continue;
-        };
-        if !joined.is_empty() {
-            joined.push_str(" and ")?;
+    for comment in bytes.split(|byte| *byte == b'\n') {
+        let mut text = String::new(alloc);
+        push_readable(&mut text, comment)?;
+        if let Some(rest) = expectation_of(text.as_str()) {
+            if !joined.is_empty() {
+                joined.push_str(" and ")?;
+            }
+            joined.push_str(rest)?;
         }
-        joined.push_str(rest.strip_suffix("*)").unwrap_or(rest))?;
     }
     Ok(joined)
 }

@@ -5,11 +5,11 @@ use cp_machine::ErrorName;
 /// What an expectation says of some outcomes.
 #[derive(Clone, Copy)]
 pub enum Claim {
-    /// No schedule ends in one of them.
+    /// No schedule has one of them.
     Never,
-    /// Some schedule ends in one of them.
+    /// Some schedule has one of them.
     Sometimes,
-    /// Every schedule ends in one of them.
+    /// Every schedule has one of them.
     Only,
 }
 
@@ -22,20 +22,31 @@ pub enum KindPattern {
     Error(ErrorName),
 }
 
-/// An expected output, or its beginning.
+/// A part of an expected output.
 #[derive(Drop)]
-pub struct OutputPattern {
-    /// The values as a report prints them, with a space after each.
-    pub text: String,
-    /// Whether any values may follow.
-    pub open: bool,
+pub enum OutputItem {
+    /// A value, as a report prints it.
+    Value(String),
+    /// Any values, or none.
+    Rest,
 }
 
-/// The outcomes of one kind, and of one output where that is given.
+/// An expected output, from its first value to its last.
 #[derive(Drop)]
-pub struct OutcomePattern {
-    pub kind: KindPattern,
-    pub output: Option<OutputPattern>,
+pub struct OutputPattern {
+    pub items: Vec<OutputItem>,
+}
+
+/// Some outcomes.
+#[derive(Drop)]
+pub enum OutcomePattern {
+    /// Those of one kind, and of such an output where one is given.
+    End {
+        kind: KindPattern,
+        output: Option<OutputPattern>,
+    },
+    /// Those in which this value was displayed, as a report prints it, whatever they end in.
+    Shows(String),
 }
 
 /// A claim about the outcomes that fit one of the patterns.

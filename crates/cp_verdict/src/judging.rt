@@ -7,77 +7,83 @@ ghost use Rattle.cp_verdict.specs.Expectations.{is_one_of};
 ghost use Rattle.cp_verdict.specs.Judged as spec;
 
 use crate::expectation::{Claim, Expectation};
-use crate::matching::{is_limit, settles};
-use crate::seen::Seen;
+use crate::matching::{is_open, settles};
+use crate::seen::{Row, Seen};
 use cp_slots::Resolved;
 use std::alloc::{AllocError, Global};
 
 /// What a table says of an expectation.
-#[derive(Clone, Copy, Drop)]
-pub enum Judgement<'a> {
-    /// It is true of the whole table, and no schedule ended at a limit.
+#[derive(Drop)]
+pub enum Judgement {
+    /// It is true of the whole table, and no schedule that a limit stopped could change that.
     Holds,
-    /// Some schedule was to end so, and this is the first that does.
-    Shown(Seen<'a>),
+    /// Some schedule was to be so, and this is the first that is.
+    Shown(Row),
     /// This is the first schedule against it.
-    Against(Seen<'a>),
-    /// Some schedule was to end so. None does, and no schedule ended at a limit.
+    Against(Row),
+    /// Some schedule was to be so. None is, and no schedule ended at a limit.
     Missing,
-    /// No schedule settles it, and some ended at a limit.
+    /// No schedule settles it, and some that ended at a limit might.
     Unsettled,
 }
 
-/// The first outcome that settles an expectation.
-fn first_settling<'a>(
+/// The first row that settles an expectation.
+fn first_settling(
     alloc: Global,
     program: &Resolved,
     expectation: &Expectation,
-    seen: &[Seen<'a>],
-) -> Result<Option<Seen<'a>>, AllocError>
-    ensures { IfOk result (λ found. option_map spec.line_of found ≡ spec.first_settling expectation.now.claim (is_one_of program.now.names expectation.now.outcomes.items) (map spec.line_of seen.now)) }
+    seen: &[Seen],
+) -> Result<Option<Row>, AllocError>
+    ensures { IfOk result (λ found. option_map spec.row_line found ≡ spec.first_settling expectation.now.claim (is_one_of program.now.names expectation.now.outcomes.items) (map spec.line_of seen.now)) }
 {
     for one in seen {
         if settles(alloc, program, expectation, one.outcome)? {
-            return Ok(Some(*one));
+            let row = one.row(alloc)?;
+            return Ok(Some(row));
         }
     }
     Ok(None)
 }
 
-/// Whether no run was stopped by a limit.
-fn is_whole(seen: &[Seen]) -> bool
-    ensures { result ≡ spec.is_whole (map spec.line_of seen.now) }
+/// Whether a limit stopped some run that might settle an expectation.
+fn has_open(
+    alloc: Global,
+    program: &Resolved,
+    expectation: &Expectation,
+    seen: &[Seen],
+) -> Result<bool, AllocError>
+    ensures { IfOk result (λ b. b ≡ spec.has_open expectation.now.claim (is_one_of program.now.names expectation.now.outcomes.items) (map spec.line_of seen.now)) }
 {
     for one in seen {
-        if is_limit(one.outcome.kind) {
-            return false;
+        if is_open(alloc, program, expectation, one.outcome)? {
+            return Ok(true);
         }
     }
-    true
+    Ok(false)
 }
 
-fn settled<'a>(claim: Claim, found: Option<Seen<'a>>, whole: bool) -> Judgement<'a>
-    ensures { result ≡ spec.judgement_of claim found.entry whole }
+fn settled(claim: Claim, found: Option<Row>, left_open: bool) -> Judgement
+    ensures { result ≡ spec.judgement_of claim found left_open }
 {
     match (claim, found) {
         (Claim::Sometimes, Some(shown)) => Judgement::Shown(shown),
-        (Claim::Sometimes, None) if whole => Judgement::Missing,
         (_, Some(against)) => Judgement::Against(against),
-        (_, None) if whole => Judgement::Holds,
-        _ => Judgement::Unsettled,
+        (_, None) if left_open => Judgement::Unsettled,
+        (Claim::Sometimes, None) => Judgement::Missing,
+        (_, None) => Judgement::Holds,
     }
 }
 
 /// What the table with these outcomes, in the order of their first rows, says of an expectation.
-pub fn judge<'a>(
+pub fn judge(
     alloc: Global,
     program: &Resolved,
     expectation: &Expectation,
-    seen: &[Seen<'a>],
-) -> Result<Judgement<'a>, AllocError>
+    seen: &[Seen],
+) -> Result<Judgement, AllocError>
     ensures { IfOk result (λ j. (lines : List Line) → map spec.line_of seen.now ≡ outcomes_of lines → spec.IsJudged program.now.names expectation.now lines j) }
 {
-    let whole = is_whole(seen);
+    let left_open = has_open(alloc, program, expectation, seen)?;
     let found = first_settling(alloc, program, expectation, seen)?;
-    Ok(settled(expectation.claim, found, whole))
+    Ok(settled(expectation.claim, found, left_open))
 }

@@ -1,12 +1,21 @@
-//! A law over the definitions alone.
+//! Laws over the definitions alone.
 
+ghost use Rattle.std.specs.Prelude.{◌≡◌};
 ghost use Rattle.cp_machine.specs.System.{Machine};
+ghost use Rattle.cp_machine.specs.declared.gates.Gates.{Gates};
 ghost use Rattle.cp_meaning.specs.State.{State};
+ghost use Rattle.cp_run.specs.Slots.{slots};
 ghost use Rattle.cp_run.specs.System.{System};
-ghost use Rattle.cp_verdict.specs.Lasting.{HoldsLaw};
+ghost use Rattle.cp_slots.specs.Tables.{Tables};
+ghost use Rattle.cp_verdict.specs.Lasting.{HoldsLaw, KeepsOutput};
 
 /// An expectation that holds is true of every table of more choices.
 pub fn law_holds()
     ensures machine { (sys : System Machine) → HoldsLaw sys }
     ensures meaning { (sys : System State) → HoldsLaw sys }
+{}
+
+/// What the slot machine displayed is never taken back.
+pub fn law_output()
+    ensures { (r : Tables) (gates : Gates) → KeepsOutput (slots r gates) }
 {}

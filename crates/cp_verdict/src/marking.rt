@@ -4,7 +4,7 @@ ghost use Rattle.std.specs.Prelude.{◌≡◌, List, map, IfOk};
 ghost use Rattle.cp_run.specs.Table.{Line};
 ghost use Rattle.cp_walk.specs.Report.{outcomes_of};
 ghost use Rattle.cp_verdict.specs.Judged.{line_of};
-ghost use Rattle.cp_verdict.specs.Marked.{IsMarked, verdict_of};
+ghost use Rattle.cp_verdict.specs.Marked as spec;
 
 use crate::expectation::Expectation;
 use crate::judging::{Judgement, judge};
@@ -12,54 +12,81 @@ use crate::seen::Seen;
 use cp_slots::Resolved;
 use std::alloc::{AllocError, Global};
 
-/// What a table says of some expectations.
-#[derive(Clone, Copy, Drop)]
-pub enum Verdict<'a> {
-    /// Each of them holds.
+/// What is said of some expectations together.
+#[derive(Clone, Copy, PartialEq, Eq)]
+pub enum Mark {
+    /// Each of them is true of the whole table, and no run that a limit stopped could change that.
     Holds,
-    /// This one does not; with the first schedule against it, or none where it asks for one that the whole table does not have.
-    Fails {
-        expectation: &'a Expectation,
-        against: Option<Seen<'a>>,
-    },
-    /// None of them fails, and this one is not settled.
-    Open {
-        expectation: &'a Expectation,
-    },
+    /// One of them is not.
+    Fails,
+    /// None of them fails, and one is not settled.
+    Open,
 }
 
-/// The verdict on an expectation and others.
-fn joined<'a>(first: &'a Expectation, judgement: Judgement<'a>, others: Verdict<'a>) -> Verdict<'a>
-    ensures { result ≡ verdict_of first.entry judgement.entry others.entry }
-{
-    match (judgement, others) {
-        (Judgement::Against(row), _) => Verdict::Fails {
-            expectation: first,
-            against: Some(row),
-        },
-        (Judgement::Missing, _) => Verdict::Fails {
-            expectation: first,
-            against: None,
-        },
-        (Judgement::Unsettled, Verdict::Holds) => Verdict::Open { expectation: first },
-        (Judgement::Unsettled, Verdict::Open { .. }) => Verdict::Open { expectation: first },
-        _ => others,
+impl Judgement {
+    /// Whether the expectation fails.
+    pub fn is_against(&self) -> bool
+        ensures { result ≡ spec.is_against self.now }
+    {
+        matches!(self, Judgement::Against(_) | Judgement::Missing)
+    }
+
+    /// Whether the expectation is not settled.
+    pub fn is_unsettled(&self) -> bool
+        ensures { result ≡ spec.is_unsettled self.now }
+    {
+        matches!(self, Judgement::Unsettled)
     }
 }
 
-/// What the table with these outcomes, in the order of their first rows, says of some expectations.
-pub fn mark<'a>(
+fn has_against(judgements: &[Judgement]) -> bool
+    ensures { result ≡ spec.has_against judgements.now }
+{
+    for judgement in judgements {
+        if judgement.is_against() {
+            return true;
+        }
+    }
+    false
+}
+
+fn has_unsettled(judgements: &[Judgement]) -> bool
+    ensures { result ≡ spec.has_unsettled judgements.now }
+{
+    for judgement in judgements {
+        if judgement.is_unsettled() {
+            return true;
+        }
+    }
+    false
+}
+
+/// The mark by the judgement of each expectation.
+pub fn mark_of(judgements: &[Judgement]) -> Mark
+    ensures { result ≡ spec.mark_of judgements.now }
+{
+    if has_against(judgements) {
+        Mark::Fails
+    } else if has_unsettled(judgements) {
+        Mark::Open
+    } else {
+        Mark::Holds
+    }
+}
+
+/// What the table with these outcomes, in the order of their first rows, says of each expectation.
+pub fn judge_each(
     alloc: Global,
     program: &Resolved,
-    expectations: &'a [Expectation],
-    seen: &[Seen<'a>],
-) -> Result<Verdict<'a>, AllocError>
-    ensures { IfOk result (λ v. (lines : List Line) → map line_of seen.now ≡ outcomes_of lines → IsMarked program.now.names expectations.entry.now lines v) }
+    expectations: &[Expectation],
+    seen: &[Seen],
+) -> Result<Vec<Judgement>, AllocError>
+    ensures { IfOk result (λ js. (lines : List Line) → map line_of seen.now ≡ outcomes_of lines → spec.AreJudged program.now.names lines expectations.now js.items) }
 {
-    let Some((first, rest)) = expectations.split_first() else {
-        return Ok(Verdict::Holds);
-    };
-    let judgement = judge(alloc, program, first, seen)?;
-    let others = mark(alloc, program, rest, seen)?;
-    Ok(joined(first, judgement, others))
+    let mut judgements = Vec::new(alloc);
+    for expectation in expectations {
+        let judgement = judge(alloc, program, expectation, seen)?;
+        judgements.push(judgement)?;
+    }
+    Ok(judgements)
 }

@@ -1,10 +1,11 @@
 //! Whether an outcome is one of those that an expectation names.
 
-ghost use Rattle.std.specs.Prelude.{◌≡◌, IfOk};
-ghost use Rattle.std.specs.Option.{option_copied};
+ghost use Rattle.std.specs.Prelude.{◌≡◌, IfOk, map, string_bytes};
 ghost use Rattle.cp_verdict.specs.Expectations as spec;
+ghost use Rattle.cp_verdict.specs.Outputs as outputs;
 
 use crate::expectation::{Claim, Expectation, KindPattern, OutcomePattern, OutputPattern};
+use crate::output::reads_as;
 use cp_machine::{ErrorName, Shown};
 use cp_run::{Outcome, OutcomeKind};
 use cp_slots::Resolved;
@@ -52,24 +53,55 @@ pub fn is_limit(kind: OutcomeKind) -> bool
     }
 }
 
-fn reads_as(
+/// A value as a report prints it.
+fn text_of(alloc: Global, program: &Resolved, value: Shown) -> Result<String, AllocError>
+    ensures { IfOk result (λ s. string_bytes s ≡ outputs.value_text program.now.names value) }
+{
+    let mut text = String::new(alloc);
+    push_output(&mut text, program, [value].as_slice())?;
+    Ok(text)
+}
+
+/// The values as a report prints them.
+fn texts_of(alloc: Global, program: &Resolved, values: &[Shown]) -> Result<Vec<String>, AllocError>
+    ensures { IfOk result (λ v. map string_bytes v.items ≡ map (outputs.value_text program.now.names) values.now) }
+{
+    let mut texts = Vec::new(alloc);
+    for value in values {
+        let text = text_of(alloc, program, *value)?;
+        texts.push(text)?;
+    }
+    Ok(texts)
+}
+
+fn has_output(
     alloc: Global,
     program: &Resolved,
     pattern: &OutputPattern,
     values: &[Shown],
 ) -> Result<bool, AllocError>
-    ensures { IfOk result (λ b. b ≡ spec.reads_as program.now.names pattern.now values.now) }
+    ensures { IfOk result (λ b. b ≡ outputs.reads_as pattern.now.items.items (map (outputs.value_text program.now.names) values.now)) }
 {
-    let mut printed = String::new(alloc);
-    push_output(&mut printed, program, values)?;
-    printed.push_str(" ")?;
-    let printed = printed.as_bytes();
-    let wanted = pattern.text.as_bytes();
-    if pattern.open {
-        Ok(printed.starts_with(wanted))
-    } else {
-        Ok(printed == wanted)
+    let texts = texts_of(alloc, program, values)?;
+    reads_as(alloc, pattern.items.as_slice(), texts.as_slice())
+}
+
+/// Whether one of the values is printed so.
+fn shows(
+    alloc: Global,
+    program: &Resolved,
+    text: &str,
+    values: &[Shown],
+) -> Result<bool, AllocError>
+    ensures { IfOk result (λ b. b ≡ spec.shows program.now.names text.now values.now) }
+{
+    for value in values {
+        let printed = text_of(alloc, program, *value)?;
+        if printed.as_bytes() == text.as_bytes() {
+            return Ok(true);
+        }
     }
+    Ok(false)
 }
 
 fn fits(
@@ -80,12 +112,19 @@ fn fits(
 ) -> Result<bool, AllocError>
     ensures { IfOk result (λ b. b ≡ spec.fits program.now.names outcome.now pattern.now) }
 {
-    if !is_of_kind(pattern.kind, outcome.kind) {
-        return Ok(false);
-    }
-    match &pattern.output {
-        Some(output) => reads_as(alloc, program, output, outcome.output.as_slice()),
-        None => Ok(true),
+    match pattern {
+        OutcomePattern::End { kind, output } => {
+            if !is_of_kind(*kind, outcome.kind) {
+                return Ok(false);
+            }
+            match output {
+                Some(output) => has_output(alloc, program, output, outcome.output.as_slice()),
+                None => Ok(true),
+            }
+        }
+        OutcomePattern::Shows(text) => {
+            shows(alloc, program, text.as_str(), outcome.output.as_slice())
+        }
     }
 }
 
@@ -98,13 +137,12 @@ fn is_one_of(
 ) -> Result<bool, AllocError>
     ensures { IfOk result (λ b. b ≡ spec.is_one_of program.now.names patterns.now outcome.now) }
 {
-    let Some((first, rest)) = patterns.split_first() else {
-        return Ok(false);
-    };
-    if fits(alloc, program, first, outcome)? {
-        return Ok(true);
+    for pattern in patterns {
+        if fits(alloc, program, pattern, outcome)? {
+            return Ok(true);
+        }
     }
-    is_one_of(alloc, program, rest, outcome)
+    Ok(false)
 }
 
 /// Whether one schedule with this outcome settles an expectation.
@@ -120,5 +158,26 @@ pub fn settles(
     match expectation.claim {
         Claim::Only => Ok(!is_named && !is_limit(outcome.kind)),
         _ => Ok(is_named),
+    }
+}
+
+/// Whether a schedule with this outcome was stopped by a limit, and what it would come to might settle an expectation.
+pub fn is_open(
+    alloc: Global,
+    program: &Resolved,
+    expectation: &Expectation,
+    outcome: &Outcome,
+) -> Result<bool, AllocError>
+    ensures { IfOk result (λ b. b ≡ spec.is_open program.now.names expectation.now outcome.now) }
+{
+    if !is_limit(outcome.kind) {
+        return Ok(false);
+    }
+    match expectation.claim {
+        Claim::Only => {
+            let is_named = is_one_of(alloc, program, expectation.outcomes.as_slice(), outcome)?;
+            Ok(!is_named)
+        }
+        _ => Ok(true),
     }
 }

@@ -11,9 +11,9 @@ ghost use Rattle.cp_verdict.specs.Marked as spec;
 ghost use Rattle.cp_verdict.specs.Meant.{IsMeantMark};
 
 use crate::expectation::Expectation;
-use crate::marking::{Verdict, mark};
+use crate::judging::Judgement;
+use crate::marking::{Mark, judge_each, mark_of};
 use crate::seen::Seen;
-use crate::words::verdict_text;
 use cp_merged::{MergeFault, Tallies, Tally, explore_merged};
 use cp_run::OutcomeKind;
 use cp_slots::Resolved;
@@ -40,33 +40,31 @@ impl<T: Drop> From<AllocFailed<T>> for MarkFault {
     }
 }
 
-/// What is said of some expectations together.
+/// The limits at which some schedules ended.
 #[derive(Clone, Copy, PartialEq, Eq)]
-pub enum Mark {
-    /// Each of them is true of the whole table, and no run that a limit stopped could change that.
-    Holds,
-    /// One of them is not.
-    Fails,
-    /// None of them fails, and one is not settled.
-    Open,
+pub struct Stops {
+    pub choices: bool,
+    pub steps: bool,
+    pub output: bool,
 }
 
-/// A mark, and what is said with it.
+/// What is said of each expectation, and of all together.
 #[derive(Drop)]
 pub struct Marked {
+    pub judgements: Vec<Judgement>,
     pub mark: Mark,
-    pub text: String,
-    /// Whether some schedules ended because one choice more was due than they may have.
-    pub wants_choices: bool,
+    pub stops: Stops,
 }
 
-fn mark_of(verdict: Verdict) -> Mark
-    ensures { result ≡ spec.mark_of verdict.entry }
-{
-    match verdict {
-        Verdict::Holds => Mark::Holds,
-        Verdict::Fails { .. } => Mark::Fails,
-        Verdict::Open { .. } => Mark::Open,
+fn is_stopped(seen: &[Seen], kind: OutcomeKind) -> bool {
+    seen.iter().any(|one| one.outcome.kind == kind)
+}
+
+fn stops_of(seen: &[Seen]) -> Stops {
+    Stops {
+        choices: is_stopped(seen, OutcomeKind::ChoiceLimit),
+        steps: is_stopped(seen, OutcomeKind::StepLimit),
+        output: is_stopped(seen, OutcomeKind::OutputLimit),
     }
 }
 
@@ -78,7 +76,7 @@ fn seen_of<'a>(alloc: Global, tallies: &'a [Tally]) -> Result<Vec<Seen<'a>>, All
     for tally in tallies {
         seen.push(Seen {
             outcome: &tally.outcome,
-            first: tally.first.as_slice(),
+            first: &tally.first,
         })?;
     }
     Ok(seen)
@@ -97,24 +95,22 @@ fn explored(alloc: Global, job: Job, states: u32) -> Result<Tallies, MarkFault>
 }
 
 /// What the table with these outcomes says of some expectations.
-pub fn mark_tallies<'a>(
+pub fn mark_tallies(
     alloc: Global,
     program: &Resolved,
-    expectations: &'a [Expectation],
-    tallies: &'a [Tally],
+    expectations: &[Expectation],
+    tallies: &[Tally],
 ) -> Result<Marked, AllocError>
-    ensures { IfOk result (λ m. (lines : List Line) → map tally_of tallies.entry.now ≡ tally same_outcome lines → spec.IsMarkOf program.now.names expectations.entry.now lines m.mark) }
+    ensures { IfOk result (λ m. (lines : List Line) → map tally_of tallies.now ≡ tally same_outcome lines → spec.IsMarked program.now.names expectations.now lines m) }
 {
     let seen = seen_of(alloc, tallies)?;
-    let verdict = mark(alloc, program, expectations, &seen)?;
-    let text = verdict_text(alloc, program, &seen, verdict)?;
-    let wants_choices = seen
-        .iter()
-        .any(|one| one.outcome.kind == OutcomeKind::ChoiceLimit);
+    let judgements = judge_each(alloc, program, expectations, &seen)?;
+    let mark = mark_of(&judgements);
+    let stops = stops_of(&seen);
     Ok(Marked {
-        mark: mark_of(verdict),
-        text,
-        wants_choices,
+        judgements,
+        mark,
+        stops,
     })
 }
 
@@ -128,8 +124,8 @@ pub fn mark_program(
     states: u32,
     expectations: &[Expectation],
 ) -> Result<Marked, MarkFault>
-    ensures mark { IfOk result (λ m. spec.IsMarkOf job.entry.program.now.names expectations.entry.now (table (slots job.entry.program.now job.entry.limits.gates) job.entry.limits.choices job.entry.limits.steps) m.mark) }
-    ensures meaning { IfOk result (λ m. IsMeantMark job.entry.program.now job.entry.limits.gates job.entry.limits.choices job.entry.limits.steps expectations.entry.now m.mark) }
+    ensures mark { IfOk result (λ m. spec.IsMarked job.entry.program.now.names expectations.entry.now (table (slots job.entry.program.now job.entry.limits.gates) job.entry.limits.choices job.entry.limits.steps) m) }
+    ensures meaning { IfOk result (λ m. IsMeantMark job.entry.program.now job.entry.limits.gates job.entry.limits.choices job.entry.limits.steps expectations.entry.now m) }
 {
     let tallies = explored(alloc, job, states)?;
     let marked = mark_tallies(alloc, job.program, expectations, tallies.as_slice())?;

@@ -1,6 +1,9 @@
 //! Expectations as they are written.
 
-use crate::expectation::{Claim, Expectation, KindPattern, OutcomePattern, OutputPattern};
+use crate::expectation::{
+    Claim, Expectation, KindPattern, OutcomePattern, OutputItem, OutputPattern,
+};
+use crate::value::is_value;
 use cp_machine::ErrorName;
 use std::alloc::{AllocError, AllocFailed, Global};
 
@@ -9,13 +12,17 @@ use std::alloc::{AllocError, AllocFailed, Global};
 pub enum Wanted {
     /// `never`, `some` or `only`.
     Claim,
-    /// `finished`, `all-waiting` or `run-error`.
-    Kind,
+    /// An outcome.
+    Outcome,
     /// A displayed value, `-` or `..`.
-    Value,
-    /// `output`, `and`, `or` or a kind.
     Output,
-    /// `and`, `or` or a kind.
+    /// A displayed value.
+    Value,
+    /// `output`, `and`, `or` or an outcome.
+    AfterKind,
+    /// A value, `..`, `and`, `or` or an outcome.
+    AfterValue,
+    /// `and`, `or` or an outcome.
     Joint,
 }
 
@@ -39,21 +46,38 @@ impl<T: Drop> From<AllocFailed<T>> for Misread {
     }
 }
 
+/// The expectations of a text.
+#[derive(Drop)]
+pub struct Reading {
+    pub expectations: Vec<Expectation>,
+    /// A word that begins an outcome and follows a value, where a constant of this name could be meant as well.
+    pub doubtful: Option<&'static str>,
+}
+
 /// What may come next.
 #[derive(Clone, Copy, PartialEq, Eq)]
 enum Next {
     Claim,
-    Kind,
+    Outcome,
     /// After `run-error`: its name, or what comes after a kind.
     Name,
     /// After a kind.
-    Output,
+    AfterKind,
     /// After `output`.
-    FirstValue,
-    /// After a value.
-    Value,
-    /// After `..`.
+    Output,
+    /// After a value or `..`.
+    AfterValue,
+    /// After `shown`.
+    Shown,
+    /// After an outcome that is whole.
     Joint,
+}
+
+/// How an outcome begins.
+#[derive(Clone, Copy)]
+enum Beginning {
+    Kind(KindPattern),
+    Shown,
 }
 
 /// The expectations read so far, and the one that is being read.
@@ -61,10 +85,12 @@ enum Next {
 struct Reader {
     alloc: Global,
     done: Vec<Expectation>,
+    doubtful: Option<&'static str>,
     claim: Claim,
     outcomes: Vec<OutcomePattern>,
     kind: KindPattern,
     output: Option<OutputPattern>,
+    shown: Option<String>,
     next: Next,
 }
 
@@ -77,13 +103,33 @@ fn claim_of(word: &str) -> Option<Claim> {
     }
 }
 
-fn kind_of(word: &str) -> Option<KindPattern> {
+fn beginning_of(word: &str) -> Option<Beginning> {
     match word {
-        "finished" => Some(KindPattern::Finished),
-        "all-waiting" => Some(KindPattern::AllWaiting),
-        "run-error" => Some(KindPattern::AnyError),
+        "finished" => Some(Beginning::Kind(KindPattern::Finished)),
+        "all-waiting" => Some(Beginning::Kind(KindPattern::AllWaiting)),
+        "run-error" => Some(Beginning::Kind(KindPattern::AnyError)),
+        "shown" => Some(Beginning::Shown),
         _ => None,
     }
+}
+
+/// The word, if it begins an outcome and could be the name of a constant as well.
+pub fn as_name(word: &str) -> Option<&'static str> {
+    match word {
+        "finished" => Some("finished"),
+        "shown" => Some("shown"),
+        _ => None,
+    }
+}
+
+/// The value that a word stands for, as a report prints it: itself, or what stands between its parentheses. None where no report prints it.
+pub fn value_of(word: &str) -> Option<&str> {
+    let inside = match word.strip_prefix("(") {
+        Some(rest) => rest.strip_suffix(")")?,
+        None if as_name(word).is_some() => return None,
+        None => word,
+    };
+    if is_value(inside) { Some(inside) } else { None }
 }
 
 fn error_of(word: &str) -> Option<ErrorName> {
@@ -103,11 +149,12 @@ fn error_of(word: &str) -> Option<ErrorName> {
 fn wanted_by(next: Next) -> Wanted {
     match next {
         Next::Claim => Wanted::Claim,
-        Next::Kind => Wanted::Kind,
-        Next::Name => Wanted::Output,
+        Next::Outcome => Wanted::Outcome,
+        Next::Name => Wanted::AfterKind,
+        Next::AfterKind => Wanted::AfterKind,
         Next::Output => Wanted::Output,
-        Next::FirstValue => Wanted::Value,
-        Next::Value => Wanted::Joint,
+        Next::AfterValue => Wanted::AfterValue,
+        Next::Shown => Wanted::Value,
         Next::Joint => Wanted::Joint,
     }
 }
@@ -117,10 +164,12 @@ impl Reader {
         Reader {
             alloc,
             done: Vec::new(alloc),
+            doubtful: None,
             claim: Claim::Never,
             outcomes: Vec::new(alloc),
             kind: KindPattern::Finished,
             output: None,
+            shown: None,
             next: Next::Claim,
         }
     }
@@ -128,19 +177,21 @@ impl Reader {
     /// Whether the text may end here.
     fn may_end(&self) -> bool {
         match self.next {
-            Next::Claim => false,
-            Next::Kind => false,
-            Next::FirstValue => false,
+            Next::Claim | Next::Outcome | Next::Output | Next::Shown => false,
             _ => true,
         }
     }
 
     fn end_outcome(&mut self) -> Result<(), AllocError> {
         let output = self.output.take();
-        self.outcomes.push(OutcomePattern {
-            kind: self.kind,
-            output,
-        })?;
+        let outcome = match self.shown.take() {
+            Some(value) => OutcomePattern::Shows(value),
+            None => OutcomePattern::End {
+                kind: self.kind,
+                output,
+            },
+        };
+        self.outcomes.push(outcome)?;
         Ok(())
     }
 
@@ -154,15 +205,31 @@ impl Reader {
         Ok(())
     }
 
-    fn begin_outcome(&mut self, kind: KindPattern) {
-        self.kind = kind;
-        self.next = match kind {
-            KindPattern::AnyError => Next::Name,
-            _ => Next::Output,
+    fn begin_outcome(&mut self, beginning: Beginning) {
+        self.next = match beginning {
+            Beginning::Shown => Next::Shown,
+            Beginning::Kind(kind) => {
+                self.kind = kind;
+                match kind {
+                    KindPattern::AnyError => Next::Name,
+                    _ => Next::AfterKind,
+                }
+            }
         };
     }
 
-    /// Reads `and`, `or` or a kind after an outcome. The answer tells whether the word is one of them.
+    /// Reads what begins an outcome. The answer tells whether the word does.
+    fn outcome(&mut self, word: &str) -> bool {
+        match beginning_of(word) {
+            Some(beginning) => {
+                self.begin_outcome(beginning);
+                true
+            }
+            None => false,
+        }
+    }
+
+    /// Reads `and`, `or` or what begins another outcome. The answer tells whether the word is one of them.
     fn joint(&mut self, word: &str) -> Result<bool, AllocError> {
         if word == "and" {
             self.end_expectation()?;
@@ -171,41 +238,54 @@ impl Reader {
         }
         if word == "or" {
             self.end_outcome()?;
-            self.next = Next::Kind;
+            self.next = Next::Outcome;
             return Ok(true);
         }
-        let Some(kind) = kind_of(word) else {
+        let Some(beginning) = beginning_of(word) else {
             return Ok(false);
         };
+        if self.next == Next::AfterValue
+            && let Some(name) = as_name(word)
+        {
+            self.doubtful = Some(name);
+        }
         self.end_outcome()?;
-        self.begin_outcome(kind);
+        self.begin_outcome(beginning);
         Ok(true)
     }
 
     fn after_kind(&mut self, word: &str) -> Result<bool, AllocError> {
         if word == "output" {
             self.output = Some(OutputPattern {
-                text: String::new(self.alloc),
-                open: false,
+                items: Vec::new(self.alloc),
             });
-            self.next = Next::FirstValue;
+            self.next = Next::Output;
             return Ok(true);
         }
         self.joint(word)
     }
 
-    fn value(&mut self, word: &str) -> Result<bool, AllocError> {
-        if let Some(mut output) = self.output.take() {
-            if word == ".." {
-                output.open = true;
-                self.next = Next::Joint;
-            } else {
-                output.text.push_str(word)?;
-                output.text.push_str(" ")?;
-                self.next = Next::Value;
-            }
-            self.output = Some(output);
+    /// Reads a value or `..` of an output. The answer tells whether the word is one.
+    fn item(&mut self, word: &str) -> Result<bool, AllocError> {
+        let item = match value_of(word) {
+            Some(value) => OutputItem::Value(String::from_str(self.alloc, value)?),
+            None if word == ".." => OutputItem::Rest,
+            None => return Ok(false),
+        };
+        if let Some(output) = &mut self.output {
+            output.items.push(item)?;
         }
+        self.next = Next::AfterValue;
+        Ok(true)
+    }
+
+    /// Reads what follows `shown`.
+    fn shown(&mut self, word: &str) -> Result<bool, AllocError> {
+        let Some(value) = value_of(word) else {
+            return Ok(false);
+        };
+        self.shown = Some(String::from_str(self.alloc, value)?);
+        self.next = Next::Joint;
         Ok(true)
     }
 
@@ -215,34 +295,33 @@ impl Reader {
             Next::Claim => match claim_of(word) {
                 Some(claim) => {
                     self.claim = claim;
-                    self.next = Next::Kind;
+                    self.next = Next::Outcome;
                     Ok(true)
                 }
                 None => Ok(false),
             },
-            Next::Kind => match kind_of(word) {
-                Some(kind) => {
-                    self.begin_outcome(kind);
-                    Ok(true)
-                }
-                None => Ok(false),
-            },
+            Next::Outcome => Ok(self.outcome(word)),
             Next::Name => match error_of(word) {
                 Some(name) => {
                     self.kind = KindPattern::Error(name);
-                    self.next = Next::Output;
+                    self.next = Next::AfterKind;
                     Ok(true)
                 }
                 None => self.after_kind(word),
             },
-            Next::Output => self.after_kind(word),
-            Next::FirstValue => self.value(word),
-            Next::Value => {
+            Next::AfterKind => self.after_kind(word),
+            Next::Output if word == "-" => {
+                self.next = Next::Joint;
+                Ok(true)
+            }
+            Next::Output => self.item(word),
+            Next::AfterValue => {
                 if self.joint(word)? {
                     return Ok(true);
                 }
-                self.value(word)
+                self.item(word)
             }
+            Next::Shown => self.shown(word),
             Next::Joint => self.joint(word),
         }
     }
@@ -252,7 +331,7 @@ impl Reader {
 ///
 /// # Errors
 /// What was wanted at the first word that can't stand where it does, or at the end.
-pub fn expectations(alloc: Global, text: &str) -> Result<Vec<Expectation>, Misread> {
+pub fn expectations(alloc: Global, text: &str) -> Result<Reading, Misread> {
     let words: Vec<&str> = text.split_whitespace().collect(alloc)?;
     let mut reader = Reader::new(alloc);
     for (place, word) in words.iter().enumerate() {
@@ -271,5 +350,8 @@ pub fn expectations(alloc: Global, text: &str) -> Result<Vec<Expectation>, Misre
         });
     }
     reader.end_expectation()?;
-    Ok(reader.done)
+    Ok(Reading {
+        expectations: reader.done,
+        doubtful: reader.doubtful,
+    })
 }

@@ -1,13 +1,12 @@
-//! Expectations and verdicts in words.
+//! Expectations in words.
 
-use crate::expectation::{Claim, Expectation, KindPattern, OutcomePattern, OutputPattern};
-use crate::marking::Verdict;
-use crate::matching::is_limit;
-use crate::reading::Wanted;
-use crate::seen::Seen;
-use cp_run::OutcomeKind;
-use cp_slots::Resolved;
-use cp_walk::text::{error_name, push_outcome, push_word};
+use crate::expectation::{
+    Claim, Expectation, KindPattern, OutcomePattern, OutputItem, OutputPattern,
+};
+use crate::program::Stops;
+use crate::readable::push_readable;
+use crate::reading::{Wanted, as_name};
+use cp_walk::text::error_name;
 use std::alloc::{AllocError, Global};
 
 fn push_kind(text: &mut String, kind: KindPattern) -> Result<(), AllocError> {
@@ -22,20 +21,44 @@ fn push_kind(text: &mut String, kind: KindPattern) -> Result<(), AllocError> {
     }
 }
 
-fn push_output(text: &mut String, output: &OutputPattern) -> Result<(), AllocError> {
-    text.push_str(" output ")?;
-    if output.open {
-        text.push_str(output.text.as_str())?;
-        return text.push_str("..");
+/// Appends a value as it is written: in parentheses where it could be taken for an outcome.
+pub fn push_value(text: &mut String, value: &str) -> Result<(), AllocError> {
+    if as_name(value).is_none() {
+        return text.push_str(value);
     }
-    text.push_str(output.text.as_str().trim_end())
+    text.push('(')?;
+    text.push_str(value)?;
+    text.push(')')
+}
+
+fn push_output(text: &mut String, output: &OutputPattern) -> Result<(), AllocError> {
+    text.push_str(" output")?;
+    for item in &output.items {
+        text.push(' ')?;
+        match item {
+            OutputItem::Value(value) => push_value(text, value.as_str())?,
+            OutputItem::Rest => text.push_str("..")?,
+        }
+    }
+    if output.items.is_empty() {
+        text.push_str(" -")?;
+    }
+    Ok(())
 }
 
 fn push_pattern(text: &mut String, pattern: &OutcomePattern) -> Result<(), AllocError> {
-    push_kind(text, pattern.kind)?;
-    match &pattern.output {
-        Some(output) => push_output(text, output),
-        None => Ok(()),
+    match pattern {
+        OutcomePattern::End { kind, output } => {
+            push_kind(text, *kind)?;
+            match output {
+                Some(output) => push_output(text, output),
+                None => Ok(()),
+            }
+        }
+        OutcomePattern::Shows(value) => {
+            text.push_str("shown ")?;
+            push_value(text, value.as_str())
+        }
     }
 }
 
@@ -53,92 +76,40 @@ pub fn push_expectation(text: &mut String, expectation: &Expectation) -> Result<
     Ok(())
 }
 
-/// The limits at which some schedules ended, by the names of a report and joined by commas; empty where there are none.
-pub fn limits(alloc: Global, seen: &[Seen]) -> Result<String, AllocError> {
-    let mut text = String::new(alloc);
-    for (kind, name) in [
-        (OutcomeKind::ChoiceLimit, "choice-limit"),
-        (OutcomeKind::StepLimit, "step-limit"),
-        (OutcomeKind::OutputLimit, "output-limit"),
-    ] {
-        if seen.iter().any(|one| one.outcome.kind == kind) {
-            if !text.is_empty() {
-                text.push_str(", ")?;
+impl Stops {
+    /// Whether no schedule ended at a limit.
+    pub fn is_empty(&self) -> bool {
+        !self.choices && !self.steps && !self.output
+    }
+
+    /// Appends the limits by the names of a report, joined by commas.
+    pub fn push_to(&self, text: &mut String) -> Result<(), AllocError> {
+        let mut before = "";
+        for (is_met, name) in [
+            (self.choices, "choice-limit"),
+            (self.steps, "step-limit"),
+            (self.output, "output-limit"),
+        ] {
+            if is_met {
+                text.push_str(before)?;
+                text.push_str(name)?;
+                before = ", ";
             }
-            text.push_str(name)?;
         }
+        Ok(())
     }
-    Ok(text)
 }
 
-fn push_row(
-    alloc: Global,
-    text: &mut String,
-    program: &Resolved,
-    row: Seen,
-) -> Result<(), AllocError> {
-    push_word(text, row.first)?;
-    text.push_str(" ")?;
-    push_outcome(text, program, row.outcome)
-}
-
-/// What is said of a verdict about the table with these outcomes.
-pub fn verdict_text(
-    alloc: Global,
-    program: &Resolved,
-    seen: &[Seen],
-    verdict: Verdict,
-) -> Result<String, AllocError> {
-    let mut text = String::new(alloc);
-    match verdict {
-        Verdict::Holds => push_holds(&mut text, limits(alloc, seen)?.as_str())?,
-        Verdict::Fails {
-            expectation,
-            against,
-        } => {
-            text.push_str("fails: ")?;
-            push_expectation(&mut text, expectation)?;
-            push_against(alloc, &mut text, program, against)?;
-        }
-        Verdict::Open { expectation } => {
-            text.push_str("not settled: ")?;
-            push_expectation(&mut text, expectation)?;
-            push_stopped(&mut text, limits(alloc, seen)?.as_str())?;
-        }
+fn wanted_words(wanted: Wanted) -> &'static str {
+    match wanted {
+        Wanted::Claim => "never, some or only",
+        Wanted::Outcome => "finished, all-waiting, run-error or shown",
+        Wanted::Output => "a value, - or ..",
+        Wanted::Value => "a value",
+        Wanted::AfterKind => "output, and, or, finished, all-waiting, run-error or shown",
+        Wanted::AfterValue => "a value, .., and, or, finished, all-waiting, run-error or shown",
+        Wanted::Joint => "and, or, finished, all-waiting, run-error or shown",
     }
-    Ok(text)
-}
-
-fn push_holds(text: &mut String, stopped: &str) -> Result<(), AllocError> {
-    text.push_str("holds\n")?;
-    if stopped.is_empty() {
-        return text.push_str("complete: the same for every greater number of choices\n");
-    }
-    text.push_str(
-        "shown by a schedule, for every greater number of choices too; others ended at ",
-    )?;
-    text.push_str(stopped)?;
-    text.push_str("\n")
-}
-
-fn push_against(
-    alloc: Global,
-    text: &mut String,
-    program: &Resolved,
-    against: Option<Seen<'_>>,
-) -> Result<(), AllocError> {
-    let Some(row) = against else {
-        return text.push_str("\nthe table is complete and has no such schedule\n");
-    };
-    text.push_str("\nfirst against it: ")?;
-    push_row(alloc, text, program, row)?;
-    text.push_str("\n")
-}
-
-fn push_stopped(text: &mut String, stopped: &str) -> Result<(), AllocError> {
-    text.push_str("\nsome schedules ended at ")?;
-    text.push_str(stopped)?;
-    text.push_str(", and none so far is against it\n")
 }
 
 /// What is said of a text that has no expectations: what was found, and what was wanted there.
@@ -150,20 +121,26 @@ pub fn misread_text(
 ) -> Result<String, AllocError> {
     let mut said = String::new(alloc);
     said.push_str("expected ")?;
-    said.push_str(match wanted {
-        Wanted::Claim => "never, some or only",
-        Wanted::Kind => "finished, all-waiting or run-error",
-        Wanted::Value => "a value, - or ..",
-        Wanted::Output => "output, and, or, finished, all-waiting or run-error",
-        Wanted::Joint => "and, or, finished, all-waiting or run-error",
-    })?;
-    match text.split_whitespace().nth(place) {
-        Some(word) => {
-            said.push_str(", found \"")?;
-            said.push_str(word)?;
-            said.push_str("\"\n")?;
-        }
-        None => said.push_str(", found the end\n")?,
+    said.push_str(wanted_words(wanted))?;
+    let Some(word) = text.split_whitespace().nth(place) else {
+        said.push_str(", found the end\n")?;
+        return Ok(said);
+    };
+    said.push_str(", found \"")?;
+    push_readable(&mut said, word.as_bytes())?;
+    said.push_str("\"\n")?;
+    if (wanted == Wanted::Output || wanted == Wanted::Value)
+        && let Some(name) = as_name(word)
+    {
+        push_doubt(&mut said, name)?;
     }
     Ok(said)
+}
+
+/// Appends that a word begins an outcome, and how a constant of this name is written.
+pub fn push_doubt(text: &mut String, name: &str) -> Result<(), AllocError> {
+    text.push_str(name)?;
+    text.push_str(" begins an outcome; as a value it is written (")?;
+    text.push_str(name)?;
+    text.push_str(")\n")
 }

@@ -4,6 +4,7 @@ ghost use Rattle.std.specs.Prelude.{◌≡◌, ◌+◌, ◌≤◌, IfOk, length}
 ghost use Rattle.cp_walk.specs.Rows.{UsedWithin};
 ghost use Rattle.cpx_show.specs.Showing as spec;
 
+use crate::mark_words::Examinee;
 use crate::marks::marked;
 use crate::parts::{Asked, Part};
 use crate::refusals::explained;
@@ -133,7 +134,22 @@ fn written<W: Sink>(sink: &mut W, answer: &Answer) -> Ending
 fn answered(alloc: Global, asked: &Asked, source: &[u8]) -> Result<Answer, AllocError> {
     match &asked.part {
         Part::Refusal { json, file } => explained(alloc, source, *json, file),
+        Part::Mark { json, .. } => examined(alloc, asked, source, *json),
         _ => scanned(alloc, asked, source),
+    }
+}
+
+// The mark of a source, or why it is refused.
+fn examined(
+    alloc: Global,
+    asked: &Asked,
+    source: &[u8],
+    as_json: bool,
+) -> Result<Answer, AllocError> {
+    let answer = scanned(alloc, asked, source)?;
+    match answer.verdict {
+        Verdict::Refused => explained(alloc, source, as_json, &None),
+        _ => Ok(answer),
     }
 }
 
@@ -229,7 +245,16 @@ fn shown(
         Part::Page { states } => paged(alloc, asked, program, legend, *states, source),
         Part::Outcomes { json } => { surveyed(alloc, options, program, legend, &lines, *json) }
         Part::Ends { json } => { ended(alloc, options, program, legend, &lines, *json) }
-        Part::Mark(words) => marked(alloc, options, program, legend, words.as_str(), source),
+        Part::Mark { words, own, json } => {
+            let examinee = Examinee {
+                options,
+                program,
+                legend,
+                lines: &lines,
+                as_json: *json,
+            };
+            marked(alloc, examinee, words.as_str(), *own, source)
+        }
         Part::Refusal { json, file } => explained(alloc, source, *json, file),
     }
 }
@@ -477,8 +502,8 @@ fn word_given(options: &Options) -> &[u8]
     }
 }
 
-// The story of the word.
-fn told<L: Ledger>(
+/// The story of the word.
+pub fn told<L: Ledger>(
     alloc: Global,
     options: &Options,
     program: &Resolved,

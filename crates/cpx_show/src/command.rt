@@ -31,7 +31,7 @@ const MARK: &str =
     "Says whether what is expected of all schedules holds: never OUTCOME, some OUTCOME, only OUTCOME..";
 
 const EXPECTATIONS: &str =
-    "With --ends of schedules of any length, without outputs; END may be alone or spins as well, and\nwhat is expected may be never waiting, some waiting, some waiting PROCESS, never shown VALUE\nor some shown VALUE. With too many states kernel calls are made at once, but for waiting.\n\nOUTCOME: finished, all-waiting, run-error or run-error NAME; after it, if wanted,\noutput VALUES, where .. stands for any rest. Several expectations are joined by and.\nWithout words those in comments of the program are taken: (* expect never all-waiting *)\n\nStatus: 0 holds, 6 fails, 7 not settled; 1 to 5 as cpx";
+    "OUTCOME: finished, all-waiting, run-error or run-error NAME; after it, if wanted,\noutput VALUES, where .. stands for any values at any place; or shown VALUE, for a schedule\nthat displays it, whatever it ends in. A constant that is named as an outcome begins is\nwritten in parentheses: shown (finished). Several expectations are joined by and.\nWithout words those in comments of the program are taken: (* expect never all-waiting *)\n\nWith --ends of schedules of any length, without outputs; END may be alone or spins as well, and\nwhat is expected may be never waiting, some waiting, some waiting PROCESS, never shown VALUE\nor some shown VALUE. With too many states kernel calls are made at once, but for waiting.\n\nStatus: 0 holds, 6 fails, 7 not settled; 1 to 5 as cpx";
 
 /// The command with all its parts; `clap` adds `--help` and `-h` to each.
 pub fn command<'a>(alloc: Global) -> Result<Command<'a>, AllocError> {
@@ -184,8 +184,13 @@ fn mark<'a>(alloc: Global) -> Result<Command<'a>, AllocError> {
         alloc,
         "With --ends: make kernel calls but enter at once, so fewer states; not for waiting",
     );
+    let own = Arg::new(alloc, "own")
+        .long("own")
+        .action(ArgAction::SetTrue)
+        .help("Take the expectations in comments of the program as well");
     let command = command.arg(expectation)?.arg(ends_switch(alloc))?;
-    with_limits(alloc, command.arg(at_once)?)
+    let command = command.arg(at_once)?.arg(own)?.arg(json(alloc))?;
+    with_limits(alloc, command)
 }
 
 fn ends_switch<'a>(alloc: Global) -> Arg<'a> {

@@ -3,6 +3,7 @@
 
 mod answering;
 mod command;
+mod mark_words;
 mod marks;
 mod parts;
 mod refusals;
@@ -40,7 +41,7 @@ fn main(rt: HostRuntime) -> ExitCode {
                 rt.stdout(),
                 Blank::new(3),
             );
-            if code == 1 && !asked.part.is_refusal() {
+            if code == 1 && !asked.part.tells_refusal() {
                 let _ = eprintln!(rt; "./show refusal says why");
             }
             code

@@ -9,114 +9,105 @@ ghost use Rattle.cpx_show.specs.Showing as spec;
 ghost use Rattle.cpx_show.specs.declared.answering.Verdict.TheVariants.{TooMany};
 
 use crate::answering::{Answer, Verdict};
+use crate::mark_words::{Examinee, ends_told, excess, misread, told};
 use cp_ends_verdict::{
-    Expectation as EndsExpectation, Mark as EndsMark, Reading, Subject as Endless,
+    Expectation as EndsExpectation, Mark as EndsMark, Reading as EndsReading, Subject as Endless,
     expectations as ends_expectations, mark_at_once, mark_in_turn,
     misread_text as ends_misread_text,
 };
-use cp_legend::Legend;
 use cp_outcomes::completing::greatest_known;
 use cp_run::{Limits, MOST_CHOICES};
-use cp_slots::Resolved;
-use cp_tool::Options;
 use cp_verdict::{
-    Expectation, Mark, MarkFault, Marked, Misread, expectations, expected, mark_program,
+    Expectation, Mark, MarkFault, Misread, Reading, expectations, expected, mark_program,
     mark_tallies, misread_text,
 };
 use cp_walk::Job;
 use std::alloc::{AllocError, Global};
 
-/// What is said of a program by the expectations of the words, or of the source where there are no words.
+/// What is said of a program by the expectations of the words; by those of the source where they are asked for, or where there are no words.
 pub fn marked(
     alloc: Global,
-    options: &Options,
-    program: &Resolved,
-    legend: &Legend,
+    examinee: Examinee<'_>,
     words: &str,
+    with_own: bool,
     source: &[u8],
 ) -> Result<Answer, AllocError> {
-    if !words.is_empty() {
-        return marked_by(alloc, options, program, legend, words);
+    let mut text = String::from_str(alloc, words)?;
+    if words.is_empty() || with_own {
+        let own = expected(alloc, source)?;
+        if !words.is_empty() && !own.is_empty() {
+            text.push_str(" and ")?;
+        }
+        text.push_str(own.as_str())?;
     }
-    let found = expected(alloc, source)?;
-    if found.is_empty() {
-        return Ok(Answer {
-            verdict: Verdict::Misread,
-            text: String::from_str(
-                alloc,
-                "no expectation: none was given, and the source has no comment that begins (* expect\n",
-            )?,
-        });
+    if text.is_empty() {
+        return misread(
+            alloc,
+            examinee,
+            "no expectation: none was given, and the source has no comment that begins (* expect\n",
+        );
     }
-    marked_by(alloc, options, program, legend, found.as_str())
+    marked_by(alloc, examinee, text.as_str())
 }
 
 // What is said by the expectations of a text.
-fn marked_by(
-    alloc: Global,
-    options: &Options,
-    program: &Resolved,
-    legend: &Legend,
-    text: &str,
-) -> Result<Answer, AllocError> {
-    if options.ends {
-        return marked_ends(alloc, options, program, legend, text);
+fn marked_by(alloc: Global, examinee: Examinee<'_>, text: &str) -> Result<Answer, AllocError> {
+    if examinee.options.ends {
+        return marked_ends(alloc, examinee, text);
     }
     match expectations(alloc, text) {
-        Ok(expectations) => judged(alloc, options, program, &expectations),
-        Err(Misread::Unexpected { wanted, place }) => Ok(Answer {
-            verdict: Verdict::Misread,
-            text: misread_text(alloc, text, wanted, place)?,
-        }),
+        Ok(reading) => judged(alloc, examinee, &reading),
+        Err(Misread::Unexpected { wanted, place }) => misread(
+            alloc,
+            examinee,
+            misread_text(alloc, text, wanted, place)?.as_str(),
+        ),
         Err(Misread::Memory) => Err(AllocError),
     }
 }
 
 // The same of schedules of any length.
-fn marked_ends(
-    alloc: Global,
-    options: &Options,
-    program: &Resolved,
-    legend: &Legend,
-    text: &str,
-) -> Result<Answer, AllocError> {
-    match ends_expectations(alloc, legend, text)? {
-        Reading::Expectations(list) => judged_ends(alloc, options, program, legend, &list),
-        Reading::Misread { wanted, place } => Ok(Answer {
-            verdict: Verdict::Misread,
-            text: ends_misread_text(alloc, text, wanted, place)?,
-        }),
+fn marked_ends(alloc: Global, examinee: Examinee<'_>, text: &str) -> Result<Answer, AllocError> {
+    match ends_expectations(alloc, examinee.legend, text)? {
+        EndsReading::Expectations(list) => judged_ends(alloc, examinee, &list),
+        EndsReading::Misread { wanted, place } => misread(
+            alloc,
+            examinee,
+            ends_misread_text(alloc, text, wanted, place)?.as_str(),
+        ),
     }
 }
 
 // What schedules of any length say of the expectations.
 fn judged_ends(
     alloc: Global,
-    options: &Options,
-    program: &Resolved,
-    legend: &Legend,
+    examinee: Examinee<'_>,
     list: &[EndsExpectation],
 ) -> Result<Answer, AllocError>
-    ensures in_turn { options.now.at_once ≡ false → 1 ≤ options.now.states → can_be_asked options.now.gates list.now ≡ true → IfOk result (λ a. spec.TellsEndsMark program.now options.now.gates options.now.steps options.now.states list.now a.verdict) }
-    ensures at_once { options.now.at_once ≡ true → can_be_at_once options.now.gates list.now ≡ true → IfOk result (λ a. spec.TellsMarkAtOnce program.now options.now.steps list.now a.verdict) }
+    ensures in_turn { examinee.entry.options.now.at_once ≡ false → 1 ≤ examinee.entry.options.now.states → can_be_asked examinee.entry.options.now.gates list.now ≡ true → IfOk result (λ a. spec.TellsEndsMark examinee.entry.program.now examinee.entry.options.now.gates examinee.entry.options.now.steps examinee.entry.options.now.states list.now a.verdict) }
+    ensures at_once { examinee.entry.options.now.at_once ≡ true → can_be_at_once examinee.entry.options.now.gates list.now ≡ true → IfOk result (λ a. spec.TellsMarkAtOnce examinee.entry.program.now examinee.entry.options.now.steps list.now a.verdict) }
 {
-    if options.at_once {
-        judged_at_once(alloc, options, program, legend, list)
+    if examinee.options.at_once {
+        judged_at_once(alloc, examinee, list)
     } else {
-        judged_in_turn(alloc, options, program, legend, list)
+        judged_in_turn(alloc, examinee, list)
     }
 }
 
 // The same without calls at once, but where there are too many states.
 fn judged_in_turn(
     alloc: Global,
-    options: &Options,
-    program: &Resolved,
-    legend: &Legend,
+    examinee: Examinee<'_>,
     list: &[EndsExpectation],
 ) -> Result<Answer, AllocError>
-    ensures { 1 ≤ options.now.states → can_be_asked options.now.gates list.now ≡ true → IfOk result (λ a. spec.TellsEndsMark program.now options.now.gates options.now.steps options.now.states list.now a.verdict) }
+    ensures { 1 ≤ examinee.entry.options.now.states → can_be_asked examinee.entry.options.now.gates list.now ≡ true → IfOk result (λ a. spec.TellsEndsMark examinee.entry.program.now examinee.entry.options.now.gates examinee.entry.options.now.steps examinee.entry.options.now.states list.now a.verdict) }
 {
+    let Examinee {
+        options,
+        program,
+        legend,
+        ..
+    } = examinee;
     let Some(limits) = Limits::new(MOST_CHOICES, options.steps, options.gates) else {
         unreachable!()
     };
@@ -127,22 +118,27 @@ fn judged_in_turn(
         most: options.states,
     };
     let marked = mark_in_turn(alloc, subject, list)?;
+    let text = ends_told(alloc, examinee, &marked)?;
     Ok(Answer {
         verdict: ends_verdict_of(marked.mark),
-        text: marked.text,
+        text,
     })
 }
 
 // The same with calls at once.
 fn judged_at_once(
     alloc: Global,
-    options: &Options,
-    program: &Resolved,
-    legend: &Legend,
+    examinee: Examinee<'_>,
     list: &[EndsExpectation],
 ) -> Result<Answer, AllocError>
-    ensures { can_be_at_once options.now.gates list.now ≡ true → IfOk result (λ a. spec.TellsMarkAtOnce program.now options.now.steps list.now a.verdict) }
+    ensures { can_be_at_once examinee.entry.options.now.gates list.now ≡ true → IfOk result (λ a. spec.TellsMarkAtOnce examinee.entry.program.now examinee.entry.options.now.steps list.now a.verdict) }
 {
+    let Examinee {
+        options,
+        program,
+        legend,
+        ..
+    } = examinee;
     let Some(limits) = Limits::new(MOST_CHOICES, options.steps, options.gates) else {
         unreachable!()
     };
@@ -153,9 +149,10 @@ fn judged_at_once(
         most: options.states,
     };
     let marked = mark_at_once(alloc, subject, list)?;
+    let text = ends_told(alloc, examinee, &marked)?;
     Ok(Answer {
         verdict: ends_verdict_of(marked.mark),
-        text: marked.text,
+        text,
     })
 }
 
@@ -172,36 +169,26 @@ fn ends_verdict_of(mark: EndsMark) -> Verdict
 }
 
 // What the table within the limits of the options says of the expectations.
-fn judged(
-    alloc: Global,
-    options: &Options,
-    program: &Resolved,
-    expectations: &[Expectation],
-) -> Result<Answer, AllocError>
-    ensures { IfOk result (λ a. spec.TellsMark program.now.names expectations.now (table (slots program.now options.now.gates) options.now.choices options.now.steps) a.verdict) }
+fn judged(alloc: Global, examinee: Examinee<'_>, reading: &Reading) -> Result<Answer, AllocError>
+    ensures { IfOk result (λ a. spec.TellsMark examinee.entry.program.now.names reading.now.expectations.items (table (slots examinee.entry.program.now examinee.entry.options.now.gates) examinee.entry.options.now.choices examinee.entry.options.now.steps) a.verdict) }
 {
+    let options = examinee.options;
     let Some(limits) = Limits::new(options.choices, options.steps, options.gates) else {
         unreachable!()
     };
-    let job = Job { program, limits };
-    match mark_program(alloc, job, options.states, expectations) {
+    let job = Job {
+        program: examinee.program,
+        limits,
+    };
+    match mark_program(alloc, job, options.states, &reading.expectations) {
         Ok(marked) => {
             let verdict = verdict_of(marked.mark);
-            let text = with_advice(marked, options.choices)?;
+            let text = told(alloc, examinee, reading, &marked)?;
             Ok(Answer { verdict, text })
         }
         Err(MarkFault::Memory) => Err(AllocError),
-        Err(MarkFault::TooManyStates) => {
-            let said = format!(in alloc;
-                "too many states: a layer may have {}\ntry greater --states, or mark --ends\n",
-                options.states
-            )?;
-            too_many(alloc, job, options.states, expectations, said)
-        }
-        Err(MarkFault::TooManyOutcomes) => {
-            let said = String::from_str(alloc, "too many outcomes\ntry smaller --choices\n")?;
-            too_many(alloc, job, options.states, expectations, said)
-        }
+        Err(MarkFault::TooManyStates) => too_many(alloc, examinee, job, reading, true),
+        Err(MarkFault::TooManyOutcomes) => too_many(alloc, examinee, job, reading, false),
     }
 }
 
@@ -215,35 +202,31 @@ fn verdict_of(mark: Mark) -> Verdict
     }
 }
 
-// What is said with a mark, and what to try where no number of choices would settle it.
-fn with_advice(marked: Marked, choices: u8) -> Result<String, AllocError> {
-    let mut text = marked.text;
-    if marked.mark == Mark::Open && marked.wants_choices && choices == MOST_CHOICES {
-        text.push_str("./show mark --ends says what holds of schedules of any length\n")?;
-    }
-    Ok(text)
-}
-
-// What is said where there is too much, and the mark by schedules of fewer choices.
+// What is said where there are too many states, or else outcomes, and the mark by schedules of fewer choices.
 fn too_many(
     alloc: Global,
+    examinee: Examinee<'_>,
     job: Job,
-    states: u32,
-    expectations: &[Expectation],
-    said: String,
+    reading: &Reading,
+    of_states: bool,
 ) -> Result<Answer, AllocError>
     ensures { IfOk result (λ a. a.verdict ≡ TooMany) }
 {
-    let mut text = said;
-    if let Some(known) = greatest_known(alloc, job, states)? {
-        let marked = mark_tallies(alloc, job.program, expectations, known.tallies.as_slice())?;
-        write!(
-            text,
-            "of all schedules of at most {} choices:\n",
-            known.choices
-        )?;
-        text.push_str(marked.text.as_str())?;
-    }
+    let states = examinee.options.states;
+    let text = match greatest_known(alloc, job, states)? {
+        Some(known) => {
+            let tallies = known.tallies.as_slice();
+            let marked = mark_tallies(alloc, job.program, &reading.expectations, tallies)?;
+            let said = told(alloc, examinee, reading, &marked)?;
+            excess(
+                alloc,
+                examinee,
+                of_states,
+                Some((known.choices, said.as_str())),
+            )?
+        }
+        None => excess(alloc, examinee, of_states, None)?,
+    };
     Ok(Answer {
         verdict: Verdict::TooMany,
         text,

@@ -27,25 +27,40 @@ const READING: Reading<'static> = Reading {
 #[derive(Drop)]
 pub enum Part {
     /// The schedule in names, as lines or as JSON.
-    Trace { json: bool },
+    Trace {
+        json: bool,
+    },
     /// The schedule as a picture.
     Lanes,
     /// A page on which the scheduler is played, which goes on from so many states.
-    Page { states: u32 },
+    Page {
+        states: u32,
+    },
     /// The outcomes of all schedules, as lines or as JSON.
-    Outcomes { json: bool },
+    Outcomes {
+        json: bool,
+    },
     /// The ends that are possible in schedules of any length, as lines or as JSON.
-    Ends { json: bool },
+    Ends {
+        json: bool,
+    },
     /// Why the source is refused, as lines or as JSON; places begin with the name of its file, if one is given.
-    Refusal { json: bool, file: Option<String> },
-    /// Whether the expectations of these words hold; with no words those of the source.
-    Mark(String),
+    Refusal {
+        json: bool,
+        file: Option<String>,
+    },
+    /// Whether the expectations of these words hold, as lines or as JSON; with no words, or where they are asked for, those of the source.
+    Mark {
+        words: String,
+        own: bool,
+        json: bool,
+    },
 }
 
 impl Part {
-    /// Whether it is asked why the source is refused.
-    pub fn is_refusal(&self) -> bool {
-        matches!(self, Part::Refusal { .. })
+    /// Whether it is told why the source is refused.
+    pub fn tells_refusal(&self) -> bool {
+        matches!(self, Part::Refusal { .. } | Part::Mark { .. })
     }
 }
 
@@ -95,7 +110,11 @@ fn read_matches(alloc: Global, matches: &ArgMatches<'_>) -> Result<Asked, Option
             json: inner.get_flag("json"),
             file: file_of(alloc, inner)?,
         },
-        "mark" => Part::Mark(given(alloc, inner)?),
+        "mark" => Part::Mark {
+            words: given(alloc, inner)?,
+            own: inner.get_flag("own"),
+            json: inner.get_flag("json"),
+        },
         _ => return Err(OptionFault::Refused),
     };
     if !choice_fault(name, inner).is_empty() {

@@ -1,6 +1,6 @@
 use Rattle.std.proofs.Common.{◌∙◌, ap, map}
 use Rattle.cp_merged.specs.Code.{tally_of}
-use Rattle.cp_verdict.specs.Marked.{IsMarkOf}
+use Rattle.cp_verdict.specs.Marked.{IsMarked}
 use Rattle.cp_verdict.proofs.Meant.{on_names}
 use Rattle.cp_verdict.proofs.program.mark_program.Goals as goal
 
@@ -10,5 +10,5 @@ returns-clause-mark c = c.in_ok-marked.ensures _ (ap (map tally_of) c.as_slice.e
 pub returns-clause-meaning : goal.returns-clause-meaning
 returns-clause-meaning c =
     let job = c.args.job in
-    on_names (λ lines. IsMarkOf job.program.now.names c.args.expectations.now lines c.in_ok-marked.marked.mark) job.program.now job.limits.gates job.limits.choices job.limits.steps
+    on_names (λ lines. IsMarked job.program.now.names c.args.expectations.now lines c.in_ok-marked.marked) job.program.now job.limits.gates job.limits.choices job.limits.steps
     (c.in_ok-marked.ensures _ (ap (map tally_of) c.as_slice.ensures.value ∙ c.in_ok-tallies.ensures))
