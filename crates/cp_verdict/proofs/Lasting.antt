@@ -282,7 +282,7 @@ stays_shown q sys choices steps more Only r k j = absurd (only_apart j.0)
 stays_shown q sys choices steps more Sometimes r k j =
     first_so q goes_by (table sys (choices + more) steps)
     (some_lasts (Both q goes_by) sys choices steps more (λ output. not_at_limit (q (record { kind = ChoiceLimit; output = output })))
-     (found_so q goes_by (table sys choices steps) (row_line r) (ap not k) j.2))
+    (found_so q goes_by (table sys choices steps) (row_line r) (ap not k) j.2))
 
 pub stays : {S : Type 0} (names : Spellings) (sys : System S) (choices steps more : ℕ) (e : Expectation) (r : Row) → ended_for_choices r.outcome.kind ≡ false →
     IsJudged names e (table sys choices steps) (judgement.Shown r) → is_true_of names e (table sys (choices + more) steps) ≡ true
