@@ -97,7 +97,7 @@ pub never_apart : Never ≢ Sometimes
 unfolding is_sometimes
 never_apart h = absurd (let t : false ≡ true = ap is_sometimes h in cc)
 
-only_apart : Only ≢ Sometimes
+pub only_apart : Only ≢ Sometimes
 unfolding is_sometimes
 only_apart h = absurd (let t : false ≡ true = ap is_sometimes h in cc)
 

@@ -1,6 +1,6 @@
 -- What holds of a table is true of every table of more choices.
-use Rattle.std.proofs.Common.{◌≡◌, ◌≢◌, ◌⊎◌, inl, inr, ◌∙◌, ◌+◌, ℕ, zero, suc, Bool, true, false, not, ◌&&◌, ◌||◌, if◌then◌else◌, List, [], ◌∷◌, ◌++◌, map, refl, sym, ap, subst}
-use Rattle.std.specs.Prelude.{string_bytes}
+use Rattle.std.proofs.Common.{◌≡◌, ◌≢◌, ◌⊎◌, inl, inr, ◌∙◌, ◌+◌, ℕ, zero, suc, Bool, true, false, not, ◌&&◌, ◌||◌, if◌then◌else◌, List, [], ◌∷◌, ◌++◌, map, Option, None, Some, cond, refl, sym, ap, subst}
+use Rattle.std.specs.Prelude.{find, string_bytes}
 use Rattle.std.specs.List.{list_any, list_all, AllByRecursion as Each}
 use Rattle.std.proofs.lemmas.List.Elements.{All-from_recursion}
 use native.Mathlib.Numerals.{unary_clauses}
@@ -17,8 +17,8 @@ use Rattle.cp_walk.proofs.Walks.{table_walk}
 use Rattle.cp_merged.specs.Complete.{IsOver}
 use Rattle.cp_merged.proofs.Completing.{complete}
 use Rattle.cp_verdict.specs.Expectations.{is_limit, is_of_kind, has_output, fits, is_one_of, is_true_by, is_true_of}
-use Rattle.cp_verdict.specs.Judged.{has_open}
-use Rattle.cp_verdict.specs.Lasting.{KeepsOutput, asks_values, is_of_values}
+use Rattle.cp_verdict.specs.Judged.{row_line, has_open, IsJudged, IsJudgedBy}
+use Rattle.cp_verdict.specs.Lasting.{KeepsOutput, asks_values, is_of_values, ended_for_choices}
 use Rattle.cp_verdict.specs.Outputs.{is_printed, value_text}
 use Rattle.cp_verdict.specs.Marked.{HoldsOf}
 use Rattle.cp_verdict.specs.declared.expectation.Claim.{Claim}
@@ -28,8 +28,10 @@ use Rattle.cp_verdict.specs.declared.expectation.KindPattern.TheVariants as patt
 use Rattle.cp_verdict.specs.declared.expectation.OutcomePattern.{OutcomePattern}
 use Rattle.cp_verdict.specs.declared.expectation.OutcomePattern.TheVariants as outcome
 use Rattle.cp_verdict.specs.declared.expectation.Expectation.{Expectation}
+use Rattle.cp_verdict.specs.declared.judging.Judgement.TheVariants as judgement
+use Rattle.cp_verdict.specs.declared.seen.Row.{Row}
 use Rattle.cp_verdict.proofs.Displayed.{any_on, chosen_keeps, output_at}
-use Rattle.cp_verdict.proofs.Finding.{never_apart}
+use Rattle.cp_verdict.proofs.Finding.{never_apart, only_apart}
 
 -- ---- a whole table is complete
 
@@ -240,3 +242,48 @@ by_claim names ps sys choices steps more Only told h rest = all_lasts sys steps 
 
 pub lasts : {S : Type 0} (names : Spellings) (sys : System S) (choices steps more : ℕ) (e : Expectation) → (asks_values e ≡ false) ⊎ (KeepsOutput sys × (e.claim ≢ Sometimes)) → HoldsOf names (table sys choices steps) e → is_true_of names e (table sys (choices + more) steps) ≡ true
 lasts names sys choices steps more e told holds = by_claim names e.outcomes.items sys choices steps more e.claim told holds.0 holds.1
+
+-- ---- what a row shows that did not end for want of choices
+
+abbrev found_or : Line → Option Line → Line
+found_or d None = d
+found_or d (Some l) = l
+
+abbrev Both : (Outcome → Bool) → (Outcome → Bool) → Outcome → Bool
+Both q r o = q o && r o
+
+found_so : (q r : Outcome → Bool) (ls : List Line) (l : Line) → r l.outcome ≡ true → find (λ x. q x.outcome) ls ≡ Some l → any (Both q r) ls ≡ true
+found_so q r [] l k h = absurd (cc)
+found_so q r (x ∷ xs) l k h = split (q x.outcome) h (found_so q r xs l k)
+  where
+    split : (b : Bool) → cond b (Some x) (find (λ y. q y.outcome) xs) ≡ Some l → (find (λ y. q y.outcome) xs ≡ Some l → any (Both q r) xs ≡ true) → ((b && r x.outcome) || any (Both q r) xs) ≡ true
+    split true h on = ap (λ b. b || any (Both q r) xs) (ap (λ y. r y.outcome) (ap (found_or x) h) ∙ k)
+    split false h on = on h
+
+first_so : (q r : Outcome → Bool) (ls : List Line) → any (Both q r) ls ≡ true → any q ls ≡ true
+first_so q r [] h = h
+first_so q r (x ∷ xs) h = split (q x.outcome) (r x.outcome) h (first_so q r xs)
+  where
+    split : (b c : Bool) → ((b && c) || any (Both q r) xs) ≡ true → (any (Both q r) xs ≡ true → any q xs ≡ true) → (b || any q xs) ≡ true
+    split true c h on = refl
+    split false c h on = on h
+
+abbrev goes_by : Outcome → Bool
+goes_by o = not (ended_for_choices o.kind)
+
+not_at_limit : (b : Bool) → (b && false) ≡ false
+not_at_limit true = refl
+not_at_limit false = refl
+
+stays_shown : {S : Type 0} (q : Outcome → Bool) (sys : System S) (choices steps more : ℕ) (claim : Claim) (r : Row) → ended_for_choices r.outcome.kind ≡ false →
+    IsJudgedBy claim q (table sys choices steps) (judgement.Shown r) → is_true_by claim q (table sys (choices + more) steps) ≡ true
+stays_shown q sys choices steps more Never r k j = absurd (never_apart j.0)
+stays_shown q sys choices steps more Only r k j = absurd (only_apart j.0)
+stays_shown q sys choices steps more Sometimes r k j =
+    first_so q goes_by (table sys (choices + more) steps)
+    (some_lasts (Both q goes_by) sys choices steps more (λ output. not_at_limit (q (record { kind = ChoiceLimit; output = output })))
+    (found_so q goes_by (table sys choices steps) (row_line r) (ap not k) j.2))
+
+pub stays : {S : Type 0} (names : Spellings) (sys : System S) (choices steps more : ℕ) (e : Expectation) (r : Row) → ended_for_choices r.outcome.kind ≡ false →
+    IsJudged names e (table sys choices steps) (judgement.Shown r) → is_true_of names e (table sys (choices + more) steps) ≡ true
+stays names sys choices steps more e r k j = stays_shown (is_one_of names e.outcomes.items) sys choices steps more e.claim r k j

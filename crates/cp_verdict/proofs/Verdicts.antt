@@ -1,6 +1,5 @@
 -- The judgements of some expectations and one more, and the mark of all.
 use Rattle.std.proofs.Common.{◌≡◌, ◌⊎◌, inl, inr, ◌∙◌, ◌+◌, ◌<◌, ◌≤◌, ℕ, Bool, true, false, ◌||◌, if◌then◌else◌, List, [], ◌∷◌, ◌++◌, length, get_or, take, Option, None, Some, refl, sym, ap, subst, arith}
-use Rattle.std.specs.Borrow.{Bor}
 use Rattle.std.proofs.lemmas.List.{take_all, take_more}
 use Rattle.cp_walk.specs.Text.{Spellings}
 use Rattle.cp_run.specs.Table.{Line, IsAmong, Here, There}
@@ -13,16 +12,19 @@ use Rattle.cp_verdict.specs.declared.marking.Mark.{Mark}
 use Rattle.cp_verdict.specs.declared.marking.Mark.TheVariants as mark
 
 module _ (names : Spellings) (lines : List Line) where
+  pub judged_none : (list : List Expectation) (js : List Judgement) → js ≡ [] → AreJudged names lines (take 0 list) js
+  judged_none list js is = subst (AreJudged names lines []) (sym is) tt
+
   one_more : (es : List Expectation) (js : List Judgement) (e : Expectation) (j : Judgement) → AreJudged names lines es js → IsJudged names e lines j → AreJudged names lines (es ++ e ∷ []) (js ++ j ∷ [])
   one_more [] [] e j m h = (h, tt)
   one_more [] (k ∷ js) e j m h = absurd m
   one_more (f ∷ es) [] e j m h = absurd m
   one_more (f ∷ es) (k ∷ js) e j m h = (m.0, one_more es js e j m.1 h)
 
-  pub judged_more : (list : List Expectation) (i : ℕ) (e : Bor Expectation) (js all : List Judgement) (j : Judgement) → i < length list → e.now ≡ get_or list i e.now → all ≡ js ++ j ∷ [] → AreJudged names lines (take i list) js → IsJudged names e.now lines j → AreJudged names lines (take (i + 1) list) all
+  pub judged_more : (list : List Expectation) (i : ℕ) (e : Expectation) (js all : List Judgement) (j : Judgement) → i < length list → e ≡ get_or list i e → all ≡ js ++ j ∷ [] → AreJudged names lines (take i list) js → IsJudged names e lines j → AreJudged names lines (take (i + 1) list) all
   judged_more list i e js all j less item is m h =
-      let longer : take (i + 1) list ≡ take i list ++ e.now ∷ [] = take_more list i e.now less ∙ ap (λ x. take i list ++ x ∷ []) (sym item) in
-      subst (λ es. AreJudged names lines es all) (sym longer) (subst (AreJudged names lines (take i list ++ e.now ∷ [])) (sym is) (one_more (take i list) js e.now j m h))
+      let longer : take (i + 1) list ≡ take i list ++ e ∷ [] = take_more list i e less ∙ ap (λ x. take i list ++ x ∷ []) (sym item) in
+      subst (λ es. AreJudged names lines es all) (sym longer) (subst (AreJudged names lines (take i list ++ e ∷ [])) (sym is) (one_more (take i list) js e j m h))
 
   pub judged_all : (list : List Expectation) (i : ℕ) (js : List Judgement) → length list ≤ i → AreJudged names lines (take i list) js → AreJudged names lines list js
   judged_all list i js le m = subst (λ es. AreJudged names lines es js) (take_all i list le) m
@@ -40,11 +42,11 @@ module _ (names : Spellings) (lines : List Line) where
   some_fails [] [] m h = absurd (cc)
   some_fails [] (j ∷ js) m h = absurd m
   some_fails (e ∷ es) [] m h = absurd m
-  some_fails (e ∷ es) (j ∷ js) m h = split (is_against j) refl h
+  some_fails (e ∷ es) (j ∷ js) m h = split (is_against j) refl h (some_fails es js m.1)
     where
-      split : (b : Bool) → is_against j ≡ b → (b || has_against js) ≡ true → IsMarkOf names (e ∷ es) lines mark.Fails
-      split true a h = let f = fails_by e j m.0 a in (e, f.0, Here es, f.1)
-      split false a h = let f = some_fails es js m.1 h in (f.0, f.1, There e es f.2, f.3)
+      split : (b : Bool) → is_against j ≡ b → (b || has_against js) ≡ true → (has_against js ≡ true → IsMarkOf names es lines mark.Fails) → IsMarkOf names (e ∷ es) lines mark.Fails
+      split true a h on = let f = fails_by e j m.0 a in (e, f.0, Here es, f.1)
+      split false a h on = let f = on h in (f.0, f.1, There e es f.2, f.3)
 
   holds_by : (e : Expectation) (j : Judgement) → IsJudged names e lines j → is_against j ≡ false → is_unsettled j ≡ false → HoldsOf names lines e
   holds_by e judgement.Holds h a u = (h.0, inl h.1)
@@ -87,11 +89,11 @@ module _ (names : Spellings) (lines : List Line) where
   some_open [] [] m h = absurd (cc)
   some_open [] (j ∷ js) m h = absurd m
   some_open (e ∷ es) [] m h = absurd m
-  some_open (e ∷ es) (j ∷ js) m h = split (is_unsettled j) refl h
+  some_open (e ∷ es) (j ∷ js) m h = split (is_unsettled j) refl h (some_open es js m.1)
     where
-      split : (b : Bool) → is_unsettled j ≡ b → (b || has_unsettled js) ≡ true → (x : Expectation) × IsAmong x (e ∷ es) × OpenOf names lines x
-      split true u h = (e, Here es, open_by e j m.0 u)
-      split false u h = let f = some_open es js m.1 h in (f.0, There e es f.1, f.2)
+      split : (b : Bool) → is_unsettled j ≡ b → (b || has_unsettled js) ≡ true → (has_unsettled js ≡ true → (x : Expectation) × IsAmong x es × OpenOf names lines x) → (x : Expectation) × IsAmong x (e ∷ es) × OpenOf names lines x
+      split true u h on = (e, Here es, open_by e j m.0 u)
+      split false u h on = let f = on h in (f.0, There e es f.1, f.2)
 
   pub marked : (es : List Expectation) (js : List Judgement) → AreJudged names lines es js → IsMarkOf names es lines (mark_of js)
   marked es js m = split (has_against js) (has_unsettled js) refl refl

@@ -2,15 +2,20 @@
 use Rattle.std.specs.Prelude.{◌≡◌, ◌≢◌, ◌⊎◌, ◌+◌, ◌++◌, ℕ, List, Bool, true, false}
 use Rattle.std.specs.List.{list_any}
 use Rattle.cp_machine.specs.declared.shown.Shown.{Shown}
+use Rattle.cp_run.specs.declared.outcome.OutcomeKind.{OutcomeKind}
+use Rattle.cp_run.specs.declared.outcome.OutcomeKind.TheVariants.{ChoiceLimit}
 use Rattle.cp_run.specs.System.{System}
 use Rattle.cp_run.specs.Table.{table}
 use Rattle.cp_walk.specs.Text.{Spellings}
 use Rattle.cp_verdict.specs.Expectations.{is_true_of}
+use Rattle.cp_verdict.specs.Judged.{IsJudged}
 use Rattle.cp_verdict.specs.Marked.{HoldsOf}
 use Rattle.cp_verdict.specs.declared.expectation.Claim.TheVariants.{Sometimes}
 use Rattle.cp_verdict.specs.declared.expectation.Expectation.{Expectation}
 use Rattle.cp_verdict.specs.declared.expectation.OutcomePattern.{OutcomePattern}
 use Rattle.cp_verdict.specs.declared.expectation.OutcomePattern.TheVariants.{End, Shows}
+use Rattle.cp_verdict.specs.declared.judging.Judgement.TheVariants.{Shown as ShownBy}
+use Rattle.cp_verdict.specs.declared.seen.Row.{Row}
 
 -- more was displayed, or as much
 abbrev pub GoesOn : List Shown → List Shown → Type 0
@@ -34,3 +39,13 @@ abbrev pub HoldsLaw : {S : Type 0} → System S → Type 0
 HoldsLaw sys =
     (names : Spellings) (choices steps more : ℕ) (e : Expectation) → (asks_values e ≡ false) ⊎ (KeepsOutput sys × (e.claim ≢ Sometimes)) →
     HoldsOf names (table sys choices steps) e → is_true_of names e (table sys (choices + more) steps) ≡ true
+
+abbrev pub ended_for_choices : OutcomeKind → Bool
+ended_for_choices ChoiceLimit = true
+ended_for_choices kind = false
+
+-- What a row shows is shown in every table of more choices, unless the row ended for want of choices.
+abbrev pub StaysLaw : {S : Type 0} → System S → Type 0
+StaysLaw sys =
+    (names : Spellings) (choices steps more : ℕ) (e : Expectation) (r : Row) → ended_for_choices r.outcome.kind ≡ false →
+    IsJudged names e (table sys choices steps) (ShownBy r) → is_true_of names e (table sys (choices + more) steps) ≡ true

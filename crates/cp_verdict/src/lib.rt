@@ -18,7 +18,7 @@ pub mod words;
 pub use comments::expected;
 pub use expectation::{Claim, Expectation, KindPattern, OutcomePattern, OutputItem, OutputPattern};
 pub use judging::{Judgement, judge};
-pub use laws::{law_holds, law_output};
+pub use laws::{law_holds, law_output, law_stays};
 pub use marking::{Mark, judge_each, mark_of};
 pub use program::{MarkFault, Marked, Stops, mark_program, mark_tallies};
 pub use readable::push_readable;

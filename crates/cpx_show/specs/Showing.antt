@@ -10,8 +10,8 @@ use Rattle.cp_ends_verdict.specs.declared.verdict.Mark as ends_mark
 use Rattle.cp_ends_verdict.specs.declared.verdict.Mark.TheVariants as of_ends
 use Rattle.cp_verdict.specs.Marked.{IsMarkOf}
 use Rattle.cp_verdict.specs.declared.expectation.Expectation.{Expectation}
-use Rattle.cp_verdict.specs.declared.program.Mark.{Mark}
-use Rattle.cp_verdict.specs.declared.program.Mark.TheVariants as mark
+use Rattle.cp_verdict.specs.declared.marking.Mark.{Mark}
+use Rattle.cp_verdict.specs.declared.marking.Mark.TheVariants as mark
 pub use Rattle.cpx_show.specs.declared.answering.Verdict.{Verdict}
 pub use Rattle.cpx_show.specs.declared.answering.Ending.{Ending}
 use Rattle.cpx_show.specs.declared.answering.Ending.TheVariants.{Told, OutOfMemory, ReadFailed, WriteFailed}

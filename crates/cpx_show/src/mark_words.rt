@@ -116,13 +116,27 @@ fn push_holds(text: &mut String, marked: &Marked) -> Result<(), AllocError> {
         .judgements
         .iter()
         .any(|judgement| matches!(judgement, Judgement::Holds));
-    text.push_str(if by_each {
+    let may_go_on = marked
+        .judgements
+        .iter()
+        .any(|judgement| ended_for_choices(judgement));
+    text.push_str(if may_go_on {
+        "shown by a schedule; some ended at "
+    } else if by_each {
         "shown by each schedule, for every greater number of choices too; some ended at "
     } else {
         "shown by a schedule, for every greater number of choices too; others ended at "
     })?;
     marked.stops.push_to(text)?;
     text.push('\n')
+}
+
+// Whether a schedule shows it that ended for want of choices: of a greater number nothing is proved then.
+fn ended_for_choices(judgement: &Judgement) -> bool {
+    match judgement {
+        Judgement::Shown(row) => row.outcome.kind == OutcomeKind::ChoiceLimit,
+        _ => false,
+    }
 }
 
 // An expectation that does not hold, or is not settled.

@@ -180,7 +180,8 @@ fn judged(alloc: Global, examinee: Examinee<'_>, reading: &Reading) -> Result<An
         program: examinee.program,
         limits,
     };
-    match mark_program(alloc, job, options.states, &reading.expectations) {
+    let list = reading.expectations.as_slice();
+    match mark_program(alloc, job, options.states, list) {
         Ok(marked) => {
             let verdict = verdict_of(marked.mark);
             let text = told(alloc, examinee, reading, &marked)?;
