@@ -9,7 +9,7 @@ use Rattle.cp_ends_verdict.specs.Knowledge.{IsKnown}
 use Rattle.cp_ends_verdict.specs.Marked.{IsMarked, IsMarkOf, IsMeantMark, mark_of}
 use Rattle.cp_ends_verdict.specs.declared.expectation.Expectation.{Expectation}
 use Rattle.cp_ends_verdict.specs.declared.known.Known.{Known}
-use Rattle.cp_ends_verdict.specs.declared.marking.Marked.{Marked}
+use Rattle.cp_ends_verdict.specs.declared.saying.Marked.{Marked}
 use Rattle.cp_ends_verdict.specs.declared.verdict.Verdict.{Verdict}
 use Rattle.cp_ends_verdict.proofs.MeantMarks.{meant}
 

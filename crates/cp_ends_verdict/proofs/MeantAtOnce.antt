@@ -1,6 +1,6 @@
 -- A mark by what a search that makes kernel calls at once found is true of the program on its own names.
-use Rattle.std.proofs.Common.{◌≡◌, ◌⊎◌, inl, inr, ◌∙◌, ◌+◌, ◌<◌, ℕ, zero, suc, Bool, true, false, not, ◌&&◌, ◌||◌, List, [], ◌∷◌, map, length, refl, sym, ap, subst, arith, vec_len}
-use Rattle.std.specs.Prelude.{All, Contains, IfOk, None, Option, Result, Some, find, nat_le, nat_lt, option_map, slice_get}
+use Rattle.std.proofs.Common.{◌≡◌, ◌⊎◌, inl, inr, ◌∙◌, ◌+◌, ℕ, zero, suc, Bool, true, false, not, ◌&&◌, ◌||◌, List, [], ◌∷◌, map, length, refl, sym, ap, subst, arith, vec_len}
+use Rattle.std.specs.Prelude.{Contains, IfOk, None, Option, Result, Some, find, nat_le, nat_lt, option_map, slice_get}
 use Rattle.std.specs.List.{list_any}
 use Rattle.std.proofs.lemmas.Bool.{leb-true, ltb-true}
 use Rattle.std.proofs.lemmas.Result.{IfOk-weaker}
@@ -14,7 +14,6 @@ use Rattle.cp_machine.specs.declared.gates.Gates.TheVariants.{First, Any}
 use Rattle.cp_machine.specs.declared.shown.Shown.{Shown}
 use Rattle.cp_meaning.specs.State.{first_gates}
 use Rattle.cp_run.specs.Slots.{slots}
-use Rattle.cp_run.specs.declared.outcome.OutcomeKind.{OutcomeKind}
 use Rattle.cp_endless.specs.Silent.{silent_slots, without_output}
 use Rattle.cp_walk.specs.Text.{Spellings}
 use Rattle.cp_ends.specs.Answer.{ends_tests}
@@ -27,7 +26,7 @@ use Rattle.cp_ends.proofs.Searching.Lists.{all_at, place_of}
 use Rattle.cp_ends.proofs.Telling.{ends_told, values_told}
 use Rattle.cp_at_once_laws.specs.OnSlots.{LeavesNone}
 use Rattle.cp_at_once_laws.proofs.names.Repeating.{repeats_by_one}
-use Rattle.cp_ends_verdict.specs.AtOnce.{EndsAtSomeLimit, IsAgain, IsKnownAtOnce, IsMarkAtOnce, IsMarkInTurn, at_any_limit, can_be_at_once, knows_end, knows_value}
+use Rattle.cp_ends_verdict.specs.AtOnce.{IsAgain, IsKnownAtOnce, IsMarkAtOnce, IsMarkInTurn, at_any_limit, can_be_at_once, knows_end, knows_value}
 use Rattle.cp_ends_verdict.specs.Behaviour.{Behaviour, Finding, Ends, Shows, Waits, IsSo}
 use Rattle.cp_ends_verdict.specs.Expectations.{HasSettling, IsTrue, asks_some, settles}
 use Rattle.cp_ends_verdict.specs.Judged.{IsJudgedBy, judgement_of}
@@ -42,12 +41,12 @@ use Rattle.cp_ends_verdict.specs.declared.known.Known.{Known}
 use Rattle.cp_ends_verdict.specs.declared.known.KnownEnd.{KnownEnd}
 use Rattle.cp_ends_verdict.specs.declared.known.KnownValue.{KnownValue}
 use Rattle.cp_ends_verdict.specs.declared.known.Witness.{Witness}
-use Rattle.cp_ends_verdict.specs.declared.marking.Marked.{Marked}
+use Rattle.cp_ends_verdict.specs.declared.saying.Marked.{Marked}
 use Rattle.cp_ends_verdict.specs.declared.verdict.Mark.{Mark}
 use Rattle.cp_ends_verdict.specs.declared.verdict.Mark.TheVariants.{TooMany}
 use Rattle.cp_ends_verdict.specs.declared.verdict.Verdict.{Verdict}
 use Rattle.cp_ends_verdict.specs.declared.verdict.Verdict.TheVariants as verdict
-use Rattle.cp_ends_verdict.proofs.Finding.{IsFoundAt, at_map, found_at, found_none, map_at}
+use Rattle.cp_ends_verdict.proofs.Finding.{at_map, found_at, found_none, map_at}
 use Rattle.cp_ends_verdict.proofs.Judgements.{both}
 use Rattle.cp_ends_verdict.proofs.Meant.{limit_cut, settling_uncut, there}
 use Rattle.cp_ends_verdict.proofs.MeantMarks.{settled_whole}

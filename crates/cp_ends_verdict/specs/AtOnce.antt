@@ -9,7 +9,6 @@ use Rattle.cp_machine.specs.declared.shown.Shown.{Shown}
 use Rattle.cp_meaning.specs.State.{first_gates}
 use Rattle.cp_refine.specs.Named.{named}
 use Rattle.cp_run.specs.Slots.{slots}
-use Rattle.cp_run.specs.declared.outcome.OutcomeKind.{OutcomeKind}
 use Rattle.cp_endless.specs.Reachable.{EndsAfter}
 use Rattle.cp_endless.specs.Shown.{ShowsAfter}
 use Rattle.cp_endless.specs.Silent.{in_call_on_names, named_without_output, silent_slots, waits_on_names, without_output}

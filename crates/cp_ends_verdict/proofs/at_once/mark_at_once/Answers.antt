@@ -1,4 +1,4 @@
-use Rattle.std.proofs.Common.{◌≡◌, ◌∙◌, sym, subst}
+use Rattle.std.proofs.Common.{subst}
 use Rattle.cp_machine.specs.declared.gates.Gates.{Gates}
 use Rattle.cp_at_once.specs.Whole.{IsAnswer}
 use Rattle.cp_ends_verdict.specs.AtOnce.{IsKnownAtOnce}

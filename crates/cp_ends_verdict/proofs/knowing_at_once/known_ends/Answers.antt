@@ -1,4 +1,4 @@
-use Rattle.std.proofs.Common.{◌≡◌, ap, sym, subst}
+use Rattle.std.proofs.Common.{ap, sym, subst}
 use Rattle.cp_machine.specs.declared.gates.Gates.TheVariants.{First}
 use Rattle.cp_endless.specs.Silent.{silent_slots}
 use Rattle.cp_ends.specs.Ends.{EndsSo}

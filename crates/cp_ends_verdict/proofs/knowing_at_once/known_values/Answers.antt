@@ -1,4 +1,4 @@
-use Rattle.std.proofs.Common.{◌≡◌, ap, sym, subst}
+use Rattle.std.proofs.Common.{ap, sym, subst}
 use Rattle.cp_at_once.specs.Holds.{IsWordOf}
 use Rattle.cp_at_once.specs.declared.found.FoundValue.{FoundValue}
 use Rattle.cp_machine.specs.declared.gates.Gates.TheVariants.{First}
