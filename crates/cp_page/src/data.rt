@@ -3,7 +3,7 @@
 ghost use Rattle.std.specs.Prelude.{◌≡◌, All, IfOk};
 ghost use Rattle.cp_machine.specs.System.{IsStateOf};
 
-use crate::endless::endless;
+use crate::endless::endless_of;
 use crate::graph::Graph;
 use crate::json::Json;
 use crate::keys::Merging;
@@ -82,7 +82,7 @@ fn put_tallies(
 
 // The graph, the ends that are possible in schedules of any length, and who may wait for ever.
 fn put_endless(alloc: Global, json: &mut Json, subject: Subject<'_>) -> Result<(), AllocError> {
-    let endless = endless(alloc, subject)?;
+    let endless = endless_of(alloc, subject)?;
     let words = endless.words(alloc)?;
     put_graph(alloc, json, subject, Merging::WithoutOutput, &words)?;
     endless.put(alloc, json, subject.legend)

@@ -24,9 +24,9 @@ pub struct Endless {
 }
 
 /// Which ends are possible, and who may wait for ever.
-pub fn endless(alloc: Global, subject: Subject<'_>) -> Result<Endless, AllocError>
-    ensures ends { IfOk result (λ e. IsAnswer subject.program.now subject.limits.gates subject.limits.steps 200000 e.found) }
-    ensures waits { IfOk result (λ e. IfSome e.waits (λ waits. TellOfAll subject.program.now subject.limits.gates subject.limits.steps e.found waits)) }
+pub fn endless_of(alloc: Global, subject: Subject<'_>) -> Result<Endless, AllocError>
+    ensures ends { IfOk result (λ e. IsAnswer subject.entry.program.now subject.entry.limits.gates subject.entry.limits.steps 200000 e.found) }
+    ensures waits { IfOk result (λ e. IfSome e.waits (λ waits. TellOfAll subject.entry.program.now subject.entry.limits.gates subject.entry.limits.steps e.found waits)) }
 {
     let Subject {
         program,

@@ -104,12 +104,13 @@ impl<'a> Graph<'a> {
         let halt = self
             .teller
             .tell_opening(alloc, program, limits, &mut state, ticks, &mut observer)?;
-        let led = match self.length {
-            Length::Limited => Led {
-                arrival: arrival_of(halt),
-                state,
-            },
-            Length::Any => quiet_opening(alloc, program, limits, ticks)?,
+        if self.length == Length::Any {
+            let led = quiet_opening(alloc, program, limits, ticks)?;
+            return self.arrive(alloc, program, limits, states, led, &observer, 0);
+        }
+        let led = Led {
+            arrival: arrival_of(halt),
+            state,
         };
         self.arrive(alloc, program, limits, states, led, &observer, 0)
     }
@@ -189,14 +190,15 @@ impl<'a> Graph<'a> {
             ticks,
             &mut observer,
         )?;
-        let led = match self.length {
-            Length::Limited => Led {
-                arrival: arrival_of(halt),
-                state,
-            },
-            Length::Any => quiet_choice(alloc, program, limits, before, process, ticks)?,
-        };
         let depth = self.depth_of(at).saturating_add(1);
+        if self.length == Length::Any {
+            let led = quiet_choice(alloc, program, limits, before, process, ticks)?;
+            return self.arrive(alloc, program, limits, states, led, &observer, depth);
+        }
+        let led = Led {
+            arrival: arrival_of(halt),
+            state,
+        };
         self.arrive(alloc, program, limits, states, led, &observer, depth)
     }
 
