@@ -125,3 +125,8 @@ expect m = λ i. if sees m i then Ok (tt, advance i) else refuse i
 abbrev pub Reads : {X A : Type 0} → (X → A) → Outcome A → Result X ParseFault → Input → Type 0
 Reads view outcome (Ok x) new = outcome ≡ Ok (view x, new)
 Reads view outcome (Err e) new = e ≢ Memory → outcome ≡ Err e
+
+-- what was read after a value that is held meanwhile
+abbrev pub second_of : {X A : Type 0} → Result (X × A) ParseFault → Result A ParseFault
+second_of (Ok p) = Ok p.1
+second_of (Err e) = Err e

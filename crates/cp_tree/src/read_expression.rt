@@ -12,6 +12,7 @@ use crate::expression::{
     Term,
 };
 use crate::fault::ParseFault;
+use crate::held::{boxed, value_before, value_with};
 use crate::read_constant::{identifier, sign};
 use cp_text::{Kind, Mark};
 use std::alloc::Global;
@@ -113,7 +114,7 @@ fn related(alloc: Global, cursor: &mut Cursor<'_>, budget: usize) -> Result<Expr
     let left = sum(alloc, cursor, budget)?;
     match relation(cursor) {
         Some(relation) => {
-            let right = sum(alloc, cursor, budget)?;
+            let (left, right) = value_with(left, sum(alloc, cursor, budget))?;
             Ok(Expression {
                 at,
                 left,
@@ -136,7 +137,7 @@ fn sum(alloc: Global, cursor: &mut Cursor<'_>, budget: usize) -> Result<Sum, Par
     let at = cursor.at();
     let sign = sign(cursor);
     let first = term(alloc, cursor, budget)?;
-    let more = added_terms(alloc, cursor, budget)?;
+    let (first, more) = value_with(first, added_terms(alloc, cursor, budget))?;
     Ok(Sum {
         at,
         sign,
@@ -171,7 +172,7 @@ fn term(alloc: Global, cursor: &mut Cursor<'_>, budget: usize) -> Result<Term, P
 {
     let at = cursor.at();
     let first = factor(alloc, cursor, budget)?;
-    let more = multiplied_factors(alloc, cursor, budget)?;
+    let (first, more) = value_with(first, multiplied_factors(alloc, cursor, budget))?;
     Ok(Term { at, first, more })
 }
 
@@ -211,7 +212,8 @@ fn factor(alloc: Global, cursor: &mut Cursor<'_>, budget: usize) -> Result<Facto
         }
         Some(Kind::Name(_)) => {
             let designator = designator(alloc, cursor, budget)?;
-            FactorKind::Named(designator, arguments(alloc, cursor, budget)?)
+            let (designator, arguments) = value_with(designator, arguments(alloc, cursor, budget))?;
+            FactorKind::Named(designator, arguments)
         }
         Some(Kind::Mark(Mark::OpenParenthesis)) => {
             cursor.advance();
@@ -241,8 +243,8 @@ fn grouped(
     ensures { Reads (λ e. expression_view e.value) (spec.grouped_at budget cursor.old) result cursor.new }
 {
     let inner = expression(alloc, cursor, budget)?;
-    cursor.expect(Mark::CloseParenthesis)?;
-    Ok(Box::new(alloc, inner)?)
+    let inner = value_before(cursor, inner, Mark::CloseParenthesis)?;
+    boxed(alloc, inner)
 }
 
 // The factor after `not`.
@@ -251,7 +253,7 @@ fn negated(alloc: Global, cursor: &mut Cursor<'_>, budget: usize) -> Result<Box<
     ensures { Reads (λ f. factor_view f.value) (spec.deeper budget cursor.old) result cursor.new }
 {
     let inner = deeper(alloc, cursor, budget)?;
-    Ok(Box::new(alloc, inner)?)
+    boxed(alloc, inner)
 }
 
 // A factor after `not`.
@@ -280,8 +282,7 @@ fn elements(
         return Ok(Vec::new(alloc));
     }
     let found = expressions(alloc, cursor, budget)?;
-    cursor.expect(Mark::CloseBracket)?;
-    Ok(found)
+    value_before(cursor, found, Mark::CloseBracket)
 }
 
 /// The arguments after a name, or none where no parenthesis opens.
@@ -298,8 +299,7 @@ pub fn arguments(
         return Ok(Vec::new(alloc));
     }
     let found = expressions(alloc, cursor, budget)?;
-    cursor.expect(Mark::CloseParenthesis)?;
-    Ok(found)
+    value_before(cursor, found, Mark::CloseParenthesis)
 }
 
 // Expressions with commas between them.
@@ -334,7 +334,7 @@ pub fn designator(
     ensures { Reads designator_view (spec.designator_at budget cursor.old) result cursor.new }
 {
     let name = identifier(alloc, cursor)?;
-    let selectors = selectors(alloc, cursor, budget)?;
+    let (name, selectors) = value_with(name, selectors(alloc, cursor, budget))?;
     Ok(Designator { name, selectors })
 }
 
@@ -373,7 +373,7 @@ fn selector(
         Some(Mark::OpenBracket) => {
             cursor.advance();
             let index = expression(alloc, cursor, budget)?;
-            cursor.expect(Mark::CloseBracket)?;
+            let index = value_before(cursor, index, Mark::CloseBracket)?;
             Ok(Some(Selector::Index(index)))
         }
         _ => Ok(None),

@@ -8,7 +8,7 @@ ghost use Rattle.cp_tree.specs.View.{constant_definition_view, type_definition_v
 use crate::cursor::Cursor;
 use crate::declaration::{ConstantDefinition, Part, PartKind, TypeDefinition, VariableGroup};
 use crate::fault::ParseFault;
-use crate::held::value_before;
+use crate::held::{value_before, value_with};
 use crate::read_constant::{constant, identifier, identifiers};
 use crate::read_type::type_term;
 use cp_text::Mark;
@@ -25,10 +25,9 @@ fn constant_definition(
     ensures { Reads constant_definition_view (spec.constant_item cursor.old) result cursor.new }
 {
     let name = identifier(alloc, cursor)?;
-    cursor.expect(Mark::Equal)?;
-    let value = constant(alloc, cursor)?;
-    cursor.expect(Mark::Semicolon)?;
-    Ok(ConstantDefinition { name, value })
+    let name = value_before(cursor, name, Mark::Equal)?;
+    let (name, value) = value_with(name, constant(alloc, cursor))?;
+    value_before(cursor, ConstantDefinition { name, value }, Mark::Semicolon)
 }
 
 #[tactic(auto, unfolding(crate::specs::ReadingDeclarations::type_item))]
@@ -36,10 +35,9 @@ fn type_definition(alloc: Global, cursor: &mut Cursor<'_>) -> Result<TypeDefinit
     ensures { Reads type_definition_view (spec.type_item cursor.old) result cursor.new }
 {
     let name = identifier(alloc, cursor)?;
-    cursor.expect(Mark::Equal)?;
-    let value = type_term(alloc, cursor, MAX_LEVEL)?;
-    let definition = TypeDefinition { name, value };
-    Ok(value_before(cursor, definition, Mark::Semicolon)?)
+    let name = value_before(cursor, name, Mark::Equal)?;
+    let (name, value) = value_with(name, type_term(alloc, cursor, MAX_LEVEL))?;
+    value_before(cursor, TypeDefinition { name, value }, Mark::Semicolon)
 }
 
 #[tactic(auto, unfolding(crate::specs::ReadingDeclarations::variable_item))]
@@ -53,7 +51,7 @@ fn variable_group(alloc: Global, cursor: &mut Cursor<'_>) -> Result<VariableGrou
         names,
         variable_type,
     };
-    Ok(value_before(cursor, group, Mark::Semicolon)?)
+    value_before(cursor, group, Mark::Semicolon)
 }
 
 /// Constant definitions, as long as a name comes next.

@@ -11,6 +11,7 @@ use crate::declaration::{
     Definition, Program, ProgramPart, ProgramPartKind, System, SystemDefinition, SystemKind,
 };
 use crate::fault::ParseFault;
+use crate::held::{value_before, value_with};
 use crate::read_constant::identifier;
 use crate::read_part::{MAX_LEVEL, constant_definitions, parts, variable_groups};
 use crate::read_routine::{body, groups, routines};
@@ -74,10 +75,9 @@ fn system_definition(alloc: Global, cursor: &mut Cursor<'_>) -> Result<SystemDef
     ensures { Reads system_definition_view (spec.system_item cursor.old) result cursor.new }
 {
     let name = identifier(alloc, cursor)?;
-    cursor.expect(Mark::Equal)?;
-    let value = definition(alloc, cursor)?;
-    cursor.expect(Mark::Semicolon)?;
-    Ok(SystemDefinition { name, value })
+    let name = value_before(cursor, name, Mark::Equal)?;
+    let (name, value) = value_with(name, definition(alloc, cursor))?;
+    value_before(cursor, SystemDefinition { name, value }, Mark::Semicolon)
 }
 
 #[tactic(auto, unfolding(crate::specs::ReadingDeclarations::one_or_more))]
@@ -142,15 +142,15 @@ pub fn program(alloc: Global, cursor: &mut Cursor<'_>) -> Result<Program, ParseF
     let parts = program_parts(alloc, cursor)?;
     let routines = routines(alloc, cursor)?;
     let body = body(alloc, cursor)?;
-    let period = cursor.at();
-    cursor.expect(Mark::Period)?;
-    if cursor.left() > 0 {
-        return Err(cursor.unexpected());
-    }
-    Ok(Program {
+    let program = Program {
         parts,
         routines,
         body,
-        period,
-    })
+        period: cursor.at(),
+    };
+    let program = value_before(cursor, program, Mark::Period)?;
+    if cursor.left() > 0 {
+        return Err(cursor.unexpected());
+    }
+    Ok(program)
 }

@@ -10,6 +10,7 @@ ghost use Rattle.cp_text.specs.declared.token.Mark.TheVariants as mark;
 use crate::cursor::Cursor;
 use crate::declaration::{Body, Group, ParameterGroup, Routine, RoutineKind};
 use crate::fault::ParseFault;
+use crate::held::{value_before, value_with};
 use crate::read_constant::{identifier, identifiers};
 use crate::read_part::{MAX_LEVEL, parts};
 use crate::read_statement::statements;
@@ -24,8 +25,7 @@ pub fn body(alloc: Global, cursor: &mut Cursor<'_>) -> Result<Body, ParseFault>
     let at = cursor.at();
     cursor.expect(Mark::Begin)?;
     let statements = statements(alloc, cursor, MAX_LEVEL)?;
-    cursor.expect(Mark::End)?;
-    Ok(Body { at, statements })
+    value_before(cursor, Body { at, statements }, Mark::End)
 }
 
 #[tactic(auto, unfolding(crate::specs::ReadingDeclarations::group_item))]
@@ -62,8 +62,7 @@ pub fn groups(alloc: Global, cursor: &mut Cursor<'_>) -> Result<Vec<Group>, Pars
         return Ok(Vec::new(alloc));
     }
     let found = group_list(alloc, cursor)?;
-    cursor.expect(Mark::CloseParenthesis)?;
-    Ok(found)
+    value_before(cursor, found, Mark::CloseParenthesis)
 }
 
 #[tactic(auto, unfolding(crate::specs::ReadingDeclarations::parameter_item))]
@@ -100,8 +99,7 @@ fn parameters(alloc: Global, cursor: &mut Cursor<'_>) -> Result<Vec<ParameterGro
         return Ok(Vec::new(alloc));
     }
     let found = parameter_list(alloc, cursor)?;
-    cursor.expect(Mark::CloseParenthesis)?;
-    Ok(found)
+    value_before(cursor, found, Mark::CloseParenthesis)
 }
 
 #[tactic(auto, unfolding(crate::specs::ReadingDeclarations::procedure_kind))]
@@ -148,19 +146,20 @@ fn named_routine(
 {
     let is_entry = cursor.eat(Mark::Entry);
     let name = identifier(alloc, cursor)?;
-    let kind = routine_kind(alloc, cursor, is_function)?;
-    cursor.expect(Mark::Semicolon)?;
-    let parts = parts(alloc, cursor)?;
-    let body = body(alloc, cursor)?;
-    cursor.expect(Mark::Semicolon)?;
-    Ok(Routine {
+    let heading = value_with(name, routine_kind(alloc, cursor, is_function))?;
+    let heading = value_before(cursor, heading, Mark::Semicolon)?;
+    let (heading, parts) = value_with(heading, parts(alloc, cursor))?;
+    let ((heading, parts), body) = value_with((heading, parts), body(alloc, cursor))?;
+    let (name, kind) = heading;
+    let routine = Routine {
         at,
         is_entry,
         name,
         kind,
         parts,
         body,
-    })
+    };
+    value_before(cursor, routine, Mark::Semicolon)
 }
 
 #[tactic(auto, unfolding(crate::specs::ReadingDeclarations::routine_item))]

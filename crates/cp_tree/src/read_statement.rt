@@ -10,6 +10,7 @@ ghost use Rattle.cp_text.specs.declared.token.Mark.TheVariants as mark;
 use crate::constant::Constant;
 use crate::cursor::Cursor;
 use crate::fault::ParseFault;
+use crate::held::{boxed, value_before, value_with};
 use crate::read_constant::{constant, identifier};
 use crate::read_expression::{arguments, designator, expression};
 use crate::statement::{Arm, Direction, Start, Statement, StatementKind};
@@ -67,13 +68,13 @@ fn named(alloc: Global, cursor: &mut Cursor<'_>, budget: usize) -> Result<Statem
     let at = cursor.at();
     let designator = designator(alloc, cursor, budget)?;
     if cursor.eat(Mark::Becomes) {
-        let value = expression(alloc, cursor, budget)?;
+        let (designator, value) = value_with(designator, expression(alloc, cursor, budget))?;
         return Ok(Statement {
             at,
             kind: StatementKind::Assign(designator, value),
         });
     }
-    let arguments = arguments(alloc, cursor, budget)?;
+    let (designator, arguments) = value_with(designator, arguments(alloc, cursor, budget))?;
     Ok(Statement {
         at,
         kind: StatementKind::Call(designator, arguments),
@@ -167,7 +168,7 @@ fn statement_after(
 {
     cursor.expect(word)?;
     let inner = statement(alloc, cursor, budget)?;
-    Ok(Box::new(alloc, inner)?)
+    boxed(alloc, inner)
 }
 
 // `if .. then .. else`, whose word comes next.
@@ -179,14 +180,17 @@ fn choice(alloc: Global, cursor: &mut Cursor<'_>, budget: usize) -> Result<State
     let at = cursor.at();
     cursor.advance();
     let test = expression(alloc, cursor, budget)?;
-    let chosen = statement_after(alloc, cursor, Mark::Then, budget)?;
+    let held = value_with(test, statement_after(alloc, cursor, Mark::Then, budget))?;
     if cursor.sees(Mark::Else) {
-        let other = statement_after(alloc, cursor, Mark::Else, budget)?;
+        let other = statement_after(alloc, cursor, Mark::Else, budget);
+        let both = value_with(held, other)?;
+        let ((test, chosen), other) = both;
         return Ok(Statement {
             at,
             kind: StatementKind::If(test, chosen, Some(other)),
         });
     }
+    let (test, chosen) = held;
     Ok(Statement {
         at,
         kind: StatementKind::If(test, chosen, None),
@@ -206,7 +210,7 @@ fn while_loop(
     let at = cursor.at();
     cursor.advance();
     let test = expression(alloc, cursor, budget)?;
-    let body = statement_after(alloc, cursor, Mark::Do, budget)?;
+    let (test, body) = value_with(test, statement_after(alloc, cursor, Mark::Do, budget))?;
     Ok(Statement {
         at,
         kind: StatementKind::While(test, body),
@@ -222,11 +226,13 @@ fn for_loop(alloc: Global, cursor: &mut Cursor<'_>, budget: usize) -> Result<Sta
     let at = cursor.at();
     cursor.advance();
     let variable = identifier(alloc, cursor)?;
-    cursor.expect(Mark::Becomes)?;
-    let first = expression(alloc, cursor, budget)?;
-    let direction = direction(cursor)?;
-    let last = expression(alloc, cursor, budget)?;
-    let body = statement_after(alloc, cursor, Mark::Do, budget)?;
+    let variable = value_before(cursor, variable, Mark::Becomes)?;
+    let held = value_with(variable, expression(alloc, cursor, budget))?;
+    let (held, direction) = value_with(held, direction(cursor))?;
+    let (held, last) = value_with(held, expression(alloc, cursor, budget))?;
+    let body = statement_after(alloc, cursor, Mark::Do, budget);
+    let ((held, last), body) = value_with((held, last), body)?;
+    let (variable, first) = held;
     Ok(Statement {
         at,
         kind: StatementKind::For(variable, first, direction, last, body),
@@ -259,9 +265,10 @@ fn case(alloc: Global, cursor: &mut Cursor<'_>, budget: usize) -> Result<Stateme
     let at = cursor.at();
     cursor.advance();
     let selector = expression(alloc, cursor, budget)?;
-    cursor.expect(Mark::Of)?;
-    let (arms, ends_in_semicolon) = arms(alloc, cursor, budget)?;
-    cursor.expect(Mark::End)?;
+    let selector = value_before(cursor, selector, Mark::Of)?;
+    let held = value_with(selector, arms(alloc, cursor, budget))?;
+    let (selector, arms) = value_before(cursor, held, Mark::End)?;
+    let (arms, ends_in_semicolon) = arms;
     Ok(Statement {
         at,
         kind: StatementKind::Case(selector, arms, ends_in_semicolon),
@@ -352,6 +359,6 @@ fn start(alloc: Global, cursor: &mut Cursor<'_>, budget: usize) -> Result<Start,
     ensures { Reads start_view (spec.start_at budget cursor.old) result cursor.new }
 {
     let target = designator(alloc, cursor, budget)?;
-    let arguments = arguments(alloc, cursor, budget)?;
+    let (target, arguments) = value_with(target, arguments(alloc, cursor, budget))?;
     Ok(Start { target, arguments })
 }

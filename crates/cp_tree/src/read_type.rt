@@ -9,6 +9,7 @@ ghost use Rattle.cp_tree.specs.View.{simple_view, type_view, field_group_view, f
 use crate::constant::{Constant, ConstantKind};
 use crate::cursor::Cursor;
 use crate::fault::ParseFault;
+use crate::held::{boxed, value_before, value_with};
 use crate::read_constant::{constant, identifiers};
 use crate::types::{FieldGroup, Simple, SimpleKind, Type, TypeKind};
 use cp_text::Mark;
@@ -42,7 +43,7 @@ fn simple_from(
     ensures { Reads simple_view (spec.simple_from at first cursor.old) result cursor.new }
 {
     if cursor.eat(Mark::DoublePeriod) {
-        let last = constant(alloc, cursor)?;
+        let (first, last) = value_with(first, constant(alloc, cursor))?;
         return Ok(Simple {
             at,
             kind: SimpleKind::Subrange(first, last),
@@ -123,12 +124,13 @@ fn array(
 {
     cursor.expect(Mark::OpenBracket)?;
     let index = simple(alloc, cursor)?;
-    cursor.expect(Mark::CloseBracket)?;
-    cursor.expect(Mark::Of)?;
-    let element = type_term(alloc, cursor, budget)?;
+    let index = value_before(cursor, index, Mark::CloseBracket)?;
+    let index = value_before(cursor, index, Mark::Of)?;
+    let (index, element) = value_with(index, type_term(alloc, cursor, budget))?;
+    let (index, element) = value_with(index, boxed(alloc, element))?;
     Ok(Type {
         at,
-        kind: TypeKind::Array(index, Box::new(alloc, element)?),
+        kind: TypeKind::Array(index, element),
     })
 }
 

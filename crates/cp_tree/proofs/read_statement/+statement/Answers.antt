@@ -17,13 +17,13 @@ statement-returns t c = rw (turns.deeper (λ n. statement n c.args.cursor.now) c
 pub choice-returns-then-sees : goal.choice-returns-then-sees
 unfolding if_at if_with statement_after expect after
 choice-returns-then-sees t c =
-    let v = if_else_view c.at-at.result c.in_ok-test.test c.in_ok-chosen.chosen c.in_ok-other.other in
+    let v = if_else_view c.at-at.result c.in_ok-both.both.0.0 c.in_ok-both.both.0.1 c.in_ok-both.both.1 in
     rw v (first_of (search rules, grind (arith, common_steps)))
 
 pub choice-returns : goal.choice-returns
 unfolding if_at if_with statement_after expect after
 choice-returns t c =
-    let v = if_then_view c.at-at.result c.in_ok-test.test c.in_ok-chosen.chosen in
+    let v = if_then_view c.at-at.result c.in_ok-held.held.0 c.in_ok-held.held.1 in
     rw v (first_of (search rules, grind (arith, common_steps)))
 
 pub statements-loop-turn-init : goal.statements-loop-turn-init
