@@ -28,6 +28,7 @@ pub mod LocalSteps
 pub mod NamingLemmas
 pub mod OpeningFits
 pub mod OpeningLines
+pub mod Outcomes
 pub mod Overwriting
 pub mod ReachingKept
 pub mod ReadLemmas

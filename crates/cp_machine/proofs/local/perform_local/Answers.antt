@@ -1,9 +1,14 @@
+use Rattle.std.proofs.Common.{◌∙◌, ap, sym}
+use Rattle.std.proofs.lemmas.Bool.{false≢true}
 use Rattle.cp_slots.specs.declared.item.Action.TheVariants.{Assign, If, While, Until}
-use Rattle.cp_machine.specs.Machine.{machine_of, under}
+use Rattle.cp_machine.specs.declared.process.Entry.TheVariants.{Rest}
+use Rattle.cp_machine.specs.Machine.{machine_of, under, with_stack}
 use Rattle.cp_machine.specs.Stack.{rest_of}
-use Rattle.cp_machine.specs.Statements.{assign, branch, while_do, until}
+use Rattle.cp_machine.specs.Statements.{assign, branch, local, outcome, while_do, until}
+use Rattle.cp_machine.specs.Step.{act}
 use Rattle.cp_machine.proofs.LocalSteps.{assign_calm, branch_calm, while_calm, until_calm, done_pending, done_same}
 use Rattle.cp_machine.proofs.ReadLemmas.{taken_fits, taken_reads, taken_room}
+use Rattle.cp_machine.proofs.RoomLemmas.{is_busy}
 use Rattle.cp_machine.proofs.local.perform_local.Goals as goal
 
 pub assign-requires-clause-reads : goal.assign-requires-clause-reads
@@ -84,3 +89,72 @@ returns-in-Until-clause-pending c =
 
 pub returns-in-Until-clause-reserved : goal.returns-in-Until-clause-reserved
 returns-in-Until-clause-reserved c = c.until.ensures.reserved c.args.program.now c.requires.taken.own.reserved
+
+pub returns-in-Block-clause-taken : goal.returns-in-Block-clause-taken
+returns-in-Block-clause-taken c =
+    let m = machine_of c.args.state.now in
+    let below = under m c.args.pid in
+    λ yes. ap (λ a. act c.args.program.now m c.args.pid c.args.at c.args.item.now a below) c.in-Block.is ∙ ap local (sym c.replace.ensures.after)
+
+pub returns-in-Block-clause-same : goal.returns-in-Block-clause-same
+returns-in-Block-clause-same c = λ off. absurd (false≢true (sym off))
+
+pub returns-in-Block-clause-pending : goal.returns-in-Block-clause-pending
+returns-in-Block-clause-pending c = ap (λ m. m.pending) c.replace.ensures.after
+
+pub returns-in-Block-clause-reserved : goal.returns-in-Block-clause-reserved
+returns-in-Block-clause-reserved c = c.replace.ensures.reserved c.args.program.now c.requires.taken.own.reserved
+
+pub returns-in-Cycle-clause-taken : goal.returns-in-Cycle-clause-taken
+returns-in-Cycle-clause-taken c =
+    let m = machine_of c.args.state.now in
+    let below = under m c.args.pid in
+    λ yes. ap (λ a. act c.args.program.now m c.args.pid c.args.at c.args.item.now a below) c.in-Cycle.is ∙ ap (λ es. local (with_stack m c.args.pid (rest_of c.in-Cycle.list es))) (sym c.requires.taken.top) ∙ ap local (sym c.repeat.ensures.after)
+
+pub returns-in-Cycle-clause-same : goal.returns-in-Cycle-clause-same
+returns-in-Cycle-clause-same c = λ off. absurd (false≢true (sym off))
+
+pub returns-in-Cycle-clause-pending : goal.returns-in-Cycle-clause-pending
+returns-in-Cycle-clause-pending c = ap (λ m. m.pending) c.repeat.ensures.after
+
+pub returns-in-Cycle-clause-reserved : goal.returns-in-Cycle-clause-reserved
+returns-in-Cycle-clause-reserved c = c.repeat.ensures.reserved c.args.program.now c.requires.taken.own.reserved
+
+pub returns-in-Assign-clause-taken : goal.returns-in-Assign-clause-taken
+returns-in-Assign-clause-taken c =
+    let m = machine_of c.args.state.now in
+    let below = under m c.args.pid in
+    λ yes. ap (λ a. act c.args.program.now m c.args.pid c.args.at c.args.item.now a below) c.in-Assign.is ∙ c.assign.ensures.after ∙ ap (λ o. outcome o (machine_of c.assign.new.state) c.args.pid c.args.item.now.line) (c.is_done.ensures.yes yes)
+
+pub returns-in-If-clause-taken : goal.returns-in-If-clause-taken
+returns-in-If-clause-taken c =
+    let m = machine_of c.args.state.now in
+    let below = under m c.args.pid in
+    λ yes. ap (λ a. act c.args.program.now m c.args.pid c.args.at c.args.item.now a below) c.in-If.is ∙ c.branch-state.ensures.after ∙ ap (λ o. outcome o (machine_of c.branch-state.new.state) c.args.pid c.args.item.now.line) (c.is_done-in-If.ensures.yes yes)
+
+pub returns-in-While-clause-taken : goal.returns-in-While-clause-taken
+returns-in-While-clause-taken c =
+    let m = machine_of c.args.state.now in
+    let below = under m c.args.pid in
+    λ yes. ap (λ a. act c.args.program.now m c.args.pid c.args.at c.args.item.now a below) c.in-While.is ∙ c.while_do.ensures.after ∙ ap (λ o. outcome o (machine_of c.while_do.new.state) c.args.pid c.args.item.now.line) (c.is_done-in-While.ensures.yes yes)
+
+pub returns-in-Until-clause-taken : goal.returns-in-Until-clause-taken
+returns-in-Until-clause-taken c =
+    let m = machine_of c.args.state.now in
+    let below = under m c.args.pid in
+    λ yes. ap (λ a. act c.args.program.now m c.args.pid c.args.at c.args.item.now a below) c.in-Until.is ∙ c.until.ensures.after ∙ ap (λ o. outcome o (machine_of c.until.new.state) c.args.pid c.args.item.now.line) (c.is_done-in-Until.ensures.yes yes)
+
+pub replace-requires-clause-busy : goal.replace-requires-clause-busy
+replace-requires-clause-busy c = is_busy c.args.state.now c.args.pid (Rest c.args.at) (under (machine_of c.args.state.now) c.args.pid) c.requires.taken.within c.requires.taken.top
+
+pub assign-requires-clause-busy : goal.assign-requires-clause-busy
+assign-requires-clause-busy c = is_busy c.args.state.now c.args.pid (Rest c.args.at) (under (machine_of c.args.state.now) c.args.pid) c.requires.taken.within c.requires.taken.top
+
+pub branch-state-requires-clause-busy : goal.branch-state-requires-clause-busy
+branch-state-requires-clause-busy c = is_busy c.args.state.now c.args.pid (Rest c.args.at) (under (machine_of c.args.state.now) c.args.pid) c.requires.taken.within c.requires.taken.top
+
+pub while_do-requires-clause-busy : goal.while_do-requires-clause-busy
+while_do-requires-clause-busy c = is_busy c.args.state.now c.args.pid (Rest c.args.at) (under (machine_of c.args.state.now) c.args.pid) c.requires.taken.within c.requires.taken.top
+
+pub until-requires-clause-busy : goal.until-requires-clause-busy
+until-requires-clause-busy c = is_busy c.args.state.now c.args.pid (Rest c.args.at) (under (machine_of c.args.state.now) c.args.pid) c.requires.taken.within c.requires.taken.top

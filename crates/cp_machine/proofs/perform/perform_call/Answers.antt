@@ -1,7 +1,12 @@
 use Rattle.cp_slots.specs.declared.item.Action.TheVariants.{Call, Start}
 use Rattle.cp_machine.specs.Machine.{machine_of, under}
+use Rattle.cp_machine.specs.Step.{act}
+use Rattle.cp_machine.specs.declared.process.Entry.TheVariants.{Rest}
+use Rattle.cp_machine.specs.Calls.{call, start}
+use Rattle.cp_machine.specs.Stack.{rest_of}
+use Rattle.cp_machine.proofs.RoomLemmas.{is_busy}
 use Rattle.cp_machine.proofs.TakeLemmas.{item_taken, item_call_room}
-use Rattle.std.proofs.Common.{subst, sym}
+use Rattle.std.proofs.Common.{subst, sym, ◌∙◌, ap}
 use Rattle.cp_machine.specs.Reach.{CanCall, CanStart}
 use Rattle.cp_machine.proofs.NamingLemmas.{taken_call, taken_start}
 use Rattle.cp_machine.proofs.perform.perform_call.Goals as goal
@@ -45,3 +50,21 @@ call-requires-clause-phases c = c.requires.taken.1.own.fits.phases
 
 pub start-requires-clause-phases : goal.start-requires-clause-phases
 start-requires-clause-phases c = c.requires.taken.1.own.fits.phases
+
+pub call-requires-clause-busy : goal.call-requires-clause-busy
+call-requires-clause-busy c = is_busy c.args.state.now c.args.pid (Rest c.requires.taken.0) (under (machine_of c.args.state.now) c.args.pid) c.requires.taken.1.within c.requires.taken.1.top
+
+pub returns-in-Call-clause-after : goal.returns-in-Call-clause-after
+returns-in-Call-clause-after c =
+    let m = machine_of c.args.state.now in
+    let below = under m c.args.pid in
+    λ at. ap (λ a. act c.args.program.now m c.args.pid at c.args.item.now a below) c.in-Call.is ∙ ap (λ given. call c.args.program.now m c.args.pid c.args.item.now.line c.in-Call.routine c.in-Call.component c.in-Call.is_entry given c.in-Call.result (rest_of c.args.item.now.next below)) (sym c.deref.ensures.value) ∙ c.call.ensures.after
+
+pub start-requires-clause-busy : goal.start-requires-clause-busy
+start-requires-clause-busy c = is_busy c.args.state.now c.args.pid (Rest c.requires.taken.0) (under (machine_of c.args.state.now) c.args.pid) c.requires.taken.1.within c.requires.taken.1.top
+
+pub returns-in-Start-clause-after : goal.returns-in-Start-clause-after
+returns-in-Start-clause-after c =
+    let m = machine_of c.args.state.now in
+    let below = under m c.args.pid in
+    λ at. ap (λ a. act c.args.program.now m c.args.pid at c.args.item.now a below) c.in-Start.is ∙ ap (λ given. start c.args.program.now m c.args.pid c.args.item.now.line c.in-Start.component c.in-Start.routine given (rest_of c.args.item.now.next below)) (sym c.deref-in-Start.ensures.value) ∙ c.start.ensures.after

@@ -1,8 +1,14 @@
-use Rattle.std.proofs.Common.{ℕ, ◌<◌, length, subst, sym}
+use Rattle.std.proofs.Common.{ℕ, ◌<◌, length, subst, sym, ◌∙◌, ap}
 use Rattle.std.specs.Prelude.{slice_index_or}
 use Rattle.cp_slots.specs.declared.item.Action.TheVariants.{If, Case}
 use Rattle.cp_slots.specs.declared.item.Arm.{Arm}
 use Rattle.cp_machine.specs.Fits.{HasRoom}
+use Rattle.cp_machine.specs.Machine.{machine_of, under}
+use Rattle.cp_machine.specs.Step.{act}
+use Rattle.cp_machine.specs.declared.process.Entry.TheVariants.{Rest}
+use Rattle.cp_machine.specs.Statements.{case_of}
+use Rattle.cp_machine.specs.Stack.{rest_of}
+use Rattle.cp_machine.proofs.RoomLemmas.{is_busy}
 use Rattle.cp_machine.proofs.ReadLemmas.{taken_fits, taken_reads, taken_room}
 use Rattle.cp_machine.proofs.perform.perform_choice.Goals as goal
 
@@ -22,3 +28,27 @@ pub case_of-requires-clause-room : goal.case_of-requires-clause-room
 case_of-requires-clause-room c =
     subst (λ arms. (k : ℕ) (d : Arm) → k < length arms → HasRoom c.args.state.now c.args.pid (slice_index_or arms k d).body) (sym c.deref.ensures.value)
     (λ k d lt. taken_room c.requires.taken.0 c.args.state.now c.args.pid c.requires.taken.1 c.args.item.now c.requires.taken.2 (slice_index_or c.in-Case.arms.items k d).body ((taken_fits c.requires.taken.0 c.args.state.now c.args.pid c.requires.taken.1 c.args.item.now c.requires.taken.2 (Case c.in-Case.selector c.in-Case.arms) c.in-Case.is) k d lt))
+
+pub branch-state-requires-clause-busy : goal.branch-state-requires-clause-busy
+branch-state-requires-clause-busy c = is_busy c.args.state.now c.args.pid (Rest c.requires.taken.1) (under (machine_of c.args.state.now) c.args.pid) c.requires.taken.2.within c.requires.taken.2.top
+
+pub returns-in-If-clause-after : goal.returns-in-If-clause-after
+returns-in-If-clause-after c =
+    let m = machine_of c.args.state.now in
+    let below = under m c.args.pid in
+    λ r at. ap (λ a. act r m c.args.pid at c.args.item.now a below) c.in-If.is ∙ c.branch-state.ensures.after
+
+pub returns-in-If-clause-reserved : goal.returns-in-If-clause-reserved
+returns-in-If-clause-reserved c = c.branch-state.ensures.reserved
+
+pub case_of-requires-clause-busy : goal.case_of-requires-clause-busy
+case_of-requires-clause-busy c = is_busy c.args.state.now c.args.pid (Rest c.requires.taken.1) (under (machine_of c.args.state.now) c.args.pid) c.requires.taken.2.within c.requires.taken.2.top
+
+pub returns-in-Case-clause-after : goal.returns-in-Case-clause-after
+returns-in-Case-clause-after c =
+    let m = machine_of c.args.state.now in
+    let below = under m c.args.pid in
+    λ r at. ap (λ a. act r m c.args.pid at c.args.item.now a below) c.in-Case.is ∙ ap (λ arms. case_of m c.args.pid c.args.item.now.line c.in-Case.selector arms (rest_of c.args.item.now.next below)) (sym c.deref.ensures.value) ∙ c.case_of.ensures.after
+
+pub returns-in-Case-clause-reserved : goal.returns-in-Case-clause-reserved
+returns-in-Case-clause-reserved c = c.case_of.ensures.reserved

@@ -1,8 +1,9 @@
-use Rattle.std.proofs.Common.{◌∷◌, subst}
+use Rattle.std.proofs.Common.{◌∷◌, subst, ◌∙◌, ap}
 use Rattle.cp_machine.specs.declared.process.Entry.TheVariants.{Rest}
 use Rattle.cp_machine.specs.Fits.{StackFits}
 use Rattle.cp_machine.specs.Machine.{machine_of, thread_at, under}
-use Rattle.cp_machine.proofs.RoomLemmas.{entries_fit}
+use Rattle.cp_machine.specs.Step.{act}
+use Rattle.cp_machine.proofs.RoomLemmas.{entries_fit, is_busy}
 use Rattle.cp_slots.specs.declared.item.Action.TheVariants.{Delay, Continue}
 use Rattle.cp_machine.proofs.ReadLemmas.{taken_reads}
 use Rattle.cp_machine.specs.Reach.{StackReaches}
@@ -54,3 +55,27 @@ continue_with-requires-clause-fits c =
     let s = c.args.state.now in
     let t = c.requires.taken.1 in
     t.own.fits.each c.args.pid (within s c.args.pid t.within)
+
+pub delay-requires-clause-busy : goal.delay-requires-clause-busy
+delay-requires-clause-busy c = is_busy c.args.state.now c.args.pid (Rest c.requires.taken.0) (under (machine_of c.args.state.now) c.args.pid) c.requires.taken.1.within c.requires.taken.1.top
+
+pub returns-in-Delay-clause-after : goal.returns-in-Delay-clause-after
+returns-in-Delay-clause-after c =
+    let m = machine_of c.args.state.now in
+    let below = under m c.args.pid in
+    λ at. ap (λ a. act c.args.program.now m c.args.pid at c.args.item.now a below) c.in-Delay.is ∙ c.delay.ensures.after
+
+pub returns-in-Delay-clause-reserved : goal.returns-in-Delay-clause-reserved
+returns-in-Delay-clause-reserved c = c.delay.ensures.reserved _ c.requires.taken.1.own.reserved
+
+pub continue_with-requires-clause-busy : goal.continue_with-requires-clause-busy
+continue_with-requires-clause-busy c = is_busy c.args.state.now c.args.pid (Rest c.requires.taken.0) (under (machine_of c.args.state.now) c.args.pid) c.requires.taken.1.within c.requires.taken.1.top
+
+pub returns-in-Continue-clause-after : goal.returns-in-Continue-clause-after
+returns-in-Continue-clause-after c =
+    let m = machine_of c.args.state.now in
+    let below = under m c.args.pid in
+    λ at. ap (λ a. act c.args.program.now m c.args.pid at c.args.item.now a below) c.in-Continue.is ∙ c.continue_with.ensures.after
+
+pub returns-in-Continue-clause-reserved : goal.returns-in-Continue-clause-reserved
+returns-in-Continue-clause-reserved c = c.continue_with.ensures.reserved _ c.requires.taken.1.own.reserved

@@ -1,8 +1,10 @@
-use Rattle.std.proofs.Common.{length}
+use Rattle.cp_machine.specs.Statements.{next_turn, succeeded}
+use Rattle.std.proofs.Common.{length, ◌≡◌, ◌∙◌, ap, of_z, rules, sym, to_z, w16}
 use Rattle.cp_slots.specs.declared.item.Action.TheVariants.{For}
+use Rattle.cp_machine.specs.declared.process.Entry.TheVariants.{Successor}
 use Rattle.cp_machine.specs.Machine.{machine_of, under}
 use Rattle.cp_machine.proofs.ReadLemmas.{item_reads}
-use Rattle.cp_machine.proofs.RoomLemmas.{successor_stands}
+use Rattle.cp_machine.proofs.RoomLemmas.{is_busy, successor_stands}
 use Rattle.cp_machine.proofs.TakeLemmas.{turn_room, turn_taken}
 use Rattle.cp_machine.proofs.take.perform_successor.Goals as goal
 
@@ -21,3 +23,19 @@ successor-requires-clause-room c =
     let below = under (machine_of s) c.args.pid in
     turn_room r s c.args.pid c.args.at c.args.value c.args.last below c.args.item.now c.requires.pid c.requires.own.1 c.requires.top c.requires.own.2 c.in-For.body
     (turn_taken r s c.args.pid c.args.at c.args.value c.args.last below c.args.item.now c.requires.pid c.requires.own.1 c.requires.top c.requires.own.2 (For c.in-For.variable c.in-For.low c.in-For.high c.in-For.from c.in-For.to c.in-For.down c.in-For.body) c.in-For.is)
+
+pub returns-in-For-clause-reserved : goal.returns-in-For-clause-reserved
+returns-in-For-clause-reserved c = c.successor.ensures.reserved
+
+pub successor-requires-clause-busy : goal.successor-requires-clause-busy
+successor-requires-clause-busy c = is_busy c.args.state.now c.args.pid (Successor c.args.at c.args.value c.args.last) (under (machine_of c.args.state.now) c.args.pid) c.requires.pid c.requires.top
+
+pub returns-in-For-clause-after : goal.returns-in-For-clause-after
+returns-in-For-clause-after c =
+    let m = machine_of c.args.state.now in
+    let below = under m c.args.pid in
+    let low_is : to_z w16 (of_z w16 c.in-For.low) ≡ c.in-For.low = search rules in
+    let high_is : to_z w16 (of_z w16 c.in-For.high) ≡ c.in-For.high = search rules in
+    let value_is : to_z w16 (of_z w16 c.args.value) ≡ c.args.value = search rules in
+    let last_is : to_z w16 (of_z w16 c.args.last) ≡ c.args.last = search rules in
+    ap (λ a. succeeded m c.args.pid c.args.at c.args.item.now a below c.args.value c.args.last) c.in-For.is ∙ ap (λ z. next_turn m c.args.pid c.args.item.now.line c.args.at c.in-For.variable z c.in-For.high c.in-For.down c.in-For.body c.args.item.now.next below c.args.value c.args.last) (sym low_is) ∙ ap (λ z. next_turn m c.args.pid c.args.item.now.line c.args.at c.in-For.variable (to_z w16 (of_z w16 c.in-For.low)) z c.in-For.down c.in-For.body c.args.item.now.next below c.args.value c.args.last) (sym high_is) ∙ ap (λ z. next_turn m c.args.pid c.args.item.now.line c.args.at c.in-For.variable (to_z w16 (of_z w16 c.in-For.low)) (to_z w16 (of_z w16 c.in-For.high)) c.in-For.down c.in-For.body c.args.item.now.next below z c.args.last) (sym value_is) ∙ ap (λ z. next_turn m c.args.pid c.args.item.now.line c.args.at c.in-For.variable (to_z w16 (of_z w16 c.in-For.low)) (to_z w16 (of_z w16 c.in-For.high)) c.in-For.down c.in-For.body c.args.item.now.next below (to_z w16 (of_z w16 c.args.value)) z) (sym last_is) ∙ c.successor.ensures.after

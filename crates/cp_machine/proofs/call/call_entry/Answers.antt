@@ -1,0 +1,50 @@
+use Rattle.std.proofs.Common.{◌≡◌, ◌∙◌, ap, sym}
+use Rattle.cp_slots.specs.declared.tables.ComponentKind.TheVariants as kind
+use Rattle.cp_slots.specs.Tables.{component_at}
+use Rattle.cp_machine.specs.Calls.{called_in}
+use Rattle.cp_machine.specs.Machine.{machine_of, under}
+use Rattle.cp_machine.specs.Stack.{rest_of}
+use Rattle.cp_machine.specs.Statements.{local}
+use Rattle.cp_machine.proofs.call.call_entry.Goals as goal
+
+pub returns-in-Monitor-clause-after : goal.returns-in-Monitor-clause-after
+returns-in-Monitor-clause-after c =
+    let m = machine_of c.args.state.now in
+    let is : (component_at c.args.program.now c.args.component).kind ≡ (kind.Monitor c.in-Monitor.monitor) = ap (λ x. x.kind) (sym c.component.ensures.value) ∙ c.in-Monitor.is in
+    ap (λ k. called_in c.args.program.now m c.args.pid k c.args.callee.routine c.args.component c.args.arguments.now c.args.state.now.bounds.items c.args.callee.result (rest_of c.args.item.now.next (under m c.args.pid))) is ∙ c.call_monitor.ensures.after
+
+pub returns-in-Class-clause-after : goal.returns-in-Class-clause-after
+returns-in-Class-clause-after c =
+    let m = machine_of c.args.state.now in
+    let is : (component_at c.args.program.now c.args.component).kind ≡ kind.Class = ap (λ x. x.kind) (sym c.component.ensures.value) ∙ c.in-Class.is in
+    ap (λ k. called_in c.args.program.now m c.args.pid k c.args.callee.routine c.args.component c.args.arguments.now c.args.state.now.bounds.items c.args.callee.result (rest_of c.args.item.now.next (under m c.args.pid))) is ∙ ap local (sym c.open_call.ensures.after)
+
+pub returns-in-Process-clause-after : goal.returns-in-Process-clause-after
+returns-in-Process-clause-after c =
+    let m = machine_of c.args.state.now in
+    let is : (component_at c.args.program.now c.args.component).kind ≡ (kind.Process c.in-Process.field-0) = ap (λ x. x.kind) (sym c.component.ensures.value) ∙ c.in-Process.is in
+    ap (λ k. called_in c.args.program.now m c.args.pid k c.args.callee.routine c.args.component c.args.arguments.now c.args.state.now.bounds.items c.args.callee.result (rest_of c.args.item.now.next (under m c.args.pid))) is ∙ ap local (sym c.replace.ensures.after)
+
+pub returns-in-Monitor-clause-reserved : goal.returns-in-Monitor-clause-reserved
+returns-in-Monitor-clause-reserved c = c.call_monitor.ensures.reserved
+
+pub returns-in-Class-clause-reserved : goal.returns-in-Class-clause-reserved
+returns-in-Class-clause-reserved c = c.open_call.ensures.reserved
+
+pub returns-in-Process-clause-reserved : goal.returns-in-Process-clause-reserved
+returns-in-Process-clause-reserved c = c.replace.ensures.reserved
+
+pub call_monitor-requires-clause-busy : goal.call_monitor-requires-clause-busy
+call_monitor-requires-clause-busy c = c.requires.busy
+
+pub open_call-requires-clause-busy : goal.open_call-requires-clause-busy
+open_call-requires-clause-busy c = c.requires.busy
+
+pub replace-requires-clause-busy : goal.replace-requires-clause-busy
+replace-requires-clause-busy c = c.requires.busy
+
+pub call_monitor-requires-clause-count : goal.call_monitor-requires-clause-count
+call_monitor-requires-clause-count c = c.requires.count
+
+pub open_call-requires-clause-count : goal.open_call-requires-clause-count
+open_call-requires-clause-count c = c.requires.count

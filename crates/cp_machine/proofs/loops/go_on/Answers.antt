@@ -1,0 +1,32 @@
+use Rattle.cp_machine.specs.Stack.{rest_of}
+use Rattle.cp_machine.specs.Memory.{number_put, origin_of}
+use Rattle.cp_machine.specs.Machine.{Machine, machine_of, under, with_stack}
+use Rattle.cp_machine.specs.declared.process.Entry.TheVariants.{Successor}
+use Rattle.std.specs.Prelude.{ℤ}
+use Rattle.std.proofs.Common.{◌≡◌, ◌∷◌, ◌∙◌, ap, of_z, rules, to_z, w16}
+use Rattle.cp_machine.proofs.Outcomes.{replaced_has, replaced_within}
+use Rattle.cp_machine.proofs.loops.go_on.Goals as goal
+
+pub origin_of-at-requires-clause-name : goal.origin_of-at-requires-clause-name
+origin_of-at-requires-clause-name c = (1, c.requires.name)
+
+pub put_number-requires-clause-pid : goal.put_number-requires-clause-pid
+put_number-requires-clause-pid c = replaced_within c.args.state.now c.replace_by.new.state c.args.pid _ c.replace_by.ensures.after c.requires.pid
+
+pub put_number-requires-clause-cells : goal.put_number-requires-clause-cells
+put_number-requires-clause-cells c = replaced_has c.args.state.now c.replace_by.new.state c.args.pid _ c.origin_of-at.result 1 c.replace_by.ensures.after c.requires.pid (c.origin_of-at.ensures.cells 1 c.requires.name)
+
+pub returns-clause-reserved : goal.returns-clause-reserved
+returns-clause-reserved c = λ r h. c.put_number.ensures.reserved r (c.replace_by.ensures.reserved r h)
+
+pub replace_by-requires-clause-busy : goal.replace_by-requires-clause-busy
+replace_by-requires-clause-busy c = c.requires.busy
+
+pub returns-clause-after : goal.returns-clause-after
+returns-clause-after c =
+    let m = machine_of c.args.state.now in
+    let at = origin_of m c.args.pid c.args.course.variable in
+    let stacked : ℤ → ℤ → Machine = λ z last. with_stack m c.args.pid (rest_of c.args.course.list (Successor c.args.course.at z last ∷ under m c.args.pid)) in
+    let value_is : to_z w16 (of_z w16 c.args.value) ≡ c.args.value = search rules in
+    let last_is : to_z w16 (of_z w16 c.args.last) ≡ c.args.last = search rules in
+    c.put_number.ensures.after ∙ ap (λ n. number_put n c.args.pid c.origin_of-at.result (to_z w16 (of_z w16 c.args.value))) c.replace_by.ensures.after ∙ ap (λ a. number_put (stacked (to_z w16 (of_z w16 c.args.value)) (to_z w16 (of_z w16 c.args.last))) c.args.pid a (to_z w16 (of_z w16 c.args.value))) c.origin_of-at.ensures.value ∙ ap (λ z. number_put (stacked z (to_z w16 (of_z w16 c.args.last))) c.args.pid at z) value_is ∙ ap (λ last. number_put (stacked c.args.value last) c.args.pid at c.args.value) last_is
