@@ -79,16 +79,24 @@ fn is_too_large(census: Census, uses: Use) -> bool
         || FRAME < need_of(uses)
 }
 
+/// The rules of a program, and its limits.
+fn within_limits(alloc: Global, table: &mut Table, node: &Program) -> Result<(), CheckFault>
+    ensures { Finds (spec.with_limits (program_view node.now).period (spec.opened (scopes_of table.old) (program_view node.now))) result }
+{
+    let uses = opened(alloc, table, node)?;
+    if is_too_large(table.census(), uses) {
+        return broken(node.period, Rule::C20);
+    }
+    Ok(())
+}
+
+// The table is let go at one way out.
 #[tactic(auto, unfolding(crate::specs::Faults::faults_of))]
 fn whole(alloc: Global, tree: &Tree) -> Result<(), CheckFault>
     ensures { Finds (faults_of (tree_view tree.now)) result }
 {
     let mut table = Table::new(alloc)?;
-    let uses = opened(alloc, &mut table, &tree.program)?;
-    if is_too_large(table.census(), uses) {
-        return broken(tree.program.period, Rule::C20);
-    }
-    Ok(())
+    within_limits(alloc, &mut table, &tree.program)
 }
 
 /// Whether a program breaks no rule, or the first that it breaks, in reading order.

@@ -162,7 +162,7 @@ pending_seen p = record { action = action_seen p.action; line = p.line; need = p
 unfoldable pub layer_seen : code_layer.Layer → Layer
 layer_seen l =
     record {
-      lines = l.around.tree.now.lines.items;
+      lines = l.around.lines.now;
       types = types_seen l.around.types;
       names = names_seen l.around.names;
       systems = map system_seen l.around.systems.items;
@@ -205,7 +205,7 @@ nothing_laid lines =
 -- what is around a statement, as the state in which nothing else is laid out
 abbrev pub around_seen : code_surroundings.Surroundings → Layer
 around_seen a =
-    record (nothing_laid a.tree.now.lines.items) {
+    record (nothing_laid a.lines.now) {
       types = types_seen a.types;
       names = names_seen a.names;
       systems = map system_seen a.systems.items;

@@ -12,8 +12,8 @@ use crate::kinds::{Base, ValueType};
 use crate::layer::{FunctionResult, Layer, Passing};
 use crate::surroundings::Surroundings;
 use crate::value::{
-    Designated, Value, added, applied, load, multiplied, negated, no_value, number, opposite,
-    ordinal, place_at, place_of, related, set,
+    Designated, Value, added, applied, boxed, load, multiplied, negated, no_value, number,
+    opposite, ordinal, place_at, place_of, related, set,
 };
 use cp_slots::{
     Action, Argument, ArgumentValue, ComponentPlace, Expression, Origin, SetExpression,
@@ -401,6 +401,6 @@ fn with_element(
 ) -> Result<SetExpression, AllocError>
     ensures { IfOk result (λ s. set_seen s ≡ code.with_element (set_seen whole) (expression_seen element)) }
 {
-    let fewer = Box::new(alloc, whole)?;
-    Ok(SetExpression::With(fewer, Box::new(alloc, element)?))
+    let (fewer, element) = boxed(alloc, whole, element)?;
+    Ok(SetExpression::With(fewer, element))
 }

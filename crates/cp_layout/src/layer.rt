@@ -153,7 +153,7 @@ impl<'a> Layer<'a> {
     {
         Ok(Layer {
             around: Surroundings {
-                tree,
+                lines: &tree.lines,
                 types: Types::new(alloc),
                 names: Names::new(alloc)?,
                 systems: Vec::new(alloc),
@@ -206,7 +206,7 @@ impl<'a> Layer<'a> {
     pub fn add(&mut self, at: usize, action: Action, need: usize) -> Result<(), AllocError>
         ensures { Leads (spec.added (layer_seen self.old) at (action_seen action) need) (layer_seen self.new) result }
     {
-        let line = self.around.tree.line(at);
+        let line = self.around.line(at);
         self.lists.pending.push(Pending { action, line, need })?;
         Ok(())
     }

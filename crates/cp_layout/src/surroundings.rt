@@ -1,6 +1,6 @@
 //! What expressions and types read: what is declared around them.
 
-ghost use Rattle.std.specs.Prelude.{◌≡◌};
+ghost use Rattle.std.specs.Prelude.{◌≡◌, slice_index};
 ghost use Rattle.cp_layout.specs.Layers as spec;
 ghost use Rattle.cp_layout.specs.Layers.{around_seen};
 ghost use Rattle.cp_layout.specs.LaidExpressions as expressions;
@@ -9,12 +9,12 @@ ghost use Rattle.cp_layout.specs.LaidStatements as statements;
 use crate::kinds::Types;
 use crate::layer::{FunctionResult, Heading, Owned, Parameter, System};
 use crate::names::Names;
-use cp_tree::Tree;
 
 /// What is declared around a statement.
 #[derive(Drop)]
 pub struct Surroundings<'a> {
-    pub tree: &'a Tree,
+    /// The line of each token.
+    pub lines: &'a [u32],
     pub types: Types<'a>,
     pub names: Names<'a>,
     pub systems: Vec<System>,
@@ -25,6 +25,13 @@ pub struct Surroundings<'a> {
 }
 
 impl<'a> Surroundings<'a> {
+    /// The line of a token; 0 where there is no such token.
+    pub fn line(&self, at: usize) -> u32
+        ensures { result ≡ slice_index self.now.lines.now at }
+    {
+        self.lines.get(at).copied().unwrap_or(0)
+    }
+
     /// A parameter of a routine.
     pub fn parameter(&self, routine: usize, place: usize) -> Option<Parameter>
         ensures { result ≡ spec.parameter_of (around_seen self.now) routine place }

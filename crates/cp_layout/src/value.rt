@@ -123,6 +123,19 @@ pub fn opposite(alloc: Global, value: Value) -> Result<Value, AllocError>
     Ok(Value::Ordinal(Expression::Negate(inner), Base::Integer))
 }
 
+/// Two values, each in a box. They are let go here where memory fails, whatever they are: that takes each caller a long proof.
+pub fn boxed<L: Drop, R: Drop>(
+    alloc: Global,
+    left: L,
+    right: R,
+) -> Result<(Box<L>, Box<R>), AllocError>
+    ensures left { IfOk result (λ p. p.0.value ≡ left) }
+    ensures right { IfOk result (λ p. p.1.value ≡ right) }
+{
+    let left = Box::new(alloc, left)?;
+    Ok((left, Box::new(alloc, right)?))
+}
+
 fn arithmetic(
     alloc: Global,
     operation: Arithmetic,
@@ -131,8 +144,7 @@ fn arithmetic(
 ) -> Result<Value, AllocError>
     ensures { IfOk result (λ v. value_seen v ≡ spec.arithmetic_of operation (value_seen left) (value_seen right)) }
 {
-    let left = Box::new(alloc, ordinal(left))?;
-    let right = Box::new(alloc, ordinal(right))?;
+    let (left, right) = boxed(alloc, ordinal(left), ordinal(right))?;
     Ok(Value::Ordinal(
         Expression::Arithmetic(operation, left, right),
         Base::Integer,
@@ -142,8 +154,7 @@ fn arithmetic(
 fn logic(alloc: Global, operation: Logic, left: Value, right: Value) -> Result<Value, AllocError>
     ensures { IfOk result (λ v. value_seen v ≡ spec.logic_of operation (value_seen left) (value_seen right)) }
 {
-    let left = Box::new(alloc, ordinal(left))?;
-    let right = Box::new(alloc, ordinal(right))?;
+    let (left, right) = boxed(alloc, ordinal(left), ordinal(right))?;
     Ok(Value::Ordinal(Expression::Logic(operation, left, right), Base::Boolean))
 }
 
@@ -155,8 +166,7 @@ fn combined(
 ) -> Result<Value, AllocError>
     ensures { IfOk result (λ v. value_seen v ≡ spec.combined operation (value_seen left) (value_seen right)) }
 {
-    let left = Box::new(alloc, set(left))?;
-    let right = Box::new(alloc, set(right))?;
+    let (left, right) = boxed(alloc, set(left), set(right))?;
     Ok(Value::Set(SetExpression::Combine(operation, left, right)))
 }
 
@@ -201,16 +211,14 @@ pub fn multiplied(
 fn member(alloc: Global, left: Value, right: Value) -> Result<Value, AllocError>
     ensures { IfOk result (λ v. value_seen v ≡ spec.member_of (value_seen left) (value_seen right)) }
 {
-    let element = Box::new(alloc, ordinal(left))?;
-    let set = Box::new(alloc, set(right))?;
+    let (element, set) = boxed(alloc, ordinal(left), set(right))?;
     Ok(Value::Ordinal(Expression::Member(element, set), Base::Boolean))
 }
 
 fn same_set(alloc: Global, is_same: bool, left: Value, right: Value) -> Result<Value, AllocError>
     ensures { IfOk result (λ v. value_seen v ≡ spec.same_sets is_same (value_seen left) (value_seen right)) }
 {
-    let left = Box::new(alloc, set(left))?;
-    let right = Box::new(alloc, set(right))?;
+    let (left, right) = boxed(alloc, set(left), set(right))?;
     Ok(Value::Ordinal(Expression::SameSet(is_same, left, right), Base::Boolean))
 }
 
@@ -222,8 +230,7 @@ fn comparison(
 ) -> Result<Value, AllocError>
     ensures { IfOk result (λ v. value_seen v ≡ spec.compared relation (value_seen left) (value_seen right)) }
 {
-    let left = Box::new(alloc, ordinal(left))?;
-    let right = Box::new(alloc, ordinal(right))?;
+    let (left, right) = boxed(alloc, ordinal(left), ordinal(right))?;
     Ok(Value::Ordinal(Expression::Compare(relation, left, right), Base::Boolean))
 }
 
