@@ -6,7 +6,7 @@ ghost use Rattle.cp_scope.specs.View.{scopes_of};
 ghost use Rattle.cp_check.specs.Calls as spec;
 
 use crate::operand::{Context, Designated, Named, Operand, Place, value};
-use crate::operation::{applied, is_function};
+use crate::operation::{is_function, standard_value};
 use cp_scope::{CheckFault, Parameter, Rule, Table, Use, ValueType, broken, values_of};
 use cp_tree::SystemKind;
 
@@ -38,7 +38,11 @@ fn all_fit(parameters: &[Parameter], operands: &[Operand]) -> bool
 }
 
 /// The number and the types of arguments.
-pub fn fitted(at: usize, parameters: &[Parameter], operands: &[Operand]) -> Result<(), CheckFault>
+pub fn check_arguments(
+    at: usize,
+    parameters: &[Parameter],
+    operands: &[Operand],
+) -> Result<(), CheckFault>
     ensures faults { Finds (spec.fit_faults at parameters.now operands.now) result }
     ensures as_many { IfOk result (λ u. length parameters.now ≡ length operands.now) }
 {
@@ -52,7 +56,7 @@ pub fn fitted(at: usize, parameters: &[Parameter], operands: &[Operand]) -> Resu
 }
 
 /// Whether an argument is a variable where one is wanted.
-fn assignable(parameter: Parameter, operand: Operand) -> Result<(), CheckFault>
+fn check_variable(parameter: Parameter, operand: Operand) -> Result<(), CheckFault>
     ensures { Finds (spec.variable_faults parameter operand) result }
 {
     if parameter.is_var && !operand.place.is_assignable() {
@@ -64,12 +68,12 @@ fn assignable(parameter: Parameter, operand: Operand) -> Result<(), CheckFault>
 
 /// Arguments are variables where such are wanted.
 #[tactic(auto, using(crate::proofs::Arguments::variables_passed, crate::proofs::Arguments::variables_refused, crate::proofs::Arguments::variables_none))]
-fn all_assignable(parameters: &[Parameter], operands: &[Operand]) -> Result<(), CheckFault>
+fn check_variables(parameters: &[Parameter], operands: &[Operand]) -> Result<(), CheckFault>
     requires { length parameters.now ≡ length operands.now }
     ensures { Finds (spec.all_variable_faults parameters.now operands.now) result }
 {
     for i in 0..parameters.len() {
-        assignable(parameters[i], operands[i])?;
+        check_variable(parameters[i], operands[i])?;
     }
     Ok(())
 }
@@ -87,7 +91,7 @@ pub fn total_use(uses: Use, operands: &[Operand]) -> Use
 }
 
 /// An entry is called from outside, another routine from inside.
-fn entered(at: usize, is_local: bool, is_entry: bool) -> Result<(), CheckFault>
+fn check_entry(at: usize, is_local: bool, is_entry: bool) -> Result<(), CheckFault>
     ensures { Finds (spec.entry_faults at is_local is_entry) result }
 {
     if is_local == is_entry {
@@ -98,7 +102,7 @@ fn entered(at: usize, is_local: bool, is_entry: bool) -> Result<(), CheckFault>
 }
 
 /// No routine calls itself.
-fn foreign(at: usize, context: Context, routine: usize) -> Result<(), CheckFault>
+fn check_recursion(at: usize, context: Context, routine: usize) -> Result<(), CheckFault>
     ensures { Finds (spec.own_faults at context routine) result }
 {
     match context.routine {
@@ -124,7 +128,7 @@ fn is_initial_of_monitor(context: Context) -> bool
 }
 
 /// A monitor's initial statement does not delay.
-fn undelayed(at: usize, context: Context, is_local: bool, body: Use) -> Result<(), CheckFault>
+fn check_delay(at: usize, context: Context, is_local: bool, body: Use) -> Result<(), CheckFault>
     ensures { Finds (spec.delay_faults at context is_local body) result }
 {
     if is_initial_of_monitor(context) && is_local && body.delays {
@@ -136,7 +140,7 @@ fn undelayed(at: usize, context: Context, is_local: bool, body: Use) -> Result<(
 
 /// The rules of a call itself; what it takes.
 #[tactic(auto, unfolding(crate::specs::Calls::called), using(crate::proofs::Judging::first_append))]
-pub fn called(
+pub fn check_routine_call(
     table: &Table,
     context: Context,
     at: usize,
@@ -151,11 +155,11 @@ pub fn called(
     let shapes = table.shapes();
     let parameters = shapes.parameters(routine);
     let body = shapes.body(routine);
-    fitted(at, parameters, operands)?;
-    entered(name_at, is_local, shapes.is_entry(routine))?;
-    foreign(name_at, context, routine)?;
-    undelayed(name_at, context, is_local, body)?;
-    all_assignable(parameters, operands)?;
+    check_arguments(at, parameters, operands)?;
+    check_entry(name_at, is_local, shapes.is_entry(routine))?;
+    check_recursion(name_at, context, routine)?;
+    check_delay(name_at, context, is_local, body)?;
+    check_variables(parameters, operands)?;
     Ok(total_use(uses, operands).and(Use {
         calls: 0,
         need: body.need,
@@ -180,7 +184,7 @@ fn function_value(
     match table.shapes().result(routine) {
         None => broken(at, Rule::C5),
         Some(result) => {
-            let uses = called(
+            let uses = check_routine_call(
                 table, context, at, name_at, is_local, routine, operands, uses,
             )?;
             Ok(value(
@@ -227,7 +231,7 @@ pub fn place_of(table: &Table, value_type: ValueType) -> Place
 }
 
 /// What stands alone has no arguments.
-fn alone(operand: Operand, operands: &[Operand]) -> Result<Operand, CheckFault>
+fn check_alone(operand: Operand, operands: &[Operand]) -> Result<Operand, CheckFault>
     ensures { Judges (λ o. o) (spec.alone operand operands.now) result }
 {
     match operands {
@@ -249,8 +253,8 @@ pub fn value_of(
 {
     let uses = name.uses;
     match name.named {
-        Named::Constant(base) => alone(value(at, values_of(base), uses), operands),
-        Named::Variable(value_type) => alone(
+        Named::Constant(base) => check_alone(value(at, values_of(base), uses), operands),
+        Named::Variable(value_type) => check_alone(
             Operand {
                 at,
                 value_type,
@@ -259,7 +263,7 @@ pub fn value_of(
             },
             operands,
         ),
-        Named::Parameter(value_type) => alone(
+        Named::Parameter(value_type) => check_alone(
             Operand {
                 at,
                 value_type,
@@ -268,7 +272,12 @@ pub fn value_of(
             },
             operands,
         ),
-        Named::Predeclared(routine) => applied(at, routine, operands, total_use(uses, operands)),
+        Named::Predeclared(routine) => standard_value(
+            at,
+            routine,
+            operands,
+            total_use(uses, operands),
+        ),
         Named::Routine(routine) => function_value(
             table,
             context,

@@ -57,7 +57,7 @@ fn are_labels(base: Base, labels: &[Label]) -> bool
 
 /// The selector is ordinal, and the labels agree with it.
 #[tactic(auto, using(crate::proofs::Numbers::one_base))]
-fn labelled(at: usize, selector: ValueType, labels: &[Label]) -> Result<(), CheckFault>
+fn check_labels(at: usize, selector: ValueType, labels: &[Label]) -> Result<(), CheckFault>
     ensures faults { Finds (spec.label_faults at selector labels.now) result }
     ensures agree { IfOk result (λ u. spec.AreOfOneBase labels.now) }
 {
@@ -75,7 +75,7 @@ fn labelled(at: usize, selector: ValueType, labels: &[Label]) -> Result<(), Chec
 
 /// Each label stands once, where all are of one base.
 #[tactic(auto, using(crate::proofs::Labels::twice_none))]
-fn all_once(alloc: Global, labels: &[Label]) -> Result<(), CheckFault>
+fn check_once(alloc: Global, labels: &[Label]) -> Result<(), CheckFault>
     requires agree { spec.AreOfOneBase labels.now }
     ensures { Finds (spec.twice_faults [] labels.now) result }
 {
@@ -90,7 +90,7 @@ fn all_once(alloc: Global, labels: &[Label]) -> Result<(), CheckFault>
 
 /// The rules of a `case` itself; what it takes.
 #[tactic(auto, using(crate::proofs::Judging::first_append))]
-pub fn chosen(
+pub fn check_case(
     alloc: Global,
     at: usize,
     selector: Operand,
@@ -99,7 +99,7 @@ pub fn chosen(
 ) -> Result<Use, CheckFault>
     ensures { Judges (λ u. u) (spec.chosen at (selector, (labels.now, uses))) result }
 {
-    labelled(at, selector.value_type, labels)?;
-    all_once(alloc, labels)?;
+    check_labels(at, selector.value_type, labels)?;
+    check_once(alloc, labels)?;
     Ok(selector.uses.and(uses))
 }

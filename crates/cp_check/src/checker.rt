@@ -12,6 +12,7 @@ use crate::operand::Context;
 use crate::routine::{need_of, routines};
 use crate::statement::statements;
 use crate::system::program_parts;
+use crate::types::MOST_CELLS;
 use cp_scope::{Census, CheckFault, Rule, Table, Use, broken};
 use cp_tree::{Program, Tree};
 use std::alloc::Global;
@@ -44,7 +45,11 @@ fn declarations(alloc: Global, table: &mut Table, node: &Program) -> Result<(), 
 
 /// The program's declarations and its initial statement.
 #[tactic(auto, unfolding(crate::specs::Faults::opened), using(crate::proofs::Judging::first_append))]
-fn opened(alloc: Global, table: &mut Table, node: &Program) -> Result<Use, CheckFault>
+fn declarations_and_body(
+    alloc: Global,
+    table: &mut Table,
+    node: &Program,
+) -> Result<Use, CheckFault>
     ensures judged { Judges (λ u. u) (spec.opened (scopes_of table.old) (program_view node.now)).uses result }
     ensures scopes { OnOk result (scopes_of table.new ≡ (spec.opened (scopes_of table.old) (program_view node.now)).scopes) }
 {
@@ -57,33 +62,30 @@ fn opened(alloc: Global, table: &mut Table, node: &Program) -> Result<Use, Check
 }
 
 /// The processes that a program may have besides its own.
-const PROCESSES: u32 = 15;
+const MOST_PROCESSES: u32 = 15;
 
 /// The components that a program may have.
-const COMPONENTS: u32 = 64;
-
-/// The permanent cells of a program.
-const PERMANENT: u32 = 8192;
+const MOST_COMPONENTS: u32 = 64;
 
 /// The frame cells of a process.
-const FRAME: u32 = 4096;
+const MOST_FRAME_CELLS: u32 = 4096;
 
 /// Whether a program passes a limit.
 fn is_too_large(census: Census, uses: Use) -> bool
     ensures { result ≡ spec.is_too_large census uses }
 {
-    PROCESSES < census.processes
-        || COMPONENTS < census.components
-        || PERMANENT < census.cells
-        || FRAME < census.need
-        || FRAME < need_of(uses)
+    MOST_PROCESSES < census.processes
+        || MOST_COMPONENTS < census.components
+        || MOST_CELLS < census.cells
+        || MOST_FRAME_CELLS < census.need
+        || MOST_FRAME_CELLS < need_of(uses)
 }
 
 /// The rules of a program, and its limits.
 fn within_limits(alloc: Global, table: &mut Table, node: &Program) -> Result<(), CheckFault>
     ensures { Finds (spec.with_limits (program_view node.now).period (spec.opened (scopes_of table.old) (program_view node.now))) result }
 {
-    let uses = opened(alloc, table, node)?;
+    let uses = declarations_and_body(alloc, table, node)?;
     if is_too_large(table.census(), uses) {
         return broken(node.period, Rule::C20);
     }
@@ -92,7 +94,7 @@ fn within_limits(alloc: Global, table: &mut Table, node: &Program) -> Result<(),
 
 // The table is let go at one way out.
 #[tactic(auto, unfolding(crate::specs::Faults::faults_of))]
-fn whole(alloc: Global, tree: &Tree) -> Result<(), CheckFault>
+fn check_tree(alloc: Global, tree: &Tree) -> Result<(), CheckFault>
     ensures { Finds (faults_of (tree_view tree.now)) result }
 {
     let mut table = Table::new(alloc)?;
@@ -107,7 +109,7 @@ pub fn check(alloc: Global, tree: Tree) -> Result<Checked, (CheckFault, Tree)>
     ensures refused { IfErr result (λ e. RefusesList e.0 (faults_of (tree_view tree))) }
     ensures back { IfErr result (λ e. e.1 ≡ tree) }
 {
-    match whole(alloc, &tree) {
+    match check_tree(alloc, &tree) {
         Ok(()) => Ok(Checked { tree }),
         Err(fault) => Err((fault, tree)),
     }

@@ -5,7 +5,7 @@ ghost use Rattle.cp_scope.specs.Judged.{Judges};
 ghost use Rattle.cp_scope.specs.View.{scopes_of};
 ghost use Rattle.cp_check.specs.Constants as spec;
 
-use crate::name::visible;
+use crate::name::meaning_of;
 use cp_scope::{Base, CheckFault, Meaning, Rule, Table, broken};
 use cp_tree::{Constant, ConstantKind, Identifier, Sign};
 
@@ -26,7 +26,7 @@ impl Number {
 }
 
 /// A number with its sign.
-fn signed(at: usize, sign: Option<Sign>, number: Number) -> Result<Number, CheckFault>
+fn number_with_sign(at: usize, sign: Option<Sign>, number: Number) -> Result<Number, CheckFault>
     ensures { Judges (λ n. n) (spec.signed at sign number) result }
 {
     match sign {
@@ -49,10 +49,10 @@ fn signed(at: usize, sign: Option<Sign>, number: Number) -> Result<Number, Check
 
 /// A name in a constant's place.
 #[tactic(auto, unfolding(crate::specs::Constants::named))]
-fn named(table: &Table, name: &Identifier) -> Result<Number, CheckFault>
+fn constant_named(table: &Table, name: &Identifier) -> Result<Number, CheckFault>
     ensures { Judges (λ n. n) (spec.named (scopes_of table.now) name.now) result }
 {
-    match visible(table, name.at, &name.name)? {
+    match meaning_of(table, name.at, &name.name)? {
         Meaning::Constant(base, value) => Ok(Number { base, value }),
         _ => broken(name.at, Rule::C3),
     }
@@ -65,7 +65,7 @@ pub fn constant(table: &Table, node: &Constant) -> Result<Number, CheckFault>
 {
     let at = node.at;
     match &node.kind {
-        ConstantKind::Number(sign, value) => signed(
+        ConstantKind::Number(sign, value) => number_with_sign(
             at,
             *sign,
             Number {
@@ -73,7 +73,7 @@ pub fn constant(table: &Table, node: &Constant) -> Result<Number, CheckFault>
                 value: *value as i64,
             },
         ),
-        ConstantKind::Name(sign, name) => signed(at, *sign, named(table, name)?),
+        ConstantKind::Name(sign, name) => number_with_sign(at, *sign, constant_named(table, name)?),
         ConstantKind::Character(code) => Ok(Number {
             base: Base::Char,
             value: *code as i64,

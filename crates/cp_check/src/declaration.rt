@@ -8,7 +8,7 @@ ghost use Rattle.cp_tree.specs.View.{constant_definition_view, type_definition_v
 ghost use Rattle.cp_check.specs.Declarations as spec;
 
 use crate::constant::constant;
-use crate::types::{Spot, typed};
+use crate::types::{Spot, type_of};
 use cp_scope::{CheckFault, Meaning, Rule, Table, broken};
 use cp_tree::{ConstantDefinition, Identifier, Part, PartKind, TypeDefinition, VariableGroup};
 use std::alloc::Global;
@@ -120,7 +120,7 @@ fn type_definition(
     ensures scopes { OnOk result (scopes_of table.new ≡ (spec.type_step (scopes_of table.old) (type_definition_view node.now)).scopes) }
 {
     reserve_name(alloc, table, &node.name)?;
-    let value_type = typed(alloc, table, Spot::Definition, &node.value)?;
+    let value_type = type_of(alloc, table, Spot::Definition, &node.value)?;
     add_one(alloc, table, &node.name, Meaning::Kind(value_type))
 }
 
@@ -151,7 +151,7 @@ fn variable_group(
     ensures scopes { OnOk result (scopes_of table.new ≡ (spec.variable_step spot (scopes_of table.old) (variable_group_view node.now)).scopes) }
 {
     reserve_names(alloc, table, &node.names)?;
-    let value_type = typed(alloc, table, spot, &node.variable_type)?;
+    let value_type = type_of(alloc, table, spot, &node.variable_type)?;
     add_all(alloc, table, &node.names, Meaning::Variable(value_type))
 }
 

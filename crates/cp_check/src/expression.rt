@@ -8,9 +8,11 @@ ghost use Rattle.cp_check.specs.Names.{begun};
 ghost use Rattle.cp_check.specs.Expressions as spec;
 
 use crate::call::{total_use, value_of, variable_of};
-use crate::name::{begun, indexed, known, selected};
+use crate::name::{check_selectors, element_of, member_of, name_meaning};
 use crate::operand::{Context, Designated, Operand, base_value, value};
-use crate::operation::{added, agreed, multiplied, negated, related, signed};
+use crate::operation::{
+    check_agreement, negation_of, product_of, relation_value, sum_of, with_sign,
+};
 use cp_scope::{Base, CheckFault, Parameter, Rule, Table, Use, ValueType, broken};
 use cp_tree::{
     Addition, Designator, Expression, Factor, FactorKind, Identifier, Multiplication, Selector,
@@ -69,7 +71,7 @@ fn is_term_alone(is_var: bool, sign: Option<Sign>, nodes: &[(Addition, Term)]) -
 }
 
 /// An expression in parentheses.
-fn grouped(at: usize, operand: Operand) -> Operand
+fn value_in_parentheses(at: usize, operand: Operand) -> Operand
     ensures { result ≡ spec.grouped at operand }
 {
     value(at, operand.value_type, operand.uses)
@@ -89,7 +91,7 @@ fn are_elements(base: Base, operands: &[Operand]) -> bool
 }
 
 /// A set constructor.
-fn constructed(at: usize, operands: &[Operand]) -> Result<Operand, CheckFault>
+fn set_value(at: usize, operands: &[Operand]) -> Result<Operand, CheckFault>
     ensures { Judges (λ o. o) (spec.constructed at operands.now) result }
 {
     match operands {
@@ -148,17 +150,17 @@ fn selector(
     ensures { Judges (λ d. d) (spec.selector (scopes_of table.now) context (Ok whole) (selector_view node.now)) result }
 {
     match node {
-        Selector::Field(name) => selected(table, name, whole),
+        Selector::Field(name) => member_of(table, name, whole),
         Selector::Index(index) => {
             let index = expression(alloc, table, context, false, index)?;
-            Ok(indexed(table, whole, index))
+            Ok(element_of(table, whole, index))
         }
     }
 }
 
 #[cycle(expression)]
 #[tactic(auto, using(crate::proofs::Expressions::selectors_refuse))]
-fn chosen(
+fn name_with_selectors(
     alloc: Global,
     table: &Table,
     context: Context,
@@ -167,7 +169,7 @@ fn chosen(
 ) -> Result<Designated, CheckFault>
     ensures { Judges (λ d. d) (spec.selectors (scopes_of table.now) context (begun (scopes_of table.now) name.now) (selectors_of (selectors_view nodes.now))) result }
 {
-    match begun(table, name) {
+    match name_meaning(table, name) {
         Ok(start) => selectors(alloc, table, context, start, nodes),
         Err(fault) => Err(fault),
     }
@@ -184,8 +186,8 @@ pub fn designator(
 ) -> Result<Designated, CheckFault>
     ensures { Judges (λ d. d) (spec.designator (scopes_of table.now) context (designator_view node.now)) result }
 {
-    let whole = chosen(alloc, table, context, &node.name, &node.selectors)?;
-    known(node.name.at, whole)
+    let whole = name_with_selectors(alloc, table, context, &node.name, &node.selectors)?;
+    check_selectors(node.name.at, whole)
 }
 
 #[cycle(expression)]
@@ -213,12 +215,12 @@ fn factor(
             }
         }
         FactorKind::Group(inner) => {
-            Ok(grouped(at, expression(alloc, table, context, false, inner)?))
+            Ok(value_in_parentheses(at, expression(alloc, table, context, false, inner)?))
         }
-        FactorKind::Not(inner) => negated(at, factor(alloc, table, context, false, inner)?),
+        FactorKind::Not(inner) => negation_of(at, factor(alloc, table, context, false, inner)?),
         FactorKind::Set(nodes) => {
             let operands = arguments(alloc, table, context, &[], nodes)?;
-            constructed(at, &operands)
+            set_value(at, &operands)
         }
     }
 }
@@ -238,7 +240,7 @@ fn more_factors(
     let mut total = Some(first);
     for (operation, node) in nodes {
         let next = factor(alloc, table, context, false, node)?;
-        total = multiplied(at, *operation, total, next);
+        total = product_of(at, *operation, total, next);
     }
     Ok(total)
 }
@@ -256,7 +258,7 @@ fn term(
 {
     let is_alone = is_factor_alone(is_var, &node.more);
     let first = factor(alloc, table, context, is_alone, &node.first)?;
-    agreed(
+    check_agreement(
         node.at,
         more_factors(alloc, table, context, node.at, first, &node.more)?,
     )
@@ -277,7 +279,7 @@ fn more_terms(
     let mut total = first;
     for (operation, node) in nodes {
         let next = term(alloc, table, context, false, node)?;
-        total = added(at, *operation, total, next);
+        total = sum_of(at, *operation, total, next);
     }
     Ok(total)
 }
@@ -295,8 +297,8 @@ fn sum(
 {
     let is_alone = is_term_alone(is_var, node.sign, &node.more);
     let first = term(alloc, table, context, is_alone, &node.first)?;
-    let first = signed(node.at, node.sign, first);
-    agreed(
+    let first = with_sign(node.at, node.sign, first);
+    check_agreement(
         node.at,
         more_terms(alloc, table, context, node.at, first, &node.more)?,
     )
@@ -319,7 +321,7 @@ pub fn expression(
         Some((relation, right)) => {
             let left = sum(alloc, table, context, false, &node.left)?;
             let right = sum(alloc, table, context, false, right)?;
-            related(node.at, *relation, left, right)
+            relation_value(node.at, *relation, left, right)
         }
     }
 }

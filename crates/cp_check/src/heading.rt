@@ -15,7 +15,11 @@ use cp_tree::{Group, Identifier, ParameterGroup, Routine, RoutineKind, SystemKin
 use std::alloc::Global;
 
 /// The type of a parameter, where it may be one.
-fn admitted(at: usize, held: Holding, value_type: ValueType) -> Result<ValueType, CheckFault>
+fn check_parameter_type(
+    at: usize,
+    held: Holding,
+    value_type: ValueType,
+) -> Result<ValueType, CheckFault>
     ensures { Judges (λ t. t) (spec.admitted at held value_type) result }
 {
     match held {
@@ -34,7 +38,7 @@ fn parameter_type(table: &Table, node: &Group) -> Result<ValueType, CheckFault>
 {
     let at = node.type_name.at;
     let value_type = type_named(table, at, &node.type_name.name)?;
-    admitted(at, held_by(table, value_type), value_type)
+    check_parameter_type(at, held_by(table, value_type), value_type)
 }
 
 #[tactic(auto, unfolding(crate::specs::Headings::group_step), using(crate::proofs::Judging::first_append))]
@@ -77,7 +81,11 @@ fn parameters(alloc: Global, table: &mut Table, nodes: &[ParameterGroup]) -> Res
 }
 
 /// The type of a result, which holds no queue and no component.
-fn returned(at: usize, held: Holding, value_type: ValueType) -> Result<ValueType, CheckFault>
+fn check_result_type(
+    at: usize,
+    held: Holding,
+    value_type: ValueType,
+) -> Result<ValueType, CheckFault>
     ensures { Judges (λ t. t) (spec.returned at held value_type) result }
 {
     match held {
@@ -94,13 +102,13 @@ fn result_type(table: &Table, name: &Identifier) -> Result<Option<ValueType>, Ch
     ensures { Judges (λ t. t) (spec.result_type (scopes_of table.now) name.now) result }
 {
     let value_type = type_named(table, name.at, &name.name)?;
-    let value_type = returned(name.at, held_by(table, value_type), value_type)?;
+    let value_type = check_result_type(name.at, held_by(table, value_type), value_type)?;
     Ok(Some(value_type))
 }
 
 /// The parameters, and the type of a function's result.
 #[tactic(auto, unfolding(crate::specs::Headings::written), using(crate::proofs::Judging::first_append))]
-fn written(
+fn parameters_and_result(
     alloc: Global,
     table: &mut Table,
     node: &RoutineKind,
@@ -121,7 +129,7 @@ fn written(
 }
 
 /// A function's result is ordinal.
-fn ordinal(at: usize, value_type: Option<ValueType>) -> Result<(), CheckFault>
+fn check_ordinal_result(at: usize, value_type: Option<ValueType>) -> Result<(), CheckFault>
     ensures { Finds (spec.result_faults at value_type) result }
 {
     match value_type {
@@ -148,7 +156,7 @@ fn may_enter(owner: Option<SystemKind>) -> bool
 }
 
 /// Entries stand in classes and monitors.
-fn entered(at: usize, owner: Option<SystemKind>, is_entry: bool) -> Result<(), CheckFault>
+fn check_entry_place(at: usize, owner: Option<SystemKind>, is_entry: bool) -> Result<(), CheckFault>
     ensures { Finds (spec.entry_faults at owner is_entry) result }
 {
     if is_entry && !may_enter(owner) {
@@ -160,15 +168,15 @@ fn entered(at: usize, owner: Option<SystemKind>, is_entry: bool) -> Result<(), C
 
 /// The rules of a heading itself.
 #[tactic(auto, using(crate::proofs::Judging::first_append))]
-fn ruled(
+fn check_heading(
     owner: Option<SystemKind>,
     node: &Routine,
     value_type: Option<ValueType>,
 ) -> Result<Option<ValueType>, CheckFault>
     ensures { Judges (λ t. t) (spec.ruled owner (routine_view node.now) value_type) result }
 {
-    ordinal(node.at, value_type)?;
-    entered(node.name.at.saturating_sub(1), owner, node.is_entry)?;
+    check_ordinal_result(node.at, value_type)?;
+    check_entry_place(node.name.at.saturating_sub(1), owner, node.is_entry)?;
     Ok(value_type)
 }
 
@@ -185,13 +193,13 @@ pub fn heading(
 {
     reserve_name(alloc, table, &node.name)?;
     table.enter(alloc, false)?;
-    let value_type = written(alloc, table, &node.kind)?;
-    ruled(owner, node, value_type)
+    let value_type = parameters_and_result(alloc, table, &node.kind)?;
+    check_heading(owner, node, value_type)
 }
 
 /// From its heading on a routine is visible.
 #[tactic(auto, unfolding(crate::specs::Headings::announced))]
-pub fn announced(
+pub fn announce(
     alloc: Global,
     table: &mut Table,
     node: &Routine,

@@ -12,7 +12,7 @@ use cp_tree::Identifier;
 
 /// What a name stands for.
 #[tactic(auto, unfolding(crate::specs::Names::visible))]
-pub fn visible(table: &Table, at: usize, name: &Name) -> Result<Meaning, CheckFault>
+pub fn meaning_of(table: &Table, at: usize, name: &Name) -> Result<Meaning, CheckFault>
     ensures { Judges (λ m. m) (spec.visible (scopes_of table.now) at name.now) result }
 {
     match table.look(name) {
@@ -22,7 +22,7 @@ pub fn visible(table: &Table, at: usize, name: &Name) -> Result<Meaning, CheckFa
 }
 
 /// What a meaning is without selectors.
-fn named(meaning: Meaning) -> Named
+fn without_selectors(meaning: Meaning) -> Named
     ensures { result ≡ spec.named_of meaning }
 {
     match meaning {
@@ -38,12 +38,12 @@ fn named(meaning: Meaning) -> Named
 
 /// A name without selectors.
 #[tactic(auto, unfolding(crate::specs::Names::begun))]
-pub fn begun(table: &Table, name: &Identifier) -> Result<Designated, CheckFault>
+pub fn name_meaning(table: &Table, name: &Identifier) -> Result<Designated, CheckFault>
     ensures { Judges (λ d. d) (spec.begun (scopes_of table.now) name.now) result }
 {
-    let meaning = visible(table, name.at, &name.name)?;
+    let meaning = meaning_of(table, name.at, &name.name)?;
     Ok(Designated {
-        named: named(meaning),
+        named: without_selectors(meaning),
         name_at: name.at,
         uses: Use::nothing(),
     })
@@ -122,7 +122,7 @@ fn nothing(at: usize, uses: Use) -> Designated
 }
 
 /// What follows a period.
-pub fn selected(
+pub fn member_of(
     table: &Table,
     name: &Identifier,
     whole: Designated,
@@ -153,7 +153,7 @@ fn element(table: &Table, whole: Designated, index: Operand, array: usize) -> Na
 }
 
 /// What an index selects.
-pub fn indexed(table: &Table, whole: Designated, index: Operand) -> Designated
+pub fn element_of(table: &Table, whole: Designated, index: Operand) -> Designated
     ensures { result ≡ spec.indexed (scopes_of table.now) whole index }
 {
     let named = match whole.named.value_type() {
@@ -168,7 +168,7 @@ pub fn indexed(table: &Table, whole: Designated, index: Operand) -> Designated
 }
 
 /// The selectors fit what they select from.
-pub fn known(at: usize, designated: Designated) -> Result<Designated, CheckFault>
+pub fn check_selectors(at: usize, designated: Designated) -> Result<Designated, CheckFault>
     ensures { Judges (λ d. d) (spec.known at designated) result }
 {
     match designated.named {

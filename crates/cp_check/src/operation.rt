@@ -57,7 +57,7 @@ fn truth_or_set(at: usize, left: Operand, right: Operand) -> Option<Operand>
 }
 
 /// A term more in a sum; nothing where the operands do not agree.
-pub fn added(
+pub fn sum_of(
     at: usize,
     operation: Addition,
     left: Option<Operand>,
@@ -74,7 +74,7 @@ pub fn added(
 }
 
 /// A factor more in a term; nothing where the operands do not agree.
-pub fn multiplied(
+pub fn product_of(
     at: usize,
     operation: Multiplication,
     left: Option<Operand>,
@@ -90,7 +90,7 @@ pub fn multiplied(
 }
 
 /// The first term of a sum with its sign.
-pub fn signed(at: usize, sign: Option<Sign>, operand: Operand) -> Option<Operand>
+pub fn with_sign(at: usize, sign: Option<Sign>, operand: Operand) -> Option<Operand>
     ensures { result ≡ spec.signed at sign operand }
 {
     match sign {
@@ -106,7 +106,7 @@ pub fn signed(at: usize, sign: Option<Sign>, operand: Operand) -> Option<Operand
 }
 
 /// The operands of a node agree.
-pub fn agreed(at: usize, operand: Option<Operand>) -> Result<Operand, CheckFault>
+pub fn check_agreement(at: usize, operand: Option<Operand>) -> Result<Operand, CheckFault>
     ensures { Judges (λ o. o) (spec.agreed at operand) result }
 {
     match operand {
@@ -138,7 +138,7 @@ fn relates(relation: Relation, left: ValueType, right: ValueType) -> bool
 }
 
 /// The truth of a relation.
-pub fn related(
+pub fn relation_value(
     at: usize,
     relation: Relation,
     left: Operand,
@@ -154,7 +154,7 @@ pub fn related(
 }
 
 /// The contrary of a truth value.
-pub fn negated(at: usize, operand: Operand) -> Result<Operand, CheckFault>
+pub fn negation_of(at: usize, operand: Operand) -> Result<Operand, CheckFault>
     ensures { Judges (λ o. o) (spec.negated at operand) result }
 {
     if operand.value_type.is_of(Base::Boolean) {
@@ -165,7 +165,7 @@ pub fn negated(at: usize, operand: Operand) -> Result<Operand, CheckFault>
 }
 
 /// A call of a predeclared function with its one argument.
-fn applied_to(
+fn standard_value_of(
     at: usize,
     function: Predeclared,
     operand: Operand,
@@ -218,7 +218,7 @@ pub fn is_function(routine: Predeclared) -> bool
 }
 
 /// A call of a predeclared routine as a value.
-pub fn applied(
+pub fn standard_value(
     at: usize,
     function: Predeclared,
     operands: &[Operand],
@@ -230,7 +230,7 @@ pub fn applied(
         return broken(at, Rule::C5);
     }
     match operands {
-        [operand] => applied_to(at, function, *operand, uses),
+        [operand] => standard_value_of(at, function, *operand, uses),
         _ => broken(at, Rule::C7),
     }
 }

@@ -8,7 +8,7 @@ ghost use Rattle.cp_tree.specs.View.{routine_view};
 ghost use Rattle.cp_check.specs.Routines as spec;
 
 use crate::declaration::parts;
-use crate::heading::{announced, heading};
+use crate::heading::{announce, heading};
 use crate::operand::Context;
 use crate::statement::statements;
 use crate::types::Spot;
@@ -40,7 +40,7 @@ fn routine_use(cells: u32, value_type: Option<ValueType>, uses: Use) -> Use
 
 /// The local declarations and the body.
 #[tactic(auto, unfolding(crate::specs::Routines::opened), using(crate::proofs::Judging::first_append))]
-fn opened(
+fn enter_routine(
     alloc: Global,
     table: &mut Table,
     owner: Option<SystemKind>,
@@ -59,7 +59,7 @@ fn opened(
 
 /// A routine is closed.
 #[tactic(auto, unfolding(crate::specs::Routines::closed))]
-fn closed(
+fn close_routine(
     alloc: Global,
     table: &mut Table,
     node: &Routine,
@@ -87,9 +87,9 @@ fn routine(
     ensures scopes { OnOk result (scopes_of table.new ≡ (spec.routine_step owner (scopes_of table.old) (routine_view node.now)).scopes) }
 {
     let value_type = heading(alloc, table, owner, node)?;
-    announced(alloc, table, node, value_type)?;
-    let uses = opened(alloc, table, owner, node)?;
-    closed(alloc, table, node, value_type, uses)
+    announce(alloc, table, node, value_type)?;
+    let uses = enter_routine(alloc, table, owner, node)?;
+    close_routine(alloc, table, node, value_type, uses)
 }
 
 /// The routines of a system type or of the program.

@@ -7,10 +7,10 @@ ghost use Rattle.cp_tree.specs.View.{statement_view, statements_view, statements
 ghost use Rattle.cp_scope.specs.Counts.{no_use};
 ghost use Rattle.cp_check.specs.Statements as spec;
 
-use crate::call::{called, fitted, is_own, place_of, total_use};
-use crate::case::{Label, chosen, labels};
+use crate::call::{check_arguments, check_routine_call, is_own, place_of, total_use};
+use crate::case::{Label, check_case, labels};
 use crate::expression::{arguments, designator, expression};
-use crate::name::begun;
+use crate::name::name_meaning;
 use crate::operand::{Context, Designated, Named, Operand};
 use crate::operation::is_function;
 use cp_scope::{
@@ -76,7 +76,7 @@ fn target_of(table: &Table, context: Context, named: Named) -> Target
 }
 
 /// No procedure and no type stands on the left.
-fn aimed(at: usize, target: Target) -> Result<Target, CheckFault>
+fn check_target(at: usize, target: Target) -> Result<Target, CheckFault>
     ensures { Judges (λ t. t) (spec.aimed at target) result }
 {
     match target {
@@ -86,7 +86,7 @@ fn aimed(at: usize, target: Target) -> Result<Target, CheckFault>
 }
 
 /// The rules of an assignment itself.
-fn assigned(at: usize, target: Target, value: Operand, uses: Use) -> Result<Use, CheckFault>
+fn check_assignment(at: usize, target: Target, value: Operand, uses: Use) -> Result<Use, CheckFault>
     ensures { Judges (λ u. u) (spec.assigned at target value uses) result }
 {
     match target {
@@ -121,9 +121,9 @@ fn assignment(
     ensures { Judges (λ u. u) (spec.assignment (scopes_of table.now) context at (designator_view left.now) (expression_view right.now)) result }
 {
     let name = designator(alloc, table, context, left)?;
-    let target = aimed(left.name.at, target_of(table, context, name.named))?;
+    let target = check_target(left.name.at, target_of(table, context, name.named))?;
     let value = expression(alloc, table, context, false, right)?;
-    assigned(at, target, value, name.uses.and(value.uses))
+    check_assignment(at, target, value, name.uses.and(value.uses))
 }
 
 /// Whether `delay` or `continue` may stand here.
@@ -140,7 +140,7 @@ fn may_wait(table: &Table, context: Context, routine: Predeclared) -> bool
 }
 
 /// The queue on which a process waits.
-fn queued(at: usize, operands: &[Operand]) -> Result<(), CheckFault>
+fn check_queue(at: usize, operands: &[Operand]) -> Result<(), CheckFault>
     ensures { Finds (spec.queue_faults at operands.now) result }
 {
     match operands {
@@ -156,7 +156,7 @@ fn queued(at: usize, operands: &[Operand]) -> Result<(), CheckFault>
 }
 
 /// A process waits only where it may.
-fn waited(
+fn check_wait_place(
     table: &Table,
     context: Context,
     at: usize,
@@ -172,7 +172,7 @@ fn waited(
 }
 
 /// The rules of `display`.
-fn displayed(at: usize, operands: &[Operand]) -> Result<(), CheckFault>
+fn check_display(at: usize, operands: &[Operand]) -> Result<(), CheckFault>
     ensures { Finds (spec.display_faults at operands.now) result }
 {
     match operands {
@@ -189,7 +189,7 @@ fn displayed(at: usize, operands: &[Operand]) -> Result<(), CheckFault>
 
 /// The rules of `delay` and `continue`.
 #[tactic(auto, using(crate::proofs::Judging::first_append))]
-fn waiting(
+fn check_wait(
     table: &Table,
     context: Context,
     at: usize,
@@ -198,12 +198,12 @@ fn waiting(
 ) -> Result<(), CheckFault>
     ensures { Finds (spec.waiting_faults (scopes_of table.now) context at routine operands.now) result }
 {
-    queued(at, operands)?;
-    waited(table, context, at, routine)
+    check_queue(at, operands)?;
+    check_wait_place(table, context, at, routine)
 }
 
 /// A call of a predeclared routine as a statement.
-fn performed(
+fn check_standard_call(
     table: &Table,
     context: Context,
     at: usize,
@@ -215,11 +215,11 @@ fn performed(
 {
     match routine {
         Predeclared::Display => {
-            displayed(at, operands)?;
+            check_display(at, operands)?;
             Ok(uses)
         }
         Predeclared::Delay => {
-            waiting(table, context, at, routine, operands)?;
+            check_wait(table, context, at, routine, operands)?;
             Ok(uses.and(Use {
                 calls: 0,
                 need: 0,
@@ -227,7 +227,7 @@ fn performed(
             }))
         }
         Predeclared::Continue => {
-            waiting(table, context, at, routine, operands)?;
+            check_wait(table, context, at, routine, operands)?;
             Ok(uses)
         }
         _ => broken(at, Rule::C5),
@@ -236,7 +236,7 @@ fn performed(
 
 /// A call of a routine as a statement.
 #[tactic(auto, unfolding(crate::specs::Statements::procedure_called))]
-fn procedure_called(
+fn check_procedure_call(
     table: &Table,
     context: Context,
     at: usize,
@@ -250,7 +250,7 @@ fn procedure_called(
 {
     match table.shapes().result(routine) {
         Some(_) => broken(at, Rule::C5),
-        None => called(
+        None => check_routine_call(
             table, context, at, name_at, is_local, routine, operands, uses,
         ),
     }
@@ -258,7 +258,7 @@ fn procedure_called(
 
 /// The rules of a call statement itself.
 #[tactic(auto, unfolding(crate::specs::Statements::invoked))]
-fn invoked(
+fn check_call(
     table: &Table,
     context: Context,
     at: usize,
@@ -271,9 +271,9 @@ fn invoked(
     match name.named {
         Named::Predeclared(routine) => {
             let uses = total_use(uses, operands);
-            performed(table, context, at, routine, operands, uses)
+            check_standard_call(table, context, at, routine, operands, uses)
         }
-        Named::Routine(routine) => procedure_called(
+        Named::Routine(routine) => check_procedure_call(
             table,
             context,
             at,
@@ -283,7 +283,7 @@ fn invoked(
             operands,
             uses,
         ),
-        Named::Entry(routine) => procedure_called(
+        Named::Entry(routine) => check_procedure_call(
             table,
             context,
             at,
@@ -339,11 +339,11 @@ fn call(
     let name = designator(alloc, table, context, target)?;
     let parameters = parameters_of(table, name.named, nodes.len());
     let operands = arguments(alloc, table, context, parameters, nodes)?;
-    invoked(table, context, at, name, &operands)
+    check_call(table, context, at, name, &operands)
 }
 
 /// A test is a truth value; what its statement takes.
-fn tested(at: usize, test: Operand, uses: Use) -> Result<Use, CheckFault>
+fn check_test(at: usize, test: Operand, uses: Use) -> Result<Use, CheckFault>
     ensures { Judges (λ u. u) (spec.tested at test uses) result }
 {
     if test.value_type.is_of(Base::Boolean) {
@@ -361,7 +361,7 @@ fn counts(first: ValueType, from: Operand, to: Operand) -> bool
 }
 
 /// The rules of a `for` itself.
-fn counted(
+fn check_for(
     at: usize,
     name_at: usize,
     target: Target,
@@ -399,7 +399,7 @@ fn counted(
 
 /// A start of a component variable.
 #[tactic(auto, unfolding(crate::specs::Statements::started), using(crate::proofs::Judging::first_append))]
-fn started(
+fn check_start(
     table: &Table,
     at: usize,
     name: Designated,
@@ -410,7 +410,7 @@ fn started(
     match name.named {
         Named::Variable(ValueType::Component(kind, system)) => {
             let shapes = table.shapes();
-            fitted(at, shapes.parameters(system), operands)?;
+            check_arguments(at, shapes.parameters(system), operands)?;
             let need = match kind {
                 SystemKind::Process => 0,
                 _ => shapes.initial_need(system),
@@ -431,7 +431,7 @@ fn start(alloc: Global, table: &Table, context: Context, node: &Start) -> Result
 {
     let name = designator(alloc, table, context, &node.target)?;
     let operands = arguments(alloc, table, context, &[], &node.arguments)?;
-    started(table, node.target.name.at, name, &operands)
+    check_start(table, node.target.name.at, name, &operands)
 }
 
 #[tactic(auto, using(crate::proofs::Statements::starts_passed, crate::proofs::Statements::starts_refused, crate::proofs::Statements::starts_none))]
@@ -451,7 +451,7 @@ fn starts(
 }
 
 /// `init` stands in an initial statement.
-fn initial(at: usize, context: Context, uses: Use) -> Result<Use, CheckFault>
+fn check_init(at: usize, context: Context, uses: Use) -> Result<Use, CheckFault>
     ensures { Judges (λ u. u) (spec.initial at context uses) result }
 {
     match context.routine {
@@ -481,41 +481,41 @@ fn statement(
             None => {
                 let test = expression(alloc, table, context, false, test)?;
                 let uses = statement(alloc, table, context, first)?;
-                tested(at, test, test.uses.and(uses))
+                check_test(at, test, test.uses.and(uses))
             }
             Some(second) => {
                 let test = expression(alloc, table, context, false, test)?;
                 let uses = statement(alloc, table, context, first)?;
                 let uses = uses.and(statement(alloc, table, context, second)?);
-                tested(at, test, test.uses.and(uses))
+                check_test(at, test, test.uses.and(uses))
             }
         },
         StatementKind::While(test, inner) => {
             let test = expression(alloc, table, context, false, test)?;
             let uses = statement(alloc, table, context, inner)?;
-            tested(at, test, test.uses.and(uses))
+            check_test(at, test, test.uses.and(uses))
         }
         StatementKind::Repeat(inner, test) => {
             let uses = statements(alloc, table, context, inner)?;
             let test = expression(alloc, table, context, false, test)?;
-            tested(at, test, uses.and(test.uses))
+            check_test(at, test, uses.and(test.uses))
         }
         StatementKind::For(name, from, _, to, inner) => {
-            let variable = begun(table, name)?;
+            let variable = name_meaning(table, name)?;
             let from = expression(alloc, table, context, false, from)?;
             let to = expression(alloc, table, context, false, to)?;
             let uses = statement(alloc, table, context, inner)?;
             let target = target_of(table, context, variable.named);
             let uses = from.uses.and(to.uses).and(uses);
-            counted(at, name.at, target, from, to, uses)
+            check_for(at, name.at, target, from, to, uses)
         }
         StatementKind::Init(nodes) => {
-            initial(at, context, starts(alloc, table, context, nodes)?)
+            check_init(at, context, starts(alloc, table, context, nodes)?)
         }
         StatementKind::Case(selector, nodes, _) => {
             let selector = expression(alloc, table, context, false, selector)?;
             let (labels, uses) = arms(alloc, table, context, nodes)?;
-            chosen(alloc, at, selector, &labels, uses)
+            check_case(alloc, at, selector, &labels, uses)
         }
     }
 }

@@ -13,7 +13,7 @@ use crate::declaration::{
 use crate::operand::Context;
 use crate::routine::{need_of, routines};
 use crate::statement::statements;
-use crate::types::{Holding, Spot, held_by, type_named, typed};
+use crate::types::{Holding, Spot, held_by, type_named, type_of};
 use cp_scope::{CheckFault, Heading, Meaning, Rule, Shape, Table, Use, ValueType, broken};
 use cp_tree::{
     Definition, Group, ProgramPart, ProgramPartKind, System, SystemDefinition, SystemKind,
@@ -21,7 +21,7 @@ use cp_tree::{
 use std::alloc::Global;
 
 /// The type of a parameter of a system type, where it may be one.
-fn admitted(
+fn check_parameter_type(
     at: usize,
     owner: SystemKind,
     held: Holding,
@@ -51,7 +51,7 @@ fn parameter_type(table: &Table, owner: SystemKind, node: &Group) -> Result<Valu
 {
     let at = node.type_name.at;
     let value_type = type_named(table, at, &node.type_name.name)?;
-    admitted(at, owner, held_by(table, value_type), value_type)
+    check_parameter_type(at, owner, held_by(table, value_type), value_type)
 }
 
 #[tactic(auto, unfolding(crate::specs::Systems::group_step), using(crate::proofs::Judging::first_append))]
@@ -99,7 +99,7 @@ fn inside(alloc: Global, table: &mut Table, node: &System) -> Result<(), CheckFa
 
 /// A system type in a scope of its own.
 #[tactic(auto, unfolding(crate::specs::Systems::opened), using(crate::proofs::Judging::first_append))]
-fn opened(alloc: Global, table: &mut Table, node: &System) -> Result<Use, CheckFault>
+fn enter_system(alloc: Global, table: &mut Table, node: &System) -> Result<Use, CheckFault>
     ensures judged { Judges (λ u. u) (spec.opened (scopes_of table.old) (system_view node.now)).uses result }
     ensures scopes { OnOk result (scopes_of table.new ≡ (spec.opened (scopes_of table.old) (system_view node.now)).scopes) }
 {
@@ -113,7 +113,7 @@ fn opened(alloc: Global, table: &mut Table, node: &System) -> Result<Use, CheckF
 
 /// A system type is closed.
 #[tactic(auto, unfolding(crate::specs::Systems::closed))]
-fn closed(alloc: Global, table: &mut Table, at: usize, uses: Use) -> Result<(), CheckFault>
+fn close_system(alloc: Global, table: &mut Table, at: usize, uses: Use) -> Result<(), CheckFault>
     ensures ok { OnOk result (scopes_of table.new ≡ spec.closed (scopes_of table.old) at uses) }
     ensures memory { IfErr result (λ e. e ≡ check_fault.Memory) }
 {
@@ -134,18 +134,22 @@ fn system(alloc: Global, table: &mut Table, node: &System) -> Result<ValueType, 
     ensures scopes { OnOk result (scopes_of table.new ≡ (spec.system_typed (scopes_of table.old) (system_view node.now)).scopes) }
 {
     table.enter(alloc, true)?;
-    let uses = opened(alloc, table, node)?;
-    closed(alloc, table, node.at, uses)?;
+    let uses = enter_system(alloc, table, node)?;
+    close_system(alloc, table, node.at, uses)?;
     Ok(ValueType::Component(node.kind, node.at))
 }
 
 #[tactic(auto, unfolding(crate::specs::Systems::defined))]
-fn defined(alloc: Global, table: &mut Table, node: &Definition) -> Result<ValueType, CheckFault>
+fn type_of_definition(
+    alloc: Global,
+    table: &mut Table,
+    node: &Definition,
+) -> Result<ValueType, CheckFault>
     ensures judged { Judges (λ t. t) (spec.defined (scopes_of table.old) (definition_view node.now)).type result }
     ensures scopes { OnOk result (scopes_of table.new ≡ (spec.defined (scopes_of table.old) (definition_view node.now)).scopes) }
 {
     match node {
-        Definition::Type(written) => typed(alloc, table, Spot::Definition, written),
+        Definition::Type(written) => type_of(alloc, table, Spot::Definition, written),
         Definition::System(written) => system(alloc, table, written),
     }
 }
@@ -156,7 +160,7 @@ fn definition(alloc: Global, table: &mut Table, node: &SystemDefinition) -> Resu
     ensures scopes { OnOk result (scopes_of table.new ≡ (spec.definition_step (scopes_of table.old) (system_definition_view node.now)).scopes) }
 {
     reserve_name(alloc, table, &node.name)?;
-    let value_type = defined(alloc, table, &node.value)?;
+    let value_type = type_of_definition(alloc, table, &node.value)?;
     add_one(alloc, table, &node.name, Meaning::Kind(value_type))
 }
 

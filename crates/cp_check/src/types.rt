@@ -8,7 +8,7 @@ ghost use Rattle.cp_tree.specs.View.{type_view, simple_view, field_group_view, f
 ghost use Rattle.cp_check.specs.Types as spec;
 
 use crate::constant::{Number, constant};
-use crate::name::visible;
+use crate::name::meaning_of;
 use crate::record::{add_fields, reserve_fields};
 use cp_scope::{
     ArrayShape, Base, CheckFault, Meaning, Range, Rule, Scope, Shape, Table, ValueType, broken,
@@ -123,7 +123,7 @@ fn may_components(spot: Spot, kind: SystemKind) -> bool
 }
 
 /// Queues and components stand only where they may; what is no base of a set is looked at later.
-fn spotted(
+fn check_spot(
     at: usize,
     spot: Spot,
     held: Holding,
@@ -173,7 +173,7 @@ fn spotted(
 pub fn type_named(table: &Table, at: usize, name: &Name) -> Result<ValueType, CheckFault>
     ensures { Judges (λ t. t) (spec.type_named (scopes_of table.now) at name.now) result }
 {
-    match visible(table, at, name)? {
+    match meaning_of(table, at, name)? {
         Meaning::Kind(value_type) => Ok(value_type),
         _ => broken(at, Rule::C4),
     }
@@ -181,7 +181,7 @@ pub fn type_named(table: &Table, at: usize, name: &Name) -> Result<ValueType, Ch
 
 /// The type of a name where it stands at a spot.
 #[tactic(auto, unfolding(crate::specs::Types::type_spotted))]
-pub fn type_spotted(
+pub fn type_at_spot(
     table: &Table,
     spot: Spot,
     at: usize,
@@ -190,11 +190,11 @@ pub fn type_spotted(
     ensures { Judges (λ t. t) (spec.type_spotted (scopes_of table.now) spot at name.now) result }
 {
     let value_type = type_named(table, at, name)?;
-    spotted(at, spot, held_by(table, value_type), value_type)
+    check_spot(at, spot, held_by(table, value_type), value_type)
 }
 
 /// A subrange.
-fn ranged(at: usize, low: Number, high: Number) -> Result<ValueType, CheckFault>
+fn subrange_type(at: usize, low: Number, high: Number) -> Result<ValueType, CheckFault>
     ensures { Judges (λ t. t) (spec.ranged at (low, high)) result }
 {
     if !low.base.is_same(high.base) {
@@ -264,7 +264,7 @@ fn simple(
 {
     let at = node.at;
     match &node.kind {
-        SimpleKind::Name(name) => type_spotted(table, spot, at, name),
+        SimpleKind::Name(name) => type_at_spot(table, spot, at, name),
         SimpleKind::Enumeration(names) => {
             let base = Base::Enumeration(at, names.len() as i64 - 1);
             members(alloc, table, base, names)?;
@@ -273,7 +273,7 @@ fn simple(
         SimpleKind::Subrange(low, high) => {
             let low = constant(table, low)?;
             let high = constant(table, high)?;
-            ranged(at, low, high)
+            subrange_type(at, low, high)
         }
     }
 }
@@ -290,13 +290,13 @@ fn holding_array(element: ValueType) -> Holding
 }
 
 /// The cells of a type, as many as the program may have.
-const CELLS: u32 = 8192;
+pub const MOST_CELLS: u32 = 8192;
 
 /// A type is not too large.
-fn limited(at: usize, cells: u32) -> Result<(), CheckFault>
+fn check_cells(at: usize, cells: u32) -> Result<(), CheckFault>
     ensures { Judges (λ u. u) (spec.limited at cells) result }
 {
-    if cells > CELLS {
+    if cells > MOST_CELLS {
         broken(at, Rule::C20)
     } else {
         Ok(())
@@ -305,7 +305,7 @@ fn limited(at: usize, cells: u32) -> Result<(), CheckFault>
 
 /// The rules of an array type itself.
 #[tactic(auto, unfolding(crate::specs::Types::arrayed), using(crate::proofs::Judging::refuses_bind))]
-fn arrayed(
+fn array_type(
     table: &Table,
     spot: Spot,
     at: usize,
@@ -317,8 +317,8 @@ fn arrayed(
     match index {
         ValueType::Ordinal(range) => {
             let cells = times(range.count(), table.shapes().cells_of(element));
-            let _ = spotted(at, spot, holding_array(element), ValueType::Array(at))?;
-            limited(at, cells)?;
+            let _ = check_spot(at, spot, holding_array(element), ValueType::Array(at))?;
+            check_cells(at, cells)?;
             Ok(ArrayShape {
                 index: range,
                 element,
@@ -359,7 +359,7 @@ fn field_group(
     ensures scopes { OnOk result (scopes_of table.new ≡ (spec.group_typed (scope_of fields.old) (scopes_of table.old) (field_group_view node.now)).scopes) }
 {
     reserve_fields(alloc, fields, &node.names)?;
-    let value_type = typed(alloc, table, Spot::Other, &node.field_type)?;
+    let value_type = type_of(alloc, table, Spot::Other, &node.field_type)?;
     add_fields(alloc, fields, &node.names, Meaning::Variable(value_type))
 }
 
@@ -397,14 +397,14 @@ fn record(
     let mut fields = Scope::new(alloc);
     field_groups(alloc, table, &mut fields, nodes)?;
     let cells = fields.census(table.shapes()).cells;
-    limited(at, cells)?;
+    check_cells(at, cells)?;
     Ok(Shape::Record(fields, cells))
 }
 
 /// A type.
 #[cycle(types)]
 #[tactic(auto, unfolding(crate::specs::Types::typed))]
-pub fn typed(
+pub fn type_of(
     alloc: Global,
     table: &mut Table,
     spot: Spot,
@@ -418,8 +418,8 @@ pub fn typed(
         TypeKind::Simple(inner) => simple(alloc, table, spot, inner),
         TypeKind::Array(index, element) => {
             let index = simple(alloc, table, Spot::Other, index)?;
-            let element = typed(alloc, table, Spot::Element, element)?;
-            let shape = arrayed(table, spot, at, index, element)?;
+            let element = type_of(alloc, table, Spot::Element, element)?;
+            let shape = array_type(table, spot, at, index, element)?;
             table.keep(at, Shape::Array(shape))?;
             Ok(ValueType::Array(at))
         }

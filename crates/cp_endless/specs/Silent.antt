@@ -7,7 +7,7 @@ use Rattle.cp_slots.specs.Tables.{Tables}
 use Rattle.cp_machine.specs.declared.gates.Gates as slot_gates
 use Rattle.cp_machine.specs.declared.process.Entry.{Entry}
 use Rattle.cp_machine.specs.declared.process.Entry.TheVariants.{Rest, Successor, Return, InitEnd}
-use Rattle.cp_machine.specs.declared.state.TheConstants.{LIMIT}
+use Rattle.cp_machine.specs.declared.state.TheConstants.{MOST_SHOWN}
 use Rattle.cp_machine.specs.Machine.{Machine, thread_at, is_waiting}
 use Rattle.cp_meaning.specs.State as meaning
 use Rattle.cp_meaning.specs.Readings as readings
@@ -73,7 +73,7 @@ in_call_on_slots m q = has_monitor_return (thread_at m.threads q).stack
 pub record ShowsLess (m n : Machine) : Type 0 where
   pub same : n ≡ record m { output = n.output }
   pub less : length n.output ≤ length m.output
-  pub room : length m.output ≤ LIMIT
+  pub room : length m.output ≤ MOST_SHOWN
 
 -- what the slot machine displayed decides nothing, but whether its output is full
 abbrev pub SlotsForgetLaw : Type 0

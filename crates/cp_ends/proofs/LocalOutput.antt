@@ -18,7 +18,7 @@ use Rattle.cp_store.specs.Values.{ranged, is_true}
 use Rattle.cp_machine.specs.declared.process.Entry.{Entry}
 use Rattle.cp_machine.specs.declared.process.Entry.TheVariants.{Rest, Successor, Return, InitEnd}
 use Rattle.cp_machine.specs.declared.shown.Shown.{Shown}
-use Rattle.cp_machine.specs.declared.state.TheConstants.{LIMIT}
+use Rattle.cp_machine.specs.declared.state.TheConstants.{MOST_SHOWN}
 use Rattle.cp_machine.specs.Calls.{called_in, called_by, start_inside, started, delayed_in, delay_at, continued_from, continue_at}
 use Rattle.cp_machine.specs.Machine.{Machine, thread_at, is_initialised, is_uninitialised, is_unstarted, phase_at, with_stack}
 use Rattle.cp_machine.specs.Memory.{value_of, set_of, address_of, component_of, arguments_of}
@@ -113,7 +113,7 @@ module _ (out : List Shown) where
         value_same (arguments_of m pid arguments.items) _ _ (λ e k. h) (λ bs. started_same r m pid h item.line (component_at r c).kind routine c arguments.items bs _))
     act_same at item (Delay place) es = value_same (address_of m pid place) _ _ (λ e k. h) (λ p. delay_at_same r m pid h item.line _ p)
     act_same at item (Continue place) es = value_same (address_of m pid place) _ _ (λ e k. h) (λ p. continue_at_same item.next es p)
-    act_same at item (Display value kind) es = value_same (value_of m pid value) _ _ (λ e k. h) (λ v. either_same (length m.output == LIMIT) _ _ (λ e. absurd (cc)) (λ e. absurd (cc)))
+    act_same at item (Display value kind) es = value_same (value_of m pid value) _ _ (λ e k. h) (λ v. either_same (length m.output == MOST_SHOWN) _ _ (λ e. absurd (cc)) (λ e. absurd (cc)))
 
     successor_same : (at : ℕ) (item : Item) (a : Action) (es : List Entry) (z last : ℤ) → Same (succeeded m pid at item a es z last)
     successor_same at item (For variable low high first end down list) es z last = either_same (int_eq z last) _ _ (λ e. h) (value_same (next_value down low high z) _ _ (λ e k. h) (λ v k. h))

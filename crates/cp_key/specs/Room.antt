@@ -3,7 +3,7 @@ use Rattle.std.specs.Prelude.{◌≡◌, ◌<◌, ◌≤◌, ℕ, List, length, 
 use Rattle.cp_slots.specs.Tables.{Tables}
 use Rattle.cp_machine.specs.declared.process.Process.{Process}
 use Rattle.cp_machine.specs.declared.state.State.{State}
-use Rattle.cp_machine.specs.declared.state.TheConstants.{LIMIT}
+use Rattle.cp_machine.specs.declared.state.TheConstants.{MOST_SHOWN}
 use Rattle.cp_machine.specs.Fits.{LinesFit, MachineFits}
 use Rattle.cp_machine.specs.Machine.{Machine, Monitor, Thread, no_monitor, no_thread}
 use Rattle.cp_machine.specs.Reach.{Reaches}
@@ -13,7 +13,7 @@ pub record IsMachineOf (r : Tables) (m : Machine) : Type 0 where
   pub fits : MachineFits r m
   pub lines : LinesFit m
   pub reach : Reaches r m
-  pub shown : length m.output ≤ LIMIT
+  pub shown : length m.output ≤ MOST_SHOWN
 
 -- a process has room for a thread
 pub record HasThreadRoom (p : Process) (t : Thread) : Type 0 where

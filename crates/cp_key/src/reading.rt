@@ -15,7 +15,7 @@ use crate::bodies::{Bodies, Parts};
 use crate::keyed::{Keyed, thaw_list, thaw_numbers};
 use crate::reader::Reader;
 use arrayvec::ArrayVec;
-use cp_machine::{Gates, Guard, LIMIT, Moved, Process, State, Status, Watch};
+use cp_machine::{Gates, Guard, MOST_SHOWN, Moved, Process, State, Status, Watch};
 use cp_store::Frame;
 
 /// A state becomes the one of the same program that has a key. It takes no memory. Answers the parts that are in the key. Those that
@@ -56,7 +56,7 @@ fn thaw_state<'a>(
     ensures count { length state.new.processes.items ≡ length state.old.processes.items }
     ensures all { length result.bodies.rests.items ≡ length state.old.processes.items + 1 }
     ensures kept { KeepUnmoved moved.old moved.new state.old.processes.items state.new.processes.items }
-    ensures reserved { (r : Tables) → IsReserved r state.old → vec_len state.new.output ≤ LIMIT → IsReserved r state.new }
+    ensures reserved { (r : Tables) → IsReserved r state.old → vec_len state.new.output ≤ MOST_SHOWN → IsReserved r state.new }
 {
     thaw_list(key, &mut state.output);
     let permanents = thaw_same(key, known.permanents, &mut state.permanents);

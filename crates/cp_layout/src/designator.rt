@@ -17,7 +17,7 @@ use std::alloc::{AllocError, Global};
 
 impl<'a> Names<'a> {
     /// What a name stands for.
-    pub fn begun(&self, alloc: Global, name: &Identifier) -> Designated
+    pub fn meaning_of(&self, alloc: Global, name: &Identifier) -> Designated
         ensures { designated_seen result ≡ spec.begun_as (find name.now.name (names_seen self.now)) }
     {
         let Some(meaning) = self.look(name.name.as_str()) else {

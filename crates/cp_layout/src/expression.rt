@@ -12,8 +12,8 @@ use crate::kinds::{Base, ValueType};
 use crate::layer::{FunctionResult, Layer, Passing};
 use crate::surroundings::Surroundings;
 use crate::value::{
-    Designated, Value, added, applied, boxed, load, multiplied, negated, no_value, number,
-    opposite, ordinal, place_at, place_of, related, set,
+    Designated, Value, boxed, comparison_of, load, negation_of, no_value, number, opposite,
+    ordinal, place_at, place_of, product_of, set, standard_value, sum_of,
 };
 use cp_slots::{
     Action, Argument, ArgumentValue, ComponentPlace, Expression, Origin, SetExpression,
@@ -31,7 +31,7 @@ impl<'a> Layer<'a> {
     pub fn designator(&mut self, alloc: Global, node: &Designator) -> Result<Designated, AllocError>
         ensures { Lays designated_seen (spec.designator (layer_seen self.old) (designator_view node.now)) (layer_seen self.new) result }
     {
-        let start = self.around.names.begun(alloc, &node.name);
+        let start = self.around.names.meaning_of(alloc, &node.name);
         self.selectors(alloc, start, &node.selectors)
     }
 
@@ -47,13 +47,13 @@ impl<'a> Layer<'a> {
     {
         let mut whole = start;
         for node in nodes {
-            whole = self.selected(alloc, whole, node)?;
+            whole = self.part_of(alloc, whole, node)?;
         }
         Ok(whole)
     }
 
     #[cycle(expression)]
-    fn selected(
+    fn part_of(
         &mut self,
         alloc: Global,
         whole: Designated,
@@ -80,12 +80,12 @@ impl<'a> Layer<'a> {
             FactorKind::Character(code) => Ok(number(i16::from(*code), Base::Char)),
             FactorKind::Named(name, arguments) => {
                 let whole = self.designator(alloc, name)?;
-                self.named(alloc, node.at, whole, arguments)
+                self.value_of_name(alloc, node.at, whole, arguments)
             }
             FactorKind::Group(inner) => self.expression(alloc, inner),
             FactorKind::Not(inner) => {
                 let value = self.factor(alloc, inner)?;
-                negated(alloc, value)
+                negation_of(alloc, value)
             }
             FactorKind::Set(nodes) => Ok(Value::Set(self.elements(alloc, nodes)?)),
         }
@@ -108,7 +108,7 @@ impl<'a> Layer<'a> {
     // A variable, a constant, or a call of a function.
     #[cycle(expression)]
     #[tactic(auto, unfolding(crate::specs::LaidExpressions::named, crate::specs::LaidExpressions::function))]
-    fn named(
+    fn value_of_name(
         &mut self,
         alloc: Global,
         at: usize,
@@ -123,7 +123,7 @@ impl<'a> Layer<'a> {
             Designated::Component(place, _) => Ok(Value::Component(place)),
             Designated::Predeclared(function) => {
                 let value = self.first_value(alloc, nodes)?;
-                applied(alloc, function, value)
+                standard_value(alloc, function, value)
             }
             Designated::Routine(routine) => {
                 self.function(alloc, at, ComponentPlace::Own, false, routine, nodes)
@@ -153,11 +153,11 @@ impl<'a> Layer<'a> {
             return Ok(no_value());
         };
         let arguments = self.arguments(alloc, routine, nodes)?;
-        self.called(alloc, at, component, is_entry, routine, outcome, arguments)
+        self.call_value(alloc, at, component, is_entry, routine, outcome, arguments)
     }
 
     #[tactic(auto, unfolding(crate::specs::Layers::layer_seen))]
-    fn called(
+    fn call_value(
         &mut self,
         alloc: Global,
         at: usize,
@@ -243,7 +243,7 @@ impl<'a> Layer<'a> {
         if let Some(parameter) = self.around.parameter(routine, place) {
             arguments.push(Argument {
                 slot: parameter.slot,
-                value: self.around.passed(alloc, parameter.passing, value),
+                value: self.around.argument_for(alloc, parameter.passing, value),
             })?;
         }
         Ok(())
@@ -271,7 +271,7 @@ impl<'a> Layer<'a> {
         let mut total = first;
         for (operation, node) in nodes {
             let next = self.factor(alloc, node)?;
-            total = multiplied(alloc, *operation, total, next)?;
+            total = product_of(alloc, *operation, total, next)?;
         }
         Ok(total)
     }
@@ -282,7 +282,7 @@ impl<'a> Layer<'a> {
         ensures { Lays value_seen (spec.sum (layer_seen self.old) (sum_view node.now)) (layer_seen self.new) result }
     {
         let first = self.term(alloc, &node.first)?;
-        let first = signed(alloc, node.sign, first)?;
+        let first = with_sign(alloc, node.sign, first)?;
         self.more_terms(alloc, first, &node.more)
     }
 
@@ -299,7 +299,7 @@ impl<'a> Layer<'a> {
         let mut total = first;
         for (operation, node) in nodes {
             let next = self.term(alloc, node)?;
-            total = added(alloc, *operation, total, next)?;
+            total = sum_of(alloc, *operation, total, next)?;
         }
         Ok(total)
     }
@@ -315,7 +315,7 @@ impl<'a> Layer<'a> {
             None => Ok(left),
             Some((relation, right)) => {
                 let right = self.sum(alloc, right)?;
-                related(alloc, *relation, left, right)
+                comparison_of(alloc, *relation, left, right)
             }
         }
     }
@@ -323,7 +323,7 @@ impl<'a> Layer<'a> {
 
 impl<'a> Surroundings<'a> {
     // A value as the argument of a parameter.
-    fn passed(&self, alloc: Global, passing: Passing, value: Value) -> ArgumentValue
+    fn argument_for(&self, alloc: Global, passing: Passing, value: Value) -> ArgumentValue
         ensures { code.value_seen result ≡ spec.passed (around_seen self.now) passing (value_seen value) }
     {
         match passing {
@@ -384,7 +384,7 @@ pub fn byte_or(other: u8, number: i16) -> u8
 }
 
 // A value after its sign.
-fn signed(alloc: Global, sign: Option<Sign>, value: Value) -> Result<Value, AllocError>
+fn with_sign(alloc: Global, sign: Option<Sign>, value: Value) -> Result<Value, AllocError>
     ensures { IfOk result (λ v. value_seen v ≡ spec.signed sign (value_seen value)) }
 {
     match sign {

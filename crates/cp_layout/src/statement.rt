@@ -269,7 +269,7 @@ impl<'a> Layer<'a> {
         ensures { Leads (spec.standard (layer_seen self.old) at routine (expressions_of (expressions_view nodes.now))) (layer_seen self.new) result }
     {
         let value = self.first_value(alloc, nodes)?;
-        self.add(at, performed(alloc, routine, value), 0)
+        self.add(at, standard_action(alloc, routine, value), 0)
     }
 
     #[tactic(auto, unfolding(crate::specs::Layers::layer_seen))]
@@ -433,7 +433,7 @@ impl<'a> Layer<'a> {
     ) -> Result<Option<usize>, AllocError>
         ensures { Lays (λ o. o) (settled (spec.for_item (layer_seen self.old) at name.now.name (expression_view from.now) direction (expression_view to.now) body) next) (layer_seen self.new) result }
     {
-        let named = self.around.names.begun(alloc, name);
+        let named = self.around.names.meaning_of(alloc, name);
         let target = self.target(alloc, named);
         let (low, high) = bounds_of(target.value_type);
         let from = ordinal(self.expression(alloc, from)?);
@@ -564,7 +564,7 @@ fn is_down(direction: Direction) -> bool
 }
 
 // What a predeclared procedure does.
-fn performed(alloc: Global, routine: Predeclared, value: Value) -> Action
+fn standard_action(alloc: Global, routine: Predeclared, value: Value) -> Action
     ensures { action_seen result ≡ spec.performed routine (value_seen value) }
 {
     match routine {

@@ -33,7 +33,7 @@ fn opposite_number(number: i16) -> i16
     }
 }
 
-fn signed(sign: Option<Sign>, number: i16) -> i16
+fn number_with_sign(sign: Option<Sign>, number: i16) -> i16
     ensures { result ≡ spec.signed_number sign number }
 {
     match sign {
@@ -50,7 +50,7 @@ impl<'a> Names<'a> {
         match &node.kind {
             ConstantKind::Number(sign, number) => Number {
                 base: Base::Integer,
-                value: signed(*sign, integer(*number)),
+                value: number_with_sign(*sign, integer(*number)),
             },
             ConstantKind::Character(code) => Number {
                 base: Base::Char,
@@ -68,7 +68,7 @@ impl<'a> Names<'a> {
         match self.look(name) {
             Some(Meaning::Constant(base, number)) => Number {
                 base,
-                value: signed(sign, number),
+                value: number_with_sign(sign, number),
             },
             _ => Number {
                 base: Base::Integer,

@@ -108,7 +108,7 @@ pub fn set(value: Value) -> SetExpression
 }
 
 /// `not` of a value.
-pub fn negated(alloc: Global, value: Value) -> Result<Value, AllocError>
+pub fn negation_of(alloc: Global, value: Value) -> Result<Value, AllocError>
     ensures { IfOk result (λ v. value_seen v ≡ spec.negated (value_seen value)) }
 {
     let inner = Box::new(alloc, ordinal(value))?;
@@ -158,7 +158,7 @@ fn logic(alloc: Global, operation: Logic, left: Value, right: Value) -> Result<V
     Ok(Value::Ordinal(Expression::Logic(operation, left, right), Base::Boolean))
 }
 
-fn combined(
+fn combined_sets(
     alloc: Global,
     operation: SetOperation,
     left: Value,
@@ -171,7 +171,7 @@ fn combined(
 }
 
 /// Two terms added, subtracted or joined.
-pub fn added(
+pub fn sum_of(
     alloc: Global,
     operation: Addition,
     left: Value,
@@ -181,15 +181,20 @@ pub fn added(
 {
     match (operation, &left) {
         (Addition::Plus, _) => arithmetic(alloc, Arithmetic::Add, left, right),
-        (Addition::Minus, Value::Set(_)) => combined(alloc, SetOperation::Difference, left, right),
+        (Addition::Minus, Value::Set(_)) => combined_sets(
+            alloc,
+            SetOperation::Difference,
+            left,
+            right,
+        ),
         (Addition::Minus, _) => arithmetic(alloc, Arithmetic::Subtract, left, right),
-        (Addition::Or, Value::Set(_)) => combined(alloc, SetOperation::Union, left, right),
+        (Addition::Or, Value::Set(_)) => combined_sets(alloc, SetOperation::Union, left, right),
         (Addition::Or, _) => logic(alloc, Logic::Or, left, right),
     }
 }
 
 /// Two factors multiplied, divided or met.
-pub fn multiplied(
+pub fn product_of(
     alloc: Global,
     operation: Multiplication,
     left: Value,
@@ -202,7 +207,7 @@ pub fn multiplied(
         (Multiplication::Div, _) => arithmetic(alloc, Arithmetic::Divide, left, right),
         (Multiplication::Mod, _) => arithmetic(alloc, Arithmetic::Modulo, left, right),
         (Multiplication::And, Value::Set(_)) => {
-            combined(alloc, SetOperation::Intersection, left, right)
+            combined_sets(alloc, SetOperation::Intersection, left, right)
         }
         (Multiplication::And, _) => logic(alloc, Logic::And, left, right),
     }
@@ -235,7 +240,7 @@ fn comparison(
 }
 
 /// Two sums compared.
-pub fn related(
+pub fn comparison_of(
     alloc: Global,
     relation: Relation,
     left: Value,
@@ -257,7 +262,11 @@ pub fn related(
 }
 
 /// What a predeclared function answers for an argument.
-pub fn applied(alloc: Global, function: Predeclared, value: Value) -> Result<Value, AllocError>
+pub fn standard_value(
+    alloc: Global,
+    function: Predeclared,
+    value: Value,
+) -> Result<Value, AllocError>
     ensures { IfOk result (λ v. value_seen v ≡ spec.applied function (value_seen value)) }
 {
     let (inner, base) = match value {

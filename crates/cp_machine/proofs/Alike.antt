@@ -27,7 +27,7 @@ use Rattle.cp_machine.specs.declared.process.Entry.{Entry}
 use Rattle.cp_machine.specs.declared.process.Entry.TheVariants.{Rest, Successor, Return, InitEnd}
 use Rattle.cp_machine.specs.declared.process.Status.TheVariants.{Delayed}
 use Rattle.cp_machine.specs.declared.shown.Shown.{Shown}
-use Rattle.cp_machine.specs.declared.state.TheConstants.{LIMIT}
+use Rattle.cp_machine.specs.declared.state.TheConstants.{MOST_SHOWN}
 use Rattle.cp_machine.specs.Calls.{left, called, called_in, called_by, start_process, start_inside, started, returned, delayed_in, delay_at, continued_from, continue_at}
 use Rattle.cp_machine.specs.Kernel.{first_in, one_in, let_in, let_in_by, entered, entered_by, delayed, resumed, continued, waits_in}
 use Rattle.cp_machine.specs.Machine.{Machine, thread_at, monitor_at, phase_at, is_initialised, is_uninitialised, is_unstarted, is_ready, is_pending, in_line, waits}
@@ -190,7 +190,7 @@ module _ (before other since o : List Shown) (theirs : o ≡ other ++ since) whe
 
     show_twins : (pid : ℕ) (rest : List Entry) (v : Shown) → TwinsBy (λ x. show x pid rest v) m
     show_twins pid rest v =
-        both_twins (length m.output == LIMIT) (length o == LIMIT) (ap (λ k. k == LIMIT) as_long) (twins m _ h) (one_more pid rest v, refl)
+        both_twins (length m.output == MOST_SHOWN) (length o == MOST_SHOWN) (ap (λ k. k == MOST_SHOWN) as_long) (twins m _ h) (one_more pid rest v, refl)
 
   -- ---- a step
 

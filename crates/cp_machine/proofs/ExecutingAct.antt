@@ -18,7 +18,7 @@ use Rattle.cp_machine.specs.declared.process.Entry.{Entry}
 use Rattle.cp_machine.specs.declared.process.Entry.TheVariants.{Rest, Successor, Return, InitEnd}
 use Rattle.cp_machine.specs.declared.process.Status.TheVariants.{Ended}
 use Rattle.cp_machine.specs.declared.state.Phase.TheVariants.{Initialised}
-use Rattle.cp_machine.specs.declared.state.TheConstants.{LIMIT}
+use Rattle.cp_machine.specs.declared.state.TheConstants.{MOST_SHOWN}
 use Rattle.cp_machine.specs.Calls.{left}
 use Rattle.cp_machine.specs.Fits.{EntryFits, LinesFit, MachineFits, StackFits}
 use Rattle.cp_machine.specs.Machine.{Machine, is_ready, thread_at, with_stack}
@@ -90,7 +90,7 @@ module _ (r : Tables) (m : Machine) (pid : ℕ) (typed : IsTyped r) (fits : Mach
   act_going at item (Continue place) es n s = value_going r (address_of m pid place) _ _ (λ e. h) (λ p of_p. continue_at_going r m pid typed fits lines ready reaches h item.next es p s)
   act_going at item (Display value kind) es n s =
       value_going r (value_of m pid value) _ _ (λ e. h) (λ v of_v.
-      either_going r (length m.output == LIMIT) _ _ (λ e. h) (same_executes r (with_stack m pid (rest_of item.next es)) _ refl refl refl (goes _ (above item.next es s))))
+      either_going r (length m.output == MOST_SHOWN) _ _ (λ e. h) (same_executes r (with_stack m pid (rest_of item.next es)) _ refl refl refl (goes _ (above item.next es s))))
 
   successor_going : (at : ℕ) (item : Item) (a : Action) (es : List Entry) (z last : ℤ) → Stands es → Going r (succeeded m pid at item a es z last)
   successor_going at item (For variable low high first end down list) es z last s =

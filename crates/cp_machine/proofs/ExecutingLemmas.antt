@@ -12,7 +12,7 @@ use Rattle.cp_slots.specs.declared.tables.ComponentKind.TheVariants as kind
 use Rattle.cp_store.specs.Components as components
 use Rattle.cp_store.specs.Inside.{FindsComponent}
 use Rattle.cp_store.specs.Memory.{Memory, onward, stretch}
-use Rattle.cp_store.specs.Places.{distance, value_at}
+use Rattle.cp_store.specs.Places.{element_offset, value_at}
 use Rattle.cp_store.specs.Values.{is_within, then_with}
 use Rattle.cp_store.specs.declared.error.ErrorName.{ErrorName}
 use Rattle.cp_store.specs.declared.error.ErrorName.TheVariants.{Range}
@@ -80,7 +80,7 @@ module _ (r : Tables) (m : Machine) (typed : IsTyped r) (fits : MachineFits r m)
       let found : slice_index_or m.bindings ((component_at r f.component).base + (parameter_at r system n.0).slot) 0 ≡ c = ap (λ k. slice_index_or m.bindings k 0) (sym exact) ∙ is in
       subst (λ s. IsOf r s c) n.3 (subst (IsOf r (parameter_at r system n.0).system) found (bound_to n.0 n.1))
 
-  element_named : (first : ℕ) (low high : ℤ) (stride named c : ℕ) (z : ℤ) → ((k : ℕ) → k ≤ unsigned_abs (high -ℤ low) → IsOf r named (f.component + first + k * stride)) → then_with (distance low high stride z) (λ further. Ok (onward (onward f.component first) further)) ≡ Ok c → IsOf r named c
+  element_named : (first : ℕ) (low high : ℤ) (stride named c : ℕ) (z : ℤ) → ((k : ℕ) → k ≤ unsigned_abs (high -ℤ low) → IsOf r named (f.component + first + k * stride)) → then_with (element_offset low high stride z) (λ further. Ok (onward (onward f.component first) further)) ≡ Ok c → IsOf r named c
   element_named first low high stride named c z each is = go (is_within low high z) refl is
     where
       go : (w : Bool) → is_within low high z ≡ w → then_with (then_with (if w then Ok z else Err Range) (λ i. Ok (stretch (unsigned_abs (i -ℤ low)) stride))) (λ further. Ok (onward (onward f.component first) further)) ≡ Ok c → IsOf r named c
@@ -100,7 +100,7 @@ module _ (r : Tables) (m : Machine) (typed : IsTyped r) (fits : MachineFits r m)
       subst (IsOf r named) (exact ∙ ok_is is) there
   named_component x (Element first low high stride index) named c n is = go (value_at x f index.value) is
     where
-      go : (v : Result ℤ ErrorName) → then_with v (λ i. then_with (distance low high stride i) (λ further. Ok (onward (onward f.component first) further))) ≡ Ok c → IsOf r named c
+      go : (v : Result ℤ ErrorName) → then_with v (λ i. then_with (element_offset low high stride i) (λ further. Ok (onward (onward f.component first) further))) ≡ Ok c → IsOf r named c
       go (Ok z) is = element_named first low high stride named c z (λ k le. n f.component k of le) is
       go (Err e) is = absurd (cc)
   named_component x (Parameter slot) named c n is = parameter_named slot named c n (ok_is is)

@@ -27,7 +27,7 @@ use Rattle.cp_store.proofs.Reaches.{and_left, and_right}
 use Rattle.cp_machine.specs.declared.process.Entry.{Entry}
 use Rattle.cp_machine.specs.declared.process.Entry.TheVariants.{Rest, Successor, Return, InitEnd}
 use Rattle.cp_machine.specs.declared.process.Status.TheVariants.{Ready, Ended}
-use Rattle.cp_machine.specs.declared.state.TheConstants.{LIMIT}
+use Rattle.cp_machine.specs.declared.state.TheConstants.{MOST_SHOWN}
 use Rattle.cp_machine.specs.Calls.{called, left, called_in, called_by, start_inside, started, opened, delayed_in, delay_at, continued_from, continue_at}
 use Rattle.cp_machine.specs.Fits.{EntryFits, StackFits, MachineFits, size_of}
 use Rattle.cp_machine.specs.Machine.{Machine, Thread, thread_at, no_thread, phase_at, is_initialised, is_uninitialised, is_unstarted, with_stack}
@@ -219,7 +219,7 @@ module _ (r : Tables) (m : Machine) (pid : ℕ) (lt : pid < length m.threads) (s
             continued_good n (from_end es) cell (omega (arith, lt, long)) (stack_fits r m pid _ e fits) (with_entries (from_end es) b)
             (subst (λ y. StackFits r y.frame (from_end es)) (sym same) e) (subst (λ y. StackReaches r y.references y.frame (from_end es)) (sym same) b)
     acts (Display value kind) a =
-        value_good r (value_of m pid value) _ _ (λ e. framed) (λ v is. either_good r (length m.output == LIMIT) _ _ framed going)
+        value_good r (value_of m pid value) _ _ (λ e. framed) (λ v is. either_good r (length m.output == MOST_SHOWN) _ _ framed going)
 
     succeeds_good : (a : Action) (z last : ℤ) → Good r (succeeded m pid at (item_at r at) a es z last)
     succeeds_good (For variable low high first end down list) z last =

@@ -13,7 +13,7 @@ use Rattle.cp_machine.specs.declared.process.Entry.{Entry}
 use Rattle.cp_machine.specs.declared.process.Entry.TheVariants.{Rest, Successor, Return, InitEnd}
 use Rattle.cp_machine.specs.declared.process.Status.TheVariants.{Ended}
 use Rattle.cp_machine.specs.declared.state.Phase.TheVariants.{Initialised}
-use Rattle.cp_machine.specs.declared.state.TheConstants.{LIMIT}
+use Rattle.cp_machine.specs.declared.state.TheConstants.{MOST_SHOWN}
 use Rattle.cp_machine.specs.Fits.{StackFits, MachineFits, EntryFits}
 use Rattle.cp_machine.specs.Machine.{Machine, thread_at, with_stack}
 use Rattle.cp_machine.specs.Memory.{value_of, set_of, address_of, component_of, arguments_of}
@@ -86,7 +86,7 @@ module _ (r : Tables) (m : Machine) (pid : ℕ) (lt : pid < length m.threads) (s
   act_fits (Continue place) a =
       value_fits r (address_of m pid place) _ _ (λ e. h) (λ p. continue_at_fits r m pid (item_at r at).next es p lt h s.1 (next_fits r m pid lt sound h at es s n))
   act_fits (Display value kind) a =
-      value_fits r (value_of m pid value) _ _ (λ e. h) (λ v. either_fits r (length m.output == LIMIT) _ _ h (output_fits r _ _ going))
+      value_fits r (value_of m pid value) _ _ (λ e. h) (λ v. either_fits r (length m.output == MOST_SHOWN) _ _ h (output_fits r _ _ going))
 
   successor_fits : (a : Action) → Fits a → (z last : ℤ) → Fit r (succeeded m pid at (item_at r at) a es z last)
   successor_fits (For variable low high first end down list) a z last =

@@ -21,7 +21,7 @@ use Rattle.cp_store.specs.Values.{ranged, is_true}
 use Rattle.cp_machine.specs.declared.event.Event.{Event}
 use Rattle.cp_machine.specs.declared.process.Entry.{Entry}
 use Rattle.cp_machine.specs.declared.process.Entry.TheVariants.{Rest, Successor, Return, InitEnd}
-use Rattle.cp_machine.specs.declared.state.TheConstants.{LIMIT}
+use Rattle.cp_machine.specs.declared.state.TheConstants.{MOST_SHOWN}
 use Rattle.cp_machine.specs.Calls.{opened, called, called_in, called_by, start_inside, started, delayed_in, delay_at, continued_from, continue_at}
 use Rattle.cp_machine.specs.Machine.{Machine, Thread, thread_at, no_thread, is_ready, is_ready_status, is_initialised, is_uninitialised, is_unstarted, phase_at, with_thread, with_stack}
 use Rattle.cp_machine.specs.Memory.{memory_at, with_memory, value_of, set_of, address_of, origin_of, component_of, arguments_of, set_written}
@@ -140,7 +140,7 @@ module _ (r : Tables) (m : Machine) (pid : ℕ) (lt : pid < length m.threads) (r
       value_fine pid (arguments_of m pid arguments.items) _ _ (λ e h. ready) (λ bs. started_fine r m pid lt ready item.line (component_at r c).kind routine c arguments.items bs _))
   act_fine at item (Delay place) es = value_fine pid (address_of m pid place) _ _ (λ e h. ready) (λ p. delay_at_fine r m pid lt ready item.line _ p)
   act_fine at item (Continue place) es = value_fine pid (address_of m pid place) _ _ (λ e h. ready) (λ p. continue_at_fine item.next es p)
-  act_fine at item (Display value kind) es = value_fine pid (value_of m pid value) _ _ (λ e h. ready) (λ v. either_fine pid (length m.output == LIMIT) _ _ (λ e. absurd (cc)) (λ e. absurd (cc)))
+  act_fine at item (Display value kind) es = value_fine pid (value_of m pid value) _ _ (λ e h. ready) (λ v. either_fine pid (length m.output == MOST_SHOWN) _ _ (λ e. absurd (cc)) (λ e. absurd (cc)))
 
   successor_fine : (at : ℕ) (item : Item) (a : Action) (es : List Entry) (z last : ℤ) → Fine pid (succeeded m pid at item a es z last)
   successor_fine at item (For variable low high first end down list) es z last =

@@ -17,7 +17,7 @@ use Rattle.cp_store.specs.declared.memory.Frame.{Frame}
 use Rattle.cp_store.specs.Inside as store
 use Rattle.cp_store.specs.Inside.{Covers}
 use Rattle.cp_store.specs.Memory.{Memory, memory_of, nowhere, onward}
-use Rattle.cp_store.specs.Places.{begun}
+use Rattle.cp_store.specs.Places.{origin_address}
 use Rattle.cp_store.proofs.Reaches.{and_left, and_right, has_fewer, have_cells}
 use Rattle.cp_machine.specs.declared.process.Entry.{Entry}
 use Rattle.cp_machine.specs.declared.process.Process.{Process}
@@ -42,7 +42,7 @@ reached_in m pid place cells (Ok at) is (r, covers, room) = go (place_room r pla
     go None found enough = absurd (cc)
 
 -- a variable has its cells
-begun_has : (m : Memory) (r : RoutineView) (f : Frame) (o : Origin) (cells : ℕ) → Covers m r f → has cells (room_from r o) ≡ true → store.HasCells m (begun m.references f o) cells
+begun_has : (m : Memory) (r : RoutineView) (f : Frame) (o : Origin) (cells : ℕ) → Covers m r f → has cells (room_from r o) ≡ true → store.HasCells m (origin_address m.references f o) cells
 begun_has m r f (origin.Permanent slot) cells covers room = go (nat_le slot r.own) refl room
   where
     go : (b : Bool) → nat_le slot r.own ≡ b → has cells (if b then Some (r.own - slot) else None) ≡ true → onward f.own slot + cells ≤ length m.permanents

@@ -24,7 +24,7 @@ use Rattle.cp_machine.specs.declared.process.Entry.{Entry}
 use Rattle.cp_machine.specs.declared.process.Entry.TheVariants.{Rest, Successor, Return, InitEnd}
 use Rattle.cp_machine.specs.declared.process.Status.TheVariants.{Ready, Ended}
 use Rattle.cp_machine.specs.declared.state.Phase.TheVariants.{Initialised}
-use Rattle.cp_machine.specs.declared.state.TheConstants.{LIMIT}
+use Rattle.cp_machine.specs.declared.state.TheConstants.{MOST_SHOWN}
 use Rattle.cp_machine.specs.Calls.{opened, left, called, called_in, called_by, start_process, start_inside, started, delayed_in, delay_at, continued_from, continue_at}
 use Rattle.cp_machine.specs.Fits.{LinesFit, MachineFits}
 use Rattle.cp_machine.specs.Machine.{Machine, Thread, thread_at, is_at_gate, is_initialised, is_pending, is_ready, is_ready_status, is_some, is_uninitialised, is_unstarted, phase_at, with_permanents, with_phase, with_status, with_thread, with_stack}
@@ -206,7 +206,7 @@ module _ (r : Tables) (m : Machine) (pid : ℕ) (sound : IsSound r) (fits : Mach
   act_fine at item (Delay place) es = value_fine (address_of m pid place) _ _ (λ e. lines) (λ p. delay_at_fine item.line _ p)
   act_fine at item (Continue place) es = value_fine (address_of m pid place) _ _ (λ e. lines) (λ p. continue_at_fine item.next es p)
   act_fine at item (Display value kind) es =
-      value_fine (value_of m pid value) _ _ (λ e. lines) (λ v. either_fine (length m.output == LIMIT) _ _ (λ e. lines) (kept _ (stack_same (rest_of item.next es))))
+      value_fine (value_of m pid value) _ _ (λ e. lines) (λ v. either_fine (length m.output == MOST_SHOWN) _ _ (λ e. lines) (kept _ (stack_same (rest_of item.next es))))
 
   successor_fine : (at : ℕ) (item : Item) (a : Action) (es : List Entry) (z last : ℤ) → Fine (succeeded m pid at item a es z last)
   successor_fine at item (For variable low high first end down list) es z last =

@@ -9,7 +9,7 @@ use Rattle.cp_machine.specs.declared.process.Entry.{Entry}
 use Rattle.cp_machine.specs.declared.process.Entry.TheVariants.{Rest, Successor, Return, InitEnd}
 use Rattle.cp_machine.specs.declared.process.Process.{Process}
 use Rattle.cp_machine.specs.declared.state.State.{State}
-use Rattle.cp_machine.specs.declared.state.TheConstants.{LIMIT}
+use Rattle.cp_machine.specs.declared.state.TheConstants.{MOST_SHOWN}
 use Rattle.cp_machine.specs.Machine.{Machine, Thread, is_at_gate, is_ready, machine_of, monitor_at, thread_at, under}
 use Rattle.cp_machine.specs.Reach.{Reaches, size_of}
 pub use Rattle.cp_machine.specs.Reach.{size_of}
@@ -88,8 +88,8 @@ pub record IsReserved (r : Tables) (s : State) : Type 0 where
   pub stacks : HaveStacks r.depth s.processes.items
   pub cells : HaveCells r.cells s.processes.items
   pub references : HaveReferences r.references s.processes.items
-  pub output : LIMIT ≤ vec_capacity s.output
-  pub shown : vec_len s.output ≤ LIMIT
+  pub output : MOST_SHOWN ≤ vec_capacity s.output
+  pub shown : vec_len s.output ≤ MOST_SHOWN
   pub bounds : r.arguments ≤ vec_capacity s.bounds
 
 -- the state is the program's

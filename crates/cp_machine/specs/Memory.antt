@@ -14,7 +14,7 @@ use Rattle.cp_store.specs.declared.set.SetValue.{SetValue}
 use Rattle.cp_store.specs.Arguments.{bounds_at, bound_in_frame, bound_in_component, bindings_after}
 use Rattle.cp_store.specs.Components as components
 use Rattle.cp_store.specs.Memory.{Memory, nowhere, put_number, put_copy}
-use Rattle.cp_store.specs.Places.{value_at, set_at, address_at, begun}
+use Rattle.cp_store.specs.Places.{value_at, set_at, address_at, origin_address}
 use Rattle.cp_store.specs.Sets.{put_set}
 use Rattle.cp_machine.specs.Machine.{Machine, Thread, thread_at, with_permanents, with_bindings, with_thread}
 
@@ -37,7 +37,7 @@ address_of m pid place = address_at (memory_at m pid) (thread_at m.threads pid).
 
 -- where a variable lies
 abbrev pub origin_of : Machine → ℕ → Origin → Address
-origin_of m pid variable = begun (thread_at m.threads pid).references (thread_at m.threads pid).frame variable
+origin_of m pid variable = origin_address (thread_at m.threads pid).references (thread_at m.threads pid).frame variable
 
 abbrev pub component_of : Machine → ℕ → ComponentPlace → Result ℕ ErrorName
 component_of m pid place = components.component_at (memory_at m pid) m.bindings (thread_at m.threads pid).frame place

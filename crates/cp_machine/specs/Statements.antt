@@ -25,7 +25,7 @@ use Rattle.cp_machine.specs.declared.process.Entry.{Entry}
 use Rattle.cp_machine.specs.declared.process.Entry.TheVariants.{Rest, Successor}
 use Rattle.cp_machine.specs.declared.shown.Shown.{Shown}
 use Rattle.cp_machine.specs.declared.shown.Shown.TheVariants.{Integer, Char, Truth, Constant}
-use Rattle.cp_machine.specs.declared.state.TheConstants.{LIMIT}
+use Rattle.cp_machine.specs.declared.state.TheConstants.{MOST_SHOWN}
 use Rattle.cp_machine.specs.Machine.{Machine, with_stack, with_output}
 use Rattle.cp_machine.specs.Memory.{value_of, set_of, address_of, origin_of, number_put, set_put, cells_put}
 use Rattle.cp_machine.specs.Stack.{rest_of}
@@ -164,7 +164,7 @@ shown_as (kind.Constant first) z = Constant (below 65536 (further first z))
 
 abbrev pub show : Machine → (pid : ℕ) → List Entry → Shown → Stepped
 show m pid rest v =
-    if length m.output == LIMIT then record { machine = m; event = OutputFull }
+    if length m.output == MOST_SHOWN then record { machine = m; event = OutputFull }
     else record { machine = with_output (with_stack m pid rest) (m.output ++ v ∷ []); event = Kernel Display }
 
 abbrev pub display : Machine → (pid line : ℕ) → Expression → ShownKind → List Entry → Stepped

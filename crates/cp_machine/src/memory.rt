@@ -17,7 +17,7 @@ use crate::state::State;
 use cp_slots::{Argument, ComponentPlace, Expression, Origin, Place, SetExpression};
 use cp_store::set::SetValue;
 use cp_store::{
-    Address, Frame, address, begun, bind_component, bind_frame, component, copy_cells, evaluate,
+    Address, Frame, address, origin_address, bind_component, bind_frame, component, copy_cells, evaluate,
     evaluate_arguments, evaluate_here, evaluate_set, write, write_set,
 };
 
@@ -91,7 +91,7 @@ pub fn origin_of(state: &State, pid: u8, variable: Origin) -> Address
     ensures cells { (cells : ℕ) → CanName (machine_of state.now) pid variable cells → HasCells (machine_of state.now) pid result cells }
 {
     let process = &state.processes[pid as usize];
-    begun(variable, &process.room, &process.frame)
+    origin_address(variable, &process.room, &process.frame)
 }
 
 /// The number of a component.

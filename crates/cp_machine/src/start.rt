@@ -15,7 +15,7 @@ use crate::gates::Gates;
 use crate::memory::set_status;
 use crate::process::{Entry, Process, Status};
 use crate::shown::Shown;
-use crate::state::{Guard, LIMIT, Phase, State};
+use crate::state::{Guard, MOST_SHOWN, Phase, State};
 use arrayvec::ArrayVec;
 use cp_slots::Resolved;
 use cp_store::{Bound, Frame, Room, open_frame};
@@ -91,10 +91,10 @@ fn still_parties(
 fn empty_lists(alloc: Global, program: &Resolved) -> Result<(Vec<Shown>, Vec<Bound>), AllocError>
     ensures output { IfOk result (λ t. t.0.items ≡ []) }
     ensures len { IfOk result (λ t. vec_len t.0 ≡ 0) }
-    ensures room { IfOk result (λ t. LIMIT ≤ vec_capacity t.0) }
+    ensures room { IfOk result (λ t. MOST_SHOWN ≤ vec_capacity t.0) }
     ensures bounds { IfOk result (λ t. program.now.arguments ≤ vec_capacity t.1) }
 {
-    let output = Vec::with_capacity(alloc, LIMIT)?;
+    let output = Vec::with_capacity(alloc, MOST_SHOWN)?;
     let bounds = Vec::with_capacity(alloc, program.arguments())?;
     Ok((output, bounds))
 }

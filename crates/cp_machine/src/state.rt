@@ -11,7 +11,7 @@ use arrayvec::ArrayVec;
 use cp_store::Bound;
 
 /// The most values that a run may display.
-pub const LIMIT: usize = 1000;
+pub const MOST_SHOWN: usize = 1000;
 
 /// Who is inside a monitor, and its line.
 #[derive(Drop)]

@@ -13,7 +13,7 @@ use crate::event::{ErrorName, Event, Kernel};
 use crate::memory::{address_of, put_cells, put_number, put_set, set_of, value_here, value_of};
 use crate::shown::Shown;
 use crate::stack::replace;
-use crate::state::{LIMIT, State};
+use crate::state::{MOST_SHOWN, State};
 use cp_slots::{Arm, Expression, Item, Place, SetExpression, ShownKind};
 use cp_store::arithmetic::{is_true, ranged};
 use cp_store::set;
@@ -199,12 +199,12 @@ fn shown_as(kind: ShownKind, value: i16) -> Shown
 fn show(state: &mut State, pid: u8, next: Option<usize>, value: Shown) -> Event
     requires pid { pid < length state.old.processes.items }
     requires busy { IsBusy state.old pid }
-    requires room { LIMIT ≤ vec_capacity state.old.output }
-    requires shown { vec_len state.old.output ≤ LIMIT }
+    requires room { MOST_SHOWN ≤ vec_capacity state.old.output }
+    requires shown { vec_len state.old.output ≤ MOST_SHOWN }
     ensures after { spec.show (machine_of state.old) pid (rest_of next (under (machine_of state.old) pid)) value ≡ record { machine = machine_of state.new; event = result } }
     ensures reserved { (r : Tables) → IsReserved r state.old → IsReserved r state.new }
 {
-    if state.output.len() == LIMIT {
+    if state.output.len() == MOST_SHOWN {
         return Event::OutputFull;
     }
     let _ = state.output.push(value);
@@ -224,8 +224,8 @@ pub fn display(
     requires pid { pid < length state.old.processes.items }
     requires busy { IsBusy state.old pid }
     requires reads { CanRead (machine_of state.old) pid value.now }
-    requires room { LIMIT ≤ vec_capacity state.old.output }
-    requires shown { vec_len state.old.output ≤ LIMIT }
+    requires room { MOST_SHOWN ≤ vec_capacity state.old.output }
+    requires shown { vec_len state.old.output ≤ MOST_SHOWN }
     ensures after { spec.display (machine_of state.old) pid item.now.line value.now kind (rest_of item.now.next (under (machine_of state.old) pid)) ≡ spec.outcome result (machine_of state.new) pid item.now.line }
     ensures reserved { (r : Tables) → IsReserved r state.old → IsReserved r state.new }
 {

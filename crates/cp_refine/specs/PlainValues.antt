@@ -8,7 +8,7 @@ use Rattle.cp_store.specs.declared.memory.Address.{Address}
 use Rattle.cp_store.specs.declared.memory.Frame.{Frame}
 use Rattle.cp_store.specs.declared.set.SetValue.{SetValue}
 use Rattle.cp_store.specs.Memory.{Memory, moved}
-use Rattle.cp_store.specs.Places.{begun, distance, loaded, value_at, set_at, address_at}
+use Rattle.cp_store.specs.Places.{origin_address, element_offset, loaded, value_at, set_at, address_at}
 use Rattle.cp_store.specs.Sets as sets
 use Rattle.cp_store.specs.Values.{then_with, ranged, truth, is_true, negated, absolute, successor, predecessor, calculated, combined, compared}
 use Rattle.cp_slots.specs.Code as code
@@ -37,12 +37,12 @@ abbrev mutual
   plain_set m f (code.combine o a b) = then_with (plain_set m f a) (λ s. then_with (plain_set m f b) (λ t. Ok (sets.combined o s t)))
 
   pub plain_address : Memory → Frame → code.Place → Result Address ErrorName
-  plain_address m f (code.place o offset is) = plain_indexed m f is (moved (begun m.references f o) offset)
+  plain_address m f (code.place o offset is) = plain_indexed m f is (moved (origin_address m.references f o) offset)
 
   pub plain_indexed : Memory → Frame → code.Indices → Address → Result Address ErrorName
   plain_indexed m f code.no_indices at = Ok at
   plain_indexed m f (code.more_indices (code.index c low high size) is) at =
-      then_with (then_with (plain_value m f c) (λ v. then_with (distance low high size v) (λ far. Ok (moved at far)))) (λ inner. plain_indexed m f is inner)
+      then_with (then_with (plain_value m f c) (λ v. then_with (element_offset low high size v) (λ far. Ok (moved at far)))) (λ inner. plain_indexed m f is inner)
 
 -- the code's expressions are what their views are
 pub record ViewsAgree : Type 0 where

@@ -16,11 +16,11 @@ pub fn resolve(alloc: Global, checked: &Checked) -> Result<Resolved, AllocError>
     ensures { IfOk result (λ r. IsProgramOf (tree_view checked.now.tree) r) }
 {
     let layout = lay_out(alloc, checked.tree())?;
-    Ok(resolved(checked, layout))
+    Ok(program_of(checked, layout))
 }
 
 // The tables of a checked tree are sound. Only the contract speaks of the tree.
-fn resolved(_checked: &Checked, layout: Layout) -> Resolved
+fn program_of(_checked: &Checked, layout: Layout) -> Resolved
     requires { plain (tables_of layout) ≡ laid (tree_view _checked.now.tree) }
     ensures { IsProgramOf (tree_view _checked.now.tree) result }
 {

@@ -21,7 +21,7 @@ use Rattle.cp_store.specs.declared.memory.Frame.{Frame}
 use Rattle.cp_store.specs.Inside.{HasCells, Covers, CanRead, CanReach, CanGoThrough, MovesBy, Begins, PlacesHaveTheirCells, VariablesHaveTheirCells}
 use Rattle.cp_store.specs.Memory.{Memory, moved, nowhere, onward, stretch}
 use Rattle.cp_store.specs.Places as places
-use Rattle.cp_store.specs.Places.{ToValue, ToSet, ToElement, ToAddress, address_at, begun, distance, element_at, indexed_at, value_at}
+use Rattle.cp_store.specs.Places.{ToValue, ToSet, ToElement, ToAddress, address_at, origin_address, element_offset, element_at, indexed_at, value_at}
 use Rattle.cp_store.specs.Values.{is_within, ranged, then_with}
 
 pub some_is : {x y : ℕ} → Some x ≡ Some y → x ≡ y
@@ -96,12 +96,12 @@ nearer low high z i size is = go (is_within low high z) refl is
         (mul-le-mul_right {m = unsigned_abs (z -ℤ low)} {n = unsigned_abs (high -ℤ low)} size (between low high z (and_left (int_le low z) (int_le z high) within) (and_right (int_le low z) (int_le z high) within)))
     go false within is = absurd (cc)
 
-pub distance_is : (low high z i : ℤ) (size elements : ℕ) → ranged low high z ≡ Ok i → elements ≡ unsigned_abs (i -ℤ low) → elements * size < 2 ^ 64 → ◌≡◌ {A = Result ℕ ErrorName} (Ok (elements * size)) (distance low high size z)
+pub distance_is : (low high z i : ℤ) (size elements : ℕ) → ranged low high z ≡ Ok i → elements ≡ unsigned_abs (i -ℤ low) → elements * size < 2 ^ 64 → ◌≡◌ {A = Result ℕ ErrorName} (Ok (elements * size)) (element_offset low high size z)
 distance_is low high z i size elements ranged_is elements_are few =
     let exact : stretch (unsigned_abs (i -ℤ low)) size ≡ elements * size = subst (λ e. stretch e size ≡ elements * size) elements_are (stretch_exact elements size few) in
     sym (ap (λ r. then_with r (λ j. Ok (stretch (unsigned_abs (j -ℤ low)) size))) ranged_is ∙ ap Ok exact)
 
-pub not_further : (low high z : ℤ) (size far : ℕ) → distance low high size z ≡ Ok far → far ≤ unsigned_abs (high -ℤ low) * size
+pub not_further : (low high z : ℤ) (size far : ℕ) → element_offset low high size z ≡ Ok far → far ≤ unsigned_abs (high -ℤ low) * size
 not_further low high z size far is = go (ranged low high z) refl is
   where
     go : (r : Result ℤ ErrorName) → ranged low high z ≡ r → then_with r (λ i. Ok (stretch (unsigned_abs (i -ℤ low)) size)) ≡ Ok far → far ≤ unsigned_abs (high -ℤ low) * size
@@ -110,7 +110,7 @@ not_further low high z size far is = go (ranged low high z) refl is
 
 -- the element of an index, by what its parts are
 module _ (m : Memory) (low high : ℤ) (size : ℕ) where
-  far_inside : (at b : Address) (left inner : ℕ) (z : ℤ) → HasCells m at left → unsigned_abs (high -ℤ low) * size + inner ≡ left → then_with (distance low high size z) (λ far. Ok (moved at far)) ≡ Ok b → HasCells m b inner
+  far_inside : (at b : Address) (left inner : ℕ) (z : ℤ) → HasCells m at left → unsigned_abs (high -ℤ low) * size + inner ≡ left → then_with (element_offset low high size z) (λ far. Ok (moved at far)) ≡ Ok b → HasCells m b inner
   far_inside at b left inner z h room is = go (is_within low high z) refl is
     where
       go : (w : Bool) → is_within low high z ≡ w → then_with (then_with (if w then Ok z else Err Range) (λ i. Ok (stretch (unsigned_abs (i -ℤ low)) size))) (λ far. Ok (moved at far)) ≡ Ok b → HasCells m b inner
@@ -120,7 +120,7 @@ module _ (m : Memory) (low high : ℤ) (size : ℕ) where
           subst (λ x. HasCells m x inner) (ok_is is) (has_moved m at _ inner (has_fewer m at left _ (omega (arith, room, product)) h))
       go false within is = absurd (cc)
 
-  step_inside : (x : Bool) (v : Result ℤ ErrorName) (at b : Address) (left inner : ℕ) → HasCells m at left → (if x then behind (unsigned_abs (high -ℤ low) * size) left else None) ≡ Some inner → then_with v (λ z. then_with (distance low high size z) (λ far. Ok (moved at far))) ≡ Ok b → HasCells m b inner
+  step_inside : (x : Bool) (v : Result ℤ ErrorName) (at b : Address) (left inner : ℕ) → HasCells m at left → (if x then behind (unsigned_abs (high -ℤ low) * size) left else None) ≡ Some inner → then_with v (λ z. then_with (element_offset low high size z) (λ far. Ok (moved at far))) ≡ Ok b → HasCells m b inner
   step_inside true (Ok z) at b left inner h room is = far_inside at b left inner z h (behind_is _ left inner room) is
   step_inside true (Err e) at b left inner h room is = absurd (cc)
   step_inside false v at b left inner h room is = absurd (cc)
@@ -133,7 +133,7 @@ module _ (m : Memory) (r : RoutineView) (f : Frame) (covers : Covers m r f) wher
       room_is : index_room i r left ≡ (if expression_inside r (out-Index i).at then behind (unsigned_abs ((out-Index i).high -ℤ (out-Index i).low) * (out-Index i).size) left else None)
       room_is = ap (λ go. go r left) (fold_out-Index ToInside ToInside ToRoomBehind ToRoom inside.expression_step inside.set_step inside.index_step inside.place_step i)
 
-      element_is : element_at i m f at ≡ then_with (value_at m f (out-Index i).at) (λ z. then_with (distance (out-Index i).low (out-Index i).high (out-Index i).size z) (λ far. Ok (moved at far)))
+      element_is : element_at i m f at ≡ then_with (value_at m f (out-Index i).at) (λ z. then_with (element_offset (out-Index i).low (out-Index i).high (out-Index i).size z) (λ far. Ok (moved at far)))
       element_is = ap (λ go. go m f at) (fold_out-Index ToValue ToSet ToElement ToAddress places.expression_step places.set_step places.index_step places.place_step i)
 
   through_inside : (is : List Index) (at b : Address) (left cells : ℕ) → HasCells m at left → indices_room r left is ≡ Some cells → indexed_at m f at is ≡ Ok b → HasCells m b cells
@@ -147,12 +147,12 @@ module _ (m : Memory) (r : RoutineView) (f : Frame) (covers : Covers m r f) wher
       go rest (Some inner) (Err e) has found room reached = absurd (cc)
       go rest None e has found room reached = absurd (cc)
 
-  begun_inside : (o : Origin) (cells : ℕ) → room_from r o ≡ Some cells → HasCells m (begun m.references f o) cells
+  begun_inside : (o : Origin) (cells : ℕ) → room_from r o ≡ Some cells → HasCells m (origin_address m.references f o) cells
   begun_inside (origin.Permanent slot) cells room = let is = behind_is slot r.own cells room in omega (arith, is, covers.own, covers.permanents_few)
   begun_inside (origin.Local slot) cells room = let is = behind_is slot (length r.image) cells room in omega (arith, is, covers.cells, covers.cells_few)
   begun_inside (origin.Reference number) cells room = go (nat_lt number (length r.extents)) refl room
     where
-      go : (b : Bool) → nat_lt number (length r.extents) ≡ b → (if b then Some (slice_index_or r.extents number 0) else None) ≡ Some cells → HasCells m (begun m.references f (origin.Reference number)) cells
+      go : (b : Bool) → nat_lt number (length r.extents) ≡ b → (if b then Some (slice_index_or r.extents number 0) else None) ≡ Some cells → HasCells m (origin_address m.references f (origin.Reference number)) cells
       go true lt is =
           let there = ltb-true number (length r.extents) lt in
           let exact : onward f.references number ≡ f.references + number = omega (arith, there, covers.references, covers.references_few) in
@@ -191,18 +191,18 @@ parts r p cells room = go (room_from r (out-Place p).origin) refl (sym room_is �
     go None starts room' = absurd (cc)
 
 module _ (m : Memory) (r : RoutineView) (f : Frame) (covers : Covers m r f) (p : Place) (cells : ℕ) (room : place_room r p ≡ Some cells) where
-  start_has : HasCells m (begun m.references f (out-Place p).origin) ((out-Place p).offset + (parts r p cells room).left)
-  start_has = let k = parts r p cells room in subst (HasCells m (begun m.references f (out-Place p).origin)) (sym k.offset) (begun_inside m r f covers (out-Place p).origin k.whole k.begins)
+  start_has : HasCells m (origin_address m.references f (out-Place p).origin) ((out-Place p).offset + (parts r p cells room).left)
+  start_has = let k = parts r p cells room in subst (HasCells m (origin_address m.references f (out-Place p).origin)) (sym k.offset) (begun_inside m r f covers (out-Place p).origin k.whole k.begins)
 
-  offset_has : HasCells m (moved (begun m.references f (out-Place p).origin) (out-Place p).offset) (parts r p cells room).left
+  offset_has : HasCells m (moved (origin_address m.references f (out-Place p).origin) (out-Place p).offset) (parts r p cells room).left
   offset_has = has_moved m _ (out-Place p).offset (parts r p cells room).left start_has
 
-pub address_by : (m : Memory) (f : Frame) (p : Place) → address_at m f p ≡ indexed_at m f (moved (begun m.references f (out-Place p).origin) (out-Place p).offset) (out-Place p).indices.items
+pub address_by : (m : Memory) (f : Frame) (p : Place) → address_at m f p ≡ indexed_at m f (moved (origin_address m.references f (out-Place p).origin) (out-Place p).offset) (out-Place p).indices.items
 address_by m f p = ap (λ at. at m f) (fold_out-Place ToValue ToSet ToElement ToAddress places.expression_step places.set_step places.index_step places.place_step p)
 
 -- the address, as it is computed: from the beginning to the offset, and through the indices
-module _ (m : Memory) (f : Frame) (p : Place) (first start : Address) (is : List Index) (first_is : first ≡ begun m.references f (out-Place p).origin) (start_is : start ≡ moved first (out-Place p).offset) (is_are : is ≡ (out-Place p).indices.items) where
-  pub start_by : start ≡ moved (begun m.references f (out-Place p).origin) (out-Place p).offset
+module _ (m : Memory) (f : Frame) (p : Place) (first start : Address) (is : List Index) (first_is : first ≡ origin_address m.references f (out-Place p).origin) (start_is : start ≡ moved first (out-Place p).offset) (is_are : is ≡ (out-Place p).indices.items) where
+  pub start_by : start ≡ moved (origin_address m.references f (out-Place p).origin) (out-Place p).offset
   start_by = start_is ∙ ap (λ a. moved a (out-Place p).offset) first_is
 
   pub address_through : indexed_at m f start is ≡ address_at m f p
@@ -232,7 +232,7 @@ some_has cells None h = absurd (cc)
 pub variables_have : VariablesHaveTheirCells
 variables_have m r f o cells covers room =
     let left = some_has cells (room_from r o) room in
-    (origin_begins m r f covers o left.0 left.1, has_fewer m (begun m.references f o) left.0 cells left.2 (begun_inside m r f covers o left.0 left.1))
+    (origin_begins m r f covers o left.0 left.1, has_fewer m (origin_address m.references f o) left.0 cells left.2 (begun_inside m r f covers o left.0 left.1))
 
 module _ (m : Memory) (f : Frame) (p : Place) (cells : ℕ) (can : CanReach m f p cells) where
   left : (left : ℕ) × (place_room can.0 p ≡ Some left) × (cells ≤ left)
@@ -248,13 +248,13 @@ module _ (m : Memory) (f : Frame) (p : Place) (cells : ℕ) (can : CanReach m f 
   pub begins : Begins m.references f (out-Place p).origin
   begins = let k = parts can.0 p left.0 left.1 in origin_begins m can.0 f can.1 (out-Place p).origin k.whole k.begins
 
-  pub moves : MovesBy (begun m.references f (out-Place p).origin) (out-Place p).offset
+  pub moves : MovesBy (origin_address m.references f (out-Place p).origin) (out-Place p).offset
   moves = moves_by m _ (out-Place p).offset (parts can.0 p left.0 left.1).left can.1.permanents_few can.1.cells_few (start_has m can.0 f can.1 p left.0 left.1)
 
-  goes : CanGoThrough m f (moved (begun m.references f (out-Place p).origin) (out-Place p).offset) (out-Place p).indices.items cells
+  goes : CanGoThrough m f (moved (origin_address m.references f (out-Place p).origin) (out-Place p).offset) (out-Place p).indices.items cells
   goes = let k = parts can.0 p left.0 left.1 in (can.0, can.1, (k.left, offset_has m can.0 f can.1 p left.0 left.1, has_some cells left.0 (indices_room can.0 k.left (out-Place p).indices.items) k.indices left.2))
 
-pub goes_on : (m : Memory) (f : Frame) (p : Place) (cells : ℕ) → CanReach m f p cells → (first start : Address) (is : List Index) → first ≡ begun m.references f (out-Place p).origin → start ≡ moved first (out-Place p).offset → is ≡ (out-Place p).indices.items → CanGoThrough m f start is cells
+pub goes_on : (m : Memory) (f : Frame) (p : Place) (cells : ℕ) → CanReach m f p cells → (first start : Address) (is : List Index) → first ≡ origin_address m.references f (out-Place p).origin → start ≡ moved first (out-Place p).offset → is ≡ (out-Place p).indices.items → CanGoThrough m f start is cells
 goes_on m f p cells can first start is first_is start_is is_are =
     subst (λ l. CanGoThrough m f start l cells) (sym is_are)
     (subst (λ a. CanGoThrough m f a (out-Place p).indices.items cells) (sym (start_by m f p first start is first_is start_is is_are)) (goes m f p cells can))
@@ -287,21 +287,21 @@ module _ (m : Memory) (f : Frame) (at : Address) (xs : List Index) (k : ℕ) (x 
   rest_are : drop k xs ≡ x ∷ drop (k + 1) xs
   rest_are = rw (add-one, drop-cons xs k x, ← x_is) refl
 
-  element_is : element_at x m f at ≡ then_with (value_at m f (out-Index x).at) (λ z. then_with (distance (out-Index x).low (out-Index x).high (out-Index x).size z) (λ far. Ok (moved at far)))
+  element_is : element_at x m f at ≡ then_with (value_at m f (out-Index x).at) (λ z. then_with (element_offset (out-Index x).low (out-Index x).high (out-Index x).size z) (λ far. Ok (moved at far)))
   element_is = ap (λ go. go m f at) (fold_out-Index ToValue ToSet ToElement ToAddress places.expression_step places.set_step places.index_step places.place_step x)
 
-  -- the loop over the indices, where the value and the distance are known
-  pub index_steps : (z : ℤ) (far : ℕ) → value_at m f (out-Index x).at ≡ Ok z → distance (out-Index x).low (out-Index x).high (out-Index x).size z ≡ Ok far → indexed_at m f at (drop k xs) ≡ indexed_at m f (moved at far) (drop (k + 1) xs)
+  -- the loop over the indices, where the value and the offset are known
+  pub index_steps : (z : ℤ) (far : ℕ) → value_at m f (out-Index x).at ≡ Ok z → element_offset (out-Index x).low (out-Index x).high (out-Index x).size z ≡ Ok far → indexed_at m f at (drop k xs) ≡ indexed_at m f (moved at far) (drop (k + 1) xs)
   index_steps z far value_is far_is =
       ap (λ l. indexed_at m f at l) rest_are
       ∙ ap (λ e. then_with e (λ inner. indexed_at m f inner (drop (k + 1) xs)))
-      (element_is ∙ ap (λ v. then_with v (λ z. then_with (distance (out-Index x).low (out-Index x).high (out-Index x).size z) (λ far. Ok (moved at far)))) value_is ∙ ap (λ d. then_with d (λ far. Ok (moved at far))) far_is)
+      (element_is ∙ ap (λ v. then_with v (λ z. then_with (element_offset (out-Index x).low (out-Index x).high (out-Index x).size z) (λ far. Ok (moved at far)))) value_is ∙ ap (λ d. then_with d (λ far. Ok (moved at far))) far_is)
 
-  pub index_fails : (z : ℤ) (e : ErrorName) → value_at m f (out-Index x).at ≡ Ok z → distance (out-Index x).low (out-Index x).high (out-Index x).size z ≡ Err e → indexed_at m f at (drop k xs) ≡ Err e
+  pub index_fails : (z : ℤ) (e : ErrorName) → value_at m f (out-Index x).at ≡ Ok z → element_offset (out-Index x).low (out-Index x).high (out-Index x).size z ≡ Err e → indexed_at m f at (drop k xs) ≡ Err e
   index_fails z e value_is far_is =
       ap (λ l. indexed_at m f at l) rest_are
       ∙ ap (λ e. then_with e (λ inner. indexed_at m f inner (drop (k + 1) xs)))
-      (element_is ∙ ap (λ v. then_with v (λ z. then_with (distance (out-Index x).low (out-Index x).high (out-Index x).size z) (λ far. Ok (moved at far)))) value_is ∙ ap (λ d. then_with d (λ far. Ok (moved at far))) far_is)
+      (element_is ∙ ap (λ v. then_with v (λ z. then_with (element_offset (out-Index x).low (out-Index x).high (out-Index x).size z) (λ far. Ok (moved at far)))) value_is ∙ ap (λ d. then_with d (λ far. Ok (moved at far))) far_is)
 
 module _ (m : Memory) (f : Frame) (at : Address) (xs : List Index) (k : ℕ) (x : Index) (in_xs : k < length xs) (x_is : x ≡ get_or xs k x) (can : (cells : ℕ) × CanGoThrough m f at (drop k xs) cells) where
   xs_are : drop k xs ≡ x ∷ drop (k + 1) xs
@@ -316,7 +316,7 @@ module _ (m : Memory) (f : Frame) (at : Address) (xs : List Index) (k : ℕ) (x 
   pub index_spans : unsigned_abs ((out-Index x).high -ℤ (out-Index x).low) * (out-Index x).size < 2 ^ 64
   index_spans = let few = few_cells m at can.1.2.0 can.1.1.permanents_few can.1.1.cells_few can.1.2.1 in let spans = first.spans in omega (arith, few, spans)
 
-  module _ (z : ℤ) (far : ℕ) (far_is : distance (out-Index x).low (out-Index x).high (out-Index x).size z ≡ Ok far) where
+  module _ (z : ℤ) (far : ℕ) (far_is : element_offset (out-Index x).low (out-Index x).high (out-Index x).size z ≡ Ok far) where
     far_has : HasCells m at (far + first.inner)
     far_has =
         let near = not_further (out-Index x).low (out-Index x).high z (out-Index x).size far far_is in

@@ -22,7 +22,7 @@ use Rattle.cp_store.specs.declared.memory.Address.TheVariants.{Permanent, Local}
 use Rattle.cp_store.specs.declared.memory.Frame.{Frame}
 use Rattle.cp_store.specs.Arguments.{bound_in_frame, bounds_at, put_value}
 use Rattle.cp_store.specs.Memory.{Memory, opened}
-use Rattle.cp_store.specs.Places.{address_at, begun, referred}
+use Rattle.cp_store.specs.Places.{address_at, origin_address, referred}
 
 -- this many cells from an address on are cells of the memory
 abbrev pub HasCells : Memory → Address → ℕ → Type 0
@@ -148,7 +148,7 @@ PlacesHaveTheirCells =
 abbrev pub VariablesHaveTheirCells : Type 0
 VariablesHaveTheirCells =
     (m : Memory) (r : RoutineView) (f : Frame) (o : Origin) (cells : ℕ) →
-    Covers m r f → IsTrue (has cells (room_from r o)) → Begins m.references f o × HasCells m (begun m.references f o) cells
+    Covers m r f → IsTrue (has cells (room_from r o)) → Begins m.references f o × HasCells m (origin_address m.references f o) cells
 
 -- what is written leaves all that a frame covers
 abbrev pub WritesKeepCells : Type 0

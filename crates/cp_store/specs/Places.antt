@@ -38,14 +38,14 @@ abbrev pub referred : List Address → ℕ → Address
 referred references number = slice_index_or references number nowhere
 
 -- where a variable begins
-abbrev pub begun : List Address → Frame → Origin → Address
-begun references frame (origin.Permanent slot) = Permanent (onward frame.own slot)
-begun references frame (origin.Local slot) = Local (onward frame.base slot)
-begun references frame (origin.Reference number) = referred references (onward frame.references number)
+abbrev pub origin_address : List Address → Frame → Origin → Address
+origin_address references frame (origin.Permanent slot) = Permanent (onward frame.own slot)
+origin_address references frame (origin.Local slot) = Local (onward frame.base slot)
+origin_address references frame (origin.Reference number) = referred references (onward frame.references number)
 
 -- how far the element of an index is from the beginning of its array, or range outside the bounds of the array
-abbrev pub distance : (low high : ℤ) (size : ℕ) → ℤ → Result ℕ ErrorName
-distance low high size index = then_with (ranged low high index) (λ i. Ok (stretch (unsigned_abs (i -ℤ low)) size))
+abbrev pub element_offset : (low high : ℤ) (size : ℕ) → ℤ → Result ℕ ErrorName
+element_offset low high size index = then_with (ranged low high index) (λ i. Ok (stretch (unsigned_abs (i -ℤ low)) size))
 
 abbrev pub through : List ToElement → Memory → Frame → Address → Result Address ErrorName
 through [] m f at = Ok at
@@ -57,10 +57,10 @@ loaded m a = then_with a (λ at. Ok (cell_at m at))
 -- ---- one level, whose parts stand for what they stand for
 
 abbrev pub place_step : Place-F ToValue ToSet ToElement ToAddress → ToAddress
-place_step p = λ m f. through p.indices.items m f (moved (begun m.references f p.origin) p.offset)
+place_step p = λ m f. through p.indices.items m f (moved (origin_address m.references f p.origin) p.offset)
 
 abbrev pub index_step : Index-F ToValue ToSet ToElement ToAddress → ToElement
-index_step i = λ m f at. then_with (i.at m f) (λ v. then_with (distance i.low i.high i.size v) (λ far. Ok (moved at far)))
+index_step i = λ m f at. then_with (i.at m f) (λ v. then_with (element_offset i.low i.high i.size v) (λ far. Ok (moved at far)))
 
 abbrev pub both : ToValue → ToValue → (ℤ → ℤ → Result ℤ ErrorName) → ToValue
 both a b go = λ m f. then_with (a m f) (λ x. then_with (b m f) (λ y. go x y))

@@ -6,7 +6,7 @@ ghost use Rattle.cp_store.specs.Inside.{CanFind};
 ghost use Rattle.cp_store.specs.Memory.{memory_of};
 
 use crate::error::ErrorName;
-use crate::evaluation::{distance, evaluate};
+use crate::evaluation::{element_offset, evaluate};
 use crate::memory::{Frame, Room};
 use cp_slots::ComponentPlace;
 
@@ -33,7 +33,7 @@ pub fn component_of(
             index,
         } => {
             let index = evaluate(index, permanents, room, &frame)?;
-            let further = distance(index, *low, *high, *stride)?;
+            let further = element_offset(index, *low, *high, *stride)?;
             Ok(frame.component + *first + further)
         }
         ComponentPlace::Parameter(slot) => Ok(bindings[frame.own + *slot]),

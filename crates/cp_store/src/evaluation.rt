@@ -19,9 +19,9 @@ use cp_slots::{Expression, Index, Origin, Place, SetExpression};
 /// Where a variable begins.
 #[inline(always)]
 #[tactic(auto, using(crate::proofs::Reaches::onward_exact))]
-pub fn begun(origin: Origin, room: &Room, frame: &Frame) -> Address
+pub fn origin_address(origin: Origin, room: &Room, frame: &Frame) -> Address
     requires { Begins room.now.references.items frame.now origin }
-    ensures { result ≡ spec.begun room.now.references.items frame.now origin }
+    ensures { result ≡ spec.origin_address room.now.references.items frame.now origin }
 {
     match origin {
         Origin::Permanent(slot) => Address::Permanent(frame.own + slot),
@@ -32,9 +32,9 @@ pub fn begun(origin: Origin, room: &Room, frame: &Frame) -> Address
 
 /// How far the element of an index is from the beginning of its array.
 #[tactic(auto, using(crate::proofs::Reaches::nearer))]
-pub fn distance(index: i16, low: i16, high: i16, size: usize) -> Result<usize, ErrorName>
+pub fn element_offset(index: i16, low: i16, high: i16, size: usize) -> Result<usize, ErrorName>
     requires { unsigned_abs (high -ℤ low) * size < 2 ^ 64 }
-    ensures { result ≡ spec.distance low high size index }
+    ensures { result ≡ spec.element_offset low high size index }
 {
     let index = ranged(index, low, high)?;
     let elements = index.abs_diff(low) as usize;
@@ -55,17 +55,17 @@ pub fn address(
     ensures value { result ≡ spec.address_at (memory_of permanents.now room.now) frame.now place.now }
     ensures cells { (cells : ℕ) → CanReach (memory_of permanents.now room.now) frame.now place.now cells → IfOk result (λ at. HasCells (memory_of permanents.now room.now) at cells) }
 {
-    let start = begun(place.origin, room, frame).moved(place.offset);
+    let start = origin_address(place.origin, room, frame).moved(place.offset);
     match place.indices.as_slice() {
         [] => Ok(start),
-        indices => indexed(start, indices, permanents, room, frame),
+        indices => element_address(start, indices, permanents, room, frame),
     }
 }
 
 // The address after all indices: apart, since addresses go through memory.
 #[cycle(evaluate)]
 #[inline(never)]
-fn indexed(
+fn element_address(
     start: Address,
     indices: &[Index],
     permanents: &[i16],
@@ -95,7 +95,7 @@ fn through(
     let mut at = start;
     for index in indices {
         let value = evaluate(&index.at, permanents, room, frame)?;
-        at = at.moved(distance(value, index.low, index.high, index.size)?);
+        at = at.moved(element_offset(value, index.low, index.high, index.size)?);
     }
     Ok(at)
 }
@@ -158,7 +158,7 @@ struct View<'a> {
 // The value of a part.
 #[cycle(evaluate)]
 #[inline(always)]
-fn part(expression: &Expression, view: &View) -> Result<i16, ErrorName>
+fn operand(expression: &Expression, view: &View) -> Result<i16, ErrorName>
     requires { CanRead (memory_of view.now.permanents.now view.now.room.now) view.now.frame.now expression.now }
     ensures { result ≡ spec.value_at (memory_of view.now.permanents.now view.now.room.now) view.now.frame.now expression.now }
 {
@@ -177,11 +177,11 @@ fn left_part(expression: &Expression, view: &View) -> Result<i16, ErrorName>
     ensures { result ≡ spec.value_at (memory_of view.now.permanents.now view.now.room.now) view.now.frame.now expression.now }
 {
     if let Expression::Arithmetic(operator, left, right) = expression {
-        let left = part(left, view)?;
-        let right = part(right, view)?;
+        let left = operand(left, view)?;
+        let right = operand(right, view)?;
         return calculated(*operator, left, right);
     }
-    part(expression, view)
+    operand(expression, view)
 }
 
 // The value of an expression, handed over in a register.
@@ -204,7 +204,7 @@ fn computed(expression: &Expression, view: &View) -> Result<i16, ErrorName>
     // The most frequent form is not looked up in a table.
     if let Expression::Arithmetic(operator, left, right) = expression {
         let left = left_part(left, view)?;
-        let right = part(right, view)?;
+        let right = operand(right, view)?;
         return calculated(*operator, left, right);
     }
     match expression {
@@ -212,17 +212,17 @@ fn computed(expression: &Expression, view: &View) -> Result<i16, ErrorName>
         Expression::Load(place) => loaded(place, view.permanents, view.room, view.frame),
         Expression::Arithmetic(_, _, _) => unreachable!(),
         Expression::Compare(relation, left, right) => {
-            let left = part(left, view)?;
-            let right = part(right, view)?;
+            let left = operand(left, view)?;
+            let right = operand(right, view)?;
             Ok(compared(*relation, left, right))
         }
         Expression::Logic(operator, left, right) => {
-            let left = part(left, view)?;
-            let right = part(right, view)?;
+            let left = operand(left, view)?;
+            let right = operand(right, view)?;
             Ok(combined(*operator, left, right))
         }
         Expression::Not(operand) => {
-            let value = part(operand, view)?;
+            let value = operand(operand, view)?;
             Ok(truth(!is_true(value)))
         }
         Expression::Negate(_) | Expression::Absolute(_) | Expression::Successor(_, _) => {
@@ -245,22 +245,22 @@ fn rare(expression: &Expression, view: &View) -> Answer
     requires reads { CanRead (memory_of view.now.permanents.now view.now.room.now) view.now.frame.now expression.now }
     ensures { answered result ≡ spec.value_at (memory_of view.now.permanents.now view.now.room.now) view.now.frame.now expression.now }
 {
-    Answer::of(rarely(expression, view))
+    Answer::of(rare_value(expression, view))
 }
 
 #[cycle(evaluate)]
-fn rarely(expression: &Expression, view: &View) -> Result<i16, ErrorName>
+fn rare_value(expression: &Expression, view: &View) -> Result<i16, ErrorName>
     requires form { IsTrue (spec.is_rare expression.now) }
     requires reads { CanRead (memory_of view.now.permanents.now view.now.room.now) view.now.frame.now expression.now }
     ensures { result ≡ spec.value_at (memory_of view.now.permanents.now view.now.room.now) view.now.frame.now expression.now }
 {
     match expression {
-        Expression::Negate(operand) => negated(part(operand, view)?),
-        Expression::Absolute(operand) => absolute(part(operand, view)?),
-        Expression::Successor(operand, last) => successor(part(operand, view)?, *last),
-        Expression::Predecessor(operand, first) => predecessor(part(operand, view)?, *first),
+        Expression::Negate(operand) => negated(operand(operand, view)?),
+        Expression::Absolute(operand) => absolute(operand(operand, view)?),
+        Expression::Successor(operand, last) => successor(operand(operand, view)?, *last),
+        Expression::Predecessor(operand, first) => predecessor(operand(operand, view)?, *first),
         Expression::Character(operand) => {
-            let number = part(operand, view)?;
+            let number = operand(operand, view)?;
             ranged(number, 0, 127)
         }
         Expression::IsEmpty(queue) => {
@@ -302,7 +302,7 @@ fn tested(expression: &Expression, view: &View) -> Result<i16, ErrorName>
             Ok(set::compared(*wanted, left, right))
         }
         Expression::Member(element, whole) => {
-            let element = part(element, view)?;
+            let element = operand(element, view)?;
             let whole = evaluate_set(whole, view.permanents, view.room, view.frame)?;
             Ok(truth(set::is_member(whole, element)))
         }
@@ -331,7 +331,7 @@ fn loaded(place: &Place, permanents: &[i16], room: &Room, frame: &Frame) -> Resu
 {
     match place.indices.as_slice() {
         [] => {
-            let at = begun(place.origin, room, frame).moved(place.offset);
+            let at = origin_address(place.origin, room, frame).moved(place.offset);
             Ok(cell(permanents, room, at))
         }
         _ => element(place, permanents, room, frame).result(),
@@ -346,7 +346,7 @@ fn element(place: &Place, permanents: &[i16], room: &Room, frame: &Frame) -> Ans
     requires { CanReach (memory_of permanents.now room.now) frame.now place.now 1 }
     ensures { answered result ≡ spec.loaded (memory_of permanents.now room.now) (spec.address_at (memory_of permanents.now room.now) frame.now place.now) }
 {
-    let start = begun(place.origin, room, frame).moved(place.offset);
+    let start = origin_address(place.origin, room, frame).moved(place.offset);
     match through(start, place.indices.as_slice(), permanents, room, frame) {
         Ok(at) => Answer::Value(cell(permanents, room, at)),
         Err(name) => Answer::failed(name),

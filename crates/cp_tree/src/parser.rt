@@ -53,7 +53,7 @@ fn read(alloc: Global, tokens: &Tokens) -> Result<Tree, ParseFault>
 {
     match program(alloc, &mut Cursor::new(tokens)) {
         Ok(program) => Ok(tree_of(alloc, tokens, program)?),
-        Err(fault) => Err(told(tokens, fault)),
+        Err(fault) => Err(fault_to_report(tokens, fault)),
     }
 }
 
@@ -80,7 +80,7 @@ fn lines(alloc: Global, tokens: &Tokens) -> Result<Vec<u32>, AllocError>
 }
 
 // An unexpected word that is left out of the language is reported as such.
-fn told(tokens: &Tokens, fault: ParseFault) -> ParseFault
+fn fault_to_report(tokens: &Tokens, fault: ParseFault) -> ParseFault
     ensures { result ≡ spec.told (kinds tokens.now) fault }
 {
     match fault {

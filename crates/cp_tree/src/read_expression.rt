@@ -101,13 +101,17 @@ pub fn expression(
     if budget == 0 {
         return Err(ParseFault::TooDeep(cursor.at()));
     }
-    related(alloc, cursor, budget - 1)
+    expression_within(alloc, cursor, budget - 1)
 }
 
 // An expression whose inner ones have at most `budget` levels.
 #[cycle(expression)]
 #[tactic(auto, unfolding(crate::specs::ReadingExpressions::expression_with, crate::specs::ReadingExpressions::sum_at))]
-fn related(alloc: Global, cursor: &mut Cursor<'_>, budget: usize) -> Result<Expression, ParseFault>
+fn expression_within(
+    alloc: Global,
+    cursor: &mut Cursor<'_>,
+    budget: usize,
+) -> Result<Expression, ParseFault>
     ensures { Reads expression_view (spec.expression_with (spec.factor_at budget) cursor.old) result cursor.new }
 {
     let at = cursor.at();
@@ -217,7 +221,7 @@ fn factor(alloc: Global, cursor: &mut Cursor<'_>, budget: usize) -> Result<Facto
         }
         Some(Kind::Mark(Mark::OpenParenthesis)) => {
             cursor.advance();
-            FactorKind::Group(grouped(alloc, cursor, budget)?)
+            FactorKind::Group(expression_inside(alloc, cursor, budget)?)
         }
         Some(Kind::Mark(Mark::OpenBracket)) => {
             cursor.advance();
@@ -225,7 +229,7 @@ fn factor(alloc: Global, cursor: &mut Cursor<'_>, budget: usize) -> Result<Facto
         }
         Some(Kind::Mark(Mark::Not)) => {
             cursor.advance();
-            FactorKind::Not(negated(alloc, cursor, budget)?)
+            FactorKind::Not(factor_after_not(alloc, cursor, budget)?)
         }
         _ => return Err(cursor.unexpected()),
     };
@@ -235,7 +239,7 @@ fn factor(alloc: Global, cursor: &mut Cursor<'_>, budget: usize) -> Result<Facto
 // The expression between parentheses, after the first of them.
 #[cycle(expression)]
 #[tactic(auto, unfolding(crate::specs::ReadingExpressions::grouped_at))]
-fn grouped(
+fn expression_inside(
     alloc: Global,
     cursor: &mut Cursor<'_>,
     budget: usize,
@@ -249,17 +253,25 @@ fn grouped(
 
 // The factor after `not`.
 #[cycle(expression)]
-fn negated(alloc: Global, cursor: &mut Cursor<'_>, budget: usize) -> Result<Box<Factor>, ParseFault>
+fn factor_after_not(
+    alloc: Global,
+    cursor: &mut Cursor<'_>,
+    budget: usize,
+) -> Result<Box<Factor>, ParseFault>
     ensures { Reads (λ f. factor_view f.value) (spec.deeper budget cursor.old) result cursor.new }
 {
-    let inner = deeper(alloc, cursor, budget)?;
+    let inner = deeper_factor(alloc, cursor, budget)?;
     boxed(alloc, inner)
 }
 
 // A factor after `not`.
 #[cycle(expression)]
 #[tactic(auto, unfolding(crate::specs::ReadingExpressions::deeper, crate::specs::ReadingExpressions::factor_at))]
-fn deeper(alloc: Global, cursor: &mut Cursor<'_>, budget: usize) -> Result<Factor, ParseFault>
+fn deeper_factor(
+    alloc: Global,
+    cursor: &mut Cursor<'_>,
+    budget: usize,
+) -> Result<Factor, ParseFault>
     ensures { Reads factor_view (spec.deeper budget cursor.old) result cursor.new }
 {
     if budget == 0 {

@@ -15,7 +15,7 @@ use cp_text::Mark;
 use std::alloc::Global;
 
 /// The level of the innermost nodes.
-pub const MAX_LEVEL: usize = 50;
+pub const MOST_LEVELS: usize = 50;
 
 #[tactic(auto, unfolding(crate::specs::ReadingDeclarations::constant_item))]
 fn constant_definition(
@@ -36,7 +36,7 @@ fn type_definition(alloc: Global, cursor: &mut Cursor<'_>) -> Result<TypeDefinit
 {
     let name = identifier(alloc, cursor)?;
     let name = value_before(cursor, name, Mark::Equal)?;
-    let (name, value) = value_with(name, type_term(alloc, cursor, MAX_LEVEL))?;
+    let (name, value) = value_with(name, type_term(alloc, cursor, MOST_LEVELS))?;
     value_before(cursor, TypeDefinition { name, value }, Mark::Semicolon)
 }
 
@@ -46,7 +46,7 @@ fn variable_group(alloc: Global, cursor: &mut Cursor<'_>) -> Result<VariableGrou
 {
     let names = identifiers(alloc, cursor)?;
     cursor.expect(Mark::Colon)?;
-    let variable_type = type_term(alloc, cursor, MAX_LEVEL)?;
+    let variable_type = type_term(alloc, cursor, MOST_LEVELS)?;
     let group = VariableGroup {
         names,
         variable_type,

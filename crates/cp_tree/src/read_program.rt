@@ -13,7 +13,7 @@ use crate::declaration::{
 use crate::fault::ParseFault;
 use crate::held::{value_before, value_with};
 use crate::read_constant::identifier;
-use crate::read_part::{MAX_LEVEL, constant_definitions, parts, variable_groups};
+use crate::read_part::{MOST_LEVELS, constant_definitions, parts, variable_groups};
 use crate::read_routine::{body, groups, routines};
 use crate::read_type::type_term;
 use cp_text::Mark;
@@ -66,7 +66,7 @@ fn definition(alloc: Global, cursor: &mut Cursor<'_>) -> Result<Definition, Pars
             cursor.advance();
             Ok(Definition::System(system(alloc, cursor, kind, at)?))
         }
-        None => Ok(Definition::Type(type_term(alloc, cursor, MAX_LEVEL)?)),
+        None => Ok(Definition::Type(type_term(alloc, cursor, MOST_LEVELS)?)),
     }
 }
 

@@ -12,7 +12,7 @@ use crate::declaration::{Body, Group, ParameterGroup, Routine, RoutineKind};
 use crate::fault::ParseFault;
 use crate::held::{value_before, value_with};
 use crate::read_constant::{identifier, identifiers};
-use crate::read_part::{MAX_LEVEL, parts};
+use crate::read_part::{MOST_LEVELS, parts};
 use crate::read_statement::statements;
 use cp_text::Mark;
 use std::alloc::Global;
@@ -24,7 +24,7 @@ pub fn body(alloc: Global, cursor: &mut Cursor<'_>) -> Result<Body, ParseFault>
 {
     let at = cursor.at();
     cursor.expect(Mark::Begin)?;
-    let statements = statements(alloc, cursor, MAX_LEVEL)?;
+    let statements = statements(alloc, cursor, MOST_LEVELS)?;
     value_before(cursor, Body { at, statements }, Mark::End)
 }
 

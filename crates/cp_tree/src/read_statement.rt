@@ -44,7 +44,7 @@ fn statement_within(
     ensures { Reads statement_view (spec.statement_at budget cursor.old) result cursor.new }
 {
     match cursor.peek() {
-        Some(Kind::Name(_)) => named(alloc, cursor, budget),
+        Some(Kind::Name(_)) => assignment_or_call(alloc, cursor, budget),
         Some(Kind::Mark(Mark::Begin)) => block(alloc, cursor, budget),
         Some(Kind::Mark(Mark::If)) => choice(alloc, cursor, budget),
         Some(Kind::Mark(Mark::Case)) => case(alloc, cursor, budget),
@@ -62,7 +62,11 @@ fn statement_within(
 
 // An assignment or a call.
 #[tactic(auto, unfolding(crate::specs::ReadingStatements::named_at, crate::specs::ReadingStatements::named_with, crate::specs::ReadingExpressions::designator_at, crate::specs::ReadingExpressions::arguments_at))]
-fn named(alloc: Global, cursor: &mut Cursor<'_>, budget: usize) -> Result<Statement, ParseFault>
+fn assignment_or_call(
+    alloc: Global,
+    cursor: &mut Cursor<'_>,
+    budget: usize,
+) -> Result<Statement, ParseFault>
     ensures { Reads statement_view (spec.named_at budget cursor.old.at cursor.old) result cursor.new }
 {
     let at = cursor.at();

@@ -26,8 +26,8 @@ use Rattle.cp_walk.specs.Walk.{behind, shown_by, walk}
 use Rattle.cp_walk.specs.Walked.{within_span, begun, AreWalked, IsWalked}
 use Rattle.cp_walk.specs.Rows.{line_of}
 use Rattle.cp_walk.specs.declared.row.Row.{Row}
-use Rattle.cp_walk.specs.declared.walked.NodeKey.{NodeKey}
-use Rattle.cp_walk.specs.declared.walked.Span.{Span}
+use Rattle.cp_walk.specs.declared.memo.NodeKey.{NodeKey}
+use Rattle.cp_walk.specs.declared.memo.Span.{Span}
 use Rattle.cp_walk.proofs.Alike.{walk_alike}
 
 -- ---- states with one core

@@ -7,8 +7,8 @@ use Rattle.cp_run.specs.System.{System}
 use Rattle.cp_run.specs.Run.{Choosing}
 use Rattle.cp_run.specs.Table.{Line}
 use Rattle.cp_walk.specs.Walk.{behind, walk}
-use Rattle.cp_walk.specs.declared.walked.NodeKey.{NodeKey}
-use Rattle.cp_walk.specs.declared.walked.Span.{Span}
+use Rattle.cp_walk.specs.declared.memo.NodeKey.{NodeKey}
+use Rattle.cp_walk.specs.declared.memo.Span.{Span}
 
 -- the rows from one place up to another
 abbrev pub within_span : Span → List Line → List Line

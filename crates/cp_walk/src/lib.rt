@@ -1,7 +1,7 @@
 //! The walk over the tree of schedule words: cuttings, workers, tables and their reports, over the slot machine.
 #![tactic(auto)]
 
-mod again;
+mod replay;
 pub mod beginning;
 mod children;
 mod collect;
@@ -23,7 +23,7 @@ pub mod text;
 pub mod threads;
 pub mod trace_reports;
 mod walk;
-mod walked;
+mod memo;
 mod wanting;
 mod word;
 pub mod worker;

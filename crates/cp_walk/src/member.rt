@@ -9,7 +9,7 @@ use crate::fault::ExploreFault;
 use crate::one_thread::copies;
 use crate::row::Row;
 use crate::walk::walk_from;
-use crate::walked::Walked;
+use crate::memo::Walked;
 use crate::word::word_of;
 use cp_machine::{State, Ticks, Unwatched};
 use cp_run::{Limits, choose, is_over, may, open};

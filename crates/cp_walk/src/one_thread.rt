@@ -11,7 +11,7 @@ use crate::fault::ExploreFault;
 use crate::job::Job;
 use crate::row::{Rows, Table};
 use crate::walk::walk_from;
-use crate::walked::Walked;
+use crate::memo::Walked;
 use arrayvec::ArrayVec;
 use cp_machine::{State, Ticks};
 use cp_run::{Limits, open};

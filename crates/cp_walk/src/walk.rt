@@ -11,10 +11,10 @@ ghost use Rattle.cp_walk.specs.Walk.{behind, walk, IsDue};
 ghost use Rattle.cp_walk.specs.Walked.{AreWalked};
 ghost use Rattle.cp_walk.specs.Rows.{line_of, IsTooMany};
 
-use crate::again::add_again;
+use crate::replay::add_replayed;
 use crate::fault::ExploreFault;
 use crate::row::Row;
-use crate::walked::{Span, Walked};
+use crate::memo::{Span, Walked};
 use crate::word::word_of;
 use arrayvec::ArrayVec;
 use cp_machine::{State, Ticks, Unwatched};
@@ -158,7 +158,7 @@ fn walk_once<S: Ledger, C: Ledger>(
         );
     };
     if let Some(span) = walked.find(&key) {
-        return add_again(alloc, state, span, word.as_slice(), rows);
+        return add_replayed(alloc, state, span, word.as_slice(), rows);
     }
     let first = rows.len();
     walk_from(

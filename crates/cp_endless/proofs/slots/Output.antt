@@ -23,7 +23,7 @@ use Rattle.cp_machine.specs.declared.process.Entry.{Entry}
 use Rattle.cp_machine.specs.declared.process.Entry.TheVariants.{Rest, Successor, Return, InitEnd}
 use Rattle.cp_machine.specs.declared.process.Status.TheVariants.{Delayed}
 use Rattle.cp_machine.specs.declared.shown.Shown.{Shown}
-use Rattle.cp_machine.specs.declared.state.TheConstants.{LIMIT}
+use Rattle.cp_machine.specs.declared.state.TheConstants.{MOST_SHOWN}
 use Rattle.cp_machine.specs.Calls.{left, called, called_in, called_by, start_process, start_inside, started, returned, delayed_in, delay_at, continued_from, continue_at}
 use Rattle.cp_machine.specs.Kernel.{first_in, one_in, let_in, let_in_by, entered, entered_by, delayed, resumed, continued, waits_in}
 use Rattle.cp_machine.specs.Machine.{Machine, thread_at, monitor_at, phase_at, is_initialised, is_uninitialised, is_unstarted, is_ready, is_pending, in_line, waits, with_stack, with_status, with_permanents, with_output}
@@ -41,7 +41,7 @@ use Rattle.cp_endless.specs.Silent.{ShowsLess, SlotsForgetLaw, without_output}
 
 -- ---- two machines, of which the other is the one with another output, `o`, that is no longer
 
-module _ (out o : List Shown) (less : length o ≤ length out) (room : length out ≤ LIMIT) where
+module _ (out o : List Shown) (less : length o ≤ length out) (room : length out ≤ MOST_SHOWN) where
   -- what this machine displayed
   abbrev Shows : Machine → Type 0
   Shows m = m.output ≡ out
@@ -61,7 +61,7 @@ module _ (out o : List Shown) (less : length o ≤ length out) (room : length ou
   TwinsBy f m = Twins (f m) (f (with_output m o))
 
   alike : (m : Machine) → Shows m → Both m (with_output m o)
-  alike m h = record { same = refl; less = subst (λ l. length o ≤ length l) (sym h) less; room = subst (λ l. length l ≤ LIMIT) (sym h) room }
+  alike m h = record { same = refl; less = subst (λ l. length o ≤ length l) (sym h) less; room = subst (λ l. length l ≤ MOST_SHOWN) (sym h) room }
 
   -- whatever is done to a machine, but to its output
   twins : (m : Machine) (event : Event) → Shows m → Twins (record { machine = m; event = event }) (record { machine = with_output m o; event = event })
@@ -177,15 +177,15 @@ module _ (out o : List Shown) (less : length o ≤ length out) (room : length ou
 
   module _ (m : Machine) (h : Shows m) where
     -- where there is room in the first, there is room in the second
-    room_too : (length m.output == LIMIT) ≡ false → (length o == LIMIT) ≡ false
+    room_too : (length m.output == MOST_SHOWN) ≡ false → (length o == MOST_SHOWN) ≡ false
     room_too e =
-        let ne = eqb-false (length m.output) LIMIT e in
+        let ne = eqb-false (length m.output) MOST_SHOWN e in
         let long = ap length h in
-        ne_eqb (length o) LIMIT (λ d. ne (omega (arith, d, long, less, room)))
+        ne_eqb (length o) MOST_SHOWN (λ d. ne (omega (arith, d, long, less, room)))
 
-    one_more : (pid : ℕ) (rest : List Entry) (v : Shown) → (length m.output == LIMIT) ≡ false → Both (with_output (with_stack m pid rest) (m.output ++ v ∷ [])) (with_output (with_stack m pid rest) (o ++ v ∷ []))
+    one_more : (pid : ℕ) (rest : List Entry) (v : Shown) → (length m.output == MOST_SHOWN) ≡ false → Both (with_output (with_stack m pid rest) (m.output ++ v ∷ [])) (with_output (with_stack m pid rest) (o ++ v ∷ []))
     one_more pid rest v e =
-        let ne = eqb-false (length m.output) LIMIT e in
+        let ne = eqb-false (length m.output) MOST_SHOWN e in
         let long = ap length h in
         let mine = length-append m.output (v ∷ []) in
         let theirs = length-append o (v ∷ []) in
@@ -195,17 +195,17 @@ module _ (out o : List Shown) (less : length o ≤ length out) (room : length ou
           room = below (length m.output) mine ne (omega (arith, long, room));
         }
       where
-        below : (n : ℕ) → length (m.output ++ v ∷ []) ≡ n + 1 → (n ≡ LIMIT → ⊥) → n ≤ LIMIT → length (m.output ++ v ∷ []) ≤ LIMIT
+        below : (n : ℕ) → length (m.output ++ v ∷ []) ≡ n + 1 → (n ≡ MOST_SHOWN → ⊥) → n ≤ MOST_SHOWN → length (m.output ++ v ∷ []) ≤ MOST_SHOWN
         below n e ne le =
             ⊎_elim
-            (λ (same : n ≡ LIMIT). absurd (ne same))
-            (λ (apart : (n < LIMIT) ⊎ (LIMIT < n)). ⊎_elim (λ (l : n < LIMIT). omega (arith, e, l)) (λ (l : LIMIT < n). absurd (omega (arith, l, le))) apart)
-            (cases_order n LIMIT)
+            (λ (same : n ≡ MOST_SHOWN). absurd (ne same))
+            (λ (apart : (n < MOST_SHOWN) ⊎ (MOST_SHOWN < n)). ⊎_elim (λ (l : n < MOST_SHOWN). omega (arith, e, l)) (λ (l : MOST_SHOWN < n). absurd (omega (arith, l, le))) apart)
+            (cases_order n MOST_SHOWN)
 
     show_twins : (pid : ℕ) (rest : List Entry) (v : Shown) → TwinsBy (λ x. show x pid rest v) m
-    show_twins pid rest v = by (length m.output == LIMIT) (length o == LIMIT) refl room_too (one_more pid rest v)
+    show_twins pid rest v = by (length m.output == MOST_SHOWN) (length o == MOST_SHOWN) refl room_too (one_more pid rest v)
       where
-        by : (b c : Bool) → (length m.output == LIMIT) ≡ b → (b ≡ false → c ≡ false) → (b ≡ false → Both (with_output (with_stack m pid rest) (m.output ++ v ∷ [])) (with_output (with_stack m pid rest) (o ++ v ∷ []))) →
+        by : (b c : Bool) → (length m.output == MOST_SHOWN) ≡ b → (b ≡ false → c ≡ false) → (b ≡ false → Both (with_output (with_stack m pid rest) (m.output ++ v ∷ [])) (with_output (with_stack m pid rest) (o ++ v ∷ []))) →
             Twins (if b then record { machine = m; event = OutputFull } else record { machine = with_output (with_stack m pid rest) (m.output ++ v ∷ []); event = Kernel call.Display })
             (if c then record { machine = with_output m o; event = OutputFull } else record { machine = with_output (with_stack m pid rest) (o ++ v ∷ []); event = Kernel call.Display })
         by true c e f g = inl refl

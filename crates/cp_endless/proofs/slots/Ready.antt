@@ -21,7 +21,7 @@ use Rattle.cp_machine.specs.declared.process.Entry.{Entry}
 use Rattle.cp_machine.specs.declared.process.Entry.TheVariants.{Rest, Successor, Return, InitEnd}
 use Rattle.cp_machine.specs.declared.process.Status.{Status}
 use Rattle.cp_machine.specs.declared.process.Status.TheVariants.{Ready, AtGate, Delayed, Ended}
-use Rattle.cp_machine.specs.declared.state.TheConstants.{LIMIT}
+use Rattle.cp_machine.specs.declared.state.TheConstants.{MOST_SHOWN}
 use Rattle.cp_machine.specs.Calls.{opened, left, called, called_in, called_by, start_process, start_inside, started, returned, init_ended, delayed_in, delay_at, continued_from, continue_at}
 use Rattle.cp_machine.specs.Kernel.{first_in, one_in, let_in, let_in_by, goes_in, entered, entered_by, delayed, resumed, continued, waits_in}
 use Rattle.cp_machine.specs.Machine.{Machine, Thread, thread_at, no_thread, monitor_at, phase_at, is_initialised, is_uninitialised, is_unstarted, is_ready, is_ready_status, with_thread, with_stack, with_status, with_permanents}
@@ -264,7 +264,7 @@ module _ (r : Tables) (m : Machine) (pid : ℕ) where
   act_keeps at item (Delay place) es = evaluated (address_of m pid place) _ _ (λ e. same) (λ p. delay_at_keeps m pid r m item.line _ p same)
   act_keeps at item (Continue place) es = evaluated (address_of m pid place) _ _ (λ e. same) (λ p. continue_at_keeps m pid r m item.next es p same)
   act_keeps at item (Display value shown) es =
-      evaluated (value_of m pid value) _ _ (λ e. same) (λ v. either_keeps m pid (length m.output == LIMIT) _ _ same (going _))
+      evaluated (value_of m pid value) _ _ (λ e. same) (λ v. either_keeps m pid (length m.output == MOST_SHOWN) _ _ same (going _))
 
   successor_keeps : (at : ℕ) (item : Item) (a : Action) (es : List Entry) (z last : ℤ) → Steps (succeeded m pid at item a es z last)
   successor_keeps at item (For variable low high first end down list) es z last =

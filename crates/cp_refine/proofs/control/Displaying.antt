@@ -18,7 +18,7 @@ use Rattle.cp_machine.specs.declared.event.Kernel.TheVariants as kernel
 use Rattle.cp_machine.specs.declared.process.Entry.{Entry}
 use Rattle.cp_machine.specs.declared.shown.Shown as slot_shown
 use Rattle.cp_machine.specs.declared.shown.Shown.TheVariants as shown_variant
-use Rattle.cp_machine.specs.declared.state.TheConstants.{LIMIT}
+use Rattle.cp_machine.specs.declared.state.TheConstants.{MOST_SHOWN}
 use Rattle.cp_machine.specs.Machine.{Machine, thread_at, with_stack, with_output}
 use Rattle.cp_machine.specs.Memory.{memory_at}
 use Rattle.cp_machine.specs.Stack.{rest_of}
@@ -132,7 +132,7 @@ module _ (g : Ground) (p : Program) (l : Layouts) (s : State) (m : Machine) (q a
       subst (λ (j : Option ℕ). StepIs g p l q line (settled p s q (Ok (shown (view_of p s q) (xs ++ ys) x))) (statements.show m q (rest_of j es) (shown_as (kind_of g.firsts range.base) z))) (sym n)
       (subst (λ (y : slot_shown.Shown). StepIs g p l q line (settled p s q (Ok (shown (view_of p s q) (xs ++ ys) x))) (statements.show m q (rest_of mid es) y)) (sym (shown_same g range.base z h few))
       (subst (λ (y : Typed). StepIs g p l q line (settled p s q (Ok (shown (view_of p s q) (xs ++ ys) y))) (statements.show m q (rest_of mid es) (shown_by g.firsts range.base z))) (sym typed)
-      (go (length s.output == output_room) (length m.output == LIMIT) (ap (λ j. j == output_room) count))))
+      (go (length s.output == output_room) (length m.output == MOST_SHOWN) (ap (λ j. j == output_room) count))))
     where
       typed : x ≡ record { ty = ordinal range; value = number_value z }
       typed = ap (λ (u : Ty). typed_as u x.value) t ∙ ap (λ (v : Value). typed_as (ordinal range) v) w

@@ -12,7 +12,7 @@ use Rattle.cp_store.specs.declared.memory.Address.TheVariants.{Permanent, Local}
 use Rattle.cp_store.specs.declared.memory.Frame.{Frame}
 use Rattle.cp_store.specs.Inside.{HasCells}
 use Rattle.cp_store.specs.Memory.{Memory, moved, onward, stretch}
-use Rattle.cp_store.specs.Places.{begun, distance}
+use Rattle.cp_store.specs.Places.{origin_address, element_offset}
 use Rattle.cp_store.specs.Values.{then_with}
 use Rattle.cp_meaning.specs.Names.{Name, same_name}
 use Rattle.cp_meaning.specs.Outcome.{Outcome, ◌>>=◌, out_of_range}
@@ -63,14 +63,14 @@ module _ (m : Memory) (f : Frame) where
       by_distance rest (Err e) = refl
 
       by_value : ((b : Address) → plain_indexed m f is (moved b k) ≡ then_with (plain_indexed m f is b) (λ b. Ok (moved b k))) → (r : Result ℤ slots.ErrorName) →
-          then_with (then_with r (λ v. then_with (distance low high size v) (λ far. Ok (moved (moved a k) far)))) (λ inner. plain_indexed m f is inner) ≡
-          then_with (then_with (then_with r (λ v. then_with (distance low high size v) (λ far. Ok (moved a far)))) (λ inner. plain_indexed m f is inner)) (λ b. Ok (moved b k))
-      by_value rest (Ok v) = by_distance rest (distance low high size v)
+          then_with (then_with r (λ v. then_with (element_offset low high size v) (λ far. Ok (moved (moved a k) far)))) (λ inner. plain_indexed m f is inner) ≡
+          then_with (then_with (then_with r (λ v. then_with (element_offset low high size v) (λ far. Ok (moved a far)))) (λ inner. plain_indexed m f is inner)) (λ b. Ok (moved b k))
+      by_value rest (Ok v) = by_distance rest (element_offset low high size v)
       by_value rest (Err e) = refl
 
   -- what the last index does
   abbrev last_index : code.Expression → Range → ℕ → Address → Result Address slots.ErrorName
-  last_index c r size b = then_with (plain_value m f c) (λ v. then_with (distance r.low r.high size v) (λ far. Ok (moved b far)))
+  last_index c r size b = then_with (plain_value m f c) (λ v. then_with (element_offset r.low r.high size v) (λ far. Ok (moved b far)))
 
   then_ok : (r : Result Address slots.ErrorName) → then_with r (λ inner. Ok inner) ≡ r
   then_ok (Ok a) = refl
@@ -82,7 +82,7 @@ module _ (m : Memory) (f : Frame) where
 
   indexed_last : (is : code.Indices) (c : code.Expression) (r : Range) (size : ℕ) (a : Address) → plain_indexed m f (compiled.with_index is c r size) a ≡ then_with (plain_indexed m f is a) (last_index c r size)
   indexed_last code.no_indices c r size a = then_ok (last_index c r size a)
-  indexed_last (code.more_indices (code.index d low high n) is) c r size a = go (λ b. indexed_last is c r size b) (then_with (plain_value m f d) (λ v. then_with (distance low high n v) (λ far. Ok (moved a far))))
+  indexed_last (code.more_indices (code.index d low high n) is) c r size a = go (λ b. indexed_last is c r size b) (then_with (plain_value m f d) (λ v. then_with (element_offset low high n v) (λ far. Ok (moved a far))))
     where
       go : ((b : Address) → plain_indexed m f (compiled.with_index is c r size) b ≡ then_with (plain_indexed m f is b) (last_index c r size)) → (x : Result Address slots.ErrorName) → then_with x (λ inner. plain_indexed m f (compiled.with_index is c r size) inner) ≡ then_with (then_with x (λ inner. plain_indexed m f is inner)) (last_index c r size)
       go rest (Ok b) = rest b
@@ -186,8 +186,8 @@ module _ (r : Tables) (l : Layouts) (fs : List Frame) (v : View) (m : Memory) (f
       go p i None k j = absurd (cc)
       go (code.place b offset is) i (Some c) k j =
           subst (DesignatedAgrees r l fs m f (o >>= λ t. Ok (with_field t x))) (some_designated (a_variable (code.place b (offset + c.0) is) c.1) e j)
-          (subst (TargetAgrees r l fs (o >>= λ t. Ok (with_field t x)) c.1) (sym (ap (plain_indexed m f is) (sym (moved_moved (begun m.references f b) offset c.0)) ∙ indexed_further m f is (moved (begun m.references f b) offset) c.0))
-          (field_target ts x c k o (plain_indexed m f is (moved (begun m.references f b) offset)) i))
+          (subst (TargetAgrees r l fs (o >>= λ t. Ok (with_field t x)) c.1) (sym (ap (plain_indexed m f is) (sym (moved_moved (origin_address m.references f b) offset c.0)) ∙ indexed_further m f is (moved (origin_address m.references f b) offset) c.0))
+          (field_target ts x c k o (plain_indexed m f is (moved (origin_address m.references f b) offset)) i))
   field_ok (a_variable p (ordinal q)) e o x i j = absurd (cc)
   field_ok (a_variable p queue_type) e o x i j = absurd (cc)
   field_ok (a_variable p (set_over q)) e o x i j = absurd (cc)
@@ -224,7 +224,7 @@ module _ (r : Tables) (l : Layouts) (fs : List Frame) (v : View) (m : Memory) (f
   element_target q u y a z e i false w = refl
 
   indexed_target : (q : Range) (u t : Ty) (c : code.Expression) (o : Outcome Target) (a : Result Address slots.ErrorName) (i : Outcome Typed) (x : Result ℤ slots.ErrorName) → TargetAgrees r l fs o (array_over q u) a → OrdinalAgrees i t x →
-      TargetAgrees r l fs (o >>= λ t. i >>= λ a. with_index t a) u (then_with a (λ b. then_with x (λ v. then_with (distance q.low q.high (cells_of u) v) (λ far. Ok (moved b far)))))
+      TargetAgrees r l fs (o >>= λ t. i >>= λ a. with_index t a) u (then_with a (λ b. then_with x (λ v. then_with (element_offset q.low q.high (cells_of u) v) (λ far. Ok (moved b far)))))
   indexed_target q u t c (Err e) (Err d) i x j k = j
   indexed_target q u t c (Ok y) (Err d) i x j k = absurd j
   indexed_target q u t c (Err e) (Ok a) i x j k = absurd j
@@ -232,8 +232,8 @@ module _ (r : Tables) (l : Layouts) (fs : List Frame) (v : View) (m : Memory) (f
   indexed_target q u t c (Ok y) (Ok a) (Ok w) (Err d) j k = absurd k
   indexed_target q u t c (Ok y) (Ok a) (Err e) (Ok z) j k = absurd k
   indexed_target q u t c (Ok y) (Ok a) (Ok w) (Ok z) j k =
-      subst (λ (n : ℤ). TargetAgrees r l fs (with_element_of y.ty y n) u (then_with (distance q.low q.high (cells_of u) z) (λ far. Ok (moved a far)))) (sym (ap number_of k.1))
-      (subst (λ (s : Ty). TargetAgrees r l fs (with_element_of s y z) u (then_with (distance q.low q.high (cells_of u) z) (λ far. Ok (moved a far)))) (sym j.0)
+      subst (λ (n : ℤ). TargetAgrees r l fs (with_element_of y.ty y n) u (then_with (element_offset q.low q.high (cells_of u) z) (λ far. Ok (moved a far)))) (sym (ap number_of k.1))
+      (subst (λ (s : Ty). TargetAgrees r l fs (with_element_of s y z) u (then_with (element_offset q.low q.high (cells_of u) z) (λ far. Ok (moved a far)))) (sym j.0)
       (element_target q u y a z j.0 j.1 (is_within q z) refl))
 
   element_ok : (d e : Designated) (o : Outcome Target) (t : Ty) (c : code.Expression) (i : Outcome Typed) → DesignatedAgrees r l fs m f o d → OrdinalAgrees i t (plain_value m f c) → with_element_form h d c ≡ Some e → DesignatedAgrees r l fs m f (o >>= λ t. i >>= λ a. with_index t a) e
@@ -241,8 +241,8 @@ module _ (r : Tables) (l : Layouts) (fs : List Frame) (v : View) (m : Memory) (f
   element_ok (a_component d k) e o t c i j n w = absurd (cc)
   element_ok (a_variable (code.place b offset is) (array_over q u)) e o t c i j n w =
       subst (DesignatedAgrees r l fs m f (o >>= λ t. i >>= λ a. with_index t a)) (some_designated (a_variable (code.place b offset (compiled.with_index is c q (cells_of u))) u) e w)
-      (subst (TargetAgrees r l fs (o >>= λ t. i >>= λ a. with_index t a) u) (sym (indexed_last m f is c q (cells_of u) (moved (begun m.references f b) offset)))
-      (indexed_target q u t c o (plain_indexed m f is (moved (begun m.references f b) offset)) i (plain_value m f c) j n))
+      (subst (TargetAgrees r l fs (o >>= λ t. i >>= λ a. with_index t a) u) (sym (indexed_last m f is c q (cells_of u) (moved (origin_address m.references f b) offset)))
+      (indexed_target q u t c o (plain_indexed m f is (moved (origin_address m.references f b) offset)) i (plain_value m f c) j n))
   element_ok (a_variable p (ordinal q)) e o t c i j n w = absurd (cc)
   element_ok (a_variable p queue_type) e o t c i j n w = absurd (cc)
   element_ok (a_variable p (set_over q)) e o t c i j n w = absurd (cc)

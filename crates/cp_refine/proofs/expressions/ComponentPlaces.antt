@@ -12,7 +12,7 @@ use Rattle.cp_store.specs.declared.error.ErrorName.TheVariants as error
 use Rattle.cp_store.specs.declared.memory.Frame.{Frame}
 use Rattle.cp_store.specs.Components.{component_at}
 use Rattle.cp_store.specs.Memory.{Memory, onward, stretch}
-use Rattle.cp_store.specs.Places.{distance}
+use Rattle.cp_store.specs.Places.{element_offset}
 use Rattle.cp_store.specs.Values.{then_with}
 use Rattle.cp_meaning.specs.Components.{Path, step_down, same_path}
 use Rattle.cp_meaning.specs.Names.{Name}
@@ -47,13 +47,13 @@ use Rattle.cp_refine.proofs.expressions.Views.{views_agree}
 abbrev pub plain_component : Memory → List ℕ → Frame → code.ComponentPlace → Result ℕ slots.ErrorName
 plain_component m bindings f code.own = Ok f.component
 plain_component m bindings f (code.contained n) = Ok (onward f.component n)
-plain_component m bindings f (code.element first low high stride c) = then_with (plain_value m f c) (λ i. then_with (distance low high stride i) (λ far. Ok (onward (onward f.component first) far)))
+plain_component m bindings f (code.element first low high stride c) = then_with (plain_value m f c) (λ i. then_with (element_offset low high stride i) (λ far. Ok (onward (onward f.component first) far)))
 plain_component m bindings f (code.parameter slot) = Ok (slice_index_or bindings (onward f.own slot) 0)
 
 pub component_seen_is : (m : Memory) (bindings : List ℕ) (f : Frame) (c : ComponentPlace) → component_at m bindings f c ≡ plain_component m bindings f (code.component_seen c)
 component_seen_is m bindings f Own = refl
 component_seen_is m bindings f (Contained n) = refl
-component_seen_is m bindings f (Element first low high stride e) = ap (λ r. then_with r (λ i. then_with (distance low high stride i) (λ far. Ok (onward (onward f.component first) far)))) (views_agree.value m f e.value)
+component_seen_is m bindings f (Element first low high stride e) = ap (λ r. then_with r (λ i. then_with (element_offset low high stride i) (λ far. Ok (onward (onward f.component first) far)))) (views_agree.value m f e.value)
 component_seen_is m bindings f (Parameter slot) = refl
 
 -- ---- what is known of the component that executes
@@ -225,14 +225,14 @@ module _ (r : Tables) (l : Layouts) (fs : List Frame) (v : View) (m : Memory) (f
       ∙ ap (λ j. onward (onward f.component first) (stretch j (h.layouts.systems n).count)) (sym (natural_is (z +ℤ neg_ℤ q.low) (above_low q.low q.high z e))))
 
   index_number : (first n : ℕ) (q : Range) (t : Ty) (o : Outcome Target) (i : Outcome Typed) (s : Result ℤ slots.ErrorName) → ArrayAgrees o first q n → OrdinalAgrees i t s →
-      NumberAgrees (o >>= λ u. i >>= λ x. with_index u x) (then_with s (λ z. then_with (distance q.low q.high (h.layouts.systems n).count z) (λ far. Ok (onward (onward f.component first) far))))
+      NumberAgrees (o >>= λ u. i >>= λ x. with_index u x) (then_with s (λ z. then_with (element_offset q.low q.high (h.layouts.systems n).count z) (λ far. Ok (onward (onward f.component first) far))))
   index_number first n q t (Err e) i s k j = absurd k
   index_number first n q t (Ok u) (Err e) (Err d) k j = j
   index_number first n q t (Ok u) (Err e) (Ok z) k j = absurd j
   index_number first n q t (Ok u) (Ok x) (Err d) k j = absurd j
   index_number first n q t (Ok u) (Ok x) (Ok z) k j =
-      subst (λ (y : ℤ). NumberAgrees (with_element_of u.ty u y) (then_with (distance q.low q.high (h.layouts.systems n).count z) (λ far. Ok (onward (onward f.component first) far)))) (sym (ap number_of j.1))
-      (subst (λ (y : Ty). NumberAgrees (with_element_of y u z) (then_with (distance q.low q.high (h.layouts.systems n).count z) (λ far. Ok (onward (onward f.component first) far)))) (sym k.0) (element_number first n q u z k (is_within q z) refl))
+      subst (λ (y : ℤ). NumberAgrees (with_element_of u.ty u y) (then_with (element_offset q.low q.high (h.layouts.systems n).count z) (λ far. Ok (onward (onward f.component first) far)))) (sym (ap number_of j.1))
+      (subst (λ (y : Ty). NumberAgrees (with_element_of y u z) (then_with (element_offset q.low q.high (h.layouts.systems n).count z) (λ far. Ok (onward (onward f.component first) far)))) (sym k.0) (element_number first n q u z k (is_within q z) refl))
 
   element_agrees : (d w : Designated) (o : Outcome Target) (t : Ty) (c : code.Expression) (i : Outcome Typed) → NamedAgrees o d → OrdinalAgrees i t (plain_value m f c) → with_element_form h d c ≡ Some w → NamedAgrees (o >>= λ u. i >>= λ x. with_index u x) w
   element_agrees (a_variable p u) w o t c i k j e = of_variable _ w (element_variable u p c w e)

@@ -9,7 +9,7 @@ use Rattle.cp_store.specs.declared.memory.Address.TheVariants.{Permanent, Local}
 use Rattle.cp_store.specs.declared.memory.Frame.{Frame}
 use Rattle.cp_store.specs.Inside.{HasCells}
 use Rattle.cp_store.specs.Memory.{Memory, moved, onward}
-use Rattle.cp_store.specs.Places.{begun, referred}
+use Rattle.cp_store.specs.Places.{origin_address, referred}
 use Rattle.cp_tree.specs.Syntax.{Routine, Program}
 use Rattle.cp_meaning.specs.Names.{Name, temporary, result_name}
 use Rattle.cp_meaning.specs.Types.{Range, Ty, ordinal, queue_type, set_over, array_over, record_with, component_of}
@@ -99,11 +99,11 @@ module _ (g : Ground) (p : Program) (l : Layouts) (comps : List Component) (c : 
   frame_is = ap (λ n. if length fs == n then Some f else frame_above fs n) (top ∙ as_many) ∙ ap (λ (b : Bool). if b then Some f else frame_above fs (length fs)) (eq-eqb (length fs) (length fs) refl)
 
   -- a variable of the innermost call
-  local_place : (x : Name) (t : Ty) → look x (l.frames f.routine).variables ≡ Some t → PlaceAt g.tables l (f ∷ fs) (plain_place (this_call v) x) t (moved (begun m.references f ((l.frames f.routine).origins x)) 0)
+  local_place : (x : Name) (t : Ty) → look x (l.frames f.routine).variables ≡ Some t → PlaceAt g.tables l (f ∷ fs) (plain_place (this_call v) x) t (moved (origin_address m.references f ((l.frames f.routine).origins x)) 0)
   local_place x t k =
       let lies = call_holds.variables x t k in
-      let here : begun m.references f ((l.frames f.routine).origins x) ≡ Local (f.base + cell_named (l.frames f.routine) x) =
-      ap (begun m.references f) (rout.frame.local x t k) ∙ ap Local (onward_is f.base (cell_named (l.frames f.routine) x) (let a = lies.cells in let b = few.cells in omega (arith, a, b))) in
+      let here : origin_address m.references f ((l.frames f.routine).origins x) ≡ Local (f.base + cell_named (l.frames f.routine) x) =
+      ap (origin_address m.references f) (rout.frame.local x t k) ∙ ap Local (onward_is f.base (cell_named (l.frames f.routine) x) (let a = lies.cells in let b = few.cells in omega (arith, a, b))) in
       record {
         whole = t;
         first = Local (f.base + cell_named (l.frames f.routine) x);
@@ -124,18 +124,18 @@ module _ (g : Ground) (p : Program) (l : Layouts) (comps : List Component) (c : 
   local_agrees x t (inl k) =
       let e : refers_to (content_of x (environment_of v (this_call v))) (plain_place (this_call v) x) ≡ plain_place (this_call v) x =
       ap (λ env. refers_to (content_of x env) (plain_place (this_call v) x)) environment_is ∙ referred_plain (content_of x c.environment) (plain_place (this_call v) x) (λ y d. call_holds.plain x t y k d) in
-      (refl, subst (λ q. PlaceAt g.tables l (f ∷ fs) q t (moved (begun m.references f ((l.frames f.routine).origins x)) 0)) (sym e) (local_place x t k))
+      (refl, subst (λ q. PlaceAt g.tables l (f ∷ fs) q t (moved (origin_address m.references f ((l.frames f.routine).origins x)) 0)) (sym e) (local_place x t k))
   local_agrees x t (inr k) =
       let w = call_holds.references x t k in
       let e : refers_to (content_of x (environment_of v (this_call v))) (plain_place (this_call v) x) ≡ w.0 =
       ap (λ env. refers_to (content_of x env) (plain_place (this_call v) x)) environment_is ∙ ap (λ o. refers_to o (plain_place (this_call v) x)) w.1 in
       let place = place_more g.tables l f fs w.0 t (referred m.references (f.references + cell_named (l.frames f.routine) x)) w.2 in
       let lies = place_lies g.tables l (f ∷ fs) v m all w.0 t (referred m.references (f.references + cell_named (l.frames f.routine) x)) place in
-      let here : begun m.references f ((l.frames f.routine).origins x) ≡ referred m.references (f.references + cell_named (l.frames f.routine) x) =
-      ap (begun m.references f) (rout.frame.reference x t k) ∙ ap (referred m.references) (onward_is f.references (cell_named (l.frames f.routine) x) (numbered (cell_named (l.frames f.routine) x) (rout.frame.numbered x t k).0)) in
-      let same : referred m.references (f.references + cell_named (l.frames f.routine) x) ≡ moved (begun m.references f ((l.frames f.routine).origins x)) 0 =
+      let here : origin_address m.references f ((l.frames f.routine).origins x) ≡ referred m.references (f.references + cell_named (l.frames f.routine) x) =
+      ap (origin_address m.references f) (rout.frame.reference x t k) ∙ ap (referred m.references) (onward_is f.references (cell_named (l.frames f.routine) x) (numbered (cell_named (l.frames f.routine) x) (rout.frame.numbered x t k).0)) in
+      let same : referred m.references (f.references + cell_named (l.frames f.routine) x) ≡ moved (origin_address m.references f ((l.frames f.routine).origins x)) 0 =
       sym (ap (λ a. moved a 0) here ∙ (moved_none m (referred m.references (f.references + cell_named (l.frames f.routine) x)) (cells_of t) few lies.cells ∙ further_none (referred m.references (f.references + cell_named (l.frames f.routine) x)))) in
-      (refl, subst (λ q. PlaceAt g.tables l (f ∷ fs) q t (moved (begun m.references f ((l.frames f.routine).origins x)) 0)) (sym e) (subst (PlaceAt g.tables l (f ∷ fs) w.0 t) same place))
+      (refl, subst (λ q. PlaceAt g.tables l (f ∷ fs) q t (moved (origin_address m.references f ((l.frames f.routine).origins x)) 0)) (sym e) (subst (PlaceAt g.tables l (f ∷ fs) w.0 t) same place))
 
   -- a permanent variable of the component
   permanent_agrees : (x : Name) (t : Ty) → look x (l.systems (l.owners f.routine)).variables ≡ Some t →
@@ -145,10 +145,10 @@ module _ (g : Ground) (p : Program) (l : Layouts) (comps : List Component) (c : 
       let known : look x (l.systems (component_at g.tables f.component).system).variables ≡ Some t = subst (λ n. look x (l.systems n).variables ≡ Some t) system k in
       let lies = all.components f.component x t call_is.there known in
       let slot_is : (l.systems (l.owners f.routine)).slots x ≡ (l.systems (component_at g.tables f.component).system).slots x = ap (λ n. (l.systems n).slots x) system in
-      let here : begun m.references f (origin.Permanent ((l.systems (l.owners f.routine)).slots x)) ≡ Permanent ((component_at g.tables f.component).base + (l.systems (component_at g.tables f.component).system).slots x) =
+      let here : origin_address m.references f (origin.Permanent ((l.systems (l.owners f.routine)).slots x)) ≡ Permanent ((component_at g.tables f.component).base + (l.systems (component_at g.tables f.component).system).slots x) =
       ap (λ n. Permanent (onward n ((l.systems (l.owners f.routine)).slots x))) call_is.own ∙ (ap (λ n. Permanent (onward (component_at g.tables f.component).base n)) slot_is ∙ ap Permanent (onward_is (component_at g.tables f.component).base ((l.systems (component_at g.tables f.component).system).slots x) (let a = lies.cells in let b = few.permanents in omega (arith, a, b)))) in (
         refl,
-        subst (λ n. PlaceAt g.tables l (f ∷ fs) (plain_place (in_component n) x) t (moved (begun m.references f (origin.Permanent ((l.systems (l.owners f.routine)).slots x))) 0)) (sym call_is.component)
+        subst (λ n. PlaceAt g.tables l (f ∷ fs) (plain_place (in_component n) x) t (moved (origin_address m.references f (origin.Permanent ((l.systems (l.owners f.routine)).slots x))) 0)) (sym call_is.component)
             (record {
               whole = t;
               first = Permanent ((component_at g.tables f.component).base + (l.systems (component_at g.tables f.component).system).slots x);

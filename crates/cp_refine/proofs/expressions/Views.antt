@@ -14,7 +14,7 @@ use Rattle.cp_store.specs.declared.memory.Address.{Address}
 use Rattle.cp_store.specs.declared.memory.Frame.{Frame}
 use Rattle.cp_store.specs.Memory.{Memory, moved}
 use Rattle.cp_store.specs.Places as places
-use Rattle.cp_store.specs.Places.{ToValue, ToSet, ToElement, ToAddress, begun, loaded, value_at, set_at, address_at, element_at, indexed_at}
+use Rattle.cp_store.specs.Places.{ToValue, ToSet, ToElement, ToAddress, origin_address, loaded, value_at, set_at, address_at, element_at, indexed_at}
 use Rattle.cp_store.specs.Sets as sets
 use Rattle.cp_store.specs.Values.{then_with, ranged, truth, is_true, negated, absolute, successor, predecessor, calculated, combined, compared}
 use Rattle.cp_refine.specs.PlainValues.{plain_value, plain_set, plain_address, plain_indexed, ViewsAgree}
@@ -142,7 +142,7 @@ set_layer (SetExpression-F.With a e) m f = set_by (bare_set (SetExpression-F.Wit
 set_layer (SetExpression-F.Combine o a b) m f = set_by (bare_set (SetExpression-F.Combine o a b)) m f (both_same (λ s t. Ok (sets.combined o s t)) _ _ _ _ (a.value.1 m f) (b.value.1 m f))
 
 index_layer : (y : Index-F Values Sets Elements Variables) → IsIndex (roll-Index (bare_index y))
-index_layer y m f is at = element_by (bare_index y) m f is at (ap (λ r. then_with (then_with r (λ v. then_with (places.distance y.low y.high y.size v) (λ far. Ok (moved at far)))) (λ inner. plain_indexed m f is inner)) (y.at.1 m f))
+index_layer y m f is at = element_by (bare_index y) m f is at (ap (λ r. then_with (then_with r (λ v. then_with (places.element_offset y.low y.high y.size v) (λ far. Ok (moved at far)))) (λ inner. plain_indexed m f is inner)) (y.at.1 m f))
 
 -- one index after the other
 indexed_layer : (is : List Elements) (m : Memory) (f : Frame) (at : Address) → places.through (map element_at (map (λ i. i.0) is)) m f at ≡ plain_indexed m f (code.indices_of (map code.index_seen (map (λ i. i.0) is))) at
@@ -154,7 +154,7 @@ indexed_layer (i ∷ is) m f at = go (λ inner. indexed_layer is m f inner) (ele
     go rest (Err e) = refl
 
 place_layer : (y : Place-F Values Sets Elements Variables) → IsPlace (roll-Place (bare_place y))
-place_layer y m f = address_by (bare_place y) m f (indexed_layer y.indices.items m f (moved (begun m.references f y.origin) y.offset))
+place_layer y m f = address_by (bare_place y) m f (indexed_layer y.indices.items m f (moved (origin_address m.references f y.origin) y.offset))
 
 -- ---- all layers
 

@@ -21,7 +21,7 @@ use Rattle.cp_store.specs.Values.{is_true, ranged}
 use Rattle.cp_machine.specs.declared.process.Entry.{Entry}
 use Rattle.cp_machine.specs.declared.process.Entry.TheVariants.{Rest, Successor, Return, InitEnd}
 use Rattle.cp_machine.specs.declared.shown.Shown.{Shown}
-use Rattle.cp_machine.specs.declared.state.TheConstants.{LIMIT}
+use Rattle.cp_machine.specs.declared.state.TheConstants.{MOST_SHOWN}
 use Rattle.cp_machine.specs.Calls as calls
 use Rattle.cp_machine.specs.Machine.{Machine, thread_at, phase_at, is_initialised, is_uninitialised, is_unstarted, with_stack}
 use Rattle.cp_machine.specs.Memory.{value_of, set_of, address_of, component_of, arguments_of}
@@ -52,7 +52,7 @@ module _ (m : Machine) (pid : ℕ) where
   -- ---- statements
 
   shown_so : (rest : List Entry) (v : Shown) → Kept (statements.show m pid rest v)
-  shown_so rest v = either_so (length m.output == LIMIT) _ _ (λ h. refl) (λ h. absurd (cc))
+  shown_so rest v = either_so (length m.output == MOST_SHOWN) _ _ (λ h. refl) (λ h. absurd (cc))
 
   from_so : (line at : ℕ) (variable : Origin) (low high : ℤ) (down : Bool) (list next : Option ℕ) (es : List Entry) (first last : ℤ) → Kept (statements.for_from m pid line at variable low high down list next es first last)
   from_so line at variable low high down list next es first last =

@@ -1,7 +1,7 @@
 use Rattle.std.proofs.Common.{[], ◌≡◌, ◌∙◌, ◌≤◌, ap, arith, length, subst, sym}
 use Rattle.std.specs.Prelude.{vec_len}
 use Rattle.std.proofs.lemmas.List.{append-nil, length-map}
-use Rattle.cp_machine.specs.declared.state.TheConstants.{LIMIT}
+use Rattle.cp_machine.specs.declared.state.TheConstants.{MOST_SHOWN}
 use Rattle.cp_machine.specs.Fits.{LinesFit, MachineFits}
 use Rattle.cp_machine.specs.Machine.{thread_of}
 use Rattle.cp_machine.specs.Reach.{Reaches}
@@ -45,5 +45,5 @@ returns-clause-own c = λ r m own its e.
     let output = c.thaw_state.new.state.output in
     let long : length output.items ≡ length m.output = ap (λ x. length x.output) read in
     let len : vec_len output ≡ length output.items = output.ok.0 in
-    let few : vec_len output ≤ LIMIT = omega (arith, its.shown, long, len) in
+    let few : vec_len output ≤ MOST_SHOWN = omega (arith, its.shown, long, len) in
     record { sound = own.sound; fits = subst (MachineFits r) (sym read) its.fits; lines = subst LinesFit (sym read) its.lines; reach = subst (Reaches r) (sym read) its.reach; reserved = c.thaw_state.ensures.reserved r own.reserved few })

@@ -10,11 +10,11 @@ use Rattle.cp_tree.proofs.read_expression.+expression.Goals as goal
 
 pub expression-returns : goal.expression-returns
 unfolding expression factor_at
-expression-returns t c = rw (turns.deeper (λ n. expression n c.args.cursor.now) c.args.budget (omega arith)) c.related.ensures
+expression-returns t c = rw (turns.deeper (λ n. expression n c.args.cursor.now) c.args.budget (omega arith)) c.expression_within.ensures
 
-pub deeper-returns : goal.deeper-returns
+pub deeper_factor-returns : goal.deeper_factor-returns
 unfolding deeper factor_at
-deeper-returns t c = rw (turns.deeper (λ n. deeper n c.args.cursor.now) c.args.budget (omega arith)) c.factor.ensures
+deeper_factor-returns t c = rw (turns.deeper (λ n. deeper n c.args.cursor.now) c.args.budget (omega arith)) c.factor.ensures
 
 pub added_terms-loop-turn-init : goal.added_terms-loop-turn-init
 unfolding many_after

@@ -8,14 +8,14 @@ use Rattle.cp_tree.proofs.read_expression.+expression.Given as goal
 abbrev pub decreases-expression : goal.decreases-expression
 decreases-expression l = 16 * l.budget
 
-abbrev pub decreases-deeper : goal.decreases-deeper
-decreases-deeper l = 16 * l.budget
+abbrev pub decreases-deeper_factor : goal.decreases-deeper_factor
+decreases-deeper_factor l = 16 * l.budget
 
-abbrev pub decreases-negated : goal.decreases-negated
-decreases-negated l = 16 * l.budget + 1
+abbrev pub decreases-factor_after_not : goal.decreases-factor_after_not
+decreases-factor_after_not l = 16 * l.budget + 1
 
-abbrev pub decreases-grouped : goal.decreases-grouped
-decreases-grouped l = 16 * l.budget + 1
+abbrev pub decreases-expression_inside : goal.decreases-expression_inside
+decreases-expression_inside l = 16 * l.budget + 1
 
 abbrev pub decreases-expressions : goal.decreases-expressions
 decreases-expressions l = 16 * l.budget + 1
@@ -50,8 +50,8 @@ decreases-added_terms l = 16 * l.budget + 7
 abbrev pub decreases-sum : goal.decreases-sum
 decreases-sum l = 16 * l.budget + 8
 
-abbrev pub decreases-related : goal.decreases-related
-decreases-related l = 16 * l.budget + 9
+abbrev pub decreases-expression_within : goal.decreases-expression_within
+decreases-expression_within l = 16 * l.budget + 9
 
 abbrev pub invariant-added_terms-loop-turn : goal.invariant-added_terms-loop-turn
 invariant-added_terms-loop-turn l = many_after [] (next_term (factor_at l.budget)) l.initial.cursor

@@ -10,7 +10,7 @@ use Rattle.cp_walk.specs.Beginnings.{beginnings, words_in}
 use Rattle.cp_walk.specs.Rows.{line_of, IsTooMany}
 use Rattle.cp_walk.specs.Walk.{behind, walk, IsDue}
 use Rattle.cp_walk.specs.Walked.{begun, within_span, AreWalked, IsWalked}
-use Rattle.cp_walk.specs.declared.walked.Span.{Span}
+use Rattle.cp_walk.specs.declared.memo.Span.{Span}
 use Rattle.cp_key.specs.Key.{core_key}
 use Rattle.cp_walk.proofs.Branches.{walk_over, walk_limit, one_behind, not_ended, append_none, all_parts}
 use Rattle.cp_walk.proofs.Calling.{calls_leaf, if_ok}
@@ -283,8 +283,8 @@ walk_child-returns-in_err-walk_once-clause-many g t c =
     let same = ap (λ x. length (walk sys c.args.limits.steps n x)) c.choose-halt.ensures.node in
     err_as c.from_residual.result _ (λ e. IsTooMany e → 50000 < length c.args.rows.now.items + length (walk sys c.args.limits.steps n (chosen sys c.args.limits.steps (machine_of c.args.state.now) c.args.process))) c.from_residual.ensures.1 (λ f h many. let more = c.in_err-walk_once.ensures.many (subst IsTooMany h many) in omega (arith, same, more))
 
-pub walk_once-add_again-requires-clause-some : goal.walk_once-add_again-requires-clause-some
-walk_once-add_again-requires-clause-some g t c =
+pub walk_once-add_replayed-requires-clause-some : goal.walk_once-add_replayed-requires-clause-some
+walk_once-add_replayed-requires-clause-some g t c =
     let s = machine_of c.args.state.now in
     let r = c.args.program.now in
     let gates = c.args.limits.gates in
@@ -302,8 +302,8 @@ walk_once-add_again-requires-clause-some g t c =
     let some = known.some in
     omega (arith, some)
 
-pub walk_once-add_again-requires-clause-within : goal.walk_once-add_again-requires-clause-within
-walk_once-add_again-requires-clause-within g t c =
+pub walk_once-add_replayed-requires-clause-within : goal.walk_once-add_replayed-requires-clause-within
+walk_once-add_replayed-requires-clause-within g t c =
     let s = machine_of c.args.state.now in
     let r = c.args.program.now in
     let gates = c.args.limits.gates in
@@ -339,7 +339,7 @@ walk_once-returns-in-Some-find-clause-rows g t c =
     let walked : AreWalked (slots r gates) steps choices rows nodes = subst (AreWalked (slots r gates) steps choices rows) (sym c.key_of.ensures.nodes) c.requires.walked in
     let known = known_node r gates steps choices rows nodes s left word span key keyed walked (sym c.find.ensures ∙ c.in-Some-find.is) c.requires.deep in
     let due = not_ended c.args.halt c.in_default.not-Ended in
-    ok_as c.add_again.result _ (λ _. map line_of c.add_again.new.rows.items ≡ rows ++ map (behind word) (walk (slots r gates) steps left (node_of c.args.halt s))) c.add_again.ensures.rows (λ a h. h ∙ ap (λ w. rows ++ map (begun w s.output) (within_span span rows)) c.as_slice.ensures.value ∙ ap (λ ls. rows ++ ls) known.same ∙ ap (λ k. rows ++ map (behind word) (walk (slots r gates) steps left (node_of k s))) (sym due))
+    ok_as c.add_replayed.result _ (λ _. map line_of c.add_replayed.new.rows.items ≡ rows ++ map (behind word) (walk (slots r gates) steps left (node_of c.args.halt s))) c.add_replayed.ensures.rows (λ a h. h ∙ ap (λ w. rows ++ map (begun w s.output) (within_span span rows)) c.as_slice.ensures.value ∙ ap (λ ls. rows ++ ls) known.same ∙ ap (λ k. rows ++ map (behind word) (walk (slots r gates) steps left (node_of k s))) (sym due))
 
 pub walk_once-returns-in-Some-find-clause-walked : goal.walk_once-returns-in-Some-find-clause-walked
 walk_once-returns-in-Some-find-clause-walked g t c =
@@ -357,7 +357,7 @@ walk_once-returns-in-Some-find-clause-walked g t c =
     let keyed : key ≡ left ∷ core_key s = subst (λ o. IfSome o (λ k. k.bytes.items ≡ left ∷ core_key s)) c.in-Some.is c.in-Ok.ensures.key in
     let walked : AreWalked (slots r gates) steps choices rows nodes = subst (AreWalked (slots r gates) steps choices rows) (sym c.key_of.ensures.nodes) c.requires.walked in
     let known = known_node r gates steps choices rows nodes s left word span key keyed walked (sym c.find.ensures ∙ c.in-Some-find.is) c.requires.deep in
-    ok_as c.add_again.result _ _ c.add_again.ensures.rows (λ a h. subst (λ ls. AreWalked (slots r gates) steps choices ls nodes) (sym h) (walked_more (slots r gates) steps choices rows _ nodes walked))
+    ok_as c.add_replayed.result _ _ c.add_replayed.ensures.rows (λ a h. subst (λ ls. AreWalked (slots r gates) steps choices ls nodes) (sym h) (walked_more (slots r gates) steps choices rows _ nodes walked))
 
 pub walk_once-returns-in-Some-find-clause-many : goal.walk_once-returns-in-Some-find-clause-many
 walk_once-returns-in-Some-find-clause-many g t c =
@@ -378,7 +378,7 @@ walk_once-returns-in-Some-find-clause-many g t c =
     let due = not_ended c.args.halt c.in_default.not-Ended in
     let count = known.count in
     let same = ap (λ h. length (walk (slots r gates) steps left (node_of h s))) due in
-    err_then c.add_again.result _ (λ e. IsTooMany e → 50000 < length c.args.rows.now.items + length (walk (slots r gates) steps left (node_of c.args.halt s))) c.add_again.ensures.many (λ e h many. let more = h many in omega (arith, more, count, same))
+    err_then c.add_replayed.result _ (λ e. IsTooMany e → 50000 < length c.args.rows.now.items + length (walk (slots r gates) steps left (node_of c.args.halt s))) c.add_replayed.ensures.many (λ e h many. let more = h many in omega (arith, more, count, same))
 
 pub walk_once-returns-in-Some-find-clause-some : goal.walk_once-returns-in-Some-find-clause-some
 walk_once-returns-in-Some-find-clause-some g t c =
@@ -400,7 +400,7 @@ walk_once-returns-in-Some-find-clause-some g t c =
     let count = known.count in
     let some = known.some in
     let same = ap (λ h. length (walk (slots r gates) steps left (node_of h s))) due in
-    if_ok _ c.add_again.result (omega (arith, some, count, same))
+    if_ok _ c.add_replayed.result (omega (arith, some, count, same))
 
 pub walk_once-returns-in-Some-find-clause-calls : goal.walk_once-returns-in-Some-find-clause-calls
 walk_once-returns-in-Some-find-clause-calls g t c =
@@ -423,7 +423,7 @@ walk_once-returns-in-Some-find-clause-calls g t c =
     let some = known.some in
     let same = ap (λ h. length (walk (slots r gates) steps left (node_of h s))) due in
     let begun_by = some_beginnings (walk (slots r gates) steps left (node_of c.args.halt s)) (omega (arith, some, count, same)) in
-    if_ok _ c.add_again.result (omega (arith, begun_by))
+    if_ok _ c.add_replayed.result (omega (arith, begun_by))
 
 pub walk_once-returns-clause-walked : goal.walk_once-returns-clause-walked
 walk_once-returns-clause-walked g t c =

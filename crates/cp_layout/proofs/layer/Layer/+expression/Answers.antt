@@ -10,11 +10,11 @@ use Rattle.cp_layout.proofs.Around.{field_laid, element_laid}
 use Rattle.cp_layout.proofs.Laid.{arguments_none, arguments_step, elements_none, elements_step, factors_none, factors_step, selectors_none, selectors_step, sum_laid, term_laid, terms_none, terms_step, with_front}
 use Rattle.cp_layout.proofs.layer.Layer.+expression.Goals as goal
 
-pub selected-returns-in-Field : goal.selected-returns-in-Field
-selected-returns-in-Field t c = field_laid c.args.node.now (designated_seen c.args.whole) c.args.self.now c.in-Field.name c.in-Field.is (designated_seen c.field.result) c.field.ensures
+pub part_of-returns-in-Field : goal.part_of-returns-in-Field
+part_of-returns-in-Field t c = field_laid c.args.node.now (designated_seen c.args.whole) c.args.self.now c.in-Field.name c.in-Field.is (designated_seen c.field.result) c.field.ensures
 
-pub selected-returns-in_ok-expression-in-Index : goal.selected-returns-in_ok-expression-in-Index
-selected-returns-in_ok-expression-in-Index t c =
+pub part_of-returns-in_ok-expression-in-Index : goal.part_of-returns-in_ok-expression-in-Index
+part_of-returns-in_ok-expression-in-Index t c =
     element_laid c.args.node.now (designated_seen c.args.whole) (layer_seen c.args.self.now) c.expression.new.self c.in-Index.index (value_seen c.in_ok-expression-in-Index.field-0) (expression_seen c.ordinal-index.result) c.element.result c.in-Index.is
     c.in_ok-expression-in-Index.ensures c.ordinal-index.ensures c.element.ensures
 
@@ -23,7 +23,7 @@ selected-returns-in_ok-expression-in-Index t c =
 pub selectors-loop-node-preserved : goal.selectors-loop-node-preserved
 selectors-loop-node-preserved t c =
     c.loop-node.invariant
-    ∙ selectors_step (layer_seen c.loop-node.self) (designated_seen c.loop-node.whole) c.args.nodes.now c.loop-node.node-index c.node-item.result c.loop-node-test.true c.node-item.is (designated_seen c.in_ok-whole.whole) (layer_seen c.selected.new.self)
+    ∙ selectors_step (layer_seen c.loop-node.self) (designated_seen c.loop-node.whole) c.args.nodes.now c.loop-node.node-index c.node-item.result c.loop-node-test.true c.node-item.is (designated_seen c.in_ok-whole.whole) (layer_seen c.part_of.new.self)
     c.in_ok-whole.ensures
 
 pub elements-loop-node-preserved : goal.elements-loop-node-preserved

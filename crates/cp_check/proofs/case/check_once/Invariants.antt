@@ -1,7 +1,7 @@
 use Rattle.std.proofs.Common.{◌≡◌, [], drop, take}
 use Rattle.cp_check.specs.Cases as spec
 use Rattle.cp_check.proofs.Numbers.{numbers_of}
-use Rattle.cp_check.proofs.case.all_once.Given as goal
+use Rattle.cp_check.proofs.case.check_once.Given as goal
 
 -- what is left leads where all lead, and the numbers are those of the labels so far
 abbrev pub invariant-loop-label : goal.invariant-loop-label

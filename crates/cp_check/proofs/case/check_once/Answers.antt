@@ -4,7 +4,7 @@ use mir.Val.{SFits}
 use Rattle.cp_scope.specs.declared.types.Base.TheVariants.{Integer}
 use Rattle.cp_check.specs.declared.case.Label.{Label}
 use Rattle.cp_check.proofs.Numbers.{once_passed, once_refused, number_added}
-use Rattle.cp_check.proofs.case.all_once.Goals as goal
+use Rattle.cp_check.proofs.case.check_once.Goals as goal
 
 abbrev none : Label
 none = record { at = 0; number = record { base = Integer; value = pos 0 } }

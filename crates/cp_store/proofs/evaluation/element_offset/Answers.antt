@@ -3,7 +3,7 @@ use Rattle.std.specs.Prelude.{◌-ℤ◌}
 use Rattle.cp_store.specs.declared.error.ErrorName.{ErrorName}
 use Rattle.cp_store.specs.Values.{ranged}
 use Rattle.cp_store.proofs.Reaches.{distance_is, nearer}
-use Rattle.cp_store.proofs.evaluation.distance.Goals as goal
+use Rattle.cp_store.proofs.evaluation.element_offset.Goals as goal
 
 pub returns : goal.returns
 returns c =

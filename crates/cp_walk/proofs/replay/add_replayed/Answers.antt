@@ -4,7 +4,7 @@ use Rattle.cp_machine.specs.System.{machine_of, output_of}
 use Rattle.cp_walk.specs.Rows.{line_of}
 use Rattle.cp_walk.specs.Walked.{begun}
 use Rattle.cp_walk.proofs.Repeats.{one_again}
-use Rattle.cp_walk.proofs.again.add_again.Goals as goal
+use Rattle.cp_walk.proofs.replay.add_replayed.Goals as goal
 
 pub loop-at-preserved : goal.loop-at-preserved
 loop-at-preserved c =

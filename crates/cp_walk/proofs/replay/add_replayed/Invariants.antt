@@ -2,7 +2,7 @@ use Rattle.std.proofs.Common.{◌≡◌, ◌≤◌, ◌+◌, ◌-◌, ◌++◌, 
 use Rattle.cp_machine.specs.System.{machine_of, output_of}
 use Rattle.cp_walk.specs.Rows.{line_of}
 use Rattle.cp_walk.specs.Walked.{begun}
-use Rattle.cp_walk.proofs.again.add_again.Given as goal
+use Rattle.cp_walk.proofs.replay.add_replayed.Given as goal
 
 abbrev pub invariant-loop-at : goal.invariant-loop-at
 invariant-loop-at l =

@@ -8,7 +8,7 @@ ghost use Rattle.cp_walk.specs.Walked.{begun, within_span};
 use crate::fault::ExploreFault;
 use crate::row::Row;
 use crate::walk::MOST_ROWS;
-use crate::walked::Span;
+use crate::memo::Span;
 use arrayvec::ArrayVec;
 use cp_machine::{Shown, State};
 use cp_run::{Outcome, Output};
@@ -25,7 +25,7 @@ fn after<T>(list: &[T], count: usize) -> &[T]
     }
 }
 
-fn begun_word(word: &[u8], theirs: &[u8]) -> ArrayVec<u8, 20>
+fn word_with_prefix(word: &[u8], theirs: &[u8]) -> ArrayVec<u8, 20>
     requires mine { length word.now ≤ 20 }
     requires theirs { length theirs.now ≤ 20 }
     ensures { result.items ≡ word.now ++ drop (length word.now) theirs.now }
@@ -36,13 +36,13 @@ fn begun_word(word: &[u8], theirs: &[u8]) -> ArrayVec<u8, 20>
     begun
 }
 
-fn begun_row(alloc: Global, word: &[u8], output: &[Shown], row: &Row) -> Result<Row, AllocError>
+fn row_with_prefix(alloc: Global, word: &[u8], output: &[Shown], row: &Row) -> Result<Row, AllocError>
     requires { length word.now ≤ 20 }
     ensures { IfOk result (λ r. line_of r ≡ begun word.now output.now (line_of row.now)) }
 {
     let theirs = after(row.outcome.output.as_slice(), output.len());
     Ok(Row {
-        word: begun_word(word, row.word.as_slice()),
+        word: word_with_prefix(word, row.word.as_slice()),
         outcome: Outcome {
             kind: row.outcome.kind,
             output: Output::joined(alloc, output, theirs)?,
@@ -51,7 +51,7 @@ fn begun_row(alloc: Global, word: &[u8], output: &[Shown], row: &Row) -> Result<
 }
 
 /// Appends rows that are there already, with another beginning of their words and of what was displayed: that of a node like theirs.
-pub fn add_again(
+pub fn add_replayed(
     alloc: Global,
     state: &State,
     span: Span,
@@ -73,7 +73,7 @@ pub fn add_again(
         return Err(ExploreFault::Memory);
     }
     for at in span.first..span.end {
-        let Ok(row) = begun_row(alloc, word, state.output(), &rows[at]) else {
+        let Ok(row) = row_with_prefix(alloc, word, state.output(), &rows[at]) else {
             return Err(ExploreFault::Memory);
         };
         rows.push_reserved(row);
