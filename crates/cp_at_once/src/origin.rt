@@ -5,7 +5,7 @@ ghost use Rattle.std.specs.Prelude.{◌≡◌, ◌∷◌, [], None, Some};
 use arrayvec::ArrayVec;
 
 /// The most choices in a row that are made at once.
-pub const IN_A_ROW: usize = 8;
+pub const MOST_IN_A_ROW: usize = 8;
 
 /// The last numbers of a word, and the kept state in which the first of them was chosen; without a state they are the whole word.
 #[derive(Drop)]

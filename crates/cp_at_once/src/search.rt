@@ -14,7 +14,7 @@ ghost use Rattle.cp_at_once.specs.Whole.{IsAnswer};
 
 use crate::found::Found;
 use crate::leg::process_at_once;
-use crate::origin::{IN_A_ROW, Origin};
+use crate::origin::{MOST_IN_A_ROW, Origin};
 use cp_ends::choosing::{choose, open};
 use cp_ends::end::Arrival;
 use cp_ends::state_key::StateKey;
@@ -27,7 +27,7 @@ use std::sync::ledger::{Blank, Ledger};
 
 // What is found so far, with room for a key, for displayed values, and for a state in which a leg is tried.
 #[derive(Drop)]
-struct Search {
+struct SearchAtOnce {
     found: Found,
     key: StateKey,
     told: Vec<Shown>,
@@ -44,10 +44,10 @@ pub fn search_at_once(
 ) -> Result<Found, AllocError>
     ensures { IfOk result (λ found. IsAnswer program.now limits.gates limits.steps most found) }
 {
-    searched::<Brand>(alloc, program, limits, most, Blank::new(1))
+    search_with::<Brand>(alloc, program, limits, most, Blank::new(1))
 }
 
-fn searched<S: Ledger>(
+fn search_with<S: Ledger>(
     alloc: Global,
     program: &Resolved,
     limits: Limits,
@@ -61,7 +61,7 @@ fn searched<S: Ledger>(
 {
     let mut steps: Ticks<S> = Ticks::new(blank);
     let mut state = State::start(alloc, program, limits.gates)?;
-    let mut search = Search::new(alloc, program, &state)?;
+    let mut search = SearchAtOnce::new(alloc, program, &state)?;
     let arrival = open(
         alloc,
         program,
@@ -92,8 +92,8 @@ fn searched<S: Ledger>(
     Ok(search.found)
 }
 
-impl Search {
-    fn new(alloc: Global, program: &Resolved, state: &State) -> Result<Search, AllocError>
+impl SearchAtOnce {
+    fn new(alloc: Global, program: &Resolved, state: &State) -> Result<SearchAtOnce, AllocError>
         requires own { IsStateOf program.now state.now }
         ensures kept { IfOk result (λ s. s.found.kept.known.entries ≡ []) }
         ensures ends { IfOk result (λ s. s.found.ends.items ≡ []) }
@@ -102,7 +102,7 @@ impl Search {
         ensures ahead { IfOk result (λ s. IsStateOf program.now s.ahead) }
     {
         let _ = program;
-        Ok(Search {
+        Ok(SearchAtOnce {
             found: Found::new(alloc),
             key: StateKey {
                 bytes: Vec::new(alloc),
@@ -206,7 +206,7 @@ impl Search {
     {
         let mut arrival = arrival;
         let mut origin = origin;
-        for made in 0..IN_A_ROW {
+        for made in 0..MOST_IN_A_ROW {
             self.note(arrival, &origin)?;
             match arrival {
                 Arrival::End(_) => return Ok(true),

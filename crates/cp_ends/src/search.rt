@@ -45,10 +45,10 @@ pub fn search_ends(
     ensures kept { IfOk result (λ found. HasFindings program.now found) }
 {
     let states = if most == 0 { 1 } else { most };
-    searched::<Brand>(alloc, program, limits, states, Blank::new(1))
+    search_with::<Brand>(alloc, program, limits, states, Blank::new(1))
 }
 
-fn searched<S: Ledger>(
+fn search_with<S: Ledger>(
     alloc: Global,
     program: &Resolved,
     limits: Limits,

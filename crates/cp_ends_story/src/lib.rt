@@ -8,5 +8,5 @@ pub mod subject;
 mod telling;
 mod texts;
 
-pub use subject::{Form, Subject, Told};
+pub use subject::{EndsFormat, EndsSummary, Subject};
 pub use telling::ends_story;

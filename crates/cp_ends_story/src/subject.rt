@@ -9,7 +9,7 @@ use cp_waits::Waits;
 
 /// How the ends are written.
 #[derive(Clone, Copy, PartialEq, Eq)]
-pub enum Form {
+pub enum EndsFormat {
     Text,
     Json,
 }
@@ -32,7 +32,7 @@ pub struct Subject<'a> {
 
 /// The ends as they are told.
 #[derive(Drop)]
-pub struct Told {
+pub struct EndsSummary {
     /// False where there are too many states, or it is not known who may wait for ever and that was asked.
     pub is_whole: bool,
     pub text: String,

@@ -4,7 +4,7 @@ ghost use Rattle.std.specs.Prelude.{◌≡◌};
 
 use crate::finding::findings;
 use crate::objects::json;
-use crate::subject::{Findings, Form, Reach, Subject, Told};
+use crate::subject::{EndsFormat, EndsSummary, Findings, Reach, Subject};
 use crate::texts::text;
 use cp_machine::Ticks;
 use cp_waits::Waits;
@@ -13,11 +13,15 @@ use std::marker::Brand;
 use std::sync::ledger::{Blank, Ledger};
 
 /// The ends that are possible in schedules of any length, the values that can be displayed, and who may wait for ever, in words.
-pub fn ends_story(alloc: Global, subject: Subject<'_>, form: Form) -> Result<Told, AllocError> {
+pub fn ends_story(
+    alloc: Global,
+    subject: Subject<'_>,
+    form: EndsFormat,
+) -> Result<EndsSummary, AllocError> {
     let findings = findings(alloc, subject)?;
-    Ok(Told {
+    Ok(EndsSummary {
         is_whole: is_whole(subject, &findings),
-        text: written::<Brand>(alloc, subject, form, &findings, Blank::new(1))?,
+        text: write_findings::<Brand>(alloc, subject, form, &findings, Blank::new(1))?,
     })
 }
 
@@ -29,10 +33,10 @@ fn is_whole(subject: Subject<'_>, findings: &Findings) -> bool {
     }
 }
 
-fn written<L: Ledger>(
+fn write_findings<L: Ledger>(
     alloc: Global,
     subject: Subject<'_>,
-    form: Form,
+    form: EndsFormat,
     findings: &Findings,
     blank: Blank,
 ) -> Result<String, AllocError>
@@ -42,7 +46,7 @@ fn written<L: Ledger>(
 {
     let mut ticks: Ticks<L> = Ticks::new(blank);
     match form {
-        Form::Text => text(alloc, subject, findings, &mut ticks),
-        Form::Json => json(alloc, subject, findings, &mut ticks),
+        EndsFormat::Text => text(alloc, subject, findings, &mut ticks),
+        EndsFormat::Json => json(alloc, subject, findings, &mut ticks),
     }
 }

@@ -16,7 +16,7 @@ use cp_text::{Tokens, scan};
 use cp_tool::answering::{Answer, Ending, code_of, refused, refused_at, written};
 use cp_tool::refusal::{check_reason, parse_reason, scan_reason};
 use cp_tool::transfer::{MOST_BYTES, ReadFault, read_source};
-use cp_tool::{Options, Sink, Source, Status, explore_stream};
+use cp_tool::{ExitStatus, Options, Sink, Source, explore_stream};
 use cp_tree::{Tree, parse};
 use std::alloc::{AllocError, Global};
 use std::thread::Threads;
@@ -31,7 +31,7 @@ pub fn answer_stream<X: Threads + Sync, R: Source, W: Sink>(
     options: &Options,
     source: &mut R,
     sink: &mut W,
-) -> Status
+) -> ExitStatus
     // What is written is the answer to what was read, and nothing else; status 4 comes exactly where a call failed or took nothing.
     ensures told { (ending : Ending) × (result.code ≡ stream.code_of ending) × stream.Tells (spec.IsAnswered options.now) (R.remaining source.old) (W.contents sink.old) (W.contents sink.new) ending × (R.failed_reads source.new + (W.failed_writes sink.new + W.empty_writes sink.new) ≡ R.failed_reads source.old + (W.failed_writes sink.old + W.empty_writes sink.old) + stream.faults_of_ending ending) }
     ensures reads { R.reads source.new ≤ R.reads source.old + 65536 }
@@ -59,11 +59,11 @@ pub fn ends_stream<R: Source, W: Sink>(
     options: &Options,
     source: &mut R,
     sink: &mut W,
-) -> Status
+) -> ExitStatus
     ensures told { (ending : Ending) × (result.code ≡ stream.code_of ending) × stream.Tells (spec.AreEnds options.now) (R.remaining source.old) (W.contents sink.old) (W.contents sink.new) ending × (R.failed_reads source.new + (W.failed_writes sink.new + W.empty_writes sink.new) ≡ R.failed_reads source.old + (W.failed_writes sink.old + W.empty_writes sink.old) + stream.faults_of_ending ending) }
     ensures reads { R.reads source.new ≤ R.reads source.old + 65536 }
 {
-    Status {
+    ExitStatus {
         code: code_of(streamed(alloc, options, source, sink)),
     }
 }

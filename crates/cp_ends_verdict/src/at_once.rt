@@ -9,7 +9,7 @@ use crate::expectation::Expectation;
 use crate::judging::is_whole;
 use crate::knowing_at_once::known_at_once;
 use crate::known::Known;
-use crate::marking::{Subject, ask_waits, is_any, mark_list};
+use crate::marking::{MarkSubject, ask_waits, is_any, mark_list};
 use crate::saying::{Marked, open_words, said_of_each};
 use crate::verdict::{Mark, Verdict, mark_of, verdict_on};
 use cp_at_once::search_at_once;
@@ -20,7 +20,7 @@ use std::alloc::{AllocError, Global};
 /// not too many states then as well.
 pub fn mark_in_turn(
     alloc: Global,
-    subject: Subject<'_>,
+    subject: MarkSubject<'_>,
     list: &[Expectation],
 ) -> Result<Marked, AllocError>
     ensures { 1 ≤ subject.entry.most → can_be_asked subject.entry.limits.gates list.now ≡ true → IfOk result (λ m. spec.IsMarkInTurn subject.entry.program.now subject.entry.limits.gates subject.entry.limits.steps subject.entry.most list.now m.mark) }
@@ -35,7 +35,7 @@ pub fn mark_in_turn(
 // The same, where there are too many states.
 fn marked_again(
     alloc: Global,
-    subject: Subject<'_>,
+    subject: MarkSubject<'_>,
     list: &[Expectation],
     marked: Marked,
 ) -> Result<Marked, AllocError>
@@ -52,7 +52,7 @@ fn marked_again(
 // The mark that kernel calls at once give, if there are not too many states then as well.
 fn told_again(
     alloc: Global,
-    subject: Subject<'_>,
+    subject: MarkSubject<'_>,
     marked: Marked,
     again: Marked,
 ) -> Result<Marked, AllocError>
@@ -80,7 +80,7 @@ fn can_be_at_once(gates: Gates, list: &[Expectation]) -> bool
 /// What schedules of any length say of some expectations, where kernel calls are made at once.
 pub fn mark_at_once(
     alloc: Global,
-    subject: Subject<'_>,
+    subject: MarkSubject<'_>,
     list: &[Expectation],
 ) -> Result<Marked, AllocError>
     ensures mark { spec.can_be_at_once subject.entry.limits.gates list.now ≡ true → IfOk result (λ m. spec.IsMarkAtOnce subject.entry.program.now subject.entry.limits.steps list.now m.mark) }
@@ -89,7 +89,7 @@ pub fn mark_at_once(
     if !can_be_at_once(subject.limits.gates, list) {
         return Marked::misread(alloc, "waiting can't be asked with --at-once\n");
     }
-    let Subject {
+    let MarkSubject {
         program,
         limits,
         most,
@@ -98,13 +98,13 @@ pub fn mark_at_once(
     let found = search_at_once(alloc, program, limits, most)?;
     let known = known_at_once(alloc, program, &found)?;
     let verdict = verdict_on(&known, list);
-    told(alloc, subject, &known, list, verdict)
+    tell(alloc, subject, &known, list, verdict)
 }
 
 // The mark of a verdict, and what is said with it.
-fn told(
+fn tell(
     alloc: Global,
-    subject: Subject<'_>,
+    subject: MarkSubject<'_>,
     known: &Known,
     list: &[Expectation],
     verdict: Verdict<'_>,

@@ -172,7 +172,11 @@ fn is_settled(expectation: &Expectation, known: &Known) -> bool
     }
 }
 
-fn judged<'a>(expectation: &Expectation, found: Option<Witness<'a>>, settled: bool) -> Judgement<'a>
+fn judgement_from<'a>(
+    expectation: &Expectation,
+    found: Option<Witness<'a>>,
+    settled: bool,
+) -> Judgement<'a>
     ensures { result ≡ spec.judgement_of (asks_some expectation.now) found.entry settled }
 {
     match (expectation, found) {
@@ -191,5 +195,5 @@ pub fn judge<'a>(known: &'a Known, expectation: &Expectation) -> Judgement<'a>
     ensures known { (names : Spellings) → known_spec.HasTexts names known.entry.now.values.items → spec.IsJudgedBy names known.entry.now expectation.now result }
 {
     let found = first_settling(known, expectation);
-    judged(expectation, found, is_settled(expectation, known))
+    judgement_from(expectation, found, is_settled(expectation, known))
 }

@@ -16,7 +16,7 @@ pub mod words;
 
 pub use at_once::{mark_at_once, mark_in_turn};
 pub use expectation::Expectation;
-pub use marking::Subject;
+pub use marking::MarkSubject;
 pub use reading::{Reading, expectations};
 pub use saying::{Marked, Said, Standing};
 pub use verdict::Mark;

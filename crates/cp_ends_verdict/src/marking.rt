@@ -23,7 +23,7 @@ use std::alloc::{AllocError, Global};
 
 /// The program that is marked, and how many states there may be.
 #[derive(Clone, Copy)]
-pub struct Subject<'a> {
+pub struct MarkSubject<'a> {
     pub program: &'a Resolved,
     pub legend: &'a Legend,
     pub limits: Limits,
@@ -33,7 +33,7 @@ pub struct Subject<'a> {
 /// What all schedules of any length say of some expectations.
 pub fn mark_list(
     alloc: Global,
-    subject: Subject<'_>,
+    subject: MarkSubject<'_>,
     list: &[Expectation],
 ) -> Result<Marked, AllocError>
     ensures mark { 1 ≤ subject.entry.most → spec.can_be_asked subject.entry.limits.gates list.now ≡ true → IfOk result (λ m. spec.IsMarkOf subject.entry.program.now subject.entry.limits.gates subject.entry.limits.steps subject.entry.most list.now m.mark) }
@@ -46,7 +46,7 @@ pub fn mark_list(
     }
     let known = knowledge(alloc, subject, asks)?;
     let verdict = verdict_on(&known, list);
-    told(alloc, subject, &known, list, verdict)
+    tell(alloc, subject, &known, list, verdict)
 }
 
 /// Whether anybody in line may go into a monitor that becomes free.
@@ -91,10 +91,10 @@ pub fn ask_waits(list: &[Expectation]) -> bool
 }
 
 // What is known of the schedules of a program, and of who may wait for ever where that is asked.
-fn knowledge(alloc: Global, subject: Subject<'_>, asks: bool) -> Result<Known, AllocError>
+fn knowledge(alloc: Global, subject: MarkSubject<'_>, asks: bool) -> Result<Known, AllocError>
     ensures { 1 ≤ subject.entry.most → IfOk result (λ k. IsKnown subject.entry.program.now subject.entry.limits.gates subject.entry.limits.steps subject.entry.most k) }
 {
-    let Subject {
+    let MarkSubject {
         program,
         limits,
         most,
@@ -126,9 +126,9 @@ fn waits_of(
 }
 
 // The mark of a verdict, and what is said with it.
-fn told(
+fn tell(
     alloc: Global,
-    subject: Subject<'_>,
+    subject: MarkSubject<'_>,
     known: &Known,
     list: &[Expectation],
     verdict: Verdict<'_>,

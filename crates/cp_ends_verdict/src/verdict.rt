@@ -43,7 +43,7 @@ pub enum Verdict<'a> {
 }
 
 /// The verdict on some expectations and one more.
-fn joined<'a>(
+fn join<'a>(
     verdict: Verdict<'a>,
     expectation: &'a Expectation,
     judgement: Judgement<'a>,
@@ -72,7 +72,7 @@ pub fn verdict_on<'a>(known: &'a Known, list: &'a [Expectation]) -> Verdict<'a>
 {
     let mut verdict = Verdict::Holds;
     for expectation in list {
-        verdict = joined(verdict, expectation, judge(known, expectation));
+        verdict = join(verdict, expectation, judge(known, expectation));
     }
     verdict
 }

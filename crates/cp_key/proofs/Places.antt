@@ -2,7 +2,7 @@
 use Rattle.std.proofs.Common.{◌≡◌, ◌∙◌, ℕ, suc, ◌<◌, List, [], ◌∷◌, length, map, ap, refl, arith}
 use Rattle.std.specs.Prelude.{slice_index_or}
 use Rattle.cp_machine.specs.declared.process.Process.{Process}
-use Rattle.cp_machine.specs.declared.state.Guard.{Guard}
+use Rattle.cp_machine.specs.declared.state.Gate.{Gate}
 use Rattle.cp_machine.specs.Machine.{Monitor, Thread, monitor_of, no_monitor, no_thread, thread_of}
 
 -- elements that are seen one by one as those of another list
@@ -18,5 +18,5 @@ seen_as see y (a ∷ xs) (b ∷ ys) e h =
 pub threads_seen : (ps : List Process) (ts : List Thread) → length ts ≡ length ps → ((k : ℕ) (d : Process) → k < length ps → thread_of (slice_index_or ps k d) ≡ slice_index_or ts k no_thread) → map thread_of ps ≡ ts
 threads_seen = seen_as thread_of no_thread
 
-pub monitors_seen : (gs : List Guard) (ms : List Monitor) → length ms ≡ length gs → ((k : ℕ) (d : Guard) → k < length gs → monitor_of (slice_index_or gs k d) ≡ slice_index_or ms k no_monitor) → map monitor_of gs ≡ ms
+pub monitors_seen : (gs : List Gate) (ms : List Monitor) → length ms ≡ length gs → ((k : ℕ) (d : Gate) → k < length gs → monitor_of (slice_index_or gs k d) ≡ slice_index_or ms k no_monitor) → map monitor_of gs ≡ ms
 monitors_seen = seen_as monitor_of no_monitor

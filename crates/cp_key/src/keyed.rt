@@ -3,7 +3,7 @@
 ghost use Rattle.std.specs.Prelude.{◌≡◌, ◌+◌, ◌∷◌, ◌++◌, ◌≤◌, [], length, ℕ, List, IfOk, IfSome, IsTrue, flat_map, take, vec_capacity, vec_len};
 ghost use Rattle.cp_key.specs.Numbers.{list_key, number_key};
 
-use crate::reader::Reader;
+use crate::reader::KeyReader;
 use std::alloc::AllocError;
 
 /// What is written as bytes, and read back from them.
@@ -15,7 +15,7 @@ pub trait Keyed: Copy + Drop {
         ensures { IfOk result (λ _. key.new.items ≡ key.old.items ++ key_of self) };
 
     /// The value whose key is next.
-    fn thaw(key: &mut Reader) -> Self
+    fn thaw(key: &mut KeyReader) -> Self
         ensures { (x : Self) (more : List ℕ) → key.old.bytes.now ≡ key_of x ++ more → (result ≡ x) × (key.new.bytes.now ≡ more) };
 
     /// The key, where it is seen at once that it is one byte.
@@ -91,7 +91,7 @@ fn freeze_each<T: Keyed>(list: &[T], key: &mut Vec<u8>) -> Result<(), AllocError
 
 /// The list whose key is next, in a vector that has room for it.
 #[inline(always)]
-pub fn thaw_list<T: Keyed>(key: &mut Reader, list: &mut Vec<T>)
+pub fn thaw_list<T: Keyed>(key: &mut KeyReader, list: &mut Vec<T>)
     ensures list { (xs : List T) (more : List ℕ) → key.old.bytes.now ≡ list_key T.key_of xs ++ more → length xs ≤ vec_capacity list.old → (list.new.items ≡ xs) × (key.new.bytes.now ≡ more) }
     ensures room { vec_capacity list.old ≤ vec_capacity list.new }
 {
@@ -101,7 +101,7 @@ pub fn thaw_list<T: Keyed>(key: &mut Reader, list: &mut Vec<T>)
 }
 
 #[inline(always)]
-fn thaw_elements<T: Keyed>(key: &mut Reader, count: usize, list: &mut Vec<T>)
+fn thaw_elements<T: Keyed>(key: &mut KeyReader, count: usize, list: &mut Vec<T>)
     requires { list.old.items ≡ [] }
     ensures list { (xs : List T) (more : List ℕ) → key.old.bytes.now ≡ flat_map T.key_of xs ++ more → length xs ≡ count → length xs ≤ vec_capacity list.old → (list.new.items ≡ xs) × (key.new.bytes.now ≡ more) }
     ensures room { vec_capacity list.old ≤ vec_capacity list.new }
@@ -116,7 +116,7 @@ fn thaw_elements<T: Keyed>(key: &mut Reader, count: usize, list: &mut Vec<T>)
 
 /// The list of numbers whose key is next, in a vector that has room for it. Most numbers are one byte.
 #[inline(always)]
-pub fn thaw_numbers<T: Keyed>(key: &mut Reader, list: &mut Vec<T>)
+pub fn thaw_numbers<T: Keyed>(key: &mut KeyReader, list: &mut Vec<T>)
     ensures list { (xs : List T) (more : List ℕ) → key.old.bytes.now ≡ list_key T.key_of xs ++ more → length xs ≤ vec_capacity list.old → (list.new.items ≡ xs) × (key.new.bytes.now ≡ more) }
     ensures room { vec_capacity list.old ≤ vec_capacity list.new }
 {

@@ -4,7 +4,7 @@ ghost use Rattle.std.specs.Prelude.{◌≡◌, ◌<◌, ◌∷◌, ◌++◌, ℕ
 ghost use Rattle.cp_key.specs.Numbers.{byte_key, digits, integer_key, number_key, place_of as place_of_number, short_key};
 
 use crate::keyed::Keyed;
-use crate::reader::Reader;
+use crate::reader::KeyReader;
 use std::alloc::AllocError;
 
 impl Keyed for u8 {
@@ -17,7 +17,7 @@ impl Keyed for u8 {
     }
 
     #[inline(always)]
-    fn thaw(key: &mut Reader) -> u8 {
+    fn thaw(key: &mut KeyReader) -> u8 {
         key.byte()
     }
 }
@@ -38,7 +38,7 @@ impl Keyed for usize {
     }
 
     #[inline(always)]
-    fn thaw(key: &mut Reader) -> usize {
+    fn thaw(key: &mut KeyReader) -> usize {
         let byte = key.byte();
         if byte < 254 {
             usize::from(byte)
@@ -92,7 +92,7 @@ fn freeze_eight(number: usize, key: &mut Vec<u8>) -> Result<(), AllocError>
 }
 
 #[inline(always)]
-fn thaw_two(key: &mut Reader) -> usize
+fn thaw_two(key: &mut KeyReader) -> usize
     ensures { (n : ℕ) (more : List ℕ) → key.old.bytes.now ≡ digits 1 n ++ more → (result ≡ n) × (key.new.bytes.now ≡ more) }
 {
     let low = usize::from(key.byte());
@@ -100,7 +100,7 @@ fn thaw_two(key: &mut Reader) -> usize
 }
 
 #[inline(always)]
-fn thaw_eight(key: &mut Reader) -> usize
+fn thaw_eight(key: &mut KeyReader) -> usize
     ensures { (n : ℕ) (more : List ℕ) → key.old.bytes.now ≡ digits 7 n ++ more → (result ≡ n) × (key.new.bytes.now ≡ more) }
 {
     let first = usize::from(key.byte());
@@ -129,7 +129,7 @@ impl Keyed for i16 {
     }
 
     #[inline(always)]
-    fn thaw(key: &mut Reader) -> i16 {
+    fn thaw(key: &mut KeyReader) -> i16 {
         match key.byte() {
             255 => at_place(thaw_pair(key)),
             byte => i16::from(byte),
@@ -196,7 +196,7 @@ fn freeze_pair(number: u16, key: &mut Vec<u8>) -> Result<(), AllocError>
 
 /// The number below 65536 whose key is next.
 #[inline(always)]
-pub fn thaw_short(key: &mut Reader) -> u16
+pub fn thaw_short(key: &mut KeyReader) -> u16
     ensures { (n : ℕ) (more : List ℕ) → key.old.bytes.now ≡ short_key n ++ more → (result ≡ n) × (key.new.bytes.now ≡ more) }
 {
     match key.byte() {
@@ -206,7 +206,7 @@ pub fn thaw_short(key: &mut Reader) -> u16
 }
 
 #[inline(always)]
-fn thaw_pair(key: &mut Reader) -> u16
+fn thaw_pair(key: &mut KeyReader) -> u16
     ensures { (n : ℕ) (more : List ℕ) → key.old.bytes.now ≡ digits 1 n ++ more → (result ≡ n) × (key.new.bytes.now ≡ more) }
 {
     let low = u16::from(key.byte());

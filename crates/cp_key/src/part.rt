@@ -6,7 +6,7 @@ ghost use Rattle.cp_key.specs.Key.{IsSmall, address_key, entry_key, frame_key, g
 
 use crate::keyed::Keyed;
 use crate::number::{freeze_short, thaw_short};
-use crate::reader::Reader;
+use crate::reader::KeyReader;
 use cp_machine::{Entry, Gates, Phase, Shown, Status};
 use cp_store::{Address, Frame};
 use std::alloc::AllocError;
@@ -32,7 +32,7 @@ impl<T: Keyed> Keyed for Option<T> {
     }
 
     #[inline(always)]
-    fn thaw(key: &mut Reader) -> Option<T> {
+    fn thaw(key: &mut KeyReader) -> Option<T> {
         match key.byte() {
             0 => None,
             _ => Some(T::thaw(key)),
@@ -54,7 +54,7 @@ impl Keyed for Phase {
     }
 
     #[inline(always)]
-    fn thaw(key: &mut Reader) -> Phase {
+    fn thaw(key: &mut KeyReader) -> Phase {
         match key.byte() {
             0 => Phase::Uninitialised,
             1 => Phase::Initialising,
@@ -94,7 +94,7 @@ impl Keyed for Gates {
     }
 
     #[inline(always)]
-    fn thaw(key: &mut Reader) -> Gates {
+    fn thaw(key: &mut KeyReader) -> Gates {
         match key.byte() {
             0 => Gates::First,
             _ => Gates::Any,
@@ -114,7 +114,7 @@ impl Keyed for Address {
     }
 
     #[inline(always)]
-    fn thaw(key: &mut Reader) -> Address {
+    fn thaw(key: &mut KeyReader) -> Address {
         match key.byte() {
             0 => Address::Permanent(usize::thaw(key)),
             _ => Address::Local(usize::thaw(key)),
@@ -173,7 +173,7 @@ impl Keyed for Frame {
     }
 
     #[inline(always)]
-    fn thaw(key: &mut Reader) -> Frame {
+    fn thaw(key: &mut KeyReader) -> Frame {
         Frame {
             routine: usize::thaw(key),
             component: usize::thaw(key),
@@ -227,7 +227,7 @@ impl Keyed for Entry {
     }
 
     #[inline(always)]
-    fn thaw(key: &mut Reader) -> Entry {
+    fn thaw(key: &mut KeyReader) -> Entry {
         match key.byte() {
             0 => Entry::Rest(usize::thaw(key)),
             1 => Entry::Successor(usize::thaw(key), i16::thaw(key), i16::thaw(key)),
@@ -252,7 +252,7 @@ impl Keyed for Status {
     }
 
     #[inline(always)]
-    fn thaw(key: &mut Reader) -> Status {
+    fn thaw(key: &mut KeyReader) -> Status {
         match key.byte() {
             0 => Status::Unstarted,
             1 => Status::Ready,
@@ -286,7 +286,7 @@ impl Keyed for Shown {
     }
 
     #[inline(always)]
-    fn thaw(key: &mut Reader) -> Shown {
+    fn thaw(key: &mut KeyReader) -> Shown {
         match key.byte() {
             0 => Shown::Integer(i16::thaw(key)),
             1 => Shown::Char(u8::thaw(key)),

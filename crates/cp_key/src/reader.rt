@@ -4,11 +4,11 @@ ghost use Rattle.std.specs.Prelude.{◌≡◌, ◌∷◌, ℕ, List};
 
 /// The bytes of a key that are not read yet.
 #[derive(Drop)]
-pub struct Reader<'a> {
+pub struct KeyReader<'a> {
     pub bytes: &'a [u8],
 }
 
-impl Reader<'_> {
+impl KeyReader<'_> {
     /// The next byte; 0 after the last.
     #[inline(always)]
     pub fn byte(&mut self) -> u8

@@ -13,9 +13,9 @@ ghost use Rattle.cp_key.specs.Room.{AreShort, HasMachineRoom, HasThreadRoom, Hav
 
 use crate::bodies::{Bodies, Parts};
 use crate::keyed::{Keyed, thaw_list, thaw_numbers};
-use crate::reader::Reader;
+use crate::reader::KeyReader;
 use arrayvec::ArrayVec;
-use cp_machine::{Gates, Guard, MOST_SHOWN, Moved, Process, State, Status, Watch};
+use cp_machine::{Gate, Gates, MOST_SHOWN, Moved, Process, State, Status, Watch};
 use cp_store::Frame;
 
 /// A state becomes the one of the same program that has a key. It takes no memory. Answers the parts that are in the key. Those that
@@ -30,7 +30,7 @@ pub fn thaw<'a>(key: &'a [u8], known: &Parts<'a>, state: &mut State, moved: &mut
     ensures kept { (other : Machine) → KeepBodies (has_moved moved.old) (machine_of state.old) other → KeepBodies (has_moved moved.new) (machine_of state.new) other }
     ensures own { (r : Tables) (m : Machine) → IsStateOf r state.old → IsMachineOf r m → key.now ≡ key_of m → IsStateOf r state.new }
 {
-    thaw_state(&mut Reader { bytes: key }, known, state, moved)
+    thaw_state(&mut KeyReader { bytes: key }, known, state, moved)
 }
 
 /// The output of a state becomes that of the one that has a key, and the rest stays as it is. It takes no memory.
@@ -39,12 +39,12 @@ pub fn thaw_output(key: &[u8], state: &mut State)
     ensures output { (m : Machine) → key.now ≡ key_of m → output_of (machine_of state.new) ≡ m.output }
     ensures room { vec_capacity state.old.output ≤ vec_capacity state.new.output }
 {
-    thaw_list(&mut Reader { bytes: key }, &mut state.output);
+    thaw_list(&mut KeyReader { bytes: key }, &mut state.output);
 }
 
 #[inline(always)]
 fn thaw_state<'a>(
-    key: &mut Reader<'a>,
+    key: &mut KeyReader<'a>,
     known: &Parts<'a>,
     state: &mut State,
     moved: &mut Moved,
@@ -75,7 +75,7 @@ fn thaw_state<'a>(
 
 // The list of numbers whose key is next, which is passed over where it is the known one. Answers its key.
 #[inline(always)]
-fn thaw_same<'a, T: Keyed>(key: &mut Reader<'a>, known: &'a [u8], list: &mut Vec<T>) -> &'a [u8]
+fn thaw_same<'a, T: Keyed>(key: &mut KeyReader<'a>, known: &'a [u8], list: &mut Vec<T>) -> &'a [u8]
     requires known { AreKeyOf T.key_of known.now list.old.items }
     requires ends { TellsItsEnd T.key_of }
     ensures list { (xs : List T) (more : List ℕ) → key.old.bytes.now ≡ list_key T.key_of xs ++ more → length xs ≤ vec_capacity list.old → (list.new.items ≡ xs) × (key.new.bytes.now ≡ more) × AreKeyOf T.key_of result.now xs }
@@ -92,7 +92,7 @@ fn thaw_same<'a, T: Keyed>(key: &mut Reader<'a>, known: &'a [u8], list: &mut Vec
 
 #[inline(always)]
 fn thaw_processes<'a>(
-    key: &mut Reader<'a>,
+    key: &mut KeyReader<'a>,
     known: &Bodies,
     processes: &mut [Process],
     moved: &mut Moved,
@@ -111,7 +111,7 @@ fn thaw_processes<'a>(
 }
 
 #[inline(always)]
-fn thaw_statuses(key: &mut Reader, processes: &mut [Process])
+fn thaw_statuses(key: &mut KeyReader, processes: &mut [Process])
     ensures same { (ts : List Thread) (more : List ℕ) → key.old.bytes.now ≡ list_key (λ t. status_key t.status) ts ++ more → length ts ≡ length processes.old → ((q : ℕ) (d : Process) → q < length processes.old → (slice_index_or processes.new q d).status ≡ (thread_at ts q).status) × (key.new.bytes.now ≡ more) }
     ensures insides { (q : ℕ) (d : Process) → AreSameInside (slice_index_or processes.new q d) (slice_index_or processes.old q d) }
 {
@@ -124,7 +124,7 @@ fn thaw_statuses(key: &mut Reader, processes: &mut [Process])
 // Each body that is the known one is passed over, and the others are read.
 #[inline(always)]
 fn thaw_bodies<'a>(
-    key: &mut Reader<'a>,
+    key: &mut KeyReader<'a>,
     known: &Bodies,
     processes: &mut [Process],
     moved: &mut Moved,
@@ -151,7 +151,7 @@ fn thaw_bodies<'a>(
 
 // The body of a process that perhaps is the known one.
 #[inline(always)]
-fn thaw_next(key: &mut Reader, body: &[u8], process: &mut Process, pid: u8, moved: &mut Moved)
+fn thaw_next(key: &mut KeyReader, body: &[u8], process: &mut Process, pid: u8, moved: &mut Moved)
     requires { 0 < length body.now → body.now ≡ body_key (inside process.old) }
     ensures same { (t : Thread) (more : List ℕ) → key.old.bytes.now ≡ body_key (body_of t) ++ more → HasThreadRoom process.old t → (inside process.new ≡ body_of t) × (key.new.bytes.now ≡ more) }
     ensures status { process.new.status ≡ process.old.status }
@@ -169,7 +169,7 @@ fn thaw_next(key: &mut Reader, body: &[u8], process: &mut Process, pid: u8, move
 
 // Whether the key goes on with a body that is known, which is passed over then.
 #[inline(always)]
-fn thaw_known(key: &mut Reader, body: &[u8]) -> bool
+fn thaw_known(key: &mut KeyReader, body: &[u8]) -> bool
     ensures known { result ≡ true → (0 < length body.now) × (key.old.bytes.now ≡ body.now ++ key.new.bytes.now) }
     ensures unknown { result ≡ false → key.new.bytes.now ≡ key.old.bytes.now }
 {
@@ -182,7 +182,7 @@ fn thaw_known(key: &mut Reader, body: &[u8]) -> bool
 }
 
 #[inline(always)]
-fn thaw_body(key: &mut Reader, process: &mut Process)
+fn thaw_body(key: &mut KeyReader, process: &mut Process)
     ensures same { (t : Thread) (more : List ℕ) → key.old.bytes.now ≡ body_key (body_of t) ++ more → HasThreadRoom process.old t → (inside process.new ≡ body_of t) × (key.new.bytes.now ≡ more) }
     ensures status { process.new.status ≡ process.old.status }
     ensures stack { vec_capacity process.old.stack ≤ vec_capacity process.new.stack }
@@ -196,7 +196,7 @@ fn thaw_body(key: &mut Reader, process: &mut Process)
 }
 
 #[inline(always)]
-fn thaw_guards(key: &mut Reader, guards: &mut [Guard])
+fn thaw_guards(key: &mut KeyReader, guards: &mut [Gate])
     ensures { (ms : List Monitor) (more : List ℕ) → key.old.bytes.now ≡ list_key monitor_key ms ++ more → length ms ≡ length guards.old → AreShort ms → (map monitor_of guards.new ≡ ms) × (key.new.bytes.now ≡ more) }
 {
     let _ = usize::thaw(key);
@@ -206,17 +206,17 @@ fn thaw_guards(key: &mut Reader, guards: &mut [Guard])
 }
 
 #[inline(always)]
-fn thaw_guard(key: &mut Reader) -> Guard
+fn thaw_guard(key: &mut KeyReader) -> Gate
     ensures { (m : Monitor) (more : List ℕ) → key.old.bytes.now ≡ monitor_key m ++ more → length m.line ≤ 16 → (monitor_of result ≡ m) × (key.new.bytes.now ≡ more) }
 {
-    Guard {
+    Gate {
         holder: Option::thaw(key),
         line: thaw_line(key),
     }
 }
 
 #[inline(always)]
-fn thaw_line(key: &mut Reader) -> ArrayVec<u8, 16>
+fn thaw_line(key: &mut KeyReader) -> ArrayVec<u8, 16>
     ensures { (line : List ℕ) (more : List ℕ) → key.old.bytes.now ≡ list_key byte_key line ++ more → length line ≤ 16 → (result.items ≡ line) × (key.new.bytes.now ≡ more) }
 {
     let count = usize::thaw(key);

@@ -10,11 +10,11 @@ ghost use Rattle.cp_key.specs.Numbers.{integer_key, list_key, number_key};
 
 use crate::bodies::{Bodies, Parts};
 use crate::keyed::{Keyed, freeze_list, freeze_numbers};
-use cp_machine::{Guard, Moved, Process, State, Watch};
+use cp_machine::{Gate, Moved, Process, State, Watch};
 use std::alloc::AllocError;
 
 // The bytes of the longest number.
-const LONGEST: usize = 9;
+const MOST_NUMBER_BYTES: usize = 9;
 
 /// Appends the key of a state. What is known of the state before it is copied where it stayed the same: permanent cells, bindings, and
 /// the bodies of the processes that did not move.
@@ -37,16 +37,20 @@ pub fn freeze(
 
 /// As many bytes as a key of a state of the same program can have, without the values that were displayed.
 pub fn most_bytes(state: &State) -> usize {
-    let mut bytes = 8 * LONGEST;
+    let mut bytes = 8 * MOST_NUMBER_BYTES;
     bytes = with_more(bytes, state.permanents.len(), 3);
-    bytes = with_more(bytes, state.bindings.len(), LONGEST);
+    bytes = with_more(bytes, state.bindings.len(), MOST_NUMBER_BYTES);
     bytes = with_more(bytes, state.phases.len(), 1);
-    bytes = with_more(bytes, state.guards.len(), 3 * LONGEST);
+    bytes = with_more(bytes, state.guards.len(), 3 * MOST_NUMBER_BYTES);
     for process in &state.processes {
-        bytes = bytes.saturating_add(10 * LONGEST);
-        bytes = with_more(bytes, process.stack.capacity(), 8 * LONGEST);
+        bytes = bytes.saturating_add(10 * MOST_NUMBER_BYTES);
+        bytes = with_more(bytes, process.stack.capacity(), 8 * MOST_NUMBER_BYTES);
         bytes = with_more(bytes, process.room.cells.capacity(), 3);
-        bytes = with_more(bytes, process.room.references.capacity(), 2 * LONGEST);
+        bytes = with_more(
+            bytes,
+            process.room.references.capacity(),
+            2 * MOST_NUMBER_BYTES,
+        );
     }
     bytes
 }
@@ -235,7 +239,7 @@ fn freeze_frames(process: &Process, key: &mut Vec<u8>) -> Result<(), AllocError>
     freeze_list(&process.room.references, key)
 }
 
-fn freeze_guards(guards: &[Guard], key: &mut Vec<u8>) -> Result<(), AllocError>
+fn freeze_guards(guards: &[Gate], key: &mut Vec<u8>) -> Result<(), AllocError>
     ensures { IfOk result (λ _. key.new.items ≡ key.old.items ++ list_key monitor_key (map monitor_of guards.now)) }
 {
     guards.len().freeze(key)?;
@@ -245,7 +249,7 @@ fn freeze_guards(guards: &[Guard], key: &mut Vec<u8>) -> Result<(), AllocError>
     Ok(())
 }
 
-fn freeze_guard(guard: &Guard, key: &mut Vec<u8>) -> Result<(), AllocError>
+fn freeze_guard(guard: &Gate, key: &mut Vec<u8>) -> Result<(), AllocError>
     ensures { IfOk result (λ _. key.new.items ≡ key.old.items ++ monitor_key (monitor_of guard.now)) }
 {
     guard.holder.freeze(key)?;

@@ -2,7 +2,7 @@
 
 use crate::labels::cut_plain;
 use crate::palette::{RED, hue_of};
-use crate::pictures::Subject;
+use crate::pictures::PictureSubject;
 use crate::plan::{Plan, row_middle, rows_end};
 use crate::spans::{Hold, Life, Pause, Spans, Stay};
 use crate::svg::{Block, Style, Svg};
@@ -17,7 +17,7 @@ const DEEPEST: usize = 16;
 pub fn spans_drawn(
     alloc: Global,
     svg: &mut Svg,
-    subject: Subject<'_>,
+    subject: PictureSubject<'_>,
     plan: &Plan,
     spans: &Spans,
 ) -> Result<(), AllocError> {
@@ -62,7 +62,7 @@ fn draw_life(svg: &mut Svg, plan: &Plan, life: &Life) -> Result<(), AllocError> 
 fn draw_stay(
     alloc: Global,
     svg: &mut Svg,
-    subject: Subject<'_>,
+    subject: PictureSubject<'_>,
     plan: &Plan,
     stay: &Stay,
 ) -> Result<(), AllocError> {
@@ -91,7 +91,7 @@ fn draw_stay(
 fn draw_pause(
     alloc: Global,
     svg: &mut Svg,
-    subject: Subject<'_>,
+    subject: PictureSubject<'_>,
     plan: &Plan,
     pause: &Pause,
     is_stuck: bool,
@@ -124,7 +124,7 @@ fn draw_pause(
 fn draw_hold(
     alloc: Global,
     svg: &mut Svg,
-    subject: Subject<'_>,
+    subject: PictureSubject<'_>,
     plan: &Plan,
     hold: &Hold,
 ) -> Result<(), AllocError> {
@@ -164,7 +164,7 @@ fn draw_hold(
 pub fn draw_resumed(
     alloc: Global,
     svg: &mut Svg,
-    subject: Subject<'_>,
+    subject: PictureSubject<'_>,
     plan: &Plan,
     stay: &Stay,
 ) -> Result<(), AllocError> {

@@ -3,7 +3,7 @@
 use crate::draw::all_wait;
 use crate::labels::{bold_width, cut_bold, cut_plain, plain_width, points};
 use crate::palette::{GREEN, GREY, HUES, INK, RED, SLATE, hue_of};
-use crate::pictures::Subject;
+use crate::pictures::PictureSubject;
 use crate::plan::{Column, Plan, ROW, TOP, rows_end};
 use crate::svg::{Block, Style, Svg};
 use cp_run::{OutcomeKind, RunEnd};
@@ -22,7 +22,11 @@ const MARKER: &str =
     "<marker id=\"arrow\" markerWidth=\"9\" markerHeight=\"8\" refX=\"7.5\" refY=\"4\" orient=\"auto\" markerUnits=\"userSpaceOnUse\"><path d=\"M0,0.5 L8,4 L0,7.5 z\" fill=\"#1f2933\"/></marker>\n";
 
 /// The picture's title, the patterns of the monitors' colours, and the point of an arrow.
-pub fn draw_patterns(svg: &mut Svg, subject: Subject<'_>, title: &str) -> Result<(), AllocError> {
+pub fn draw_patterns(
+    svg: &mut Svg,
+    subject: PictureSubject<'_>,
+    title: &str,
+) -> Result<(), AllocError> {
     svg.raw("<title>")?;
     if !title.is_empty() {
         svg.escaped(title)?;
@@ -85,7 +89,7 @@ fn plain<'a>(left: f64, top: f64, width: f64, height: f64, fill: &'a str) -> Blo
 pub fn draw_heads(
     alloc: Global,
     svg: &mut Svg,
-    subject: Subject<'_>,
+    subject: PictureSubject<'_>,
     plan: &Plan,
     title: &str,
 ) -> Result<(), AllocError> {
@@ -106,7 +110,7 @@ pub fn draw_heads(
 fn draw_heading(
     alloc: Global,
     svg: &mut Svg,
-    subject: Subject<'_>,
+    subject: PictureSubject<'_>,
     title: &str,
 ) -> Result<(), AllocError> {
     let mut schedule = String::from_str(alloc, "schedule ")?;
@@ -132,7 +136,7 @@ fn draw_heading(
 fn draw_lane_head(
     alloc: Global,
     svg: &mut Svg,
-    subject: Subject<'_>,
+    subject: PictureSubject<'_>,
     plan: &Plan,
     process: u8,
 ) -> Result<(), AllocError> {
@@ -201,7 +205,7 @@ fn draw_names(
 fn draw_bar_head(
     alloc: Global,
     svg: &mut Svg,
-    subject: Subject<'_>,
+    subject: PictureSubject<'_>,
     plan: &Plan,
     monitor: u8,
 ) -> Result<(), AllocError> {
@@ -260,7 +264,7 @@ pub fn draw_again(svg: &mut Svg, plan: &Plan, row: usize) -> Result<(), AllocErr
 pub fn draw_end(
     alloc: Global,
     svg: &mut Svg,
-    subject: Subject<'_>,
+    subject: PictureSubject<'_>,
     plan: &Plan,
     top: f64,
 ) -> Result<(), AllocError> {

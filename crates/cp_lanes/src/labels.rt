@@ -48,7 +48,7 @@ pub fn fixed_width(words: &str, size: f64) -> f64 {
 }
 
 /// The words, or as many characters as there is room for with a mark that some are missing.
-pub fn cut(
+pub fn cut_to_fit(
     alloc: Global,
     words: &str,
     room: f64,
@@ -73,15 +73,15 @@ pub fn cut(
 }
 
 pub fn cut_plain(alloc: Global, words: &str, room: f64, size: f64) -> Result<String, AllocError> {
-    cut(alloc, words, room, size, WIDTH)
+    cut_to_fit(alloc, words, room, size, WIDTH)
 }
 
 pub fn cut_bold(alloc: Global, words: &str, room: f64, size: f64) -> Result<String, AllocError> {
-    cut(alloc, words, room, size, BOLD)
+    cut_to_fit(alloc, words, room, size, BOLD)
 }
 
 pub fn cut_fixed(alloc: Global, words: &str, room: f64, size: f64) -> Result<String, AllocError> {
-    cut(alloc, words, room, size, FIXED)
+    cut_to_fit(alloc, words, room, size, FIXED)
 }
 
 /// The label of an event.

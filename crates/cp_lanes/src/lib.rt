@@ -12,4 +12,4 @@ mod spans;
 mod svg;
 mod title;
 
-pub use pictures::{Subject, picture};
+pub use pictures::{PictureSubject, picture};

@@ -14,7 +14,7 @@ use std::alloc::{AllocError, Global};
 
 /// What is drawn.
 #[derive(Clone, Copy)]
-pub struct Subject<'a> {
+pub struct PictureSubject<'a> {
     pub legend: &'a Legend,
     pub story: &'a Story,
     /// The schedule as a word.
@@ -27,8 +27,8 @@ pub struct Subject<'a> {
 }
 
 /// The lanes of a story as SVG.
-pub fn picture(alloc: Global, subject: Subject<'_>) -> Result<String, AllocError> {
-    let Subject { legend, story, .. } = subject;
+pub fn picture(alloc: Global, subject: PictureSubject<'_>) -> Result<String, AllocError> {
+    let PictureSubject { legend, story, .. } = subject;
     let rows = row_count(story);
     let mut labels = Vec::new(alloc);
     for event in &story.events {
@@ -37,7 +37,7 @@ pub fn picture(alloc: Global, subject: Subject<'_>) -> Result<String, AllocError
     let spans = spans_of(alloc, story, legend.processes(), legend.monitors(), rows)?;
     let widths = widths(alloc, subject)?;
     let plan = plan_of(alloc, legend, story, &labels, &spans, widths, rows)?;
-    drawn(alloc, subject, &plan, &spans, &labels)
+    draw_parts(alloc, subject, &plan, &spans, &labels)
 }
 
 // A row for each event, and one for a stop between two.
@@ -50,9 +50,9 @@ fn row_count(story: &Story) -> usize {
     story.events.len().saturating_add(extra)
 }
 
-fn drawn(
+fn draw_parts(
     alloc: Global,
-    subject: Subject<'_>,
+    subject: PictureSubject<'_>,
     plan: &Plan,
     spans: &Spans,
     labels: &[Label],
@@ -76,7 +76,7 @@ fn drawn(
 }
 
 // How wide what changed is, and the source.
-fn widths(alloc: Global, subject: Subject<'_>) -> Result<Widths, AllocError> {
+fn widths(alloc: Global, subject: PictureSubject<'_>) -> Result<Widths, AllocError> {
     let mut widths = Widths {
         changes: 0.0,
         source: 0.0,

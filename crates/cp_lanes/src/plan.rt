@@ -109,10 +109,10 @@ pub fn plan_of(
     }
     let room = SCREEN - fixed - widths.changes - widths.source;
     let most = fair_share(&natural, room);
-    placed(alloc, left, &natural, &bars, widths, most, rows)
+    place_columns(alloc, left, &natural, &bars, widths, most, rows)
 }
 
-fn placed(
+fn place_columns(
     alloc: Global,
     left: f64,
     natural: &[f64],

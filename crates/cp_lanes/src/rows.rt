@@ -3,7 +3,7 @@
 use crate::draw::draw_resumed;
 use crate::labels::{Face, Label, cut_bold, cut_fixed, cut_plain, pill_width, points};
 use crate::palette::{GREY, INK, PALE, RED, hue_of};
-use crate::pictures::{Subject, changes_words, source_line};
+use crate::pictures::{PictureSubject, changes_words, source_line};
 use crate::plan::{Plan, row_middle};
 use crate::spans::Spans;
 use crate::svg::{Block, Style, Svg};
@@ -14,7 +14,7 @@ use std::alloc::{AllocError, Global};
 pub fn draw_rows(
     alloc: Global,
     svg: &mut Svg,
-    subject: Subject<'_>,
+    subject: PictureSubject<'_>,
     plan: &Plan,
     spans: &Spans,
     labels: &[Label],
@@ -34,7 +34,7 @@ pub fn draw_rows(
 fn draw_row(
     alloc: Global,
     svg: &mut Svg,
-    subject: Subject<'_>,
+    subject: PictureSubject<'_>,
     plan: &Plan,
     row: usize,
     event: &Event,
@@ -54,7 +54,11 @@ fn draw_row(
     svg.close()
 }
 
-fn row_title(alloc: Global, subject: Subject<'_>, event: &Event) -> Result<String, AllocError> {
+fn row_title(
+    alloc: Global,
+    subject: PictureSubject<'_>,
+    event: &Event,
+) -> Result<String, AllocError> {
     let process = event.plain.process;
     let mut title = format!(in alloc; "{process} ")?;
     title.push_str(subject.legend.process_name(process))?;
@@ -251,7 +255,7 @@ fn draw_arrow(
 fn draw_changes(
     alloc: Global,
     svg: &mut Svg,
-    subject: Subject<'_>,
+    subject: PictureSubject<'_>,
     plan: &Plan,
     event: &Event,
     y: f64,
@@ -272,7 +276,7 @@ fn draw_changes(
 fn draw_source(
     alloc: Global,
     svg: &mut Svg,
-    subject: Subject<'_>,
+    subject: PictureSubject<'_>,
     plan: &Plan,
     line: Option<u32>,
     y: f64,
@@ -303,7 +307,7 @@ fn draw_source(
 fn draw_stop(
     alloc: Global,
     svg: &mut Svg,
-    subject: Subject<'_>,
+    subject: PictureSubject<'_>,
     plan: &Plan,
     stop: Stop,
 ) -> Result<(), AllocError> {

@@ -66,7 +66,7 @@ struct Open {
 }
 
 #[derive(Drop)]
-struct Builder {
+struct SpanBuilder {
     spans: Spans,
     open: Vec<Open>,
     holders: Vec<Option<Hold>>,
@@ -86,7 +86,7 @@ pub fn spans_of(
     monitors: u8,
     rows: usize,
 ) -> Result<Spans, AllocError> {
-    let mut builder = Builder::new(alloc, processes, monitors)?;
+    let mut builder = SpanBuilder::new(alloc, processes, monitors)?;
     for (row, event) in story.events.iter().enumerate() {
         builder.event(row, event)?;
         builder.hold(row, event)?;
@@ -94,8 +94,8 @@ pub fn spans_of(
     builder.finish(rows_end(rows) + 22.0)
 }
 
-impl Builder {
-    fn new(alloc: Global, processes: u8, monitors: u8) -> Result<Builder, AllocError> {
+impl SpanBuilder {
+    fn new(alloc: Global, processes: u8, monitors: u8) -> Result<SpanBuilder, AllocError> {
         let mut open = Vec::new(alloc);
         for process in 0..processes {
             open.push(Open {
@@ -109,7 +109,7 @@ impl Builder {
         for _ in 0..monitors {
             holders.push(None)?;
         }
-        Ok(Builder {
+        Ok(SpanBuilder {
             spans: Spans {
                 stays: Vec::new(alloc),
                 pauses: Vec::new(alloc),
@@ -242,7 +242,7 @@ impl Builder {
                         hold.bottom = y + 11.0;
                         self.spans.holds.push(hold)?;
                     }
-                    *held = begun(monitor, *holder, event.plain.process, y);
+                    *held = begin_hold(monitor, *holder, event.plain.process, y);
                 }
             }
         }
@@ -281,7 +281,7 @@ impl Builder {
 }
 
 // The hold that begins with an event of a process.
-fn begun(monitor: usize, holder: Option<u8>, process: u8, y: f64) -> Option<Hold> {
+fn begin_hold(monitor: usize, holder: Option<u8>, process: u8, y: f64) -> Option<Hold> {
     let holder = holder?;
     let top = if holder == process {
         y - 12.0

@@ -3,7 +3,7 @@
 use std::alloc::{AllocError, Global};
 
 /// The most characters of a heading.
-const MOST: usize = 76;
+const MOST_CHARACTERS: usize = 76;
 
 /// The first sentence of the comment with which a source begins, as the heading of its picture; empty where there is none.
 pub fn heading(alloc: Global, source: &[String]) -> Result<String, AllocError> {
@@ -17,7 +17,7 @@ pub fn heading(alloc: Global, source: &[String]) -> Result<String, AllocError> {
     let mut count = 0usize;
     for character in begun.trim().chars() {
         let is_end = character == '.' || character == ';' || character == '"' || character == '*';
-        if is_end || count >= MOST {
+        if is_end || count >= MOST_CHARACTERS {
             break;
         }
         text.push(character)?;

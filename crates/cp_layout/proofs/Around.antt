@@ -11,7 +11,7 @@ use Rattle.cp_layout.specs.declared.kinds.ArrayType.{ArrayType}
 use Rattle.cp_layout.specs.declared.kinds.ValueType.{ValueType}
 use Rattle.cp_layout.specs.declared.layer.Passing.{Passing}
 use Rattle.cp_layout.specs.declared.layer.Passing.TheVariants as passing
-use Rattle.cp_layout.specs.declared.layer.Layer as code_layer
+use Rattle.cp_layout.specs.declared.layer.Layouter as code_layer
 use Rattle.cp_layout.specs.declared.value.Designated as code_designated
 use Rattle.cp_slots.specs.Code.{Place, Expression, Action}
 use Rattle.cp_layout.specs.Values.{Value, Designated, designated_seen, ordinal_of, a_value, a_variable, a_contained, a_component, a_routine, an_entry, a_standard, no_designated}

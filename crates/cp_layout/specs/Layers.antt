@@ -22,7 +22,7 @@ use Rattle.cp_layout.specs.declared.layer.Owned as code_owned
 use Rattle.cp_layout.specs.declared.layer.System as code_system
 use Rattle.cp_layout.specs.declared.lists.Pending as code_pending
 use Rattle.cp_layout.specs.declared.surroundings.Surroundings as code_surroundings
-use Rattle.cp_layout.specs.declared.layer.Layer as code_layer
+use Rattle.cp_layout.specs.declared.layer.Layouter as code_layer
 use Rattle.cp_slots.specs.Tables.{RoutineView, routine_view}
 use Rattle.cp_layout.specs.Kinds.{Compounds, types_seen, plus, values_of}
 use Rattle.cp_slots.specs.Code.{Action, action_seen, Item, item_seen}

@@ -8,7 +8,7 @@ ghost use Rattle.cp_layout.specs.LaidDeclarations.{outer_seen};
 
 use crate::frame::Frame;
 use crate::kinds::ValueType;
-use crate::layer::{Heading, Layer, Owned, Parameter, System};
+use crate::layer::{Heading, Layouter, Owned, Parameter, System};
 use crate::names::{Meaning, Names};
 use cp_tree::{
     Body, Definition, Program, ProgramPart, ProgramPartKind, Routine, System as WrittenSystem,
@@ -24,7 +24,7 @@ struct Outer<'a> {
     owned: Owned,
 }
 
-impl<'a> Layer<'a> {
+impl<'a> Layouter<'a> {
     /// The whole program. The last routine is its initial statement.
     #[tactic(auto, unfolding(crate::specs::LaidDeclarations::program))]
     pub fn program(&mut self, alloc: Global, node: &'a Program) -> Result<(), AllocError>

@@ -9,7 +9,7 @@ ghost use Rattle.cp_layout.specs.Layers.{layer_seen, around_seen, Lays, paramete
 ghost use Rattle.cp_layout.specs.LaidExpressions as spec;
 
 use crate::kinds::{Base, ValueType};
-use crate::layer::{FunctionResult, Layer, Passing};
+use crate::layer::{FunctionResult, Layouter, Passing};
 use crate::surroundings::Surroundings;
 use crate::value::{
     Designated, Value, boxed, comparison_of, load, negation_of, no_value, number, opposite,
@@ -24,7 +24,7 @@ use cp_tree::{
 };
 use std::alloc::{AllocError, Global};
 
-impl<'a> Layer<'a> {
+impl<'a> Layouter<'a> {
     /// A name with its selectors.
     #[cycle(expression)]
     #[tactic(auto, unfolding(crate::specs::LaidExpressions::designator, crate::specs::Layers::layer_seen))]

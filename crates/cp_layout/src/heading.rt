@@ -6,13 +6,13 @@ ghost use Rattle.cp_layout.specs.Layers.{layer_seen, heading_seen, Lays, Leads};
 ghost use Rattle.cp_layout.specs.LaidDeclarations as spec;
 
 use crate::kinds::ValueType;
-use crate::layer::{FunctionResult, Heading, Layer, Parameter, Passing};
+use crate::layer::{FunctionResult, Heading, Layouter, Parameter, Passing};
 use crate::names::Meaning;
 use cp_slots::Origin;
 use cp_tree::{Group, Identifier, ParameterGroup, RoutineKind};
 use std::alloc::{AllocError, Global};
 
-impl<'a> Layer<'a> {
+impl<'a> Layouter<'a> {
     /// A routine's heading, with its parameters declared.
     #[tactic(auto, unfolding(crate::specs::LaidDeclarations::heading, crate::specs::Layers::layer_seen))]
     pub fn heading(

@@ -89,7 +89,7 @@ pub struct System {
 
 /// What is laid out so far.
 #[derive(Drop)]
-pub struct Layer<'a> {
+pub struct Layouter<'a> {
     /// What expressions and types read.
     pub around: Surroundings<'a>,
     /// Of the routine that is laid out.
@@ -145,13 +145,13 @@ impl Owned {
     }
 }
 
-impl<'a> Layer<'a> {
+impl<'a> Layouter<'a> {
     /// The predeclared names alone.
     #[tactic(auto, unfolding(crate::specs::Layers::layer_seen))]
-    pub fn new(alloc: Global, tree: &'a Tree) -> Result<Layer<'a>, AllocError>
+    pub fn new(alloc: Global, tree: &'a Tree) -> Result<Layouter<'a>, AllocError>
         ensures { IfOk result (λ l. layer_seen l ≡ spec.nothing_laid tree.now.lines.items) }
     {
-        Ok(Layer {
+        Ok(Layouter {
             around: Surroundings {
                 lines: &tree.lines,
                 types: Types::new(alloc),

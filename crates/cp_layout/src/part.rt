@@ -7,13 +7,13 @@ ghost use Rattle.cp_layout.specs.Layers.{layer_seen, Lays, Leads};
 ghost use Rattle.cp_layout.specs.LaidDeclarations as spec;
 
 use crate::kinds::{Types, ValueType};
-use crate::layer::{Contained, Layer};
+use crate::layer::{Contained, Layouter};
 use crate::names::Meaning;
 use cp_slots::Origin;
 use cp_tree::{ConstantDefinition, Identifier, Part, PartKind, TypeDefinition, VariableGroup};
 use std::alloc::{AllocError, Global};
 
-impl<'a> Layer<'a> {
+impl<'a> Layouter<'a> {
     /// The parts of a system type.
     #[tactic(auto, using(crate::proofs::LaidParts::permanent_parts_step, crate::proofs::LaidParts::permanent_parts_none))]
     pub fn permanent_parts(&mut self, alloc: Global, parts: &'a [Part]) -> Result<(), AllocError>

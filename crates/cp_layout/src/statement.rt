@@ -10,7 +10,7 @@ ghost use Rattle.cp_layout.specs.LaidStatements.{target_seen, callee_seen, place
 
 use crate::expression::byte_or;
 use crate::kinds::{Base, ValueType, values_of};
-use crate::layer::Layer;
+use crate::layer::Layouter;
 use crate::names::Predeclared;
 use crate::surroundings::Surroundings;
 use crate::value::{Designated, Value, ordinal, place_at, place_of, set};
@@ -58,7 +58,7 @@ fn placed_of(named: Designated) -> Option<(ComponentPlace, usize)>
     }
 }
 
-impl<'a> Layer<'a> {
+impl<'a> Layouter<'a> {
     /// The items of a list, and the first of them.
     #[cycle(statement)]
     #[tactic(auto, using(crate::proofs::LaidLists::statements_step, crate::proofs::LaidLists::statements_none))]

@@ -9,7 +9,7 @@ ghost use Rattle.cp_layout.specs.Laid as spec;
 ghost use Rattle.cp_layout.specs.Laid.{plain, laid};
 
 use crate::component::Components;
-use crate::layer::{Layer, Owned, System};
+use crate::layer::{Layouter, Owned, System};
 use cp_slots::{Layout, Process, Routine, SystemType};
 use cp_tree::Tree;
 use std::alloc::{AllocError, Global};
@@ -19,14 +19,14 @@ use std::alloc::{AllocError, Global};
 pub fn lay_out(alloc: Global, tree: &Tree) -> Result<Layout, AllocError>
     ensures { IfOk result (λ l. plain (tables_of l) ≡ laid (tree_view tree.now)) }
 {
-    let mut layer = Layer::new(alloc, tree)?;
+    let mut layer = Layouter::new(alloc, tree)?;
     layer.program(alloc, &tree.program)?;
     tables(alloc, layer)
 }
 
 // The tables of what is laid out. The last routine is the program's initial statement.
 #[tactic(auto, unfolding(crate::specs::Laid::tables_laid, crate::specs::Layers::layer_seen))]
-fn tables(alloc: Global, layer: Layer<'_>) -> Result<Layout, AllocError>
+fn tables(alloc: Global, layer: Layouter<'_>) -> Result<Layout, AllocError>
     ensures { IfOk result (λ l. plain (tables_of l) ≡ spec.tables_laid (layer_seen layer.entry)) }
 {
     let initial = layer.lists.routines.len().saturating_sub(1);
@@ -92,7 +92,7 @@ struct Room {
 }
 
 #[tactic(auto, using(crate::proofs::Systems::room_step, crate::proofs::Systems::room_none))]
-fn room_of(layer: &Layer<'_>, processes: &[Process]) -> Room
+fn room_of(layer: &Layouter<'_>, processes: &[Process]) -> Room
     ensures { result ≡ spec.room_from (layer_seen layer.now) spec.no_room processes.now }
 {
     let mut room = Room {
@@ -108,7 +108,7 @@ fn room_of(layer: &Layer<'_>, processes: &[Process]) -> Room
 
 // Also for a process with this initial statement.
 #[tactic(auto, unfolding(crate::specs::Layers::layer_seen))]
-fn room_for(layer: &Layer<'_>, room: Room, initial: usize) -> Room
+fn room_for(layer: &Layouter<'_>, room: Room, initial: usize) -> Room
     ensures { result ≡ spec.room_for (layer_seen layer.now) room (slice_get (layer_seen layer.now).routines initial) }
 {
     match layer.lists.routines.get(initial) {

@@ -8,7 +8,7 @@ ghost use Rattle.cp_layout.specs.LaidTypes as spec;
 
 use crate::expression::{integer, integer_of};
 use crate::kinds::{Base, Range, RecordType, ValueType, values_of};
-use crate::layer::Layer;
+use crate::layer::Layouter;
 use crate::names::{Meaning, Names};
 use cp_tree::{
     Constant, ConstantKind, FieldGroup, Identifier, Sign, Simple, SimpleKind, Type, TypeKind,
@@ -100,7 +100,7 @@ impl<'a> Names<'a> {
     }
 }
 
-impl<'a> Layer<'a> {
+impl<'a> Layouter<'a> {
     /// A type, with its enumeration constants declared.
     #[cycle(types)]
     #[tactic(auto, unfolding(crate::specs::LaidTypes::written_type))]

@@ -51,7 +51,7 @@ impl Owned {
     }
 }
 
-fn signed(sign: Option<Sign>, number: i16) -> i16 {
+fn with_sign(sign: Option<Sign>, number: i16) -> i16 {
     match sign {
         Some(Sign::Minus) => number.saturating_neg(),
         _ => number,
@@ -76,11 +76,11 @@ impl<'a> Reader<'a> {
         match &node.kind {
             ConstantKind::Number(sign, number) => {
                 let number = i16::try_from(*number).unwrap_or(i16::MAX);
-                (Base::Integer, signed(*sign, number))
+                (Base::Integer, with_sign(*sign, number))
             }
             ConstantKind::Character(code) => (Base::Character, i16::from(*code)),
             ConstantKind::Name(sign, name) => match self.scope.look(name.name.as_str()) {
-                Some(Meaning::Constant(base, number)) => (base, signed(*sign, number)),
+                Some(Meaning::Constant(base, number)) => (base, with_sign(*sign, number)),
                 _ => (Base::Integer, 0),
             },
         }

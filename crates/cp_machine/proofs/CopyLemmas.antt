@@ -9,7 +9,7 @@ use Rattle.cp_store.specs.declared.memory.Frame.{Frame}
 use Rattle.cp_machine.specs.declared.process.Entry.{Entry}
 use Rattle.cp_machine.specs.declared.process.Entry.TheVariants.{Rest, Successor, Return, InitEnd}
 use Rattle.cp_machine.specs.Stack.{top_first}
-use Rattle.cp_machine.specs.declared.state.Guard.{Guard}
+use Rattle.cp_machine.specs.declared.state.Gate.{Gate}
 use Rattle.cp_machine.specs.declared.process.Process.{Process}
 use Rattle.cp_machine.specs.Bodies.{Body, body_of}
 use Rattle.cp_machine.specs.Machine.{Machine, Thread, monitor_of, no_thread, thread_at, thread_of}
@@ -89,7 +89,7 @@ body_kept old mine theirs at was y lo lt rest read_mine read kept =
     ap body_of mine_is ∙ kept ∙ ap body_of theirs_is
 
 -- monitors that are alike one by one
-pub guards_same : (xs ys : List Guard) → length xs ≡ length ys → ((k : ℕ) (d : Guard) → k < length xs → monitor_of (slice_index_or xs k d) ≡ monitor_of (slice_index_or ys k d)) → map monitor_of xs ≡ map monitor_of ys
+pub guards_same : (xs ys : List Gate) → length xs ≡ length ys → ((k : ℕ) (d : Gate) → k < length xs → monitor_of (slice_index_or xs k d) ≡ monitor_of (slice_index_or ys k d)) → map monitor_of xs ≡ map monitor_of ys
 guards_same [] [] e h = refl
 guards_same [] (y ∷ ys) e h = absurd (omega arith)
 guards_same (x ∷ xs) [] e h = absurd (omega arith)

@@ -4,14 +4,14 @@ use Rattle.std.specs.Prelude.{slice_index_or}
 use Rattle.std.proofs.lemmas.List.{get_or-map}
 use Rattle.cp_store.specs.Memory.{Memory}
 use Rattle.cp_machine.specs.declared.process.Process.{Process}
-use Rattle.cp_machine.specs.declared.state.Guard.{Guard}
+use Rattle.cp_machine.specs.declared.state.Gate.{Gate}
 use Rattle.cp_machine.specs.Machine.{Machine, Thread, monitor_of, thread_of, thread_at, no_thread, no_monitor, with_permanents, with_thread}
 use Rattle.cp_machine.specs.Memory.{memory_at, with_memory}
 
 pub thread_read : (ps : List Process) (pid : ℕ) (p : Process) → pid < length ps → p ≡ slice_index_or ps pid p → thread_at (map thread_of ps) pid ≡ thread_of p
 thread_read ps pid p h e = get_or-map thread_of ps pid p no_thread h ∙ ap thread_of (sym e)
 
-pub guard_read : (gs : List Guard) (k : ℕ) (g : Guard) → k < length gs → g ≡ slice_index_or gs k g → slice_index_or (map monitor_of gs) k no_monitor ≡ monitor_of g
+pub guard_read : (gs : List Gate) (k : ℕ) (g : Gate) → k < length gs → g ≡ slice_index_or gs k g → slice_index_or (map monitor_of gs) k no_monitor ≡ monitor_of g
 guard_read gs k g h e = get_or-map monitor_of gs k g no_monitor h ∙ ap monitor_of (sym e)
 
 abbrev memory_in : Machine → Thread → Memory

@@ -9,7 +9,7 @@ use Rattle.cp_machine.specs.declared.process.Process.{Process}
 use Rattle.cp_machine.specs.declared.process.Status.{Status}
 use Rattle.cp_machine.specs.declared.process.Status.TheVariants.{Unstarted, Ready, AtGate, Delayed, Ended}
 use Rattle.cp_machine.specs.declared.shown.Shown.{Shown}
-use Rattle.cp_machine.specs.declared.state.Guard.{Guard}
+use Rattle.cp_machine.specs.declared.state.Gate.{Gate}
 use Rattle.cp_machine.specs.declared.state.Phase.{Phase}
 use Rattle.cp_machine.specs.declared.state.Phase.TheVariants.{Uninitialised, Initialised}
 use Rattle.cp_machine.specs.declared.state.Readiness.{Readiness}
@@ -53,7 +53,7 @@ thread_of p =
       references = p.room.references.items;
     }
 
-abbrev pub monitor_of : Guard → Monitor
+abbrev pub monitor_of : Gate → Monitor
 monitor_of g = record { holder = g.holder; line = g.line.items }
 
 abbrev pub machine_of : State → Machine

@@ -8,7 +8,7 @@ ghost use Rattle.cp_machine.specs.Opening.{admitted, without};
 
 use crate::memory::set_status;
 use crate::process::Status;
-use crate::state::{Guard, State};
+use crate::state::{Gate, State};
 use arrayvec::ArrayVec;
 
 /// Lets a process of the pending monitor's line go in.
@@ -27,7 +27,7 @@ pub fn admit_process(state: &mut State, pid: u8)
 }
 
 // A process goes in from the line.
-fn take_in(guard: &mut Guard, pid: u8)
+fn take_in(guard: &mut Gate, pid: u8)
     ensures { monitor_of guard.new ≡ record { holder = Some pid; line = without pid (monitor_of guard.old).line } }
 {
     leave_line(&mut guard.line, pid);

@@ -9,7 +9,7 @@ ghost use Rattle.cp_machine.specs.Machine.{machine_of, monitor_of, thread_at, th
 use crate::moved::{Moved, Unwatched, Watch};
 use crate::process::Process;
 use crate::shown::Shown;
-use crate::state::{Guard, Phase, State};
+use crate::state::{Gate, Phase, State};
 use arrayvec::ArrayVec;
 use cp_store::{Bound, Room};
 use std::alloc::{AllocError, Global};
@@ -119,7 +119,7 @@ fn copies_of_cells(
 }
 
 // The processes, and the monitors that they go into.
-fn copies_of_parties(alloc: Global, from: &State) -> Result<(Vec<Process>, Vec<Guard>), AllocError>
+fn copies_of_parties(alloc: Global, from: &State) -> Result<(Vec<Process>, Vec<Gate>), AllocError>
     ensures threads { IfOk result (λ t. map thread_of t.0.items ≡ map thread_of from.now.processes.items) }
     ensures stacks { IfOk result (λ t. (depth : ℕ) → HaveStacks depth from.now.processes.items → HaveStacks depth t.0.items) }
     ensures cells { IfOk result (λ t. (cells : ℕ) → HaveCells cells from.now.processes.items → HaveCells cells t.0.items) }
@@ -183,7 +183,7 @@ fn copy_of_room(alloc: Global, from: &Room) -> Result<Room, AllocError>
     Ok(Room { cells, references })
 }
 
-fn copies_of_guards(alloc: Global, from: &[Guard]) -> Result<Vec<Guard>, AllocError>
+fn copies_of_guards(alloc: Global, from: &[Gate]) -> Result<Vec<Gate>, AllocError>
     ensures { IfOk result (λ gs. map monitor_of gs.items ≡ map monitor_of from.now) }
 {
     let mut guards = Vec::with_capacity(alloc, from.len())?;
@@ -193,14 +193,14 @@ fn copies_of_guards(alloc: Global, from: &[Guard]) -> Result<Vec<Guard>, AllocEr
     Ok(guards)
 }
 
-fn copy_of_guard(from: &Guard) -> Guard
+fn copy_of_guard(from: &Gate) -> Gate
     ensures { monitor_of result ≡ monitor_of from.now }
 {
     let mut line = ArrayVec::new();
     if !from.line.is_empty() {
         let _ = line.try_extend_from_slice(from.line.as_slice());
     }
-    Guard {
+    Gate {
         holder: from.holder,
         line,
     }
@@ -253,7 +253,7 @@ fn take_room(to: &mut Room, from: &Room)
     take_list(&mut to.references, &from.references);
 }
 
-fn take_guards(mine: &mut [Guard], theirs: &[Guard])
+fn take_guards(mine: &mut [Gate], theirs: &[Gate])
     requires { length mine.old ≡ length theirs.now }
     ensures { map monitor_of mine.new ≡ map monitor_of theirs.now }
 {

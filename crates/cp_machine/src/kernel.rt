@@ -9,7 +9,7 @@ ghost use Rattle.cp_machine.specs.Machine.{is_delayed_at, machine_of, monitor_at
 use crate::gates::Gates;
 use crate::memory::set_status;
 use crate::process::{Process, Status};
-use crate::state::{Guard, State};
+use crate::state::{Gate, State};
 
 /// Lets the line of a monitor in, which nobody is inside any more.
 pub fn let_in(state: &mut State, monitor: u8)
@@ -54,7 +54,7 @@ fn let_one_in(state: &mut State, monitor: u8)
 }
 
 // The first of the line, who goes in.
-fn take_first(guard: &mut Guard) -> Option<u8>
+fn take_first(guard: &mut Gate) -> Option<u8>
     ensures holder { guard.new.holder ≡ result }
     ensures first { IfSome result (λ pid. guard.old.line.items ≡ pid ∷ guard.new.line.items) }
     ensures empty { IfNone result (guard.old.line.items ≡ []) }

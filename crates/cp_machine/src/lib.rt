@@ -33,6 +33,6 @@ pub use local::local_step;
 pub use moved::{Moved, Unwatched, Watch};
 pub use process::{Entry, Process, Status};
 pub use shown::Shown;
-pub use state::{Guard, MOST_SHOWN, Phase, Readiness, State};
+pub use state::{Gate, MOST_SHOWN, Phase, Readiness, State};
 pub use stepper::step;
 pub use ticks::Ticks;

@@ -17,8 +17,8 @@ use crate::state::State;
 use cp_slots::{Argument, ComponentPlace, Expression, Origin, Place, SetExpression};
 use cp_store::set::SetValue;
 use cp_store::{
-    Address, Frame, address, origin_address, bind_component, bind_frame, component, copy_cells, evaluate,
-    evaluate_arguments, evaluate_here, evaluate_set, write, write_set,
+    Address, Frame, address, bind_component, bind_frame, component, copy_cells, evaluate,
+    evaluate_arguments, evaluate_here, evaluate_set, origin_address, write, write_set,
 };
 
 /// The frame that a process executes.

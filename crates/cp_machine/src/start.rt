@@ -15,7 +15,7 @@ use crate::gates::Gates;
 use crate::memory::set_status;
 use crate::process::{Entry, Process, Status};
 use crate::shown::Shown;
-use crate::state::{Guard, MOST_SHOWN, Phase, State};
+use crate::state::{Gate, MOST_SHOWN, Phase, State};
 use arrayvec::ArrayVec;
 use cp_slots::Resolved;
 use cp_store::{Bound, Frame, Room, open_frame};
@@ -71,10 +71,7 @@ fn still_cells(
 }
 
 // The processes, and the monitors that they go into.
-fn still_parties(
-    alloc: Global,
-    program: &Resolved,
-) -> Result<(Vec<Process>, Vec<Guard>), AllocError>
+fn still_parties(alloc: Global, program: &Resolved) -> Result<(Vec<Process>, Vec<Gate>), AllocError>
     ensures threads { IfOk result (λ t. map thread_of t.0.items ≡ map (unstarted_thread program.now) program.now.processes) }
     ensures stacks { IfOk result (λ t. HaveStacks program.now.depth t.0.items) }
     ensures cells { IfOk result (λ t. HaveCells program.now.cells t.0.items) }
@@ -99,12 +96,12 @@ fn empty_lists(alloc: Global, program: &Resolved) -> Result<(Vec<Shown>, Vec<Bou
     Ok((output, bounds))
 }
 
-fn free_guards(alloc: Global, count: usize) -> Result<Vec<Guard>, AllocError>
+fn free_guards(alloc: Global, count: usize) -> Result<Vec<Gate>, AllocError>
     ensures { IfOk result (λ gs. map monitor_of gs.items ≡ replicate count no_monitor) }
 {
     let mut guards = Vec::with_capacity(alloc, count)?;
     for _number in 0..count {
-        guards.push(Guard {
+        guards.push(Gate {
             holder: None,
             line: ArrayVec::new(),
         })?;

@@ -15,7 +15,7 @@ pub const MOST_SHOWN: usize = 1000;
 
 /// Who is inside a monitor, and its line.
 #[derive(Drop)]
-pub struct Guard {
+pub struct Gate {
     pub holder: Option<u8>,
     pub line: ArrayVec<u8, 16>,
 }
@@ -61,7 +61,7 @@ pub struct State {
     pub bindings: Vec<usize>,
     pub phases: Vec<Phase>,
     pub processes: Vec<Process>,
-    pub guards: Vec<Guard>,
+    pub guards: Vec<Gate>,
     pub pending: Option<u8>,
     pub gates: Gates,
     pub output: Vec<Shown>,

@@ -10,5 +10,5 @@ pub mod subject;
 mod telling;
 mod texts;
 
-pub use subject::{Form, Subject, Told};
+pub use subject::{Format, Subject, Summary};
 pub use telling::{First, first_of_outcome, outcomes};

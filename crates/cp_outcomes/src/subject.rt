@@ -6,7 +6,7 @@ use cp_slots::Resolved;
 
 /// How the outcomes are written.
 #[derive(Clone, Copy, PartialEq, Eq)]
-pub enum Form {
+pub enum Format {
     Text,
     Json,
 }
@@ -25,7 +25,7 @@ pub struct Subject<'a> {
 
 /// The outcomes as they are told.
 #[derive(Drop)]
-pub struct Told {
+pub struct Summary {
     /// False where there are too many states or outcomes; then the text says what is known, and what to try.
     pub is_whole: bool,
     pub text: String,

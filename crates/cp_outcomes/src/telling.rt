@@ -9,7 +9,7 @@ use crate::completing::greatest_known;
 use crate::known::Known;
 use crate::objects::{excess_json, json};
 use crate::stopped::is_stopped;
-use crate::subject::{Excess, Form, Subject, Told};
+use crate::subject::{Excess, Format, Subject, Summary};
 use crate::texts::{excess_text, text};
 use cp_machine::Ticks;
 use cp_merged::word::{Word, word_of};
@@ -29,13 +29,13 @@ enum Finding {
 }
 
 /// The outcomes of all schedules of a program in words: their shares, counts and first schedules, and whether these are all.
-pub fn outcomes(alloc: Global, subject: Subject<'_>, form: Form) -> Result<Told, AllocError> {
-    match found(alloc, subject)? {
-        Finding::Whole(tallies) => Ok(Told {
+pub fn outcomes(alloc: Global, subject: Subject<'_>, form: Format) -> Result<Summary, AllocError> {
+    match find_outcomes(alloc, subject)? {
+        Finding::Whole(tallies) => Ok(Summary {
             is_whole: true,
-            text: written::<Brand>(alloc, subject, form, &tallies, Blank::new(1))?,
+            text: write_findings::<Brand>(alloc, subject, form, &tallies, Blank::new(1))?,
         }),
-        Finding::TooMany(excess, known) => Ok(Told {
+        Finding::TooMany(excess, known) => Ok(Summary {
             is_whole: false,
             text: excess_written(alloc, subject, form, excess, &known)?,
         }),
@@ -46,25 +46,25 @@ pub fn outcomes(alloc: Global, subject: Subject<'_>, form: Form) -> Result<Told,
 fn excess_written(
     alloc: Global,
     subject: Subject<'_>,
-    form: Form,
+    form: Format,
     excess: Excess,
     known: &Option<Known>,
 ) -> Result<String, AllocError> {
     let Some(known) = known else {
         return match form {
-            Form::Text => excess_text(alloc, excess, None),
-            Form::Json => excess_json(alloc, excess, None),
+            Format::Text => excess_text(alloc, excess, None),
+            Format::Json => excess_json(alloc, excess, None),
         };
     };
     let Some(limits) = Limits::new(known.choices, subject.limits.steps, subject.limits.gates) else {
         unreachable!()
     };
     let fewer = Subject { limits, ..subject };
-    let told = written::<Brand>(alloc, fewer, form, &known.tallies, Blank::new(1))?;
+    let told = write_findings::<Brand>(alloc, fewer, form, &known.tallies, Blank::new(1))?;
     let known = Some((known.choices, told.as_str()));
     match form {
-        Form::Text => excess_text(alloc, excess, known),
-        Form::Json => excess_json(alloc, excess, known),
+        Format::Text => excess_text(alloc, excess, known),
+        Format::Json => excess_json(alloc, excess, known),
     }
 }
 
@@ -106,10 +106,10 @@ fn first_among(tallies: &[Tally], number: usize) -> First {
     First::None(tallies.len())
 }
 
-fn written<L: Ledger>(
+fn write_findings<L: Ledger>(
     alloc: Global,
     subject: Subject<'_>,
-    form: Form,
+    form: Format,
     tallies: &Tallies,
     blank: Blank,
 ) -> Result<String, AllocError>
@@ -119,13 +119,13 @@ fn written<L: Ledger>(
 {
     let mut ticks: Ticks<L> = Ticks::new(blank);
     match form {
-        Form::Text => text(alloc, subject, tallies, &mut ticks),
-        Form::Json => json(alloc, subject, tallies, &mut ticks),
+        Format::Text => text(alloc, subject, tallies, &mut ticks),
+        Format::Json => json(alloc, subject, tallies, &mut ticks),
     }
 }
 
 // The outcomes, or what there is too much of.
-fn found(alloc: Global, subject: Subject<'_>) -> Result<Finding, AllocError>
+fn find_outcomes(alloc: Global, subject: Subject<'_>) -> Result<Finding, AllocError>
     ensures found { IfOk result (λ f. IsFoundOf (slots subject.entry.program.now subject.entry.limits.gates) subject.entry.limits.choices subject.entry.limits.steps f) }
     ensures meaning { IfOk result (λ f. IsMeantFinding subject.entry.program.now subject.entry.limits.gates subject.entry.limits.choices subject.entry.limits.steps f) }
 {

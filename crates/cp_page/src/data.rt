@@ -7,10 +7,10 @@ use crate::endless::endless_of;
 use crate::graph::Graph;
 use crate::json::Json;
 use crate::keys::Merging;
-use crate::outcomes::{MOST, first_words, has_output_limit, outcome_rows, survey};
+use crate::outcomes::{MOST_OUTCOMES, first_words, has_output_limit, outcome_rows, survey};
 use crate::register::Register;
 use crate::source::source_lines;
-use crate::subject::{Length, Subject};
+use crate::subject::{Length, PageSubject};
 use crate::teller::Teller;
 use crate::variables::kept_variables;
 use cp_legend::Legend;
@@ -24,13 +24,13 @@ use std::marker::Brand;
 use std::sync::ledger::{Blank, Ledger};
 
 /// How many states a layer may have when schedules are counted.
-const LAYER: usize = 200_000;
+const MOST_IN_A_LAYER: usize = 200_000;
 
 /// The first outcomes, whose first schedules are gone along to their ends.
-const LAID: usize = 500;
+const MOST_LAID_OUT: usize = 500;
 
 /// The data of a page.
-pub fn data(alloc: Global, subject: Subject<'_>) -> Result<Json, AllocError> {
+pub fn data(alloc: Global, subject: PageSubject<'_>) -> Result<Json, AllocError> {
     let mut json = Json::new(alloc);
     json.begin();
     put_limits(&mut json, subject);
@@ -46,12 +46,12 @@ pub fn data(alloc: Global, subject: Subject<'_>) -> Result<Json, AllocError> {
 }
 
 // The graph, and the outcomes of all schedules with their counts.
-fn put_counted(alloc: Global, json: &mut Json, subject: Subject<'_>) -> Result<(), AllocError> {
+fn put_counted(alloc: Global, json: &mut Json, subject: PageSubject<'_>) -> Result<(), AllocError> {
     let job = Job {
         program: subject.program,
         limits: subject.limits,
     };
-    let found = survey(alloc, job, LAYER)?;
+    let found = survey(alloc, job, MOST_IN_A_LAYER)?;
     put_tallies(alloc, json, subject, rows_of(&found), found.is_some())
 }
 
@@ -65,30 +65,30 @@ fn rows_of(found: &Option<Tallies>) -> &[Tally] {
 fn put_tallies(
     alloc: Global,
     json: &mut Json,
-    subject: Subject<'_>,
+    subject: PageSubject<'_>,
     tallies: &[Tally],
     is_whole: bool,
 ) -> Result<(), AllocError> {
-    let words = first_words(alloc, tallies, LAID)?;
+    let words = first_words(alloc, tallies, MOST_LAID_OUT)?;
     put_graph(alloc, json, subject, merging_for(tallies), &words)?;
     json.name("isWhole");
     json.truth(is_whole);
     json.name("more");
-    json.place(tallies.len().saturating_sub(MOST));
+    json.place(tallies.len().saturating_sub(MOST_OUTCOMES));
     json.name("outcomes");
     json.value(&outcome_rows(alloc, subject.legend, tallies)?);
     Ok(())
 }
 
 // The graph, the ends that are possible in schedules of any length, and who may wait for ever.
-fn put_endless(alloc: Global, json: &mut Json, subject: Subject<'_>) -> Result<(), AllocError> {
+fn put_endless(alloc: Global, json: &mut Json, subject: PageSubject<'_>) -> Result<(), AllocError> {
     let endless = endless_of(alloc, subject)?;
     let words = endless.words(alloc)?;
     put_graph(alloc, json, subject, Merging::WithoutOutput, &words)?;
     endless.put(alloc, json, subject.legend)
 }
 
-fn put_limits(json: &mut Json, subject: Subject<'_>) {
+fn put_limits(json: &mut Json, subject: PageSubject<'_>) {
     json.name("format");
     json.number(1);
     json.name("choices");
@@ -146,7 +146,7 @@ fn put_name(json: &mut Json, name: &str, type_name: &str) {
 fn put_graph(
     alloc: Global,
     json: &mut Json,
-    subject: Subject<'_>,
+    subject: PageSubject<'_>,
     merging: Merging,
     words: &[Vec<u8>],
 ) -> Result<(), AllocError> {
@@ -171,7 +171,7 @@ fn first_teller(alloc: Global, legend: &Legend) -> Result<Teller<'_>, AllocError
 fn put_variables(
     alloc: Global,
     json: &mut Json,
-    subject: Subject<'_>,
+    subject: PageSubject<'_>,
     teller: &mut Teller<'_>,
 ) -> Result<(), AllocError> {
     let state = State::start(alloc, subject.program, subject.limits.gates)?;
@@ -185,12 +185,12 @@ fn put_variables(
 fn put_states(
     alloc: Global,
     json: &mut Json,
-    subject: Subject<'_>,
+    subject: PageSubject<'_>,
     words: &[Vec<u8>],
     graph: &mut Graph<'_>,
 ) -> Result<(), AllocError> {
     let views = first_views(alloc, subject, &mut graph.teller.register)?;
-    let start = explored::<Brand>(alloc, subject, graph, words, Blank::new(1))?;
+    let start = explore_graph::<Brand>(alloc, subject, graph, words, Blank::new(1))?;
     json.name("start");
     json.open();
     json.place(start);
@@ -214,7 +214,7 @@ fn merging_for(tallies: &[Tally]) -> Merging {
 // Where each process stands before it is started.
 fn first_views(
     alloc: Global,
-    subject: Subject<'_>,
+    subject: PageSubject<'_>,
     register: &mut Register<'_>,
 ) -> Result<Vec<usize>, AllocError> {
     let state = State::start(alloc, subject.program, subject.limits.gates)?;
@@ -226,9 +226,9 @@ fn first_views(
 }
 
 // Finds the states: the first ones, and those along words. The answer is the edge before the first choice.
-fn explored<S: Ledger>(
+fn explore_graph<S: Ledger>(
     alloc: Global,
-    subject: Subject<'_>,
+    subject: PageSubject<'_>,
     graph: &mut Graph<'_>,
     words: &[Vec<u8>],
     blank: Blank,
@@ -238,7 +238,7 @@ fn explored<S: Ledger>(
     requires one { S.parts ≡ 1 }
 {
     let mut ticks: Ticks<S> = Ticks::new(blank);
-    let Subject {
+    let PageSubject {
         program,
         limits,
         ..

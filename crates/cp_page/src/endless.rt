@@ -6,7 +6,7 @@ ghost use Rattle.cp_waits.specs.Named.{TellOfAll};
 
 use crate::ends::plain_row;
 use crate::json::Json;
-use crate::subject::Subject;
+use crate::subject::PageSubject;
 use cp_ends::{Found, search_ends};
 use cp_legend::Legend;
 use cp_waits::{How, Waiting, Waits, find_waits};
@@ -24,11 +24,11 @@ pub struct Endless {
 }
 
 /// Which ends are possible, and who may wait for ever.
-pub fn endless_of(alloc: Global, subject: Subject<'_>) -> Result<Endless, AllocError>
+pub fn endless_of(alloc: Global, subject: PageSubject<'_>) -> Result<Endless, AllocError>
     ensures ends { IfOk result (λ e. IsAnswer subject.entry.program.now subject.entry.limits.gates subject.entry.limits.steps 200000 e.found) }
     ensures waits { IfOk result (λ e. IfSome e.waits (λ waits. TellOfAll subject.entry.program.now subject.entry.limits.gates subject.entry.limits.steps e.found waits)) }
 {
-    let Subject {
+    let PageSubject {
         program,
         limits,
         ..

@@ -21,7 +21,7 @@ pub struct Beside {
 
 // What a happening is, by a letter, and what it is about: a monitor or a process, and a text.
 #[derive(Clone, Copy)]
-struct Told {
+struct Happened {
     letter: &'static str,
     whom: u8,
     text: usize,
@@ -51,7 +51,7 @@ impl<'a> Register<'a> {
         Ok(self.events.place(&row))
     }
 
-    fn told(&mut self, event: &Event, beside: &Beside) -> Result<Told, AllocError> {
+    fn told(&mut self, event: &Event, beside: &Beside) -> Result<Happened, AllocError> {
         match &event.happening {
             Happening::Enter {
                 call,
@@ -75,7 +75,7 @@ impl<'a> Register<'a> {
         }
     }
 
-    fn queue_told(&mut self, letter: &'static str, queue: &Queue) -> Told {
+    fn queue_told(&mut self, letter: &'static str, queue: &Queue) -> Happened {
         let text = self.strings.place_text(queue.name.as_str());
         about(letter, queue.monitor, text)
     }
@@ -86,7 +86,7 @@ impl<'a> Register<'a> {
         letter: &'static str,
         call: OpenCall,
         arguments: &[Value],
-    ) -> Result<Told, AllocError> {
+    ) -> Result<Happened, AllocError> {
         let mut text = String::from_str(self.alloc, self.legend.routine_name(call.routine))?;
         if !arguments.is_empty() {
             text.push('(')?;
@@ -105,6 +105,6 @@ impl<'a> Register<'a> {
     }
 }
 
-fn about(letter: &'static str, whom: u8, text: usize) -> Told {
-    Told { letter, whom, text }
+fn about(letter: &'static str, whom: u8, text: usize) -> Happened {
+    Happened { letter, whom, text }
 }

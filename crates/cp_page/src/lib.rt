@@ -28,5 +28,5 @@ mod variables;
 mod views;
 mod writing;
 
-pub use subject::{Length, Subject};
+pub use subject::{Length, PageSubject};
 pub use writing::page;

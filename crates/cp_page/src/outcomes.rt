@@ -20,7 +20,7 @@ use cp_walk::Job;
 use std::alloc::{AllocError, Global};
 
 /// The most outcomes that a page has.
-pub const MOST: usize = 2000;
+pub const MOST_OUTCOMES: usize = 2000;
 
 /// The outcomes of all schedules, if there are not too many states or outcomes.
 pub fn survey(alloc: Global, job: Job, states: usize) -> Result<Option<Tallies>, AllocError>
@@ -47,7 +47,7 @@ pub fn has_output_limit(tallies: &[Tally]) -> bool {
 pub fn outcome_rows(alloc: Global, legend: &Legend, tallies: &[Tally]) -> Result<Json, AllocError> {
     let mut rows = Json::new(alloc);
     rows.open();
-    for tally in tallies.get(0..MOST).unwrap_or(tallies) {
+    for tally in tallies.get(0..MOST_OUTCOMES).unwrap_or(tallies) {
         push_outcome(alloc, legend, &mut rows, tally)?;
     }
     rows.close();

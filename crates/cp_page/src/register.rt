@@ -1,7 +1,7 @@
 //! The tables of a page, on which its graph stands.
 
 use crate::json::Json;
-use crate::table::Table;
+use crate::table::Rows;
 use cp_legend::Legend;
 use std::alloc::Global;
 
@@ -10,12 +10,12 @@ use std::alloc::Global;
 pub struct Register<'a> {
     pub alloc: Global,
     pub legend: &'a Legend,
-    pub strings: Table,
-    pub frames: Table,
-    pub views: Table,
-    pub events: Table,
-    pub edges: Table,
-    pub ends: Table,
+    pub strings: Rows,
+    pub frames: Rows,
+    pub views: Rows,
+    pub events: Rows,
+    pub edges: Rows,
+    pub ends: Rows,
 }
 
 impl<'a> Register<'a> {
@@ -24,12 +24,12 @@ impl<'a> Register<'a> {
         Register {
             alloc,
             legend,
-            strings: Table::new(alloc),
-            frames: Table::new(alloc),
-            views: Table::new(alloc),
-            events: Table::new(alloc),
-            edges: Table::new(alloc),
-            ends: Table::new(alloc),
+            strings: Rows::new(alloc),
+            frames: Rows::new(alloc),
+            views: Rows::new(alloc),
+            events: Rows::new(alloc),
+            edges: Rows::new(alloc),
+            ends: Rows::new(alloc),
         }
     }
 

@@ -8,7 +8,7 @@ use std::alloc::{AllocError, Global};
 
 /// What the innermost call of a process gives back, if the process is about to leave a monitor by it: the result of a function, and the values
 /// of the places that were handed over.
-pub fn returned(
+pub fn values_returned(
     alloc: Global,
     legend: &Legend,
     state: &State,

@@ -15,7 +15,7 @@ pub enum Length {
 
 /// A program, and how much of it a page has.
 #[derive(Clone, Copy)]
-pub struct Subject<'a> {
+pub struct PageSubject<'a> {
     pub program: &'a Resolved,
     pub legend: &'a Legend,
     pub limits: Limits,

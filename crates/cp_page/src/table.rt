@@ -6,18 +6,18 @@ use std::alloc::{AllocError, Global};
 
 /// Different rows in the order in which they came, each named by its place.
 #[derive(Drop)]
-pub struct Table {
+pub struct Rows {
     alloc: Global,
     rows: Json,
     places: IndexMap<String, usize>,
 }
 
-impl Table {
+impl Rows {
     /// A table without rows.
-    pub fn new(alloc: Global) -> Table {
+    pub fn new(alloc: Global) -> Rows {
         let mut rows = Json::new(alloc);
         rows.open();
-        Table {
+        Rows {
             alloc,
             rows,
             places: IndexMap::new(alloc),

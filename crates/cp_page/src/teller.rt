@@ -8,7 +8,7 @@ ghost use Rattle.cp_run.specs.Code.{node_of};
 
 use crate::events::Beside;
 use crate::register::Register;
-use crate::returned::returned;
+use crate::returned::values_returned;
 use crate::variables::Kept;
 use cp_machine::{Event as Step, State, Ticks, step};
 use cp_run::turn::{settled_turn, turn_at, turn_of};
@@ -112,7 +112,7 @@ impl<'a> Teller<'a> {
         for _ in 0..limits.steps {
             self.going = going;
             let aim = aim_of(program, state, going);
-            let gives = returned(alloc, self.register.legend, state, going)?;
+            let gives = values_returned(alloc, self.register.legend, state, going)?;
             let event = step(program, state, going, steps);
             self.push_step(alloc, program, state, going, event, aim, gives, observer)?;
             match turn_of(program, limits, state, going, event) {

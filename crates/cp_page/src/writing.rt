@@ -10,11 +10,11 @@ use crate::script_panels::PANELS;
 use crate::script_play::PLAY;
 use crate::script_rounds::ROUNDS;
 use crate::style::STYLE;
-use crate::subject::Subject;
+use crate::subject::PageSubject;
 use std::alloc::{AllocError, Global};
 
 /// The page on which a program is played: one file of HTML, which loads nothing.
-pub fn page(alloc: Global, subject: Subject<'_>) -> Result<String, AllocError> {
+pub fn page(alloc: Global, subject: PageSubject<'_>) -> Result<String, AllocError> {
     let data = data(alloc, subject)?;
     with_data(alloc, &data)
 }

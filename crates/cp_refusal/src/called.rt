@@ -16,7 +16,7 @@ pub struct Called {
 }
 
 // What the language itself declares.
-fn predeclared(name: &str) -> Option<Declared> {
+fn find_predeclared(name: &str) -> Option<Declared> {
     match name {
         "display" | "delay" | "continue" => Some(Declared::Procedure),
         "abs" | "chr" | "empty" | "ord" | "pred" | "succ" => Some(Declared::Function),
@@ -58,7 +58,7 @@ pub fn called_at(program: &Program, tokens: &Tokens, at: usize) -> Option<Called
     if period != at.saturating_add(1) {
         return None;
     }
-    let what = declared_at(program, looked).or(predeclared(looked.name))?;
+    let what = declared_at(program, looked).or(find_predeclared(looked.name))?;
     Some(Called {
         what,
         tokens: Extent {

@@ -179,13 +179,13 @@ fn push_choice(text: &mut String, words: &[String]) -> Result<(), AllocError> {
 
 /// A place among some tokens.
 #[derive(Clone, Copy)]
-struct Place<'a> {
+struct TokenPlace<'a> {
     alloc: Global,
     tokens: &'a Tokens,
     at: usize,
 }
 
-impl<'a> Place<'a> {
+impl<'a> TokenPlace<'a> {
     fn takes(&self, candidate: Candidate) -> Result<bool, AllocError> {
         may_stand(self.alloc, self.tokens, self.at, candidate)
     }
@@ -266,7 +266,7 @@ pub fn push_wanted(
     tokens: &Tokens,
     at: usize,
 ) -> Result<(), AllocError> {
-    let place = Place { alloc, tokens, at };
+    let place = TokenPlace { alloc, tokens, at };
     let mut words = Vec::new(alloc);
     place.add_all(&mut words, place.kinds()?)?;
     if words.is_empty() {

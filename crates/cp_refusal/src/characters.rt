@@ -15,12 +15,12 @@ pub enum Look {
 
 /// A character at the front of some bytes as it is shown, and how many bytes it has.
 #[derive(Clone, Copy)]
-struct Front {
+struct FirstCharacter {
     shown: char,
     len: usize,
 }
 
-const UNKNOWN: Front = Front { shown: '?', len: 1 };
+const UNKNOWN: FirstCharacter = FirstCharacter { shown: '?', len: 1 };
 
 // Characters that change how others are shown, or that nobody sees.
 fn is_plain(character: char) -> bool {
@@ -28,15 +28,15 @@ fn is_plain(character: char) -> bool {
 }
 
 // The character of several bytes at the front.
-fn wide_front(bytes: &[u8]) -> Front {
+fn wide_front(bytes: &[u8]) -> FirstCharacter {
     for len in 2..5usize {
         let Some(front) = bytes.get(..len) else {
             return UNKNOWN;
         };
         if let Ok(text) = str::from_utf8(front) {
             return match text.chars().next() {
-                Some(shown) if is_plain(shown) => Front { shown, len },
-                _ => Front { shown: '?', len },
+                Some(shown) if is_plain(shown) => FirstCharacter { shown, len },
+                _ => FirstCharacter { shown: '?', len },
             };
         }
     }
@@ -44,9 +44,9 @@ fn wide_front(bytes: &[u8]) -> Front {
 }
 
 // The character at the front: printed ASCII, a tab, or valid UTF-8 that is printed; a question mark for anything else.
-fn front_of(bytes: &[u8]) -> Front {
+fn front_of(bytes: &[u8]) -> FirstCharacter {
     match bytes.first() {
-        Some(byte @ (b'\t' | 32..=126)) => Front {
+        Some(byte @ (b'\t' | 32..=126)) => FirstCharacter {
             shown: char::from(*byte),
             len: 1,
         },

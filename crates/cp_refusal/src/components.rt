@@ -8,13 +8,13 @@ use std::alloc::{AllocError, Global};
 
 /// A system type with its name.
 #[derive(Clone, Copy, Drop)]
-pub struct Named<'a> {
+pub struct NamedSystem<'a> {
     pub name: &'a str,
     pub system: &'a System,
 }
 
 /// The system types of a program, in the order of their declarations.
-pub fn system_types(alloc: Global, program: &Program) -> Result<Vec<Named<'_>>, AllocError> {
+pub fn system_types(alloc: Global, program: &Program) -> Result<Vec<NamedSystem<'_>>, AllocError> {
     let mut found = Vec::new(alloc);
     for part in &program.parts {
         let ProgramPartKind::Types(all) = &part.kind else {
@@ -22,7 +22,7 @@ pub fn system_types(alloc: Global, program: &Program) -> Result<Vec<Named<'_>>, 
         };
         for one in all {
             if let Definition::System(system) = &one.value {
-                found.push(Named {
+                found.push(NamedSystem {
                     name: one.name.name.as_str(),
                     system,
                 })?;

@@ -20,7 +20,7 @@ pub enum Declared {
 
 /// A declaration: of what it is, and the number of the token that it names.
 #[derive(Clone, Copy)]
-pub struct Found {
+pub struct Declaration {
     pub what: Declared,
     pub at: usize,
 }
@@ -37,12 +37,12 @@ fn is_this(looked: Looked, declared: &Identifier) -> bool {
 }
 
 // The declaration among these that has the name, as what they all are.
-fn among(looked: Looked, declared: &[Identifier], what: Declared) -> Option<Found> {
+fn among(looked: Looked, declared: &[Identifier], what: Declared) -> Option<Declaration> {
     let one = declared.iter().find(|one| is_this(looked, one))?;
-    Some(Found { what, at: one.at })
+    Some(Declaration { what, at: one.at })
 }
 
-fn in_variables(looked: Looked, groups: &[VariableGroup]) -> Option<Found> {
+fn in_variables(looked: Looked, groups: &[VariableGroup]) -> Option<Declaration> {
     for group in groups {
         if let Some(found) = among(looked, &group.names, Declared::Variable) {
             return Some(found);
@@ -51,7 +51,7 @@ fn in_variables(looked: Looked, groups: &[VariableGroup]) -> Option<Found> {
     None
 }
 
-fn in_groups(looked: Looked, groups: &[Group]) -> Option<Found> {
+fn in_groups(looked: Looked, groups: &[Group]) -> Option<Declaration> {
     for group in groups {
         if let Some(found) = among(looked, &group.names, Declared::Parameter) {
             return Some(found);
@@ -60,21 +60,21 @@ fn in_groups(looked: Looked, groups: &[Group]) -> Option<Found> {
     None
 }
 
-fn in_constants(looked: Looked, all: &[ConstantDefinition]) -> Option<Found> {
+fn in_constants(looked: Looked, all: &[ConstantDefinition]) -> Option<Declaration> {
     let one = all.iter().find(|one| is_this(looked, &one.name))?;
-    Some(Found {
+    Some(Declaration {
         what: Declared::Constant,
         at: one.name.at,
     })
 }
 
-fn in_parts(parts: &[Part], looked: Looked) -> Option<Found> {
+fn in_parts(parts: &[Part], looked: Looked) -> Option<Declaration> {
     for part in parts {
         let found = match &part.kind {
             PartKind::Constants(all) => in_constants(looked, all),
             PartKind::Types(all) => {
                 let one = all.iter().find(|one| is_this(looked, &one.name));
-                one.map(|one| Found {
+                one.map(|one| Declaration {
                     what: Declared::Type,
                     at: one.name.at,
                 })
@@ -88,7 +88,7 @@ fn in_parts(parts: &[Part], looked: Looked) -> Option<Found> {
     None
 }
 
-fn in_routine(routine: &Routine, looked: Looked) -> Option<Found> {
+fn in_routine(routine: &Routine, looked: Looked) -> Option<Declaration> {
     let found = match &routine.kind {
         RoutineKind::Procedure(groups) => in_parameters(looked, groups),
         RoutineKind::Function(groups, _) => in_groups(looked, groups),
@@ -96,7 +96,7 @@ fn in_routine(routine: &Routine, looked: Looked) -> Option<Found> {
     found.or(in_parts(&routine.parts, looked))
 }
 
-fn in_parameters(looked: Looked, groups: &[ParameterGroup]) -> Option<Found> {
+fn in_parameters(looked: Looked, groups: &[ParameterGroup]) -> Option<Declaration> {
     for parameters in groups {
         let what = if parameters.is_var {
             Declared::VarParameter
@@ -119,12 +119,12 @@ pub fn declared_as(routine: &Routine) -> Declared {
 }
 
 /// In the routine with the place, or else as one of the routines.
-fn in_routines(routines: &[Routine], looked: Looked, end: usize) -> Option<Found> {
+fn in_routines(routines: &[Routine], looked: Looked, end: usize) -> Option<Declaration> {
     let mut named = None;
     let mut inner = None;
     for routine in routines {
         if is_this(looked, &routine.name) {
-            named = Some(Found {
+            named = Some(Declaration {
                 what: declared_as(routine),
                 at: routine.name.at,
             });
@@ -140,7 +140,7 @@ fn in_routines(routines: &[Routine], looked: Looked, end: usize) -> Option<Found
     }
 }
 
-fn in_system(system: &System, looked: Looked) -> Option<Found> {
+fn in_system(system: &System, looked: Looked) -> Option<Declaration> {
     in_routines(&system.routines, looked, system.body.at)
         .or(in_groups(looked, &system.parameters))
         .or(in_parts(&system.parts, looked))
@@ -160,12 +160,12 @@ fn system_at<'a>(definitions: &'a [SystemDefinition], looked: Looked) -> Option<
     found
 }
 
-fn in_program_part(part: &ProgramPart, looked: Looked) -> Option<Found> {
+fn in_program_part(part: &ProgramPart, looked: Looked) -> Option<Declaration> {
     match &part.kind {
         ProgramPartKind::Constants(all) => in_constants(looked, all),
         ProgramPartKind::Types(all) => {
             let one = all.iter().find(|one| is_this(looked, &one.name))?;
-            Some(Found {
+            Some(Declaration {
                 what: Declared::Type,
                 at: one.name.at,
             })
@@ -193,7 +193,7 @@ pub fn enclosing<'a>(program: &'a Program, looked: Looked) -> Option<&'a System>
 }
 
 /// What a name stands for at a place, and where that is declared; none where it is not declared, or is a constant of an enumeration.
-pub fn find_declared(program: &Program, looked: Looked) -> Option<Found> {
+pub fn find_declared(program: &Program, looked: Looked) -> Option<Declaration> {
     if let Some(system) = enclosing(program, looked) {
         if let Some(found) = in_system(system, looked) {
             return Some(found);

@@ -7,7 +7,7 @@ use crate::extent::{
 use crate::page::push_tokens;
 use crate::rules::{mark_at, name_at};
 use crate::sorts::{Asker, Sort};
-use crate::wanted::{Operands, Wanted};
+use crate::wanted::{Operands, Sorts};
 use cp_text::{Kind, Mark};
 use std::alloc::AllocError;
 
@@ -28,7 +28,7 @@ fn unless(
     asker: &Asker,
     text: &mut String,
     taker: &str,
-    wanted: Wanted,
+    wanted: Sorts,
     value: Extent,
 ) -> Result<bool, AllocError> {
     let Some(sort) = asker.sort_of(value)? else {
@@ -187,7 +187,7 @@ fn sum(asker: &Asker, text: &mut String, at: usize) -> Result<bool, AllocError> 
             None => operators.end,
         };
         let value = Extent { from: first, to };
-        if unless(asker, text, "a sign", Wanted::Integer, value)? {
+        if unless(asker, text, "a sign", Sorts::Integer, value)? {
             return Ok(true);
         }
     }
@@ -262,7 +262,7 @@ fn selectors(asker: &Asker, text: &mut String, at: usize) -> Result<bool, AllocE
             Some(Sort::Record | Sort::Component) if !is_index => {}
             Some(sort) => {
                 push_sort(asker, text, name, sort)?;
-                text.push_str(unselected(sort, is_index))?;
+                text.push_str(why_not_selected(sort, is_index))?;
                 return Ok(true);
             }
             None => return Ok(false),
@@ -273,7 +273,7 @@ fn selectors(asker: &Asker, text: &mut String, at: usize) -> Result<bool, AllocE
 }
 
 /// Why a value of this sort has no index, or no field.
-fn unselected(sort: Sort, is_index: bool) -> &'static str {
+fn why_not_selected(sort: Sort, is_index: bool) -> &'static str {
     if is_index {
         return ", and no array: it takes no index";
     }
@@ -363,9 +363,9 @@ fn call(asker: &Asker, text: &mut String, at: usize) -> Result<bool, AllocError>
     };
     let name = name_at(asker.tokens, at);
     let wanted = match name {
-        "delay" | "continue" | "empty" => Some(Wanted::Queue),
-        "abs" | "chr" => Some(Wanted::Integer),
-        "succ" | "pred" | "ord" => Some(Wanted::Ordinal),
+        "delay" | "continue" | "empty" => Some(Sorts::Queue),
+        "abs" | "chr" => Some(Sorts::Integer),
+        "succ" | "pred" | "ord" => Some(Sorts::Ordinal),
         _ => None,
     };
     if let Some(wanted) = wanted {
@@ -446,10 +446,10 @@ fn loop_bounds(asker: &Asker, text: &mut String, at: usize) -> Result<bool, Allo
         asker.sort_of(low)?,
         asker.sort_of(high)?,
     ) else {
-        return unless(asker, text, "for", Wanted::Ordinal, variable);
+        return unless(asker, text, "for", Sorts::Ordinal, variable);
     };
     if !v.is_ordinal() {
-        return unless(asker, text, "for", Wanted::Ordinal, variable);
+        return unless(asker, text, "for", Sorts::Ordinal, variable);
     }
     text.push_str("the variable and the bounds of for have to be of one type, but ")?;
     push_sort(asker, text, variable, v)?;
@@ -476,7 +476,7 @@ fn elements(asker: &Asker, text: &mut String, at: usize) -> Result<bool, AllocEr
 /// The selector of a `case`, or else its labels.
 fn selector(asker: &Asker, text: &mut String, at: usize) -> Result<bool, AllocError> {
     let value = expression_at(asker.tokens, at.saturating_add(1));
-    if unless(asker, text, "case", Wanted::Ordinal, value)? {
+    if unless(asker, text, "case", Sorts::Ordinal, value)? {
         return Ok(true);
     }
     match asker.sort_of(value)? {
@@ -498,7 +498,7 @@ pub fn push_disagreement(asker: &Asker, text: &mut String, at: usize) -> Result<
                 asker,
                 text,
                 "if",
-                Wanted::Boolean,
+                Sorts::Boolean,
                 expression_at(asker.tokens, next),
             )
         }
@@ -507,7 +507,7 @@ pub fn push_disagreement(asker: &Asker, text: &mut String, at: usize) -> Result<
                 asker,
                 text,
                 "while",
-                Wanted::Boolean,
+                Sorts::Boolean,
                 expression_at(asker.tokens, next),
             )
         }
@@ -517,7 +517,7 @@ pub fn push_disagreement(asker: &Asker, text: &mut String, at: usize) -> Result<
                 asker,
                 text,
                 "until",
-                Wanted::Boolean,
+                Sorts::Boolean,
                 expression_at(asker.tokens, after),
             )
         }
@@ -526,7 +526,7 @@ pub fn push_disagreement(asker: &Asker, text: &mut String, at: usize) -> Result<
                 from: next,
                 to: after_factor(asker.tokens, next),
             };
-            unless(asker, text, "not", Wanted::Boolean, value)
+            unless(asker, text, "not", Sorts::Boolean, value)
         }
         Some(Mark::Case) => selector(asker, text, at),
         Some(Mark::For) => loop_bounds(asker, text, at),

@@ -8,8 +8,8 @@ use crate::foreign::sign_sentence;
 use crate::further_up::{Missing, what_is_missing};
 use crate::hints::hints;
 use crate::page::{line_number, push_tokens};
-use crate::place::{Sought, Span, find, is_coded};
-use crate::report::{Answer, Refusal};
+use crate::place::{ByteRange, Sought, find, is_coded};
+use crate::report::{Explanation, Refusal};
 use crate::rules::{Broken, code, mark_at, sentence};
 use cp_check::{CheckFault, check};
 use cp_drops::{drop_checked, drop_tree};
@@ -18,29 +18,29 @@ use cp_tree::{ParseFault, Program, Tree, parse};
 use std::alloc::{AllocError, Global};
 
 /// What is said of a source: where and why it is refused, or that it is accepted.
-pub fn refusal(alloc: Global, source: &[u8]) -> Result<Answer, AllocError> {
+pub fn refusal(alloc: Global, source: &[u8]) -> Result<Explanation, AllocError> {
     match scan(alloc, source) {
-        Ok(tokens) => parsed(alloc, source, &tokens),
+        Ok(tokens) => explain_parse(alloc, source, &tokens),
         Err(fault) => scan_refused(alloc, source, fault),
     }
 }
 
-fn parsed(alloc: Global, source: &[u8], tokens: &Tokens) -> Result<Answer, AllocError> {
+fn explain_parse(alloc: Global, source: &[u8], tokens: &Tokens) -> Result<Explanation, AllocError> {
     match parse(alloc, tokens) {
-        Ok(tree) => checked(alloc, source, tokens, tree),
+        Ok(tree) => explain_check(alloc, source, tokens, tree),
         Err(fault) => parse_refused(alloc, source, tokens, &fault),
     }
 }
 
-fn checked(
+fn explain_check(
     alloc: Global,
     source: &[u8],
     tokens: &Tokens,
     tree: Tree,
-) -> Result<Answer, AllocError> {
+) -> Result<Explanation, AllocError> {
     match check(alloc, tree) {
         Ok(checked) => {
-            let answer = accepted(alloc, source, tokens, &checked.tree().program);
+            let answer = answer_accepted(alloc, source, tokens, &checked.tree().program);
             drop_checked(checked);
             answer
         }
@@ -58,7 +58,7 @@ fn check_refused(
     tokens: &Tokens,
     tree: &Tree,
     fault: &CheckFault,
-) -> Result<Answer, AllocError> {
+) -> Result<Explanation, AllocError> {
     match fault {
         CheckFault::Rule { at, rule } => {
             let broken = Broken {
@@ -72,13 +72,13 @@ fn check_refused(
     }
 }
 
-fn accepted(
+fn answer_accepted(
     alloc: Global,
     source: &[u8],
     tokens: &Tokens,
     program: &Program,
-) -> Result<Answer, AllocError> {
-    Ok(Answer::Accepted(hints(alloc, source, tokens, program)?))
+) -> Result<Explanation, AllocError> {
+    Ok(Explanation::Accepted(hints(alloc, source, tokens, program)?))
 }
 
 // What is said of a piece of the source that is no lexeme.
@@ -100,7 +100,7 @@ fn scan_sentence(cause: ScanCause, text: &[u8]) -> &'static str {
     }
 }
 
-fn scan_refused(alloc: Global, source: &[u8], fault: ScanFault) -> Result<Answer, AllocError> {
+fn scan_refused(alloc: Global, source: &[u8], fault: ScanFault) -> Result<Explanation, AllocError> {
     if fault.cause == ScanCause::Memory {
         return Err(AllocError);
     }
@@ -109,7 +109,7 @@ fn scan_refused(alloc: Global, source: &[u8], fault: ScanFault) -> Result<Answer
         Some(found) => fault_text(source, fault.cause, found),
         None => &[],
     };
-    Ok(Answer::Refused(Refusal {
+    Ok(Explanation::Refused(Refusal {
         kind: "scan",
         sentence: String::from_str(alloc, scan_sentence(fault.cause, text))?,
         more: "see \"Lexemes\" in docs/LANGUAGE.md",
@@ -119,7 +119,7 @@ fn scan_refused(alloc: Global, source: &[u8], fault: ScanFault) -> Result<Answer
 }
 
 // What a sentence looks at: of a sign also what follows it.
-fn fault_text(source: &[u8], cause: ScanCause, span: Span) -> &[u8] {
+fn fault_text(source: &[u8], cause: ScanCause, span: ByteRange) -> &[u8] {
     let rest = &source[span.from.min(source.len())..];
     match cause {
         ScanCause::BadByte => rest,
@@ -132,8 +132,8 @@ fn rule_broken(
     source: &[u8],
     tokens: &Tokens,
     broken: Broken,
-) -> Result<Answer, AllocError> {
-    Ok(Answer::Refused(Refusal {
+) -> Result<Explanation, AllocError> {
+    Ok(Explanation::Refused(Refusal {
         kind: code(broken.rule),
         sentence: sentence(alloc, source, tokens, broken)?,
         more: "see the rule in docs/RULES.md",
@@ -143,26 +143,26 @@ fn rule_broken(
 }
 
 /// The place of a token; at the end of the tokens that after the last, and the beginning where there are none.
-fn span_of(source: &[u8], at: usize, tokens: &Tokens) -> Span {
+fn span_of(source: &[u8], at: usize, tokens: &Tokens) -> ByteRange {
     if let Some(span) = find(source, Sought::Token(at)) {
         return span;
     }
     match find(source, Sought::Token(tokens.count().saturating_sub(1))) {
         Some(last) => after(last),
-        None => Span { from: 0, len: 1 },
+        None => ByteRange { from: 0, len: 1 },
     }
 }
 
 // The place after some bytes.
-fn after(span: Span) -> Span {
-    Span {
+fn after(span: ByteRange) -> ByteRange {
+    ByteRange {
         from: span.from.saturating_add(span.len),
         len: 1,
     }
 }
 
 // What is expected in the place of a token, what stands there, and what may have been meant.
-fn unexpected(refused: Refused, missing: &Missing) -> Result<String, AllocError> {
+fn tell_unexpected(refused: Refused, missing: &Missing) -> Result<String, AllocError> {
     let Refused {
         alloc,
         source,
@@ -215,7 +215,7 @@ fn push_advice(refused: Refused, text: &mut String, missing: &Missing) -> Result
 }
 
 // The place further up that the excerpt shows too.
-fn earlier(source: &[u8], tokens: &Tokens, missing: &Missing) -> Option<Span> {
+fn earlier(source: &[u8], tokens: &Tokens, missing: &Missing) -> Option<ByteRange> {
     match missing {
         Missing::Semicolon(before) => Some(after(span_of(source, *before, tokens))),
         Missing::End(open) => Some(span_of(source, *open, tokens)),
@@ -228,7 +228,7 @@ fn parse_refused(
     source: &[u8],
     tokens: &Tokens,
     fault: &ParseFault,
-) -> Result<Answer, AllocError> {
+) -> Result<Explanation, AllocError> {
     let mut missing = Missing::Nothing;
     let (at, sentence) = match fault {
         ParseFault::Unexpected(at) => {
@@ -239,7 +239,7 @@ fn parse_refused(
                 at: *at,
             };
             missing = what_is_missing(refused)?;
-            (*at, unexpected(refused, &missing)?)
+            (*at, tell_unexpected(refused, &missing)?)
         }
         ParseFault::OutsideProfile(at) => {
             let mut text = String::new(alloc);
@@ -253,7 +253,7 @@ fn parse_refused(
         ),
         ParseFault::Memory => return Err(AllocError),
     };
-    Ok(Answer::Refused(Refusal {
+    Ok(Explanation::Refused(Refusal {
         kind: "parse",
         sentence,
         more: "see \"Grammar\" in docs/LANGUAGE.md",

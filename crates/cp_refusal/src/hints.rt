@@ -38,7 +38,7 @@ fn after_call(tokens: &Tokens, at: usize) -> usize {
 }
 
 /// The statement after a `continue` that every run of it skips, where there is one.
-fn skipped(tokens: &Tokens, program: &Program, at: usize) -> Option<usize> {
+fn first_skipped(tokens: &Tokens, program: &Program, at: usize) -> Option<usize> {
     if !is_in_sequence(tokens, at) || !is_standard(program, tokens, at, "continue") {
         return None;
     }
@@ -83,7 +83,7 @@ impl<'a> Gathering<'a> {
 
     fn add_skipped(&mut self) -> Result<(), AllocError> {
         for at in 0..self.tokens.count() {
-            if let Some(next) = skipped(self.tokens, self.program, at) {
+            if let Some(next) = first_skipped(self.tokens, self.program, at) {
                 self.add(
                     next,
                     "this never runs, since continue ends the call of the entry procedure",
@@ -131,31 +131,31 @@ impl<'a> Gathering<'a> {
 
 /// Where a walk over the tokens of a body is.
 #[derive(Clone, Copy)]
-struct Walk {
+struct BodyWalk {
     /// How many words are open that an `end` or `until` closes.
     depth: usize,
     /// Whether a call may have been left before, by a `continue`.
     may_have_left: bool,
 }
 
-const OUTSIDE: Walk = Walk {
+const OUTSIDE: BodyWalk = BodyWalk {
     depth: 0,
     may_have_left: false,
 };
 
-impl Walk {
+impl BodyWalk {
     /// After one more token.
-    fn after(self, tokens: &Tokens, at: usize) -> Walk {
+    fn after(self, tokens: &Tokens, at: usize) -> BodyWalk {
         match mark_at(tokens, at) {
-            Some(Mark::Begin | Mark::Case | Mark::Cycle | Mark::Record | Mark::Repeat) => Walk {
+            Some(Mark::Begin | Mark::Case | Mark::Cycle | Mark::Record | Mark::Repeat) => BodyWalk {
                 depth: self.depth.saturating_add(1),
                 may_have_left: self.depth > 0 && self.may_have_left,
             },
-            Some(Mark::End | Mark::Until) => Walk {
+            Some(Mark::End | Mark::Until) => BodyWalk {
                 depth: self.depth.saturating_sub(1),
                 ..self
             },
-            _ => Walk {
+            _ => BodyWalk {
                 may_have_left: self.may_have_left || name_at(tokens, at) == "continue",
                 ..self
             },

@@ -28,5 +28,5 @@ mod waits;
 mod wanted;
 
 pub use explain::refusal;
-pub use place::Span;
-pub use report::{Answer, Hint, Hints, Position, Refusal, position_of, text};
+pub use place::ByteRange;
+pub use report::{Explanation, Hint, Hints, Position, Refusal, position_of, text};

@@ -2,7 +2,7 @@
 
 use crate::characters::{Look, length, push_characters};
 use crate::extent::Extent;
-use crate::place::{Sought, Span, find};
+use crate::place::{ByteRange, Sought, find};
 use std::alloc::{AllocError, Global};
 
 /// Where the line of a place begins.
@@ -85,7 +85,7 @@ pub fn push_marked_line(
     alloc: Global,
     text: &mut String,
     source: &[u8],
-    span: Span,
+    span: ByteRange,
 ) -> Result<(), AllocError> {
     let start = line_start(source, span.from).min(source.len());
     let line = line_at(source, start);

@@ -4,7 +4,7 @@ use cp_text::ScanCause;
 
 /// What a piece of a source is.
 #[derive(Clone, Copy, PartialEq, Eq)]
-pub enum Shape {
+pub enum PieceKind {
     Blank,
     Comment,
     Number,
@@ -18,14 +18,14 @@ pub enum Shape {
 
 /// A piece at the front of a text, and its length in bytes.
 #[derive(Clone, Copy)]
-pub struct Piece {
-    pub shape: Shape,
+pub struct SourcePiece {
+    pub shape: PieceKind,
     pub len: usize,
 }
 
 /// The bytes of a source from one place to another.
 #[derive(Clone, Copy)]
-pub struct Span {
+pub struct ByteRange {
     pub from: usize,
     pub len: usize,
 }
@@ -63,23 +63,23 @@ fn word_len(text: &[u8]) -> usize {
 }
 
 /// A comment or a character, to its closing quote, or to `end` where it has none before.
-fn quoted(text: &[u8], quote: u8, end: Option<u8>, shape: Shape) -> Piece {
+fn quoted_piece(text: &[u8], quote: u8, end: Option<u8>, shape: PieceKind) -> SourcePiece {
     for (at, byte) in text.iter().enumerate() {
         if at > 0 && *byte == quote {
-            return Piece {
+            return SourcePiece {
                 shape,
                 len: at.saturating_add(1),
             };
         }
         if Some(*byte) == end {
-            return Piece {
-                shape: Shape::Open,
+            return SourcePiece {
+                shape: PieceKind::Open,
                 len: at,
             };
         }
     }
-    Piece {
-        shape: Shape::Open,
+    SourcePiece {
+        shape: PieceKind::Open,
         len: text.len(),
     }
 }
@@ -117,54 +117,54 @@ fn is_single_sign(byte: u8) -> bool {
     )
 }
 
-fn sign(first: u8, second: Option<u8>) -> Piece {
+fn sign(first: u8, second: Option<u8>) -> SourcePiece {
     if let Some(second) = second {
         if is_double_sign(first, second) {
-            return Piece {
-                shape: Shape::Sign,
+            return SourcePiece {
+                shape: PieceKind::Sign,
                 len: 2,
             };
         }
     }
-    Piece {
+    SourcePiece {
         shape: if is_single_sign(first) {
-            Shape::Sign
+            PieceKind::Sign
         } else {
-            Shape::Unknown
+            PieceKind::Unknown
         },
         len: 1,
     }
 }
 
 /// The piece at the front of a text; an empty one has none.
-pub fn first_piece(text: &[u8]) -> Piece {
+pub fn first_piece(text: &[u8]) -> SourcePiece {
     let Some(first) = text.first().copied() else {
-        return Piece {
-            shape: Shape::Blank,
+        return SourcePiece {
+            shape: PieceKind::Blank,
             len: 0,
         };
     };
     match first {
-        b' ' | b'\t' | b'\r' | b'\n' => Piece {
-            shape: Shape::Blank,
+        b' ' | b'\t' | b'\r' | b'\n' => SourcePiece {
+            shape: PieceKind::Blank,
             len: 1,
         },
-        b'"' => quoted(text, b'"', None, Shape::Comment),
-        b'\'' => quoted(text, b'\'', Some(b'\n'), Shape::Character),
-        _ if first.is_ascii_digit() => Piece {
-            shape: Shape::Number,
+        b'"' => quoted_piece(text, b'"', None, PieceKind::Comment),
+        b'\'' => quoted_piece(text, b'\'', Some(b'\n'), PieceKind::Character),
+        _ if first.is_ascii_digit() => SourcePiece {
+            shape: PieceKind::Number,
             len: digits_len(text),
         },
-        _ if first.is_ascii_alphabetic() => Piece {
-            shape: Shape::Name,
+        _ if first.is_ascii_alphabetic() => SourcePiece {
+            shape: PieceKind::Name,
             len: word_len(text),
         },
         _ => sign(first, text.get(1).copied()),
     }
 }
 
-fn is_token(shape: Shape) -> bool {
-    !matches!(shape, Shape::Blank | Shape::Comment)
+fn is_token(shape: PieceKind) -> bool {
+    !matches!(shape, PieceKind::Blank | PieceKind::Comment)
 }
 
 fn is_number(text: &[u8]) -> bool {
@@ -200,14 +200,14 @@ fn value(digits: &[u8]) -> u32 {
     value
 }
 
-fn has_fault(cause: ScanCause, shape: Shape, text: &[u8], before: usize) -> bool {
+fn has_fault(cause: ScanCause, shape: PieceKind, text: &[u8], before: usize) -> bool {
     match cause {
-        ScanCause::BadByte => shape == Shape::Unknown,
-        ScanCause::OpenComment => shape == Shape::Open,
-        ScanCause::OpenChar => shape == Shape::Open,
-        ScanCause::BadChar => shape == Shape::Character && !is_character(text),
-        ScanCause::NumberTooLarge => shape == Shape::Number && value(text) > 32767,
-        ScanCause::NameTooLong => shape == Shape::Name && text.len() > 40,
+        ScanCause::BadByte => shape == PieceKind::Unknown,
+        ScanCause::OpenComment => shape == PieceKind::Open,
+        ScanCause::OpenChar => shape == PieceKind::Open,
+        ScanCause::BadChar => shape == PieceKind::Character && !is_character(text),
+        ScanCause::NumberTooLarge => shape == PieceKind::Number && value(text) > 32767,
+        ScanCause::NameTooLong => shape == PieceKind::Name && text.len() > 40,
         ScanCause::TooManyTokens => is_token(shape) && before >= 20_000,
         ScanCause::TooLong => false,
         ScanCause::Memory => false,
@@ -215,7 +215,7 @@ fn has_fault(cause: ScanCause, shape: Shape, text: &[u8], before: usize) -> bool
 }
 
 /// Where what is looked for stands in a source; `None` where it is not there.
-pub fn find(source: &[u8], sought: Sought) -> Option<Span> {
+pub fn find(source: &[u8], sought: Sought) -> Option<ByteRange> {
     let mut left: usize = 0;
     let mut before: usize = 0;
     for from in 0..source.len() {
@@ -231,7 +231,7 @@ pub fn find(source: &[u8], sought: Sought) -> Option<Span> {
             Sought::Fault(cause) => has_fault(cause, piece.shape, &text[..len], before),
         };
         if found {
-            return Some(Span { from, len });
+            return Some(ByteRange { from, len });
         }
         if is_token(piece.shape) {
             before = before.saturating_add(1);
@@ -259,8 +259,8 @@ pub fn has_comment_before(source: &[u8], at: usize) -> bool {
 fn begins_with_comment(text: &[u8]) -> bool {
     for from in 0..text.len() {
         match first_piece(&text[from..]).shape {
-            Shape::Blank => {}
-            Shape::Comment => return true,
+            PieceKind::Blank => {}
+            PieceKind::Comment => return true,
             _ => return false,
         }
     }

@@ -10,7 +10,7 @@ use std::alloc::{AllocError, Global};
 
 /// Tokens that are put in.
 #[derive(Clone, Copy)]
-pub enum Piece {
+pub enum Insertion {
     Mark(Mark),
     Number(u16),
     Character(u8),
@@ -40,24 +40,24 @@ fn push_piece(
     alloc: Global,
     draft: &mut Draft,
     tokens: &Tokens,
-    piece: Piece,
+    piece: Insertion,
 ) -> Result<(), AllocError> {
     match piece {
-        Piece::Mark(mark) => draft.push_text(spelling(mark)),
-        Piece::Number(value) => draft.push_kind(alloc, &Kind::Number(value)),
-        Piece::Character(code) => draft.push_kind(alloc, &Kind::Character(code)),
-        Piece::NewName => draft.push_text(NEW_NAME),
-        Piece::Empty => draft.push_text("empty"),
-        Piece::Copied(extent) => draft.push_copies(alloc, tokens, extent),
+        Insertion::Mark(mark) => draft.push_text(spelling(mark)),
+        Insertion::Number(value) => draft.push_kind(alloc, &Kind::Number(value)),
+        Insertion::Character(code) => draft.push_kind(alloc, &Kind::Character(code)),
+        Insertion::NewName => draft.push_text(NEW_NAME),
+        Insertion::Empty => draft.push_text("empty"),
+        Insertion::Copied(extent) => draft.push_copies(alloc, tokens, extent),
     }
 }
 
 /// What the checker says of a program with some pieces put in at a place.
-pub fn asked(
+pub fn ask(
     alloc: Global,
     tokens: &Tokens,
     place: usize,
-    pieces: &[Piece],
+    pieces: &[Insertion],
 ) -> Result<Reply, AllocError> {
     let mut draft = Draft::new(alloc);
     draft.push_copies(alloc, tokens, Extent { from: 0, to: place })?;
@@ -72,13 +72,13 @@ pub fn asked(
     };
     draft.push_copies(alloc, tokens, rest)?;
     match draft.tokens(alloc)? {
-        Some(tokens) => replied(alloc, &tokens, Extent { from, to }),
+        Some(tokens) => reply_for(alloc, &tokens, Extent { from, to }),
         None => Ok(Reply::Unknown),
     }
 }
 
 /// What the checker says of some tokens of a program.
-fn replied(alloc: Global, tokens: &Tokens, pieces: Extent) -> Result<Reply, AllocError> {
+fn reply_for(alloc: Global, tokens: &Tokens, pieces: Extent) -> Result<Reply, AllocError> {
     let tree = match parse(alloc, tokens) {
         Ok(tree) => tree,
         Err(ParseFault::Memory) => return Err(AllocError),

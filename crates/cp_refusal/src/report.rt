@@ -1,7 +1,7 @@
 //! What is said of a source: why it is refused, or what is rarely meant in it.
 
 use crate::page::{column, line_number, push_marked_line};
-use crate::place::Span;
+use crate::place::ByteRange;
 use std::alloc::{AllocError, Global};
 
 /// Why a source is refused.
@@ -13,16 +13,16 @@ pub struct Refusal {
     /// Where more is said.
     pub more: &'static str,
     /// What is wrong; none where that is no place of the source.
-    pub span: Option<Span>,
+    pub span: Option<ByteRange>,
     /// A place further up that belongs to it, as a `begin` that has no `end`.
-    pub earlier: Option<Span>,
+    pub earlier: Option<ByteRange>,
 }
 
 /// What is legal, but rarely meant.
 #[derive(Drop)]
 pub struct Hint {
     pub sentence: String,
-    pub span: Span,
+    pub span: ByteRange,
 }
 
 /// The first hints on a source, and how many more there are.
@@ -34,7 +34,7 @@ pub struct Hints {
 
 /// What is said of a source.
 #[derive(Drop)]
-pub enum Answer {
+pub enum Explanation {
     /// It is a program.
     Accepted(Hints),
     Refused(Refusal),
@@ -49,7 +49,7 @@ pub struct Position {
 }
 
 /// Where some bytes of a source stand.
-pub fn position_of(source: &[u8], span: Span) -> Position {
+pub fn position_of(source: &[u8], span: ByteRange) -> Position {
     Position {
         line: line_number(source, span.from),
         column: column(source, span.from),
@@ -61,13 +61,13 @@ pub fn position_of(source: &[u8], span: Span) -> Position {
 pub fn text(
     alloc: Global,
     source: &[u8],
-    answer: &Answer,
+    answer: &Explanation,
     file: Option<&str>,
 ) -> Result<String, AllocError> {
     let mut text = String::new(alloc);
     match answer {
-        Answer::Accepted(hints) => push_accepted(alloc, &mut text, source, hints, file)?,
-        Answer::Refused(refusal) => push_refusal(alloc, &mut text, source, refusal, file)?,
+        Explanation::Accepted(hints) => push_accepted(alloc, &mut text, source, hints, file)?,
+        Explanation::Refused(refusal) => push_refusal(alloc, &mut text, source, refusal, file)?,
     }
     Ok(text)
 }
@@ -76,7 +76,7 @@ pub fn text(
 fn push_position(
     text: &mut String,
     source: &[u8],
-    span: Span,
+    span: ByteRange,
     file: Option<&str>,
 ) -> Result<(), AllocError> {
     let Position { line, column, .. } = position_of(source, span);

@@ -1,7 +1,7 @@
 //! Of what sort a value is, as the checker sees it.
 
 use crate::extent::Extent;
-use crate::probe::{Piece, Reply, asked};
+use crate::probe::{Insertion, Reply, ask};
 use cp_check::Rule;
 use cp_text::{Mark, Tokens};
 use std::alloc::{AllocError, Global};
@@ -55,100 +55,100 @@ pub struct Asker<'a> {
 }
 
 /// An index of a sort, to be tried.
-const INDICES: [Piece; 2] = [Piece::Number(1), Piece::Character(65)];
+const INDICES: [Insertion; 2] = [Insertion::Number(1), Insertion::Character(65)];
 
 impl<'a> Asker<'a> {
-    fn asks(&self, pieces: &[Piece]) -> Result<Reply, AllocError> {
-        asked(self.alloc, self.tokens, self.place, pieces)
+    fn asks(&self, pieces: &[Insertion]) -> Result<Reply, AllocError> {
+        ask(self.alloc, self.tokens, self.place, pieces)
     }
 
-    fn accepts(&self, pieces: &[Piece]) -> Result<bool, AllocError> {
+    fn accepts(&self, pieces: &[Insertion]) -> Result<bool, AllocError> {
         Ok(self.asks(pieces)? == Reply::Fine)
     }
 
     /// Whether an expression may be compared with this piece.
-    fn equals(&self, value: Extent, other: Piece) -> Result<bool, AllocError> {
+    fn equals(&self, value: Extent, other: Insertion) -> Result<bool, AllocError> {
         self.accepts(&[
-            Piece::Mark(Mark::If),
-            Piece::Mark(Mark::OpenParenthesis),
-            Piece::Copied(value),
-            Piece::Mark(Mark::CloseParenthesis),
-            Piece::Mark(Mark::Equal),
+            Insertion::Mark(Mark::If),
+            Insertion::Mark(Mark::OpenParenthesis),
+            Insertion::Copied(value),
+            Insertion::Mark(Mark::CloseParenthesis),
+            Insertion::Mark(Mark::Equal),
             other,
-            Piece::Mark(Mark::Then),
+            Insertion::Mark(Mark::Then),
         ])
     }
 
     fn is_boolean(&self, value: Extent) -> Result<bool, AllocError> {
         self.accepts(&[
-            Piece::Mark(Mark::If),
-            Piece::Mark(Mark::Not),
-            Piece::Mark(Mark::OpenParenthesis),
-            Piece::Copied(value),
-            Piece::Mark(Mark::CloseParenthesis),
-            Piece::Mark(Mark::Then),
+            Insertion::Mark(Mark::If),
+            Insertion::Mark(Mark::Not),
+            Insertion::Mark(Mark::OpenParenthesis),
+            Insertion::Copied(value),
+            Insertion::Mark(Mark::CloseParenthesis),
+            Insertion::Mark(Mark::Then),
         ])
     }
 
     /// Whether an expression may be compared with a set of what these brackets hold.
     fn is_set(&self, value: Extent) -> Result<bool, AllocError> {
         self.accepts(&[
-            Piece::Mark(Mark::If),
-            Piece::Mark(Mark::OpenParenthesis),
-            Piece::Copied(value),
-            Piece::Mark(Mark::CloseParenthesis),
-            Piece::Mark(Mark::Equal),
-            Piece::Mark(Mark::OpenBracket),
-            Piece::Mark(Mark::CloseBracket),
-            Piece::Mark(Mark::Then),
+            Insertion::Mark(Mark::If),
+            Insertion::Mark(Mark::OpenParenthesis),
+            Insertion::Copied(value),
+            Insertion::Mark(Mark::CloseParenthesis),
+            Insertion::Mark(Mark::Equal),
+            Insertion::Mark(Mark::OpenBracket),
+            Insertion::Mark(Mark::CloseBracket),
+            Insertion::Mark(Mark::Then),
         ])
     }
 
     /// Whether a set may have an expression as an element.
     fn is_element(&self, value: Extent) -> Result<bool, AllocError> {
         self.accepts(&[
-            Piece::Mark(Mark::If),
-            Piece::Mark(Mark::OpenBracket),
-            Piece::Copied(value),
-            Piece::Mark(Mark::CloseBracket),
-            Piece::Mark(Mark::Equal),
-            Piece::Mark(Mark::OpenBracket),
-            Piece::Mark(Mark::CloseBracket),
-            Piece::Mark(Mark::Then),
+            Insertion::Mark(Mark::If),
+            Insertion::Mark(Mark::OpenBracket),
+            Insertion::Copied(value),
+            Insertion::Mark(Mark::CloseBracket),
+            Insertion::Mark(Mark::Equal),
+            Insertion::Mark(Mark::OpenBracket),
+            Insertion::Mark(Mark::CloseBracket),
+            Insertion::Mark(Mark::Then),
         ])
     }
 
     fn is_queue(&self, value: Extent) -> Result<bool, AllocError> {
         self.accepts(&[
-            Piece::Mark(Mark::If),
-            Piece::Empty,
-            Piece::Mark(Mark::OpenParenthesis),
-            Piece::Copied(value),
-            Piece::Mark(Mark::CloseParenthesis),
-            Piece::Mark(Mark::Then),
+            Insertion::Mark(Mark::If),
+            Insertion::Empty,
+            Insertion::Mark(Mark::OpenParenthesis),
+            Insertion::Copied(value),
+            Insertion::Mark(Mark::CloseParenthesis),
+            Insertion::Mark(Mark::Then),
         ])
     }
 
     /// What is said of a field of a value that nothing has.
     fn field_reply(&self, value: Extent) -> Result<Reply, AllocError> {
         self.asks(&[
-            Piece::Mark(Mark::If),
-            Piece::Copied(value),
-            Piece::Mark(Mark::Period),
-            Piece::NewName,
-            Piece::Mark(Mark::Then),
+            Insertion::Mark(Mark::If),
+            Insertion::Copied(value),
+            Insertion::Mark(Mark::Period),
+            Insertion::NewName,
+            Insertion::Mark(Mark::Then),
         ])
     }
 
     /// Whether the fault with an index is another than that there is none.
-    fn takes_index(&self, value: Extent, index: Piece) -> Result<bool, AllocError> {
+    fn takes_index(&self, value: Extent, index: Insertion) -> Result<bool, AllocError> {
         let reply = self.asks(&[
-            Piece::Mark(Mark::If),
-            Piece::Copied(value),
-            Piece::Mark(Mark::OpenBracket),
+            Insertion::Mark(Mark::If),
+            Insertion::Copied(value),
+            Insertion::Mark(Mark::OpenBracket),
             index,
-            Piece::Mark(Mark::CloseBracket),
-            Piece::Mark(Mark::Then),
+            Insertion::Mark(Mark::CloseBracket),
+            Insertion::Mark(Mark::Then),
         ])?;
         Ok(match reply {
             Reply::Fine => true,
@@ -158,13 +158,13 @@ impl<'a> Asker<'a> {
     }
 
     fn plain_sort(&self, value: Extent) -> Result<Option<Sort>, AllocError> {
-        if self.equals(value, Piece::Number(1))? {
+        if self.equals(value, Insertion::Number(1))? {
             return Ok(Some(Sort::Integer));
         }
         if self.is_boolean(value)? {
             return Ok(Some(Sort::Boolean));
         }
-        if self.equals(value, Piece::Character(65))? {
+        if self.equals(value, Insertion::Character(65))? {
             return Ok(Some(Sort::Character));
         }
         if self.is_set(value)? {

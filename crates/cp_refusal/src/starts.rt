@@ -1,6 +1,6 @@
 //! How often components are initialised.
 
-use crate::components::{Named, system_types, type_of_group};
+use crate::components::{NamedSystem, system_types, type_of_group};
 use crate::extent::Extent;
 use crate::rules::{mark_at, name_at};
 use cp_text::{Mark, Tokens};
@@ -27,7 +27,7 @@ pub struct Remark {
 
 /// Where a walk over the tokens of statements is in an `init`.
 #[derive(Clone, Copy)]
-struct Walk {
+struct InitWalk {
     is_init: bool,
     /// Whether each run of the statements comes to it.
     is_straight: bool,
@@ -37,16 +37,16 @@ struct Walk {
     level: usize,
 }
 
-const OUTSIDE: Walk = Walk {
+const OUTSIDE: InitWalk = InitWalk {
     is_init: false,
     is_straight: false,
     depth: 0,
     level: 0,
 };
 
-fn stepped(tokens: &Tokens, walk: Walk, at: usize) -> Walk {
+fn next_walk(tokens: &Tokens, walk: InitWalk, at: usize) -> InitWalk {
     match mark_at(tokens, at) {
-        Some(Mark::Init) => Walk {
+        Some(Mark::Init) => InitWalk {
             is_init: true,
             is_straight: walk.level == 1
                 && matches!(
@@ -56,23 +56,23 @@ fn stepped(tokens: &Tokens, walk: Walk, at: usize) -> Walk {
             depth: 0,
             level: walk.level,
         },
-        Some(Mark::OpenParenthesis | Mark::OpenBracket) => Walk {
+        Some(Mark::OpenParenthesis | Mark::OpenBracket) => InitWalk {
             depth: walk.depth.saturating_add(1),
             ..walk
         },
-        Some(Mark::CloseParenthesis | Mark::CloseBracket) => Walk {
+        Some(Mark::CloseParenthesis | Mark::CloseBracket) => InitWalk {
             depth: walk.depth.saturating_sub(1),
             ..walk
         },
-        Some(Mark::Semicolon | Mark::Else) => Walk {
+        Some(Mark::Semicolon | Mark::Else) => InitWalk {
             level: walk.level,
             ..OUTSIDE
         },
-        Some(Mark::Begin | Mark::Case | Mark::Cycle | Mark::Repeat) => Walk {
+        Some(Mark::Begin | Mark::Case | Mark::Cycle | Mark::Repeat) => InitWalk {
             level: walk.level.saturating_add(1),
             ..OUTSIDE
         },
-        Some(Mark::End | Mark::Until) => Walk {
+        Some(Mark::End | Mark::Until) => InitWalk {
             level: walk.level.saturating_sub(1),
             ..OUTSIDE
         },
@@ -86,7 +86,7 @@ fn starts(tokens: &Tokens, body: Extent, name: &str) -> (Option<usize>, bool) {
     let mut is_started = false;
     let mut is_certain = false;
     for at in body.from..body.to {
-        walk = stepped(tokens, walk, at);
+        walk = next_walk(tokens, walk, at);
         if !walk.is_init || walk.depth > 0 || name_at(tokens, at) != name {
             continue;
         }
@@ -126,7 +126,7 @@ fn extent_of(tokens: &Tokens, body: &Body) -> Extent {
 }
 
 /// The kind of the components of a group of variables, where they are components.
-fn kind_of(program: &Program, types: &[Named], group: &VariableGroup) -> Option<SystemKind> {
+fn kind_of(program: &Program, types: &[NamedSystem], group: &VariableGroup) -> Option<SystemKind> {
     let name = type_of_group(program, group);
     let found = types.iter().find(|one| one.name == name)?;
     Some(found.system.kind)
@@ -136,7 +136,7 @@ fn kind_of(program: &Program, types: &[Named], group: &VariableGroup) -> Option<
 fn add_groups(
     tokens: &Tokens,
     program: &Program,
-    types: &[Named],
+    types: &[NamedSystem],
     groups: &[VariableGroup],
     body: Extent,
     remarks: &mut Vec<Remark>,

@@ -1,7 +1,7 @@
 //! Where a process may wait while it is inside another monitor.
 
 use crate::called::is_standard;
-use crate::components::{Named, component_type, system_types};
+use crate::components::{NamedSystem, component_type, system_types};
 use crate::extent::{Extent, after_bracket};
 use crate::rules::{mark_at, name_at};
 use cp_text::{Mark, Tokens};
@@ -10,7 +10,7 @@ use std::alloc::{AllocError, Global};
 
 /// A routine of a system type, and whether a call of it may wait in a queue.
 #[derive(Clone, Copy, Drop)]
-struct Known<'a> {
+struct RoutineWaits<'a> {
     owner: &'a str,
     name: &'a str,
     waits: bool,
@@ -25,7 +25,7 @@ pub struct Inner<'a> {
     pub call: Extent,
 }
 
-fn waits(known: &[Known], owner: &str, name: &str) -> bool {
+fn waits(known: &[RoutineWaits], owner: &str, name: &str) -> bool {
     known
         .iter()
         .any(|one| one.waits && one.owner == owner && one.name == name)
@@ -45,7 +45,7 @@ fn waiting_call(
     tokens: &Tokens,
     program: &Program,
     system: &System,
-    known: &[Known],
+    known: &[RoutineWaits],
     at: usize,
 ) -> Option<Extent> {
     let period = after_index(tokens, at);
@@ -68,8 +68,8 @@ fn waiting_call(
 fn may_wait(
     tokens: &Tokens,
     program: &Program,
-    named: Named,
-    known: &[Known],
+    named: NamedSystem,
+    known: &[RoutineWaits],
     body: Extent,
 ) -> bool {
     for at in body.from..body.to {
@@ -101,13 +101,13 @@ fn body_of(system: &System, number: usize, routine: &Routine) -> Extent {
 fn add_routines<'a>(
     tokens: &Tokens,
     program: &'a Program,
-    named: Named<'a>,
-    known: &mut Vec<Known<'a>>,
+    named: NamedSystem<'a>,
+    known: &mut Vec<RoutineWaits<'a>>,
 ) -> Result<(), AllocError> {
     for (number, routine) in named.system.routines.iter().enumerate() {
         let body = body_of(named.system, number, routine);
         let waits = may_wait(tokens, program, named, known, body);
-        known.push(Known {
+        known.push(RoutineWaits {
             owner: named.name,
             name: routine.name.name.as_str(),
             waits,
@@ -120,8 +120,8 @@ fn add_routines<'a>(
 fn add_inner<'a>(
     tokens: &Tokens,
     program: &'a Program,
-    named: Named<'a>,
-    known: &[Known],
+    named: NamedSystem<'a>,
+    known: &[RoutineWaits],
     found: &mut Vec<Inner<'a>>,
 ) -> Result<(), AllocError> {
     for (number, routine) in named.system.routines.iter().enumerate() {

@@ -5,7 +5,7 @@ use cp_text::Mark;
 
 /// Of which sorts a single value has to be.
 #[derive(Clone, Copy, PartialEq, Eq)]
-pub enum Wanted {
+pub enum Sorts {
     Boolean,
     Integer,
     Ordinal,
@@ -13,24 +13,24 @@ pub enum Wanted {
     Set,
 }
 
-impl Wanted {
+impl Sorts {
     pub fn admits(self, sort: Sort) -> bool {
         match self {
-            Wanted::Boolean => sort == Sort::Boolean,
-            Wanted::Integer => sort == Sort::Integer,
-            Wanted::Ordinal => sort.is_ordinal(),
-            Wanted::Queue => sort == Sort::Queue,
-            Wanted::Set => sort == Sort::Set,
+            Sorts::Boolean => sort == Sort::Boolean,
+            Sorts::Integer => sort == Sort::Integer,
+            Sorts::Ordinal => sort.is_ordinal(),
+            Sorts::Queue => sort == Sort::Queue,
+            Sorts::Set => sort == Sort::Set,
         }
     }
 
     pub fn phrase(self) -> &'static str {
         match self {
-            Wanted::Boolean => "a boolean",
-            Wanted::Integer => "an integer",
-            Wanted::Ordinal => "an integer, a character, a boolean or a value of an enumeration",
-            Wanted::Queue => "a queue variable",
-            Wanted::Set => "a set",
+            Sorts::Boolean => "a boolean",
+            Sorts::Integer => "an integer",
+            Sorts::Ordinal => "an integer, a character, a boolean or a value of an enumeration",
+            Sorts::Queue => "a queue variable",
+            Sorts::Set => "a set",
         }
     }
 }

@@ -43,12 +43,12 @@ pub enum Halt {
 }
 
 // How many values an output holds without memory of its own.
-const FEW: usize = 6;
+const MOST_DIGITS: usize = 6;
 
 // Displayed values: few of them in place, or any number in memory.
 #[derive(Drop)]
 enum Values {
-    Few(ArrayVec<Shown, FEW>),
+    Few(ArrayVec<Shown, MOST_DIGITS>),
     Many(Vec<Shown>),
 }
 
@@ -84,7 +84,7 @@ impl Output {
     pub fn of(alloc: Global, values: &[Shown]) -> Result<Output, AllocError>
         ensures { IfOk result (λ o. o ≡ values.now) }
     {
-        if values.len() > FEW {
+        if values.len() > MOST_DIGITS {
             let many = Vec::from_slice(alloc, values)?;
             return Ok(Output {
                 values: Values::Many(many),
@@ -101,7 +101,7 @@ impl Output {
     pub fn joined(alloc: Global, values: &[Shown], more: &[Shown]) -> Result<Output, AllocError>
         ensures { IfOk result (λ o. o ≡ values.now ++ more.now) }
     {
-        if more.len() > FEW || values.len() > FEW - more.len() {
+        if more.len() > MOST_DIGITS || values.len() > MOST_DIGITS - more.len() {
             let count = values.len().saturating_add(more.len());
             let mut many = Vec::with_capacity(alloc, count)?;
             many.extend_from_slice(values)?;

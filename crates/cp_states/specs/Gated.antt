@@ -2,7 +2,7 @@
 use Rattle.std.specs.Prelude.{ℕ, List, [], map, None, Option}
 use Rattle.cp_machine.specs.declared.gates.Gates.{Gates}
 use Rattle.cp_machine.specs.declared.gates.Gates.TheVariants.{First}
-use Rattle.cp_machine.specs.declared.state.Guard.{Guard}
+use Rattle.cp_machine.specs.declared.state.Gate.{Gate}
 use Rattle.cp_machine.specs.Machine.{Machine, Monitor, monitor_of}
 use Rattle.cp_states.specs.Codes.{gates_code, monitors_with, option_code}
 use Rattle.cp_states.specs.Hashing.{mixed, settled}
@@ -16,7 +16,7 @@ abbrev pub gated : Machine → Gated
 gated m = record { monitors = m.monitors; pending = m.pending; gates = m.gates }
 
 -- the same of what the code has
-abbrev pub gated_by : List Guard → Option ℕ → Gates → Gated
+abbrev pub gated_by : List Gate → Option ℕ → Gates → Gated
 gated_by guards pending gates = record { monitors = map monitor_of guards; pending = pending; gates = gates }
 
 abbrev pub none_gated : Gated

@@ -1,12 +1,12 @@
 //! Who is in the monitors, who waits at their gates, and which gate waits for a choice.
 
 use crate::guards::are_guards;
-use cp_machine::{Gates, Guard};
+use cp_machine::{Gate, Gates};
 
 /// What the monitors of a state have.
 #[derive(Drop)]
 pub struct Admission {
-    pub guards: Vec<Guard>,
+    pub guards: Vec<Gate>,
     pub pending: Option<u8>,
     pub gates: Gates,
 }
@@ -18,7 +18,7 @@ impl Admission {
 
     /// Whether it is what these have.
     #[inline(always)]
-    pub fn is(&self, guards: &[Guard], pending: Option<u8>, gates: Gates) -> bool
+    pub fn is(&self, guards: &[Gate], pending: Option<u8>, gates: Gates) -> bool
         ensures one { result ≡ true → admitted_by self.now ≡ gated_by guards.now pending gates }
         ensures same { admitted_by self.now ≡ gated_by guards.now pending gates → result ≡ true }
     {

@@ -9,7 +9,7 @@ ghost use Rattle.cp_states.specs.Kept.{AreKept};
 use crate::admission::Admission;
 use crate::guards::{are_guards, copies_of_guards, hash_of_guards, take_guards};
 use crate::index::{Index, MOST};
-use cp_machine::{Gates, Guard};
+use cp_machine::{Gate, Gates};
 use std::alloc::{AllocError, Global};
 
 /// What the monitors of states have, each with a number.
@@ -36,7 +36,7 @@ impl Admissions {
 
     // Whether this is the number of what monitors have.
     #[inline(always)]
-    fn is_at(&self, at: usize, guards: &[Guard], pending: Option<u8>, gates: Gates) -> bool
+    fn is_at(&self, at: usize, guards: &[Gate], pending: Option<u8>, gates: Gates) -> bool
         ensures one { result ≡ true → IsAmong none_gated (map admitted_by self.now.all.items) at (gated_by guards.now pending gates) }
         ensures same { IsAmong none_gated (map admitted_by self.now.all.items) at (gated_by guards.now pending gates) → result ≡ true }
     {
@@ -44,7 +44,7 @@ impl Admissions {
     }
 
     #[inline(always)]
-    fn find(&self, hash: u32, guards: &[Guard], pending: Option<u8>, gates: Gates) -> Option<u32>
+    fn find(&self, hash: u32, guards: &[Gate], pending: Option<u8>, gates: Gates) -> Option<u32>
         requires { hash ≡ gated_hash (gated_by guards.now pending gates) }
         ensures found { IfSome result (λ n. IsAmong none_gated (map admitted_by self.now.all.items) n (gated_by guards.now pending gates)) }
         ensures absent { IfNone result ((n : ℕ) → IsAmong none_gated (map admitted_by self.now.all.items) n (gated_by guards.now pending gates) → ⊥) }
@@ -63,7 +63,7 @@ impl Admissions {
     pub fn number_of(
         &mut self,
         alloc: Global,
-        guards: &[Guard],
+        guards: &[Gate],
         pending: Option<u8>,
         gates: Gates,
     ) -> Result<u32, AllocError>
@@ -83,7 +83,7 @@ impl Admissions {
         &mut self,
         alloc: Global,
         hash: u32,
-        guards: &[Guard],
+        guards: &[Gate],
         pending: Option<u8>,
         gates: Gates,
     ) -> Result<u32, AllocError>
@@ -112,7 +112,7 @@ impl Admissions {
         &self,
         number: u32,
         known: u32,
-        guards: &mut Vec<Guard>,
+        guards: &mut Vec<Gate>,
         pending: &mut Option<u8>,
         gates: &mut Gates,
     )

@@ -7,7 +7,7 @@ ghost use Rattle.cp_states.specs.Gated.{gated_by, gated_hash};
 
 use crate::hashing::{Compared, hash_with, mixed, settled};
 use arrayvec::ArrayVec;
-use cp_machine::{Gates, Guard};
+use cp_machine::{Gate, Gates};
 use std::alloc::{AllocError, Global};
 
 #[inline(always)]
@@ -31,7 +31,7 @@ fn gates_number(gates: Gates) -> u64
 }
 
 #[inline(always)]
-fn hash_with_guard(hash: u64, guard: &Guard) -> u64
+fn hash_with_guard(hash: u64, guard: &Gate) -> u64
     ensures { result ≡ monitor_with hash (monitor_of guard.now) }
 {
     let holder = mixed(hash, option_number(guard.holder));
@@ -39,7 +39,7 @@ fn hash_with_guard(hash: u64, guard: &Guard) -> u64
 }
 
 #[inline(always)]
-fn hash_with_guards(hash: u64, guards: &[Guard]) -> u64
+fn hash_with_guards(hash: u64, guards: &[Gate]) -> u64
     ensures { result ≡ monitors_with hash (map monitor_of guards.now) }
 {
     let mut hash = hash;
@@ -52,7 +52,7 @@ fn hash_with_guards(hash: u64, guards: &[Guard]) -> u64
 /// The hash of monitors, and of which gate waits for a choice.
 #[inline(always)]
 #[tactic(auto, unfolding(crate::specs::Gated::gated_hash))]
-pub fn hash_of_guards(guards: &[Guard], pending: Option<u8>, gates: Gates) -> u32
+pub fn hash_of_guards(guards: &[Gate], pending: Option<u8>, gates: Gates) -> u32
     ensures { result ≡ gated_hash (gated_by guards.now pending gates) }
 {
     let hash = mixed(option_number(pending), gates_number(gates));
@@ -61,7 +61,7 @@ pub fn hash_of_guards(guards: &[Guard], pending: Option<u8>, gates: Gates) -> u3
 
 // Whether two monitors are one.
 #[inline(always)]
-fn is_guard(guard: &Guard, other: &Guard) -> bool
+fn is_guard(guard: &Gate, other: &Gate) -> bool
     ensures one { result ≡ true → monitor_of guard.now ≡ monitor_of other.now }
     ensures same { monitor_of guard.now ≡ monitor_of other.now → result ≡ true }
 {
@@ -70,7 +70,7 @@ fn is_guard(guard: &Guard, other: &Guard) -> bool
 
 /// Whether the monitors of two lists are one.
 #[inline(always)]
-pub fn are_guards(guards: &[Guard], others: &[Guard]) -> bool
+pub fn are_guards(guards: &[Gate], others: &[Gate]) -> bool
     ensures one { result ≡ true → map monitor_of guards.now ≡ map monitor_of others.now }
     ensures same { map monitor_of guards.now ≡ map monitor_of others.now → result ≡ true }
 {
@@ -85,21 +85,21 @@ pub fn are_guards(guards: &[Guard], others: &[Guard]) -> bool
     true
 }
 
-fn copy_of_guard(from: &Guard) -> Guard
+fn copy_of_guard(from: &Gate) -> Gate
     ensures { monitor_of result ≡ monitor_of from.now }
 {
     let mut line = ArrayVec::new();
     if !from.line.is_empty() {
         let _ = line.try_extend_from_slice(from.line.as_slice());
     }
-    Guard {
+    Gate {
         holder: from.holder,
         line,
     }
 }
 
 /// Monitors once more.
-pub fn copies_of_guards(alloc: Global, from: &[Guard]) -> Result<Vec<Guard>, AllocError>
+pub fn copies_of_guards(alloc: Global, from: &[Gate]) -> Result<Vec<Gate>, AllocError>
     ensures { IfOk result (λ gs. map monitor_of gs.items ≡ map monitor_of from.now) }
 {
     let mut guards = Vec::with_capacity(alloc, from.len())?;
@@ -110,7 +110,7 @@ pub fn copies_of_guards(alloc: Global, from: &[Guard]) -> Result<Vec<Guard>, All
 }
 
 /// Monitors become others, which are as many.
-pub fn take_guards(mine: &mut Vec<Guard>, theirs: &[Guard])
+pub fn take_guards(mine: &mut Vec<Gate>, theirs: &[Gate])
     requires { length mine.old.items ≡ length theirs.now }
     ensures { map monitor_of mine.new.items ≡ map monitor_of theirs.now }
 {

@@ -158,7 +158,7 @@ struct View<'a> {
 // The value of a part.
 #[cycle(evaluate)]
 #[inline(always)]
-fn operand(expression: &Expression, view: &View) -> Result<i16, ErrorName>
+fn operand_value(expression: &Expression, view: &View) -> Result<i16, ErrorName>
     requires { CanRead (memory_of view.now.permanents.now view.now.room.now) view.now.frame.now expression.now }
     ensures { result ≡ spec.value_at (memory_of view.now.permanents.now view.now.room.now) view.now.frame.now expression.now }
 {
@@ -177,11 +177,11 @@ fn left_part(expression: &Expression, view: &View) -> Result<i16, ErrorName>
     ensures { result ≡ spec.value_at (memory_of view.now.permanents.now view.now.room.now) view.now.frame.now expression.now }
 {
     if let Expression::Arithmetic(operator, left, right) = expression {
-        let left = operand(left, view)?;
-        let right = operand(right, view)?;
+        let left = operand_value(left, view)?;
+        let right = operand_value(right, view)?;
         return calculated(*operator, left, right);
     }
-    operand(expression, view)
+    operand_value(expression, view)
 }
 
 // The value of an expression, handed over in a register.
@@ -204,7 +204,7 @@ fn computed(expression: &Expression, view: &View) -> Result<i16, ErrorName>
     // The most frequent form is not looked up in a table.
     if let Expression::Arithmetic(operator, left, right) = expression {
         let left = left_part(left, view)?;
-        let right = operand(right, view)?;
+        let right = operand_value(right, view)?;
         return calculated(*operator, left, right);
     }
     match expression {
@@ -212,17 +212,17 @@ fn computed(expression: &Expression, view: &View) -> Result<i16, ErrorName>
         Expression::Load(place) => loaded(place, view.permanents, view.room, view.frame),
         Expression::Arithmetic(_, _, _) => unreachable!(),
         Expression::Compare(relation, left, right) => {
-            let left = operand(left, view)?;
-            let right = operand(right, view)?;
+            let left = operand_value(left, view)?;
+            let right = operand_value(right, view)?;
             Ok(compared(*relation, left, right))
         }
         Expression::Logic(operator, left, right) => {
-            let left = operand(left, view)?;
-            let right = operand(right, view)?;
+            let left = operand_value(left, view)?;
+            let right = operand_value(right, view)?;
             Ok(combined(*operator, left, right))
         }
         Expression::Not(operand) => {
-            let value = operand(operand, view)?;
+            let value = operand_value(operand, view)?;
             Ok(truth(!is_true(value)))
         }
         Expression::Negate(_) | Expression::Absolute(_) | Expression::Successor(_, _) => {
@@ -255,12 +255,15 @@ fn rare_value(expression: &Expression, view: &View) -> Result<i16, ErrorName>
     ensures { result ≡ spec.value_at (memory_of view.now.permanents.now view.now.room.now) view.now.frame.now expression.now }
 {
     match expression {
-        Expression::Negate(operand) => negated(operand(operand, view)?),
-        Expression::Absolute(operand) => absolute(operand(operand, view)?),
-        Expression::Successor(operand, last) => successor(operand(operand, view)?, *last),
-        Expression::Predecessor(operand, first) => predecessor(operand(operand, view)?, *first),
+        Expression::Negate(operand) => negated(operand_value(operand, view)?),
+        Expression::Absolute(operand) => absolute(operand_value(operand, view)?),
+        Expression::Successor(operand, last) => successor(operand_value(operand, view)?, *last),
+        Expression::Predecessor(operand, first) => predecessor(
+            operand_value(operand, view)?,
+            *first,
+        ),
         Expression::Character(operand) => {
-            let number = operand(operand, view)?;
+            let number = operand_value(operand, view)?;
             ranged(number, 0, 127)
         }
         Expression::IsEmpty(queue) => {
@@ -302,7 +305,7 @@ fn tested(expression: &Expression, view: &View) -> Result<i16, ErrorName>
             Ok(set::compared(*wanted, left, right))
         }
         Expression::Member(element, whole) => {
-            let element = operand(element, view)?;
+            let element = operand_value(element, view)?;
             let whole = evaluate_set(whole, view.permanents, view.room, view.frame)?;
             Ok(truth(set::is_member(whole, element)))
         }

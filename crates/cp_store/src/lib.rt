@@ -17,7 +17,9 @@ pub mod writing;
 pub use argument::{Bound, evaluate_argument, evaluate_arguments};
 pub use bind::{bind_component, bind_frame};
 pub use error::ErrorName;
-pub use evaluation::{address, origin_address, element_offset, evaluate, evaluate_here, evaluate_set};
+pub use evaluation::{
+    address, element_offset, evaluate, evaluate_here, evaluate_set, origin_address,
+};
 pub use memory::{Address, Frame, Room, cell};
 pub use room::{close_frame, open_frame};
 pub use writing::{copy_cells, write, write_set};

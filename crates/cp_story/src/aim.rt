@@ -61,12 +61,12 @@ fn aim_at(program: &Resolved, state: &State, pid: u8, at: usize) -> Aim
     let item = program.item(at);
     Aim {
         line: Some(item.line),
-        queue: continued(state, pid, item),
+        queue: process_to_continue(state, pid, item),
     }
 }
 
 // The cell of the queue that an item continues.
-fn continued(state: &State, pid: u8, item: &Item) -> Option<usize>
+fn process_to_continue(state: &State, pid: u8, item: &Item) -> Option<usize>
     requires { (r : Tables) × (at : ℕ) × IsTaken r state.now pid at item.now }
 {
     match &item.action {

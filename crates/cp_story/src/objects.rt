@@ -112,7 +112,7 @@ pub fn numbers(alloc: Global, numbers: &[u8]) -> Result<Value, AllocError> {
     Ok(Value::Array(items))
 }
 
-fn named(alloc: Global, name: &str, type_name: &str) -> Result<Value, AllocError> {
+fn named_value(alloc: Global, name: &str, type_name: &str) -> Result<Value, AllocError> {
     let mut object = Object::new(alloc);
     object.text("name", name)?;
     object.text("type", type_name)?;
@@ -124,7 +124,7 @@ pub fn processes(alloc: Global, legend: &Legend) -> Result<Value, AllocError> {
     let mut items = Vec::new(alloc);
     for process in 0..legend.processes() {
         let name = legend.process_name(process);
-        items.push(named(alloc, name, legend.process_type(process))?)?;
+        items.push(named_value(alloc, name, legend.process_type(process))?)?;
     }
     Ok(Value::Array(items))
 }
@@ -134,7 +134,7 @@ pub fn monitors(alloc: Global, legend: &Legend) -> Result<Value, AllocError> {
     let mut items = Vec::new(alloc);
     for monitor in 0..legend.monitors() {
         let name = legend.monitor_name(monitor);
-        items.push(named(alloc, name, legend.monitor_type(monitor))?)?;
+        items.push(named_value(alloc, name, legend.monitor_type(monitor))?)?;
     }
     Ok(Value::Array(items))
 }

@@ -341,11 +341,11 @@ pub fn tell<L: Ledger>(
         &mut observer,
         &mut events,
     )?;
-    told(alloc, program, &state, observer, events, end)
+    finish_story(alloc, program, &state, observer, events, end)
 }
 
 // The whole story, where a run has stopped.
-fn told(
+fn finish_story(
     alloc: Global,
     program: &Resolved,
     state: &State,

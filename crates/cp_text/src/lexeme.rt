@@ -14,13 +14,13 @@ use crate::token::{Kind, Name};
 use crate::word::reserved;
 use std::alloc::{AllocError, Global};
 
-const LARGEST_NUMBER: u32 = 32767;
+const MOST_NUMBER: u32 = 32767;
 
-const LONGEST_NAME: usize = 40;
+const MOST_NAME_BYTES: usize = 40;
 
 const MOST_TOKENS: usize = 20000;
 
-const LARGEST_CODE: u16 = 127;
+const MOST_CODE: u16 = 127;
 
 /// The piece at the front of a text after `count` tokens: its token's kind, if it is a lexeme, and its length.
 #[tactic(auto, unfolding(crate::specs::Lexemes::next))]
@@ -75,7 +75,7 @@ fn number(digits: &[u8]) -> Option<u16>
     let mut value: u32 = 0;
     for b in digits {
         value = value * 10 + u32::from(b.saturating_sub(b'0'));
-        if value > LARGEST_NUMBER {
+        if value > MOST_NUMBER {
             return None;
         }
     }
@@ -88,7 +88,7 @@ fn word(alloc: Global, text: &[u8]) -> Result<Kind, ScanCause>
     requires { All (λ b. b < 128) text.now }
     ensures { Reads (spec.word text.now) result }
 {
-    if text.len() > LONGEST_NAME {
+    if text.len() > MOST_NAME_BYTES {
         return Err(ScanCause::NameTooLong);
     }
     let spelling = lower_case(alloc, text)?;
@@ -146,7 +146,7 @@ fn code(digits: &[u8]) -> Option<u8>
         return None;
     }
     match number(digits) {
-        Some(value) if value <= LARGEST_CODE => Some(value as u8),
+        Some(value) if value <= MOST_CODE => Some(value as u8),
         _ => None,
     }
 }

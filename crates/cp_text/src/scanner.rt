@@ -12,7 +12,7 @@ use crate::lexeme::next;
 use crate::token::{Kind, Token, Tokens};
 use std::alloc::Global;
 
-const LONGEST_TEXT: usize = 65535;
+const MOST_TEXT_BYTES: usize = 65535;
 
 /// The tokens of a text, or its first fault.
 ///
@@ -22,7 +22,7 @@ pub fn scan(alloc: Global, source: &[u8]) -> Result<Tokens, ScanFault>
     ensures reads { result ≢ Err out_of_memory → Reading source.now result }
     ensures only { (other : Outcome) → Reading source.now other → result ≢ Err out_of_memory → result ≡ other }
 {
-    if source.len() > LONGEST_TEXT {
+    if source.len() > MOST_TEXT_BYTES {
         return Err(ScanFault {
             line: 0,
             cause: ScanCause::TooLong,

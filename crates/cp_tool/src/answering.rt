@@ -33,7 +33,7 @@ use std::thread::Threads;
 
 /// How a call of the program ended, as its exit code.
 #[derive(Clone, Copy, PartialEq, Eq)]
-pub struct Status {
+pub struct ExitStatus {
     /// 0 reported, 1 source refused, 3 memory refused, 4 read or write fault, 5 too many rows, states or outcomes, or not settled.
     pub code: u8,
 }
@@ -97,12 +97,12 @@ pub fn explore_stream<X: Threads + Sync, R: Source, W: Sink>(
     options: &Options,
     source: &mut R,
     sink: &mut W,
-) -> Status
+) -> ExitStatus
     // What is written is the answer to what was read, and nothing else; status 4 comes exactly where a call failed or took nothing.
     ensures told { (ending : Ending) × (result.code ≡ spec.code_of ending) × spec.Tells (spec.IsExploredAlone options.now) (R.remaining source.old) (W.contents sink.old) (W.contents sink.new) ending × (R.failed_reads source.new + (W.failed_writes sink.new + W.empty_writes sink.new) ≡ R.failed_reads source.old + (W.failed_writes sink.old + W.empty_writes sink.old) + spec.faults_of_ending ending) }
     ensures reads { R.reads source.new ≤ R.reads source.old + 65536 }
 {
-    Status {
+    ExitStatus {
         code: code_of(streamed(rt, alloc, options, source, sink)),
     }
 }

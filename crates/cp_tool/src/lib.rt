@@ -14,9 +14,9 @@ pub mod stream;
 pub mod transfer;
 pub mod wrapped;
 
-pub use answering::{Status, explore_stream};
+pub use answering::{ExitStatus, explore_stream};
 pub use command_line::read_options;
 pub use options::{OptionFault, Options};
-pub use reason::{Reading, VERSION, asks_version, reason_for, word_reason};
+pub use reason::{SourceReading, VERSION, asks_version, reason_for, word_reason};
 pub use stream::{Failed, Sink, Source};
 pub use wrapped::Wrapped;

@@ -22,7 +22,7 @@ pub fn asks_version(words: &[&str]) -> bool {
 
 /// How a program is given its source, for whoever names a file among the words.
 #[derive(Clone, Copy)]
-pub struct Reading<'a> {
+pub struct SourceReading<'a> {
     /// The words that read standard input, as `cpx`.
     pub program: &'a str,
     /// The words that take a file, as `./explore`.
@@ -33,7 +33,7 @@ pub struct Reading<'a> {
 pub fn reason_for<'a>(
     alloc: Global,
     words: &'a [&'a str],
-    reading: Reading<'_>,
+    reading: SourceReading<'_>,
 ) -> Result<String, AllocError> {
     let command = command(alloc)?;
     match command.try_get_matches_from(words) {
@@ -52,7 +52,7 @@ pub fn reason_for<'a>(
 pub fn word_reason(
     alloc: Global,
     message: &str,
-    reading: Reading<'_>,
+    reading: SourceReading<'_>,
 ) -> Result<String, AllocError> {
     let said = first_line(message);
     let Some((_, rest)) = said.split_once("unexpected argument '") else {
@@ -130,29 +130,29 @@ fn clash_reason(matches: &ArgMatches<'_>) -> &'static str {
 
 // An option with its range.
 #[derive(Clone, Copy)]
-struct Range {
+struct OptionRange {
     name: &'static str,
     low: u32,
     high: u32,
 }
 
-const RANGES: [Range; 4] = [
-    Range {
+const RANGES: [OptionRange; 4] = [
+    OptionRange {
         name: "steps",
         low: 1,
         high: 100_000,
     },
-    Range {
+    OptionRange {
         name: "workers",
         low: 1,
         high: 16,
     },
-    Range {
+    OptionRange {
         name: "cut",
         low: 0,
         high: 20,
     },
-    Range {
+    OptionRange {
         name: "states",
         low: 1,
         high: 10_000_000,
@@ -161,7 +161,7 @@ const RANGES: [Range; 4] = [
 
 fn choices_reason(alloc: Global, matches: &ArgMatches<'_>) -> Result<String, AllocError> {
     let merges = matches.get_flag("merge") | matches.get_flag("ends");
-    let range = Range {
+    let range = OptionRange {
         name: "choices",
         low: 0,
         high: if merges { 100 } else { 20 },
@@ -179,12 +179,16 @@ fn choices_reason(alloc: Global, matches: &ArgMatches<'_>) -> Result<String, All
 }
 
 // Why a number is not in its range, if it isn't.
-fn number_reason(alloc: Global, text: Option<&str>, range: Range) -> Result<String, AllocError> {
+fn number_reason(
+    alloc: Global,
+    text: Option<&str>,
+    range: OptionRange,
+) -> Result<String, AllocError> {
     let Some(text) = text else {
         return Ok(String::new(alloc));
     };
     let is_number = chosen(Some(text), 0, 0, u32::MAX);
-    let Range { name, low, high } = range;
+    let OptionRange { name, low, high } = range;
     match is_number {
         Some(number) if number < low => format!(in alloc; "--{name} {text}: at least {low}"),
         Some(number) if number > high => format!(in alloc; "--{name} {text}: at most {high}"),

@@ -1,4 +1,4 @@
-use cp_verdict::{Misread, expectations, expected, misread_text, push_expectation};
+use cp_verdict::{Misread, expectations, expectations_in, misread_text, push_expectation};
 use std::alloc::Global;
 use std::test::Fail;
 
@@ -98,7 +98,10 @@ fn finds_expectations_in_comments(rt: HostRuntime) -> Result<(), Fail> {
         ),
         ("\"expect never all-waiting\" begin end.", ""),
     ] {
-        assert_eq!(rt; expected(rt.alloc(), source.as_bytes())?.as_str(), text);
+        assert_eq!(rt;
+            expectations_in(rt.alloc(), source.as_bytes())?.as_str(),
+            text
+        );
     }
     Ok(())
 }

@@ -2,7 +2,7 @@
 ghost use Rattle.std.specs.Prelude.{◌≡◌};
 
 use crate::fakes::{EndlessReader, OneByteReader, OneByteWriter, Refusal};
-use cp_tool::{Options, Status, Wrapped, explore_stream, read_options};
+use cp_tool::{ExitStatus, Options, Wrapped, explore_stream, read_options};
 use std::alloc::Global;
 use std::io::Read;
 use std::marker::Brand;
@@ -28,7 +28,7 @@ pub const NEVER: Refusals = Refusals {
 /// What was written, and with which status.
 #[derive(Drop)]
 pub struct Told {
-    pub status: Status,
+    pub status: ExitStatus,
     pub text: Vec<u8>,
 }
 

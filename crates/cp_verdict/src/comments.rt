@@ -62,7 +62,7 @@ fn expectation_of(comment: &str) -> Option<&str> {
 
 /// The text of the expectations in a source, joined by `and`; empty where there are none. A comment of theirs begins with `(* expect`,
 /// and may end with `*)`.
-pub fn expected(alloc: Global, source: &[u8]) -> Result<String, AllocError> {
+pub fn expectations_in(alloc: Global, source: &[u8]) -> Result<String, AllocError> {
     let mut joined = String::new(alloc);
     let bytes = comments(alloc, source)?;
     for comment in bytes.split(|byte| *byte == b'\n') {

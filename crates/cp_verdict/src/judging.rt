@@ -62,7 +62,7 @@ fn has_open(
     Ok(false)
 }
 
-fn settled(claim: Claim, found: Option<Row>, left_open: bool) -> Judgement
+fn settle(claim: Claim, found: Option<Row>, left_open: bool) -> Judgement
     ensures { result ≡ spec.judgement_of claim found left_open }
 {
     match (claim, found) {
@@ -85,5 +85,5 @@ pub fn judge(
 {
     let left_open = has_open(alloc, program, expectation, seen)?;
     let found = first_settling(alloc, program, expectation, seen)?;
-    Ok(settled(expectation.claim, found, left_open))
+    Ok(settle(expectation.claim, found, left_open))
 }

@@ -15,7 +15,7 @@ pub mod seen;
 pub mod value;
 pub mod words;
 
-pub use comments::expected;
+pub use comments::expectations_in;
 pub use expectation::{Claim, Expectation, KindPattern, OutcomePattern, OutputItem, OutputPattern};
 pub use judging::{Judgement, judge};
 pub use laws::{law_holds, law_output, law_stays};

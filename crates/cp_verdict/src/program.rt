@@ -83,7 +83,7 @@ fn seen_of<'a>(alloc: Global, tallies: &'a [Tally]) -> Result<Vec<Seen<'a>>, All
 }
 
 /// The outcomes of a job, or what there is too much of. A layer may have so many states.
-fn explored(alloc: Global, job: Job, states: u32) -> Result<Tallies, MarkFault>
+fn outcomes_of(alloc: Global, job: Job, states: u32) -> Result<Tallies, MarkFault>
     ensures { IfOk result (λ ts. map tally_of ts ≡ tally same_outcome (table (slots job.entry.program.now job.entry.limits.gates) job.entry.limits.choices job.entry.limits.steps)) }
 {
     match explore_merged(alloc, job, states as usize) {
@@ -127,7 +127,7 @@ pub fn mark_program(
     ensures mark { IfOk result (λ m. spec.IsMarked job.entry.program.now.names expectations.entry.now (table (slots job.entry.program.now job.entry.limits.gates) job.entry.limits.choices job.entry.limits.steps) m) }
     ensures meaning { IfOk result (λ m. IsMeantMark job.entry.program.now job.entry.limits.gates job.entry.limits.choices job.entry.limits.steps expectations.entry.now m) }
 {
-    let tallies = explored(alloc, job, states)?;
+    let tallies = outcomes_of(alloc, job, states)?;
     let marked = mark_tallies(alloc, job.program, expectations, tallies.as_slice())?;
     Ok(marked)
 }

@@ -1,6 +1,6 @@
 -- Ranks of the states of a graph, which show that a process does not wait for ever.
 use Rattle.std.specs.Prelude.{◌≡◌, ◌≤◌, ◌<◌, ℕ, Option, None, Some, true, false, slice_get, slice_index}
-use Rattle.cp_waits.specs.declared.components.Part.{Part}
+use Rattle.cp_waits.specs.declared.components.Component.{Component}
 use Rattle.cp_waits.specs.declared.components.Parts.{Parts}
 use Rattle.cp_waits.specs.declared.graph.Edge.{Edge}
 use Rattle.cp_waits.specs.declared.graph.Graph.{Graph}
@@ -30,7 +30,7 @@ AreRanks g keeping rank passed_over = (i : ℕ) (e : Edge) → IsEdge g i e → 
 abbrev pub rank_in : Parts → ℕ → ℕ
 rank_in parts i = slice_index parts.of.items i
 
-abbrev pub who_is_passed_over : Option Part → Option ℕ
+abbrev pub who_is_passed_over : Option Component → Option ℕ
 who_is_passed_over None = None
 who_is_passed_over (Some part) = part.passed_over
 

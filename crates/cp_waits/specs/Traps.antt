@@ -1,6 +1,6 @@
 -- States of a graph in which a process keeps doing something whatever is chosen, and to which each schedule comes in which it keeps doing so for ever.
 use Rattle.std.specs.Prelude.{◌≡◌, ◌<◌, ℕ, Bool, true, false, Option, None, Some, length, slice_get}
-use Rattle.cp_waits.specs.declared.components.Part.{Part}
+use Rattle.cp_waits.specs.declared.components.Component.{Component}
 use Rattle.cp_waits.specs.declared.components.Parts.{Parts}
 use Rattle.cp_waits.specs.declared.graph.Edge.{Edge}
 use Rattle.cp_waits.specs.declared.graph.Graph.{Graph}
@@ -33,7 +33,7 @@ HasTraps g keeping = (rank : ℕ → ℕ) × (passed_over : ℕ → Option ℕ) 
 
 -- ---- components as traps
 
-abbrev pub is_part_trap : Option Part → Bool
+abbrev pub is_part_trap : Option Component → Bool
 is_part_trap None = false
 is_part_trap (Some part) = part.is_trap
 

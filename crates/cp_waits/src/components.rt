@@ -14,7 +14,7 @@ const NONE: u32 = u32::MAX;
 
 /// A component.
 #[derive(Clone, Copy)]
-pub struct Part {
+pub struct Component {
     /// The first of its states.
     pub least: u32,
     /// Those that are served on some of its edges.
@@ -33,7 +33,7 @@ pub struct Part {
 #[derive(Drop)]
 pub struct Parts {
     pub of: Vec<u32>,
-    pub parts: Vec<Part>,
+    pub parts: Vec<Component>,
 }
 
 // A state whose edges are followed, from this one on and before this one.
@@ -66,11 +66,11 @@ pub fn parts_of(alloc: Global, graph: &Graph, keeping: Keeping) -> Result<Parts,
     let mut search = Search {
         keeping,
         parts: Parts {
-            of: filled(alloc, states, NONE)?,
+            of: list_of(alloc, states, NONE)?,
             parts: Vec::new(alloc),
         },
-        order: filled(alloc, states, 0)?,
-        low: filled(alloc, states, 0)?,
+        order: list_of(alloc, states, 0)?,
+        low: list_of(alloc, states, 0)?,
         count: 0,
         path: Vec::new(alloc),
         open: Vec::new(alloc),
@@ -91,7 +91,7 @@ impl Parts {
         }
     }
 
-    pub fn part(&self, number: u32) -> Option<&Part> {
+    pub fn part(&self, number: u32) -> Option<&Component> {
         self.parts.get(number as usize)
     }
 
@@ -148,8 +148,8 @@ impl Search {
 
     fn come_to(&mut self, graph: &Graph, state: u32) -> Result<(), AllocError> {
         self.count = self.count.saturating_add(1);
-        set(&mut self.order, state, self.count);
-        set(&mut self.low, state, self.count);
+        set_at(&mut self.order, state, self.count);
+        set_at(&mut self.low, state, self.count);
         self.open.push(state)?;
         self.path.push(Visit {
             state,
@@ -176,7 +176,7 @@ impl Search {
 
     fn lower(&mut self, state: u32, low: u32) {
         if low < at(&self.low, state) {
-            set(&mut self.low, state, low);
+            set_at(&mut self.low, state, low);
         }
     }
 
@@ -202,7 +202,7 @@ impl Search {
             let Some(member) = self.open.pop() else {
                 break;
             };
-            set(&mut self.parts.of, member, number);
+            set_at(&mut self.parts.of, member, number);
             self.members.push(member)?;
             if member == state {
                 break;
@@ -215,7 +215,7 @@ impl Search {
     }
 }
 
-fn number_after(parts: &[Part]) -> u32 {
+fn number_after(parts: &[Component]) -> u32 {
     match u32::try_from(parts.len()) {
         Ok(number) => number,
         Err(_) => NONE,
@@ -238,8 +238,14 @@ fn somebody_in(set: Set) -> Option<u8> {
 }
 
 // What a component of these states is.
-fn part_with(graph: &Graph, keeping: Keeping, parts: &Parts, number: u32, members: &[u32]) -> Part {
-    let mut part = Part {
+fn part_with(
+    graph: &Graph,
+    keeping: Keeping,
+    parts: &Parts,
+    number: u32,
+    members: &[u32],
+) -> Component {
+    let mut part = Component {
         least: NONE,
         served: Set::nobody(),
         wait_once: Set::nobody(),
@@ -259,7 +265,7 @@ fn part_with(graph: &Graph, keeping: Keeping, parts: &Parts, number: u32, member
     part
 }
 
-impl Part {
+impl Component {
     // One edge more of its states.
     fn add(&mut self, keeping: Keeping, parts: &Parts, number: u32, edge: &Edge) {
         if !keeping.holds(&edge.passing) {
@@ -290,7 +296,7 @@ impl Part {
 }
 
 /// A list of so many equal numbers.
-pub fn filled(alloc: Global, count: usize, number: u32) -> Result<Vec<u32>, AllocError> {
+pub fn list_of(alloc: Global, count: usize, number: u32) -> Result<Vec<u32>, AllocError> {
     let mut list = Vec::with_capacity(alloc, count)?;
     for _ in 0..count {
         list.push(number)?;
@@ -307,7 +313,7 @@ pub fn at(list: &[u32], place: u32) -> u32 {
 }
 
 /// Sets the number at a place of a list.
-pub fn set(list: &mut [u32], place: u32, number: u32) {
+pub fn set_at(list: &mut [u32], place: u32, number: u32) {
     if let Some(slot) = list.get_mut(place as usize) {
         *slot = number;
     }

@@ -3,7 +3,7 @@
 ghost use Rattle.std.specs.Prelude.{IfOk, IfSome};
 ghost use Rattle.cp_waits.specs.Walks.{IsRound};
 
-use crate::components::{Parts, at, filled, set};
+use crate::components::{Parts, at, list_of, set_at};
 use crate::graph::{Edge, Graph};
 use crate::passing::{Keeping, Passing};
 use crate::set::Set;
@@ -21,7 +21,7 @@ struct Wanted {
 
 // Where a way is to lead.
 #[derive(Clone, Copy)]
-enum Aim {
+enum Destination {
     // Over an edge that is wanted.
     Wanted(Wanted),
     // To a state.
@@ -90,9 +90,9 @@ pub fn round_in(
             if tour.state == first && !tour.gone.is_empty() {
                 return round_along(alloc, graph, keeping, first as usize, tour.gone.as_slice());
             }
-            Aim::State(first)
+            Destination::State(first)
         } else {
-            Aim::Wanted(tour.wanted)
+            Destination::Wanted(tour.wanted)
         };
         if !tour.go_to(graph, parts, aim)? {
             return Ok(None);
@@ -125,9 +125,9 @@ fn tour_from(
                 Keeping::Inside(pid) => Some(pid),
             },
         },
-        from: filled(alloc, states, 0)?,
+        from: list_of(alloc, states, 0)?,
         by,
-        seen: filled(alloc, states, 0)?,
+        seen: list_of(alloc, states, 0)?,
         turn: 0,
         queue: Vec::new(alloc),
         way: Vec::new(alloc),
@@ -136,11 +136,16 @@ fn tour_from(
 
 impl Tour {
     // Goes the shortest way there. `false` where there is none.
-    fn go_to(&mut self, graph: &Graph, parts: &Parts, aim: Aim) -> Result<bool, AllocError> {
+    fn go_to(
+        &mut self,
+        graph: &Graph,
+        parts: &Parts,
+        aim: Destination,
+    ) -> Result<bool, AllocError> {
         self.turn = self.turn.saturating_add(1);
         self.queue.clear();
         self.queue.push(self.state)?;
-        set(&mut self.seen, self.state, self.turn);
+        set_at(&mut self.seen, self.state, self.turn);
         for next in 0..graph.states() {
             let Some(state) = self.queue.get(next) else {
                 return Ok(false);
@@ -177,8 +182,8 @@ impl Tour {
         if at(&self.seen, to) == self.turn {
             return Ok(());
         }
-        set(&mut self.seen, to, self.turn);
-        set(&mut self.from, to, from);
+        set_at(&mut self.seen, to, self.turn);
+        set_at(&mut self.from, to, from);
         if let Some(by) = self.by.get_mut(to as usize) {
             *by = place;
         }
@@ -213,9 +218,9 @@ impl Tour {
     }
 }
 
-fn is_met(aim: Aim, to: u32, edge: &Edge) -> bool {
+fn is_met(aim: Destination, to: u32, edge: &Edge) -> bool {
     match aim {
-        Aim::Wanted(wanted) => wanted.is_met_by(&edge.passing),
-        Aim::State(state) => to == state,
+        Destination::Wanted(wanted) => wanted.is_met_by(&edge.passing),
+        Destination::State(state) => to == state,
     }
 }

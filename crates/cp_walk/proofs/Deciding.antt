@@ -15,7 +15,7 @@ use Rattle.cp_board.specs.declared.seats.Seat.{Seat}
 use Rattle.cp_board.specs.Views.{rows_noted, NotesOnce, IsTotal, Settles}
 use Rattle.cp_board.specs.Seats.{view_of, IsSeatOf}
 use Rattle.cp_board.proofs.Lists.{sum_ones, sum_same, sum_le, sum_range}
-use Rattle.cp_walk.specs.declared.worker.Part.{Part}
+use Rattle.cp_walk.specs.declared.worker.TaskRows.{TaskRows}
 use Rattle.cp_walk.specs.declared.worker.Worked.{Worked}
 use Rattle.cp_walk.specs.declared.worker.End.{End}
 use Rattle.cp_walk.specs.declared.worker.End.TheVariants.{Dry, Excess, Refused}
@@ -57,11 +57,11 @@ pub same_table : (f g : ℕ → List Row) (m : ℕ) → ((t : ℕ) → t < m →
 same_table f g m h = same_from f g 0 m (λ t low high. h t (omega (arith, high)))
 
 -- a piece of the task that is there is found
-found : (rows : ℕ → List Row) (t : ℕ) (ps : List Part) → All (λ p. p.rows.items ≡ take 50001 (rows p.task)) ps → 0 < count_by (λ p. eqb p.task t) ps → rows_at ps t ≡ take 50001 (rows t)
+found : (rows : ℕ → List Row) (t : ℕ) (ps : List TaskRows) → All (λ p. p.rows.items ≡ take 50001 (rows p.task)) ps → 0 < count_by (λ p. eqb p.task t) ps → rows_at ps t ≡ take 50001 (rows t)
 found rows t [] cut some = absurd (omega (arith, some))
 found rows t (p ∷ ps) cut has =
-    let P : Part → Type 0 = λ q. q.rows.items ≡ take 50001 (rows q.task) in
-    let c : Part → ℕ = λ q. cond (eqb q.task t) 1 0 in
+    let P : TaskRows → Type 0 = λ q. q.rows.items ≡ take 50001 (rows q.task) in
+    let c : TaskRows → ℕ = λ q. cond (eqb q.task t) 1 0 in
     let n = sum_by-cons c p ps in
     let cases = λ (b : Bool) (is : eqb p.task t ≡ b). elim b as (λ b. eqb p.task t ≡ b → cond (eqb p.task t) p.rows.items (rows_at ps t) ≡ take 50001 (rows t)) [
       | true ↦ λ e. ap (λ b. cond b p.rows.items (rows_at ps t)) e ∙ All-head P p ps cut ∙ ap (λ k. take 50001 (rows k)) (eqb-true p.task t e)
@@ -69,12 +69,12 @@ found rows t (p ∷ ps) cut has =
     ] is in
     cases (eqb p.task t) refl
 
-honest_of : (rows : ℕ → List Row) (v : View) (ps : List Part) (e : End) → EndsAs rows v ps e → IsKept e → IsHonest rows v
+honest_of : (rows : ℕ → List Row) (v : View) (ps : List TaskRows) (e : End) → EndsAs rows v ps e → IsKept e → IsHonest rows v
 honest_of rows v ps Dry h kept = honest rows v ps h.1
 honest_of rows v ps Excess h kept = h.0
 honest_of rows v ps Refused h kept = absurd kept
 
-done_of : (rows : ℕ → List Row) (v : View) (ps : List Part) (e : End) (total : ℕ) → EndsAs rows v ps e → IsKept e → All (λ n. n.total ≤ total) v.notes → total ≤ 50000 → (v.spent ≡ 1) × IsDone rows v ps
+done_of : (rows : ℕ → List Row) (v : View) (ps : List TaskRows) (e : End) (total : ℕ) → EndsAs rows v ps e → IsKept e → All (λ n. n.total ≤ total) v.notes → total ≤ 50000 → (v.spent ≡ 1) × IsDone rows v ps
 done_of rows v ps Dry total h kept most few = h
 done_of rows v ps Excess total (low, (k, n, at, is, over)) kept most few =
     let le : n.total ≤ total = subst (λ (m : Note). m.total ≤ total) is (most k n at) in
@@ -122,13 +122,13 @@ module _ (rows : ℕ → List Row) (b : Board) (tasks : ℕ) (ws : List Worked) 
         let most : All (λ n. n.total ≤ total) (V w).notes = All-weaker (IsTotal total (map view_of (map (λ (w : Worked). w.seat) ws))) (λ n. n.total ≤ total) (λ n t. t.0) (V w).notes (totals k d h) in
         done_of rows (V w) w.parts.items w.end total (each k d h).1 (kept k d h) most few
 
-    abbrev parts : List Part
+    abbrev parts : List TaskRows
     parts = flat_map (λ w. w.parts.items) ws
 
     pub all_below : ((w : Worked) → IsSeatOf b w.seat → (V w).tasks ≡ tasks) → All (λ p. p.task < tasks) parts
-    all_below same = all_flat (λ (p : Part). p.task < tasks) (λ (w : Worked). w.parts.items) ws (λ k d h.
+    all_below same = all_flat (λ (p : TaskRows). p.task < tasks) (λ (w : Worked). w.parts.items) ws (λ k d h.
         let w = get_or ws k d in
-        All-weaker (λ (p : Part). p.task < (V w).tasks) (λ p. p.task < tasks) (λ p lt. omega (arith, lt, same w (each k d h).0)) w.parts.items (done k d h).1.below)
+        All-weaker (λ (p : TaskRows). p.task < (V w).tasks) (λ p. p.task < tasks) (λ p lt. omega (arith, lt, same w (each k d h).0)) w.parts.items (done k d h).1.below)
 
     module _ (some_worker : 0 < length ws) where
       everything : claimed ≡ tasks
@@ -153,11 +153,11 @@ module _ (rows : ℕ → List Row) (b : Board) (tasks : ℕ) (ws : List Worked) 
       at_task : (t : ℕ) → t < tasks → rows_at parts t ≡ rows t
       at_task t lt =
           let h : ℕ → ℕ = λ y. cond (eqb y t) 1 0 in
-          let cut : All (λ p. p.rows.items ≡ take 50001 (rows p.task)) parts = all_flat (λ (p : Part). p.rows.items ≡ take 50001 (rows p.task)) (λ (w : Worked). w.parts.items) ws (λ k d i. (done k d i).1.cut) in
+          let cut : All (λ p. p.rows.items ≡ take 50001 (rows p.task)) parts = all_flat (λ (p : TaskRows). p.rows.items ≡ take 50001 (rows p.task)) (λ (w : Worked). w.parts.items) ws (λ k d i. (done k d i).1.cut) in
           let one : All (λ w. sum_by (λ p. h p.task) w.parts.items ≡ sum_by h (V w).drawn) ws = λ k d i.
           let w = get_or ws k d in
-          sym (sum_map h (λ (p : Part). p.task) w.parts.items) ∙ ap (sum_by h) (done k d i).1.parts in
-          let a = sum_flat (λ (p : Part). h p.task) (λ (w : Worked). w.parts.items) ws in
+          sym (sum_map h (λ (p : TaskRows). p.task) w.parts.items) ∙ ap (sum_by h) (done k d i).1.parts in
+          let a = sum_flat (λ (p : TaskRows). h p.task) (λ (w : Worked). w.parts.items) ws in
           let e = sum_same (λ (w : Worked). sum_by (λ p. h p.task) w.parts.items) (λ w. sum_by h (V w).drawn) ws one in
           let itself : h t ≡ 1 = ap (λ b. cond b 1 0) (eq-eqb t t refl) in
           found rows t parts cut (omega (arith, a, e, drawn_all h, in_range h t tasks lt, itself)) ∙ whole t lt

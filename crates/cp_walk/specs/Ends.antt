@@ -5,13 +5,13 @@ use Rattle.cp_board.specs.Views.{view}
 use Rattle.cp_board.specs.declared.views.View.{View}
 use Rattle.cp_board.specs.declared.seats.Board.{Board}
 use Rattle.cp_board.specs.Seats.{IsSeatOf, tasks_of, view_of}
-use Rattle.cp_walk.specs.declared.worker.Part.{Part}
+use Rattle.cp_walk.specs.declared.worker.TaskRows.{TaskRows}
 use Rattle.cp_walk.specs.declared.worker.Worked.{Worked}
 use Rattle.cp_walk.specs.declared.worker.End.{End}
 use Rattle.cp_walk.specs.declared.worker.End.TheVariants.{Dry, Excess, Refused}
 
 -- each draw has its piece and its note, in order, with the rows of its task, of which those past the 50,001st are left out
-pub record IsDone (rows : ℕ → List Row) (v : View) (ps : List Part) : Type 0 where
+pub record IsDone (rows : ℕ → List Row) (v : View) (ps : List TaskRows) : Type 0 where
   pub parts : map (λ p. p.task) ps ≡ v.drawn
   pub below : All (λ p. p.task < v.tasks) ps
   pub cut : All (λ p. p.rows.items ≡ take 50001 (rows p.task)) ps
@@ -23,7 +23,7 @@ abbrev pub IsHonest : (ℕ → List Row) → View → Type 0
 IsHonest rows v = All (λ n. n.rows ≤ length (rows n.task)) v.notes
 
 -- a worker stops where nothing is left, at a total above 50,000, or for want of memory
-abbrev pub EndsAs : (ℕ → List Row) → View → List Part → End → Type 0
+abbrev pub EndsAs : (ℕ → List Row) → View → List TaskRows → End → Type 0
 EndsAs rows v ps Dry = (v.spent ≡ 1) × IsDone rows v ps
 EndsAs rows v ps Excess = IsHonest rows v × Any (λ n. 50000 < n.total) v.notes
 EndsAs rows v ps Refused = Unit {0}

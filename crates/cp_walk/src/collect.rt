@@ -5,12 +5,15 @@ ghost use Rattle.cp_walk.specs.Tables.{table_of, rows_at};
 ghost use Rattle.cp_walk.specs.Ends.{IsKept};
 
 use crate::row::Row;
-use crate::worker::{End, Part, Worked};
+use crate::worker::{End, TaskRows, Worked};
 use cp_board::Seat;
 use std::alloc::{AllocError, Global};
 
 /// All seats and all parts, where no worker was refused memory.
-pub fn collected(alloc: Global, workers: Vec<Worked>) -> Result<(Vec<Seat>, Vec<Part>), AllocError>
+pub fn collected(
+    alloc: Global,
+    workers: Vec<Worked>,
+) -> Result<(Vec<Seat>, Vec<TaskRows>), AllocError>
     ensures seats { IfOk result (λ r. r.0.items ≡ map (λ w. w.seat) workers.items) }
     ensures parts { IfOk result (λ r. r.1.items ≡ flat_map (λ w. w.parts.items) workers.items) }
     ensures kept { IfOk result (λ r. All (λ w. IsKept w.end) workers.items) }
@@ -33,7 +36,7 @@ pub fn collected(alloc: Global, workers: Vec<Worked>) -> Result<(Vec<Seat>, Vec<
 }
 
 /// The rows of the parts in order of task.
-pub fn gathered(alloc: Global, tasks: u32, parts: Vec<Part>) -> Result<Vec<Row>, AllocError>
+pub fn gathered(alloc: Global, tasks: u32, parts: Vec<TaskRows>) -> Result<Vec<Row>, AllocError>
     requires { All (λ p. p.task < tasks) parts.items }
     ensures { IfOk result (λ v. v.items ≡ table_of (rows_at parts.items) tasks) }
 {
@@ -51,13 +54,13 @@ fn joined(alloc: Global, slots: Vec<Vec<Row>>) -> Result<Vec<Row>, AllocError>
     Ok(all)
 }
 
-fn sorted(alloc: Global, tasks: u32, mut parts: Vec<Part>) -> Result<Vec<Vec<Row>>, AllocError>
+fn sorted(alloc: Global, tasks: u32, mut parts: Vec<TaskRows>) -> Result<Vec<Vec<Row>>, AllocError>
     requires { All (λ p. p.task < tasks) parts.items }
     ensures { IfOk result (λ v. map (λ r. r.items) v.items ≡ map (rows_at parts.items) (range_with_len 0 tasks)) }
 {
     let mut slots = empty_slots(alloc, tasks)?;
     while let Some(piece) = parts.pop() {
-        let Part { task, rows } = piece;
+        let TaskRows { task, rows } = piece;
         slots[task as usize] = rows;
     }
     Ok(slots)

@@ -1,7 +1,6 @@
 //! The walk over the tree of schedule words: cuttings, workers, tables and their reports, over the slot machine.
 #![tactic(auto)]
 
-mod replay;
 pub mod beginning;
 mod children;
 mod collect;
@@ -11,10 +10,12 @@ mod groups;
 pub mod job;
 mod key;
 mod member;
+mod memo;
 pub mod numbers;
 pub mod one_thread;
 pub mod pieces;
 pub mod printed;
+mod replay;
 pub mod reports;
 pub mod row;
 mod running;
@@ -23,7 +24,6 @@ pub mod text;
 pub mod threads;
 pub mod trace_reports;
 mod walk;
-mod memo;
 mod wanting;
 mod word;
 pub mod worker;

@@ -6,10 +6,10 @@ ghost use Rattle.cp_walk.specs.Cutting.{rows_behind};
 ghost use Rattle.cp_walk.specs.Rows.{line_of, IsTooMany};
 
 use crate::fault::ExploreFault;
+use crate::memo::Walked;
 use crate::one_thread::copies;
 use crate::row::Row;
 use crate::walk::walk_from;
-use crate::memo::Walked;
 use crate::word::word_of;
 use cp_machine::{State, Ticks, Unwatched};
 use cp_run::{Limits, choose, is_over, may, open};

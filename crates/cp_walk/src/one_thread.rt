@@ -9,9 +9,9 @@ ghost use Rattle.cp_walk.specs.Rows.{line_of, IsTooMany};
 
 use crate::fault::ExploreFault;
 use crate::job::Job;
+use crate::memo::Walked;
 use crate::row::{Rows, Table};
 use crate::walk::walk_from;
-use crate::memo::Walked;
 use arrayvec::ArrayVec;
 use cp_machine::{State, Ticks};
 use cp_run::{Limits, open};

@@ -6,9 +6,9 @@ ghost use Rattle.cp_walk.specs.Rows.{line_of, IsTooMany};
 ghost use Rattle.cp_walk.specs.Walked.{begun, within_span};
 
 use crate::fault::ExploreFault;
+use crate::memo::Span;
 use crate::row::Row;
 use crate::walk::MOST_ROWS;
-use crate::memo::Span;
 use arrayvec::ArrayVec;
 use cp_machine::{Shown, State};
 use cp_run::{Outcome, Output};
@@ -36,7 +36,12 @@ fn word_with_prefix(word: &[u8], theirs: &[u8]) -> ArrayVec<u8, 20>
     begun
 }
 
-fn row_with_prefix(alloc: Global, word: &[u8], output: &[Shown], row: &Row) -> Result<Row, AllocError>
+fn row_with_prefix(
+    alloc: Global,
+    word: &[u8],
+    output: &[Shown],
+    row: &Row,
+) -> Result<Row, AllocError>
     requires { length word.now ≤ 20 }
     ensures { IfOk result (λ r. line_of r ≡ begun word.now output.now (line_of row.now)) }
 {

@@ -6,7 +6,7 @@ ghost use Rattle.cp_board.specs.Seats.{IsSeatOf, view_of, tasks_of};
 ghost use Rattle.cp_walk.specs.Ends.{HasWorked};
 
 use crate::fault::ExploreFault;
-use crate::worker::{EXCESS, End, Gate, MOST_NOTED, Part, Work, Worked};
+use crate::worker::{EXCESS, End, Gate, MOST_NOTED, TaskRows, Work, Worked};
 use cp_board::{Board, Seat};
 use std::alloc::Global;
 
@@ -43,7 +43,7 @@ pub fn worked<W: Work, G: Gate>(
             }
         };
         let count = rows.len() as u32;
-        if parts.push(Part { task, rows }).is_err() {
+        if parts.push(TaskRows { task, rows }).is_err() {
             return Worked {
                 seat,
                 parts,

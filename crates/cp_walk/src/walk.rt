@@ -11,10 +11,10 @@ ghost use Rattle.cp_walk.specs.Walk.{behind, walk, IsDue};
 ghost use Rattle.cp_walk.specs.Walked.{AreWalked};
 ghost use Rattle.cp_walk.specs.Rows.{line_of, IsTooMany};
 
-use crate::replay::add_replayed;
 use crate::fault::ExploreFault;
-use crate::row::Row;
 use crate::memo::{Span, Walked};
+use crate::replay::add_replayed;
+use crate::row::Row;
 use crate::word::word_of;
 use arrayvec::ArrayVec;
 use cp_machine::{State, Ticks, Unwatched};

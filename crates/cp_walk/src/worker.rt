@@ -42,7 +42,7 @@ impl Gate for NoGate {
 
 /// The rows of a task, as a worker keeps them.
 #[derive(Drop)]
-pub struct Part {
+pub struct TaskRows {
     pub task: u32,
     pub rows: Vec<Row>,
 }
@@ -59,6 +59,6 @@ pub enum End {
 #[derive(Drop)]
 pub struct Worked {
     pub seat: Seat,
-    pub parts: Vec<Part>,
+    pub parts: Vec<TaskRows>,
     pub end: End,
 }

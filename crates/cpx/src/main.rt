@@ -5,7 +5,7 @@ ghost use Rattle.std.specs.Prelude.{◌≡◌};
 
 use cp_ends_tool::answer_stream;
 use cp_tool::{
-    OptionFault, Options, Reading, VERSION, Wrapped, asks_version, read_options, reason_for,
+    OptionFault, Options, SourceReading, VERSION, Wrapped, asks_version, read_options, reason_for,
 };
 use std::alloc::{AllocError, Global};
 use std::env;
@@ -15,7 +15,7 @@ use std::process::ExitCode;
 use std::sync::ledger::{Blank, Ledger};
 use std::thread::Threads;
 
-const READING: Reading<'static> = Reading {
+const READING: SourceReading<'static> = SourceReading {
     program: "cpx",
     script: "./explore",
 };

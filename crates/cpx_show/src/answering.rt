@@ -5,18 +5,18 @@ ghost use Rattle.cp_walk.specs.Rows.{UsedWithin};
 ghost use Rattle.cpx_show.specs.Showing as spec;
 
 use crate::mark_words::Examinee;
-use crate::marks::marked;
+use crate::marks::mark_answer;
 use crate::parts::{Asked, Part};
-use crate::refusals::explained;
+use crate::refusals::explanation_answer;
 use cp_check::check;
 use cp_drops::{drop_checked, drop_program, drop_tree};
 use cp_ends_story::{Subject as Endless, ends_story};
-use cp_lanes::{Subject, picture};
+use cp_lanes::{PictureSubject, picture};
 use cp_legend::{Legend, legend_of};
 use cp_machine::Ticks;
 use cp_merged::word::word_of;
-use cp_outcomes::{First, Form, Subject as Survey, first_of_outcome, outcomes};
-use cp_page::{Length, Subject as Played, page};
+use cp_outcomes::{First, Format, Subject as Survey, first_of_outcome, outcomes};
+use cp_page::{Length, PageSubject as Played, page};
 use cp_resolved::resolve;
 use cp_run::{Limits, MOST_CHOICES};
 use cp_slots::Resolved;
@@ -97,22 +97,17 @@ pub fn show_stream<R: Source, W: Sink>(
     ensures told { (ending : spec.Ending) × (result ≡ spec.code_of ending) × (spec.IsSilent ending → W.writes sink.new ≡ W.writes sink.old) × (R.failed_reads source.new + (W.failed_writes sink.new + W.empty_writes sink.new) ≡ R.failed_reads source.old + (W.failed_writes sink.old + W.empty_writes sink.old) + spec.faults_of ending) }
     ensures reads { R.reads source.new ≤ R.reads source.old + 65536 }
 {
-    code_of(streamed(alloc, asked, source, sink))
+    code_of(serve(alloc, asked, source, sink))
 }
 
-fn streamed<R: Source, W: Sink>(
-    alloc: Global,
-    asked: &Asked,
-    source: &mut R,
-    sink: &mut W,
-) -> Ending
+fn serve<R: Source, W: Sink>(alloc: Global, asked: &Asked, source: &mut R, sink: &mut W) -> Ending
     ensures silent { spec.IsSilent result → W.writes sink.new ≡ W.writes sink.old }
     ensures faults { R.failed_reads source.new + (W.failed_writes sink.new + W.empty_writes sink.new) ≡ R.failed_reads source.old + (W.failed_writes sink.old + W.empty_writes sink.old) + spec.faults_of result }
     ensures reads { R.reads source.new ≤ R.reads source.old + 65536 }
 {
     match read_source(alloc, source, MOST_BYTES) {
-        Ok(bytes) => match answered(alloc, asked, &bytes) {
-            Ok(answer) => written(sink, &answer),
+        Ok(bytes) => match answer_source(alloc, asked, &bytes) {
+            Ok(answer) => write_answer(sink, &answer),
             Err(_) => Ending::OutOfMemory,
         },
         Err(ReadFault::Memory) => Ending::OutOfMemory,
@@ -121,7 +116,7 @@ fn streamed<R: Source, W: Sink>(
 }
 
 // Writes an answer.
-fn written<W: Sink>(sink: &mut W, answer: &Answer) -> Ending
+fn write_answer<W: Sink>(sink: &mut W, answer: &Answer) -> Ending
     ensures loud { spec.IsSilent result → W.writes sink.new ≡ W.writes sink.old }
     ensures faults { W.failed_writes sink.new + W.empty_writes sink.new ≡ W.failed_writes sink.old + W.empty_writes sink.old + spec.faults_of result }
 {
@@ -131,11 +126,11 @@ fn written<W: Sink>(sink: &mut W, answer: &Answer) -> Ending
     }
 }
 
-fn answered(alloc: Global, asked: &Asked, source: &[u8]) -> Result<Answer, AllocError> {
+fn answer_source(alloc: Global, asked: &Asked, source: &[u8]) -> Result<Answer, AllocError> {
     match &asked.part {
-        Part::Refusal { json, file } => explained(alloc, source, *json, file),
+        Part::Refusal { json, file } => explanation_answer(alloc, source, *json, file),
         Part::Mark { json, .. } => examined(alloc, asked, source, *json),
-        _ => scanned(alloc, asked, source),
+        _ => answer_tokens_of(alloc, asked, source),
     }
 }
 
@@ -146,33 +141,33 @@ fn examined(
     source: &[u8],
     as_json: bool,
 ) -> Result<Answer, AllocError> {
-    let answer = scanned(alloc, asked, source)?;
+    let answer = answer_tokens_of(alloc, asked, source)?;
     match answer.verdict {
-        Verdict::Refused => explained(alloc, source, as_json, &None),
+        Verdict::Refused => explanation_answer(alloc, source, as_json, &None),
         _ => Ok(answer),
     }
 }
 
-fn scanned(alloc: Global, asked: &Asked, source: &[u8]) -> Result<Answer, AllocError> {
+fn answer_tokens_of(alloc: Global, asked: &Asked, source: &[u8]) -> Result<Answer, AllocError> {
     match scan(alloc, source) {
-        Ok(tokens) => parsed(alloc, asked, source, &tokens),
-        Err(fault) => refused(alloc, fault.line, scan_reason(fault.cause)),
+        Ok(tokens) => answer_tokens(alloc, asked, source, &tokens),
+        Err(fault) => refusal_answer(alloc, fault.line, scan_reason(fault.cause)),
     }
 }
 
-fn parsed(
+fn answer_tokens(
     alloc: Global,
     asked: &Asked,
     source: &[u8],
     tokens: &Tokens,
 ) -> Result<Answer, AllocError> {
     match parse(alloc, tokens) {
-        Ok(tree) => checked(alloc, asked, source, tokens, tree),
+        Ok(tree) => answer_tree(alloc, asked, source, tokens, tree),
         Err(fault) => refused_at(alloc, tokens, parse_reason(&fault)),
     }
 }
 
-fn checked(
+fn answer_tree(
     alloc: Global,
     asked: &Asked,
     source: &[u8],
@@ -204,10 +199,10 @@ fn shown_with(
     legend: Result<Legend, AllocError>,
     source: &[u8],
 ) -> Result<Answer, AllocError> {
-    shown(alloc, asked, program, &legend?, source)
+    answer_part(alloc, asked, program, &legend?, source)
 }
 
-fn refused(alloc: Global, line: u32, reason: Option<&str>) -> Result<Answer, AllocError> {
+fn refusal_answer(alloc: Global, line: u32, reason: Option<&str>) -> Result<Answer, AllocError> {
     let Some(reason) = reason else {
         return Err(AllocError);
     };
@@ -227,11 +222,11 @@ fn refused_at(
         return Err(AllocError);
     };
     let line = tokens.line(at.min(tokens.count()));
-    refused(alloc, line, Some(reason))
+    refusal_answer(alloc, line, Some(reason))
 }
 
 // The part that is asked for.
-fn shown(
+fn answer_part(
     alloc: Global,
     asked: &Asked,
     program: &Resolved,
@@ -242,9 +237,11 @@ fn shown(
     let lines = lines_of(alloc, source)?;
     match &asked.part {
         Part::Trace { .. } | Part::Lanes => shown_once(alloc, asked, program, legend, &lines),
-        Part::Page { states } => paged(alloc, asked, program, legend, *states, source),
-        Part::Outcomes { json } => { surveyed(alloc, options, program, legend, &lines, *json) }
-        Part::Ends { json } => { ended(alloc, options, program, legend, &lines, *json) }
+        Part::Page { states } => page_answer(alloc, asked, program, legend, *states, source),
+        Part::Outcomes { json } => {
+            outcomes_answer(alloc, options, program, legend, &lines, *json)
+        }
+        Part::Ends { json } => { ends_answer(alloc, options, program, legend, &lines, *json) }
         Part::Mark { words, own, json } => {
             let examinee = Examinee {
                 options,
@@ -253,9 +250,9 @@ fn shown(
                 lines: &lines,
                 as_json: *json,
             };
-            marked(alloc, examinee, words.as_str(), *own, source)
+            mark_answer(alloc, examinee, words.as_str(), *own, source)
         }
-        Part::Refusal { json, file } => explained(alloc, source, *json, file),
+        Part::Refusal { json, file } => explanation_answer(alloc, source, *json, file),
     }
 }
 
@@ -273,8 +270,8 @@ fn shown_once(
     };
     let word = word.as_slice();
     let text = match &asked.part {
-        Part::Trace { json } => traced(alloc, asked, program, legend, source, word, *json)?,
-        _ => drawn(alloc, asked, program, legend, source, word)?,
+        Part::Trace { json } => trace_answer(alloc, asked, program, legend, source, word, *json)?,
+        _ => picture_of(alloc, asked, program, legend, source, word)?,
     };
     Ok(Answer {
         verdict: Verdict::Reported,
@@ -291,7 +288,7 @@ fn no_outcome(alloc: Global, count: usize) -> Result<Answer, AllocError> {
 }
 
 // A page on which the scheduler is played.
-fn paged(
+fn page_answer(
     alloc: Global,
     asked: &Asked,
     program: &Resolved,
@@ -340,7 +337,7 @@ fn schedule_asked(alloc: Global, asked: &Asked, program: &Resolved) -> Result<Fi
 }
 
 // One schedule in names.
-fn traced(
+fn trace_answer(
     alloc: Global,
     asked: &Asked,
     program: &Resolved,
@@ -426,7 +423,7 @@ fn text_with_again(
 }
 
 // The outcomes of all schedules.
-fn surveyed(
+fn outcomes_answer(
     alloc: Global,
     options: &Options,
     program: &Resolved,
@@ -444,7 +441,7 @@ fn surveyed(
         states: options.states,
         source,
     };
-    let form = if as_json { Form::Json } else { Form::Text };
+    let form = if as_json { Format::Json } else { Format::Text };
     let told = outcomes(alloc, subject, form)?;
     Ok(Answer {
         verdict: if told.is_whole {
@@ -457,7 +454,7 @@ fn surveyed(
 }
 
 // The ends of schedules of any length.
-fn ended(
+fn ends_answer(
     alloc: Global,
     options: &Options,
     program: &Resolved,
@@ -478,9 +475,9 @@ fn ended(
         source,
     };
     let form = if as_json {
-        cp_ends_story::Form::Json
+        cp_ends_story::EndsFormat::Json
     } else {
-        cp_ends_story::Form::Text
+        cp_ends_story::EndsFormat::Text
     };
     let told = ends_story(alloc, subject, form)?;
     Ok(Answer {
@@ -525,7 +522,7 @@ pub fn told<L: Ledger>(
 }
 
 // The picture of a schedule.
-fn drawn(
+fn picture_of(
     alloc: Global,
     asked: &Asked,
     program: &Resolved,
@@ -540,7 +537,7 @@ fn drawn(
     let end = trace_report(alloc, program, &[], &story.end, word)?;
     let schedule = schedule_of(alloc, word)?;
     let again = first_of_round(alloc, asked, program, legend, word, &story)?;
-    let subject = Subject {
+    let subject = PictureSubject {
         legend,
         story: &story,
         schedule: schedule.as_str(),

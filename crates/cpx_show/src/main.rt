@@ -33,7 +33,7 @@ enum Wish {
 fn main(rt: HostRuntime) -> ExitCode {
     let code = match read_words(&rt) {
         Ok(Wish::Part(asked)) => {
-            let code = shown::<Brand, Brand>(
+            let code = show::<Brand, Brand>(
                 rt.alloc(),
                 &asked,
                 rt.stdin(),
@@ -109,7 +109,7 @@ fn wish_of<'a>(alloc: Global, words: &'a [&'a str]) -> Result<Wish, AllocError> 
 }
 
 /// The status of showing standard input; the blanks are for the counts of the streams' calls.
-fn shown<A: Ledger, B: Ledger>(
+fn show<A: Ledger, B: Ledger>(
     alloc: Global,
     asked: &Asked,
     input: Stdin,

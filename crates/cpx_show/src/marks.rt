@@ -11,21 +11,21 @@ ghost use Rattle.cpx_show.specs.declared.answering.Verdict.TheVariants.{TooMany}
 use crate::answering::{Answer, Verdict};
 use crate::mark_words::{Examinee, ends_told, excess, misread, told};
 use cp_ends_verdict::{
-    Expectation as EndsExpectation, Mark as EndsMark, Reading as EndsReading, Subject as Endless,
-    expectations as ends_expectations, mark_at_once, mark_in_turn,
+    Expectation as EndsExpectation, Mark as EndsMark, MarkSubject as Endless,
+    Reading as EndsReading, expectations as ends_expectations, mark_at_once, mark_in_turn,
     misread_text as ends_misread_text,
 };
 use cp_outcomes::completing::greatest_known;
 use cp_run::{Limits, MOST_CHOICES};
 use cp_verdict::{
-    Expectation, Mark, MarkFault, Misread, Reading, expectations, expected, mark_program,
+    Expectation, Mark, MarkFault, Misread, Reading, expectations, expectations_in, mark_program,
     mark_tallies, misread_text,
 };
 use cp_walk::Job;
 use std::alloc::{AllocError, Global};
 
 /// What is said of a program by the expectations of the words; by those of the source where they are asked for, or where there are no words.
-pub fn marked(
+pub fn mark_answer(
     alloc: Global,
     examinee: Examinee<'_>,
     words: &str,
@@ -34,7 +34,7 @@ pub fn marked(
 ) -> Result<Answer, AllocError> {
     let mut text = String::from_str(alloc, words)?;
     if words.is_empty() || with_own {
-        let own = expected(alloc, source)?;
+        let own = expectations_in(alloc, source)?;
         if !words.is_empty() && !own.is_empty() {
             text.push_str(" and ")?;
         }
@@ -56,7 +56,7 @@ fn marked_by(alloc: Global, examinee: Examinee<'_>, text: &str) -> Result<Answer
         return marked_ends(alloc, examinee, text);
     }
     match expectations(alloc, text) {
-        Ok(reading) => judged(alloc, examinee, &reading),
+        Ok(reading) => mark_of(alloc, examinee, &reading),
         Err(Misread::Unexpected { wanted, place }) => misread(
             alloc,
             examinee,
@@ -169,7 +169,7 @@ fn ends_verdict_of(mark: EndsMark) -> Verdict
 }
 
 // What the table within the limits of the options says of the expectations.
-fn judged(alloc: Global, examinee: Examinee<'_>, reading: &Reading) -> Result<Answer, AllocError>
+fn mark_of(alloc: Global, examinee: Examinee<'_>, reading: &Reading) -> Result<Answer, AllocError>
     ensures { IfOk result (λ a. spec.TellsMark examinee.entry.program.now.names reading.now.expectations.items (table (slots examinee.entry.program.now examinee.entry.options.now.gates) examinee.entry.options.now.choices examinee.entry.options.now.steps) a.verdict) }
 {
     let options = examinee.options;

@@ -3,7 +3,7 @@
 use crate::command::command;
 use clap::ArgMatches;
 use clap::error::ErrorKind;
-use cp_tool::{OptionFault, Options, Reading, read_options, reason_for, word_reason};
+use cp_tool::{OptionFault, Options, SourceReading, read_options, reason_for, word_reason};
 use std::alloc::{AllocError, Global};
 
 /// The options that are those of `cpx`, but for `--choices`.
@@ -18,7 +18,7 @@ const USUAL_STATES: u32 = 2000;
 const MOST_STATES: u32 = 100_000;
 
 /// How the program is given its source.
-const READING: Reading<'static> = Reading {
+const READING: SourceReading<'static> = SourceReading {
     program: "cpx_show PART",
     script: "./show PART",
 };
@@ -111,7 +111,7 @@ fn read_matches(alloc: Global, matches: &ArgMatches<'_>) -> Result<Asked, Option
             file: file_of(alloc, inner)?,
         },
         "mark" => Part::Mark {
-            words: given(alloc, inner)?,
+            words: words_given(alloc, inner)?,
             own: inner.get_flag("own"),
             json: inner.get_flag("json"),
         },
@@ -213,7 +213,7 @@ fn page_states_fault(matches: &ArgMatches<'_>) -> &'static str {
 }
 
 // The words of the expectations that are given, joined by spaces.
-fn given(alloc: Global, matches: &ArgMatches<'_>) -> Result<String, AllocError> {
+fn words_given(alloc: Global, matches: &ArgMatches<'_>) -> Result<String, AllocError> {
     let mut text = String::new(alloc);
     let Some(words) = matches.get_strs("expectation") else {
         return Ok(text);

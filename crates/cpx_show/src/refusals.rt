@@ -1,13 +1,13 @@
 //! Why a source is refused, as an answer.
 
 use crate::answering::{Answer, Verdict};
-use cp_refusal::{Answer as Said, Hints, Refusal, Span, position_of, refusal, text};
+use cp_refusal::{ByteRange, Explanation as Said, Hints, Refusal, position_of, refusal, text};
 use cp_story::objects::Object;
 use serde_json::Value;
 use std::alloc::{AllocError, Global};
 
 /// Why the source is refused, or that it is accepted; places begin with the name of its file, if one is given.
-pub fn explained(
+pub fn explanation_answer(
     alloc: Global,
     source: &[u8],
     as_json: bool,
@@ -42,7 +42,7 @@ fn json(alloc: Global, source: &[u8], said: &Said) -> Result<String, AllocError>
     Ok(text)
 }
 
-fn put_position(object: &mut Object, source: &[u8], span: Span) -> Result<(), AllocError> {
+fn put_position(object: &mut Object, source: &[u8], span: ByteRange) -> Result<(), AllocError> {
     let place = position_of(source, span);
     object.number("line", u64::from(place.line))?;
     object.number("column", place.column as u64)?;

@@ -1,7 +1,7 @@
 use Rattle.cpx_show.proofs.main.Given as goal
 
-abbrev pub ghosts-shown-A-Ledger : goal.ghosts-shown-A-Ledger
-ghosts-shown-A-Ledger a = record { name = a.reads.name; parts = a.reads.parts }
+abbrev pub ghosts-show-A-Ledger : goal.ghosts-show-A-Ledger
+ghosts-show-A-Ledger a = record { name = a.reads.name; parts = a.reads.parts }
 
-abbrev pub ghosts-shown-B-Ledger : goal.ghosts-shown-B-Ledger
-ghosts-shown-B-Ledger a = record { name = a.writes.name; parts = a.writes.parts }
+abbrev pub ghosts-show-B-Ledger : goal.ghosts-show-B-Ledger
+ghosts-show-B-Ledger a = record { name = a.writes.name; parts = a.writes.parts }

@@ -9,6 +9,6 @@ returns c =
       answer = λ some. says_of c.args.program.now c.args.limits.gates c.args.limits.steps c.args.most c.if-most-eq0.states (elim c.if-most-eq0.branch [
         | then-most-eq0 w ↦ absurd (omega (arith, some, w.if-most-eq0))
         | else-most-eq0 w ↦ w.states-is
-      ]) c.searched.result c.searched.ensures;
-      kept = has_findings c.args.program.now c.args.limits.gates c.args.limits.steps c.if-most-eq0.states c.searched.result c.searched.ensures;
+      ]) c.search_with.result c.search_with.ensures;
+      kept = has_findings c.args.program.now c.args.limits.gates c.args.limits.steps c.if-most-eq0.states c.search_with.result c.search_with.ensures;
     }

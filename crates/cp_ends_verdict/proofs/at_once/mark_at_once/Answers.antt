@@ -12,4 +12,4 @@ returns-clause-mark c = λ can.
     let k = c.in_ok-known.known in
     let answer = subst (λ (g : Gates). IsAnswer r g steps c.args.subject.most c.in_ok-found.found) (of_first c.args.subject.limits.gates c.args.list.now can) c.in_ok-found.ensures in
     let is_known : IsKnownAtOnce r steps k = c.in_ok-known.ensures steps c.args.subject.most answer in
-    marked_at_once r c.args.subject.limits.gates steps c.args.list.now k c.verdict_on-verdict.result can is_known (c.verdict_on-verdict.ensures.known r.names is_known.texts) c.told.result c.told.ensures
+    marked_at_once r c.args.subject.limits.gates steps c.args.list.now k c.verdict_on-verdict.result can is_known (c.verdict_on-verdict.ensures.known r.names is_known.texts) c.tell.result c.tell.ensures

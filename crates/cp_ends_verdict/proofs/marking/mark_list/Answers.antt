@@ -10,7 +10,7 @@ returns-clause-mark c = λ some can.
     let most = c.args.subject.most in
     let k = c.in_ok-known.known in
     let is_known : IsKnown r gates steps most k = c.in_ok-known.ensures some in
-    marked_so r gates steps most c.args.list.now k is_known c.verdict_on-verdict.result (c.verdict_on-verdict.ensures.slots r gates steps most is_known) c.told.result c.told.ensures
+    marked_so r gates steps most c.args.list.now k is_known c.verdict_on-verdict.result (c.verdict_on-verdict.ensures.slots r gates steps most is_known) c.tell.result c.tell.ensures
 
 pub returns-clause-meaning : goal.returns-clause-meaning
 returns-clause-meaning c = λ some can.
@@ -20,4 +20,4 @@ returns-clause-meaning c = λ some can.
     let most = c.args.subject.most in
     let k = c.in_ok-known.known in
     let is_known : IsKnown r gates steps most k = c.in_ok-known.ensures some in
-    meant_so r gates steps most c.args.list.now k is_known c.verdict_on-verdict.result (c.verdict_on-verdict.ensures.slots r gates steps most is_known) c.told.result c.told.ensures
+    meant_so r gates steps most c.args.list.now k is_known c.verdict_on-verdict.result (c.verdict_on-verdict.ensures.slots r gates steps most is_known) c.tell.result c.tell.ensures

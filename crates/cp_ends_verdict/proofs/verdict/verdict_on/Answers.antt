@@ -14,11 +14,11 @@ pub loop-expectation-preserved : goal.loop-expectation-preserved
 loop-expectation-preserved c =
     record {
       slots = λ r gates steps most h.
-          verdict_more (IsJudged r.names (on_slots r gates steps) c.args.known.now) c.args.list.now c.loop-expectation.expectation-index _ c.loop-expectation.verdict c.joined-verdict.result c.judge.result
-          c.loop-expectation-test.true c.expectation-item.is c.joined-verdict.ensures (c.loop-expectation.invariant.slots r gates steps most h) (c.judge.ensures.slots r gates steps most h);
+          verdict_more (IsJudged r.names (on_slots r gates steps) c.args.known.now) c.args.list.now c.loop-expectation.expectation-index _ c.loop-expectation.verdict c.join-verdict.result c.judge.result
+          c.loop-expectation-test.true c.expectation-item.is c.join-verdict.ensures (c.loop-expectation.invariant.slots r gates steps most h) (c.judge.ensures.slots r gates steps most h);
       known = λ names h.
-          verdict_more (IsJudgedBy names c.args.known.now) c.args.list.now c.loop-expectation.expectation-index _ c.loop-expectation.verdict c.joined-verdict.result c.judge.result
-          c.loop-expectation-test.true c.expectation-item.is c.joined-verdict.ensures (c.loop-expectation.invariant.known names h) (c.judge.ensures.known names h);
+          verdict_more (IsJudgedBy names c.args.known.now) c.args.list.now c.loop-expectation.expectation-index _ c.loop-expectation.verdict c.join-verdict.result c.judge.result
+          c.loop-expectation-test.true c.expectation-item.is c.join-verdict.ensures (c.loop-expectation.invariant.known names h) (c.judge.ensures.known names h);
     }
 
 pub returns-clause-slots : goal.returns-clause-slots

@@ -1,8 +1,8 @@
 use Rattle.std.proofs.Common.{◌≡◌, ◌<◌, ℕ}
 use Rattle.std.specs.Prelude.{slice_index_or}
-use Rattle.cp_machine.specs.declared.state.Guard.{Guard}
+use Rattle.cp_machine.specs.declared.state.Gate.{Gate}
 use Rattle.cp_machine.specs.Machine.{monitor_of}
 use Rattle.cp_machine.proofs.copy.take_guards.Given as goal
 
 abbrev pub invariant-loop-at : goal.invariant-loop-at
-invariant-loop-at l = (k : ℕ) (d : Guard) → k < l.at → monitor_of (slice_index_or l.mine k d) ≡ monitor_of (slice_index_or l.theirs k d)
+invariant-loop-at l = (k : ℕ) (d : Gate) → k < l.at → monitor_of (slice_index_or l.mine k d) ≡ monitor_of (slice_index_or l.theirs k d)

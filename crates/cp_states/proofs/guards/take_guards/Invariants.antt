@@ -1,6 +1,6 @@
 use Rattle.std.proofs.Common.{◌≡◌, ◌<◌, ℕ, length}
 use Rattle.std.specs.Prelude.{slice_index_or}
-use Rattle.cp_machine.specs.declared.state.Guard.{Guard}
+use Rattle.cp_machine.specs.declared.state.Gate.{Gate}
 use Rattle.cp_machine.specs.Machine.{monitor_of}
 use Rattle.cp_states.proofs.guards.take_guards.Given as goal
 
@@ -8,5 +8,5 @@ abbrev pub invariant-loop-at : goal.invariant-loop-at
 invariant-loop-at l =
     record {
       count : length l.mine.items ≡ length l.initial.mine.items;
-      same : (k : ℕ) (d : Guard) → k < l.at → monitor_of (slice_index_or l.mine.items k d) ≡ monitor_of (slice_index_or l.theirs k d);
+      same : (k : ℕ) (d : Gate) → k < l.at → monitor_of (slice_index_or l.mine.items k d) ≡ monitor_of (slice_index_or l.theirs k d);
     }

@@ -4,7 +4,7 @@ use Rattle.cp_run.proofs.Tracing.{ok_as}
 use Rattle.cp_story.proofs.story.tell.Goals as goal
 
 pub returns-clause-lines : goal.returns-clause-lines
-returns-clause-lines g c = ok_as c.told.result _ _ c.told.ensures.lines (λ s is. is ∙ c.in_ok-end.ensures.lines)
+returns-clause-lines g c = ok_as c.finish_story.result _ _ c.finish_story.ensures.lines (λ s is. is ∙ c.in_ok-end.ensures.lines)
 
 pub returns-clause-answer : goal.returns-clause-answer
-returns-clause-answer g c = ok_as c.told.result _ _ c.told.ensures.end (λ s is. ap answer_of is ∙ c.in_ok-end.ensures.answer)
+returns-clause-answer g c = ok_as c.finish_story.result _ _ c.finish_story.ensures.end (λ s is. ap answer_of is ∙ c.in_ok-end.ensures.answer)

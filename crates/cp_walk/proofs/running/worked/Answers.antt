@@ -4,7 +4,7 @@ use Rattle.std.specs.Prelude.{Any}
 use Rattle.cp_board.specs.declared.views.View.{View}
 use Rattle.cp_board.specs.Views.{noted_by, note, last_of, drew, rows_noted}
 use Rattle.cp_board.specs.Seats.{view_of}
-use Rattle.cp_walk.specs.declared.worker.Part.{Part}
+use Rattle.cp_walk.specs.declared.worker.TaskRows.{TaskRows}
 use Rattle.cp_walk.specs.Ends.{IsDone, IsHonest}
 use Rattle.cp_walk.specs.Rows.{IsTooMany}
 use Rattle.cp_walk.proofs.Doing.{one_more, honest, any_last, excess, noted_most}
@@ -20,7 +20,7 @@ pub returns-then-note-gt-MOST_NOTED : goal.returns-then-note-gt-MOST_NOTED
 returns-then-note-gt-MOST_NOTED g c =
     let rows = g.W.Work.rows c.args.work.now in
     let old = view_of c.loop-task.seat in
-    let p : Part = record { task = c.in-Some.task; rows = c.in-Ok.rows } in
+    let p : TaskRows = record { task = c.in-Some.task; rows = c.in-Ok.rows } in
     let inv = c.loop-task.invariant in
     let count = c.len-count.result in
     let total = c.note-in-Some.result in
@@ -41,7 +41,7 @@ pub loop-task-preserved : goal.loop-task-preserved
 loop-task-preserved g c =
     let rows = g.W.Work.rows c.args.work.now in
     let old = view_of c.loop-task.seat in
-    let p : Part = record { task = c.in-Some.task; rows = c.in-Ok.rows } in
+    let p : TaskRows = record { task = c.in-Some.task; rows = c.in-Ok.rows } in
     let inv = c.loop-task.invariant in
     let count = c.len-count.result in
     let total = c.note-in-Some.result in
@@ -55,7 +55,7 @@ loop-task-preserved g c =
     record {
       own = c.note-in-Some.ensures.seat;
       open_yet = ap (λ v. v.spent) now ∙ inv.open_yet;
-      done = subst (λ (v : View). IsDone rows v c.push.new.self.items) (sym now) (subst (λ (l : List Part). IsDone rows (noted_by (drew old p.task) count total) l) (sym pushed) done);
+      done = subst (λ (v : View). IsDone rows v c.push.new.self.items) (sym now) (subst (λ (l : List TaskRows). IsDone rows (noted_by (drew old p.task) count total) l) (sym pushed) done);
     }
 
 pub returns-in-Err-TooManyRows : goal.returns-in-Err-TooManyRows

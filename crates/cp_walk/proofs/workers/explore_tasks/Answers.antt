@@ -3,7 +3,7 @@ use Rattle.std.proofs.lemmas.List.Elements.{All-map}
 use Rattle.cp_board.specs.declared.seats.Seat.{Seat}
 use Rattle.cp_board.specs.Views.{Settles}
 use Rattle.cp_board.specs.Seats.{IsSeatOf, view_of, tasks_of}
-use Rattle.cp_walk.specs.declared.worker.Part.{Part}
+use Rattle.cp_walk.specs.declared.worker.TaskRows.{TaskRows}
 use Rattle.cp_walk.specs.declared.worker.Worked.{Worked}
 use Rattle.cp_walk.specs.Tables.{table_of, rows_at}
 use Rattle.cp_walk.specs.Ends.{HasWorked}
@@ -44,7 +44,7 @@ gathered-requires g c =
     subst (λ n. Settles n claimed total (map view_of (map (λ (w : Worked). w.seat) ended))) c.in-Ok.ensures.made.tasks_are
     (subst (λ (l : List Seat). Settles (tasks_of b) claimed total (map view_of l)) c.in-Ok-collected.ensures.seats c.close-closed.ensures.settled) in
     let few : total ≤ 50000 = c.if-closed-gt-MOST_NOTED.false in
-    subst (All (λ (p : Part). p.task < c.args.tasks)) (sym c.in-Ok-collected.ensures.parts)
+    subst (All (λ (p : TaskRows). p.task < c.args.tasks)) (sym c.in-Ok-collected.ensures.parts)
     (all_below rows b c.args.tasks ended claimed total settled met c.in-Ok-collected.ensures.kept few (λ w own. own.1 ∙ c.in-Ok.ensures.made.tasks_are))
 
 pub returns-clause-table : goal.returns-clause-table
@@ -61,7 +61,7 @@ returns-clause-table g c =
     (subst (λ (l : List Seat). Settles (tasks_of b) claimed total (map view_of l)) c.in-Ok-collected.ensures.seats c.close-closed.ensures.settled) in
     let few : total ≤ 50000 = c.if-closed-gt-MOST_NOTED.false in
     let one : 0 < length ended = omega (arith, calls.len, c.in-Ok.ensures.made.many, c.requires.workers.0) in
-    c.in-Ok-gathered.ensures ∙ ap (λ (ps : List Part). table_of (rows_at ps) c.args.tasks) c.in-Ok-collected.ensures.parts
+    c.in-Ok-gathered.ensures ∙ ap (λ (ps : List TaskRows). table_of (rows_at ps) c.args.tasks) c.in-Ok-collected.ensures.parts
     ∙ table-from_parts rows b c.args.tasks ended claimed total settled met c.in-Ok-collected.ensures.kept few one
 
 pub returns-clause-few : goal.returns-clause-few

@@ -1,0 +1,86 @@
+use Rattle.std.proofs.Common.{◌∙◌, ◌++◌, ◌∷◌, [], length, length-append, refl, ap, arith}
+use Rattle.cp_machine.specs.System.{machine_of}
+use Rattle.cp_ends.specs.Answer.{slot_graph}
+use Rattle.cp_ends.specs.Arrivals.{goal_at}
+use Rattle.cp_ends.proofs.GoingOn.{ok_to}
+use Rattle.cp_at_once.specs.Legs.{HasLeg}
+use Rattle.cp_at_once.proofs.Following.{at_end, at_kept, at_leg, going_first, leads_to}
+use Rattle.cp_at_once.proofs.Keeping.{word_longer}
+use Rattle.cp_at_once.proofs.search.SearchAtOnce.follow.Goals as goal
+
+pub loop-made-init : goal.loop-made-init
+loop-made-init g c =
+    let r = c.args.program.now in
+    let gr = slot_graph r c.args.limits.gates c.args.limits.steps in
+    record {
+      own = c.requires.own;
+      quiet = c.requires.quiet;
+      ahead = c.requires.ahead;
+      numbers = c.requires.numbers;
+      found = λ states word a h is arrives to shown. going_first r gr (HasLeg r c.args.limits.gates) c.args.most c.args.self.now.found states a (goal_at c.args.arrival (machine_of c.args.state.now)) c.args.self.now.told.items c.args.origin word h is arrives to shown;
+    }
+
+pub push-requires : goal.push-requires
+push-requires g c = let few = c.loop-made.invariant.numbers in omega (arith, few)
+
+pub loop-made-preserved : goal.loop-made-preserved
+loop-made-preserved g c =
+    let r = c.args.program.now in
+    let gr = slot_graph r c.args.limits.gates c.args.limits.steps in
+    let Leg = HasLeg r c.args.limits.gates in
+    let m = machine_of c.loop-made.state in
+    let p = c.in-Some.pid in
+    record {
+      own = c.choose.ensures.own;
+      quiet = c.in_ok-arrival.ensures.quiet;
+      ahead = c.process_at_once.ensures.ahead;
+      numbers = (let few = c.loop-made.invariant.numbers in let more = ap length c.push.ensures.items in let l = length-append c.loop-made.origin.numbers.items (p ∷ []) in omega (arith, few, more, l));
+      found = λ states word a h is arrives to shown.
+          (let x = c.loop-made.invariant.found states word a h is arrives to shown in
+          let n = c.in_ok-note.ensures.found r gr c.args.most x.more x.word x.here m x.holds x.is_word x.arrives x.to x.shows in
+          at_leg r gr Leg c.args.most c.args.self.now.found states c.loop-made.self.found c.note.new.self.found a (goal_at c.loop-made.arrival m) c.loop-made.self.told.items c.loop-made.origin c.loop-made.made x n m (ap (λ v. goal_at v m) c.in-Choice.is) p c.in-Some.ensures.may c.in-Some.ensures.leg (omega arith)
+          (record { state = c.loop-made.origin.state; numbers = c.push.new.self }) _ _ (word_longer x.more c.loop-made.origin (record { state = c.loop-made.origin.state; numbers = c.push.new.self }) p x.word x.is_word refl c.push.ensures.items)
+          c.in_ok-arrival.ensures.goal (c.in_ok-arrival.ensures.shown ∙ ap (λ l. l ++ (gr.on m p).shown) c.clear.ensures.items));
+    }
+
+pub returns-in-End-clause-found : goal.returns-in-End-clause-found
+returns-in-End-clause-found g c = λ states word a h is arrives to shown.
+    (let r = c.args.program.now in
+    let gr = slot_graph r c.args.limits.gates c.args.limits.steps in
+    let m = machine_of c.loop-made.state in
+    let x = c.loop-made.invariant.found states word a h is arrives to shown in
+    let n = c.in_ok-note.ensures.found r gr c.args.most x.more x.word x.here m x.holds x.is_word x.arrives x.to x.shows in
+    at_end r gr (HasLeg r c.args.limits.gates) c.args.most c.args.self.now.found states c.loop-made.self.found c.note.new.self.found a (goal_at c.loop-made.arrival m) c.loop-made.self.told.items c.loop-made.origin c.loop-made.made x n _ (ap (λ v. goal_at v m) c.in-End.is))
+
+pub returns-in_default-clause-found : goal.returns-in_default-clause-found
+returns-in_default-clause-found g c =
+    ok_to c.keep.result _ _ c.keep.ensures.found (λ is_room on states word a h is arrives to shown.
+    (let r = c.args.program.now in
+    let gr = slot_graph r c.args.limits.gates c.args.limits.steps in
+    let m = machine_of c.loop-made.state in
+    let x = c.loop-made.invariant.found states word a h is arrives to shown in
+    let n = c.in_ok-note.ensures.found r gr c.args.most x.more x.word x.here m x.holds x.is_word x.arrives x.to x.shows in
+    let place = ap (λ v. goal_at v m) c.in-Choice.is in
+    at_kept r gr (HasLeg r c.args.limits.gates) c.args.most c.args.self.now.found states c.loop-made.self.found c.note.new.self.found a (goal_at c.loop-made.arrival m) c.loop-made.self.told.items c.loop-made.origin c.loop-made.made x n m place c.keep.new.self.found is_room
+    (on gr x.more x.word n.0 x.is_word (leads_to r gr (HasLeg r c.args.limits.gates) c.args.most c.args.self.now.found states c.loop-made.self.found a (goal_at c.loop-made.arrival m) c.loop-made.self.told.items c.loop-made.origin c.loop-made.made x m place))))
+
+pub returns-in-Choice-arrival-clause-found : goal.returns-in-Choice-arrival-clause-found
+returns-in-Choice-arrival-clause-found g c =
+    ok_to c.keep-in-Choice-arrival.result _ _ c.keep-in-Choice-arrival.ensures.found (λ is_room on states word a h is arrives to shown.
+    (let r = c.args.program.now in
+    let gr = slot_graph r c.args.limits.gates c.args.limits.steps in
+    let m = machine_of c.loop-made.state in
+    let x = c.loop-made.invariant.found states word a h is arrives to shown in
+    let n = c.in_ok-note-2.ensures.found r gr c.args.most x.more x.word x.here m x.holds x.is_word x.arrives x.to x.shows in
+    let place = ap (λ v. goal_at v m) c.in-Choice-arrival.is in
+    at_kept r gr (HasLeg r c.args.limits.gates) c.args.most c.args.self.now.found states c.loop-made.self.found c.note-2.new.self.found a (goal_at c.loop-made.arrival m) c.loop-made.self.told.items c.loop-made.origin c.loop-made.made x n m place c.keep-in-Choice-arrival.new.self.found is_room
+    (on gr x.more x.word n.0 x.is_word (leads_to r gr (HasLeg r c.args.limits.gates) c.args.most c.args.self.now.found states c.loop-made.self.found a (goal_at c.loop-made.arrival m) c.loop-made.self.told.items c.loop-made.origin c.loop-made.made x m place))))
+
+pub returns-in-End-arrival-clause-found : goal.returns-in-End-arrival-clause-found
+returns-in-End-arrival-clause-found g c = λ states word a h is arrives to shown.
+    (let r = c.args.program.now in
+    let gr = slot_graph r c.args.limits.gates c.args.limits.steps in
+    let m = machine_of c.loop-made.state in
+    let x = c.loop-made.invariant.found states word a h is arrives to shown in
+    let n = c.in_ok-note-2.ensures.found r gr c.args.most x.more x.word x.here m x.holds x.is_word x.arrives x.to x.shows in
+    at_end r gr (HasLeg r c.args.limits.gates) c.args.most c.args.self.now.found states c.loop-made.self.found c.note-2.new.self.found a (goal_at c.loop-made.arrival m) c.loop-made.self.told.items c.loop-made.origin c.loop-made.made x n _ (ap (λ v. goal_at v m) c.in-End-arrival.is))

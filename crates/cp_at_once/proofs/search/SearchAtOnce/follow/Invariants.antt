@@ -1,0 +1,20 @@
+use Rattle.std.proofs.Common.{◌≡◌, ◌≤◌, ◌+◌, ℕ, List, [], length}
+use Rattle.cp_machine.specs.System.{Machine, machine_of, output_of, IsStateOf}
+use Rattle.cp_ends.specs.Answer.{slot_graph}
+use Rattle.cp_ends.specs.Arrivals.{goal_at}
+use Rattle.cp_ends.specs.Graph.{ArrivesAt}
+use Rattle.cp_ends.specs.Holds.{SlotArrival}
+use Rattle.cp_at_once.specs.Holds.{Holds, IsWordOf}
+use Rattle.cp_at_once.specs.Legs.{HasLeg}
+use Rattle.cp_at_once.proofs.Following.{Going}
+use Rattle.cp_at_once.proofs.search.SearchAtOnce.follow.Given as goal
+
+abbrev pub invariant-loop-made : goal.invariant-loop-made
+invariant-loop-made g l =
+    record {
+      own : IsStateOf l.program l.state;
+      quiet : output_of (machine_of l.state) ≡ [];
+      ahead : IsStateOf l.program l.self.ahead;
+      numbers : length l.origin.numbers.items ≤ l.made + 1;
+      found : (states : List (Machine × List ℕ)) (word : List ℕ) (a : SlotArrival) → Holds l.program (slot_graph l.program l.limits.gates l.limits.steps) l.most l.initial.self.found states → IsWordOf states l.initial.origin word → ArrivesAt (slot_graph l.program l.limits.gates l.limits.steps) word a → goal_at l.initial.arrival (machine_of l.initial.state) ≡ a.goal → l.initial.self.told.items ≡ a.shown → Going l.program (slot_graph l.program l.limits.gates l.limits.steps) (HasLeg l.program l.limits.gates) l.most l.initial.self.found states l.self.found a (goal_at l.arrival (machine_of l.state)) l.self.told.items l.origin l.made;
+    }

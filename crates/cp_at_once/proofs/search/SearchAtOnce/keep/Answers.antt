@@ -1,0 +1,36 @@
+use Rattle.std.proofs.Common.{◌≡◌, ◌∙◌, ◌<◌, ◌≤◌, true, false, length, sym, arith}
+use Rattle.cp_machine.specs.System.{machine_of}
+use Rattle.cp_key.proofs.Owned.{machine_own}
+use Rattle.cp_ends.specs.Holds.{same_key}
+use Rattle.cp_ends.specs.Searched.{has}
+use Rattle.cp_at_once.proofs.Following.{known_again, one_more, one_too_many}
+use Rattle.cp_at_once.proofs.Keeping.{states_length}
+use Rattle.cp_at_once.proofs.Same.{key_self}
+use Rattle.cp_at_once.proofs.search.SearchAtOnce.keep.Goals as goal
+
+pub returns-then-contains-clause-found : goal.returns-then-contains-clause-found
+returns-then-contains-clause-found c = λ g states word h is leads.
+    (let r = c.args.program.now in
+    let m = machine_of c.args.state.now in
+    let present : c.contains.result ≡ true = search in
+    known_again r g c.args.most c.args.self.now.found states m h (sym (c.contains.ensures r states m h.kept c.in_ok-take_from.ensures) ∙ present))
+
+pub returns-then-len-most-clause-found : goal.returns-then-len-most-clause-found
+returns-then-len-most-clause-found c = λ g states word h is leads.
+    (let r = c.args.program.now in
+    let m = machine_of c.args.state.now in
+    let absent : c.contains.result ≡ false = search in
+    let same = states_length r c.args.self.now.found.kept.known.entries states h.kept in
+    let many : c.args.most ≤ length states = omega (arith, same) in
+    one_too_many r g c.args.most c.args.self.now.found states h m word leads (sym (c.contains.ensures r states m h.kept c.in_ok-take_from.ensures) ∙ absent) many)
+
+pub returns-clause-found : goal.returns-clause-found
+returns-clause-found c = λ g states word h is leads.
+    (let r = c.args.program.now in
+    let m = machine_of c.args.state.now in
+    let key = c.in_ok-take_from.ensures in
+    let absent : c.contains.result ≡ false = search in
+    let new : has same_key states m ≡ false = sym (c.contains.ensures r states m h.kept key) ∙ absent in
+    let same = states_length r c.args.self.now.found.kept.known.entries states h.kept in
+    let room : length states < c.args.most = omega (arith, same) in
+    one_more r g c.args.most c.args.self.now.found states h m word leads new (key_self m) room c.add.new.self (c.in_ok-add.ensures r states m word h.kept new (machine_own r c.args.state.now c.requires.own) c.requires.quiet key is))

@@ -1,8 +1,0 @@
-use Rattle.std.proofs.Common.{◌≡◌, drop}
-use Rattle.cp_layout.specs.Layers.{layer_seen}
-use Rattle.cp_layout.specs.LaidDeclarations.{locals_of}
-use Rattle.cp_layout.proofs.layer.Layer.locals_of.Given as goal
-
--- what is left leads where all lead
-abbrev pub invariant-loop-identifier : goal.invariant-loop-identifier
-invariant-loop-identifier l = locals_of (layer_seen l.fn.self) l.value_type l.names ≡ locals_of (layer_seen l.self) l.value_type (drop l.identifier-index l.names)

@@ -1,9 +1,0 @@
-use Rattle.std.proofs.Common.{◌≡◌, [], map, drop}
-use Rattle.cp_tree.specs.View.{group_view}
-use Rattle.cp_layout.specs.Layers.{layer_seen}
-use Rattle.cp_layout.specs.LaidDeclarations.{system_groups}
-use Rattle.cp_layout.proofs.layer.Layer.system_groups.Given as goal
-
--- what is left leads where all lead
-abbrev pub invariant-loop-group : goal.invariant-loop-group
-invariant-loop-group l = system_groups (layer_seen l.fn.self) [] (map group_view l.groups) ≡ system_groups (layer_seen l.self) l.parameters.items (map group_view (drop l.group-index l.groups))

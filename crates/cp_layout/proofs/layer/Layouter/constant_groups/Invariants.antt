@@ -1,0 +1,9 @@
+use Rattle.std.proofs.Common.{◌≡◌, [], map, drop}
+use Rattle.cp_tree.specs.View.{group_view}
+use Rattle.cp_layout.specs.Layers.{layer_seen}
+use Rattle.cp_layout.specs.LaidDeclarations.{constant_groups}
+use Rattle.cp_layout.proofs.layer.Layouter.constant_groups.Given as goal
+
+-- what is left leads where all lead
+abbrev pub invariant-loop-group : goal.invariant-loop-group
+invariant-loop-group l = constant_groups (layer_seen l.fn.self) [] (map group_view l.groups) ≡ constant_groups (layer_seen l.self) l.parameters.items (map group_view (drop l.group-index l.groups))

@@ -1,0 +1,9 @@
+use Rattle.std.proofs.Common.{◌≡◌, map, drop}
+use Rattle.cp_tree.specs.View.{variable_group_view}
+use Rattle.cp_layout.specs.Layers.{layer_seen}
+use Rattle.cp_layout.specs.LaidDeclarations.{variables}
+use Rattle.cp_layout.proofs.layer.Layouter.variables.Given as goal
+
+-- what is left leads where all lead
+abbrev pub invariant-loop-group : goal.invariant-loop-group
+invariant-loop-group l = variables (layer_seen l.fn.self) (map variable_group_view l.groups) ≡ variables (layer_seen l.self) (map variable_group_view (drop l.group-index l.groups))
