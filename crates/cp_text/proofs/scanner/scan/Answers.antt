@@ -2,8 +2,8 @@ use Rattle.cp_text.proofs.ReadingLaws.{long_reads, long_only, short_reads, short
 use Rattle.std.proofs.Common.{arith}
 use Rattle.cp_text.proofs.scanner.scan.Goals as goal
 
-pub returns-then-source-gt-LONGEST_TEXT : goal.returns-then-source-gt-LONGEST_TEXT
-returns-then-source-gt-LONGEST_TEXT c = record {
+pub returns-then-source-gt-MOST_TEXT_BYTES : goal.returns-then-source-gt-MOST_TEXT_BYTES
+returns-then-source-gt-MOST_TEXT_BYTES c = record {
   reads = λ _. long_reads c.args.source.now (omega arith);
   only = λ other reads _. long_only c.args.source.now (omega arith) other reads;
 }
