@@ -1,7 +1,7 @@
 use Rattle.std.proofs.Common.{arith}
 use Rattle.cp_ends.proofs.Saying.{has_findings, says_of}
-use Rattle.cp_ends.proofs.search.search_ends.Goals as goal
-use Rattle.cp_ends.proofs.search.search_ends.Goals.{then-most-eq0, else-most-eq0}
+use Rattle.cp_ends.proofs.search.search_ends_with.Goals as goal
+use Rattle.cp_ends.proofs.search.search_ends_with.Goals.{then-most-eq0, else-most-eq0}
 
 pub returns : goal.returns
 returns c =

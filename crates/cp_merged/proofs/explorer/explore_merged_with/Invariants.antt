@@ -1,4 +1,4 @@
-use Rattle.cp_merged.proofs.explorer.explore_merged.Given as goal
+use Rattle.cp_merged.proofs.explorer.explore_merged_with.Given as goal
 
 abbrev pub ghosts-ends_of-S-Ledger : goal.ghosts-ends_of-S-Ledger
 ghosts-ends_of-S-Ledger a = record { name = a.steps.name; parts = a.steps.parts }

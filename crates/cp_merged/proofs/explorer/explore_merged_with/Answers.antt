@@ -7,7 +7,7 @@ use Rattle.cp_merged.specs.TooMany.{IsDueFault}
 use Rattle.cp_merged.proofs.Arriving.{key_sound}
 use Rattle.cp_merged.proofs.Exploring.{err_to}
 use Rattle.cp_merged.proofs.Sorting.{sorted_tally, ordered_from}
-use Rattle.cp_merged.proofs.explorer.explore_merged.Goals as goal
+use Rattle.cp_merged.proofs.explorer.explore_merged_with.Goals as goal
 
 pub returns-in-Ok-clause-tallies : goal.returns-in-Ok-clause-tallies
 returns-in-Ok-clause-tallies c =

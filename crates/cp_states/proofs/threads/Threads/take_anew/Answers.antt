@@ -1,6 +1,6 @@
 use Rattle.std.proofs.Common.{◌∙◌, sym}
 use Rattle.cp_states.proofs.Taking.{process_at, room_for}
-use Rattle.cp_states.proofs.threads.Threads.take.Goals as goal
+use Rattle.cp_states.proofs.threads.Threads.take_anew.Goals as goal
 
 pub take_process-requires-clause-stack : goal.take_process-requires-clause-stack
 take_process-requires-clause-stack c =
