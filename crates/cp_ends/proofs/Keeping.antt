@@ -151,7 +151,7 @@ insert_new eq (e ∷ es) k o new = by (eq k e.0) new (insert_new eq es k o)
     by false new on = ap (λ l. e ∷ l) (on new)
 
 module _ (r : Tables) (kept : States) (xs : List Stated) (h : AreStates r kept xs) where
-  es : List Entry
+  abbrev es : List Entry
   es = kept.known.entries
 
   pub owned : (i : ℕ) (x : Stated) → slice_get xs i ≡ Some x → IsMachineOf r x.0
