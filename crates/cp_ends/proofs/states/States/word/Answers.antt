@@ -1,8 +1,11 @@
 use Rattle.std.proofs.Common.{◌∙◌, ℕ, suc, sym, subst, arith}
 use Rattle.cp_ends.specs.Holds.{origin_at}
-use Rattle.cp_ends.proofs.Unwinding.{ReadsAll, reads_more, reads_done, reads_most}
+use Rattle.cp_ends.proofs.Unwinding.{ReadsAll, reads_start, reads_more, reads_done, reads_most}
 use Rattle.cp_ends.proofs.states.States.word.Goals as goal
 use Rattle.cp_ends.proofs.states.States.word.Goals.{else-loop-test, then-loop-test+in_default}
+
+pub loop-init : goal.loop-init
+loop-init c = reads_start c.args.self.now c.args.origin c.new-word.result.items c.new-word.ensures.items
 
 pub loop-preserved : goal.loop-preserved
 loop-preserved c =
