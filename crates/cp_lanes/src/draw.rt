@@ -1,12 +1,13 @@
 //! Lanes: lives, stays, waits and holds.
 
-use crate::labels::{cut_plain, push_routine};
+use crate::labels::{Face, Label, points, push_routine};
 use crate::palette::{RED, hue_of};
 use crate::pictures::Scene;
 use crate::plan::Plan;
 use crate::sheet::Sheet;
 use crate::spans::{Hold, Life, Pause, Spans, Stay};
 use crate::svg::{Block, Style, Svg};
+use crate::wrapping::label_lines;
 use cp_run::{OutcomeKind, RunEnd};
 use cp_story::{Story, push_call};
 use std::alloc::{AllocError, Global};
@@ -69,7 +70,7 @@ fn draw_stay(
 ) -> Result<(), AllocError> {
     let lane = plan.lane(stay.process);
     let hue = hue_of(stay.call.monitor);
-    let inset = crate::labels::points(stay.depth) * 8.0;
+    let inset = points(stay.depth) * 8.0;
     let process = stay.process;
     let mut title = format!(in alloc; "{process} ")?;
     title.push_str(scene.legend.process_name(stay.process))?;
@@ -196,11 +197,22 @@ pub fn draw_resumed(
     let mut words = String::from_str(alloc, "in ")?;
     push_routine(scene.legend, &mut words, stay.call, &[])?;
     let lane = plan.lane(stay.process);
-    let words = cut_plain(alloc, words.as_str(), lane.width - 40.0, 11.5)?;
+    let label = Label {
+        words,
+        face: Face::Plain,
+        pill: None,
+    };
+    let room = lane.width - 36.0;
     let style = Style {
-        size: 11.5,
+        size: 10.5,
         fill: hue_of(stay.call.monitor).strong,
         more: "font-style=\"italic\"",
     };
-    svg.words(lane.left + 31.0, y + 4.0, style, words.as_str())
+    let lines = label_lines(alloc, &label, room, room)?;
+    let mut at = if lines.len() > 1 { y - 2.0 } else { y + 4.0 };
+    for line in &lines {
+        svg.words(lane.left + 31.0, at, style, line.as_str())?;
+        at += 12.0;
+    }
+    Ok(())
 }

@@ -5,11 +5,11 @@ use crate::palette::{GREY, INK};
 use crate::pictures::Scene;
 use crate::svg::{Style, Svg};
 use crate::title::sentence;
-use crate::wrapping::{broken, shortened, wrapped};
+use crate::wrapping::{break_lines, wrap_in_lines};
 use std::alloc::{AllocError, Global};
 
 /// The most lines of a heading, after which it is cut.
-const MOST: usize = 2;
+const MOST_LINES: usize = 2;
 
 const BOLD_LINE: Style<'static> = Style {
     size: 16.0,
@@ -41,8 +41,7 @@ pub fn heading_of(alloc: Global, scene: Scene<'_>, width: f64) -> Result<Heading
     let lines = if title.is_empty() {
         Vec::new(alloc)
     } else {
-        let lines = wrapped(alloc, title.as_str(), room, 16.0 * BOLD)?;
-        shortened(alloc, lines, MOST)?
+        wrap_in_lines(alloc, title.as_str(), room, 16.0 * BOLD, MOST_LINES)?
     };
     let schedule = schedule_in_lines(alloc, scene, room)?;
     let is_beside = fits_beside(&lines, &schedule, room);
@@ -64,7 +63,7 @@ fn schedule_in_lines(
     }
     let mut words = String::from_str(alloc, "schedule ")?;
     words.push_str(scene.schedule)?;
-    broken(alloc, words.as_str(), '.', room, 12.5 * WIDTH)
+    break_lines(alloc, words.as_str(), '.', room, 12.5 * WIDTH)
 }
 
 // Whether a line of the heading and one of the schedule have room side by side.

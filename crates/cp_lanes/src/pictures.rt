@@ -10,7 +10,7 @@ use crate::rows::draw_rows;
 use crate::sheet::{Extent, Sheet, height_of, sheet_of};
 use crate::spans::{Spans, spans_of};
 use crate::svg::Svg;
-use crate::wrapping::wrapped;
+use crate::wrapping::wrap;
 use cp_legend::Legend;
 use cp_story::{Change, Event, Story};
 use std::alloc::{AllocError, Global};
@@ -86,7 +86,7 @@ pub fn picture_in(
         again,
     } = subject;
     let View { extent, is_plain } = view;
-    laid_out(
+    lay_out(
         alloc,
         Scene {
             legend,
@@ -101,7 +101,7 @@ pub fn picture_in(
     )
 }
 
-fn laid_out(alloc: Global, scene: Scene<'_>) -> Result<String, AllocError> {
+fn lay_out(alloc: Global, scene: Scene<'_>) -> Result<String, AllocError> {
     let Scene { legend, story, .. } = scene;
     let mut sheet = sheet_of(alloc, story, scene.extent, scene.again)?;
     let mut labels = Vec::new(alloc);
@@ -139,7 +139,7 @@ fn draw_parts(
         } else {
             signs.height(plan.width)
         };
-    let mut svg = begun(alloc, scene, plan, &heading, height)?;
+    let mut svg = new_drawing(alloc, scene, plan, &heading, height)?;
     draw_patterns(alloc, &mut svg, scene, heading.title.as_str())?;
     draw_ground(&mut svg, plan, sheet, heading.extra(), height)?;
     draw_heading(&mut svg, &heading)?;
@@ -155,7 +155,7 @@ fn draw_parts(
 }
 
 // A picture with room for its heading above the heads of the columns.
-fn begun(
+fn new_drawing(
     alloc: Global,
     scene: Scene<'_>,
     plan: &Plan,
@@ -190,10 +190,12 @@ fn widths(alloc: Global, scene: Scene<'_>, sheet: &Sheet) -> Result<Widths, Allo
     for row in &sheet.rows {
         let events = row.events(scene.story);
         let text = changes_words(alloc, scene.legend, events)?;
-        widths.changes = widths.changes.max(plain_width(text.as_str(), 10.5));
+        if !text.is_empty() {
+            widths.changes = widths.changes.max(plain_width(text.as_str(), 10.5) + 1.0);
+        }
         if let Some(line) = line_of(scene.story, events) {
             let text = source_line(scene.source, line);
-            widths.source = widths.source.max(fixed_width(text, 10.5));
+            widths.source = widths.source.max(fixed_width(text, 10.5) + 1.0);
         }
     }
     if widths.changes > 0.0 {
@@ -238,7 +240,7 @@ fn changes_in_lines(
         all.push(if words.is_empty() {
             Vec::new(alloc)
         } else {
-            wrapped(alloc, words.as_str(), width, 10.5 * WIDTH)?
+            wrap(alloc, words.as_str(), width, 10.5 * WIDTH)?
         })?;
     }
     Ok(all)

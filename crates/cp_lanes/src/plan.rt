@@ -87,7 +87,7 @@ pub fn plan_of(
     let natural = lane_widths(alloc, legend, story, rows, labels)?;
     let bars = bar_widths(alloc, legend)?;
     let mut widths = widths;
-    let fixed = left + sum(&bars) + 110.0;
+    let fixed = left + sum(&bars) + if widths.is_plain { 56.0 } else { 110.0 };
     if fixed + sum(&natural) + widths.changes + widths.source > SCREEN {
         widths.source = (SCREEN - fixed - sum(&natural) - widths.changes).max(0.0);
         if widths.source < 150.0 {
@@ -164,8 +164,8 @@ fn fair_share(widths: &[f64], room: f64) -> f64 {
         return room.max(0.0) + 10000.0;
     }
     let mut share = 100.0;
-    for _ in 0..64u8 {
-        let wider = share + 12.0;
+    for _ in 0..192u8 {
+        let wider = share + 4.0;
         let mut total = 0.0;
         for width in widths {
             total += width.min(wider);

@@ -2,16 +2,19 @@
 
 use crate::draw::draw_resumed;
 use crate::key::draw_lost;
-use crate::labels::{Face, Label, cut_fixed, cut_to_fit, pill_width, points};
+use crate::labels::{Face, Label, cut_fixed, pill_width, points};
 use crate::palette::{GREY, INK, PALE, RED, hue_of};
 use crate::pictures::{Scene, Texts, changes_words, source_line};
 use crate::plan::{Plan, ROW};
 use crate::sheet::{Fold, LINE, Row, Sheet};
 use crate::spans::Spans;
 use crate::svg::{Block, Style, Svg};
-use crate::wrapping::{shortened, wrapped};
+use crate::wrapping::label_lines;
 use cp_story::{AbruptEnd, Choice, Event, Happening, happening_words};
 use std::alloc::{AllocError, Global};
+
+/// The free space between two lanes, into which a label may reach.
+const GAP: f64 = 12.0;
 
 /// Draws the rows.
 pub fn draw_rows(
@@ -52,7 +55,7 @@ fn draw_row(
         return svg.close();
     }
     match &scene.story.stop {
-        Some(stop) => draw_stop(alloc, svg, scene, plan, row, stop),
+        Some(stop) => draw_stop(alloc, svg, scene, plan, spans, row, stop),
         None => Ok(()),
     }
 }
@@ -81,7 +84,7 @@ fn draw_event(
     for event in row.events(scene.story) {
         draw_arrows(svg, plan, event, label, y)?;
     }
-    let room = room_beside(plan, spans, event, row.fold, y);
+    let room = room_of_label(plan, spans, event, row.fold, y);
     draw_label(alloc, svg, plan, event.plain.process, label, room, y)
 }
 
@@ -118,13 +121,18 @@ fn draw_folded(
 }
 
 // How much room a label has, with that of the lanes beside it in which there is nothing but the line of a life.
-fn room_beside(plan: &Plan, spans: &Spans, event: &Event, fold: Fold, y: f64) -> f64 {
+fn room_of_label(plan: &Plan, spans: &Spans, event: &Event, fold: Fold, y: f64) -> f64 {
     let process = event.plain.process;
-    let mut room = plan.lane(process).width - 36.0;
     let moves = matches!(event.happening, Happening::Start(_));
     if moves || fold != Fold::None || !event.woken.is_empty() || !event.let_in.is_empty() {
-        return room;
+        return plan.lane(process).width - 36.0;
     }
+    room_beside(plan, spans, process, y)
+}
+
+// The room in the lane of a process and in the free ones beside it.
+fn room_beside(plan: &Plan, spans: &Spans, process: u8, y: f64) -> f64 {
+    let mut room = plan.lane(process).width - 36.0 + GAP;
     for number in usize::from(process).saturating_add(1)..plan.lanes.len() {
         let other = u8::try_from(number).unwrap_or(0);
         if is_busy(spans, other, y) {
@@ -181,14 +189,24 @@ fn draw_number(alloc: Global, svg: &mut Svg, row: Row) -> Result<(), AllocError>
         fill: PALE,
         more: "text-anchor=\"end\"",
     };
+    let y = row.middle() + 3.5;
     let first = row.first.saturating_add(1);
     let last = row.first.saturating_add(row.count);
-    let text = if first < last {
-        format!(in alloc; "{first}–{last}")?
-    } else {
-        format!(in alloc; "{first}")?
-    };
-    svg.words(36.0, row.middle() + 3.5, style, text.as_str())
+    if last < 100 {
+        let text = if first < last {
+            format!(in alloc; "{first}–{last}")?
+        } else {
+            format!(in alloc; "{first}")?
+        };
+        return svg.words(36.0, y, style, text.as_str());
+    }
+    if first < last {
+        let text = format!(in alloc; "{first}–")?;
+        svg.words(36.0, y - 5.0, style, text.as_str())?;
+    }
+    let text = format!(in alloc; "{last}")?;
+    let below = if first < last { 5.0 } else { 0.0 };
+    svg.words(36.0, y + below, style, text.as_str())
 }
 
 // Circles for those who could go on, squares for those who could be let in; the chosen one is filled.
@@ -281,7 +299,7 @@ fn draw_label(
             more: halo_of(label.face),
             ..style
         };
-        let lines = lines_of(alloc, label, room, (beside - pill_room).max(room))?;
+        let lines = label_lines(alloc, label, room, (beside - pill_room).max(room))?;
         let mut at = if lines.len() > 1 { y - 2.0 } else { y + 4.0 };
         for line in &lines {
             svg.words(x, at, small, line.as_str())?;
@@ -319,36 +337,6 @@ fn halo_of(face: Face) -> &'static str {
     } else {
         "stroke=\"#fff\" stroke-width=\"3\" stroke-opacity=\".7\" paint-order=\"stroke\""
     }
-}
-
-// The lines of a label in the room of its lane, or of the free lanes beside it where two are not enough.
-fn lines_of(
-    alloc: Global,
-    label: &Label,
-    room: f64,
-    beside: f64,
-) -> Result<Vec<String>, AllocError> {
-    let each = 10.5 * label.factor();
-    let narrow = wrapped(alloc, label.words.as_str(), room, each)?;
-    if are_within(&narrow, room, each) {
-        return Ok(narrow);
-    }
-    let lines = wrapped(alloc, label.words.as_str(), beside, each)?;
-    let mut kept = Vec::new(alloc);
-    for line in shortened(alloc, lines, 2)? {
-        kept.push(cut_to_fit(alloc, line.as_str().trim(), beside, 10.5, label.factor())?)?;
-    }
-    Ok(kept)
-}
-
-// Whether there are two lines at most, each with room.
-fn are_within(lines: &[String], room: f64, each: f64) -> bool {
-    for line in lines {
-        if points(line.as_str().trim().chars().count()) * each > room {
-            return false;
-        }
-    }
-    lines.len() <= 2
 }
 
 fn draw_pill(svg: &mut Svg, x: f64, y: f64, value: &str) -> Result<(), AllocError> {
@@ -480,6 +468,7 @@ fn draw_stop(
     svg: &mut Svg,
     scene: Scene<'_>,
     plan: &Plan,
+    spans: &Spans,
     row: Row,
     stop: &AbruptEnd,
 ) -> Result<(), AllocError> {
@@ -505,7 +494,8 @@ fn draw_stop(
         fill: RED,
         more: "font-weight=\"bold\"",
     };
-    let lines = lines_of(alloc, &label, room, room)?;
+    let beside = room_beside(plan, spans, stop.process, y);
+    let lines = label_lines(alloc, &label, room, beside)?;
     let mut at = if lines.len() > 1 { y - 2.0 } else { y + 4.0 };
     for line in &lines {
         svg.words(lane.left + 31.0, at, style, line.as_str())?;

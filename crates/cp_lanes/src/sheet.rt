@@ -2,7 +2,7 @@
 
 use crate::labels::points;
 use crate::plan::{ROW, TOP};
-use cp_story::{Event, Happening, Story};
+use cp_story::{Event, Happening, OpenCall, Story};
 use std::alloc::{AllocError, Global};
 
 /// How many starts, or rounds of one process alone, are folded at least.
@@ -228,7 +228,7 @@ fn rounds_at(story: &Story, at: usize, end: usize) -> (usize, usize) {
     (1, 1)
 }
 
-// Whether two events are of one process alone, the same call on the same line.
+// Whether two events are of one process alone, and the same on the same line.
 fn is_same(story: &Story, place: usize, other: usize, end: usize) -> bool {
     let (Some(one), Some(two)) = (story.events.get(place), story.events.get(other)) else {
         return false;
@@ -239,15 +239,35 @@ fn is_same(story: &Story, place: usize, other: usize, end: usize) -> bool {
         && two.let_in.is_empty()
         && one.plain.process == two.plain.process
         && one.line == two.line
-        && one.plain.event == two.plain.event
-        && !waits(one)
+        && is_same_happening(&one.happening, &two.happening)
 }
 
-fn waits(event: &Event) -> bool {
-    matches!(
-        event.happening,
-        Happening::Enter { waits: true, .. } | Happening::Start(_)
-    )
+// Whether two events are calls of one routine, or returns from it, or continue one queue, or display one value.
+fn is_same_happening(one: &Happening, two: &Happening) -> bool {
+    match (one, two) {
+        (
+            Happening::Enter {
+                call: one,
+                waits: false,
+                ..
+            },
+            Happening::Enter {
+                call: two,
+                waits: false,
+                ..
+            },
+        ) => is_same_call(*one, *two),
+        (Happening::Leave(one), Happening::Leave(two)) => is_same_call(*one, *two),
+        (Happening::Continue(one, _), Happening::Continue(two, _)) => {
+            one.monitor == two.monitor && one.name.as_str() == two.name.as_str()
+        }
+        (Happening::Display(one), Happening::Display(two)) => one == two,
+        _ => false,
+    }
+}
+
+fn is_same_call(one: OpenCall, two: OpenCall) -> bool {
+    one.monitor == two.monitor && one.routine == two.routine
 }
 
 /// The height of a row with so many lines of what changed.

@@ -94,11 +94,11 @@ pub fn spans_of(
         builder.hold(event, y)?;
     }
     let spans = builder.finish(sheet.end + if sheet.after > 0 { 200.0 } else { 22.0 })?;
-    clipped(alloc, spans, sheet)
+    clip(alloc, spans, sheet)
 }
 
 // What of the spans is seen: nothing where rows are left out, and once what is folded.
-fn clipped(alloc: Global, spans: Spans, sheet: &Sheet) -> Result<Spans, AllocError> {
+fn clip(alloc: Global, spans: Spans, sheet: &Sheet) -> Result<Spans, AllocError> {
     let low = if sheet.before > 0 { TOP + 10.0 } else { 0.0 };
     let high = sheet.end + if sheet.after > 0 { 14.0 } else { 22.0 };
     let mut seen = Spans {

@@ -1,5 +1,9 @@
 //! The simplest schedules, beside the first ones.
 
+ghost use Rattle.std.specs.Prelude.{IfOk, IfSome};
+ghost use Rattle.cp_run.specs.Slots.{slots};
+ghost use Rattle.cp_simplest.specs.Simple.{IsScheduleOf};
+
 use cp_machine::Ticks;
 use cp_merged::{Tallies, Tally};
 use cp_simplest::{Searched, Simple, is_schedule_of, simplest};
@@ -28,7 +32,7 @@ impl Simples {
         }
         match simplest(alloc, job, states as usize, &outcomes)? {
             Searched::Found(found) => Ok(Simples {
-                words: Some(confirmed(alloc, job, found, tallies.as_slice(), ticks)?),
+                words: Some(confirm_words(alloc, job, found, tallies.as_slice(), ticks)?),
             }),
             Searched::TooMany => Ok(Simples { words: None }),
         }
@@ -51,8 +55,8 @@ impl Simples {
     }
 }
 
-// Those words whose runs end in their outcomes.
-fn confirmed<L: Ledger>(
+// The words whose runs end in their outcomes.
+fn confirm_words<L: Ledger>(
     alloc: Global,
     job: Job,
     found: Vec<Option<Simple>>,
@@ -61,18 +65,21 @@ fn confirmed<L: Ledger>(
 ) -> Result<Vec<Option<Simple>>, AllocError> {
     let mut words = Vec::new(alloc);
     for (simple, tally) in found.into_iter().zip(tallies) {
-        words.push(confirmed_word(alloc, job, simple, tally, ticks)?)?;
+        words.push(confirm_word(alloc, job, simple, tally, ticks)?)?;
     }
     Ok(words)
 }
 
-fn confirmed_word<L: Ledger>(
+// The word, if its run is a row of the table with the outcome.
+fn confirm_word<L: Ledger>(
     alloc: Global,
     job: Job,
     simple: Option<Simple>,
     tally: &Tally,
     ticks: &mut Ticks<L>,
-) -> Result<Option<Simple>, AllocError> {
+) -> Result<Option<Simple>, AllocError>
+    ensures { IfOk result (λ found. IfSome found (λ s. IsScheduleOf (slots job.entry.program.now job.entry.limits.gates) job.entry.limits.choices job.entry.limits.steps s.word.items tally.now.outcome)) }
+{
     let Some(simple) = simple else {
         return Ok(None);
     };

@@ -68,7 +68,7 @@ impl Level {
 }
 
 /// A word, one number longer.
-pub fn longer(word: &[u8], number: u8) -> Word {
+pub fn extend_word(word: &[u8], number: u8) -> Word {
     let mut longer = ArrayVec::new();
     let _ = longer.try_extend_from_slice(word);
     let _ = longer.try_extend_from_slice(&[number]);
@@ -86,7 +86,11 @@ fn is_before(word: &[u8], other: &[u8]) -> bool {
 }
 
 /// The words of two lists in dictionary order, as one list in that order.
-pub fn merged(alloc: Global, ones: Vec<Label>, twos: Vec<Label>) -> Result<Vec<Label>, AllocError> {
+pub fn merge_labels(
+    alloc: Global,
+    ones: Vec<Label>,
+    twos: Vec<Label>,
+) -> Result<Vec<Label>, AllocError> {
     let total = ones.len().saturating_add(twos.len());
     let mut all = Vec::new(alloc);
     let mut ones = ones.into_iter();

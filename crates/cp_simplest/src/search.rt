@@ -7,7 +7,7 @@ ghost use Rattle.cp_run.specs.Slots.{slots};
 
 use crate::finding::Simple;
 use crate::keys::{Key, outcome_key, state_key};
-use crate::levels::{Label, Level, Target, Word, longer, merged};
+use crate::levels::{Label, Level, Target, Word, extend_word, merge_labels};
 use crate::watching::LastMoved;
 use arrayvec::ArrayVec;
 use cp_machine::{State, Ticks};
@@ -216,7 +216,7 @@ impl Search {
         for length in 0..101usize {
             let came = self.came.take(alloc, length);
             let here = self.here.take(alloc, length);
-            let labels = merged(alloc, came, here)?;
+            let labels = merge_labels(alloc, came, here)?;
             self.explore_labels(
                 alloc, program, limits, states, switches, &labels, steps, calls,
             )?;
@@ -368,7 +368,7 @@ impl Search {
         let halt = choose(
             program, limits, &mut state, process, &mut watch, steps, calls,
         );
-        let word = longer(word.as_slice(), process);
+        let word = extend_word(word.as_slice(), process);
         self.arrive(
             alloc,
             program,

@@ -72,7 +72,7 @@ fn aim_at(program: &Resolved, state: &State, pid: u8, at: usize) -> Aim
     let item = program.item(at);
     Aim {
         line: Some(item.line),
-        queue: process_to_continue(state, pid, item).or(delayed(state, pid, item)),
+        queue: process_to_continue(state, pid, item).or(queue_of_delay(state, pid, item)),
         ends_call: matches!(item.action, Action::Continue(_)),
     }
 }
@@ -88,7 +88,7 @@ fn process_to_continue(state: &State, pid: u8, item: &Item) -> Option<usize>
 }
 
 // The cell of the queue that an item delays in.
-fn delayed(state: &State, pid: u8, item: &Item) -> Option<usize>
+fn queue_of_delay(state: &State, pid: u8, item: &Item) -> Option<usize>
     requires { (r : Tables) × (at : ℕ) × IsTaken r state.now pid at item.now }
 {
     match &item.action {

@@ -152,7 +152,7 @@ fn event_object(alloc: Global, legend: &Legend, event: &Event) -> Result<Value, 
     put_cause(alloc, &mut object, event)?;
     put_happening(alloc, legend, &mut object, &event.happening)?;
     if let Happening::Leave(_) | Happening::Continue(..) = event.happening {
-        object.put("returned", returned(alloc, &event.returned)?)?;
+        object.put("returned", returned_values(alloc, &event.returned)?)?;
     }
     put_effects(alloc, legend, &mut object, event)?;
     Ok(object.done())
@@ -185,7 +185,7 @@ fn put_effects(
 }
 
 // What came back from a call; a function's result has no name.
-fn returned(alloc: Global, returned: &[Returned]) -> Result<Value, AllocError> {
+fn returned_values(alloc: Global, returned: &[Returned]) -> Result<Value, AllocError> {
     let mut items = Vec::new(alloc);
     for one in returned {
         let mut object = Object::new(alloc);

@@ -6,7 +6,7 @@ use crate::aim::Aim;
 use crate::changes::changes;
 use crate::event::{Choice, Event, Happening, OpenCall, Queue, Returned};
 use crate::happening::arguments;
-use crate::returned::returned;
+use crate::returned::values_returned;
 use arrayvec::ArrayVec;
 use cp_legend::Legend;
 use cp_machine::{Kernel, Shown, State, Status};
@@ -93,7 +93,7 @@ impl<'a> Observer<'a> {
             queue: aim.queue,
         };
         if aim.ends_call {
-            self.returned = returned(alloc, self.legend, state, process)?;
+            self.returned = values_returned(alloc, self.legend, state, process)?;
         }
         Ok(())
     }

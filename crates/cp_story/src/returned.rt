@@ -8,7 +8,7 @@ use cp_store::Address;
 use std::alloc::{AllocError, Global};
 
 /// What the innermost call of a process gives back: the values of the places that its `var` parameters name, and the result of a function.
-pub fn returned(
+pub fn values_returned(
     alloc: Global,
     legend: &Legend,
     state: &State,

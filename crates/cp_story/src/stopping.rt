@@ -41,17 +41,17 @@ pub fn abrupt_end(
             Ok(Some(AbruptEnd {
                 process,
                 line: Some(line),
-                words: error_told(alloc, legend, name, last.queue, waiting)?,
+                words: error_words(alloc, legend, name, last.queue, waiting)?,
                 waiting,
             }))
         }
-        OutcomeKind::StepLimit => limit_told(alloc, last, "goes on to the limit of steps"),
-        OutcomeKind::OutputLimit => limit_told(alloc, last, "displays a value too many"),
+        OutcomeKind::StepLimit => end_at_limit(alloc, last, "goes on to the limit of steps"),
+        OutcomeKind::OutputLimit => end_at_limit(alloc, last, "displays a value too many"),
         OutcomeKind::Finished | OutcomeKind::AllWaiting | OutcomeKind::ChoiceLimit => Ok(None),
     }
 }
 
-fn limit_told(alloc: Global, last: Last, words: &str) -> Result<Option<AbruptEnd>, AllocError> {
+fn end_at_limit(alloc: Global, last: Last, words: &str) -> Result<Option<AbruptEnd>, AllocError> {
     Ok(Some(AbruptEnd {
         process: last.process,
         line: last.line,
@@ -74,14 +74,14 @@ fn waiting_in(name: ErrorName, queue: Option<usize>, waits: &[Wait]) -> Option<u
 }
 
 // An error, and who waits in the queue if it is in use.
-fn error_told(
+fn error_words(
     alloc: Global,
     legend: &Legend,
     name: ErrorName,
     queue: Option<usize>,
     waiting: Option<u8>,
 ) -> Result<String, AllocError> {
-    let mut text = String::from_str(alloc, stopped_by(name))?;
+    let mut text = String::from_str(alloc, stop_phrase(name))?;
     if let (Some(process), Some(cell)) = (waiting, queue) {
         let queue = Queue {
             monitor: legend.monitor_of(cell).unwrap_or(0),
@@ -95,7 +95,7 @@ fn error_told(
     Ok(text)
 }
 
-fn stopped_by(name: ErrorName) -> &'static str {
+fn stop_phrase(name: ErrorName) -> &'static str {
     match name {
         ErrorName::Overflow => "stops with overflow",
         ErrorName::ZeroDivisor => "stops with zero-divisor",

@@ -270,7 +270,7 @@ fn push_options(text: &mut String, options: &[u8]) -> Result<(), AllocError> {
 /// How a run stops, in the words of a lecture: `deadlock: all wait`.
 pub fn end_words(alloc: Global, story: &Story) -> Result<String, AllocError> {
     match &story.end {
-        RunEnd::Ended { outcome, .. } => String::from_str(alloc, ended_as(outcome.kind)),
+        RunEnd::Ended { outcome, .. } => String::from_str(alloc, end_phrase(outcome.kind)),
         RunEnd::Wants { ready } => {
             let mut text = String::from_str(alloc, "to be chosen next: ")?;
             push_options(&mut text, ready.as_slice())?;
@@ -283,18 +283,18 @@ pub fn end_words(alloc: Global, story: &Story) -> Result<String, AllocError> {
     }
 }
 
-fn ended_as(kind: OutcomeKind) -> &'static str {
+fn end_phrase(kind: OutcomeKind) -> &'static str {
     match kind {
         OutcomeKind::Finished => "all have ended",
         OutcomeKind::AllWaiting => "deadlock: all wait",
-        OutcomeKind::RunError { name, .. } => error_of_lecture(name),
+        OutcomeKind::RunError { name, .. } => error_phrase(name),
         OutcomeKind::ChoiceLimit => "goes on: the limit of choices",
         OutcomeKind::StepLimit => "no end in sight: the limit of steps",
         OutcomeKind::OutputLimit => "goes on: the limit of displayed values",
     }
 }
 
-fn error_of_lecture(name: ErrorName) -> &'static str {
+fn error_phrase(name: ErrorName) -> &'static str {
     match name {
         ErrorName::Overflow => "run error: a number out of reach",
         ErrorName::ZeroDivisor => "run error: division by zero",

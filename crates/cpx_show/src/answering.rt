@@ -270,7 +270,7 @@ fn shown_once(
     let word = match schedule_asked(alloc, asked, program)? {
         First::Word(word) => word,
         First::None(count) => return no_outcome(alloc, count),
-        First::NotSearched => return not_searched(alloc, asked),
+        First::NotSearched => return unsearched_answer(alloc, asked),
     };
     let word = word.as_slice();
     let text = match &asked.part {
@@ -285,7 +285,7 @@ fn shown_once(
 }
 
 // That a simplest schedule was not looked for.
-fn not_searched(alloc: Global, asked: &Asked) -> Result<Answer, AllocError> {
+fn unsearched_answer(alloc: Global, asked: &Asked) -> Result<Answer, AllocError> {
     let states = asked.options.states;
     Ok(Answer {
         verdict: Verdict::TooMany,
@@ -319,7 +319,7 @@ fn page_answer(
     let word = match schedule_asked(alloc, asked, program)? {
         First::Word(word) => word,
         First::None(count) => return no_outcome(alloc, count),
-        First::NotSearched => return not_searched(alloc, asked),
+        First::NotSearched => return unsearched_answer(alloc, asked),
     };
     let subject = Played {
         program,
