@@ -1,13 +1,15 @@
 //! Lanes: lives, stays, waits and holds.
 
-use crate::labels::cut_plain;
+use crate::labels::{Face, Label, points, push_routine};
 use crate::palette::{RED, hue_of};
-use crate::pictures::PictureSubject;
-use crate::plan::{Plan, row_middle, rows_end};
+use crate::pictures::Scene;
+use crate::plan::Plan;
+use crate::sheet::Sheet;
 use crate::spans::{Hold, Life, Pause, Spans, Stay};
 use crate::svg::{Block, Style, Svg};
+use crate::wrapping::label_lines;
 use cp_run::{OutcomeKind, RunEnd};
-use cp_story::{Story, push_call, stop_words};
+use cp_story::{Story, push_call};
 use std::alloc::{AllocError, Global};
 
 /// How many monitors a process is drawn inside of at once.
@@ -17,7 +19,7 @@ const DEEPEST: usize = 16;
 pub fn spans_drawn(
     alloc: Global,
     svg: &mut Svg,
-    subject: PictureSubject<'_>,
+    scene: Scene<'_>,
     plan: &Plan,
     spans: &Spans,
 ) -> Result<(), AllocError> {
@@ -27,16 +29,16 @@ pub fn spans_drawn(
     for depth in 0..DEEPEST {
         for stay in &spans.stays {
             if stay.depth == depth {
-                draw_stay(alloc, svg, subject, plan, stay)?;
+                draw_stay(alloc, svg, scene, plan, stay)?;
             }
         }
     }
-    let is_stuck = all_wait(subject.story);
+    let is_stuck = all_wait(scene.story);
     for pause in &spans.pauses {
-        draw_pause(alloc, svg, subject, plan, pause, is_stuck)?;
+        draw_pause(alloc, svg, scene, plan, pause, is_stuck)?;
     }
     for hold in &spans.holds {
-        draw_hold(alloc, svg, subject, plan, hold)?;
+        draw_hold(alloc, svg, scene, plan, hold)?;
     }
     Ok(())
 }
@@ -62,18 +64,18 @@ fn draw_life(svg: &mut Svg, plan: &Plan, life: &Life) -> Result<(), AllocError> 
 fn draw_stay(
     alloc: Global,
     svg: &mut Svg,
-    subject: PictureSubject<'_>,
+    scene: Scene<'_>,
     plan: &Plan,
     stay: &Stay,
 ) -> Result<(), AllocError> {
     let lane = plan.lane(stay.process);
     let hue = hue_of(stay.call.monitor);
-    let inset = crate::labels::points(stay.depth) * 8.0;
+    let inset = points(stay.depth) * 8.0;
     let process = stay.process;
     let mut title = format!(in alloc; "{process} ")?;
-    title.push_str(subject.legend.process_name(stay.process))?;
+    title.push_str(scene.legend.process_name(stay.process))?;
     title.push_str(" is inside ")?;
-    push_call(subject.legend, &mut title, stay.call, &[])?;
+    push_call(scene.legend, &mut title, stay.call, &[])?;
     svg.open(title.as_str())?;
     svg.block(Block {
         left: lane.left + 1.0 + inset,
@@ -91,7 +93,7 @@ fn draw_stay(
 fn draw_pause(
     alloc: Global,
     svg: &mut Svg,
-    subject: PictureSubject<'_>,
+    scene: Scene<'_>,
     plan: &Plan,
     pause: &Pause,
     is_stuck: bool,
@@ -100,13 +102,13 @@ fn draw_pause(
     let is_red = pause.lasts && is_stuck;
     let process = pause.process;
     let mut title = format!(in alloc; "{process} ")?;
-    title.push_str(subject.legend.process_name(pause.process))?;
+    title.push_str(scene.legend.process_name(pause.process))?;
     title.push_str(if pause.at_gate {
         " waits at the gate of "
     } else {
         " waits in a queue of "
     })?;
-    title.push_str(subject.legend.monitor_name(pause.monitor))?;
+    title.push_str(scene.legend.monitor_name(pause.monitor))?;
     svg.open(title.as_str())?;
     svg.block(Block {
         left: plan.dot(pause.process) - 9.0,
@@ -124,7 +126,7 @@ fn draw_pause(
 fn draw_hold(
     alloc: Global,
     svg: &mut Svg,
-    subject: PictureSubject<'_>,
+    scene: Scene<'_>,
     plan: &Plan,
     hold: &Hold,
 ) -> Result<(), AllocError> {
@@ -132,9 +134,9 @@ fn draw_hold(
     let middle = bar.left + bar.width / 2.0;
     let process = hold.process;
     let mut title = String::new(alloc);
-    title.push_str(subject.legend.monitor_name(hold.monitor))?;
+    title.push_str(scene.legend.monitor_name(hold.monitor))?;
     write!(title, " is held by {process} ")?;
-    title.push_str(subject.legend.process_name(hold.process))?;
+    title.push_str(scene.legend.process_name(hold.process))?;
     svg.open(title.as_str())?;
     svg.block(Block {
         left: middle - 12.0,
@@ -160,35 +162,57 @@ fn draw_hold(
     svg.close()
 }
 
+// The process with which the run stops, where no event tells of it.
+fn stopped_process(story: &Story) -> Option<u8> {
+    match &story.stop {
+        Some(stop) => Some(stop.process),
+        None => None,
+    }
+}
+
 /// Draws where a process goes on whom another one let go on, if no event of its own follows at once.
 pub fn draw_resumed(
     alloc: Global,
     svg: &mut Svg,
-    subject: PictureSubject<'_>,
+    scene: Scene<'_>,
     plan: &Plan,
+    sheet: &Sheet,
     stay: &Stay,
 ) -> Result<(), AllocError> {
-    let Some(row) = stay.resumed else {
+    let Some(event) = stay.resumed else {
         return Ok(());
     };
-    let row = row.saturating_add(1);
-    let next = match subject.story.events.get(row) {
+    let event = event.saturating_add(1);
+    let next = match scene.story.events.get(event) {
         Some(event) => Some(event.plain.process),
-        None => stop_words(subject.story).and_then(|stop| stop.process),
+        None => stopped_process(scene.story),
     };
-    let is_own = next == Some(stay.process);
-    let y = row_middle(row);
-    if is_own || y > stay.bottom || y > rows_end(plan.rows) {
+    let Some(row) = sheet.row_of(event) else {
+        return Ok(());
+    };
+    let y = row.middle();
+    if next == Some(stay.process) || y > stay.bottom {
         return Ok(());
     }
     let mut words = String::from_str(alloc, "in ")?;
-    push_call(subject.legend, &mut words, stay.call, &[])?;
+    push_routine(scene.legend, &mut words, stay.call, &[])?;
     let lane = plan.lane(stay.process);
-    let words = cut_plain(alloc, words.as_str(), lane.width - 40.0, 11.5)?;
+    let label = Label {
+        words,
+        face: Face::Plain,
+        pill: None,
+    };
+    let room = lane.width - 36.0;
     let style = Style {
-        size: 11.5,
+        size: 10.5,
         fill: hue_of(stay.call.monitor).strong,
         more: "font-style=\"italic\"",
     };
-    svg.words(lane.left + 31.0, y + 4.0, style, words.as_str())
+    let lines = label_lines(alloc, &label, room, room)?;
+    let mut at = if lines.len() > 1 { y - 2.0 } else { y + 4.0 };
+    for line in &lines {
+        svg.words(lane.left + 31.0, at, style, line.as_str())?;
+        at += 12.0;
+    }
+    Ok(())
 }

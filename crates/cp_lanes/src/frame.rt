@@ -1,13 +1,14 @@
 //! What stands around the lanes: patterns, ground, heads, the end and the key.
 
 use crate::draw::all_wait;
-use crate::labels::{bold_width, cut_bold, cut_plain, plain_width, points};
-use crate::palette::{GREEN, GREY, HUES, INK, RED, SLATE, hue_of};
-use crate::pictures::PictureSubject;
-use crate::plan::{Column, Plan, ROW, TOP, rows_end};
+use crate::labels::{bold_width, cut_bold, cut_plain, plain_width};
+use crate::palette::{GREEN, GREY, HUES, INK, PALE, RED, SLATE, hue_of};
+use crate::pictures::Scene;
+use crate::plan::{Column, Plan, TOP};
+use crate::sheet::{EDGE, Sheet};
 use crate::svg::{Block, Style, Svg};
 use cp_run::{OutcomeKind, RunEnd};
-use cp_story::{Story, wait_words};
+use cp_story::{Story, end_words, wait_words};
 use std::alloc::{AllocError, Global};
 
 const FAINT: Style<'static> = Style {
@@ -23,8 +24,9 @@ const MARKER: &str =
 
 /// The picture's title, the patterns of the monitors' colours, and the point of an arrow.
 pub fn draw_patterns(
+    alloc: Global,
     svg: &mut Svg,
-    subject: PictureSubject<'_>,
+    scene: Scene<'_>,
     title: &str,
 ) -> Result<(), AllocError> {
     svg.raw("<title>")?;
@@ -32,12 +34,16 @@ pub fn draw_patterns(
         svg.escaped(title)?;
         svg.raw(", ")?;
     }
+    if let RunEnd::Ended { .. } = scene.story.end {
+        svg.escaped(end_words(alloc, scene.story)?.as_str())?;
+        svg.raw(", ")?;
+    }
     svg.raw("schedule ")?;
-    svg.escaped(subject.schedule)?;
+    svg.escaped(scene.schedule)?;
     svg.raw("</title>\n<desc>")?;
-    svg.escaped(subject.end.trim())?;
+    svg.escaped(scene.end.trim())?;
     svg.raw("</desc>\n<defs>\n")?;
-    for number in 0..subject.legend.monitors().max(1).min(HUES) {
+    for number in 0..scene.legend.monitors().max(1).min(HUES) {
         draw_pattern(svg, number)?;
     }
     svg.raw(MARKER)?;
@@ -61,12 +67,17 @@ fn draw_pattern(svg: &mut Svg, number: u8) -> Result<(), AllocError> {
 }
 
 /// White, and every other row shaded.
-pub fn draw_ground(svg: &mut Svg, plan: &Plan, height: f64) -> Result<(), AllocError> {
-    svg.block(plain(0.0, 0.0, plan.width, height, "#fff"))?;
-    for row in 0..plan.rows {
-        if row % 2 == 0 {
-            let top = TOP + points(row) * ROW;
-            svg.block(plain(14.0, top, plan.width - 28.0, ROW, "#f5f7fa"))?;
+pub fn draw_ground(
+    svg: &mut Svg,
+    plan: &Plan,
+    sheet: &Sheet,
+    above: f64,
+    height: f64,
+) -> Result<(), AllocError> {
+    svg.block(plain(0.0, 0.0 - above, plan.width, height + above, "#fff"))?;
+    for (place, row) in sheet.rows.iter().enumerate() {
+        if place % 2 == 0 {
+            svg.block(plain(14.0, row.top, plan.width - 28.0, row.height, "#f5f7fa"))?;
         }
     }
     Ok(())
@@ -85,64 +96,40 @@ fn plain<'a>(left: f64, top: f64, width: f64, height: f64, fill: &'a str) -> Blo
     }
 }
 
-/// The heading, and the heads of the columns.
+/// The heads of the columns.
 pub fn draw_heads(
     alloc: Global,
     svg: &mut Svg,
-    subject: PictureSubject<'_>,
+    scene: Scene<'_>,
     plan: &Plan,
-    title: &str,
+    sheet: &Sheet,
 ) -> Result<(), AllocError> {
-    draw_heading(alloc, svg, subject, title)?;
     svg.words(20.0, 71.0, FAINT, "who may go on")?;
-    for process in 0..subject.legend.processes() {
-        draw_lane_head(alloc, svg, subject, plan, process)?;
+    for process in 0..scene.legend.processes() {
+        draw_lane_head(alloc, svg, scene, plan, process)?;
     }
-    for monitor in 0..subject.legend.monitors() {
-        draw_bar_head(alloc, svg, subject, plan, monitor)?;
+    for monitor in 0..scene.legend.monitors() {
+        draw_bar_head(alloc, svg, scene, plan, sheet, monitor)?;
     }
     if plan.changes.width > 0.0 {
         svg.words(plan.changes.left, 71.0, FAINT, "what changed inside")?;
     }
-    svg.words(plan.numbers - 20.0, 71.0, FAINT, "line")
-}
-
-fn draw_heading(
-    alloc: Global,
-    svg: &mut Svg,
-    subject: PictureSubject<'_>,
-    title: &str,
-) -> Result<(), AllocError> {
-    let mut schedule = String::from_str(alloc, "schedule ")?;
-    schedule.push_str(subject.schedule)?;
-    let bold = Style {
-        size: 16.0,
-        fill: INK,
-        more: "font-weight=\"bold\"",
-    };
-    if title.is_empty() {
-        return svg.words(20.0, 28.0, bold, schedule.as_str());
+    if scene.is_plain {
+        return Ok(());
     }
-    svg.words(20.0, 28.0, bold, title)?;
-    let style = Style {
-        size: 12.5,
-        fill: GREY,
-        more: "",
-    };
-    let x = 20.0 + bold_width(title, 16.0) + 22.0;
-    svg.words(x, 28.0, style, schedule.as_str())
+    svg.words(plan.numbers - 20.0, 71.0, FAINT, "line")
 }
 
 fn draw_lane_head(
     alloc: Global,
     svg: &mut Svg,
-    subject: PictureSubject<'_>,
+    scene: Scene<'_>,
     plan: &Plan,
     process: u8,
 ) -> Result<(), AllocError> {
     let lane = plan.lane(process);
-    let name = subject.legend.process_name(process);
-    let type_name = subject.legend.process_type(process);
+    let name = scene.legend.process_name(process);
+    let type_name = scene.legend.process_type(process);
     open_lane(alloc, svg, process, name, type_name)?;
     svg.block(Block {
         radius: 6.0,
@@ -173,7 +160,7 @@ fn open_lane(
     svg.open(title.as_str().trim())
 }
 
-// The name of a process, and its type where there is room.
+// The name of a process and its type, one below the other where there is no room for both in a line.
 fn draw_names(
     alloc: Global,
     svg: &mut Svg,
@@ -181,66 +168,123 @@ fn draw_names(
     name: &str,
     type_name: &str,
 ) -> Result<(), AllocError> {
-    let room = lane.width - 40.0;
-    let shown = cut_bold(alloc, name, room, 12.0)?;
-    let bold = Style {
-        size: 12.0,
-        fill: INK,
-        more: "font-weight=\"bold\"",
-    };
-    svg.words(lane.left + 33.0, 71.0, bold, shown.as_str())?;
-    let used = bold_width(shown.as_str(), 12.0) + 9.0;
-    if room - used > 30.0 {
-        let kind = cut_plain(alloc, type_name, room - used, 12.0)?;
-        let grey = Style {
-            size: 12.0,
-            fill: GREY,
-            more: "",
-        };
-        svg.words(lane.left + 33.0 + used, 71.0, grey, kind.as_str())?;
+    let room = lane.width - 36.0;
+    let left = lane.left + 33.0;
+    let used = bold_width(name, 12.0) + 9.0;
+    if room < 30.0 {
+        return Ok(());
     }
-    Ok(())
+    if used + plain_width(type_name, 12.0) <= room {
+        svg.words(left, 71.0, bold(12.0, INK), name)?;
+        return svg.words(left + used, 71.0, light(12.0), type_name);
+    }
+    if bold_width(name, 11.0) <= room {
+        svg.words(left, 65.0, bold(11.0, INK), name)?;
+        let kind = cut_plain(alloc, type_name, room, 10.0)?;
+        return svg.words(left, 77.5, light(10.0), kind.as_str());
+    }
+    let (first, rest) = halves(alloc, name, room, 10.0)?;
+    svg.words(left, 64.5, bold(10.0, INK), first.as_str())?;
+    let rest = cut_bold(alloc, rest.as_str(), room, 10.0)?;
+    svg.words(left, 77.0, bold(10.0, INK), rest.as_str())
+}
+
+fn bold(size: f64, fill: &'static str) -> Style<'static> {
+    Style {
+        size,
+        fill,
+        more: "font-weight=\"bold\"",
+    }
+}
+
+fn light(size: f64) -> Style<'static> {
+    Style {
+        size,
+        fill: GREY,
+        more: "",
+    }
 }
 
 fn draw_bar_head(
     alloc: Global,
     svg: &mut Svg,
-    subject: PictureSubject<'_>,
+    scene: Scene<'_>,
     plan: &Plan,
+    sheet: &Sheet,
     monitor: u8,
 ) -> Result<(), AllocError> {
     let bar = plan.bar(monitor);
     let middle = bar.left + bar.width / 2.0;
-    let name = subject.legend.monitor_name(monitor);
+    let name = scene.legend.monitor_name(monitor);
     let mut title = String::from_str(alloc, "monitor ")?;
     title.push_str(name)?;
     title.push(' ')?;
-    title.push_str(subject.legend.monitor_type(monitor))?;
+    title.push_str(scene.legend.monitor_type(monitor))?;
     svg.open(title.as_str())?;
     svg.block(Block {
         radius: 6.0,
         ..plain(bar.left, 52.0, bar.width, 30.0, hue_of(monitor).strong)
     })?;
-    let shown = cut_bold(alloc, name, bar.width - 6.0, 10.5)?;
-    let white = Style {
-        size: 10.5,
-        fill: "#fff",
-        more: "text-anchor=\"middle\" font-weight=\"bold\"",
-    };
-    svg.words(middle, 71.0, white, shown.as_str())?;
+    draw_bar_name(alloc, svg, middle, bar.width - 6.0, name)?;
     svg.line(
         (middle, 98.0),
-        (middle, rows_end(plan.rows) + 4.0),
+        (middle, sheet.end + 4.0),
         "#c9d1d9",
         "stroke-width=\"1\"",
     )?;
     svg.close()
 }
 
+// The name of a monitor in one line or in two.
+fn draw_bar_name(
+    alloc: Global,
+    svg: &mut Svg,
+    middle: f64,
+    room: f64,
+    name: &str,
+) -> Result<(), AllocError> {
+    let style = Style {
+        size: 10.5,
+        fill: "#fff",
+        more: "text-anchor=\"middle\" font-weight=\"bold\"",
+    };
+    if bold_width(name, 10.5) <= room {
+        return svg.words(middle, 71.0, style, name);
+    }
+    let small = Style { size: 9.5, ..style };
+    let (first, rest) = halves(alloc, name, room, 9.5)?;
+    svg.words(middle, 64.5, small, first.as_str())?;
+    let rest = cut_bold(alloc, rest.as_str(), room, 9.5)?;
+    svg.words(middle, 77.0, small, rest.as_str())
+}
+
+// As many characters as there is room for, and the others.
+fn halves(alloc: Global, name: &str, room: f64, size: f64) -> Result<(String, String), AllocError> {
+    let mut first = String::new(alloc);
+    let mut rest = String::new(alloc);
+    for character in name.chars() {
+        let is_full = bold_width(first.as_str(), size) + bold_width("m", size) > room;
+        if is_full || !rest.is_empty() {
+            rest.push(character)?;
+        } else {
+            first.push(character)?;
+        }
+    }
+    Ok((first, rest))
+}
+
 /// A bracket from a row to the last one, which says that they can be gone again and again.
-pub fn draw_again(svg: &mut Svg, plan: &Plan, row: usize) -> Result<(), AllocError> {
-    let top = TOP + points(row) * ROW;
-    let bottom = rows_end(plan.rows);
+pub fn draw_again(
+    svg: &mut Svg,
+    plan: &Plan,
+    sheet: &Sheet,
+    event: usize,
+) -> Result<(), AllocError> {
+    let top = match sheet.row_of(event) {
+        Some(row) => row.top,
+        None => TOP,
+    };
+    let bottom = sheet.end;
     svg.open("again and again")?;
     svg.line((10.0, top), (16.0, top), INK, BRACKET)?;
     svg.line((10.0, top), (10.0, bottom), INK, BRACKET)?;
@@ -251,12 +295,51 @@ pub fn draw_again(svg: &mut Svg, plan: &Plan, row: usize) -> Result<(), AllocErr
         INK,
         "stroke-width=\"1\" stroke-dasharray=\"4 3\"",
     )?;
-    let bold = Style {
-        size: 12.0,
-        fill: INK,
-        more: "font-weight=\"bold\"",
+    svg.words(
+        10.0,
+        sheet.bottom() + 16.0,
+        bold(12.0, INK),
+        "again and again",
+    )?;
+    svg.close()
+}
+
+/// Broken edges where rows are left out before the first or after the last.
+pub fn draw_edges(
+    alloc: Global,
+    svg: &mut Svg,
+    plan: &Plan,
+    sheet: &Sheet,
+) -> Result<(), AllocError> {
+    if sheet.before > 0 {
+        draw_edge(alloc, svg, plan, TOP, sheet.before)?;
+    }
+    if sheet.after > 0 {
+        draw_edge(alloc, svg, plan, sheet.end, sheet.after)?;
+    }
+    Ok(())
+}
+
+// A broken edge, which says how many rows are left out.
+fn draw_edge(
+    alloc: Global,
+    svg: &mut Svg,
+    plan: &Plan,
+    top: f64,
+    count: usize,
+) -> Result<(), AllocError> {
+    let words = if count == 1 {
+        String::from_str(alloc, "1 row is left out")?
+    } else {
+        format!(in alloc; "{count} rows are left out")?
     };
-    svg.words(10.0, bottom + 16.0, bold, "again and again")?;
+    svg.open(words.as_str())?;
+    let middle = top + EDGE / 2.0;
+    svg.block(plain(14.0, top + 2.0, plan.width - 28.0, EDGE - 4.0, "#fff"))?;
+    svg.zigzag((14.0, middle), plan.width - 14.0, PALE)?;
+    let width = plain_width(words.as_str(), 10.5) + 16.0;
+    svg.block(plain(40.0, top + 2.0, width, EDGE - 4.0, "#fff"))?;
+    svg.words(48.0, middle + 4.0, FAINT, words.as_str())?;
     svg.close()
 }
 
@@ -264,21 +347,16 @@ pub fn draw_again(svg: &mut Svg, plan: &Plan, row: usize) -> Result<(), AllocErr
 pub fn draw_end(
     alloc: Global,
     svg: &mut Svg,
-    subject: PictureSubject<'_>,
+    scene: Scene<'_>,
     plan: &Plan,
     top: f64,
 ) -> Result<(), AllocError> {
-    let words = cut_bold(alloc, end_words(subject.end), plan.width - 80.0, 12.5)?;
-    svg.open(subject.end.trim())?;
+    let words = end_words(alloc, scene.story)?;
+    let width = bold_width(words.as_str(), 12.5) + 26.0;
+    svg.open(scene.end.trim())?;
     svg.block(Block {
         radius: 13.0,
-        ..plain(
-            20.0,
-            top,
-            bold_width(words.as_str(), 12.5) + 26.0,
-            26.0,
-            end_colour(subject.story),
-        )
+        ..plain(20.0, top, width, 26.0, end_colour(scene.story))
     })?;
     let white = Style {
         size: 12.5,
@@ -286,15 +364,23 @@ pub fn draw_end(
         more: "font-weight=\"bold\"",
     };
     svg.words(33.0, top + 17.5, white, words.as_str())?;
+    let beside = 20.0 + width + 14.0;
+    let plain = cut_plain(
+        alloc,
+        outcome_of(scene.end),
+        plan.width - beside - 20.0,
+        12.0,
+    )?;
+    svg.words(beside, top + 17.5, light(12.0), plain.as_str())?;
     svg.close()?;
     let mut y = top + 46.0;
     let style = Style {
         size: 12.0,
-        fill: if all_wait(subject.story) { RED } else { INK },
+        fill: if all_wait(scene.story) { RED } else { INK },
         more: "",
     };
-    for wait in &subject.story.waits {
-        let words = wait_words(alloc, subject.legend, wait)?;
+    for wait in &scene.story.waits {
+        let words = wait_words(alloc, scene.legend, wait)?;
         svg.words(26.0, y, style, words.as_str())?;
         y += 20.0;
     }
@@ -302,7 +388,7 @@ pub fn draw_end(
 }
 
 // The last line of a trace without its first words.
-fn end_words(end: &str) -> &str {
+fn outcome_of(end: &str) -> &str {
     let end = end.trim();
     match end.strip_prefix("ended ") {
         Some(rest) => match rest.split_once(' ') {
@@ -322,46 +408,4 @@ fn end_colour(story: &Story) -> &'static str {
         OutcomeKind::AllWaiting | OutcomeKind::RunError { .. } => RED,
         OutcomeKind::ChoiceLimit | OutcomeKind::StepLimit | OutcomeKind::OutputLimit => SLATE,
     }
-}
-
-/// What the signs mean.
-pub fn draw_key(svg: &mut Svg, y: f64) -> Result<(), AllocError> {
-    let hue = hue_of(0);
-    svg.open("what the signs mean")?;
-    let mut x = 20.0;
-    x = draw_sign(svg, x, y, hue.soft, "inside a monitor")?;
-    x = draw_sign(svg, x, y, hue.gate, "waits at its gate")?;
-    x = draw_sign(svg, x, y, hue.queue, "delayed in a queue of it")?;
-    svg.circle(x + 8.0, y + 7.0, 8.0, INK, "")?;
-    svg.circle(x + 27.0, y + 7.0, 7.5, "#fff", "stroke=\"#aab4be\"")?;
-    x = x + 44.0;
-    svg.words(x, y + 11.0, FAINT, "chosen; the other could go on too")?;
-    x = x + plain_width("chosen; the other could go on too", 10.5) + 24.0;
-    svg.line(
-        (x, y + 7.0),
-        (x + 26.0, y + 7.0),
-        INK,
-        "stroke-width=\"1.5\" marker-end=\"url(#arrow)\"",
-    )?;
-    svg.words(x + 34.0, y + 11.0, FAINT, "starts or wakes")?;
-    x = x + 34.0 + plain_width("starts or wakes", 10.5) + 24.0;
-    svg.line(
-        (x, y + 7.0),
-        (x + 26.0, y + 7.0),
-        INK,
-        "stroke-width=\"1.5\" stroke-dasharray=\"4 3\" marker-end=\"url(#arrow)\"",
-    )?;
-    svg.words(x + 34.0, y + 11.0, FAINT, "lets in")?;
-    svg.close()
-}
-
-fn draw_sign(svg: &mut Svg, x: f64, y: f64, fill: &str, words: &str) -> Result<f64, AllocError> {
-    svg.block(Block {
-        radius: 5.0,
-        stroke: hue_of(0).strong,
-        stroke_width: 1.3,
-        ..plain(x, y, 22.0, 14.0, fill)
-    })?;
-    svg.words(x + 28.0, y + 11.0, FAINT, words)?;
-    Ok(x + 28.0 + plain_width(words, 10.5) + 24.0)
 }

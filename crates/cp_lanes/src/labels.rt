@@ -1,14 +1,15 @@
 //! The words beside the events.
 
-use cp_legend::Legend;
-use cp_story::{Event, Happening, push_call, push_shown};
+use crate::sheet::{Fold, Row};
+use cp_legend::{Legend, Value};
+use cp_story::{Event, Happening, OpenCall, Returned, Story, push_returned, push_shown};
 use std::alloc::{AllocError, Global};
 
 /// How wide a character is, for each point of its size.
-const WIDTH: f64 = 0.57;
+pub const WIDTH: f64 = 0.57;
 
 /// The same in bold type.
-const BOLD: f64 = 0.63;
+pub const BOLD: f64 = 0.63;
 
 /// The same in type of one width.
 const FIXED: f64 = 0.605;
@@ -84,11 +85,42 @@ pub fn cut_fixed(alloc: Global, words: &str, room: f64, size: f64) -> Result<Str
     cut_to_fit(alloc, words, room, size, FIXED)
 }
 
-/// The label of an event.
-pub fn label_of(alloc: Global, legend: &Legend, event: &Event) -> Result<Label, AllocError> {
+/// The label of a row, where it is none of a stop.
+pub fn label_of(
+    alloc: Global,
+    legend: &Legend,
+    story: &Story,
+    row: Row,
+) -> Result<Option<Label>, AllocError> {
+    match row.fold {
+        Fold::None => match story.events.get(row.first) {
+            Some(event) => Ok(Some(event_label(alloc, legend, event)?)),
+            None => Ok(None),
+        },
+        Fold::Starts => {
+            let count = row.count;
+            plain_label(format!(in alloc; "starts {count}")?)
+        }
+        Fold::Rounds(rounds) => {
+            let count = row.count;
+            plain_label(format!(in alloc; "the same {rounds} times more: {count} events")?)
+        }
+    }
+}
+
+fn plain_label(words: String) -> Result<Option<Label>, AllocError> {
+    Ok(Some(Label {
+        words,
+        face: Face::Faint,
+        pill: None,
+    }))
+}
+
+fn event_label(alloc: Global, legend: &Legend, event: &Event) -> Result<Label, AllocError> {
     let mut words = String::new(alloc);
     push_words(legend, &mut words, event)?;
-    let face = face_of(&event.happening);
+    push_values(&mut words, &event.returned)?;
+    let face = face_of(event);
     let mut pill = None;
     if let Happening::Display(value) = &event.happening {
         let mut shown = String::new(alloc);
@@ -98,8 +130,18 @@ pub fn label_of(alloc: Global, legend: &Legend, event: &Event) -> Result<Label, 
     Ok(Label { words, face, pill })
 }
 
-fn face_of(happening: &Happening) -> Face {
-    match happening {
+// What comes back; one value alone has no name, which the row of the call has already.
+fn push_values(words: &mut String, returned: &[Returned]) -> Result<(), AllocError> {
+    if let (1, Some(one)) = (returned.len(), returned.first()) {
+        words.push_str(", = ")?;
+        return one.value.push_to(words);
+    }
+    push_returned(words, returned)
+}
+
+fn face_of(event: &Event) -> Face {
+    match event.happening {
+        Happening::Leave(_) if !event.returned.is_empty() => Face::Plain,
         Happening::Leave(_) | Happening::End => Face::Faint,
         Happening::Delay(..) => Face::Bold,
         _ => Face::Plain,
@@ -113,13 +155,16 @@ fn push_words(legend: &Legend, words: &mut String, event: &Event) -> Result<(), 
             arguments,
             waits,
         } => {
-            push_call(legend, words, *call, arguments)?;
-            words.push_str(if *waits { " — at the gate" } else { "" })
+            push_routine(legend, words, *call, arguments)?;
+            words.push_str(if *waits { ", at the gate" } else { "" })
         }
         Happening::Leave(_) => words.push_str("leaves"),
         Happening::Delay(queue, _) => push_queue(words, "delay(", queue.name.as_str()),
         Happening::Continue(queue, _) => {
             push_queue(words, "continue(", queue.name.as_str())?;
+            if event.wakes_nobody() {
+                words.push_str(": nobody waits")?;
+            }
             push_woken(words, event.woken.as_slice())
         }
         Happening::Start(process) => {
@@ -130,6 +175,28 @@ fn push_words(legend: &Legend, words: &mut String, event: &Event) -> Result<(), 
         Happening::End => words.push_str("ends"),
         Happening::Admit(_) => words.push_str("is let in"),
     }
+}
+
+/// Appends a call with its routine first: the colour names the monitor.
+pub fn push_routine(
+    legend: &Legend,
+    words: &mut String,
+    call: OpenCall,
+    arguments: &[Value],
+) -> Result<(), AllocError> {
+    words.push_str(legend.routine_name(call.routine))?;
+    let mut before = "(";
+    for argument in arguments {
+        words.push_str(before)?;
+        argument.push_to(words)?;
+        before = ", ";
+    }
+    words.push_str(if arguments.is_empty() {
+        " in "
+    } else {
+        ") in "
+    })?;
+    words.push_str(legend.monitor_name(call.monitor))
 }
 
 fn push_queue(words: &mut String, before: &str, name: &str) -> Result<(), AllocError> {
@@ -157,9 +224,14 @@ impl Label {
 
     /// How wide its words are.
     pub fn words_width(&self) -> f64 {
+        points(self.words.as_str().chars().count()) * 11.5 * self.factor()
+    }
+
+    /// How wide a character of it is, for each point of its size.
+    pub fn factor(&self) -> f64 {
         match self.face {
-            Face::Bold => bold_width(self.words.as_str(), 11.5),
-            Face::Plain | Face::Faint => plain_width(self.words.as_str(), 11.5),
+            Face::Bold => BOLD,
+            Face::Plain | Face::Faint => WIDTH,
         }
     }
 }

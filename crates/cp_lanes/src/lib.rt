@@ -3,13 +3,18 @@
 
 mod draw;
 mod frame;
+mod heading;
+mod key;
 mod labels;
 mod palette;
 mod pictures;
 mod plan;
 mod rows;
+mod sheet;
 mod spans;
 mod svg;
 mod title;
+mod wrapping;
 
-pub use pictures::{PictureSubject, picture};
+pub use pictures::{PictureSubject, View, picture, picture_in};
+pub use sheet::Extent;

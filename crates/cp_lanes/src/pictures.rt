@@ -1,18 +1,21 @@
 //! The whole picture.
 
 use crate::draw::spans_drawn;
-use crate::frame::{draw_again, draw_end, draw_ground, draw_heads, draw_key, draw_patterns};
-use crate::labels::{Label, fixed_width, label_of, plain_width};
-use crate::plan::{Plan, Widths, plan_of, rows_end};
+use crate::frame::{draw_again, draw_edges, draw_end, draw_ground, draw_heads, draw_patterns};
+use crate::heading::{Heading, draw_heading, heading_of};
+use crate::key::{draw_key, signs_of};
+use crate::labels::{Label, WIDTH, fixed_width, label_of, plain_width, points};
+use crate::plan::{Plan, Widths, plan_of};
 use crate::rows::draw_rows;
+use crate::sheet::{Extent, Sheet, height_of, sheet_of};
 use crate::spans::{Spans, spans_of};
 use crate::svg::Svg;
-use crate::title::heading;
+use crate::wrapping::wrap;
 use cp_legend::Legend;
-use cp_story::{Change, Story, stop_words};
+use cp_story::{Change, Event, Story};
 use std::alloc::{AllocError, Global};
 
-/// What is drawn.
+/// The schedule that is drawn.
 #[derive(Clone, Copy)]
 pub struct PictureSubject<'a> {
     pub legend: &'a Legend,
@@ -26,78 +29,193 @@ pub struct PictureSubject<'a> {
     pub again: Option<usize>,
 }
 
-/// The lanes of a story as SVG.
-pub fn picture(alloc: Global, subject: PictureSubject<'_>) -> Result<String, AllocError> {
-    let PictureSubject { legend, story, .. } = subject;
-    let rows = row_count(story);
-    let mut labels = Vec::new(alloc);
-    for event in &story.events {
-        labels.push(label_of(alloc, legend, event)?)?;
-    }
-    let spans = spans_of(alloc, story, legend.processes(), legend.monitors(), rows)?;
-    let widths = widths(alloc, subject)?;
-    let plan = plan_of(alloc, legend, story, &labels, &spans, widths, rows)?;
-    draw_parts(alloc, subject, &plan, &spans, &labels)
+/// What of it is drawn, and how.
+#[derive(Clone, Copy)]
+pub struct View {
+    pub extent: Extent,
+    /// Whether source, schedule and key are left out, and letters are larger.
+    pub is_plain: bool,
 }
 
-// A row for each event, and one for a stop between two.
-fn row_count(story: &Story) -> usize {
-    let extra = if stop_words(story).is_some() {
-        1
-    } else {
-        0usize
+/// A schedule, and how it is drawn.
+#[derive(Clone, Copy)]
+pub struct Scene<'a> {
+    pub legend: &'a Legend,
+    pub story: &'a Story,
+    pub schedule: &'a str,
+    pub end: &'a str,
+    pub source: &'a [String],
+    pub again: Option<usize>,
+    pub extent: Extent,
+    pub is_plain: bool,
+}
+
+/// What is written in the rows.
+#[derive(Drop)]
+pub struct Texts {
+    /// None beside a stop.
+    pub labels: Vec<Option<Label>>,
+    /// What changed, in lines.
+    pub changes: Vec<Vec<String>>,
+}
+
+/// How much larger a plain picture is.
+const LARGER: f64 = 1.4;
+
+/// The lanes of a whole story as SVG.
+pub fn picture(alloc: Global, subject: PictureSubject<'_>) -> Result<String, AllocError> {
+    let whole = View {
+        extent: Extent::All,
+        is_plain: false,
     };
-    story.events.len().saturating_add(extra)
+    picture_in(alloc, subject, whole)
+}
+
+/// The lanes of a story, or of a part of it, as SVG.
+pub fn picture_in(
+    alloc: Global,
+    subject: PictureSubject<'_>,
+    view: View,
+) -> Result<String, AllocError> {
+    let PictureSubject {
+        legend,
+        story,
+        schedule,
+        end,
+        source,
+        again,
+    } = subject;
+    let View { extent, is_plain } = view;
+    lay_out(
+        alloc,
+        Scene {
+            legend,
+            story,
+            schedule,
+            end,
+            source,
+            again,
+            extent,
+            is_plain,
+        },
+    )
+}
+
+fn lay_out(alloc: Global, scene: Scene<'_>) -> Result<String, AllocError> {
+    let Scene { legend, story, .. } = scene;
+    let mut sheet = sheet_of(alloc, story, scene.extent, scene.again)?;
+    let mut labels = Vec::new(alloc);
+    for row in &sheet.rows {
+        labels.push(label_of(alloc, legend, story, *row)?)?;
+    }
+    let widths = widths(alloc, scene, &sheet)?;
+    let plan = plan_of(alloc, legend, story, &sheet.rows, &labels, widths)?;
+    let changes = changes_in_lines(alloc, scene, &sheet, plan.changes.width)?;
+    let mut heights = Vec::new(alloc);
+    for lines in &changes {
+        heights.push(height_of(lines.len()))?;
+    }
+    sheet.place(&heights);
+    let spans = spans_of(alloc, story, &sheet, legend.processes(), legend.monitors())?;
+    let texts = Texts { labels, changes };
+    draw_parts(alloc, scene, &plan, &sheet, &spans, &texts)
 }
 
 fn draw_parts(
     alloc: Global,
-    subject: PictureSubject<'_>,
+    scene: Scene<'_>,
     plan: &Plan,
+    sheet: &Sheet,
     spans: &Spans,
-    labels: &[Label],
+    texts: &Texts,
 ) -> Result<String, AllocError> {
-    let lines = subject.story.waits.len();
-    let bottom = rows_end(plan.rows) + 34.0;
-    let key = bottom + 54.0 + crate::labels::points(lines) * 20.0;
-    let mut svg = Svg::new(alloc, plan.width, key + 36.0)?;
-    let title = heading(alloc, subject.source)?;
-    draw_patterns(&mut svg, subject, title.as_str())?;
-    draw_ground(&mut svg, plan, key + 36.0)?;
-    draw_heads(alloc, &mut svg, subject, plan, title.as_str())?;
-    spans_drawn(alloc, &mut svg, subject, plan, spans)?;
-    draw_rows(alloc, &mut svg, subject, plan, spans, labels)?;
-    if let Some(row) = subject.again {
-        draw_again(&mut svg, plan, row)?;
+    let heading = heading_of(alloc, scene, plan.width)?;
+    let bottom = sheet.bottom() + 34.0;
+    let key = bottom + 54.0 + points(scene.story.waits.len()) * 20.0;
+    let signs = signs_of(scene, sheet, spans);
+    let height = key
+        + if scene.is_plain {
+            0.0
+        } else {
+            signs.height(plan.width)
+        };
+    let mut svg = new_drawing(alloc, scene, plan, &heading, height)?;
+    draw_patterns(alloc, &mut svg, scene, heading.title.as_str())?;
+    draw_ground(&mut svg, plan, sheet, heading.extra(), height)?;
+    draw_heading(&mut svg, &heading)?;
+    draw_heads(alloc, &mut svg, scene, plan, sheet)?;
+    spans_drawn(alloc, &mut svg, scene, plan, spans)?;
+    draw_rows(alloc, &mut svg, scene, plan, sheet, spans, texts)?;
+    draw_around(alloc, &mut svg, scene, plan, sheet)?;
+    draw_end(alloc, &mut svg, scene, plan, bottom)?;
+    if !scene.is_plain {
+        draw_key(&mut svg, signs, plan.width, key)?;
     }
-    draw_end(alloc, &mut svg, subject, plan, bottom)?;
-    draw_key(&mut svg, key)?;
     svg.finish()
 }
 
+// A picture with room for its heading above the heads of the columns.
+fn new_drawing(
+    alloc: Global,
+    scene: Scene<'_>,
+    plan: &Plan,
+    heading: &Heading,
+    height: f64,
+) -> Result<Svg, AllocError> {
+    let scale = if scene.is_plain { LARGER } else { 1.0 };
+    Svg::new(alloc, plan.width, heading.extra(), height, scale)
+}
+
+// What says that rows are gone again and again, or are left out.
+fn draw_around(
+    alloc: Global,
+    svg: &mut Svg,
+    scene: Scene<'_>,
+    plan: &Plan,
+    sheet: &Sheet,
+) -> Result<(), AllocError> {
+    if let Some(event) = scene.again {
+        draw_again(svg, plan, sheet, event)?;
+    }
+    draw_edges(alloc, svg, plan, sheet)
+}
+
 // How wide what changed is, and the source.
-fn widths(alloc: Global, subject: PictureSubject<'_>) -> Result<Widths, AllocError> {
+fn widths(alloc: Global, scene: Scene<'_>, sheet: &Sheet) -> Result<Widths, AllocError> {
     let mut widths = Widths {
         changes: 0.0,
         source: 0.0,
+        is_plain: scene.is_plain,
     };
-    for event in &subject.story.events {
-        let text = changes_words(alloc, subject.legend, &event.changes)?;
-        widths.changes = widths.changes.max(plain_width(text.as_str(), 10.5));
-        if let Some(line) = event.line {
-            let text = source_line(subject.source, line);
-            widths.source = widths.source.max(fixed_width(text, 10.5));
+    for row in &sheet.rows {
+        let events = row.events(scene.story);
+        let text = changes_words(alloc, scene.legend, events)?;
+        if !text.is_empty() {
+            widths.changes = widths.changes.max(plain_width(text.as_str(), 10.5) + 1.0);
         }
-    }
-    if let Some(line) = stop_words(subject.story).and_then(|stop| stop.line) {
-        let text = source_line(subject.source, line);
-        widths.source = widths.source.max(fixed_width(text, 10.5));
+        if let Some(line) = line_of(scene.story, events) {
+            let text = source_line(scene.source, line);
+            widths.source = widths.source.max(fixed_width(text, 10.5) + 1.0);
+        }
     }
     if widths.changes > 0.0 {
         widths.changes = widths.changes.max(118.0).min(260.0);
     }
-    widths.source = widths.source.min(330.0);
+    widths.source = if scene.is_plain {
+        0.0
+    } else {
+        widths.source.min(330.0)
+    };
     Ok(widths)
+}
+
+// The line of the first of a row's events, or of the stop where there is none.
+fn line_of(story: &Story, events: &[Event]) -> Option<u32> {
+    match (events.first(), &story.stop) {
+        (Some(event), _) => event.line,
+        (None, Some(stop)) => stop.line,
+        (None, None) => None,
+    }
 }
 
 /// The text of a line of the source, without the spaces around it.
@@ -109,26 +227,71 @@ pub fn source_line(source: &[String], line: u32) -> &str {
     }
 }
 
-/// What changed in one event: `count := 1`, with the monitor before it where there is more than one.
+// What changed in each row, in lines that are as wide as their column.
+fn changes_in_lines(
+    alloc: Global,
+    scene: Scene<'_>,
+    sheet: &Sheet,
+    width: f64,
+) -> Result<Vec<Vec<String>>, AllocError> {
+    let mut all = Vec::new(alloc);
+    for row in &sheet.rows {
+        let words = changes_words(alloc, scene.legend, row.events(scene.story))?;
+        all.push(if words.is_empty() {
+            Vec::new(alloc)
+        } else {
+            wrap(alloc, words.as_str(), width, 10.5 * WIDTH)?
+        })?;
+    }
+    Ok(all)
+}
+
+/// What changed in some events: `count := 1`, with the monitor before it where there is more than one.
 pub fn changes_words(
     alloc: Global,
     legend: &Legend,
-    changes: &[Change],
+    events: &[Event],
 ) -> Result<String, AllocError> {
     let mut text = String::new(alloc);
     let mut named = None;
-    for change in changes {
-        if !text.is_empty() {
-            text.push_str(", ")?;
+    for (place, event) in events.iter().enumerate() {
+        let later = events.get(place.saturating_add(1)..).unwrap_or(&[]);
+        for change in &event.changes {
+            if !is_changed(later, change) {
+                push_change(legend, &mut text, change, named)?;
+                named = Some(change.monitor);
+            }
         }
-        if legend.monitors() > 1 && named != Some(change.monitor) {
-            text.push_str(legend.monitor_name(change.monitor))?;
-            text.push_str(": ")?;
-        }
-        named = Some(change.monitor);
-        text.push_str(change.name.as_str())?;
-        text.push_str(" := ")?;
-        change.value.push_to(&mut text)?;
     }
     Ok(text)
+}
+
+// Whether the same variable is changed in one of these events.
+fn is_changed(events: &[Event], change: &Change) -> bool {
+    for event in events {
+        for other in &event.changes {
+            if other.monitor == change.monitor && other.name.as_str() == change.name.as_str() {
+                return true;
+            }
+        }
+    }
+    false
+}
+
+fn push_change(
+    legend: &Legend,
+    text: &mut String,
+    change: &Change,
+    named: Option<u8>,
+) -> Result<(), AllocError> {
+    if !text.is_empty() {
+        text.push_str(", ")?;
+    }
+    if legend.monitors() > 1 && named != Some(change.monitor) {
+        text.push_str(legend.monitor_name(change.monitor))?;
+        text.push_str(": ")?;
+    }
+    text.push_str(change.name.as_str())?;
+    text.push_str(" := ")?;
+    change.value.push_to(text)
 }

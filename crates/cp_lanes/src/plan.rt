@@ -1,9 +1,9 @@
 //! Where everything stands in the picture.
 
 use crate::labels::{Label, bold_width, plain_width, points};
-use crate::spans::Spans;
+use crate::sheet::Row;
 use cp_legend::Legend;
-use cp_story::{Story, stop_words};
+use cp_story::{Happening, Story};
 use std::alloc::{AllocError, Global};
 
 /// How wide a picture is at most, where its lanes can be made narrow enough.
@@ -32,12 +32,13 @@ pub struct Widths {
     pub changes: f64,
     /// The text of the lines of the source.
     pub source: f64,
+    /// Whether there is no source, not even the numbers of its lines.
+    pub is_plain: bool,
 }
 
 /// The columns of a picture.
 #[derive(Drop)]
 pub struct Plan {
-    pub rows: usize,
     pub lanes: Vec<Column>,
     pub bars: Vec<Column>,
     pub changes: Column,
@@ -46,16 +47,6 @@ pub struct Plan {
     /// The text of the source; its width is 0 where there is no room for it.
     pub source: Column,
     pub width: f64,
-}
-
-/// The middle of a row.
-pub fn row_middle(row: usize) -> f64 {
-    TOP + points(row) * ROW + ROW / 2.0
-}
-
-/// The end of the last of this many rows.
-pub fn rows_end(rows: usize) -> f64 {
-    TOP + points(rows) * ROW
 }
 
 impl Plan {
@@ -88,16 +79,15 @@ pub fn plan_of(
     alloc: Global,
     legend: &Legend,
     story: &Story,
-    labels: &[Label],
-    spans: &Spans,
+    rows: &[Row],
+    labels: &[Option<Label>],
     widths: Widths,
-    rows: usize,
 ) -> Result<Plan, AllocError> {
     let left = left_edge(story);
-    let natural = lane_widths(alloc, legend, story, labels, spans)?;
+    let natural = lane_widths(alloc, legend, story, rows, labels)?;
     let bars = bar_widths(alloc, legend)?;
     let mut widths = widths;
-    let fixed = left + sum(&bars) + 110.0;
+    let fixed = left + sum(&bars) + if widths.is_plain { 56.0 } else { 110.0 };
     if fixed + sum(&natural) + widths.changes + widths.source > SCREEN {
         widths.source = (SCREEN - fixed - sum(&natural) - widths.changes).max(0.0);
         if widths.source < 150.0 {
@@ -109,7 +99,7 @@ pub fn plan_of(
     }
     let room = SCREEN - fixed - widths.changes - widths.source;
     let most = fair_share(&natural, room);
-    place_columns(alloc, left, &natural, &bars, widths, most, rows)
+    place_columns(alloc, left, &natural, &bars, widths, most)
 }
 
 fn place_columns(
@@ -119,7 +109,6 @@ fn place_columns(
     bars: &[f64],
     widths: Widths,
     most: f64,
-    rows: usize,
 ) -> Result<Plan, AllocError> {
     let mut at = left;
     let mut lanes = Vec::new(alloc);
@@ -145,19 +134,19 @@ fn place_columns(
         left: at,
         width: widths.changes,
     };
-    let numbers = at + widths.changes + 44.0;
+    let numbers = at + widths.changes + if widths.is_plain { 0.0 } else { 44.0 };
     let source = Column {
         left: numbers + 10.0,
         width: widths.source,
     };
+    let narrowest = if widths.is_plain { 420.0 } else { NARROWEST };
     Ok(Plan {
-        rows,
         lanes,
         bars: columns,
         changes,
         numbers,
         source,
-        width: (source.left + source.width + 16.0).max(NARROWEST),
+        width: (source.left + source.width + 16.0).max(narrowest),
     })
 }
 
@@ -175,8 +164,8 @@ fn fair_share(widths: &[f64], room: f64) -> f64 {
         return room.max(0.0) + 10000.0;
     }
     let mut share = 100.0;
-    for _ in 0..64u8 {
-        let wider = share + 12.0;
+    for _ in 0..192u8 {
+        let wider = share + 4.0;
         let mut total = 0.0;
         for width in widths {
             total += width.min(wider);
@@ -208,34 +197,67 @@ fn lane_widths(
     alloc: Global,
     legend: &Legend,
     story: &Story,
-    labels: &[Label],
-    spans: &Spans,
+    rows: &[Row],
+    labels: &[Option<Label>],
 ) -> Result<Vec<f64>, AllocError> {
     let mut widths = Vec::new(alloc);
     for process in 0..legend.processes() {
         let head = 44.0
             + bold_width(legend.process_name(process), 12.0)
             + plain_width(legend.process_type(process), 12.0);
-        let mut most = head.max(100.0);
-        for (event, label) in story.events.iter().zip(labels) {
-            if event.plain.process == process {
-                most = most.max(31.0 + label.width() + 12.0);
+        let mut most = if takes_part(story, process) {
+            head.max(100.0)
+        } else {
+            50.0
+        };
+        for (row, label) in rows.iter().zip(labels) {
+            if let (Some(event), Some(label)) = (story.events.get(row.first), label) {
+                if event.plain.process == process {
+                    most = most.max(31.0 + label.width() + 12.0);
+                }
             }
         }
-        if let Some(stop) = stop_words(story) {
-            if stop.process == Some(process) {
-                most = most.max(31.0 + bold_width(stop.words, 11.5) + 12.0);
+        if let Some(stop) = &story.stop {
+            if stop.process == process {
+                most = most.max(31.0 + bold_width(stop.words.as_str(), 11.5) + 12.0);
             }
         }
-        for stay in &spans.stays {
-            if stay.process == process && stay.depth > 0 {
-                most += 8.0;
-                break;
-            }
+        if is_nested(story, process) {
+            most += 8.0;
         }
         widths.push(most.min(330.0) + 16.0)?;
     }
     Ok(widths)
+}
+
+// Whether a process is the program, or is started.
+fn takes_part(story: &Story, process: u8) -> bool {
+    for event in &story.events {
+        if let Happening::Start(started) = event.happening {
+            if started == process {
+                return true;
+            }
+        }
+    }
+    process == 0
+}
+
+// Whether a process calls a monitor from inside of another one.
+fn is_nested(story: &Story, process: u8) -> bool {
+    let mut depth = 0usize;
+    for event in &story.events {
+        if event.plain.process == process {
+            match event.happening {
+                Happening::Enter { .. } => depth = depth.saturating_add(1),
+                Happening::Leave(_) | Happening::Continue(..) => depth = depth.saturating_sub(1),
+                _ => {}
+            }
+        }
+        if depth > 1 {
+            return true;
+        }
+    }
+    false
 }
 
 fn bar_widths(alloc: Global, legend: &Legend) -> Result<Vec<f64>, AllocError> {

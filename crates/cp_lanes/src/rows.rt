@@ -1,87 +1,212 @@
 //! Rows: what happened, who could be chosen, what changed, and where it stands in the source.
 
 use crate::draw::draw_resumed;
-use crate::labels::{Face, Label, cut_bold, cut_fixed, cut_plain, pill_width, points};
+use crate::key::draw_lost;
+use crate::labels::{Face, Label, cut_fixed, pill_width, points};
 use crate::palette::{GREY, INK, PALE, RED, hue_of};
-use crate::pictures::{PictureSubject, changes_words, source_line};
-use crate::plan::{Plan, row_middle};
+use crate::pictures::{Scene, Texts, changes_words, source_line};
+use crate::plan::{Plan, ROW};
+use crate::sheet::{Fold, LINE, Row, Sheet};
 use crate::spans::Spans;
 use crate::svg::{Block, Style, Svg};
-use cp_story::{Choice, Event, Happening, Stop, happening_words, stop_words};
+use crate::wrapping::label_lines;
+use cp_story::{AbruptEnd, Choice, Event, Happening, happening_words};
 use std::alloc::{AllocError, Global};
 
-/// Draws a row for each event, and one for a stop between two.
+/// The free space between two lanes, into which a label may reach.
+const GAP: f64 = 12.0;
+
+/// Draws the rows.
 pub fn draw_rows(
     alloc: Global,
     svg: &mut Svg,
-    subject: PictureSubject<'_>,
+    scene: Scene<'_>,
     plan: &Plan,
+    sheet: &Sheet,
     spans: &Spans,
-    labels: &[Label],
+    texts: &Texts,
 ) -> Result<(), AllocError> {
     for stay in &spans.stays {
-        draw_resumed(alloc, svg, subject, plan, stay)?;
+        draw_resumed(alloc, svg, scene, plan, sheet, stay)?;
     }
-    for (row, (event, label)) in subject.story.events.iter().zip(labels).enumerate() {
-        draw_row(alloc, svg, subject, plan, row, event, label)?;
+    let beside = texts.labels.iter().zip(&texts.changes);
+    for (row, (label, changes)) in sheet.rows.iter().zip(beside) {
+        draw_row(alloc, svg, scene, plan, spans, *row, label, changes)?;
     }
-    match stop_words(subject.story) {
-        Some(stop) => draw_stop(alloc, svg, subject, plan, stop),
-        None => Ok(()),
-    }
+    Ok(())
 }
 
 fn draw_row(
     alloc: Global,
     svg: &mut Svg,
-    subject: PictureSubject<'_>,
+    scene: Scene<'_>,
     plan: &Plan,
-    row: usize,
+    spans: &Spans,
+    row: Row,
+    label: &Option<Label>,
+    changes: &[String],
+) -> Result<(), AllocError> {
+    if let (Some(first), Some(label)) = (row.events(scene.story).first(), label) {
+        svg.open(row_title(alloc, scene, row)?.as_str())?;
+        draw_number(alloc, svg, row)?;
+        draw_event(alloc, svg, scene, plan, spans, row, first, label)?;
+        draw_changes(svg, plan, first, changes, row.middle())?;
+        draw_source(alloc, svg, scene, plan, first.line, row.middle())?;
+        return svg.close();
+    }
+    match &scene.story.stop {
+        Some(stop) => draw_stop(alloc, svg, scene, plan, spans, row, stop),
+        None => Ok(()),
+    }
+}
+
+// What happened in a row, of which this is the first event.
+fn draw_event(
+    alloc: Global,
+    svg: &mut Svg,
+    scene: Scene<'_>,
+    plan: &Plan,
+    spans: &Spans,
+    row: Row,
     event: &Event,
     label: &Label,
 ) -> Result<(), AllocError> {
-    let y = row_middle(row);
-    svg.open(row_title(alloc, subject, event)?.as_str())?;
-    draw_number(svg, row, y)?;
-    if let Some(choice) = &event.choice {
-        draw_choice(svg, choice, y)?;
+    let y = row.middle();
+    match row.fold {
+        Fold::None => {
+            if let Some(choice) = &event.choice {
+                draw_choice(svg, choice, y)?;
+            }
+            draw_dot(svg, plan, event, y)?;
+        }
+        Fold::Starts | Fold::Rounds(_) => draw_folded(svg, scene, plan, row, event, y)?,
     }
-    draw_arrows(svg, plan, event, label, y)?;
-    draw_dot(svg, plan, event, y)?;
-    draw_label(alloc, svg, plan, event.plain.process, label, y)?;
-    draw_changes(alloc, svg, subject, plan, event, y)?;
-    draw_source(alloc, svg, subject, plan, event.line, y)?;
-    svg.close()
+    for event in row.events(scene.story) {
+        draw_arrows(svg, plan, event, label, y)?;
+    }
+    let room = room_of_label(plan, spans, event, row.fold, y);
+    draw_label(alloc, svg, plan, event.plain.process, label, room, y)
 }
 
-fn row_title(
-    alloc: Global,
-    subject: PictureSubject<'_>,
+// How often a process was chosen whose events are folded, and a dot that stands for several.
+fn draw_folded(
+    svg: &mut Svg,
+    scene: Scene<'_>,
+    plan: &Plan,
+    row: Row,
     event: &Event,
-) -> Result<String, AllocError> {
+    y: f64,
+) -> Result<(), AllocError> {
     let process = event.plain.process;
-    let mut title = format!(in alloc; "{process} ")?;
-    title.push_str(subject.legend.process_name(process))?;
-    if let Some(line) = event.line {
-        write!(title, ", line {line}")?;
+    let mut count = 0u32;
+    for event in row.events(scene.story) {
+        if event.choice.is_some() {
+            count = count.saturating_add(1);
+        }
     }
-    title.push_str(": ")?;
-    title.push_str(happening_words(alloc, subject.legend, event)?.as_str())?;
-    if !event.changes.is_empty() {
+    if count > 0 {
+        draw_option(svg, 54.0, y, process, true, false)?;
+        let style = Style {
+            size: 10.5,
+            fill: GREY,
+            more: "",
+        };
+        svg.words(68.0, y + 3.8, style, "×")?;
+        svg.number(77.0, y + 3.8, style, count)?;
+    }
+    let x = plan.dot(process);
+    svg.circle(x, y - 5.0, 2.2, INK, "")?;
+    svg.circle(x, y, 2.2, INK, "")?;
+    svg.circle(x, y + 5.0, 2.2, INK, "")
+}
+
+// How much room a label has, with that of the lanes beside it in which there is nothing but the line of a life.
+fn room_of_label(plan: &Plan, spans: &Spans, event: &Event, fold: Fold, y: f64) -> f64 {
+    let process = event.plain.process;
+    let moves = matches!(event.happening, Happening::Start(_));
+    if moves || fold != Fold::None || !event.woken.is_empty() || !event.let_in.is_empty() {
+        return plan.lane(process).width - 36.0;
+    }
+    room_beside(plan, spans, process, y)
+}
+
+// The room in the lane of a process and in the free ones beside it.
+fn room_beside(plan: &Plan, spans: &Spans, process: u8, y: f64) -> f64 {
+    let mut room = plan.lane(process).width - 36.0 + GAP;
+    for number in usize::from(process).saturating_add(1)..plan.lanes.len() {
+        let other = u8::try_from(number).unwrap_or(0);
+        if is_busy(spans, other, y) {
+            return room;
+        }
+        room += plan.lane(other).width + 16.0;
+    }
+    room
+}
+
+// Whether a process is inside of a monitor there, or waits.
+fn is_busy(spans: &Spans, process: u8, y: f64) -> bool {
+    for stay in &spans.stays {
+        if stay.process == process && stay.top - ROW / 2.0 <= y && y <= stay.bottom + ROW / 2.0 {
+            return true;
+        }
+    }
+    for pause in &spans.pauses {
+        if pause.process == process && pause.top - ROW / 2.0 <= y && y <= pause.bottom + ROW / 2.0 {
+            return true;
+        }
+    }
+    false
+}
+
+fn row_title(alloc: Global, scene: Scene<'_>, row: Row) -> Result<String, AllocError> {
+    let events = row.events(scene.story);
+    let mut title = String::new(alloc);
+    for event in events {
+        if !title.is_empty() {
+            title.push_str("; ")?;
+        }
+        let process = event.plain.process;
+        write!(title, "{process} ")?;
+        title.push_str(scene.legend.process_name(process))?;
+        if let Some(line) = event.line {
+            write!(title, ", line {line}")?;
+        }
+        title.push_str(": ")?;
+        title.push_str(happening_words(alloc, scene.legend, event)?.as_str())?;
+    }
+    let changes = changes_words(alloc, scene.legend, events)?;
+    if !changes.is_empty() {
         title.push_str("; ")?;
-        title.push_str(changes_words(alloc, subject.legend, &event.changes)?.as_str())?;
+        title.push_str(changes.as_str())?;
     }
     Ok(title)
 }
 
-fn draw_number(svg: &mut Svg, row: usize, y: f64) -> Result<(), AllocError> {
+// The number of a row, or the first and the last of those that are folded.
+fn draw_number(alloc: Global, svg: &mut Svg, row: Row) -> Result<(), AllocError> {
     let style = Style {
         size: 9.5,
         fill: PALE,
         more: "text-anchor=\"end\"",
     };
-    let number = u32::try_from(row).unwrap_or(0).saturating_add(1);
-    svg.number(36.0, y + 3.5, style, number)
+    let y = row.middle() + 3.5;
+    let first = row.first.saturating_add(1);
+    let last = row.first.saturating_add(row.count);
+    if last < 100 {
+        let text = if first < last {
+            format!(in alloc; "{first}–{last}")?
+        } else {
+            format!(in alloc; "{first}")?
+        };
+        return svg.words(36.0, y, style, text.as_str());
+    }
+    if first < last {
+        let text = format!(in alloc; "{first}–")?;
+        svg.words(36.0, y - 5.0, style, text.as_str())?;
+    }
+    let text = format!(in alloc; "{last}")?;
+    let below = if first < last { 5.0 } else { 0.0 };
+    svg.words(36.0, y + below, style, text.as_str())
 }
 
 // Circles for those who could go on, squares for those who could be let in; the chosen one is filled.
@@ -89,36 +214,45 @@ fn draw_choice(svg: &mut Svg, choice: &Choice, y: f64) -> Result<(), AllocError>
     for (place, option) in choice.options.as_slice().iter().enumerate() {
         let x = 54.0 + points(place) * 22.0;
         let is_chosen = *option == choice.number;
-        let fill = if is_chosen { INK } else { "#fff" };
-        let edge = if is_chosen { INK } else { "#aab4be" };
-        if choice.at_gate {
-            svg.block(Block {
-                left: x - 9.0,
-                top: y - 9.0,
-                width: 18.0,
-                height: 18.0,
-                radius: 2.5,
-                fill,
-                stroke: edge,
-                stroke_width: 1.0,
-            })?;
-        } else if is_chosen {
-            svg.circle(x, y, 9.0, INK, "")?;
-        } else {
-            svg.circle(x, y, 8.5, "#fff", "stroke=\"#aab4be\"")?;
-        }
-        let style = Style {
-            size: 10.5,
-            fill: if is_chosen { "#fff" } else { "#7b8794" },
-            more: if is_chosen {
-                "text-anchor=\"middle\" font-weight=\"bold\""
-            } else {
-                "text-anchor=\"middle\""
-            },
-        };
-        svg.number(x, y + 3.8, style, u32::from(*option))?;
+        draw_option(svg, x, y, *option, is_chosen, choice.at_gate)?;
     }
     Ok(())
+}
+
+fn draw_option(
+    svg: &mut Svg,
+    x: f64,
+    y: f64,
+    option: u8,
+    is_chosen: bool,
+    at_gate: bool,
+) -> Result<(), AllocError> {
+    if at_gate {
+        svg.block(Block {
+            left: x - 9.0,
+            top: y - 9.0,
+            width: 18.0,
+            height: 18.0,
+            radius: 2.5,
+            fill: if is_chosen { INK } else { "#fff" },
+            stroke: if is_chosen { INK } else { "#aab4be" },
+            stroke_width: 1.0,
+        })?;
+    } else if is_chosen {
+        svg.circle(x, y, 9.0, INK, "")?;
+    } else {
+        svg.circle(x, y, 8.5, "#fff", "stroke=\"#aab4be\"")?;
+    }
+    let style = Style {
+        size: 10.5,
+        fill: if is_chosen { "#fff" } else { "#7b8794" },
+        more: if is_chosen {
+            "text-anchor=\"middle\" font-weight=\"bold\""
+        } else {
+            "text-anchor=\"middle\""
+        },
+    };
+    svg.number(x, y + 3.8, style, u32::from(option))
 }
 
 fn draw_dot(svg: &mut Svg, plan: &Plan, event: &Event, y: f64) -> Result<(), AllocError> {
@@ -134,16 +268,19 @@ fn draw_dot(svg: &mut Svg, plan: &Plan, event: &Event, y: f64) -> Result<(), All
             stroke: "",
             stroke_width: 0.0,
         }),
+        _ if event.wakes_nobody() => draw_lost(svg, x, y),
         _ => svg.circle(x, y, 4.6, INK, ""),
     }
 }
 
+// A label in one line, or in two; what has no room in two is cut at a word.
 fn draw_label(
     alloc: Global,
     svg: &mut Svg,
     plan: &Plan,
     process: u8,
     label: &Label,
+    beside: f64,
     y: f64,
 ) -> Result<(), AllocError> {
     let lane = plan.lane(process);
@@ -153,36 +290,52 @@ fn draw_label(
         None => 0.0,
     };
     let room = (lane.width - 36.0 - pill_room).max(20.0);
-    let (words, style) = match label.face {
-        Face::Bold => (
-            cut_bold(alloc, label.words.as_str(), room, 11.5)?,
-            Style {
-                size: 11.5,
-                fill: INK,
-                more: "font-weight=\"bold\"",
-            },
-        ),
-        Face::Plain => (
-            cut_plain(alloc, label.words.as_str(), room, 11.5)?,
-            Style {
-                size: 11.5,
-                fill: INK,
-                more: "",
-            },
-        ),
-        Face::Faint => (
-            cut_plain(alloc, label.words.as_str(), room, 11.5)?,
-            Style {
-                size: 11.5,
-                fill: GREY,
-                more: "",
-            },
-        ),
-    };
-    svg.words(x, y + 4.0, style, words.as_str())?;
+    let style = style_of(label.face);
+    if label.words_width() <= room {
+        svg.words(x, y + 4.0, style, label.words.as_str())?;
+    } else if label.pill.is_none() {
+        let small = Style {
+            size: 10.5,
+            more: halo_of(label.face),
+            ..style
+        };
+        let lines = label_lines(alloc, label, room, (beside - pill_room).max(room))?;
+        let mut at = if lines.len() > 1 { y - 2.0 } else { y + 4.0 };
+        for line in &lines {
+            svg.words(x, at, small, line.as_str())?;
+            at += 12.0;
+        }
+    }
     match &label.pill {
-        Some(pill) => draw_pill(svg, x + label.words_width() + 10.0, y, pill.as_str()),
+        Some(pill) if label.words_width() > room => draw_pill(svg, x, y, pill.as_str()),
+        Some(pill) => draw_pill(
+            svg,
+            x + label.words_width().min(room) + 10.0,
+            y,
+            pill.as_str(),
+        ),
         None => Ok(()),
+    }
+}
+
+fn style_of(face: Face) -> Style<'static> {
+    Style {
+        size: 11.5,
+        fill: if face == Face::Faint { GREY } else { INK },
+        more: if face == Face::Bold {
+            "font-weight=\"bold\""
+        } else {
+            ""
+        },
+    }
+}
+
+// A label that goes beyond its lane has white edges, which hide the lines behind it.
+fn halo_of(face: Face) -> &'static str {
+    if face == Face::Bold {
+        "font-weight=\"bold\" stroke=\"#fff\" stroke-width=\"3\" stroke-opacity=\".7\" paint-order=\"stroke\""
+    } else {
+        "stroke=\"#fff\" stroke-width=\"3\" stroke-opacity=\".7\" paint-order=\"stroke\""
     }
 }
 
@@ -253,30 +406,33 @@ fn draw_arrow(
 }
 
 fn draw_changes(
-    alloc: Global,
     svg: &mut Svg,
-    subject: PictureSubject<'_>,
     plan: &Plan,
     event: &Event,
+    lines: &[String],
     y: f64,
 ) -> Result<(), AllocError> {
-    let Some(first) = event.changes.first() else {
-        return Ok(());
+    let monitor = match event.changes.first() {
+        Some(change) => change.monitor,
+        None => 0,
     };
-    let words = changes_words(alloc, subject.legend, &event.changes)?;
-    let words = cut_plain(alloc, words.as_str(), plan.changes.width, 10.5)?;
     let style = Style {
         size: 10.5,
-        fill: hue_of(first.monitor).strong,
+        fill: hue_of(monitor).strong,
         more: "",
     };
-    svg.words(plan.changes.left, y + 4.0, style, words.as_str())
+    let mut at = y + 4.0 - points(lines.len().saturating_sub(1)) * LINE / 2.0;
+    for line in lines {
+        svg.words(plan.changes.left, at, style, line.as_str())?;
+        at += LINE;
+    }
+    Ok(())
 }
 
 fn draw_source(
     alloc: Global,
     svg: &mut Svg,
-    subject: PictureSubject<'_>,
+    scene: Scene<'_>,
     plan: &Plan,
     line: Option<u32>,
     y: f64,
@@ -284,6 +440,9 @@ fn draw_source(
     let Some(line) = line else {
         return Ok(());
     };
+    if scene.is_plain {
+        return Ok(());
+    }
     let number = Style {
         size: 10.5,
         fill: GREY,
@@ -293,7 +452,7 @@ fn draw_source(
     if plan.source.width <= 0.0 {
         return Ok(());
     }
-    let text = source_line(subject.source, line);
+    let text = source_line(scene.source, line);
     let text = cut_fixed(alloc, text, plan.source.width, 10.5)?;
     let style = Style {
         size: 10.5,
@@ -307,31 +466,41 @@ fn draw_source(
 fn draw_stop(
     alloc: Global,
     svg: &mut Svg,
-    subject: PictureSubject<'_>,
+    scene: Scene<'_>,
     plan: &Plan,
-    stop: Stop,
+    spans: &Spans,
+    row: Row,
+    stop: &AbruptEnd,
 ) -> Result<(), AllocError> {
-    let row = subject.story.events.len();
-    let y = row_middle(row);
-    svg.open(stop.words)?;
-    draw_number(svg, row, y)?;
-    if let Some(choice) = &subject.story.last_choice {
+    let y = row.middle();
+    svg.open(stop.words.as_str())?;
+    draw_number(alloc, svg, row)?;
+    if let Some(choice) = &scene.story.last_choice {
         draw_choice(svg, choice, y)?;
     }
-    if let Some(process) = stop.process {
-        let x = plan.dot(process);
-        let red = "stroke-width=\"3\"";
-        svg.line((x - 5.0, y - 5.0), (x + 5.0, y + 5.0), RED, red)?;
-        svg.line((x - 5.0, y + 5.0), (x + 5.0, y - 5.0), RED, red)?;
-        let lane = plan.lane(process);
-        let words = cut_bold(alloc, stop.words, lane.width - 36.0, 11.5)?;
-        let style = Style {
-            size: 11.5,
-            fill: RED,
-            more: "font-weight=\"bold\"",
-        };
-        svg.words(lane.left + 31.0, y + 4.0, style, words.as_str())?;
+    let x = plan.dot(stop.process);
+    let red = "stroke-width=\"3\"";
+    svg.line((x - 5.0, y - 5.0), (x + 5.0, y + 5.0), RED, red)?;
+    svg.line((x - 5.0, y + 5.0), (x + 5.0, y - 5.0), RED, red)?;
+    let label = Label {
+        words: stop.words.clone()?,
+        face: Face::Bold,
+        pill: None,
+    };
+    let lane = plan.lane(stop.process);
+    let room = lane.width - 36.0;
+    let style = Style {
+        size: 10.5,
+        fill: RED,
+        more: "font-weight=\"bold\"",
+    };
+    let beside = room_beside(plan, spans, stop.process, y);
+    let lines = label_lines(alloc, &label, room, beside)?;
+    let mut at = if lines.len() > 1 { y - 2.0 } else { y + 4.0 };
+    for line in &lines {
+        svg.words(lane.left + 31.0, at, style, line.as_str())?;
+        at += 12.0;
     }
-    draw_source(alloc, svg, subject, plan, stop.line, y)?;
+    draw_source(alloc, svg, scene, plan, stop.line, y)?;
     svg.close()
 }

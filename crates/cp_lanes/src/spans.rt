@@ -1,6 +1,7 @@
 //! What lasts longer than an event: stays in monitors, waits, and who holds what.
 
-use crate::plan::{row_middle, rows_end};
+use crate::plan::TOP;
+use crate::sheet::Sheet;
 use cp_story::{Event, Happening, OpenCall, Story};
 use std::alloc::{AllocError, Global};
 
@@ -13,7 +14,7 @@ pub struct Stay {
     pub bottom: f64,
     /// How many monitors it is inside of besides.
     pub depth: usize,
-    /// The row of the event that let it go on, where that is another one's.
+    /// The event that let it go on, where that is another one's.
     pub resumed: Option<usize>,
 }
 
@@ -78,20 +79,89 @@ const NO_CALL: OpenCall = OpenCall {
     line: 0,
 };
 
-/// The spans of a story with this many processes and monitors.
+/// The spans of a story with this many processes and monitors, as far as its rows are drawn.
 pub fn spans_of(
     alloc: Global,
     story: &Story,
+    sheet: &Sheet,
     processes: u8,
     monitors: u8,
-    rows: usize,
 ) -> Result<Spans, AllocError> {
     let mut builder = SpanBuilder::new(alloc, processes, monitors)?;
     for (row, event) in story.events.iter().enumerate() {
-        builder.event(row, event)?;
-        builder.hold(row, event)?;
+        let y = sheet.middle(row);
+        builder.event(row, event, y)?;
+        builder.hold(event, y)?;
     }
-    builder.finish(rows_end(rows) + 22.0)
+    let spans = builder.finish(sheet.end + if sheet.after > 0 { 200.0 } else { 22.0 })?;
+    clip(alloc, spans, sheet)
+}
+
+// What of the spans is seen: nothing where rows are left out, and once what is folded.
+fn clip(alloc: Global, spans: Spans, sheet: &Sheet) -> Result<Spans, AllocError> {
+    let low = if sheet.before > 0 { TOP + 10.0 } else { 0.0 };
+    let high = sheet.end + if sheet.after > 0 { 14.0 } else { 22.0 };
+    let mut seen = Spans {
+        stays: Vec::new(alloc),
+        pauses: Vec::new(alloc),
+        holds: Vec::new(alloc),
+        lives: Vec::new(alloc),
+    };
+    for mut stay in spans.stays {
+        stay.top = stay.top.max(low);
+        stay.bottom = stay.bottom.min(high);
+        if stay.top + 8.0 < stay.bottom && !is_covered(&seen.stays, &stay) {
+            seen.stays.push(stay)?;
+        }
+    }
+    for mut pause in spans.pauses {
+        pause.top = pause.top.max(low);
+        pause.bottom = pause.bottom.min(high);
+        if pause.top < pause.bottom {
+            seen.pauses.push(pause)?;
+        }
+    }
+    for mut hold in spans.holds {
+        hold.top = hold.top.max(low);
+        hold.bottom = hold.bottom.min(high);
+        if hold.top + 8.0 < hold.bottom && !is_held(&seen.holds, &hold) {
+            seen.holds.push(hold)?;
+        }
+    }
+    for mut life in spans.lives {
+        life.top = life.top.max(low);
+        life.bottom = life.bottom.min(high);
+        if life.top < life.bottom {
+            seen.lives.push(life)?;
+        }
+    }
+    Ok(seen)
+}
+
+// Whether a stay is drawn where the last one is.
+fn is_covered(stays: &[Stay], other: &Stay) -> bool {
+    match stays.last() {
+        Some(stay) => {
+            stay.process == other.process
+                && stay.call.monitor == other.call.monitor
+                && stay.top <= other.top
+                && other.bottom <= stay.bottom
+        }
+        None => false,
+    }
+}
+
+// Whether a hold is drawn where the last one is.
+fn is_held(holds: &[Hold], other: &Hold) -> bool {
+    match holds.last() {
+        Some(hold) => {
+            hold.monitor == other.monitor
+                && hold.process == other.process
+                && hold.top <= other.top
+                && other.bottom <= hold.bottom
+        }
+        None => false,
+    }
 }
 
 impl SpanBuilder {
@@ -121,9 +191,8 @@ impl SpanBuilder {
         })
     }
 
-    fn event(&mut self, row: usize, event: &Event) -> Result<(), AllocError> {
+    fn event(&mut self, row: usize, event: &Event, y: f64) -> Result<(), AllocError> {
         let process = event.plain.process;
-        let y = row_middle(row);
         match &event.happening {
             Happening::Enter { call, waits, .. } => {
                 if *waits {
@@ -229,8 +298,7 @@ impl SpanBuilder {
     }
 
     // The holders after an event.
-    fn hold(&mut self, row: usize, event: &Event) -> Result<(), AllocError> {
-        let y = row_middle(row);
+    fn hold(&mut self, event: &Event, y: f64) -> Result<(), AllocError> {
         for (monitor, holder) in event.plain.holders.as_slice().iter().enumerate() {
             if let Some(held) = self.holders.get_mut(monitor) {
                 let before = match held {

@@ -47,12 +47,21 @@ fn push_escaped_char(text: &mut String, character: char) -> Result<(), AllocErro
 }
 
 impl Svg {
-    /// Begins a picture of a size.
-    pub fn new(alloc: Global, width: f64, height: f64) -> Result<Svg, AllocError> {
+    /// Begins a picture of a width and a height, with some more above it, this much larger.
+    pub fn new(
+        alloc: Global,
+        width: f64,
+        above: f64,
+        height: f64,
+        scale: f64,
+    ) -> Result<Svg, AllocError> {
         let mut text = String::new(alloc);
+        let whole = height + above;
+        let top = 0.0 - above;
+        let (wide, high) = (width * scale, whole * scale);
         text.push_str("<svg xmlns=\"http://www.w3.org/2000/svg\" version=\"1.1\"")?;
-        write!(text, " width=\"{width:.0}\" height=\"{height:.0}\"")?;
-        write!(text, " viewBox=\"0 0 {width:.0} {height:.0}\"")?;
+        write!(text, " width=\"{wide:.0}\" height=\"{high:.0}\"")?;
+        write!(text, " viewBox=\"0 {top:.0} {width:.0} {whole:.0}\"")?;
         text.push_str(" font-family=\"DejaVu Sans, Helvetica, Arial, sans-serif\"")?;
         text.push_str(" font-size=\"12\" fill=\"#1f2933\">\n")?;
         Ok(Svg { text })
@@ -147,6 +156,21 @@ impl Svg {
             "<line x1=\"{x1:.1}\" y1=\"{y1:.1}\" x2=\"{x2:.1}\" y2=\"{y2:.1}\""
         )?;
         write!(self.text, " stroke=\"{stroke}\" {more}/>\n")
+    }
+
+    /// A line that goes up and down from a point to the right.
+    pub fn zigzag(&mut self, from: (f64, f64), right: f64, stroke: &str) -> Result<(), AllocError> {
+        let (left, y) = from;
+        let mut x = left;
+        write!(self.text, "<path d=\"M{x:.1},{y:.1}")?;
+        for step in 0..1000u32 {
+            if x < right {
+                x += 8.0;
+                let height = if step % 2 == 0 { y - 5.0 } else { y + 5.0 };
+                write!(self.text, " L{x:.1},{height:.1}")?;
+            }
+        }
+        write!(self.text, "\" fill=\"none\" stroke=\"{stroke}\"/>\n")
     }
 
     pub fn circle(

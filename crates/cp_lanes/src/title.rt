@@ -3,10 +3,10 @@
 use std::alloc::{AllocError, Global};
 
 /// The most characters of a heading.
-const MOST_CHARACTERS: usize = 76;
+const MOST_CHARACTERS: usize = 300;
 
 /// The first sentence of the comment with which a source begins, as the heading of its picture; empty where there is none.
-pub fn heading(alloc: Global, source: &[String]) -> Result<String, AllocError> {
+pub fn sentence(alloc: Global, source: &[String]) -> Result<String, AllocError> {
     let mut text = String::new(alloc);
     let Some(first) = source.first() else {
         return Ok(text);

@@ -37,6 +37,8 @@ pub struct Routine {
     pub parameters: Vec<Parameter>,
     /// The parameters with values, the result and the local variables, by their cells of the frame.
     pub variables: Vec<Variable>,
+    /// The place of a function's result among these.
+    pub result: Option<usize>,
 }
 
 /// A system type, or the program, which has no kind and no name.

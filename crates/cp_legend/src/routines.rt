@@ -25,6 +25,7 @@ impl Draft {
                 name,
                 parameters: Vec::new(alloc),
                 variables: Vec::new(alloc),
+                result: None,
             },
             cells: 0,
             references: 0,
@@ -63,6 +64,7 @@ impl<'a> Reader<'a> {
                     self.value_parameters(alloc, &mut draft, group)?;
                 }
                 let shape = self.named(type_name);
+                draft.routine.result = Some(draft.routine.variables.len());
                 let result = String::from_str(alloc, name)?;
                 draft.add_variable(result, shape, self.shapes.cells_of(shape))?;
             }

@@ -5,10 +5,11 @@ pub mod completing;
 pub mod known;
 mod objects;
 pub mod share;
+mod simples;
 pub mod stopped;
 pub mod subject;
 mod telling;
 mod texts;
 
 pub use subject::{Format, Subject, Summary};
-pub use telling::{First, first_of_outcome, outcomes};
+pub use telling::{First, first_of_outcome, outcomes, simplest_of_outcome};

@@ -3,6 +3,7 @@
 ghost use Rattle.std.specs.Prelude.{◌<◌, ◌^◌};
 
 use crate::share::share_of;
+use crate::simples::Simples;
 use crate::stopped::{LIMITS, is_stopped, schedules_in, stopped_at};
 use crate::subject::{Excess, Subject};
 use crate::texts::{line_of, waits_of};
@@ -10,6 +11,7 @@ use cp_machine::Ticks;
 use cp_merged::{Tallies, Tally};
 use cp_natural::{Natural, push_natural};
 use cp_run::OutcomeKind;
+use cp_simplest::Simple;
 use cp_story::objects::{Object, monitors, numbers, processes, put_kind, waits};
 use cp_story::{kind_words, output_words};
 use serde_json::Value;
@@ -21,12 +23,13 @@ pub fn json<L: Ledger>(
     alloc: Global,
     subject: Subject<'_>,
     tallies: &Tallies,
+    simples: &Simples,
     ticks: &mut Ticks<L>,
 ) -> Result<String, AllocError> {
     let mut object = Object::new(alloc);
     object.put("processes", processes(alloc, subject.legend)?)?;
     object.put("monitors", monitors(alloc, subject.legend)?)?;
-    put_outcomes(alloc, subject, &mut object, tallies, ticks)?;
+    put_outcomes(alloc, subject, &mut object, tallies, simples, ticks)?;
     put_limits(alloc, &mut object, tallies)?;
     line(alloc, object)
 }
@@ -37,15 +40,17 @@ fn put_outcomes<L: Ledger>(
     subject: Subject<'_>,
     object: &mut Object,
     tallies: &Tallies,
+    simples: &Simples,
     ticks: &mut Ticks<L>,
 ) -> Result<(), AllocError> {
     let whole = schedules_in(tallies.as_slice());
     let mut items = Vec::new(alloc);
     for stopped in [false, true] {
-        for tally in tallies.as_slice() {
+        for (place, tally) in tallies.as_slice().iter().enumerate() {
             if is_stopped(tally.outcome.kind) == stopped {
                 let number = items.len().saturating_add(1);
-                items.push(tally_object(alloc, subject, number, tally, &whole, ticks)?)?;
+                let simple = simples.at(place);
+                items.push(tally_object(alloc, subject, number, tally, simple, &whole, ticks)?)?;
             }
         }
     }
@@ -82,6 +87,7 @@ fn tally_object<L: Ledger>(
     subject: Subject<'_>,
     number: usize,
     tally: &Tally,
+    simple: Option<&Simple>,
     whole: &Natural,
     ticks: &mut Ticks<L>,
 ) -> Result<Value, AllocError>
@@ -91,6 +97,10 @@ fn tally_object<L: Ledger>(
     object.number("number", number as u64)?;
     put_count(alloc, &mut object, tally, whole)?;
     put_outcome(alloc, subject, &mut object, tally)?;
+    if let Some(simple) = simple {
+        object.put("simplest", numbers(alloc, simple.word.as_slice())?)?;
+        object.number("switches", u64::from(simple.switches))?;
+    }
     put_end(alloc, subject, &mut object, tally, ticks)?;
     Ok(object.done())
 }

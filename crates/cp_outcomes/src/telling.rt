@@ -8,6 +8,7 @@ ghost use Rattle.cp_outcomes.specs.Meant.{IsMeantFinding};
 use crate::completing::greatest_known;
 use crate::known::Known;
 use crate::objects::{excess_json, json};
+use crate::simples::Simples;
 use crate::stopped::is_stopped;
 use crate::subject::{Excess, Format, Subject, Summary};
 use crate::texts::{excess_text, text};
@@ -74,6 +75,8 @@ pub enum First {
     Word(Word),
     /// There is no outcome of this number; this is how many there are.
     None(usize),
+    /// There are too many states to search for a simplest one.
+    NotSearched,
 }
 
 /// The first schedule of the outcome with this number, counted from 1 in the order in which `outcomes` tells them.
@@ -92,18 +95,67 @@ pub fn first_of_outcome(
 }
 
 fn first_among(tallies: &[Tally], number: usize) -> First {
+    match place_of(tallies, number) {
+        Some(place) => match tallies.get(place) {
+            Some(tally) => First::Word(word_of(tally.first.as_slice())),
+            None => First::None(tallies.len()),
+        },
+        None => First::None(tallies.len()),
+    }
+}
+
+// The place of the outcome with a number: those that a limit stopped are counted last.
+fn place_of(tallies: &[Tally], number: usize) -> Option<usize> {
     let mut before = 1usize;
     for stopped in [false, true] {
-        for tally in tallies {
+        for (place, tally) in tallies.iter().enumerate() {
             if is_stopped(tally.outcome.kind) == stopped {
                 if before == number {
-                    return First::Word(word_of(tally.first.as_slice()));
+                    return Some(place);
                 }
                 before = before.saturating_add(1);
             }
         }
     }
-    First::None(tallies.len())
+    None
+}
+
+/// The simplest schedule of the outcome with this number.
+pub fn simplest_of_outcome(
+    alloc: Global,
+    job: Job,
+    states: u32,
+    number: usize,
+) -> Result<First, AllocError> {
+    match found_by_states(alloc, job, states)? {
+        Finding::Whole(tallies) => {
+            simplest_among::<Brand>(alloc, job, states, &tallies, number, Blank::new(1))
+        }
+        Finding::TooMany(..) => Ok(First::NotSearched),
+    }
+}
+
+fn simplest_among<L: Ledger>(
+    alloc: Global,
+    job: Job,
+    states: u32,
+    tallies: &Tallies,
+    number: usize,
+    blank: Blank,
+) -> Result<First, AllocError>
+    requires name { blank.name ≡ L.name }
+    requires parts { blank.parts ≡ L.parts }
+    requires one { L.parts ≡ 1 }
+{
+    let Some(place) = place_of(tallies.as_slice(), number) else {
+        return Ok(First::None(tallies.as_slice().len()));
+    };
+    let mut ticks: Ticks<L> = Ticks::new(blank);
+    let simples = Simples::of(alloc, job, states, tallies, &mut ticks)?;
+    match simples.at(place) {
+        Some(simple) => Ok(First::Word(word_of(simple.word.as_slice()))),
+        None => Ok(First::NotSearched),
+    }
 }
 
 fn write_findings<L: Ledger>(
@@ -118,9 +170,14 @@ fn write_findings<L: Ledger>(
     requires one { L.parts ≡ 1 }
 {
     let mut ticks: Ticks<L> = Ticks::new(blank);
+    let job = Job {
+        program: subject.program,
+        limits: subject.limits,
+    };
+    let simples = Simples::of(alloc, job, subject.states, tallies, &mut ticks)?;
     match form {
-        Format::Text => text(alloc, subject, tallies, &mut ticks),
-        Format::Json => json(alloc, subject, tallies, &mut ticks),
+        Format::Text => text(alloc, subject, tallies, &simples, &mut ticks),
+        Format::Json => json(alloc, subject, tallies, &simples, &mut ticks),
     }
 }
 

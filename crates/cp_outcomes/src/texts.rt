@@ -5,12 +5,14 @@ ghost use Rattle.cp_merged.specs.Code.{tally_of};
 ghost use Rattle.cp_merged.specs.Told.{rows_in};
 
 use crate::share::share_of;
+use crate::simples::Simples;
 use crate::stopped::{LIMITS, Limit, is_stopped, schedules_in, stopped_at};
 use crate::subject::{Excess, Subject};
 use cp_machine::Ticks;
 use cp_merged::{Tallies, Tally};
 use cp_natural::{Natural, push_natural};
 use cp_run::{Limits, MOST_CHOICES, MOST_STEPS, OutcomeKind};
+use cp_simplest::Simple;
 use cp_story::{Wait, kind_words, tell, wait_words};
 use cp_walk::text::{push_outcome, push_word};
 use std::alloc::{AllocError, Global};
@@ -28,6 +30,7 @@ pub fn text<L: Ledger>(
     alloc: Global,
     subject: Subject<'_>,
     tallies: &Tallies,
+    simples: &Simples,
     ticks: &mut Ticks<L>,
 ) -> Result<String, AllocError> {
     let all = tallies.as_slice();
@@ -37,13 +40,22 @@ pub fn text<L: Ledger>(
     let width = digits_of(all.len());
     let mut number = 0usize;
     for stopped in [false, true] {
-        for tally in all {
+        for (place, tally) in all.iter().enumerate() {
             if is_stopped(tally.outcome.kind) == stopped {
                 number = number.saturating_add(1);
                 push_number(&mut text, number, width)?;
-                push_tally(alloc, subject, &mut text, width, tally, &whole, ticks)?;
+                push_share(alloc, &mut text, tally, &whole)?;
+                push_words(subject, &mut text, width, tally, simples.at(place))?;
+                push_end(alloc, subject, &mut text, width, tally, ticks)?;
             }
         }
+    }
+    if !simples.is_searched() {
+        write!(
+            text,
+            "\nsimplest schedules: not searched, with more than {} states\n",
+            subject.states
+        )?;
     }
     push_last(subject, &mut text, all)?;
     Ok(text)
@@ -95,25 +107,47 @@ fn push_schedules(text: &mut String, count: &Natural) -> Result<(), AllocError> 
     })
 }
 
-fn push_tally<L: Ledger>(
-    alloc: Global,
+// The outcome, how many schedules have it, the first of them, and the simplest where it is another one.
+fn push_words(
     subject: Subject<'_>,
     text: &mut String,
     width: usize,
     tally: &Tally,
-    whole: &Natural,
-    ticks: &mut Ticks<L>,
-) -> Result<(), AllocError>
-    requires { whole.now < 10 ^ 126 }
-{
-    push_share(alloc, text, tally, whole)?;
+    simple: Option<&Simple>,
+) -> Result<(), AllocError> {
     push_outcome(text, subject.program, &tally.outcome)?;
     text.push('\n')?;
     push_indent(text, width)?;
     push_schedules(text, &tally.count)?;
     text.push_str(", first ")?;
     push_word(text, tally.first.as_slice())?;
-    text.push('\n')?;
+    if let Some(simple) = simple {
+        push_simple(text, tally, simple)?;
+    }
+    text.push('\n')
+}
+
+fn push_simple(text: &mut String, tally: &Tally, simple: &Simple) -> Result<(), AllocError> {
+    let word = simple.word.as_slice();
+    if word == tally.first.as_slice() {
+        return Ok(());
+    }
+    text.push_str(", simplest ")?;
+    push_word(text, word)?;
+    let switches = simple.switches;
+    let ending = if switches == 1 { "" } else { "es" };
+    write!(text, ", {switches} switch{ending}")
+}
+
+// Who waits where at the end, or the line of a run error.
+fn push_end<L: Ledger>(
+    alloc: Global,
+    subject: Subject<'_>,
+    text: &mut String,
+    width: usize,
+    tally: &Tally,
+    ticks: &mut Ticks<L>,
+) -> Result<(), AllocError> {
     match tally.outcome.kind {
         OutcomeKind::AllWaiting => {
             for wait in &waits_of(alloc, subject, tally.first.as_slice(), ticks)? {

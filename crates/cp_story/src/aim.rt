@@ -17,14 +17,24 @@ use cp_store::{Address, address};
 pub struct Aim {
     /// The line of its first token, where it is no end of a call.
     pub line: Option<u32>,
-    /// The cell of the queue that it continues.
+    /// The cell of the queue that it continues, or is delayed in.
     pub queue: Option<usize>,
+    /// Whether a call of a monitor's entry ends by it.
+    pub ends_call: bool,
 }
 
 /// The aim of who is let in.
 pub const NONE: Aim = Aim {
     line: None,
     queue: None,
+    ends_call: false,
+};
+
+/// The aim of who comes to the end of a call of a monitor's entry.
+const RETURN: Aim = Aim {
+    line: None,
+    queue: None,
+    ends_call: true,
 };
 
 // The topmost entry of a process.
@@ -45,6 +55,7 @@ pub fn aim_of(program: &Resolved, state: &State, pid: u8) -> Aim
 {
     match top_of(state, pid) {
         Some(&Entry::Rest(at)) => aim_at(program, state, pid, at),
+        Some(&Entry::Return(_, _, Some(_))) => RETURN,
         Some(&Entry::Successor(..)) | Some(&Entry::Return(..)) | Some(&Entry::InitEnd(..)) | None =>
             NONE,
     }
@@ -61,7 +72,8 @@ fn aim_at(program: &Resolved, state: &State, pid: u8, at: usize) -> Aim
     let item = program.item(at);
     Aim {
         line: Some(item.line),
-        queue: process_to_continue(state, pid, item),
+        queue: process_to_continue(state, pid, item).or(queue_of_delay(state, pid, item)),
+        ends_call: matches!(item.action, Action::Continue(_)),
     }
 }
 
@@ -71,6 +83,16 @@ fn process_to_continue(state: &State, pid: u8, item: &Item) -> Option<usize>
 {
     match &item.action {
         Action::Continue(place) => queue_cell(state, pid, place),
+        _ => None,
+    }
+}
+
+// The cell of the queue that an item delays in.
+fn queue_of_delay(state: &State, pid: u8, item: &Item) -> Option<usize>
+    requires { (r : Tables) × (at : ℕ) × IsTaken r state.now pid at item.now }
+{
+    match &item.action {
+        Action::Delay(place) => queue_cell(state, pid, place),
         _ => None,
     }
 }

@@ -63,6 +63,14 @@ pub struct Change {
     pub value: Value,
 }
 
+/// What a call gave back when it ended.
+#[derive(Drop)]
+pub struct Returned {
+    /// The place that a `var` parameter named; empty for a function's result.
+    pub name: String,
+    pub value: Value,
+}
+
 /// A kernel call, a process end or an admission.
 #[derive(Drop)]
 pub struct Event {
@@ -73,6 +81,8 @@ pub struct Event {
     /// The line of the source.
     pub line: Option<u32>,
     pub happening: Happening,
+    /// What the call gave back that ended with it.
+    pub returned: Vec<Returned>,
     /// Who was delayed and goes on.
     pub woken: ArrayVec<u8, 16>,
     /// Who was at the gate and goes in.
@@ -81,4 +91,11 @@ pub struct Event {
     pub statuses: Vec<Status>,
     /// What changed in the monitors since the event before it.
     pub changes: Vec<Change>,
+}
+
+impl Event {
+    /// Whether it continues a queue in which nobody waits.
+    pub fn wakes_nobody(&self) -> bool {
+        matches!(self.happening, Happening::Continue(..)) && self.woken.is_empty()
+    }
 }

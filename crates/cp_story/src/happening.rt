@@ -49,8 +49,8 @@ fn argument(
     }
 }
 
-// The name of what has cells in a frame of the process.
-fn local_name(
+/// The name of what has cells in a frame of the process.
+pub fn local_name(
     alloc: Global,
     legend: &Legend,
     process: &Process,

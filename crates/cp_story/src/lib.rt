@@ -7,19 +7,22 @@ pub mod event;
 pub mod happening;
 pub mod objects;
 pub mod observer;
+mod returned;
+mod stopping;
 pub mod story;
 mod tables;
 mod texts;
 mod words;
 
 pub use aim::{Aim, NONE, aim_of};
-pub use event::{Change, Choice, Event, Happening, OpenCall, Queue};
+pub use event::{Change, Choice, Event, Happening, OpenCall, Queue, Returned};
 pub use happening::arguments;
 pub use objects::json;
 pub use observer::Observer;
+pub use stopping::AbruptEnd;
 pub use story::{MOST_NUMBERS, Story, Wait, tell};
 pub use texts::text;
 pub use words::{
-    Stop, error_words, happening_words, kind_words, output_words, push_call, push_shown,
-    stop_words, wait_words,
+    Stop, end_words, error_words, happening_words, kind_words, output_words, push_call,
+    push_returned, push_shown, refused_words, stop_words, wait_words,
 };

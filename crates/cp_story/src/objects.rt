@@ -1,6 +1,6 @@
 //! A story as JSON.
 
-use crate::event::{Change, Choice, Event, Happening, OpenCall};
+use crate::event::{Change, Choice, Event, Happening, OpenCall, Returned};
 use crate::story::{Story, Wait};
 use crate::words::{error_words, kind_words, output_words, push_shown};
 use cp_legend::{Legend, Member, Value as Written};
@@ -151,6 +151,9 @@ fn event_object(alloc: Global, legend: &Legend, event: &Event) -> Result<Value, 
     let mut object = Object::new(alloc);
     put_cause(alloc, &mut object, event)?;
     put_happening(alloc, legend, &mut object, &event.happening)?;
+    if let Happening::Leave(_) | Happening::Continue(..) = event.happening {
+        object.put("returned", returned_values(alloc, &event.returned)?)?;
+    }
     put_effects(alloc, legend, &mut object, event)?;
     Ok(object.done())
 }
@@ -179,6 +182,20 @@ fn put_effects(
     object.put("status", statuses(alloc, legend, &event.statuses)?)?;
     object.put("holders", holders(alloc, event.plain.holders.as_slice())?)?;
     object.put("changes", changes(alloc, legend, &event.changes)?)
+}
+
+// What came back from a call; a function's result has no name.
+fn returned_values(alloc: Global, returned: &[Returned]) -> Result<Value, AllocError> {
+    let mut items = Vec::new(alloc);
+    for one in returned {
+        let mut object = Object::new(alloc);
+        if !one.name.is_empty() {
+            object.text("name", one.name.as_str())?;
+        }
+        object.put("value", value(alloc, &one.value)?)?;
+        items.push(object.done())?;
+    }
+    Ok(Value::Array(items))
 }
 
 fn choice_object(alloc: Global, choice: &Choice) -> Result<Value, AllocError> {
@@ -361,10 +378,26 @@ fn end(alloc: Global, story: &Story) -> Result<Value, AllocError> {
             object.number("place", *place as u64)?;
         }
     }
+    put_stop(&mut object, story)?;
     if let Some(choice) = &story.last_choice {
         object.put("choice", choice_object(alloc, choice)?)?;
     }
     Ok(object.done())
+}
+
+// Who went on to a limit and where, and who waits already in a queue that is in use.
+fn put_stop(object: &mut Object, story: &Story) -> Result<(), AllocError> {
+    let Some(stop) = &story.stop else {
+        return Ok(());
+    };
+    object.number("process", u64::from(stop.process))?;
+    if let Some(line) = stop.line {
+        object.number("line", u64::from(line))?;
+    }
+    match stop.waiting {
+        Some(process) => object.number("waiting", u64::from(process)),
+        None => Ok(()),
+    }
 }
 
 /// Adds how a run ended: its kind, and of a run error what, who and where it was.

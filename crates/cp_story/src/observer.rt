@@ -4,13 +4,15 @@ ghost use Rattle.std.specs.Prelude.{◌≡◌, IfOk};
 
 use crate::aim::Aim;
 use crate::changes::changes;
-use crate::event::{Choice, Event, Happening, OpenCall, Queue};
+use crate::event::{Choice, Event, Happening, OpenCall, Queue, Returned};
 use crate::happening::arguments;
+use crate::returned::values_returned;
 use arrayvec::ArrayVec;
 use cp_legend::Legend;
 use cp_machine::{Kernel, Shown, State, Status};
 use cp_run::{TraceEvent, TraceLine};
 use std::alloc::{AllocError, Global};
+use std::mem;
 
 /// In place of a call where none is open.
 const NO_CALL: OpenCall = OpenCall {
@@ -30,6 +32,20 @@ pub struct Observer<'a> {
     statuses: Vec<Status>,
     /// The cells of all components.
     pub permanents: Vec<i16>,
+    /// What comes back from the call that ends with the step to come, if one does.
+    returned: Vec<Returned>,
+    /// Who made the last step.
+    pub last: Last,
+}
+
+/// The process that made a step.
+#[derive(Clone, Copy)]
+pub struct Last {
+    pub process: u8,
+    /// The line that it came to last.
+    pub line: Option<u32>,
+    /// The cell of the queue that it continues, or is delayed in.
+    pub queue: Option<usize>,
 }
 
 impl<'a> Observer<'a> {
@@ -49,7 +65,37 @@ impl<'a> Observer<'a> {
             calls,
             statuses: statuses_of(alloc, state)?,
             permanents: Vec::from_slice(alloc, &state.permanents)?,
+            returned: Vec::new(alloc),
+            last: Last {
+                process: 0,
+                line: None,
+                queue: None,
+            },
         })
+    }
+
+    /// Sees a step of a process come, which has this aim.
+    pub fn expect(
+        &mut self,
+        alloc: Global,
+        state: &State,
+        process: u8,
+        aim: Aim,
+    ) -> Result<(), AllocError> {
+        let before = if self.last.process == process {
+            self.last.line
+        } else {
+            None
+        };
+        self.last = Last {
+            process,
+            line: aim.line.or(before),
+            queue: aim.queue,
+        };
+        if aim.ends_call {
+            self.returned = values_returned(alloc, self.legend, state, process)?;
+        }
+        Ok(())
     }
 
     /// The innermost open call of a process.
@@ -74,12 +120,14 @@ impl<'a> Observer<'a> {
         let let_in = self.gone_on(state, process, Waited::AtGate);
         let changes = changes(alloc, self.legend, &self.permanents, &state.permanents)?;
         let choice = self.choice.take();
+        let returned = mem::replace(&mut self.returned, Vec::new(alloc));
         self.remember(alloc, state)?;
         Ok(Event {
             plain,
             choice,
             line,
             happening,
+            returned,
             woken,
             let_in,
             statuses: statuses_of(alloc, state)?,

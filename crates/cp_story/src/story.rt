@@ -11,6 +11,7 @@ ghost use Rattle.cp_story.specs.Told.{lines_of};
 use crate::aim::{Aim, NONE, aim_of};
 use crate::event::{Choice, Event, OpenCall};
 use crate::observer::{Observer, statuses_of};
+use crate::stopping::{AbruptEnd, abrupt_end};
 use cp_legend::Legend;
 use cp_machine::{Event as Step, State, Status, Ticks, step};
 use cp_run::runs::end_of_word;
@@ -44,6 +45,8 @@ pub struct Story {
     pub last_choice: Option<Choice>,
     pub waits: Vec<Wait>,
     pub end: RunEnd,
+    /// How it stopped, where no event tells of it.
+    pub stop: Option<AbruptEnd>,
 }
 
 /// For each monitor the process inside it.
@@ -137,6 +140,7 @@ fn tell_stretch<S: Ledger>(
     let mut going = pid;
     for _ in 0..limits.steps {
         let aim = aim_of(program, state, going);
+        observer.expect(alloc, state, going, aim)?;
         let event = step(program, state, going, steps);
         push_step(
             alloc, program, limits, state, going, event, aim, observer, events,
@@ -301,10 +305,10 @@ fn tell_word<L: Ledger>(
             let end = end_of_word(alloc, program, limits, halt, state, place)?;
             return Ok(end);
         }
+        observer.choice = Some(choice_of(program, limits, state, *process));
         if !may(program, limits, state, *process) {
             return Ok(RunEnd::NotReady { place });
         }
-        observer.choice = Some(choice_of(program, limits, state, *process));
         halt = tell_choice(
             alloc, program, limits, state, *process, ticks, observer, events,
         )?;
@@ -341,13 +345,14 @@ pub fn tell<L: Ledger>(
         &mut observer,
         &mut events,
     )?;
-    finish_story(alloc, program, &state, observer, events, end)
+    finish_story(alloc, program, legend, &state, observer, events, end)
 }
 
 // The whole story, where a run has stopped.
 fn finish_story(
     alloc: Global,
     program: &Resolved,
+    legend: &Legend,
     state: &State,
     observer: Observer<'_>,
     events: Vec<Event>,
@@ -358,10 +363,12 @@ fn finish_story(
     ensures end { IfOk result (λ s. s.end ≡ end) }
 {
     let waits = waits_of(alloc, program, state, &observer)?;
+    let stop = abrupt_end(alloc, legend, &end, observer.last, &waits)?;
     Ok(Story {
         events,
         last_choice: observer.choice,
         waits,
         end,
+        stop,
     })
 }

@@ -1,13 +1,16 @@
 //! A story as lines of text.
 
 use crate::event::{Change, Choice, Event};
+use crate::stopping::AbruptEnd;
 use crate::story::Story;
 use crate::tables::{Row, push_rows};
-use crate::words::{Stop, happening_words, push_process, stop_words, wait_words};
+use crate::words::{happening_words, push_process, refused_words, wait_words};
 use cp_legend::Legend;
+use cp_run::RunEnd;
 use std::alloc::{AllocError, Global};
 
-/// The lines of a story: one for each event, one for each process that waits, and `end`, the last line of the plain trace.
+/// The lines of a story: one for each event, one for each process that waits, one that says why a number can't be taken, and `end`, the
+/// last line of the plain trace.
 pub fn text(
     alloc: Global,
     legend: &Legend,
@@ -19,7 +22,7 @@ pub fn text(
     for event in &story.events {
         rows.push(event_row(alloc, legend, event)?)?;
     }
-    if let Some(stop) = stop_words(story) {
+    if let Some(stop) = &story.stop {
         rows.push(stop_row(alloc, legend, story, stop)?)?;
     }
     push_rows(alloc, &mut text, &rows)?;
@@ -27,8 +30,18 @@ pub fn text(
         text.push_str(wait_words(alloc, legend, wait)?.as_str())?;
         text.push('\n')?;
     }
+    push_refused(alloc, &mut text, story)?;
     text.push_str(end)?;
     Ok(text)
+}
+
+// Why the number of the last choice can't be taken, if it can't.
+fn push_refused(alloc: Global, text: &mut String, story: &Story) -> Result<(), AllocError> {
+    if let (RunEnd::NotReady { .. }, Some(choice)) = (&story.end, &story.last_choice) {
+        text.push_str(refused_words(alloc, choice)?.as_str())?;
+        text.push('\n')?;
+    }
+    Ok(())
 }
 
 fn event_row(alloc: Global, legend: &Legend, event: &Event) -> Result<Row, AllocError> {
@@ -41,12 +54,17 @@ fn event_row(alloc: Global, legend: &Legend, event: &Event) -> Result<Row, Alloc
     Ok(Row::new(cells))
 }
 
-fn stop_row(alloc: Global, legend: &Legend, story: &Story, stop: Stop) -> Result<Row, AllocError> {
+fn stop_row(
+    alloc: Global,
+    legend: &Legend,
+    story: &Story,
+    stop: &AbruptEnd,
+) -> Result<Row, AllocError> {
     let mut cells = Vec::new(alloc);
     cells.push(choice_text(alloc, &story.last_choice)?)?;
-    cells.push(process_text(alloc, legend, stop.process)?)?;
+    cells.push(process_text(alloc, legend, Some(stop.process))?)?;
     cells.push(line_text(alloc, stop.line)?)?;
-    cells.push(String::from_str(alloc, stop.words)?)?;
+    cells.push(stop.words.clone()?)?;
     Ok(Row::new(cells))
 }
 

@@ -1,18 +1,30 @@
 //! What happened, in words.
 
-use crate::event::{Choice, Event, Happening, OpenCall, Queue};
+use crate::event::{Choice, Event, Happening, OpenCall, Queue, Returned};
 use crate::story::{Story, Wait};
 use cp_legend::{Legend, Value};
 use cp_machine::{ErrorName, Shown, Status};
 use cp_run::{OutcomeKind, RunEnd};
 use std::alloc::{AllocError, Global};
 
-/// How a run stopped where no event tells of it.
+/// What is said of a stop that no event tells of.
 #[derive(Clone, Copy)]
-pub struct Stop {
+pub struct Stop<'a> {
     pub process: Option<u8>,
     pub line: Option<u32>,
-    pub words: &'static str,
+    pub words: &'a str,
+}
+
+/// What is said of how a run stopped, where it did so between two events.
+pub fn stop_words(story: &Story) -> Option<Stop<'_>> {
+    match &story.stop {
+        Some(stop) => Some(Stop {
+            process: Some(stop.process),
+            line: stop.line,
+            words: stop.words.as_str(),
+        }),
+        None => None,
+    }
 }
 
 /// Appends a process by its number and its name.
@@ -58,7 +70,8 @@ pub fn push_call(
     text.push(')')
 }
 
-fn push_queue(legend: &Legend, text: &mut String, queue: &Queue) -> Result<(), AllocError> {
+/// Appends a queue, after the monitor that it is in.
+pub fn push_queue(legend: &Legend, text: &mut String, queue: &Queue) -> Result<(), AllocError> {
     text.push_str(legend.monitor_name(queue.monitor))?;
     text.push('.')?;
     text.push_str(queue.name.as_str())
@@ -92,6 +105,10 @@ pub fn happening_words(
 ) -> Result<String, AllocError> {
     let mut text = String::new(alloc);
     push_happening(legend, &mut text, &event.happening)?;
+    if event.wakes_nobody() {
+        text.push_str(", where nobody waits")?;
+    }
+    push_returned(&mut text, &event.returned)?;
     push_processes(legend, &mut text, ", wakes ", event.woken.as_slice(), "")?;
     push_processes(legend, &mut text, ", lets ", event.let_in.as_slice(), " in")?;
     Ok(text)
@@ -143,6 +160,20 @@ fn push_happening(
     }
 }
 
+/// Appends what came back from a call: `, y = 2` for each `var` parameter, `, = 2` for a function's result.
+pub fn push_returned(text: &mut String, returned: &[Returned]) -> Result<(), AllocError> {
+    for one in returned {
+        text.push_str(", ")?;
+        if !one.name.is_empty() {
+            text.push_str(one.name.as_str())?;
+            text.push(' ')?;
+        }
+        text.push_str("= ")?;
+        one.value.push_to(text)?;
+    }
+    Ok(())
+}
+
 /// Where a process waits: `0 program waits in forks[1].hungry`.
 pub fn wait_words(alloc: Global, legend: &Legend, wait: &Wait) -> Result<String, AllocError> {
     let mut text = String::new(alloc);
@@ -184,59 +215,6 @@ pub fn error_words(name: ErrorName) -> &'static str {
     }
 }
 
-fn stopped_by(name: ErrorName) -> &'static str {
-    match name {
-        ErrorName::Overflow => "stops with overflow",
-        ErrorName::ZeroDivisor => "stops with zero-divisor",
-        ErrorName::Range => "stops with range",
-        ErrorName::NoCase => "stops with no-case",
-        ErrorName::QueueInUse => "stops with queue-in-use",
-        ErrorName::NotInit => "stops with not-init",
-        ErrorName::InitTwice => "stops with init-twice",
-    }
-}
-
-/// How a run stopped, where it did so between two events.
-pub fn stop_words(story: &Story) -> Option<Stop> {
-    let RunEnd::Ended { outcome, .. } = &story.end else {
-        return None;
-    };
-    let process = match &story.last_choice {
-        Some(choice) => going(choice),
-        None => None,
-    };
-    match outcome.kind {
-        OutcomeKind::RunError {
-            name,
-            process,
-            line,
-        } => Some(Stop {
-            process: Some(process),
-            line: Some(line),
-            words: stopped_by(name),
-        }),
-        OutcomeKind::StepLimit => Some(Stop {
-            process,
-            line: None,
-            words: "goes on to the limit of steps",
-        }),
-        OutcomeKind::OutputLimit => Some(Stop {
-            process,
-            line: None,
-            words: "displays a value too many",
-        }),
-        OutcomeKind::Finished | OutcomeKind::AllWaiting | OutcomeKind::ChoiceLimit => None,
-    }
-}
-
-fn going(choice: &Choice) -> Option<u8> {
-    if choice.at_gate {
-        None
-    } else {
-        Some(choice.number)
-    }
-}
-
 /// The kind of a run's end, as the trace has it.
 pub fn kind_words(kind: OutcomeKind) -> &'static str {
     match kind {
@@ -266,4 +244,64 @@ pub fn output_words(
         push_shown(legend, &mut text, *value)?;
     }
     Ok(text)
+}
+
+/// Who can't be chosen, and who can: `9 can't go on here: 1 or 2`.
+pub fn refused_words(alloc: Global, choice: &Choice) -> Result<String, AllocError> {
+    let number = choice.number;
+    let what = if choice.at_gate { "be let in" } else { "go on" };
+    let mut text = format!(in alloc; "{number} can't {what} here: ")?;
+    push_options(&mut text, choice.options.as_slice())?;
+    Ok(text)
+}
+
+// Numbers as alternatives: `0, 1 or 2`.
+fn push_options(text: &mut String, options: &[u8]) -> Result<(), AllocError> {
+    let last = options.len().saturating_sub(1);
+    for (place, option) in options.iter().enumerate() {
+        if place > 0 {
+            text.push_str(if place == last { " or " } else { ", " })?;
+        }
+        write!(text, "{option}")?;
+    }
+    Ok(())
+}
+
+/// How a run stops, in the words of a lecture: `deadlock: all wait`.
+pub fn end_words(alloc: Global, story: &Story) -> Result<String, AllocError> {
+    match &story.end {
+        RunEnd::Ended { outcome, .. } => String::from_str(alloc, end_phrase(outcome.kind)),
+        RunEnd::Wants { ready } => {
+            let mut text = String::from_str(alloc, "to be chosen next: ")?;
+            push_options(&mut text, ready.as_slice())?;
+            Ok(text)
+        }
+        RunEnd::NotReady { .. } => match &story.last_choice {
+            Some(choice) => refused_words(alloc, choice),
+            None => String::from_str(alloc, "no such choice"),
+        },
+    }
+}
+
+fn end_phrase(kind: OutcomeKind) -> &'static str {
+    match kind {
+        OutcomeKind::Finished => "all have ended",
+        OutcomeKind::AllWaiting => "deadlock: all wait",
+        OutcomeKind::RunError { name, .. } => error_phrase(name),
+        OutcomeKind::ChoiceLimit => "goes on: the limit of choices",
+        OutcomeKind::StepLimit => "no end in sight: the limit of steps",
+        OutcomeKind::OutputLimit => "goes on: the limit of displayed values",
+    }
+}
+
+fn error_phrase(name: ErrorName) -> &'static str {
+    match name {
+        ErrorName::Overflow => "run error: a number out of reach",
+        ErrorName::ZeroDivisor => "run error: division by zero",
+        ErrorName::Range => "run error: a value out of its range",
+        ErrorName::NoCase => "run error: no case for the value",
+        ErrorName::QueueInUse => "run error: a second process in a queue",
+        ErrorName::NotInit => "run error: used before its init",
+        ErrorName::InitTwice => "run error: a second init",
+    }
 }

@@ -4,6 +4,7 @@ ghost use Rattle.std.specs.Prelude.{◌≡◌, ◌+◌, ◌≤◌, IfOk, length}
 ghost use Rattle.cp_walk.specs.Rows.{UsedWithin};
 ghost use Rattle.cpx_show.specs.Showing as spec;
 
+use crate::lines::lines_of;
 use crate::mark_words::Examinee;
 use crate::marks::mark_answer;
 use crate::parts::{Asked, Part};
@@ -11,11 +12,13 @@ use crate::refusals::explanation_answer;
 use cp_check::check;
 use cp_drops::{drop_checked, drop_program, drop_tree};
 use cp_ends_story::{Subject as Endless, ends_story};
-use cp_lanes::{PictureSubject, picture};
+use cp_lanes::{PictureSubject, View, picture_in};
 use cp_legend::{Legend, legend_of};
 use cp_machine::Ticks;
 use cp_merged::word::word_of;
-use cp_outcomes::{First, Format, Subject as Survey, first_of_outcome, outcomes};
+use cp_outcomes::{
+    First, Format, Subject as Survey, first_of_outcome, outcomes, simplest_of_outcome,
+};
 use cp_page::{Length, PageSubject as Played, page};
 use cp_resolved::resolve;
 use cp_run::{Limits, MOST_CHOICES};
@@ -236,7 +239,7 @@ fn answer_part(
     let options = &asked.options;
     let lines = lines_of(alloc, source)?;
     match &asked.part {
-        Part::Trace { .. } | Part::Lanes => shown_once(alloc, asked, program, legend, &lines),
+        Part::Trace { .. } | Part::Lanes(_) => shown_once(alloc, asked, program, legend, &lines),
         Part::Page { states } => page_answer(alloc, asked, program, legend, *states, source),
         Part::Outcomes { json } => {
             outcomes_answer(alloc, options, program, legend, &lines, *json)
@@ -267,15 +270,28 @@ fn shown_once(
     let word = match schedule_asked(alloc, asked, program)? {
         First::Word(word) => word,
         First::None(count) => return no_outcome(alloc, count),
+        First::NotSearched => return unsearched_answer(alloc, asked),
     };
     let word = word.as_slice();
     let text = match &asked.part {
         Part::Trace { json } => trace_answer(alloc, asked, program, legend, source, word, *json)?,
-        _ => picture_of(alloc, asked, program, legend, source, word)?,
+        Part::Lanes(view) => picture_of(alloc, asked, program, legend, source, word, *view)?,
+        _ => String::new(alloc),
     };
     Ok(Answer {
         verdict: Verdict::Reported,
         text,
+    })
+}
+
+// That a simplest schedule was not looked for.
+fn unsearched_answer(alloc: Global, asked: &Asked) -> Result<Answer, AllocError> {
+    let states = asked.options.states;
+    Ok(Answer {
+        verdict: Verdict::TooMany,
+        text: format!(in alloc;
+            "the simplest schedule was not searched: there are more than {states} states\n"
+        )?,
     })
 }
 
@@ -303,6 +319,7 @@ fn page_answer(
     let word = match schedule_asked(alloc, asked, program)? {
         First::Word(word) => word,
         First::None(count) => return no_outcome(alloc, count),
+        First::NotSearched => return unsearched_answer(alloc, asked),
     };
     let subject = Played {
         program,
@@ -324,7 +341,7 @@ fn page_answer(
     })
 }
 
-// The schedule that is given, or the first one of the outcome that is.
+// The schedule that is given, or the first or the simplest one of the outcome that is.
 fn schedule_asked(alloc: Global, asked: &Asked, program: &Resolved) -> Result<First, AllocError> {
     let options = &asked.options;
     let Some(number) = asked.outcome else {
@@ -333,7 +350,12 @@ fn schedule_asked(alloc: Global, asked: &Asked, program: &Resolved) -> Result<Fi
     let Some(limits) = Limits::new(options.choices, options.steps, options.gates) else {
         unreachable!()
     };
-    first_of_outcome(alloc, Job { program, limits }, options.states, number)
+    let job = Job { program, limits };
+    if asked.simplest {
+        simplest_of_outcome(alloc, job, options.states, number)
+    } else {
+        first_of_outcome(alloc, job, options.states, number)
+    }
 }
 
 // One schedule in names.
@@ -529,6 +551,7 @@ fn picture_of(
     legend: &Legend,
     source: &[String],
     word: &[u8],
+    view: View,
 ) -> Result<String, AllocError>
     requires { length word.now ≤ 100 }
 {
@@ -545,7 +568,7 @@ fn picture_of(
         source,
         again,
     };
-    picture(alloc, subject)
+    picture_in(alloc, subject, view)
 }
 
 // A word as it is written.
@@ -561,18 +584,4 @@ fn schedule_of(alloc: Global, word: &[u8]) -> Result<String, AllocError> {
         text.push_str("none")?;
     }
     Ok(text)
-}
-
-// The lines of a source; what is no printed character is a space.
-fn lines_of(alloc: Global, source: &[u8]) -> Result<Vec<String>, AllocError> {
-    let mut lines = Vec::new(alloc);
-    for line in source.split(|byte| *byte == b'\n') {
-        let mut text = String::new(alloc);
-        for byte in line {
-            let is_printed = *byte >= 32 && *byte < 127;
-            text.push(if is_printed { char::from(*byte) } else { ' ' })?;
-        }
-        lines.push(text)?;
-    }
-    Ok(lines)
 }

@@ -78,7 +78,18 @@ fn lanes<'a>(alloc: Global) -> Result<Command<'a>, AllocError> {
     let command = Command::new(alloc, "lanes").about(LANES).override_usage(
         "cpx_show lanes --schedule WORD|--outcome N [OPTIONS] < PROGRAM > PICTURE.svg",
     );
-    with_schedule(alloc, command)
+    let rows = option(
+        alloc,
+        "rows",
+        "A-B",
+        "Draw these rows alone, counted from 1",
+    );
+    let last = option(alloc, "last", "N", "Draw the last N rows alone");
+    let plain = Arg::new(alloc, "plain")
+        .long("plain")
+        .action(ArgAction::SetTrue)
+        .help("Leave out source, schedule and key, with larger letters, for slides");
+    with_schedule(alloc, command.arg(rows)?.arg(last)?.arg(plain)?)
 }
 
 fn page<'a>(alloc: Global) -> Result<Command<'a>, AllocError> {
@@ -98,7 +109,8 @@ fn page<'a>(alloc: Global) -> Result<Command<'a>, AllocError> {
         .about(PAGE)
         .override_usage("cpx_show page [OPTIONS] < PROGRAM > PAGE.html")
         .arg(schedule)?
-        .arg(outcome)?;
+        .arg(outcome)?
+        .arg(simplest(alloc))?;
     let command = with_rounds(alloc, command)?.arg(choices(alloc))?;
     let command = with_run(alloc, command)?;
     // The option has a name of its own: of the other parts it limits the states that are counted.
@@ -193,6 +205,13 @@ fn mark<'a>(alloc: Global) -> Result<Command<'a>, AllocError> {
     with_limits(alloc, command)
 }
 
+fn simplest<'a>(alloc: Global) -> Arg<'a> {
+    Arg::new(alloc, "simplest")
+        .long("simplest")
+        .action(ArgAction::SetTrue)
+        .help("With --outcome: its simplest schedule, in which processes are switched least")
+}
+
 fn ends_switch<'a>(alloc: Global) -> Arg<'a> {
     Arg::new(alloc, "ends")
         .long("ends")
@@ -227,6 +246,7 @@ fn with_schedule<'a>(alloc: Global, command: Command<'a>) -> Result<Command<'a>,
         command
             .arg(schedule)?
             .arg(outcome)?
+            .arg(simplest(alloc))?
             .arg(again)?
             .arg(ends_switch(alloc))?,
     )

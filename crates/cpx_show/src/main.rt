@@ -3,6 +3,7 @@
 
 mod answering;
 mod command;
+mod lines;
 mod mark_words;
 mod marks;
 mod parts;

@@ -3,6 +3,7 @@
 use crate::command::command;
 use clap::ArgMatches;
 use clap::error::ErrorKind;
+use cp_lanes::{Extent, View};
 use cp_tool::{OptionFault, Options, SourceReading, read_options, reason_for, word_reason};
 use std::alloc::{AllocError, Global};
 
@@ -30,8 +31,8 @@ pub enum Part {
     Trace {
         json: bool,
     },
-    /// The schedule as a picture.
-    Lanes,
+    /// These rows of the schedule as a picture, or a plain one.
+    Lanes(View),
     /// A page on which the scheduler is played, which goes on from so many states.
     Page {
         states: u32,
@@ -71,6 +72,8 @@ pub struct Asked {
     pub options: Options,
     /// The outcome whose first schedule is shown, where none is given.
     pub outcome: Option<usize>,
+    /// Whether it is the simplest in place of the first.
+    pub simplest: bool,
     /// How many numbers at the end of the schedule are a round that can be gone again and again.
     pub round: usize,
 }
@@ -96,7 +99,10 @@ fn read_matches(alloc: Global, matches: &ArgMatches<'_>) -> Result<Asked, Option
         "trace" => Part::Trace {
             json: inner.get_flag("json"),
         },
-        "lanes" => Part::Lanes,
+        "lanes" => Part::Lanes(View {
+            extent: extent_of(inner).unwrap_or(Extent::All),
+            is_plain: inner.get_flag("plain"),
+        }),
         "page" => Part::Page {
             states: page_states(inner).unwrap_or(USUAL_STATES),
         },
@@ -124,6 +130,7 @@ fn read_matches(alloc: Global, matches: &ArgMatches<'_>) -> Result<Asked, Option
         part,
         options: options(alloc, inner, name == "ends")?,
         outcome: outcome_of(inner),
+        simplest: is_simplest(name, inner),
         round: numbers_of(inner.get_str("again")),
     })
 }
@@ -148,12 +155,39 @@ fn page_states(matches: &ArgMatches<'_>) -> Option<u32> {
     }
 }
 
-// The number of an outcome, from 1 on.
-fn outcome_of(matches: &ArgMatches<'_>) -> Option<usize> {
-    match matches.get_str("outcome")?.parse::<u32>() {
+// Which rows of a picture are drawn; none where the words say what is no such thing.
+fn extent_of(matches: &ArgMatches<'_>) -> Option<Extent> {
+    match (matches.get_str("rows"), matches.get_str("last")) {
+        (None, None) => Some(Extent::All),
+        (Some(rows), None) => {
+            let (first, last) = rows.split_once('-')?;
+            let (first, last) = (number_of(first)?, number_of(last)?);
+            if first > last {
+                return None;
+            }
+            Some(Extent::Between(first, last))
+        }
+        (None, Some(last)) => Some(Extent::Last(number_of(last)?)),
+        (Some(_), Some(_)) => None,
+    }
+}
+
+// A number from 1 on.
+fn number_of(word: &str) -> Option<usize> {
+    match word.parse::<u32>() {
         Ok(0) | Err(_) => None,
         Ok(number) => Some(number as usize),
     }
+}
+
+// The number of an outcome, from 1 on.
+fn outcome_of(matches: &ArgMatches<'_>) -> Option<usize> {
+    number_of(matches.get_str("outcome")?)
+}
+
+// Whether the simplest schedule of an outcome is to be shown.
+fn is_simplest(name: &str, matches: &ArgMatches<'_>) -> bool {
+    matches!(name, "trace" | "lanes" | "page") && matches.get_flag("simplest")
 }
 
 // What is wrong with how one schedule is named, if it is to be shown.
@@ -164,7 +198,13 @@ fn choice_fault(name: &str, matches: &ArgMatches<'_>) -> &'static str {
     if name != "trace" && name != "lanes" {
         return "";
     }
+    if name == "lanes" && extent_of(matches).is_none() {
+        return "--rows A-B or --last N is wanted, with numbers from 1 on";
+    }
     let is_given = matches.get_str("outcome").is_some();
+    if !is_given && is_simplest(name, matches) {
+        return "--simplest: only beside --outcome";
+    }
     match matches.get_str("schedule") {
         Some(_) if is_given => "--outcome: not beside --schedule",
         Some(_) => "",
@@ -184,6 +224,9 @@ fn page_fault(matches: &ArgMatches<'_>) -> &'static str {
     let has_round = matches.get_str("again").is_some();
     if has_round && matches.get_str("schedule").is_none() {
         return "--again: only beside --schedule";
+    }
+    if !is_given && matches.get_flag("simplest") {
+        return "--simplest: only beside --outcome";
     }
     if has_round || matches.get_flag("ends") {
         return endless_page_fault(matches);

@@ -87,3 +87,9 @@ returns-in_err-push_step-clause-steps g c =
     let more = counted (succeeds c.step-event.result) c.loop.steps c.step-event.new.ticks c.step-event.ensures.ticks in
     let so_far = c.loop.invariant.steps in
     omega (arith, lt, more, so_far)
+
+pub returns-in_err-expect-clause-steps : goal.returns-in_err-expect-clause-steps
+returns-in_err-expect-clause-steps g c =
+    let lt : c.loop.counter < c.args.limits.steps = omega arith in
+    let so_far = c.loop.invariant.steps in
+    omega (arith, lt, so_far)

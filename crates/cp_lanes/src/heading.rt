@@ -1,0 +1,114 @@
+//! What stands above the columns: the heading, and the schedule.
+
+use crate::labels::{BOLD, WIDTH, bold_width, plain_width, points};
+use crate::palette::{GREY, INK};
+use crate::pictures::Scene;
+use crate::svg::{Style, Svg};
+use crate::title::sentence;
+use crate::wrapping::{break_lines, wrap_in_lines};
+use std::alloc::{AllocError, Global};
+
+/// The most lines of a heading, after which it is cut.
+const MOST_LINES: usize = 2;
+
+const BOLD_LINE: Style<'static> = Style {
+    size: 16.0,
+    fill: INK,
+    more: "font-weight=\"bold\"",
+};
+
+const GREY_LINE: Style<'static> = Style {
+    size: 12.5,
+    fill: GREY,
+    more: "",
+};
+
+/// The heading of a picture, and its schedule, in lines.
+#[derive(Drop)]
+pub struct Heading {
+    /// The whole heading.
+    pub title: String,
+    lines: Vec<String>,
+    schedule: Vec<String>,
+    /// Whether the schedule stands beside the heading.
+    is_beside: bool,
+}
+
+/// The heading of what is drawn.
+pub fn heading_of(alloc: Global, scene: Scene<'_>, width: f64) -> Result<Heading, AllocError> {
+    let title = sentence(alloc, scene.source)?;
+    let room = width - 40.0;
+    let lines = if title.is_empty() {
+        Vec::new(alloc)
+    } else {
+        wrap_in_lines(alloc, title.as_str(), room, 16.0 * BOLD, MOST_LINES)?
+    };
+    let schedule = schedule_in_lines(alloc, scene, room)?;
+    let is_beside = fits_beside(&lines, &schedule, room);
+    Ok(Heading {
+        title,
+        lines,
+        schedule,
+        is_beside,
+    })
+}
+
+fn schedule_in_lines(
+    alloc: Global,
+    scene: Scene<'_>,
+    room: f64,
+) -> Result<Vec<String>, AllocError> {
+    if scene.is_plain {
+        return Ok(Vec::new(alloc));
+    }
+    let mut words = String::from_str(alloc, "schedule ")?;
+    words.push_str(scene.schedule)?;
+    break_lines(alloc, words.as_str(), '.', room, 12.5 * WIDTH)
+}
+
+// Whether a line of the heading and one of the schedule have room side by side.
+fn fits_beside(lines: &[String], schedule: &[String], room: f64) -> bool {
+    match (lines.first(), schedule.first()) {
+        (Some(line), Some(word)) if lines.len() == 1 && schedule.len() == 1 => {
+            bold_width(line.as_str(), 16.0) + 22.0 + plain_width(word.as_str(), 12.5) <= room
+        }
+        _ => false,
+    }
+}
+
+impl Heading {
+    // How many lines there are.
+    fn count(&self) -> usize {
+        if self.is_beside {
+            1
+        } else {
+            self.lines.len().saturating_add(self.schedule.len())
+        }
+    }
+
+    /// How much room it wants beyond that of one line.
+    pub fn extra(&self) -> f64 {
+        points(self.count().saturating_sub(1)) * 22.0
+    }
+}
+
+/// Draws the heading and the schedule above the columns.
+pub fn draw_heading(svg: &mut Svg, heading: &Heading) -> Result<(), AllocError> {
+    let mut y = 28.0 - heading.extra();
+    for line in &heading.lines {
+        svg.words(20.0, y, BOLD_LINE, line.as_str())?;
+        y += 22.0;
+    }
+    let mut x = 20.0;
+    if heading.is_beside {
+        y -= 22.0;
+        if let Some(line) = heading.lines.first() {
+            x += bold_width(line.as_str(), 16.0) + 22.0;
+        }
+    }
+    for line in &heading.schedule {
+        svg.words(x, y, GREY_LINE, line.as_str())?;
+        y += 22.0;
+    }
+    Ok(())
+}

@@ -1,0 +1,276 @@
+//! The rows of a picture: which events have one of their own, which are folded, and which are left out.
+
+use crate::labels::points;
+use crate::plan::{ROW, TOP};
+use cp_story::{Event, Happening, OpenCall, Story};
+use std::alloc::{AllocError, Global};
+
+/// How many starts, or rounds of one process alone, are folded at least.
+const FEWEST: usize = 3;
+
+/// How many events a round has at most.
+const LONGEST: usize = 8;
+
+/// The height of the edge beyond which rows are left out.
+pub const EDGE: f64 = 24.0;
+
+/// The height of a line of what changed.
+pub const LINE: f64 = 13.0;
+
+/// Which rows are drawn, counted from 1.
+#[derive(Clone, Copy, PartialEq, Eq)]
+pub enum Extent {
+    All,
+    Between(usize, usize),
+    Last(usize),
+}
+
+/// Why a row stands for several events.
+#[derive(Clone, Copy, PartialEq, Eq)]
+pub enum Fold {
+    None,
+    /// Starts at the beginning.
+    Starts,
+    /// So many rounds of one process alone.
+    Rounds(usize),
+}
+
+/// A row: an event, the stop after the last one, or some events that are folded.
+#[derive(Clone, Copy, Drop)]
+pub struct Row {
+    /// The first of its events, counted from 0.
+    pub first: usize,
+    pub count: usize,
+    pub fold: Fold,
+    pub top: f64,
+    pub height: f64,
+}
+
+/// The rows with their places.
+#[derive(Drop)]
+pub struct Sheet {
+    pub rows: Vec<Row>,
+    /// How many events are left out before and after these.
+    pub before: usize,
+    pub after: usize,
+    /// Where the last row ends.
+    pub end: f64,
+}
+
+impl Row {
+    /// The middle.
+    pub fn middle(self) -> f64 {
+        self.top + self.height / 2.0
+    }
+
+    /// The events of a story that it stands for.
+    pub fn events(self, story: &Story) -> &[Event] {
+        let end = self
+            .first
+            .saturating_add(self.count)
+            .min(story.events.len());
+        story.events.get(self.first..end).unwrap_or(&[])
+    }
+}
+
+impl Sheet {
+    /// Where an event stands: above all rows or below them where it is left out.
+    pub fn middle(&self, event: usize) -> f64 {
+        if event < self.before {
+            return TOP - 200.0;
+        }
+        for row in &self.rows {
+            if event < row.first.saturating_add(row.count) {
+                return row.middle();
+            }
+        }
+        self.end + 200.0
+    }
+
+    /// The row of an event, if it has one of its own.
+    pub fn row_of(&self, event: usize) -> Option<Row> {
+        for row in &self.rows {
+            if row.first == event && row.count == 1 {
+                return Some(*row);
+            }
+        }
+        None
+    }
+
+    /// Places the rows, one below the other, by their heights.
+    pub fn place(&mut self, heights: &[f64]) {
+        let mut top = if self.before > 0 { TOP + EDGE } else { TOP };
+        for (row, height) in self.rows.iter_mut().zip(heights) {
+            row.top = top;
+            row.height = *height;
+            top += *height;
+        }
+        self.end = top;
+    }
+
+    /// Where the rows and the edge below them end.
+    pub fn bottom(&self) -> f64 {
+        if self.after > 0 {
+            self.end + EDGE
+        } else {
+            self.end
+        }
+    }
+}
+
+/// The rows of a story, not placed yet; a row after the events is for its stop. No fold goes beyond the event with which a round begins.
+pub fn sheet_of(
+    alloc: Global,
+    story: &Story,
+    extent: Extent,
+    again: Option<usize>,
+) -> Result<Sheet, AllocError> {
+    let extra = if story.stop.is_some() { 1 } else { 0usize };
+    let total = story.events.len().saturating_add(extra);
+    let (first, last) = bounds(extent, total);
+    let mut rows = Vec::new(alloc);
+    let mut at = first;
+    for _ in first..last {
+        if at < last {
+            let end = match again {
+                Some(row) if at < row && row < last => row,
+                _ => last,
+            };
+            at = at.saturating_add(push_rows(&mut rows, story, at, end)?);
+        }
+    }
+    Ok(Sheet {
+        rows,
+        before: first,
+        after: total.saturating_sub(last),
+        end: TOP,
+    })
+}
+
+// The first event that is drawn, and the one after the last.
+fn bounds(extent: Extent, total: usize) -> (usize, usize) {
+    match extent {
+        Extent::All => (0, total),
+        Extent::Between(first, last) => {
+            let first = first.saturating_sub(1).min(total);
+            (first, last.min(total).max(first))
+        }
+        Extent::Last(count) => (total.saturating_sub(count), total),
+    }
+}
+
+// Appends the rows of the next events, and answers how many these are.
+fn push_rows(
+    rows: &mut Vec<Row>,
+    story: &Story,
+    at: usize,
+    end: usize,
+) -> Result<usize, AllocError> {
+    let starts = starts_at(story, at, end);
+    if starts >= FEWEST {
+        rows.push(new_row(at, starts, Fold::Starts))?;
+        return Ok(starts);
+    }
+    let (length, rounds) = rounds_at(story, at, end);
+    if rounds < FEWEST {
+        rows.push(new_row(at, 1, Fold::None))?;
+        return Ok(1);
+    }
+    for place in 0..length {
+        rows.push(new_row(at.saturating_add(place), 1, Fold::None))?;
+    }
+    let more = rounds.saturating_sub(1);
+    let count = length.saturating_mul(more);
+    rows.push(new_row(at.saturating_add(length), count, Fold::Rounds(more)))?;
+    Ok(length.saturating_mul(rounds))
+}
+
+fn new_row(first: usize, count: usize, fold: Fold) -> Row {
+    Row {
+        first,
+        count,
+        fold,
+        top: TOP,
+        height: ROW,
+    }
+}
+
+// How many starts there are at the beginning.
+fn starts_at(story: &Story, at: usize, end: usize) -> usize {
+    let mut count = 0usize;
+    if at > 0 {
+        return 0;
+    }
+    for event in &story.events {
+        if count >= end || !matches!(event.happening, Happening::Start(_)) {
+            return count;
+        }
+        count = count.saturating_add(1);
+    }
+    count
+}
+
+// The length of the shortest round that a process goes alone from an event on at least three times, and how often.
+fn rounds_at(story: &Story, at: usize, end: usize) -> (usize, usize) {
+    for length in 1..LONGEST {
+        let mut same = 0usize;
+        for place in at..end {
+            if !is_same(story, place, place.saturating_add(length), end) {
+                break;
+            }
+            same = same.saturating_add(1);
+        }
+        let rounds = same.checked_div(length).unwrap_or(0).saturating_add(1);
+        if rounds >= FEWEST {
+            return (length, rounds);
+        }
+    }
+    (1, 1)
+}
+
+// Whether two events are of one process alone, and the same on the same line.
+fn is_same(story: &Story, place: usize, other: usize, end: usize) -> bool {
+    let (Some(one), Some(two)) = (story.events.get(place), story.events.get(other)) else {
+        return false;
+    };
+    let is_alone = one.woken.is_empty() && one.let_in.is_empty() && two.woken.is_empty();
+    other < end
+        && is_alone
+        && two.let_in.is_empty()
+        && one.plain.process == two.plain.process
+        && one.line == two.line
+        && is_same_happening(&one.happening, &two.happening)
+}
+
+// Whether two events are calls of one routine, or returns from it, or continue one queue, or display one value.
+fn is_same_happening(one: &Happening, two: &Happening) -> bool {
+    match (one, two) {
+        (
+            Happening::Enter {
+                call: one,
+                waits: false,
+                ..
+            },
+            Happening::Enter {
+                call: two,
+                waits: false,
+                ..
+            },
+        ) => is_same_call(*one, *two),
+        (Happening::Leave(one), Happening::Leave(two)) => is_same_call(*one, *two),
+        (Happening::Continue(one, _), Happening::Continue(two, _)) => {
+            one.monitor == two.monitor && one.name.as_str() == two.name.as_str()
+        }
+        (Happening::Display(one), Happening::Display(two)) => one == two,
+        _ => false,
+    }
+}
+
+fn is_same_call(one: OpenCall, two: OpenCall) -> bool {
+    one.monitor == two.monitor && one.routine == two.routine
+}
+
+/// The height of a row with so many lines of what changed.
+pub fn height_of(lines: usize) -> f64 {
+    (points(lines) * LINE + 8.0).max(ROW)
+}

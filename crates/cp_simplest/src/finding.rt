@@ -1,0 +1,108 @@
+//! The simplest schedules of outcomes.
+
+ghost use Rattle.std.specs.Prelude.{◌≡◌, ◌≤◌, IfOk, length, true};
+ghost use Rattle.cp_run.specs.Slots.{slots};
+ghost use Rattle.cp_simplest.specs.Simple as spec;
+
+use crate::keys::outcome_key;
+use crate::levels::Word;
+use crate::search::Search;
+use cp_machine::Ticks;
+use cp_run::{Limits, Outcome, OutcomeKind, RunEnd, run};
+use cp_slots::Resolved;
+use cp_walk::Job;
+use cp_walk::numbers::is_same;
+use indexmap::IndexMap;
+use std::alloc::{AllocError, Global};
+use std::marker::Brand;
+use std::sync::ledger::{Blank, Ledger};
+
+/// A schedule, and how many switches it has.
+#[derive(Drop)]
+pub struct Simple {
+    pub word: Word,
+    pub switches: u8,
+}
+
+/// The simplest schedules.
+#[derive(Drop)]
+pub enum Searched {
+    /// One for each outcome, if there is one.
+    Found(Vec<Option<Simple>>),
+    /// There are more states than may be kept.
+    TooMany,
+}
+
+/// The simplest schedule of each of these outcomes, by a search through so many states at most: of those with as many choices as the job
+/// allows it has the fewest switches, of these the fewest numbers, and of these it is the first in dictionary order. A switch is a choice
+/// of a process other than the one that made the last step, while that one could be chosen; a choice at a gate is none.
+pub fn simplest(
+    alloc: Global,
+    job: Job,
+    most: usize,
+    outcomes: &[&Outcome],
+) -> Result<Searched, AllocError> {
+    search_counted::<Brand, Brand>(alloc, job, most, outcomes, Blank::new(1), Blank::new(1))
+}
+
+fn search_counted<S: Ledger, C: Ledger>(
+    alloc: Global,
+    job: Job,
+    most: usize,
+    outcomes: &[&Outcome],
+    steps: Blank,
+    calls: Blank,
+) -> Result<Searched, AllocError>
+    requires steps_name { steps.name ≡ S.name }
+    requires steps_parts { (steps.parts ≡ S.parts) × (S.parts ≡ 1) }
+    requires calls_name { calls.name ≡ C.name }
+    requires calls_parts { (calls.parts ≡ C.parts) × (C.parts ≡ 1) }
+{
+    let mut steps: Ticks<S> = Ticks::new(steps);
+    let mut calls: Ticks<C> = Ticks::new(calls);
+    let Job { program, limits } = job;
+    let mut ends = IndexMap::new(alloc);
+    for (place, outcome) in outcomes.iter().enumerate() {
+        let key = outcome_key(alloc, outcome.kind, outcome.output.as_slice())?;
+        ends.insert(key, place)?;
+    }
+    let mut search = Search::new(alloc, limits, ends, has_limit(outcomes), most)?;
+    let mut states = Vec::new(alloc);
+    search.begin(alloc, program, limits, &mut states, &mut steps, &mut calls)?;
+    search.explore(alloc, program, limits, &mut states, &mut steps, &mut calls)?;
+    if search.is_full {
+        return Ok(Searched::TooMany);
+    }
+    Ok(Searched::Found(search.found))
+}
+
+// Whether runs end at the limit of choices.
+fn has_limit(outcomes: &[&Outcome]) -> bool {
+    for outcome in outcomes {
+        if outcome.kind == OutcomeKind::ChoiceLimit {
+            return true;
+        }
+    }
+    false
+}
+
+/// Whether the run of a word uses all of it and ends with an outcome.
+pub fn is_schedule_of<L: Ledger>(
+    alloc: Global,
+    program: &Resolved,
+    limits: Limits,
+    word: &[u8],
+    outcome: &Outcome,
+    ticks: &mut Ticks<L>,
+) -> Result<bool, AllocError>
+    requires { length word.now ≤ 100 }
+    ensures { IfOk result (λ is. is ≡ true → spec.IsScheduleOf (slots program.now limits.gates) limits.choices limits.steps word.now outcome.now) }
+{
+    match run(alloc, program, limits, word, ticks)? {
+        RunEnd::Ended {
+            outcome: found,
+            used,
+        } => Ok(used == word.len() && is_same(&found, outcome)),
+        RunEnd::Wants { .. } | RunEnd::NotReady { .. } => Ok(false),
+    }
+}

@@ -1,0 +1,10 @@
+//! The simplest schedule of each outcome: the one in which processes are switched least.
+#![tactic(auto)]
+
+pub mod finding;
+mod keys;
+mod levels;
+mod search;
+mod watching;
+
+pub use finding::{Searched, Simple, is_schedule_of, simplest};
