@@ -54,9 +54,11 @@ fn search_counted<S: Ledger, C: Ledger>(
     calls: Blank,
 ) -> Result<Searched, AllocError>
     requires steps_name { steps.name ≡ S.name }
-    requires steps_parts { (steps.parts ≡ S.parts) × (S.parts ≡ 1) }
+    requires steps_parts { steps.parts ≡ S.parts }
+    requires steps_one { S.parts ≡ 1 }
     requires calls_name { calls.name ≡ C.name }
-    requires calls_parts { (calls.parts ≡ C.parts) × (C.parts ≡ 1) }
+    requires calls_parts { calls.parts ≡ C.parts }
+    requires calls_one { C.parts ≡ 1 }
 {
     let mut steps: Ticks<S> = Ticks::new(steps);
     let mut calls: Ticks<C> = Ticks::new(calls);

@@ -399,21 +399,43 @@ impl Search {
         requires all { All (λ s. IsStateOf program.now s) states.old.items }
         ensures { IfOk result (λ _. All (λ s. IsStateOf program.now s) states.new.items) }
     {
-        let target = match halt {
-            Halt::Ended(kind) => self.end_target(alloc, kind, &state)?,
-            Halt::Choice if word.len() >= limits.choices as usize => {
-                self.end_target(alloc, OutcomeKind::ChoiceLimit, &state)?
-            }
-            Halt::Choice => self.state_target(alloc, program, states, state, last)?,
-        };
-        let Some(target) = target else {
-            return Ok(());
-        };
-        let label = Label { word, target };
+        let length = word.len();
+        match self.target_of(alloc, program, limits, states, halt, state, length, last)? {
+            Some(target) => self.add_label(Label { word, target }, is_switch),
+            None => Ok(()),
+        }
+    }
+
+    fn add_label(&mut self, label: Label, is_switch: bool) -> Result<(), AllocError> {
         if is_switch {
             self.next.push(label)
         } else {
             self.here.push(label)
+        }
+    }
+
+    // Where a word of a length leads to whose run has stopped in a state.
+    fn target_of(
+        &mut self,
+        alloc: Global,
+        program: &Resolved,
+        limits: Limits,
+        states: &mut Vec<State>,
+        halt: Halt,
+        state: State,
+        length: usize,
+        last: u8,
+    ) -> Result<Option<Target>, AllocError>
+        requires own { IsStateOf program.now state }
+        requires all { All (λ s. IsStateOf program.now s) states.old.items }
+        ensures { IfOk result (λ _. All (λ s. IsStateOf program.now s) states.new.items) }
+    {
+        match halt {
+            Halt::Ended(kind) => self.end_target(alloc, kind, &state),
+            Halt::Choice if length >= limits.choices as usize => {
+                self.end_target(alloc, OutcomeKind::ChoiceLimit, &state)
+            }
+            Halt::Choice => self.state_target(alloc, program, states, state, last),
         }
     }
 
