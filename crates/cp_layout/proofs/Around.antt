@@ -20,7 +20,7 @@ use Rattle.cp_layout.specs.LaidExpressions.{expression, designator, selector, fi
 use Rattle.cp_layout.specs.LaidStatements.{Target, target_of, assigned_as, assignment, assigned}
 use Rattle.cp_layout.specs.Kinds.{array_of, types_seen}
 
-module _ (l : code_layer.Layer) where
+module _ (l : code_layer.Layouter) where
   field_around : (d : Designated) (x : List ℕ) → field_selected (around_seen l.around) d x ≡ field_selected (layer_seen l) d x
   unfolding layer_seen
   field_around (a_value v) x = refl
@@ -88,11 +88,11 @@ index_view : (e : tree_expression.Expression) → selector_view (tree_selector.I
 index_view e = search (rules, tree_lemmas)
 
 module _ (s : tree_selector.Selector) (d : Designated) where
-  pub field_laid : (l : code_layer.Layer) (i : Identifier) → s ≡ tree_selector.Field i → (e : Designated) → e ≡ field_selected (around_seen l.around) d i.name → selector (layer_seen l) d (selector_view s) ≡ (e, layer_seen l)
+  pub field_laid : (l : code_layer.Layouter) (i : Identifier) → s ≡ tree_selector.Field i → (e : Designated) → e ≡ field_selected (around_seen l.around) d i.name → selector (layer_seen l) d (selector_view s) ≡ (e, layer_seen l)
   unfolding selector
   field_laid l i is e h = ap (λ x. selector (layer_seen l) d (selector_view x)) is ∙ ap (λ x. selector (layer_seen l) d x) (field_view i) ∙ ap (λ x. (let y : Designated × Layer = (x, layer_seen l) in y)) (sym (h ∙ field_around l d i.name))
 
-  pub element_laid : {E : Type 0} (l : Layer) (m : code_layer.Layer) (a : tree_expression.Expression) (v : Value) (at : Expression) (r : Result code_designated.Designated E) → s ≡ tree_selector.Index a → expression l (expression_view a) ≡ (v, layer_seen m) → at ≡ ordinal_of v
+  pub element_laid : {E : Type 0} (l : Layer) (m : code_layer.Layouter) (a : tree_expression.Expression) (v : Value) (at : Expression) (r : Result code_designated.Designated E) → s ≡ tree_selector.Index a → expression l (expression_view a) ≡ (v, layer_seen m) → at ≡ ordinal_of v
       → IfOk r (λ x. designated_seen x ≡ element_selected (around_seen m.around) d at) → Lays designated_seen (selector l d (selector_view s)) (layer_seen m) r
   unfolding selector
   element_laid l m a v at (Ok x) is h e k =
@@ -105,7 +105,7 @@ module _ (s : tree_selector.Selector) (d : Designated) where
 
 -- ---- assignments
 
-pub assigned_laid : (l : Layer) (at : ℕ) (d : syntax.Designator) (w : Designated) (m : Layer) → designator l d ≡ (w, m) → (t : Target) → t ≡ target_of m w → (e : syntax.Expression) (v : Value) (n : code_layer.Layer) → expression m e ≡ (v, layer_seen n) → (a : Action)
+pub assigned_laid : (l : Layer) (at : ℕ) (d : syntax.Designator) (w : Designated) (m : Layer) → designator l d ≡ (w, m) → (t : Target) → t ≡ target_of m w → (e : syntax.Expression) (v : Value) (n : code_layer.Layouter) → expression m e ≡ (v, layer_seen n) → (a : Action)
     → a ≡ assignment (around_seen n.around) t v → assigned l at d e ≡ added (layer_seen n) at a 0
 unfolding assigned
 assigned_laid l at d w m named t aimed e v n valued a h =

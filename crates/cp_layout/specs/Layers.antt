@@ -159,7 +159,7 @@ system_seen s = record { kind = s.kind; owned = owned_seen s.owned; first = s.fi
 abbrev pub pending_seen : code_pending.Pending → Pending
 pending_seen p = record { action = action_seen p.action; line = p.line; need = p.need }
 
-unfoldable pub layer_seen : code_layer.Layer → Layer
+unfoldable pub layer_seen : code_layer.Layouter → Layer
 layer_seen l =
     record {
       lines = l.around.lines.now;
