@@ -28,15 +28,15 @@ ok_to (Err e) P Q h f = h
 -- ---- a state
 
 module _ (r : Tables) (most : ℕ) (found : Found) (f : SlotFindings) (m : Machine) (word : List ℕ) (h : HoldsFew r most found f) where
-  pub state_known : has same_key f.states m ≡ true → Comes r most found f word (Place m) true
-  state_known known =
+  pub state_known : has same_key f.states m ≡ true → (states : States) → AreStates r states f.states → Comes r most (record found { states = states }) f word (Place m) true
+  state_known known states are =
       let e : with_first same_key f.states m word ≡ f.states = ap (λ b. if b then f.states else f.states ++ (m, word) ∷ []) known in
-      subst (λ ss. HoldsFew r most found (record f { states = ss })) (sym e) (record { holds = record { states = h.holds.states; ends = h.holds.ends; values = h.holds.values }; few = h.few })
+      subst (λ ss. HoldsFew r most (record found { states = states }) (record f { states = ss })) (sym e) (record { holds = record { states = are; ends = h.holds.ends; values = h.holds.values }; few = h.few })
 
-  pub state_full : has same_key f.states m ≡ false → most ≤ length f.states → Comes r most found f word (Place m) false
-  state_full new many = let few = h.few in (h.holds, (new, omega (arith, few, many)))
+  pub state_full : has same_key f.states m ≡ false → most ≤ length f.states → (states : States) → AreStates r states f.states → Comes r most (record found { states = states }) f word (Place m) false
+  state_full new many states are = let few = h.few in (record { states = are; ends = h.holds.ends; values = h.holds.values }, (new, omega (arith, few, many)))
 
-  pub state_new : has same_key f.states m ≡ false → length f.states < most → (states : States) → AreStates r states.known.entries (f.states ++ (m, word) ∷ []) → Comes r most (record found { states = states }) f word (Place m) true
+  pub state_new : has same_key f.states m ≡ false → length f.states < most → (states : States) → AreStates r states (f.states ++ (m, word) ∷ []) → Comes r most (record found { states = states }) f word (Place m) true
   state_new new room states are =
       let e : with_first same_key f.states m word ≡ f.states ++ (m, word) ∷ [] = ap (λ b. if b then f.states else f.states ++ (m, word) ∷ []) new in
       let more = length-append f.states ((m, word) ∷ []) in

@@ -5,6 +5,7 @@ pub mod GoingOn
 pub mod Keeping
 pub mod Listing
 pub mod LocalOutput
+pub mod Numbering
 pub mod Returning
 pub mod Saying
 pub mod Searching

@@ -15,8 +15,9 @@ use Rattle.cp_ends.specs.declared.found.FoundEnd.{FoundEnd}
 use Rattle.cp_ends.specs.declared.found.FoundValue.{FoundValue}
 use Rattle.cp_ends.specs.declared.found.TheConstants.{MOST_VALUES}
 use Rattle.cp_ends.specs.declared.origin.Origin.{Origin}
+use Rattle.cp_ends.specs.declared.states.States.{States}
 use Rattle.cp_ends.proofs.Finding.{found_length}
-use Rattle.cp_ends.proofs.Keeping.{Keys, Stated, states_length}
+use Rattle.cp_ends.proofs.Keeping.{Entry, Stated, states_length}
 
 pub each_push : {A B : Type 0} (f : A → List B) (xs : List A) (x : A) → each f (xs ++ x ∷ []) ≡ each f xs ++ f x
 each_push f [] x = append-nil (f x)
@@ -94,20 +95,20 @@ module _ {A : Type 0} (most : ℕ) (depth : Option ℕ) (line : A → List ℕ �
 
 -- ---- what the code has written of the first so many
 
-abbrev pub EndsSoFar : List Keys → Option ℕ → List FoundEnd → ℕ → List ℕ → ℕ → Type 0
-EndsSoFar entries depth ends i text count = (count ≤ i) × ((r : Tables) (states : List Stated) (fs : EndsWithWords) → AreStates r entries states → AreFound states (map end_origin ends) fs → SoFar depth end_line (take i fs) text count)
+abbrev pub EndsSoFar : States → Option ℕ → List FoundEnd → ℕ → List ℕ → ℕ → Type 0
+EndsSoFar kept depth ends i text count = (count ≤ i) × ((r : Tables) (states : List Stated) (fs : EndsWithWords) → AreStates r kept states → AreFound states (map end_origin ends) fs → SoFar depth end_line (take i fs) text count)
 
-abbrev pub ValuesSoFar : List Keys → Spellings → Option ℕ → List FoundValue → ℕ → List ℕ → ℕ → Type 0
-ValuesSoFar entries names depth values i text count = (count ≤ i) × ((r : Tables) (states : List Stated) (fs : ValuesWithWords) → AreStates r entries states → AreFound states (map value_origin values) fs → FirstSoFar MOST_VALUES depth (value_line names) (take i fs) text count)
+abbrev pub ValuesSoFar : States → Spellings → Option ℕ → List FoundValue → ℕ → List ℕ → ℕ → Type 0
+ValuesSoFar kept names depth values i text count = (count ≤ i) × ((r : Tables) (states : List Stated) (fs : ValuesWithWords) → AreStates r kept states → AreFound states (map value_origin values) fs → FirstSoFar MOST_VALUES depth (value_line names) (take i fs) text count)
 
 -- the next one
-module _ (entries : List Keys) (depth : Option ℕ) (i : ℕ) (word : List ℕ) where
+module _ (kept : States) (depth : Option ℕ) (i : ℕ) (word : List ℕ) where
   -- its word is this
   abbrev pub IsNext : Origin → Type 0
-  IsNext o = (r : Tables) (states : List Stated) (w : List ℕ) → AreStates r entries states → IsWordOf states o w → word ≡ w
+  IsNext o = (r : Tables) (states : List Stated) (w : List ℕ) → AreStates r kept states → IsWordOf states o w → word ≡ w
 
-  module _ (ends : List FoundEnd) (d : FoundEnd) (lt : i < length ends) (is : IsNext (get_or ends i d).origin) (text : List ℕ) (count : ℕ) (h : EndsSoFar entries depth ends i text count) where
-    pub ends_more : (slice next : List ℕ) (n : ℕ) → slice ≡ word → is_told depth word ≡ true → next ≡ text ++ end_line (get_or ends i d).end slice → n ≡ count + 1 → EndsSoFar entries depth ends (i + 1) next n
+  module _ (ends : List FoundEnd) (d : FoundEnd) (lt : i < length ends) (is : IsNext (get_or ends i d).origin) (text : List ℕ) (count : ℕ) (h : EndsSoFar kept depth ends i text count) where
+    pub ends_more : (slice next : List ℕ) (n : ℕ) → slice ≡ word → is_told depth word ≡ true → next ≡ text ++ end_line (get_or ends i d).end slice → n ≡ count + 1 → EndsSoFar kept depth ends (i + 1) next n
     ends_more slice next n read it e one = (
       (let few = h.0 in omega (arith, few, one)),
       λ r states fs s a.
@@ -117,7 +118,7 @@ module _ (entries : List Keys) (depth : Option ℕ) (i : ℕ) (word : List ℕ) 
           line_more depth end_line (take i fs) (take (i + 1) fs) f.0 put text count next n (ap (is_told depth) (sym same) ∙ it) (e ∙ ap (λ x. text ++ end_line x slice) f.2 ∙ ap (λ w. text ++ end_line f.0.0 w) (read ∙ same)) one (h.1 r states fs s a),
     )
 
-    pub ends_left_out : (next : List ℕ) (n : ℕ) → is_told depth word ≡ false → next ≡ text → n ≡ count → EndsSoFar entries depth ends (i + 1) next n
+    pub ends_left_out : (next : List ℕ) (n : ℕ) → is_told depth word ≡ false → next ≡ text → n ≡ count → EndsSoFar kept depth ends (i + 1) next n
     ends_left_out next n it e one = (
       (let few = h.0 in omega (arith, few, one)),
       λ r states fs s a.
@@ -127,8 +128,8 @@ module _ (entries : List Keys) (depth : Option ℕ) (i : ℕ) (word : List ℕ) 
           left_out depth end_line (take i fs) (take (i + 1) fs) f.0 put next n (ap (is_told depth) (sym same) ∙ it) (let b = h.1 r states fs s a in (e ∙ b.0, one ∙ b.1)),
     )
 
-  module _ (names : Spellings) (values : List FoundValue) (d : FoundValue) (lt : i < length values) (is : IsNext (get_or values i d).origin) (text : List ℕ) (count : ℕ) (h : ValuesSoFar entries names depth values i text count) where
-    pub values_more : (slice next : List ℕ) (n : ℕ) → slice ≡ word → is_told depth word ≡ true → next ≡ text ++ (if nat_lt count MOST_VALUES then value_line names (get_or values i d).value slice else []) → n ≡ count + 1 → ValuesSoFar entries names depth values (i + 1) next n
+  module _ (names : Spellings) (values : List FoundValue) (d : FoundValue) (lt : i < length values) (is : IsNext (get_or values i d).origin) (text : List ℕ) (count : ℕ) (h : ValuesSoFar kept names depth values i text count) where
+    pub values_more : (slice next : List ℕ) (n : ℕ) → slice ≡ word → is_told depth word ≡ true → next ≡ text ++ (if nat_lt count MOST_VALUES then value_line names (get_or values i d).value slice else []) → n ≡ count + 1 → ValuesSoFar kept names depth values (i + 1) next n
     values_more slice next n read it e one = (
       (let few = h.0 in omega (arith, few, one)),
       λ r states fs s a.
@@ -138,7 +139,7 @@ module _ (entries : List Keys) (depth : Option ℕ) (i : ℕ) (word : List ℕ) 
           first_more MOST_VALUES depth (value_line names) (take i fs) (take (i + 1) fs) f.0 put text count next n (ap (is_told depth) (sym same) ∙ it) (e ∙ ap (λ x. text ++ (if nat_lt count MOST_VALUES then value_line names x slice else [])) f.2 ∙ ap (λ w. text ++ (if nat_lt count MOST_VALUES then value_line names f.0.0 w else [])) (read ∙ same)) one (h.1 r states fs s a),
     )
 
-    pub values_left_out : (next : List ℕ) (n : ℕ) → is_told depth word ≡ false → next ≡ text → n ≡ count → ValuesSoFar entries names depth values (i + 1) next n
+    pub values_left_out : (next : List ℕ) (n : ℕ) → is_told depth word ≡ false → next ≡ text → n ≡ count → ValuesSoFar kept names depth values (i + 1) next n
     values_left_out next n it e one = (
       (let few = h.0 in omega (arith, few, one)),
       λ r states fs s a.
@@ -165,12 +166,12 @@ report_so names f depth states head ends text n h e v =
     v ∙ ap (λ t. t ++ values_text names (told depth f.values)) (e ∙ ap (λ t. t ++ listed (codes "ends ") end_line (told depth f.ends)) before)
 
 -- the word of the origin of a state
-pub origin_here : (r : Tables) (entries : List Keys) (states : List Stated) (at : ℕ) (x : Stated) → AreStates r entries states → slice_get states at ≡ Some x → IsWordOf states (origin_at entries at) x.1
-origin_here r entries states at x h to = by (slice_get_cases entries at).1
+pub origin_here : (r : Tables) (kept : States) (states : List Stated) (at : ℕ) (x : Stated) → AreStates r kept states → slice_get states at ≡ Some x → IsWordOf states (origin_at kept.known.entries at) x.1
+origin_here r kept states at x h to = by (slice_get_cases kept.known.entries at).1
   where
-    by : ((e : Keys) × (at < length entries) × (slice_get entries at ≡ Some e) × (get_or entries at e ≡ e)) ⊎ ((length entries ≤ at) × (slice_get entries at ≡ None)) → IsWordOf states (origin_at entries at) x.1
+    by : ((e : Entry) × (at < length kept.known.entries) × (slice_get kept.known.entries at ≡ Some e) × (get_or kept.known.entries at e ≡ e)) ⊎ ((length kept.known.entries ≤ at) × (slice_get kept.known.entries at ≡ None)) → IsWordOf states (origin_at kept.known.entries at) x.1
     by (inl e) = subst (λ o. IsWordOf states (origin_or o) x.1) (sym e.2) (h.words at e.0 x e.2 to)
-    by (inr none) = let past = none.0 in let within = slice_get_within states at x to in let few = states_length r entries states h in absurd (omega (arith, past, within, few))
+    by (inr none) = let past = none.0 in let within = slice_get_within states at x to in let few = states_length r kept states h in absurd (omega (arith, past, within, few))
 
 -- all of them
 pub take_found : {A X : Type 0} (states : List Stated) (to : X → A × Origin) (xs : List X) (fs : List (A × List ℕ)) (i : ℕ) → AreFound states (map to xs) fs → length xs ≤ i → take i fs ≡ fs

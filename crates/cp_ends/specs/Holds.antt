@@ -7,14 +7,17 @@ use Rattle.cp_key.specs.Room.{IsMachineOf}
 use Rattle.cp_machine.specs.declared.shown.Shown.{Shown}
 use Rattle.cp_machine.specs.System.{Machine}
 use Rattle.cp_ends.specs.Graph.{Arrival}
-use Rattle.cp_ends.specs.Searched.{Findings}
+use Rattle.cp_ends.specs.Searched.{Findings, has}
 use Rattle.cp_ends.specs.declared.end.End.{End}
 use Rattle.cp_ends.specs.declared.found.Found.{Found}
 use Rattle.cp_ends.specs.declared.found.FoundEnd.{FoundEnd}
 use Rattle.cp_ends.specs.declared.found.FoundValue.{FoundValue}
 use Rattle.cp_ends.specs.declared.origin.Origin.{Origin}
 use Rattle.cp_ends.specs.declared.origin.Origin.TheVariants.{Start, Choice}
-use Rattle.cp_ends.specs.declared.state_key.StateKey.{StateKey}
+use Rattle.cp_ends.specs.declared.states.States.{States}
+use Rattle.cp_states.specs.Rows.{IsRowOf}
+use Rattle.cp_states.specs.declared.row.Row.{Row}
+use Rattle.cp_states.specs.declared.store.Store.{Store}
 
 -- whether two machines have one key
 unfoldable pub same_key : Machine → Machine → Bool
@@ -31,11 +34,11 @@ IsBefore n Start = Unit {0}
 IsBefore n (Choice at number) = at < n
 
 -- the origin of the state of this number
-abbrev pub origin_or : Option (StateKey × Origin) → Origin
+abbrev pub origin_or : Option (Row × Origin) → Origin
 origin_or None = Start
 origin_or (Some e) = e.1
 
-abbrev pub origin_at : List (StateKey × Origin) → ℕ → Origin
+abbrev pub origin_at : List (Row × Origin) → ℕ → Origin
 origin_at entries at = origin_or (slice_get entries at)
 
 -- whether there is a state of this number, which is this machine
@@ -43,13 +46,25 @@ abbrev pub IsAt : List (Machine × List ℕ) → ℕ → Bool → Machine → Ty
 IsAt states at true m = (x : Machine × List ℕ) × (slice_get states at ≡ Some x) × (m ≡ x.0)
 IsAt states at false m = slice_get states at ≡ None
 
--- the entries are the states, each with its word
-pub record AreStates (r : Tables) (entries : List (StateKey × Origin)) (states : List (Machine × List ℕ)) : Type 0 where
-  pub keys : map (λ e. e.0.bytes.items) entries ≡ map (λ x. key_of x.0) states
+-- the state of this number is this machine, or none is
+abbrev pub IsNumberOf : List (Machine × List ℕ) → Machine → Option ℕ → Type 0
+IsNumberOf states m (Some at) = (x : Machine × List ℕ) × (slice_get states at ≡ Some x) × (x.0 ≡ m)
+IsNumberOf states m None = has same_key states m ≡ false
+
+-- the entries are the rows of the states
+abbrev pub AreRows : Store → List (Row × Origin) → List (Machine × List ℕ) → Type 0
+AreRows store [] [] = Unit {0}
+AreRows store [] (x ∷ xs) = ⊥
+AreRows store (e ∷ es) [] = ⊥
+AreRows store (e ∷ es) (x ∷ xs) = IsRowOf store e.0.numbers x.0 × AreRows store es xs
+
+-- what the code keeps are the states, each with its word
+pub record AreStates (r : Tables) (kept : States) (states : List (Machine × List ℕ)) : Type 0 where
+  pub rows : AreRows kept.store kept.known.entries states
   pub own : All (λ x. IsMachineOf r x.0) states
   pub quiet : All (λ x. x.0.output ≡ []) states
-  pub words : (i : ℕ) (e : StateKey × Origin) (x : Machine × List ℕ) → slice_get entries i ≡ Some e → slice_get states i ≡ Some x → IsWordOf states e.1 x.1
-  pub before : (i : ℕ) (e : StateKey × Origin) → slice_get entries i ≡ Some e → IsBefore i e.1
+  pub words : (i : ℕ) (e : Row × Origin) (x : Machine × List ℕ) → slice_get kept.known.entries i ≡ Some e → slice_get states i ≡ Some x → IsWordOf states e.1 x.1
+  pub before : (i : ℕ) (e : Row × Origin) → slice_get kept.known.entries i ≡ Some e → IsBefore i e.1
 
 -- things with their origins are things with their words
 abbrev pub AreFound : {A : Type 0} → List (Machine × List ℕ) → List (A × Origin) → List (A × List ℕ) → Type 0
@@ -73,7 +88,7 @@ SlotArrival = Arrival Machine End Shown
 
 -- the findings of the code
 pub record Holds (r : Tables) (found : Found) (f : SlotFindings) : Type 0 where
-  pub states : AreStates r found.states.known.entries f.states
+  pub states : AreStates r found.states f.states
   pub ends : AreFound f.states (map end_origin found.ends.items) f.ends
   pub values : AreFound f.states (map value_origin found.values.items) f.values
 

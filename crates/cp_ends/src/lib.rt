@@ -17,4 +17,4 @@ pub use end::End;
 pub use found::Found;
 pub use laws::{law_answer_means, law_answer_to_means};
 pub use report::ends_report;
-pub use search::search_ends;
+pub use search::{search_ends, search_ends_with};

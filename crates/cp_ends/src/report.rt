@@ -82,7 +82,7 @@ fn push_ends(
     ends: &[FoundEnd],
     depth: Option<usize>,
 ) -> Result<(), AllocError>
-    ensures { IfOk result (λ _. (r : Tables) (found : List (Machine × List ℕ)) (fs : EndsWithWords) → AreStates r states.now.known.entries found → AreFound found (map end_origin ends.now) fs → string_bytes text.new ≡ string_bytes text.old ++ listed (codes "ends ") end_line (told depth fs)) }
+    ensures { IfOk result (λ _. (r : Tables) (found : List (Machine × List ℕ)) (fs : EndsWithWords) → AreStates r states.now found → AreFound found (map end_origin ends.now) fs → string_bytes text.new ≡ string_bytes text.old ++ listed (codes "ends ") end_line (told depth fs)) }
 {
     let lines = end_lines(alloc, states, ends, depth)?;
     push_count_line(text, "ends ", lines.count)?;
@@ -97,7 +97,7 @@ fn end_lines(
     ends: &[FoundEnd],
     depth: Option<usize>,
 ) -> Result<Lines, AllocError>
-    ensures { IfOk result (λ lines. (r : Tables) (found : List (Machine × List ℕ)) (fs : EndsWithWords) → AreStates r states.now.known.entries found → AreFound found (map end_origin ends.now) fs → AreLines lines end_line (told depth fs)) }
+    ensures { IfOk result (λ lines. (r : Tables) (found : List (Machine × List ℕ)) (fs : EndsWithWords) → AreStates r states.now found → AreFound found (map end_origin ends.now) fs → AreLines lines end_line (told depth fs)) }
 {
     let mut text = String::new(alloc);
     let mut count = 0usize;
@@ -128,7 +128,7 @@ fn push_values(
     values: &[FoundValue],
     depth: Option<usize>,
 ) -> Result<(), AllocError>
-    ensures { IfOk result (λ _. (r : Tables) (found : List (Machine × List ℕ)) (fs : ValuesWithWords) → AreStates r states.now.known.entries found → AreFound found (map value_origin values.now) fs → string_bytes text.new ≡ string_bytes text.old ++ values_text program.now.names (told depth fs)) }
+    ensures { IfOk result (λ _. (r : Tables) (found : List (Machine × List ℕ)) (fs : ValuesWithWords) → AreStates r states.now found → AreFound found (map value_origin values.now) fs → string_bytes text.new ≡ string_bytes text.old ++ values_text program.now.names (told depth fs)) }
 {
     let lines = value_lines(alloc, program, states, values, depth)?;
     push_count_line(text, "shown ", MOST_VALUES.min(lines.count))?;
@@ -155,7 +155,7 @@ fn value_lines(
     values: &[FoundValue],
     depth: Option<usize>,
 ) -> Result<Lines, AllocError>
-    ensures { IfOk result (λ lines. (r : Tables) (found : List (Machine × List ℕ)) (fs : ValuesWithWords) → AreStates r states.now.known.entries found → AreFound found (map value_origin values.now) fs → AreFirstLines lines (value_line program.now.names) (told depth fs)) }
+    ensures { IfOk result (λ lines. (r : Tables) (found : List (Machine × List ℕ)) (fs : ValuesWithWords) → AreStates r states.now found → AreFound found (map value_origin values.now) fs → AreFirstLines lines (value_line program.now.names) (told depth fs)) }
 {
     let mut text = String::new(alloc);
     let mut count = 0usize;

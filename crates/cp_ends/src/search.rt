@@ -16,19 +16,18 @@ use crate::choosing::{choose, open};
 use crate::end::Arrival;
 use crate::found::Found;
 use crate::origin::Origin;
-use crate::state_key::StateKey;
 use cp_machine::{Shown, State, Ticks};
+use cp_progress::{ObserveLayers, Progress, Unobserved};
 use cp_run::{Limits, wanted};
 use cp_slots::Resolved;
 use std::alloc::{AllocError, Global};
 use std::marker::Brand;
 use std::sync::ledger::{Blank, Ledger};
 
-// What is found so far, with room for a key and for displayed values.
+// What is found so far, with room for displayed values.
 #[derive(Drop)]
 struct Search {
     found: Found,
-    key: StateKey,
     told: Vec<Shown>,
 }
 
@@ -44,15 +43,30 @@ pub fn search_ends(
     ensures answer { 1 ≤ most → IfOk result (λ found. IsAnswer program.now limits.gates limits.steps most found) }
     ensures kept { IfOk result (λ found. HasFindings program.now found) }
 {
-    let states = if most == 0 { 1 } else { most };
-    search_with::<Brand>(alloc, program, limits, states, Blank::new(1))
+    search_ends_with(alloc, program, limits, most, &mut Unobserved)
 }
 
-fn search_with<S: Ledger>(
+/// The same, where an observer is told of each layer.
+pub fn search_ends_with<O: ObserveLayers>(
     alloc: Global,
     program: &Resolved,
     limits: Limits,
     most: u32,
+    observer: &mut O,
+) -> Result<Found, AllocError>
+    ensures answer { 1 ≤ most → IfOk result (λ found. IsAnswer program.now limits.gates limits.steps most found) }
+    ensures kept { IfOk result (λ found. HasFindings program.now found) }
+{
+    let states = if most == 0 { 1 } else { most };
+    search_with::<O, Brand>(alloc, program, limits, states, observer, Blank::new(1))
+}
+
+fn search_with<O: ObserveLayers, S: Ledger>(
+    alloc: Global,
+    program: &Resolved,
+    limits: Limits,
+    most: u32,
+    observer: &mut O,
     blank: Blank,
 ) -> Result<Found, AllocError>
     requires name { blank.name ≡ S.name }
@@ -75,7 +89,7 @@ fn search_with<S: Ledger>(
     search.arrive(alloc, program, most, &state, arrival, Origin::Start)?;
     let mut next = state.copy(alloc)?;
     let stopped = search.go_on(
-        alloc, program, limits, most, &mut state, &mut next, &mut steps,
+        alloc, program, limits, most, observer, &mut state, &mut next, &mut steps,
     )?;
     search.found.stopped = stopped;
     Ok(search.found)
@@ -88,20 +102,27 @@ impl Search {
     {
         Search {
             found: Found::new(alloc),
-            key: StateKey {
-                bytes: Vec::new(alloc),
-            },
             told: Vec::new(alloc),
         }
     }
 
+    // What is found with words of so many choices.
+    fn progress(&self, choices: u32) -> Progress {
+        Progress {
+            choices,
+            states: self.found.states.len(),
+            outcomes: self.found.ends.len(),
+        }
+    }
+
     // Goes on from each state. Answers the one from which there is a state too many.
-    fn go_on<S: Ledger>(
+    fn go_on<O: ObserveLayers, S: Ledger>(
         &mut self,
         alloc: Global,
         program: &Resolved,
         limits: Limits,
         most: u32,
+        observer: &mut O,
         state: &mut State,
         next: &mut State,
         steps: &mut Ticks<S>,
@@ -111,7 +132,14 @@ impl Search {
         requires start { HoldsFew program.now most self.old.found (pure.searched (slot_graph program.now limits.gates limits.steps) ends_tests 0) }
         ensures { IfOk result (λ stopped. IsSearch program.now (slot_graph program.now limits.gates limits.steps) most self.new.found stopped) }
     {
+        let mut choices: u32 = 0;
+        let mut layer_end = self.found.states.len();
         for number in 0..most {
+            if number as usize == layer_end {
+                choices = choices.saturating_add(1);
+                observer.observe_layer(self.progress(choices));
+                layer_end = self.found.states.len();
+            }
             if !self.found.states.thaw_at(number, state) {
                 return Ok(None);
             }
@@ -226,14 +254,14 @@ impl Search {
         ensures { IfOk result (λ is_room. (f : SlotFindings) (word : List ℕ) → HoldsFew program.now most self.old.found f → IsWordOf f.states origin word → IsBefore (length f.states) origin → Comes program.now most self.new.found f word (graph.Place (machine_of state.now)) is_room) }
     {
         let _ = program;
-        self.key.take_from(state)?;
-        if self.found.states.contains(&self.key) {
+        let row = self.found.states.row_anew(alloc, state)?;
+        if self.found.states.contains(&row) {
             return Ok(true);
         }
         if self.found.states.len() >= most as usize {
             return Ok(false);
         }
-        self.found.states.add(alloc, &self.key, origin)?;
+        self.found.states.add(row, origin)?;
         Ok(true)
     }
 }

@@ -2,23 +2,25 @@
 
 ghost use Rattle.std.specs.Prelude.{◌≡◌, ◌<◌, ◌^◌, ◌∷◌, ◌++◌, ℕ, List, [], length, false, IfOk};
 ghost use Rattle.cp_slots.specs.Tables.{Tables};
-ghost use Rattle.cp_key.specs.Key.{key_of};
 ghost use Rattle.cp_key.specs.Room.{IsMachineOf};
+ghost use Rattle.cp_states.specs.Rows.{IsRowOf};
 ghost use Rattle.cp_machine.specs.System.{Machine, machine_of, IsStateOf};
-ghost use Rattle.cp_ends.specs.Holds.{same_key, AreStates, IsAt, IsBefore, IsWordOf, origin_at};
+ghost use Rattle.cp_ends.specs.Holds.{same_key, AreStates, IsAt, IsBefore, IsNumberOf, IsWordOf, origin_at};
 ghost use Rattle.cp_ends.specs.Searched.{has};
 
 use crate::origin::Origin;
-use crate::state_key::StateKey;
-use cp_key::{Parts, thaw};
-use cp_machine::{Moved, State};
+use cp_machine::State;
+use cp_states::{Row, Store};
 use indexmap::IndexMap;
 use std::alloc::{AllocError, Global};
 
 /// The states that were found, each once, in the order in which they were found, with the words that led there first.
 #[derive(Drop)]
 pub struct States {
-    pub known: IndexMap<StateKey, Origin>,
+    /// The row of each state.
+    pub known: IndexMap<Row, Origin>,
+    /// The parts of the states.
+    pub store: Store,
 }
 
 impl States {
@@ -28,6 +30,7 @@ impl States {
     {
         States {
             known: IndexMap::new(alloc),
+            store: Store::new(alloc),
         }
     }
 
@@ -39,33 +42,50 @@ impl States {
         self.known.len()
     }
 
-    /// Whether the state with this key was found.
-    pub fn contains(&self, key: &StateKey) -> bool
-        ensures { (r : Tables) (states : List (Machine × List ℕ)) (m : Machine) → AreStates r self.now.known.entries states → key.now.bytes.items ≡ key_of m → result ≡ has same_key states m }
+    /// The row of a state, whether it was found or not.
+    pub fn row_anew(&mut self, alloc: Global, state: &State) -> Result<Row, AllocError>
+        ensures row { IfOk result (λ row. IsRowOf self.new.store row.numbers (machine_of state.now)) }
+        ensures kept { (r : Tables) (states : List (Machine × List ℕ)) → AreStates r self.old states → AreStates r self.new states }
+        ensures known { self.new.known ≡ self.old.known }
     {
-        self.known.contains_key(key)
+        self.store.row_anew(alloc, state)
+    }
+
+    /// Whether the state with this row was found.
+    pub fn contains(&self, row: &Row) -> bool
+        ensures { (r : Tables) (states : List (Machine × List ℕ)) (m : Machine) → AreStates r self.now states → IsMachineOf r m → IsRowOf self.now.store row.now.numbers m → result ≡ has same_key states m }
+    {
+        self.known.contains_key(row)
     }
 
     /// A state that was not found is.
-    pub fn add(&mut self, alloc: Global, key: &StateKey, origin: Origin) -> Result<(), AllocError>
-        ensures { IfOk result (λ _. (r : Tables) (states : List (Machine × List ℕ)) (m : Machine) (word : List ℕ) → AreStates r self.old.known.entries states → has same_key states m ≡ false → IsMachineOf r m → m.output ≡ [] → key.now.bytes.items ≡ key_of m → IsWordOf states origin word → IsBefore (length states) origin → AreStates r self.new.known.entries (states ++ (m, word) ∷ [])) }
+    pub fn add(&mut self, row: Row, origin: Origin) -> Result<(), AllocError>
+        ensures { IfOk result (λ _. (r : Tables) (states : List (Machine × List ℕ)) (m : Machine) (word : List ℕ) → AreStates r self.old states → has same_key states m ≡ false → IsMachineOf r m → m.output ≡ [] → IsRowOf self.old.store row.numbers m → IsWordOf states origin word → IsBefore (length states) origin → AreStates r self.new (states ++ (m, word) ∷ [])) }
     {
-        let bytes = Vec::from_slice(alloc, key.bytes.as_slice())?;
-        self.known.insert(StateKey { bytes }, origin)?;
+        self.known.insert(row, origin)?;
         Ok(())
+    }
+
+    /// The number of a state, if it was found.
+    pub fn number(&self, state: &State) -> Option<usize>
+        ensures { (r : Tables) (states : List (Machine × List ℕ)) → AreStates r self.now states → IsMachineOf r (machine_of state.now) → IsNumberOf states (machine_of state.now) result }
+    {
+        match self.store.row_of(state) {
+            Some(row) => self.known.get_index_of(&row),
+            None => None,
+        }
     }
 
     /// A state becomes the one that was found with this number; `false` where there is none.
     pub fn thaw_at(&self, number: u32, state: &mut State) -> bool
-        requires { (r : Tables) × (states : List (Machine × List ℕ)) × IsStateOf r state.old × AreStates r self.now.known.entries states }
-        ensures own { (r : Tables) (states : List (Machine × List ℕ)) → IsStateOf r state.old → AreStates r self.now.known.entries states → IsStateOf r state.new }
-        ensures at { (r : Tables) (states : List (Machine × List ℕ)) → AreStates r self.now.known.entries states → IsAt states number result (machine_of state.new) }
+        requires { (r : Tables) × (states : List (Machine × List ℕ)) × IsStateOf r state.old × AreStates r self.now states }
+        ensures own { (r : Tables) (states : List (Machine × List ℕ)) → IsStateOf r state.old → AreStates r self.now states → IsStateOf r state.new }
+        ensures at { (r : Tables) (states : List (Machine × List ℕ)) → IsStateOf r state.old → AreStates r self.now states → IsAt states number result (machine_of state.new) }
     {
-        let Some((key, _)) = self.known.get_index(number as usize) else {
+        let Some((row, _)) = self.known.get_index(number as usize) else {
             return false;
         };
-        let mut moved = Moved::everybody();
-        let _ = thaw(key.bytes.as_slice(), &Parts::none(), state, &mut moved);
+        self.store.take_anew(row, state);
         true
     }
 
@@ -81,7 +101,7 @@ impl States {
 
     /// The numbers of a word.
     pub fn word(&self, alloc: Global, origin: Origin) -> Result<Vec<u8>, AllocError>
-        ensures { IfOk result (λ v. (r : Tables) (states : List (Machine × List ℕ)) (word : List ℕ) → AreStates r self.now.known.entries states → IsWordOf states origin word → v.items ≡ word) }
+        ensures { IfOk result (λ v. (r : Tables) (states : List (Machine × List ℕ)) (word : List ℕ) → AreStates r self.now states → IsWordOf states origin word → v.items ≡ word) }
     {
         let mut word = Vec::new(alloc);
         let mut from = origin;

@@ -19,7 +19,8 @@ use Rattle.cp_ends.specs.declared.found.FoundEnd.{FoundEnd}
 use Rattle.cp_ends.specs.declared.found.FoundValue.{FoundValue}
 use Rattle.cp_ends.specs.declared.found.TheConstants.{MOST_VALUES}
 use Rattle.cp_ends.specs.declared.origin.Origin.{Origin}
-use Rattle.cp_ends.specs.declared.state_key.StateKey.{StateKey}
+use Rattle.cp_ends.specs.declared.states.States.{States}
+use Rattle.cp_states.specs.declared.row.Row.{Row}
 use Rattle.cp_ends.proofs.Keeping.{no_state}
 use Rattle.cp_ends_verdict.specs.Behaviour.{on_slots}
 use Rattle.cp_ends_verdict.specs.Knowledge.{HasMore, HasTexts, IsKnown, IsLookedAt, KnowsWaits, Looked, end_pair, is_looked_at, those_looked_at, value_pair}
@@ -28,12 +29,12 @@ use Rattle.cp_ends_verdict.proofs.Finding.{at_map}
 
 -- ---- the word of a state
 
-module _ (r : Tables) (entries : List (StateKey × Origin)) (states : List (Machine × List ℕ)) (h : AreStates r entries states) where
-  pub state_word : (at : ℕ) (x : Machine × List ℕ) → slice_get states at ≡ Some x → IsWordOf states (origin_at entries at) x.1
-  state_word at x is = by (slice_get entries at) refl
+module _ (r : Tables) (kept : States) (states : List (Machine × List ℕ)) (h : AreStates r kept states) where
+  pub state_word : (at : ℕ) (x : Machine × List ℕ) → slice_get states at ≡ Some x → IsWordOf states (origin_at kept.known.entries at) x.1
+  state_word at x is = by (slice_get kept.known.entries at) refl
     where
-      by : (o : Option (StateKey × Origin)) → slice_get entries at ≡ o → IsWordOf states (origin_at entries at) x.1
-      by None e = absurd (let none = no_state r entries states h at e in cc)
+      by : (o : Option (Row × Origin)) → slice_get kept.known.entries at ≡ o → IsWordOf states (origin_at kept.known.entries at) x.1
+      by None e = absurd (let none = no_state r kept states h at e in cc)
       by (Some y) e = subst (λ o. IsWordOf states (origin_or o) x.1) (sym e) (h.words at y x e is)
 
 -- ---- things with their words
@@ -154,7 +155,7 @@ module _ (r : Tables) (gates : Gates) (steps most : ℕ) (found : Found) (k : Kn
   learned looked ends values texts a waits = by a.findings (ends r a.findings a.holds) (values r a.findings a.holds) texts waits found.stopped a.answer (looked r a.findings a.holds)
 
 pub stopped_at : (r : Tables) (found : Found) (f : SlotFindings) → Holds r found f → (at : ℕ) (stopped : Option ℕ) (origin : Origin) (word : List ℕ) → stopped ≡ Some at → origin ≡ origin_at found.states.known.entries at →
-    ((s : Tables) (states : List (Machine × List ℕ)) (w : List ℕ) → AreStates s found.states.known.entries states → IsWordOf states origin w → word ≡ w) → (n : ℕ) → n ≡ length word → IsLookedAt f.states stopped (Some n)
+    ((s : Tables) (states : List (Machine × List ℕ)) (w : List ℕ) → AreStates s found.states states → IsWordOf states origin w → word ≡ w) → (n : ℕ) → n ≡ length word → IsLookedAt f.states stopped (Some n)
 stopped_at r found f h at stopped origin word is from reads n count =
     subst (λ o. IsLookedAt f.states o (Some n)) (sym is)
-    (λ x e. ap (λ m. Some m) (count ∙ ap length (reads r f.states x.1 h.states (subst (λ o. IsWordOf f.states o x.1) (sym from) (state_word r found.states.known.entries f.states h.states at x e)))))
+    (λ x e. ap (λ m. Some m) (count ∙ ap length (reads r f.states x.1 h.states (subst (λ o. IsWordOf f.states o x.1) (sym from) (state_word r found.states f.states h.states at x e)))))

@@ -23,6 +23,7 @@ use crate::tallies::Tallies;
 use crate::word::Word;
 use cp_machine::{Moved, State, Ticks};
 use cp_natural::Natural;
+use cp_progress::{ObserveLayers, Progress, Unobserved};
 use cp_run::{Limits, open};
 use cp_slots::Resolved;
 use cp_states::Row;
@@ -37,11 +38,26 @@ pub fn explore_merged(alloc: Global, job: Job, states: usize) -> Result<Tallies,
     ensures within { IfOk result (λ ts. FitsBefore (slots job.entry.program.now job.entry.limits.gates) job.entry.limits.choices job.entry.limits.steps states (job.entry.limits.choices + 1)) }
     ensures fault { IfErr result (λ e. IsDueFault (slots job.entry.program.now job.entry.limits.gates) job.entry.limits.choices job.entry.limits.steps states e) }
 {
-    let ends = ends_of::<Brand, Brand>(
+    explore_merged_with(alloc, job, states, &mut Unobserved)
+}
+
+/// The same, where an observer is told of each layer.
+pub fn explore_merged_with<O: ObserveLayers>(
+    alloc: Global,
+    job: Job,
+    states: usize,
+    observer: &mut O,
+) -> Result<Tallies, MergeFault>
+    ensures tallies { IfOk result (λ ts. map tally_of ts ≡ tally same_outcome (table (slots job.entry.program.now job.entry.limits.gates) job.entry.limits.choices job.entry.limits.steps)) }
+    ensures within { IfOk result (λ ts. FitsBefore (slots job.entry.program.now job.entry.limits.gates) job.entry.limits.choices job.entry.limits.steps states (job.entry.limits.choices + 1)) }
+    ensures fault { IfErr result (λ e. IsDueFault (slots job.entry.program.now job.entry.limits.gates) job.entry.limits.choices job.entry.limits.steps states e) }
+{
+    let ends = ends_of::<O, Brand, Brand>(
         alloc,
         job.program,
         job.limits,
         states,
+        observer,
         Blank::new(1),
         Blank::new(1),
     )?;
@@ -52,11 +68,12 @@ pub fn explore_merged(alloc: Global, job: Job, states: usize) -> Result<Tallies,
 }
 
 /// The outcomes in the order in which they are found.
-fn ends_of<S: Ledger, C: Ledger>(
+fn ends_of<O: ObserveLayers, S: Ledger, C: Ledger>(
     alloc: Global,
     program: &Resolved,
     limits: Limits,
     most: usize,
+    observer: &mut O,
     steps: Blank,
     calls: Blank,
 ) -> Result<Ends, MergeFault>
@@ -100,6 +117,11 @@ fn ends_of<S: Ledger, C: Ledger>(
             &mut steps,
             &mut calls,
         )?;
+        observer.observe_layer(Progress {
+            choices: u32::from(depth) + 1,
+            states: frontier.layer.len(),
+            outcomes: frontier.ended.len(),
+        });
     }
     last_layer(alloc, program, limits, most, &mut state, &mut frontier)?;
     Ok(frontier.into_ends())

@@ -19,7 +19,6 @@ ghost use Rattle.cp_merged.specs.Holds.{same_key, AreLeads, AreEnds, Holds, word
 
 use crate::end_key::EndKey;
 use crate::prefixes::Prefixes;
-use crate::state_row::StateRow;
 use crate::word::word_of;
 use cp_machine::{Moved, State};
 use cp_run::{Halt, OutcomeKind, outcome_at};
@@ -32,14 +31,14 @@ use std::mem;
 pub const MOST_OUTCOMES: usize = 50_000;
 
 /// The states of a layer.
-pub type Layer = IndexMap<StateRow, Prefixes>;
+pub type Layer = IndexMap<Row, Prefixes>;
 
 /// The outcomes of the words that have ended.
 pub type Ends = IndexMap<EndKey, Prefixes>;
 
 // A state that is known takes no memory.
-fn add_row(layer: &mut Layer, key: StateRow, prefixes: &Prefixes) -> Result<(), AllocError>
-    requires { IfSome (lookup (λ k. pointwise nat_eq key.row.numbers k.row.numbers) layer.old.entries) (λ y. y.count + prefixes.now.count < 10 ^ 126) }
+fn add_row(layer: &mut Layer, key: Row, prefixes: &Prefixes) -> Result<(), AllocError>
+    requires { IfSome (lookup (λ k. pointwise nat_eq key.numbers k.numbers) layer.old.entries) (λ y. y.count + prefixes.now.count < 10 ^ 126) }
     ensures { IfOk result (λ _. map keyed layer.new.entries ≡ with_lead (pointwise nat_eq) (map keyed layer.old.entries) (keyed (key, prefixes.now))) }
 {
     match layer.get_mut(&key) {
@@ -152,7 +151,7 @@ impl Frontier {
         ensures kept { IfOk result (λ _. KeepParts self.old.store self.new.store) }
     {
         let row = self.store.row_after(alloc, state, before, known, moved)?;
-        add_row(&mut self.layer, StateRow { row }, prefixes)
+        add_row(&mut self.layer, row, prefixes)
     }
 
     /// Words arrive at a state, where the run stands still.

@@ -126,8 +126,8 @@ pub fn next_layer<S: Ledger, C: Ledger>(
     let _ = depth;
     let mut moved = Moved::everybody();
     for (key, prefixes) in layer.iter() {
-        frontier.store.take(&key.row, row, state, &mut moved);
-        *row = key.row;
+        frontier.store.take(key, row, state, &mut moved);
+        *row = *key;
         let Ok(()) = take_choices(
             alloc, program, limits, state, prefixes, next, row, &mut moved, frontier, steps, calls,
         ) else {
@@ -157,7 +157,7 @@ pub fn end_layer(
     let _ = program;
     let _ = limits;
     for (key, prefixes) in layer.iter() {
-        frontier.store.take_output(&key.row, state);
+        frontier.store.take_output(key, state);
         frontier.end(alloc, OutcomeKind::ChoiceLimit, state, prefixes)?;
     }
     Ok(())

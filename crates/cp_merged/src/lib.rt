@@ -11,12 +11,11 @@ pub mod ordered;
 pub mod prefixes;
 pub mod report;
 pub mod state_key;
-pub mod state_row;
 pub mod tallies;
 pub mod tally;
 pub mod word;
 
-pub use explorer::explore_merged;
+pub use explorer::{explore_merged, explore_merged_with};
 pub use fault::MergeFault;
 pub use laws::{law_closed, law_complete, law_layers, law_report};
 pub use report::merged_report;

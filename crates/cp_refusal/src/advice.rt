@@ -6,8 +6,9 @@ use crate::extent::{is_adding, is_multiplying, is_relation};
 use crate::foreign::is_start;
 use crate::place::has_comment_before;
 use crate::rules::{mark_at, mark_before, name_at};
+use cp_prose::Prose;
 use cp_text::{Kind, Mark, Tokens};
-use std::alloc::{AllocError, Global};
+use std::alloc::Global;
 
 /// A token that the parser refuses.
 #[derive(Clone, Copy)]
@@ -19,13 +20,20 @@ pub struct Refused<'a> {
 }
 
 impl<'a> Refused<'a> {
-    /// Whether a program can go on with this kind of token in its place.
-    pub fn takes(&self, candidate: Candidate) -> Result<bool, AllocError> {
-        may_stand(self.alloc, self.tokens, self.at, candidate)
+    /// Whether a program can go on with this kind of token in its place. It is asked for a text, which is refused where memory is refused for
+    /// the question.
+    pub fn takes(&self, text: &mut Prose, candidate: Candidate) -> bool {
+        match may_stand(self.alloc, self.tokens, self.at, candidate) {
+            Ok(takes) => takes,
+            Err(_) => {
+                text.refuse();
+                false
+            }
+        }
     }
 
-    fn takes_mark(&self, mark: Mark) -> Result<bool, AllocError> {
-        self.takes(Candidate::Mark(mark))
+    fn takes_mark(&self, text: &mut Prose, mark: Mark) -> bool {
+        self.takes(text, Candidate::Mark(mark))
     }
 
     fn mark(&self) -> Option<Mark> {
@@ -57,23 +65,23 @@ impl<'a> Refused<'a> {
 }
 
 /// What may have been meant; empty where nothing is known of it.
-pub fn advice(refused: Refused) -> Result<&'static str, AllocError> {
-    if is_after_string(refused)? {
-        return Ok(": what stands between double quotes is a comment, and there are no strings");
+pub fn advice(refused: Refused, text: &mut Prose) -> &'static str {
+    if is_after_string(refused, text) {
+        return ": what stands between double quotes is a comment, and there are no strings";
     }
     let said = sign_advice(refused);
     if !said.is_empty() {
-        return Ok(said);
+        return said;
     }
     match refused.mark() {
-        Some(mark) => mark_advice(refused, mark),
-        None => word_advice(refused),
+        Some(mark) => mark_advice(refused, text, mark),
+        None => word_advice(refused, text),
     }
 }
 
 // Whether a comment stands where a value is wanted.
-fn is_after_string(refused: Refused) -> Result<bool, AllocError> {
-    Ok(has_comment_before(refused.source, refused.at) && refused.takes_mark(Mark::Not)?)
+fn is_after_string(refused: Refused, text: &mut Prose) -> bool {
+    has_comment_before(refused.source, refused.at) && refused.takes_mark(text, Mark::Not)
 }
 
 // Of pairs of signs that other languages have.
@@ -94,22 +102,20 @@ fn sign_advice(refused: Refused) -> &'static str {
     }
 }
 
-fn mark_advice(refused: Refused, mark: Mark) -> Result<&'static str, AllocError> {
+fn mark_advice(refused: Refused, text: &mut Prose, mark: Mark) -> &'static str {
     if is_initial_value(refused, mark) {
-        return Ok(": a variable gets its value in the body");
+        return ": a variable gets its value in the body";
     }
-    if is_in_constant(refused) && refused.takes_mark(Mark::Semicolon)? && is_operator(mark) {
-        return Ok(": a constant is a number, a name or a character");
+    if is_in_constant(refused) && refused.takes_mark(text, Mark::Semicolon) && is_operator(mark) {
+        return ": a constant is a number, a name or a character";
     }
     if is_relation(Some(mark)) {
-        return relation_advice(refused);
+        return relation_advice(refused, text);
     }
-    if mark == Mark::Comma && refused.takes_mark(Mark::CloseBracket)? {
-        return Ok(
-            ": where two indices are meant, write a[1][2], and array [1..2] of array [1..2] of ..",
-        );
+    if mark == Mark::Comma && refused.takes_mark(text, Mark::CloseBracket) {
+        return ": where two indices are meant, write a[1][2], and array [1..2] of array [1..2] of ..";
     }
-    Ok(match (refused.before(), mark) {
+    match (refused.before(), mark) {
         (Some(Mark::Semicolon), Mark::Else) => ": no semicolon stands before else",
         (_, Mark::Var) if is_system_parameter(refused) => {
             ": parameters of a class, a monitor or a process have no var"
@@ -119,7 +125,7 @@ fn mark_advice(refused: Refused, mark: Mark) -> Result<&'static str, AllocError>
         }
         (None, Mark::Period) => ": there are no real numbers",
         _ => "",
-    })
+    }
 }
 
 fn is_operator(mark: Mark) -> bool {
@@ -160,35 +166,42 @@ fn is_system_parameter(refused: Refused) -> bool {
 }
 
 // Of a sign that compares.
-fn relation_advice(refused: Refused) -> Result<&'static str, AllocError> {
-    if refused.takes_mark(Mark::Becomes)? {
-        return Ok(": an assignment is written with :=");
+fn relation_advice(refused: Refused, text: &mut Prose) -> &'static str {
+    if refused.takes_mark(text, Mark::Becomes) {
+        return ": an assignment is written with :=";
     }
-    if refused.takes_mark(Mark::Times)? {
-        return Ok(
-            ": comparisons that and or or joins stand in parentheses, as (a = b) and (c = d)",
-        );
+    if refused.takes_mark(text, Mark::Times) {
+        return ": comparisons that and or or joins stand in parentheses, as (a = b) and (c = d)";
     }
-    Ok("")
+    ""
 }
 
 // Of a name, a number or a character, or at the end of the source.
-fn word_advice(refused: Refused) -> Result<&'static str, AllocError> {
+fn word_advice(refused: Refused, text: &mut Prose) -> &'static str {
     let before = refused.name_before();
-    Ok(match refused.tokens.get(refused.at) {
-        None if refused.takes_mark(Mark::Period)? => ": the final period is missing",
-        None => ": an end may be missing further up",
-        Some(Kind::Name(name)) if name.as_str() == "elsif" => ": write else if",
-        Some(_) if before == "return" => {
+    let Some(kind) = refused.tokens.get(refused.at) else {
+        return end_advice(refused, text);
+    };
+    match kind {
+        Kind::Name(name) if name.as_str() == "elsif" => ": write else if",
+        _ if before == "return" => {
             ": a function gives its result by an assignment to its own name"
         }
-        Some(Kind::Name(_)) if is_start(before) => ": processes are started by init",
-        Some(_) => "",
-    })
+        Kind::Name(_) if is_start(before) => ": processes are started by init",
+        _ => "",
+    }
+}
+
+fn end_advice(refused: Refused, text: &mut Prose) -> &'static str {
+    if refused.takes_mark(text, Mark::Period) {
+        ": the final period is missing"
+    } else {
+        ": an end may be missing further up"
+    }
 }
 
 /// Whether a reserved word stands where a name is wanted.
-pub fn is_reserved_name(refused: Refused) -> Result<bool, AllocError> {
+pub fn is_reserved_name(refused: Refused, text: &mut Prose) -> bool {
     let is_word = match refused.mark() {
         Some(mark) => spelling(mark)
             .as_bytes()
@@ -196,12 +209,10 @@ pub fn is_reserved_name(refused: Refused) -> Result<bool, AllocError> {
             .is_some_and(|byte| byte.is_ascii_alphabetic()),
         None => false,
     };
-    Ok(
-        is_word
-            && !is_system_parameter(refused)
-            && refused.takes(Candidate::Name)?
-            && !refused.takes_mark(Mark::Not)?
-            && !refused.takes_mark(Mark::While)?
-            && !refused.takes_mark(Mark::Begin)?,
-    )
+    is_word
+        && !is_system_parameter(refused)
+        && refused.takes(text, Candidate::Name)
+        && !refused.takes_mark(text, Mark::Not)
+        && !refused.takes_mark(text, Mark::While)
+        && !refused.takes_mark(text, Mark::Begin)
 }

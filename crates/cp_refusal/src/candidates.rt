@@ -3,6 +3,7 @@
 use crate::draft::{Draft, spelling};
 use crate::extent::Extent;
 use cp_drops::drop_tree;
+use cp_prose::Prose;
 use cp_text::{Mark, Tokens};
 use cp_tree::{ParseFault, parse};
 use std::alloc::{AllocError, Global};
@@ -72,13 +73,13 @@ const MARKS: [Mark; 52] = [
     Mark::End,
 ];
 
-fn push_candidate(draft: &mut Draft, candidate: Candidate) -> Result<(), AllocError> {
+fn push_candidate(draft: &mut Draft, candidate: Candidate) {
     draft.push_text(match candidate {
         Candidate::Name => "x",
         Candidate::Number => "1",
         Candidate::Character => "'A'",
         Candidate::Mark(mark) => spelling(mark),
-    })
+    });
 }
 
 /// Whether a program can go on with this kind of token in the place of that number.
@@ -89,8 +90,8 @@ pub fn may_stand(
     candidate: Candidate,
 ) -> Result<bool, AllocError> {
     let mut draft = Draft::new(alloc);
-    draft.push_copies(alloc, tokens, Extent { from: 0, to: at })?;
-    push_candidate(&mut draft, candidate)?;
+    draft.push_copies(tokens, Extent { from: 0, to: at });
+    push_candidate(&mut draft, candidate);
     let Some(tried) = draft.tokens(alloc)? else {
         return Ok(false);
     };
@@ -162,115 +163,139 @@ fn is_covered(mark: Mark, kinds: Kinds) -> bool {
     }
 }
 
-/// Appends a choice among words: `a`, `a or b`, `a, b or c`.
-fn push_choice(text: &mut String, words: &[String]) -> Result<(), AllocError> {
-    for (place, word) in words.iter().enumerate() {
-        if place > 0 {
-            text.push_str(if place.saturating_add(1) == words.len() {
-                " or "
-            } else {
-                ", "
-            })?;
-        }
-        text.push_str(word.as_str())?;
-    }
-    Ok(())
+/// A word for what may stand at a place: one that tells a kind of it, or what stands there itself, in quotes.
+#[derive(Clone, Copy)]
+enum Word {
+    Kind(&'static str),
+    Itself(&'static str),
 }
 
-/// A place among some tokens.
-#[derive(Clone, Copy)]
-struct TokenPlace<'a> {
+fn push_word(text: &mut Prose, word: Word) {
+    match word {
+        Word::Kind(kind) => text.put(kind),
+        Word::Itself(token) => {
+            text.put("\"");
+            text.put(token);
+            text.put("\"");
+        }
+    }
+}
+
+/// What may stand at a place of some tokens, as a choice: `a`, `a or b`, `a, b or c`.
+#[derive(Drop)]
+struct Choice<'a> {
     alloc: Global,
     tokens: &'a Tokens,
     at: usize,
+    /// The words but the newest.
+    text: Prose,
+    is_begun: bool,
+    /// It is held back until it is known whether it is the last.
+    newest: Option<Word>,
 }
 
-impl<'a> TokenPlace<'a> {
-    fn takes(&self, candidate: Candidate) -> Result<bool, AllocError> {
-        may_stand(self.alloc, self.tokens, self.at, candidate)
+impl<'a> Choice<'a> {
+    fn takes(&mut self, candidate: Candidate) -> bool {
+        match may_stand(self.alloc, self.tokens, self.at, candidate) {
+            Ok(takes) => takes,
+            Err(_) => {
+                self.text.refuse();
+                false
+            }
+        }
     }
 
-    fn takes_mark(&self, mark: Mark) -> Result<bool, AllocError> {
+    fn takes_mark(&mut self, mark: Mark) -> bool {
         self.takes(Candidate::Mark(mark))
     }
 
-    fn kinds(&self) -> Result<Kinds, AllocError> {
-        Ok(Kinds {
-            statement: self.takes_mark(Mark::While)?,
-            operand: self.takes_mark(Mark::Not)?,
-            operator: self.takes_mark(Mark::Times)?,
-        })
+    fn kinds(&mut self) -> Kinds {
+        Kinds {
+            statement: self.takes_mark(Mark::While),
+            operand: self.takes_mark(Mark::Not),
+            operator: self.takes_mark(Mark::Times),
+        }
     }
 
-    fn add(&self, words: &mut Vec<String>, word: &str) -> Result<(), AllocError> {
-        words.push(String::from_str(self.alloc, word)?)?;
-        Ok(())
+    fn add(&mut self, word: Word) {
+        if let Some(before) = self.newest {
+            if self.is_begun {
+                self.text.put(", ");
+            }
+            push_word(&mut self.text, before);
+            self.is_begun = true;
+        }
+        self.newest = Some(word);
     }
 
     /// Adds a word where a kind of token may stand.
-    fn add_if_taken(
-        &self,
-        words: &mut Vec<String>,
-        candidate: Candidate,
-        word: &str,
-    ) -> Result<(), AllocError> {
-        if self.takes(candidate)? {
-            self.add(words, word)?;
+    fn add_if_taken(&mut self, candidate: Candidate, word: &'static str) {
+        if self.takes(candidate) {
+            self.add(Word::Kind(word));
         }
-        Ok(())
     }
 
     /// Adds what names, numbers and characters are a part of, or these.
-    fn add_operands(&self, words: &mut Vec<String>, kinds: Kinds) -> Result<(), AllocError> {
+    fn add_operands(&mut self, kinds: Kinds) {
         if kinds.statement {
-            self.add(words, "a statement")?;
+            self.add(Word::Kind("a statement"));
         }
         if kinds.operand {
-            self.add(words, "an expression")?;
+            self.add(Word::Kind("an expression"));
         }
         if kinds.statement || kinds.operand {
-            return Ok(());
+            return;
         }
-        self.add_if_taken(words, Candidate::Name, "a name")?;
-        self.add_if_taken(words, Candidate::Number, "a number")?;
-        self.add_if_taken(words, Candidate::Character, "a character")
+        self.add_if_taken(Candidate::Name, "a name");
+        self.add_if_taken(Candidate::Number, "a number");
+        self.add_if_taken(Candidate::Character, "a character");
     }
 
-    /// Adds a reserved word or sign, in quotes.
-    fn add_mark(&self, words: &mut Vec<String>, mark: Mark) -> Result<(), AllocError> {
-        if self.takes_mark(mark)? {
-            let word = spelling(mark);
-            words.push(format!(in self.alloc; "\"{word}\"")?)?;
+    /// Adds a reserved word or sign.
+    fn add_mark(&mut self, mark: Mark) {
+        if self.takes_mark(mark) {
+            self.add(Word::Itself(spelling(mark)));
         }
-        Ok(())
     }
 
-    fn add_all(&self, words: &mut Vec<String>, kinds: Kinds) -> Result<(), AllocError> {
-        self.add_operands(words, kinds)?;
+    fn add_all(&mut self, kinds: Kinds) {
+        self.add_operands(kinds);
         if kinds.operator {
-            self.add(words, "an operator")?;
+            self.add(Word::Kind("an operator"));
         }
         for mark in MARKS {
             if !is_covered(mark, kinds) {
-                self.add_mark(words, mark)?;
+                self.add_mark(mark);
             }
         }
-        self.add_mark(words, Mark::Period)
+        self.add_mark(Mark::Period);
+    }
+
+    fn add_last(&mut self) {
+        match self.newest {
+            Some(last) => {
+                if self.is_begun {
+                    self.text.put(" or ");
+                }
+                push_word(&mut self.text, last);
+            }
+            None => self.text.put("the end of the source"),
+        }
     }
 }
 
 /// Appends what could stand in the place of the token of this number.
-pub fn push_wanted(
-    alloc: Global,
-    text: &mut String,
-    tokens: &Tokens,
-    at: usize,
-) -> Result<(), AllocError> {
-    let place = TokenPlace { alloc, tokens, at };
-    let mut words = Vec::new(alloc);
-    place.add_all(&mut words, place.kinds()?)?;
-    if words.is_empty() {
-        return text.push_str("the end of the source");
-    }
-    push_choice(text, &words)
+pub fn push_wanted(alloc: Global, text: &mut Prose, tokens: &Tokens, at: usize) {
+    let mut choice = Choice {
+        alloc,
+        tokens,
+        at,
+        text: Prose::new(alloc),
+        is_begun: false,
+        newest: None,
+    };
+    let kinds = choice.kinds();
+    choice.add_all(kinds);
+    choice.add_last();
+    text.put_prose(&choice.text);
 }

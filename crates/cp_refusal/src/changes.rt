@@ -5,9 +5,9 @@ use crate::extent::{Extent, after_designator, expression_at};
 use crate::page::push_tokens;
 use crate::rules::{mark_at, mark_before, name_at};
 use crate::sorts::{Asker, Sort};
+use cp_prose::Prose;
 use cp_text::Mark;
 use cp_tree::Program;
-use std::alloc::AllocError;
 
 fn reason(declared: Option<Declared>, sort: Option<Sort>) -> &'static str {
     match (declared, sort) {
@@ -30,32 +30,27 @@ fn reason(declared: Option<Declared>, sort: Option<Sort>) -> &'static str {
 }
 
 /// Says that an argument is no variable, where it is more than a name and its selectors.
-fn push_no_variable(asker: &Asker, text: &mut String, at: usize) -> Result<bool, AllocError> {
+fn push_no_variable(asker: &Asker, text: &mut Prose, at: usize) -> bool {
     let argument = expression_at(asker.tokens, at);
     let is_name = !name_at(asker.tokens, at).is_empty()
         && argument.to == after_designator(asker.tokens, at);
     let before = mark_before(asker.tokens, at);
     if is_name || !matches!(before, Some(Mark::OpenParenthesis | Mark::Comma)) {
-        return Ok(false);
+        return false;
     }
-    push_tokens(text, asker.source, argument)?;
-    text.push_str(" is an expression, and a var parameter takes a variable")?;
-    Ok(true)
+    push_tokens(text, asker.source, argument);
+    text.put(" is an expression, and a var parameter takes a variable");
+    true
 }
 
 /// Says why the target, the variable of a `for` or the argument at a token can't be assigned. The answer tells whether something was said.
-pub fn push_unchangeable(
-    asker: &Asker,
-    text: &mut String,
-    program: &Program,
-    at: usize,
-) -> Result<bool, AllocError> {
-    if push_no_variable(asker, text, at)? {
-        return Ok(true);
+pub fn push_unchangeable(asker: &Asker, text: &mut Prose, program: &Program, at: usize) -> bool {
+    if push_no_variable(asker, text, at) {
+        return true;
     }
     let after = after_designator(asker.tokens, at);
     if mark_at(asker.tokens, after) == Some(Mark::OpenParenthesis) {
-        return Ok(false);
+        return false;
     }
     let target = Extent {
         from: at,
@@ -63,10 +58,11 @@ pub fn push_unchangeable(
     };
     let name = name_at(asker.tokens, at);
     if name.is_empty() {
-        return Ok(false);
+        return false;
     }
     let declared = declared_at(program, Looked { name, at });
-    push_tokens(text, asker.source, target)?;
-    text.push_str(reason(declared, asker.sort_of(target)?))?;
-    Ok(true)
+    let sort = asker.sort_of(text, target);
+    push_tokens(text, asker.source, target);
+    text.put(reason(declared, sort));
+    true
 }

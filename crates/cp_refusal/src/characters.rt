@@ -1,6 +1,6 @@
 //! The characters of a source as they are shown.
 
-use std::alloc::AllocError;
+use cp_prose::Prose;
 
 /// How characters are shown.
 #[derive(Clone, Copy, PartialEq, Eq)]
@@ -64,7 +64,7 @@ fn as_seen(shown: char, byte: u8, look: Look) -> char {
 }
 
 /// Appends bytes of a source, character by character.
-pub fn push_characters(text: &mut String, bytes: &[u8], look: Look) -> Result<(), AllocError> {
+pub fn push_characters(text: &mut Prose, bytes: &[u8], look: Look) {
     let mut left: usize = 0;
     for at in 0..bytes.len() {
         if left > 0 {
@@ -72,10 +72,9 @@ pub fn push_characters(text: &mut String, bytes: &[u8], look: Look) -> Result<()
             continue;
         }
         let front = front_of(&bytes[at..]);
-        text.push(as_seen(front.shown, bytes[at], look))?;
+        text.put_char(as_seen(front.shown, bytes[at], look));
         left = front.len.saturating_sub(1);
     }
-    Ok(())
 }
 
 /// How many characters these bytes are.

@@ -4,8 +4,8 @@ use crate::extent::{Extent, after_bracket, after_designator, expression_at};
 use crate::page::push_tokens;
 use crate::rules::{mark_at, name_at};
 use crate::sorts::Asker;
+use cp_prose::Prose;
 use cp_text::{Mark, Tokens};
-use std::alloc::AllocError;
 
 /// Whether the name at a token is that of a heading.
 fn is_heading(tokens: &Tokens, at: usize) -> bool {
@@ -72,7 +72,7 @@ fn arguments(tokens: &Tokens, call: usize) -> usize {
 }
 
 /// Says how many arguments a call has and should have. The answer tells whether something was said.
-pub fn push_counts(asker: &Asker, text: &mut String, at: usize) -> Result<bool, AllocError> {
+pub fn push_counts(asker: &Asker, text: &mut Prose, at: usize) -> bool {
     let tokens = asker.tokens;
     let after = after_designator(tokens, at);
     let name = name_at(tokens, after.saturating_sub(1));
@@ -80,7 +80,7 @@ pub fn push_counts(asker: &Asker, text: &mut String, at: usize) -> Result<bool, 
         "delay" | "continue" | "empty" | "succ" | "pred" | "chr" | "ord" | "abs" | "display" => 1,
         _ => match heading_of(tokens, name) {
             Some(heading) => parameters(tokens, heading),
-            None => return Ok(false),
+            None => return false,
         },
     };
     let given = arguments(tokens, at);
@@ -91,11 +91,15 @@ pub fn push_counts(asker: &Asker, text: &mut String, at: usize) -> Result<bool, 
             from: at,
             to: after,
         },
-    )?;
-    let alloc = asker.alloc;
-    let plural = if wanted == 1 { "" } else { "s" };
-    text.push_str(format!(in alloc;
-        " takes {wanted} argument{plural}, but is called with {given}"
-    )?.as_str())?;
-    Ok(true)
+    );
+    text.put(" takes ");
+    text.put_display(wanted);
+    text.put(if wanted == 1 {
+        " argument"
+    } else {
+        " arguments"
+    });
+    text.put(", but is called with ");
+    text.put_display(given);
+    true
 }

@@ -1,6 +1,7 @@
 //! A text written of tokens, which is read again to ask about other tokens than those of a program.
 
 use crate::extent::Extent;
+use cp_prose::Prose;
 use cp_text::{Kind, Mark, ScanCause, Tokens, scan};
 use std::alloc::{AllocError, Global};
 
@@ -69,14 +70,14 @@ pub fn spelling(mark: Mark) -> &'static str {
 /// Tokens in a text, each with a space after it.
 #[derive(Drop)]
 pub struct Draft {
-    text: String,
+    text: Prose,
     count: usize,
 }
 
 impl Draft {
     pub fn new(alloc: Global) -> Draft {
         Draft {
-            text: String::new(alloc),
+            text: Prose::new(alloc),
             count: 0,
         }
     }
@@ -87,39 +88,42 @@ impl Draft {
     }
 
     /// Appends a token that is written so.
-    pub fn push_text(&mut self, text: &str) -> Result<(), AllocError> {
-        self.text.push_str(text)?;
-        self.text.push_str(" ")?;
+    pub fn push_text(&mut self, text: &str) {
+        self.text.put(text);
+        self.end_token();
+    }
+
+    fn end_token(&mut self) {
+        self.text.put(" ");
         self.count = self.count.saturating_add(1);
-        Ok(())
     }
 
     /// Appends a token of this kind.
-    pub fn push_kind(&mut self, alloc: Global, kind: &Kind) -> Result<(), AllocError> {
+    pub fn push_kind(&mut self, kind: &Kind) {
         match kind {
-            Kind::Number(value) => self.push_text(format!(in alloc; "{value}")?.as_str()),
-            Kind::Character(code) => self.push_text(format!(in alloc; "'(:{code}:)'")?.as_str()),
-            Kind::Name(name) => self.push_text(name.as_str()),
-            Kind::Mark(mark) => self.push_text(spelling(*mark)),
+            Kind::Number(value) => self.text.put_display(*value),
+            Kind::Character(code) => {
+                self.text.put("'(:");
+                self.text.put_display(*code);
+                self.text.put(":)'");
+            }
+            Kind::Name(name) => self.text.put(name.as_str()),
+            Kind::Mark(mark) => self.text.put(spelling(*mark)),
         }
+        self.end_token();
     }
 
     /// Appends tokens of a program once more.
-    pub fn push_copies(
-        &mut self,
-        alloc: Global,
-        tokens: &Tokens,
-        extent: Extent,
-    ) -> Result<(), AllocError> {
+    pub fn push_copies(&mut self, tokens: &Tokens, extent: Extent) {
         for place in extent.from..extent.to.min(tokens.count()) {
-            self.push_kind(alloc, tokens.kind(place))?;
+            self.push_kind(tokens.kind(place));
         }
-        Ok(())
     }
 
     /// The tokens of the text. There are none where it is longer than a source may be.
     pub fn tokens(&self, alloc: Global) -> Result<Option<Tokens>, AllocError> {
-        match scan(alloc, self.text.as_str().as_bytes()) {
+        let text = self.text.as_str()?;
+        match scan(alloc, text.as_bytes()) {
             Ok(tokens) => Ok(Some(tokens)),
             Err(fault) => match fault.cause {
                 ScanCause::Memory => Err(AllocError),

@@ -13,6 +13,7 @@ use crate::report::{Explanation, Refusal};
 use crate::rules::{Broken, code, mark_at, sentence};
 use cp_check::{CheckFault, check};
 use cp_drops::{drop_checked, drop_tree};
+use cp_prose::Prose;
 use cp_text::{ScanCause, ScanFault, Tokens, scan};
 use cp_tree::{ParseFault, Program, Tree, parse};
 use std::alloc::{AllocError, Global};
@@ -162,7 +163,7 @@ fn after(span: ByteRange) -> ByteRange {
 }
 
 // What is expected in the place of a token, what stands there, and what may have been meant.
-fn tell_unexpected(refused: Refused, missing: &Missing) -> Result<String, AllocError> {
+fn push_unexpected(refused: Refused, text: &mut Prose, missing: &Missing) {
     let Refused {
         alloc,
         source,
@@ -170,48 +171,54 @@ fn tell_unexpected(refused: Refused, missing: &Missing) -> Result<String, AllocE
         at,
     } = refused;
     if tokens.count() == 0 {
-        return String::from_str(alloc, "a program is missing");
+        text.put("a program is missing");
+        return;
     }
-    let mut text = String::from_str(alloc, "expected ")?;
-    push_wanted(alloc, &mut text, tokens, at)?;
+    text.put("expected ");
+    push_wanted(alloc, text, tokens, at);
     if at < tokens.count() {
-        text.push_str(", found \"")?;
-        push_tokens(&mut text, source, single(at))?;
-        text.push_str("\"")?;
+        text.put(", found \"");
+        push_tokens(text, source, single(at));
+        text.put("\"");
     } else {
-        text.push_str(", found the end of the source")?;
+        text.put(", found the end of the source");
     }
-    push_advice(refused, &mut text, missing)?;
-    Ok(text)
+    push_advice(refused, text, missing);
 }
 
-fn push_advice(refused: Refused, text: &mut String, missing: &Missing) -> Result<(), AllocError> {
+fn push_advice(refused: Refused, text: &mut Prose, missing: &Missing) {
     let (source, tokens) = (refused.source, refused.tokens);
     match missing {
         Missing::Semicolon(before) => {
-            let line = line_number(source, span_of(source, *before, tokens).from);
-            return write!(
-                text,
-                ": a semicolon may be missing at the end of line {line}"
-            );
+            text.put(": a semicolon may be missing at the end of line ");
+            text.put_display(line_number(source, span_of(source, *before, tokens).from));
         }
         Missing::End(open) => {
-            let line = line_number(source, span_of(source, *open, tokens).from);
-            text.push_str(": the ")?;
-            push_tokens(text, source, single(*open))?;
-            return write!(text, " of line {line} has no end");
+            text.put(": the ");
+            push_tokens(text, source, single(*open));
+            text.put(" of line ");
+            text.put_display(line_number(source, span_of(source, *open, tokens).from));
+            text.put(" has no end");
         }
-        Missing::Nothing => {}
+        Missing::Nothing => {
+            push_meant(refused, text);
+        }
     }
-    if is_reserved_name(refused)? {
-        text.push_str(": ")?;
-        text.push_str(match mark_at(tokens, refused.at) {
-            Some(mark) => spelling(mark),
-            None => "",
-        })?;
-        return text.push_str(" is a reserved word");
+}
+
+// What may have been meant, where nothing is missing further up.
+fn push_meant(refused: Refused, text: &mut Prose) {
+    if !is_reserved_name(refused, text) {
+        let said = advice(refused, text);
+        text.put(said);
+        return;
     }
-    text.push_str(advice(refused)?)
+    text.put(": ");
+    text.put(match mark_at(refused.tokens, refused.at) {
+        Some(mark) => spelling(mark),
+        None => "",
+    });
+    text.put(" is a reserved word");
 }
 
 // The place further up that the excerpt shows too.
@@ -229,8 +236,9 @@ fn parse_refused(
     tokens: &Tokens,
     fault: &ParseFault,
 ) -> Result<Explanation, AllocError> {
+    let mut text = Prose::new(alloc);
     let mut missing = Missing::Nothing;
-    let (at, sentence) = match fault {
+    let at = match fault {
         ParseFault::Unexpected(at) => {
             let refused = Refused {
                 alloc,
@@ -238,24 +246,24 @@ fn parse_refused(
                 tokens,
                 at: *at,
             };
-            missing = what_is_missing(refused)?;
-            (*at, tell_unexpected(refused, &missing)?)
+            missing = what_is_missing(refused, &mut text);
+            push_unexpected(refused, &mut text, &missing);
+            *at
         }
         ParseFault::OutsideProfile(at) => {
-            let mut text = String::new(alloc);
-            push_tokens(&mut text, source, single(*at))?;
-            text.push_str(" is a reserved word for what is left out of this language")?;
-            (*at, text)
+            push_tokens(&mut text, source, single(*at));
+            text.put(" is a reserved word for what is left out of this language");
+            *at
         }
-        ParseFault::TooDeep(at) => (
-            *at,
-            String::from_str(alloc, "this is nested more than 50 levels deep")?,
-        ),
+        ParseFault::TooDeep(at) => {
+            text.put("this is nested more than 50 levels deep");
+            *at
+        }
         ParseFault::Memory => return Err(AllocError),
     };
     Ok(Explanation::Refused(Refusal {
         kind: "parse",
-        sentence,
+        sentence: text.finish()?,
         more: "see \"Grammar\" in docs/LANGUAGE.md",
         span: Some(span_of(source, at, tokens)),
         earlier: earlier(source, tokens, &missing),

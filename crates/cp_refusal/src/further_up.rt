@@ -4,8 +4,8 @@ use crate::advice::Refused;
 use crate::candidates::Candidate;
 use crate::page::are_on_one_line;
 use crate::rules::mark_at;
+use cp_prose::Prose;
 use cp_text::{Kind, Mark, Tokens};
-use std::alloc::AllocError;
 
 /// What is missing, and the number of the token that shows it.
 #[derive(Clone, Copy)]
@@ -17,18 +17,18 @@ pub enum Missing {
     End(usize),
 }
 
-/// What is missing before a token that the parser refuses.
-pub fn what_is_missing(refused: Refused) -> Result<Missing, AllocError> {
-    if let Some(before) = line_without_semicolon(refused)? {
-        return Ok(Missing::Semicolon(before));
+/// What is missing before a token that the parser refuses, asked for a text.
+pub fn what_is_missing(refused: Refused, text: &mut Prose) -> Missing {
+    if let Some(before) = line_without_semicolon(refused, text) {
+        return Missing::Semicolon(before);
     }
-    if !is_after_a_block(refused) || !refused.takes(Candidate::Mark(Mark::End))? {
-        return Ok(Missing::Nothing);
+    if !is_after_a_block(refused) || !refused.takes(text, Candidate::Mark(Mark::End)) {
+        return Missing::Nothing;
     }
-    Ok(match open_before(refused.tokens, refused.at) {
+    match open_before(refused.tokens, refused.at) {
         Some(open) => Missing::End(open),
         None => Missing::Nothing,
-    })
+    }
 }
 
 // Whether what begins with a token follows a whole block.
@@ -82,17 +82,16 @@ fn is_ending(tokens: &Tokens, at: usize) -> bool {
 }
 
 // The last token of an earlier line, after which a semicolon can stand and does not.
-fn line_without_semicolon(refused: Refused) -> Result<Option<usize>, AllocError> {
-    let Some(before) = refused.at.checked_sub(1) else {
-        return Ok(None);
-    };
+fn line_without_semicolon(refused: Refused, text: &mut Prose) -> Option<usize> {
+    let before = refused.at.checked_sub(1)?;
     let is_torn = is_ending(refused.tokens, before)
         && is_beginning(refused.tokens, refused.at)
         && !are_on_one_line(refused.source, before);
-    if is_torn && refused.takes(Candidate::Mark(Mark::Semicolon))? {
-        return Ok(Some(before));
+    if is_torn && refused.takes(text, Candidate::Mark(Mark::Semicolon)) {
+        Some(before)
+    } else {
+        None
     }
-    Ok(None)
 }
 
 // The innermost word before a token that is open there.

@@ -6,7 +6,8 @@ use crate::place::{Sought, find};
 use crate::report::{Hint, Hints};
 use crate::rules::{mark_at, name_at};
 use crate::starts::{Care, remarks};
-use crate::waits::inner_waits;
+use crate::waits::{Inner, inner_waits};
+use cp_prose::Prose;
 use cp_text::{Mark, Tokens};
 use cp_tree::Program;
 use std::alloc::{AllocError, Global};
@@ -64,68 +65,91 @@ struct Gathering<'a> {
     tokens: &'a Tokens,
     program: &'a Program,
     hints: Hints,
+    /// Whether memory was refused for a hint.
+    is_refused: bool,
 }
 
 impl<'a> Gathering<'a> {
     /// Adds a hint at a token; only counts it where there are many.
-    fn add(&mut self, at: usize, sentence: &str) -> Result<(), AllocError> {
+    fn add(&mut self, at: usize, sentence: Result<String, AllocError>) {
+        match sentence {
+            Ok(sentence) => self.push_hint(at, sentence),
+            Err(_) => self.is_refused = true,
+        }
+    }
+
+    fn push_hint(&mut self, at: usize, sentence: String) {
         if self.hints.all.len() >= MOST_HINTS {
             self.hints.more = self.hints.more.saturating_add(1);
-            return Ok(());
+            return;
         }
-        let Some(span) = find(self.source, Sought::Token(at)) else {
-            return Ok(());
-        };
-        let sentence = String::from_str(self.alloc, sentence)?;
-        self.hints.all.push(Hint { sentence, span })?;
-        Ok(())
-    }
-
-    fn add_skipped(&mut self) -> Result<(), AllocError> {
-        for at in 0..self.tokens.count() {
-            if let Some(next) = first_skipped(self.tokens, self.program, at) {
-                self.add(
-                    next,
-                    "this never runs, since continue ends the call of the entry procedure",
-                )?;
+        if let Some(span) = find(self.source, Sought::Token(at)) {
+            if self.hints.all.push(Hint { sentence, span }).is_err() {
+                self.is_refused = true;
             }
         }
-        Ok(())
     }
 
-    fn add_inner_waits(&mut self) -> Result<(), AllocError> {
-        for inner in &inner_waits(self.alloc, self.tokens, self.program)? {
-            let mut sentence = String::from_str(self.alloc, "whoever waits in ")?;
-            push_tokens(&mut sentence, self.source, inner.call)?;
-            sentence.push_str(" is still inside ")?;
-            sentence.push_str(inner.outer)?;
-            sentence.push_str(", so that nobody else can come in there, not even to wake it")?;
-            self.add(inner.call.from, sentence.as_str())?;
+    fn add_words(&mut self, at: usize, words: &str) {
+        self.add(at, String::from_str(self.alloc, words));
+    }
+
+    fn add_skipped(&mut self) {
+        for at in 0..self.tokens.count() {
+            if let Some(next) = first_skipped(self.tokens, self.program, at) {
+                self.add_words(
+                    next,
+                    "this never runs, since continue ends the call of the entry procedure",
+                );
+            }
         }
-        Ok(())
     }
 
-    fn add_plain_delays(&mut self) -> Result<(), AllocError> {
+    fn add_inner(&mut self, inner: Inner) {
+        let mut sentence = Prose::new(self.alloc);
+        sentence.put("whoever waits in ");
+        push_tokens(&mut sentence, self.source, inner.call);
+        sentence.put(" is still inside ");
+        sentence.put(inner.outer);
+        sentence.put(", so that nobody else can come in there, not even to wake it");
+        self.add(inner.call.from, sentence.finish());
+    }
+
+    fn add_inner_waits(&mut self) {
+        match inner_waits(self.alloc, self.tokens, self.program) {
+            Ok(all) => {
+                for inner in &all {
+                    self.add_inner(*inner);
+                }
+            }
+            Err(_) => self.is_refused = true,
+        }
+    }
+
+    fn add_plain_delays(&mut self) {
         let mut body = OUTSIDE;
         for at in 0..self.tokens.count() {
             body = body.after(self.tokens, at);
             if body.comes_to_each(self.tokens, at)
                 && is_standard(self.program, self.tokens, at, "delay")
             {
-                self.add(
+                self.add_words(
                     at,
                     "every process that comes here waits; one queue holds one process, and a second one is the run error queue-in-use",
-                )?;
+                );
             }
         }
-        Ok(())
     }
 
-    fn add_remarks(&mut self) -> Result<(), AllocError> {
-        for remark in &remarks(self.alloc, self.tokens, self.program)? {
-            self.add(remark.at, said_of(remark.care))?;
+    fn add_remarks(&mut self) {
+        match remarks(self.alloc, self.tokens, self.program) {
+            Ok(all) => {
+                for remark in &all {
+                    self.add_words(remark.at, said_of(remark.care));
+                }
+            }
+            Err(_) => self.is_refused = true,
         }
-        Ok(())
     }
 }
 
@@ -197,10 +221,14 @@ pub fn hints(
             all: Vec::new(alloc),
             more: 0,
         },
+        is_refused: false,
     };
-    gathering.add_skipped()?;
-    gathering.add_inner_waits()?;
-    gathering.add_plain_delays()?;
-    gathering.add_remarks()?;
+    gathering.add_skipped();
+    gathering.add_inner_waits();
+    gathering.add_plain_delays();
+    gathering.add_remarks();
+    if gathering.is_refused {
+        return Err(AllocError);
+    }
     Ok(gathering.hints)
 }

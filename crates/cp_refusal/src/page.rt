@@ -3,7 +3,7 @@
 use crate::characters::{Look, length, push_characters};
 use crate::extent::Extent;
 use crate::place::{ByteRange, Sought, find};
-use std::alloc::{AllocError, Global};
+use cp_prose::Prose;
 
 /// Where the line of a place begins.
 fn line_start(source: &[u8], at: usize) -> usize {
@@ -33,11 +33,10 @@ pub fn line_number(source: &[u8], at: usize) -> u32 {
     number
 }
 
-fn push_blanks(text: &mut String, number: usize) -> Result<(), AllocError> {
+fn push_blanks(text: &mut Prose, number: usize) {
     for _ in 0..number {
-        text.push(' ')?;
+        text.put_char(' ');
     }
-    Ok(())
 }
 
 /// The line that begins at a place, without what ends it.
@@ -81,32 +80,28 @@ fn whole_from(line: &[u8], from: usize) -> usize {
 }
 
 /// Appends the line of a place with its number, and below it a mark under the place. Of a long line what is around the place is shown.
-pub fn push_marked_line(
-    alloc: Global,
-    text: &mut String,
-    source: &[u8],
-    span: ByteRange,
-) -> Result<(), AllocError> {
+pub fn push_marked_line(text: &mut Prose, source: &[u8], span: ByteRange) {
     let start = line_start(source, span.from).min(source.len());
     let line = line_at(source, start);
     let place = span.from.saturating_sub(start).min(line.len());
     let part = shown_part(line, place);
-    let number = format!(in alloc; "{}", line_number(source, span.from))?;
-    text.push_str(number.as_str())?;
-    text.push_str(" | ")?;
-    text.push_str(if part.from > 0 { CUT } else { "" })?;
+    let before = text.len();
+    text.put_display(line_number(source, span.from));
+    let width = text.len().saturating_sub(before);
+    text.put(" | ");
+    text.put(if part.from > 0 { CUT } else { "" });
     push_characters(
         text,
         line.get(part.from..part.to).unwrap_or(&[]),
         Look::Whole,
-    )?;
-    text.push_str(if part.to < line.len() { CUT } else { "" })?;
-    text.push_str("\n")?;
-    push_blanks(text, number.len())?;
-    text.push_str(" | ")?;
-    push_blanks(text, if part.from > 0 { CUT.len() } else { 0 })?;
-    push_characters(text, line.get(part.from..place).unwrap_or(&[]), Look::Blank)?;
-    text.push_str("^\n")
+    );
+    text.put(if part.to < line.len() { CUT } else { "" });
+    text.put("\n");
+    push_blanks(text, width);
+    text.put(" | ");
+    push_blanks(text, if part.from > 0 { CUT.len() } else { 0 });
+    push_characters(text, line.get(part.from..place).unwrap_or(&[]), Look::Blank);
+    text.put("^\n");
 }
 
 /// Stands where a line is cut.
@@ -134,13 +129,13 @@ pub fn column(source: &[u8], at: usize) -> usize {
 const MOST_REPEATED: usize = 40;
 
 /// Appends some tokens as they are written, on one line; of many only the first.
-pub fn push_tokens(text: &mut String, source: &[u8], extent: Extent) -> Result<(), AllocError> {
+pub fn push_tokens(text: &mut Prose, source: &[u8], extent: Extent) {
     let last = extent.to.saturating_sub(1);
     let (Some(first), Some(last)) = (
         find(source, Sought::Token(extent.from)),
         find(source, Sought::Token(last)),
     ) else {
-        return Ok(());
+        return;
     };
     let rest = &source[first.from.min(source.len())..];
     let len = last
@@ -148,9 +143,8 @@ pub fn push_tokens(text: &mut String, source: &[u8], extent: Extent) -> Result<(
         .saturating_add(last.len)
         .saturating_sub(first.from)
         .min(rest.len());
-    push_characters(text, &rest[..len.min(MOST_REPEATED)], Look::OneLine)?;
+    push_characters(text, &rest[..len.min(MOST_REPEATED)], Look::OneLine);
     if len > MOST_REPEATED {
-        text.push_str(" ..")?;
+        text.put(" ..");
     }
-    Ok(())
 }

@@ -36,19 +36,14 @@ pub enum Reply {
 /// A name of the greatest length, that no program is likely to have.
 const NEW_NAME: &str = "q012345678901234567890123456789012345678";
 
-fn push_piece(
-    alloc: Global,
-    draft: &mut Draft,
-    tokens: &Tokens,
-    piece: Insertion,
-) -> Result<(), AllocError> {
+fn push_piece(draft: &mut Draft, tokens: &Tokens, piece: Insertion) {
     match piece {
         Insertion::Mark(mark) => draft.push_text(spelling(mark)),
-        Insertion::Number(value) => draft.push_kind(alloc, &Kind::Number(value)),
-        Insertion::Character(code) => draft.push_kind(alloc, &Kind::Character(code)),
+        Insertion::Number(value) => draft.push_kind(&Kind::Number(value)),
+        Insertion::Character(code) => draft.push_kind(&Kind::Character(code)),
         Insertion::NewName => draft.push_text(NEW_NAME),
         Insertion::Empty => draft.push_text("empty"),
-        Insertion::Copied(extent) => draft.push_copies(alloc, tokens, extent),
+        Insertion::Copied(extent) => draft.push_copies(tokens, extent),
     }
 }
 
@@ -60,17 +55,17 @@ pub fn ask(
     pieces: &[Insertion],
 ) -> Result<Reply, AllocError> {
     let mut draft = Draft::new(alloc);
-    draft.push_copies(alloc, tokens, Extent { from: 0, to: place })?;
+    draft.push_copies(tokens, Extent { from: 0, to: place });
     let from = draft.count();
     for piece in pieces {
-        push_piece(alloc, &mut draft, tokens, *piece)?;
+        push_piece(&mut draft, tokens, *piece);
     }
     let to = draft.count();
     let rest = Extent {
         from: place,
         to: tokens.count(),
     };
-    draft.push_copies(alloc, tokens, rest)?;
+    draft.push_copies(tokens, rest);
     match draft.tokens(alloc)? {
         Some(tokens) => reply_for(alloc, &tokens, Extent { from, to }),
         None => Ok(Reply::Unknown),

@@ -2,6 +2,7 @@
 
 use crate::page::{column, line_number, push_marked_line};
 use crate::place::ByteRange;
+use cp_prose::Prose;
 use std::alloc::{AllocError, Global};
 
 /// Why a source is refused.
@@ -64,71 +65,53 @@ pub fn text(
     answer: &Explanation,
     file: Option<&str>,
 ) -> Result<String, AllocError> {
-    let mut text = String::new(alloc);
+    let mut text = Prose::new(alloc);
     match answer {
-        Explanation::Accepted(hints) => push_accepted(alloc, &mut text, source, hints, file)?,
-        Explanation::Refused(refusal) => push_refusal(alloc, &mut text, source, refusal, file)?,
+        Explanation::Accepted(hints) => push_accepted(&mut text, source, hints, file),
+        Explanation::Refused(refusal) => push_refusal(&mut text, source, refusal, file),
     }
-    Ok(text)
+    text.finish()
 }
 
 // A place before what is said of it: `line 2: `, or `program.cp:2:15: `.
-fn push_position(
-    text: &mut String,
-    source: &[u8],
-    span: ByteRange,
-    file: Option<&str>,
-) -> Result<(), AllocError> {
+fn push_position(text: &mut Prose, source: &[u8], span: ByteRange, file: Option<&str>) {
     let Position { line, column, .. } = position_of(source, span);
     match file {
-        Some(name) => write!(text, "{name}:{line}:{column}: "),
-        None => write!(text, "line {line}: "),
+        Some(name) => text.put_display(format_args!("{name}:{line}:{column}: ")),
+        None => text.put_display(format_args!("line {line}: ")),
     }
 }
 
-fn push_refusal(
-    alloc: Global,
-    text: &mut String,
-    source: &[u8],
-    refusal: &Refusal,
-    file: Option<&str>,
-) -> Result<(), AllocError> {
+fn push_refusal(text: &mut Prose, source: &[u8], refusal: &Refusal, file: Option<&str>) {
     if let Some(span) = refusal.span {
-        push_position(text, source, span, file)?;
+        push_position(text, source, span, file);
     }
-    text.push_str(refusal.sentence.as_str())?;
-    text.push_str("\n")?;
+    text.put(refusal.sentence.as_str());
+    text.put("\n");
     for span in [refusal.earlier, refusal.span] {
         if let Some(span) = span {
-            push_marked_line(alloc, text, source, span)?;
+            push_marked_line(text, source, span);
         }
     }
     if refusal.span.is_some() {
-        text.push_str(refusal.more)?;
-        text.push_str("\n")?;
+        text.put(refusal.more);
+        text.put("\n");
     }
-    Ok(())
 }
 
-fn push_accepted(
-    alloc: Global,
-    text: &mut String,
-    source: &[u8],
-    hints: &Hints,
-    file: Option<&str>,
-) -> Result<(), AllocError> {
-    text.push_str("accepted\n")?;
+fn push_accepted(text: &mut Prose, source: &[u8], hints: &Hints, file: Option<&str>) {
+    text.put("accepted\n");
     for hint in &hints.all {
-        text.push_str(if file.is_some() { "" } else { "hint: " })?;
-        push_position(text, source, hint.span, file)?;
-        text.push_str(if file.is_some() { "hint: " } else { "" })?;
-        text.push_str(hint.sentence.as_str())?;
-        text.push_str("\n")?;
-        push_marked_line(alloc, text, source, hint.span)?;
+        text.put(if file.is_some() { "" } else { "hint: " });
+        push_position(text, source, hint.span, file);
+        text.put(if file.is_some() { "hint: " } else { "" });
+        text.put(hint.sentence.as_str());
+        text.put("\n");
+        push_marked_line(text, source, hint.span);
     }
     match hints.more {
-        0 => Ok(()),
-        1 => text.push_str("and 1 more hint\n"),
-        more => write!(text, "and {more} more hints\n"),
+        0 => {}
+        1 => text.put("and 1 more hint\n"),
+        more => text.put_display(format_args!("and {more} more hints\n")),
     }
 }

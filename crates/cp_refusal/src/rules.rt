@@ -11,6 +11,7 @@ use crate::page::{line_number, push_tokens};
 use crate::place::{Sought, find};
 use crate::sorts::{Asker, Sort};
 use crate::spelling::similar_declaration;
+use cp_prose::Prose;
 use cp_scope::Rule;
 use cp_text::{Kind, Mark, Tokens};
 use cp_tree::Program;
@@ -194,73 +195,70 @@ pub fn sentence(
         tokens,
         place: statement_start(tokens, broken.at),
     };
-    let mut text = String::new(alloc);
-    if !push_particular(&asker, &mut text, broken)? {
-        push_general(&asker, &mut text, broken)?;
+    let mut text = Prose::new(alloc);
+    if !push_particular(&asker, &mut text, broken) {
+        push_general(&asker, &mut text, broken);
     }
-    text.push_str(" (rule ")?;
-    text.push_str(code(broken.rule))?;
-    text.push_str(")")?;
-    Ok(text)
+    text.put(" (rule ");
+    text.put(code(broken.rule));
+    text.put(")");
+    text.finish()
 }
 
 /// Says what is there and what is wanted, where that can be told.
-fn push_particular(asker: &Asker, text: &mut String, broken: Broken) -> Result<bool, AllocError> {
+fn push_particular(asker: &Asker, text: &mut Prose, broken: Broken) -> bool {
     match broken.rule {
         Rule::C1 => push_undeclared(asker, text, broken),
         Rule::C5 => {
-            Ok(push_misused(asker, text, broken)? || push_disagreement(asker, text, broken.at)?)
+            push_misused(asker, text, broken) || push_disagreement(asker, text, broken.at)
         }
         Rule::C6 => push_unchangeable(asker, text, broken.program, broken.at),
         Rule::C7 => push_counts(asker, text, broken.at),
         Rule::C8 => push_no_start(asker, text, broken.at),
         Rule::C17 => push_array(asker, text, broken.at),
         Rule::C21 => push_undisplayed(asker, text, broken.at),
-        _ => Ok(false),
+        _ => false,
     }
 }
 
 /// Says of a name that is not visible where it is declared, what is meant by it elsewhere, or which name may have been meant.
-fn push_undeclared(asker: &Asker, text: &mut String, broken: Broken) -> Result<bool, AllocError> {
+fn push_undeclared(asker: &Asker, text: &mut Prose, broken: Broken) -> bool {
     let at = broken.at;
     let name = name_at(asker.tokens, at);
-    push_tokens(text, asker.source, single(at))?;
+    push_tokens(text, asker.source, single(at));
     if mark_before(asker.tokens, at) == Some(Mark::Period) {
-        text.push_str(" is no field of this record")?;
-        return Ok(true);
+        text.put(" is no field of this record");
+        return true;
     }
-    text.push_str(" is not declared here")?;
+    text.put(" is not declared here");
     if is_declared_somewhere(broken.program, name) {
-        text.push_str(ELSEWHERE)?;
-        return Ok(true);
+        text.put(ELSEWHERE);
+        return true;
     }
     let instead = instead_of(name);
     if !instead.is_empty() {
-        text.push_str(instead)?;
-        return Ok(true);
+        text.put(instead);
+        return true;
     }
     if let Some(other) = similar_declaration(broken.program, asker.tokens, at) {
-        push_declared(asker, text, other)?;
+        push_declared(asker, text, other);
     }
-    Ok(true)
+    true
 }
 
 const ELSEWHERE: &str =
     ": it is declared elsewhere, and a block sees only what is declared before it and around it; a system type sees no variable and no routine of the program";
 
 /// Says in which line the name at a token is declared.
-fn push_declared(asker: &Asker, text: &mut String, at: usize) -> Result<(), AllocError> {
-    text.push_str(": ")?;
-    push_tokens(text, asker.source, single(at))?;
+fn push_declared(asker: &Asker, text: &mut Prose, at: usize) {
+    text.put(": ");
+    push_tokens(text, asker.source, single(at));
     let from = match find(asker.source, Sought::Token(at)) {
         Some(span) => span.from,
         None => 0,
     };
-    write!(
-        text,
-        " is declared in line {}",
-        line_number(asker.source, from)
-    )
+    text.put(" is declared in line ");
+    text.put_display(line_number(asker.source, from));
 }
 
 /// How a name is used.
@@ -304,65 +302,66 @@ fn misuse(what: Declared, used: Use, has_arguments: bool) -> &'static str {
 }
 
 /// Says that what a name stands for is used as what it is not.
-fn push_misused(asker: &Asker, text: &mut String, broken: Broken) -> Result<bool, AllocError> {
+fn push_misused(asker: &Asker, text: &mut Prose, broken: Broken) -> bool {
     let tokens = asker.tokens;
     if name_at(tokens, broken.at).is_empty() {
-        return Ok(false);
+        return false;
     }
     let Some(called) = called_at(broken.program, tokens, broken.at) else {
-        return Ok(false);
+        return false;
     };
     let has_arguments = mark_at(tokens, called.tokens.to) == Some(Mark::OpenParenthesis);
     let said = misuse(called.what, use_of(asker, broken.at), has_arguments);
     if said.is_empty() {
-        return Ok(false);
+        return false;
     }
-    push_tokens(text, asker.source, called.tokens)?;
-    text.push_str(said)?;
-    Ok(true)
+    push_tokens(text, asker.source, called.tokens);
+    text.put(said);
+    true
 }
 
 /// Says how processes are started, where a component is told to start.
-fn push_no_start(asker: &Asker, text: &mut String, at: usize) -> Result<bool, AllocError> {
+fn push_no_start(asker: &Asker, text: &mut Prose, at: usize) -> bool {
     if !is_start(name_at(asker.tokens, at)) {
-        return Ok(false);
+        return false;
     }
-    push_tokens(text, asker.source, single(at))?;
-    text.push_str(" is no routine of this component: processes are started by init")?;
-    Ok(true)
+    push_tokens(text, asker.source, single(at));
+    text.put(" is no routine of this component: processes are started by init");
+    true
 }
 
 /// Says how the components of an array are initialised.
-fn push_array(asker: &Asker, text: &mut String, at: usize) -> Result<bool, AllocError> {
+fn push_array(asker: &Asker, text: &mut Prose, at: usize) -> bool {
     let array = single(at);
-    if asker.sort_of(array)? != Some(Sort::Array) {
-        return Ok(false);
+    if asker.sort_of(text, array) != Some(Sort::Array) {
+        return false;
     }
-    push_tokens(text, asker.source, array)?;
-    text.push_str(" is an array, and init takes its elements: init ")?;
-    push_tokens(text, asker.source, array)?;
-    text.push_str("[1](..), ")?;
-    push_tokens(text, asker.source, array)?;
-    text.push_str("[2](..)")?;
-    Ok(true)
+    push_tokens(text, asker.source, array);
+    text.put(" is an array, and init takes its elements: init ");
+    push_tokens(text, asker.source, array);
+    text.put("[1](..), ");
+    push_tokens(text, asker.source, array);
+    text.put("[2](..)");
+    true
 }
 
-fn push_undisplayed(asker: &Asker, text: &mut String, at: usize) -> Result<bool, AllocError> {
+fn push_undisplayed(asker: &Asker, text: &mut Prose, at: usize) -> bool {
     let value = expression_at(asker.tokens, at);
-    text.push_str("display takes a value, but ")?;
-    push_tokens(text, asker.source, value)?;
-    text.push_str(match asker.sort_of(value)? {
+    text.put("display takes a value, but ");
+    push_tokens(text, asker.source, value);
+    let sort = asker.sort_of(text, value);
+    text.put(match sort {
         Some(Sort::Queue) => " is a queue",
         Some(Sort::Set) => " is a set",
         Some(Sort::Record) => " is a record",
         Some(Sort::Array) => " is an array",
         Some(Sort::Component) => " is a component",
         _ => " is an array, a record or a set",
-    })?;
-    Ok(true)
+    });
+    true
 }
 
-fn push_general(asker: &Asker, text: &mut String, broken: Broken) -> Result<(), AllocError> {
-    push_tokens(text, asker.source, single(broken.at))?;
-    text.push_str(complaint(asker.tokens, broken.at, broken.rule))
+fn push_general(asker: &Asker, text: &mut Prose, broken: Broken) {
+    push_tokens(text, asker.source, single(broken.at));
+    text.put(complaint(asker.tokens, broken.at, broken.rule));
 }

@@ -3,6 +3,7 @@
 use crate::extent::Extent;
 use crate::probe::{Insertion, Reply, ask};
 use cp_check::Rule;
+use cp_prose::Prose;
 use cp_text::{Mark, Tokens};
 use std::alloc::{AllocError, Global};
 
@@ -53,6 +54,16 @@ pub struct Asker<'a> {
     pub tokens: &'a Tokens,
     pub place: usize,
 }
+
+/// The sorts of which one question tells whether a value has them, in the order of these questions.
+const PLAIN_SORTS: [Sort; 6] = [
+    Sort::Integer,
+    Sort::Boolean,
+    Sort::Character,
+    Sort::Set,
+    Sort::Enumeration,
+    Sort::Queue,
+];
 
 /// An index of a sort, to be tried.
 const INDICES: [Insertion; 2] = [Insertion::Number(1), Insertion::Character(65)];
@@ -157,33 +168,30 @@ impl<'a> Asker<'a> {
         })
     }
 
+    /// Whether an expression is accepted where values of a plain sort are.
+    fn is_plain(&self, value: Extent, sort: Sort) -> Result<bool, AllocError> {
+        match sort {
+            Sort::Integer => self.equals(value, Insertion::Number(1)),
+            Sort::Boolean => self.is_boolean(value),
+            Sort::Character => self.equals(value, Insertion::Character(65)),
+            Sort::Set => self.is_set(value),
+            Sort::Enumeration => self.is_element(value),
+            Sort::Queue => self.is_queue(value),
+            Sort::Record | Sort::Array | Sort::Component => Ok(false),
+        }
+    }
+
     fn plain_sort(&self, value: Extent) -> Result<Option<Sort>, AllocError> {
-        if self.equals(value, Insertion::Number(1))? {
-            return Ok(Some(Sort::Integer));
-        }
-        if self.is_boolean(value)? {
-            return Ok(Some(Sort::Boolean));
-        }
-        if self.equals(value, Insertion::Character(65))? {
-            return Ok(Some(Sort::Character));
-        }
-        if self.is_set(value)? {
-            return Ok(Some(Sort::Set));
-        }
-        if self.is_element(value)? {
-            return Ok(Some(Sort::Enumeration));
-        }
-        if self.is_queue(value)? {
-            return Ok(Some(Sort::Queue));
+        for sort in &PLAIN_SORTS {
+            if self.is_plain(value, *sort)? {
+                return Ok(Some(*sort));
+            }
         }
         Ok(None)
     }
 
-    /// The sort of an expression's value; none where it can't be told, or where the expression has none.
-    pub fn sort_of(&self, value: Extent) -> Result<Option<Sort>, AllocError> {
-        if let Some(sort) = self.plain_sort(value)? {
-            return Ok(Some(sort));
-        }
+    /// The sort of what has fields or indices.
+    fn compound_sort(&self, value: Extent) -> Result<Option<Sort>, AllocError> {
         match self.field_reply(value)? {
             Reply::Broken { rule: Rule::C1, at } if at > 1 => return Ok(Some(Sort::Record)),
             Reply::Broken { rule: Rule::C8, .. } => return Ok(Some(Sort::Component)),
@@ -195,5 +203,24 @@ impl<'a> Asker<'a> {
             }
         }
         Ok(None)
+    }
+
+    fn find_sort(&self, value: Extent) -> Result<Option<Sort>, AllocError> {
+        match self.plain_sort(value)? {
+            None => self.compound_sort(value),
+            sort => Ok(sort),
+        }
+    }
+
+    /// The sort of an expression's value; none where it can't be told, or where the expression has none. It is asked for a text, which is refused
+    /// where memory is refused for the question.
+    pub fn sort_of(&self, text: &mut Prose, value: Extent) -> Option<Sort> {
+        match self.find_sort(value) {
+            Ok(sort) => sort,
+            Err(_) => {
+                text.refuse();
+                None
+            }
+        }
     }
 }

@@ -25,6 +25,22 @@ pub struct Remark {
     pub care: Care,
 }
 
+/// Remarks that are gathered.
+#[derive(Drop)]
+struct RemarkList {
+    all: Vec<Remark>,
+    /// Whether memory was refused for one.
+    is_refused: bool,
+}
+
+impl RemarkList {
+    fn add(&mut self, at: usize, care: Care) {
+        if self.all.push(Remark { at, care }).is_err() {
+            self.is_refused = true;
+        }
+    }
+}
+
 /// Where a walk over the tokens of statements is in an `init`.
 #[derive(Clone, Copy)]
 struct InitWalk {
@@ -139,31 +155,27 @@ fn add_groups(
     types: &[NamedSystem],
     groups: &[VariableGroup],
     body: Extent,
-    remarks: &mut Vec<Remark>,
-) -> Result<(), AllocError> {
+    remarks: &mut RemarkList,
+) {
     for group in groups {
         let Some(kind) = kind_of(program, types, group) else {
             continue;
         };
         for identifier in &group.names {
             match starts(tokens, body, identifier.name.as_str()) {
-                (Some(at), _) => remarks.push(Remark {
-                    at,
-                    care: Care::Again,
-                })?,
-                (None, false) => remarks.push(Remark {
-                    at: identifier.at,
-                    care: if kind == SystemKind::Process {
+                (Some(at), _) => remarks.add(at, Care::Again),
+                (None, false) => {
+                    let care = if kind == SystemKind::Process {
                         Care::NotStarted
                     } else {
                         Care::NotInitialised
-                    },
-                })?,
+                    };
+                    remarks.add(identifier.at, care);
+                }
                 (None, true) => {}
             }
         }
     }
-    Ok(())
 }
 
 /// The remarks on the starts of a program's components.
@@ -173,20 +185,26 @@ pub fn remarks(
     program: &Program,
 ) -> Result<Vec<Remark>, AllocError> {
     let types = system_types(alloc, program)?;
-    let mut remarks = Vec::new(alloc);
+    let mut remarks = RemarkList {
+        all: Vec::new(alloc),
+        is_refused: false,
+    };
     for named in &types {
         let body = extent_of(tokens, &named.system.body);
         for part in &named.system.parts {
             if let PartKind::Variables(groups) = &part.kind {
-                add_groups(tokens, program, &types, groups, body, &mut remarks)?;
+                add_groups(tokens, program, &types, groups, body, &mut remarks);
             }
         }
     }
     let body = extent_of(tokens, &program.body);
     for part in &program.parts {
         if let ProgramPartKind::Variables(groups) = &part.kind {
-            add_groups(tokens, program, &types, groups, body, &mut remarks)?;
+            add_groups(tokens, program, &types, groups, body, &mut remarks);
         }
     }
-    Ok(remarks)
+    if remarks.is_refused {
+        return Err(AllocError);
+    }
+    Ok(remarks.all)
 }

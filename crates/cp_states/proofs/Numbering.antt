@@ -1,6 +1,6 @@
 -- The numbers of processes go into a row one by one.
 use Rattle.std.proofs.Common.{◌≡◌, ◌∙◌, ◌+◌, ◌<◌, ◌≤◌, ◌⊎◌, inl, inr, ℕ, zero, suc, List, [], ◌∷◌, ap, arith, length, map, refl, subst, sym}
-use Rattle.std.specs.Prelude.{slice_index_or}
+use Rattle.std.specs.Prelude.{IfNone, None, Option, Some, slice_index_or}
 use Rattle.std.proofs.lemmas.Bool.{cases_eq}
 use Rattle.cp_machine.specs.declared.process.Process.{Process}
 use Rattle.cp_machine.specs.Bodies.{Body, body_of}
@@ -83,3 +83,8 @@ thread_from s t status body = ap (λ st. thread st (body_of s)) status ∙ ap (t
   where
     thread : Status → Body → Thread
     thread status body = record { status = status; frame = body.frame; stack = body.stack; cells = body.cells; references = body.references }
+
+-- what holds anyway holds where there is none
+pub none_so : {T P : Type 0} (o : Option T) → P → IfNone o P
+none_so None p = p
+none_so (Some x) p = tt

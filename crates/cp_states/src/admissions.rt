@@ -58,6 +58,19 @@ impl Admissions {
         )
     }
 
+    /// The number of what monitors have, if it is there.
+    pub fn number(&self, guards: &[Gate], pending: Option<u8>, gates: Gates) -> Option<u32>
+        ensures found { IfSome result (λ n. IsAmong none_gated (map admitted_by self.now.all.items) n (gated_by guards.now pending gates)) }
+        ensures absent { IfNone result ((n : ℕ) → IsAmong none_gated (map admitted_by self.now.all.items) n (gated_by guards.now pending gates) → ⊥) }
+    {
+        self.find(
+            hash_of_guards(guards, pending, gates),
+            guards,
+            pending,
+            gates,
+        )
+    }
+
     /// The number of what monitors have, which is new where that is.
     #[inline(always)]
     pub fn number_of(
@@ -106,6 +119,7 @@ impl Admissions {
         });
         Ok(number as u32)
     }
+
     /// Monitors become what has a number, which perhaps is what they had.
     #[inline(always)]
     pub fn take(
@@ -124,6 +138,22 @@ impl Admissions {
         if number == known {
             return;
         }
+        self.take_anew(number, guards, pending, gates);
+    }
+
+    /// Monitors become what has a number.
+    #[inline(always)]
+    pub fn take_anew(
+        &self,
+        number: u32,
+        guards: &mut Vec<Gate>,
+        pending: &mut Option<u8>,
+        gates: &mut Gates,
+    )
+        requires number { number < length self.now.all.items }
+        requires count { length (slice_index_or (map admitted_by self.now.all.items) number none_gated).monitors ≡ length guards.old.items }
+        ensures same { gated_by guards.new.items pending.new gates.new ≡ slice_index_or (map admitted_by self.now.all.items) number none_gated }
+    {
         let from = &self.all[number as usize];
         take_guards(guards, &from.guards);
         *pending = from.pending;

@@ -65,7 +65,11 @@ fn is_guard(guard: &Gate, other: &Gate) -> bool
     ensures one { result ≡ true → monitor_of guard.now ≡ monitor_of other.now }
     ensures same { monitor_of guard.now ≡ monitor_of other.now → result ≡ true }
 {
-    guard.holder == other.holder && Compared::are(guard.line.as_slice(), other.line.as_slice())
+    let line = guard.line.as_slice();
+    let others = other.line.as_slice();
+    guard.holder == other.holder
+        && line.len() == others.len()
+        && (line.is_empty() || Compared::are(line, others))
 }
 
 /// Whether the monitors of two lists are one.

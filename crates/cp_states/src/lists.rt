@@ -124,6 +124,7 @@ impl<T: Hashed + Compared> Lists<T> {
         self.ends.push_reserved(self.items.len());
         Ok(number as u32)
     }
+
     /// A list becomes the one with a number, which perhaps is the one that it was.
     #[inline(always)]
     pub fn take(&self, number: u32, known: u32, list: &mut Vec<T>)
@@ -136,6 +137,17 @@ impl<T: Hashed + Compared> Lists<T> {
         if number == known {
             return;
         }
+        self.take_anew(number, list);
+    }
+
+    /// A list becomes the one with a number.
+    #[inline(always)]
+    pub fn take_anew(&self, number: u32, list: &mut Vec<T>)
+        requires number { number < length self.now.ends.items }
+        requires room { length (piece_at self.now.items.items self.now.ends.items number) ≤ vec_capacity list.old }
+        ensures items { list.new.items ≡ piece_at self.now.items.items self.now.ends.items number }
+        ensures room { vec_capacity list.old ≤ vec_capacity list.new }
+    {
         take_list(list, self.at(number as usize));
     }
 }

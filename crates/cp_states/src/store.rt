@@ -36,7 +36,7 @@ pub struct Store {
 }
 
 impl Store {
-    ghost use Rattle.std.specs.Prelude.{◌+◌, ◌<◌, ◌≤◌, [], ℕ, length, map, false, vec_capacity, IfOk};
+    ghost use Rattle.std.specs.Prelude.{◌+◌, ◌<◌, ◌≤◌, [], ℕ, List, length, map, false, vec_capacity, IfNone, IfOk, IfSome};
     ghost use Rattle.cp_slots.specs.Tables.{Tables};
     ghost use Rattle.cp_key.specs.Room.{IsMachineOf};
     ghost use Rattle.cp_machine.specs.Bodies.{body_of, has_moved, KeepBodies};
@@ -278,6 +278,70 @@ impl Store {
         })
     }
 
+    // The row of a state without its processes, if the store has its parts.
+    fn first_numbers_of(&self, state: &State) -> Option<Row>
+        ensures found { IfSome result (λ row. IsRowOf self.now row.numbers (record (machine_of state.now) { threads = [] })) }
+        ensures absent { IfNone result ((row : List ℕ) → IsRowOf self.now row (machine_of state.now) → ⊥) }
+    {
+        let output = self.outputs.number(&state.output)?;
+        let permanents = self.permanents.number(&state.permanents)?;
+        let bindings = self.bindings.number(&state.bindings)?;
+        let phases = self.phases.number(&state.phases)?;
+        let admission = self
+            .admissions
+            .number(&state.guards, state.pending, state.gates)?;
+        Some(Row {
+            numbers: [
+                output, permanents, bindings, phases, admission, 0, 0, 0, 0, 0, 0, 0, 0, 0, 0, 0,
+                0, 0, 0, 0, 0,
+            ],
+        })
+    }
+
+    // The number of a process goes into a row, if the store has the process.
+    fn number_process(&self, process: &Process, at: usize, row: &mut Row) -> bool
+        requires at { 5 + at < 21 }
+        ensures this { result ≡ true → IsAmong no_thread (map thread_of self.now.threads.all.items) (number_at row.new.numbers (5 + at)) (thread_of process.now) }
+        ensures absent { result ≡ false → (n : ℕ) → IsAmong no_thread (map thread_of self.now.threads.all.items) n (thread_of process.now) → ⊥ }
+        ensures others { (k : ℕ) → (k ≡ 5 + at → ⊥) → number_at row.new.numbers k ≡ number_at row.old.numbers k }
+        ensures long { length row.new.numbers ≡ length row.old.numbers }
+    {
+        match self.threads.number(process) {
+            Some(number) => {
+                row.numbers[THREADS + at] = number;
+                true
+            }
+            None => false,
+        }
+    }
+
+    // The numbers of the processes go into a row, which has none of them, if the store has the processes.
+    fn number_processes(&self, state: &State, row: &mut Row) -> bool
+        ensures row { result ≡ true → IsRowOf self.now row.old.numbers (record (machine_of state.now) { threads = [] }) → IsRowOf self.now row.new.numbers (machine_of state.now) }
+        ensures absent { result ≡ false → (row : List ℕ) → IsRowOf self.now row (machine_of state.now) → ⊥ }
+    {
+        let processes = state.processes.as_slice();
+        for at in 0..processes.len() {
+            if !self.number_process(&processes[at], at, row) {
+                return false;
+            }
+        }
+        true
+    }
+
+    /// The row of a state, if the store has its parts.
+    pub fn row_of(&self, state: &State) -> Option<Row>
+        ensures found { IfSome result (λ row. IsRowOf self.now row.numbers (machine_of state.now)) }
+        ensures absent { IfNone result ((row : List ℕ) → IsRowOf self.now row (machine_of state.now) → ⊥) }
+    {
+        let mut row = self.first_numbers_of(state)?;
+        if self.number_processes(state, &mut row) {
+            Some(row)
+        } else {
+            None
+        }
+    }
+
     /// The row of a state, of which the row of the state before is known, and which processes moved since.
     #[inline(always)]
     pub fn row_after(
@@ -341,6 +405,29 @@ impl Store {
         );
         self.threads
             .take_all(row, known, &mut state.processes, moved);
+    }
+
+    /// A state becomes the one of the same program that has a row, whatever it was. It takes no memory.
+    pub fn take_anew(&self, row: &Row, state: &mut State)
+        requires { (r : Tables) × (m : Machine) × IsStateOf r state.old × IsMachineOf r m × IsRowOf self.now row.now.numbers m }
+        ensures same { (r : Tables) (m : Machine) → IsStateOf r state.old → IsMachineOf r m → IsRowOf self.now row.now.numbers m → machine_of state.new ≡ m }
+        ensures own { (r : Tables) (m : Machine) → IsStateOf r state.old → IsMachineOf r m → IsRowOf self.now row.now.numbers m → IsStateOf r state.new }
+    {
+        self.outputs
+            .take_anew(row.numbers[OUTPUT], &mut state.output);
+        self.permanents
+            .take_anew(row.numbers[PERMANENTS], &mut state.permanents);
+        self.bindings
+            .take_anew(row.numbers[BINDINGS], &mut state.bindings);
+        self.phases
+            .take_anew(row.numbers[PHASES], &mut state.phases);
+        self.admissions.take_anew(
+            row.numbers[ADMISSION],
+            &mut state.guards,
+            &mut state.pending,
+            &mut state.gates,
+        );
+        self.threads.take_each(row, &mut state.processes);
     }
 
     /// The output of a state becomes that of the one that has a row, and the rest stays as it is. It takes no memory.

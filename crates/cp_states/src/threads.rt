@@ -60,6 +60,14 @@ impl Threads {
         )
     }
 
+    /// The number of a process, if it is there.
+    pub fn number(&self, process: &Process) -> Option<u32>
+        ensures found { IfSome result (λ n. IsAmong no_thread (map thread_of self.now.all.items) n (thread_of process.now)) }
+        ensures absent { IfNone result ((n : ℕ) → IsAmong no_thread (map thread_of self.now.all.items) n (thread_of process.now) → ⊥) }
+    {
+        self.find(hash_of_process(process), process)
+    }
+
     /// The number of a process, which is new where the process is.
     #[inline(always)]
     pub fn number_of(&mut self, alloc: Global, process: &Process) -> Result<u32, AllocError>
@@ -91,6 +99,7 @@ impl Threads {
         self.all.push_reserved(copy);
         Ok(number as u32)
     }
+
     // A process becomes the one with a number, which perhaps is the one that it was; if not, it has moved.
     #[inline(always)]
     fn take(&self, number: u32, known: u32, pid: usize, process: &mut Process, moved: &mut Moved)
@@ -108,8 +117,33 @@ impl Threads {
         if number == known {
             return;
         }
-        take_process(process, &self.all[number as usize]);
+        self.take_anew(number, process);
         moved.add(pid as u8);
+    }
+
+    // A process becomes the one with a number.
+    #[inline(always)]
+    fn take_anew(&self, number: u32, process: &mut Process)
+        requires number { number < length self.now.all.items }
+        requires room { HasRoomFor process.old (thread_at (map thread_of self.now.all.items) number) }
+        ensures same { thread_of process.new ≡ thread_at (map thread_of self.now.all.items) number }
+        ensures stack { vec_capacity process.old.stack ≤ vec_capacity process.new.stack }
+        ensures cells { vec_capacity process.old.room.cells ≤ vec_capacity process.new.room.cells }
+        ensures references { vec_capacity process.old.room.references ≤ vec_capacity process.new.room.references }
+    {
+        take_process(process, &self.all[number as usize]);
+    }
+
+    /// Processes become those that have the numbers of a row.
+    pub fn take_each(&self, row: &Row, processes: &mut [Process])
+        requires few { length processes.old ≤ 16 }
+        requires numbers { (pid : ℕ) → pid < length processes.old → number_at row.now.numbers (5 + pid) < length self.now.all.items }
+        requires room { (pid : ℕ) (d : Process) → pid < length processes.old → HasRoomFor (slice_index_or processes.old pid d) (thread_at (map thread_of self.now.all.items) (number_at row.now.numbers (5 + pid))) }
+        ensures taken { AreTaken (λ pid. thread_at (map thread_of self.now.all.items) (number_at row.now.numbers (5 + pid))) processes.old processes.new (λ _. true) (λ _. true) (length processes.old) }
+    {
+        for at in 0..processes.len() {
+            self.take_anew(row.numbers[THREADS + at], &mut processes[at]);
+        }
     }
 
     /// Processes become those that have the numbers of a row. Those that are not what they were have moved.

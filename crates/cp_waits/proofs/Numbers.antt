@@ -1,15 +1,10 @@
--- The numbers of states, by their keys.
+-- The numbers of states.
 use Rattle.std.proofs.Common.{◌≡◌, ◌⊎◌, inl, inr, ⊎_elim, ◌<◌, ◌≤◌, ◌∙◌, ℕ, zero, suc, Bool, true, false, if◌then◌else◌, List, [], ◌∷◌, ◌++◌, Option, None, Some, is_some, map, length, get_or, refl, sym, ap, subst, arith}
-use Rattle.std.specs.Prelude.{Contains, nat_eq, position, slice_get, ◌^◌}
-use Rattle.std.specs.Map.{keys_of, lookup}
-use Rattle.std.specs.Cmp.Lexicographic.{bytes_decides}
+use Rattle.std.specs.Prelude.{Contains, slice_get, ◌^◌}
 use Rattle.std.proofs.lemmas.List.{length-map}
-use Rattle.std.proofs.lemmas.List.Quantifiers.{position-Some}
-use Rattle.std.proofs.lemmas.Option.{same_Some, slice_get_cases}
-use lib.Pointwise.{pointwise}
+use Rattle.std.proofs.lemmas.List.Elements.{All-contains}
 use Rattle.cp_slots.specs.Tables.{Tables}
-use Rattle.cp_key.specs.Key.{key_of}
-use Rattle.cp_key.proofs.Keys.{key_tells}
+use Rattle.cp_key.specs.Room.{IsMachineOf}
 use Rattle.cp_machine.specs.Machine.{thread_of}
 use Rattle.cp_machine.specs.System.{Machine, IsStateOf}
 use Rattle.cp_machine.specs.declared.state.State.{State}
@@ -23,20 +18,18 @@ use Rattle.cp_endless.specs.Settled.{IsIn}
 use Rattle.cp_endless.specs.Silent.{silent_slots, without_output}
 use Rattle.cp_endless.proofs.possible.Words.{after_append}
 use Rattle.cp_ends.specs.Firsts.{HasWord}
-use Rattle.cp_ends.specs.Holds.{same_key, AreStates, Holds, SlotFindings}
+use Rattle.cp_ends.specs.Holds.{same_key, AreStates, Holds, IsNumberOf, SlotFindings}
 use Rattle.cp_ends.specs.Searched.{has}
 use Rattle.cp_ends.specs.Whole.{IsWhole}
 use Rattle.cp_ends.specs.declared.found.Found.{Found}
-use Rattle.cp_ends.specs.declared.origin.Origin.{Origin}
-use Rattle.cp_ends.specs.declared.state_key.StateKey.{StateKey}
-use Rattle.cp_ends.proofs.Keeping.{found_same, state_of}
-use Rattle.cp_ends.proofs.Searching.Lists.{contains_at, contains_cases}
+use Rattle.cp_ends.specs.declared.states.States.{States}
+use Rattle.cp_ends.proofs.Searching.Lists.{contains_cases}
 use Rattle.cp_ends.proofs.named.Keys.{key_self}
 use Rattle.cp_waits.specs.Building.{AreAll}
 use Rattle.cp_waits.specs.Graphs.{IsNumber}
 use Rattle.cp_waits.specs.Legs.{IsHalted}
 
--- ---- a state is found by its key
+-- ---- a state is found
 
 known_state : (xs : List (Machine × List ℕ)) (m : Machine) (word : List ℕ) → Contains xs (m, word) → has same_key xs m ≡ true
 known_state [] m word h = let lt = h.1 in absurd (omega (arith, lt))
@@ -54,34 +47,15 @@ known_state (x ∷ xs) m word h = by (known_state xs m word) (contains_cases x (
     by on (inl e) = first (same_key x.0 m) (ap (λ (y : Machine × List ℕ). same_key y.0 m) e ∙ key_self m)
     by on (inr c) = later (same_key x.0 m) (on c)
 
-key_at : (es : List (StateKey × Origin)) (j : ℕ) (e : StateKey × Origin) (d : StateKey) → slice_get es j ≡ Some e → get_or (keys_of es) j d ≡ e.0
-key_at [] j e d at = absurd (cc)
-key_at (x ∷ es) zero e d at = ap (λ (y : StateKey × Origin). y.0) (same_Some x e at)
-key_at (x ∷ es) (suc j) e d at = key_at es j e d at
+-- a state that has a word has a number
+pub number_none : (states : List (Machine × List ℕ)) (m : Machine) → HasWord states m → IsNumberOf states m None → ⊥
+number_none states m h none = let both = sym none ∙ known_state states m h.0 h.1 in cc
 
-module _ (r : Tables) (es : List (StateKey × Origin)) (states : List (Machine × List ℕ)) (held : AreStates r es states) (key : StateKey) (m : Machine) (of : key.bytes.items ≡ key_of m) where
-  -- the entry with the key is that of the state
-  pub number_some : (j : ℕ) → position (λ k. pointwise nat_eq key.bytes.items k.bytes.items) (keys_of es) ≡ Some j → IsNumber states (Choosing m) (Some j)
-  number_some j at = by (slice_get_cases es j).1
-    where
-      long : (es : List (StateKey × Origin)) → length (keys_of es) ≡ length es
-      long [] = refl
-      long (e ∷ es) = ap suc (long es)
+pub number_some : (states : List (Machine × List ℕ)) (m : Machine) (j : ℕ) → IsNumberOf states m (Some j) → IsNumber states (Choosing m) (Some j)
+number_some states m j x = (j, x.0.1, refl, x.1 ∙ ap (λ (n : Machine). Some (n, x.0.1)) x.2)
 
-      found : (j < length (keys_of es)) × (pointwise nat_eq key.bytes.items (get_or (keys_of es) j key).bytes.items ≡ true) × ((k : ℕ) → k < j → pointwise nat_eq key.bytes.items (get_or (keys_of es) k key).bytes.items ≡ false)
-      found = position-Some (λ k. pointwise nat_eq key.bytes.items k.bytes.items) (keys_of es) j key at
-
-      by : ((e : StateKey × Origin) × (j < length es) × (slice_get es j ≡ Some e) × (get_or es j e ≡ e)) ⊎ ((length es ≤ j) × (slice_get es j ≡ None)) → IsNumber states (Choosing m) (Some j)
-      by (inr past) = let lt = found.0 in let le = past.0 in let same = long es in absurd (omega (arith, lt, le, same))
-      by (inl e) =
-          let x = state_of r es states held j e.0 e.2 in
-          let bytes : key.bytes.items ≡ e.0.0.bytes.items = (bytes_decides key.bytes.items e.0.0.bytes.items).0 (ap (λ (k : StateKey). pointwise nat_eq key.bytes.items k.bytes.items) (sym (key_at es j e.0 key e.2)) ∙ found.1) in
-          let same : x.0.0 ≡ m = key_tells x.0.0 m (sym x.4 ∙ sym bytes ∙ of) in
-          (j, x.0.1, refl, x.1 ∙ ap (λ (n : Machine). Some (n, x.0.1)) same)
-
-  -- and there is one
-  pub number_none : is_some (lookup (λ k. pointwise nat_eq key.bytes.items k.bytes.items) es) ≡ false → HasWord states m → ⊥
-  number_none none h = let both = sym none ∙ found_same es states key m held.keys of ∙ known_state states m h.0 h.1 in cc
+pub owned_with_word : (r : Tables) (kept : States) (states : List (Machine × List ℕ)) → AreStates r kept states → (m : Machine) → HasWord states m → IsMachineOf r m
+owned_with_word r kept states held m h = All-contains (λ (x : Machine × List ℕ). IsMachineOf r x.0) states (m, h.0) held.own h.1
 
 -- where the run is over there is none
 pub halted_none : {S : Type 0} (states : List (S × List ℕ)) (node : Node S) → IsHalted node → IsNumber states node None

@@ -69,7 +69,7 @@ module _ (g : Graph) (st : States) where
 -- ---- what they say
 
 module _ (sys : System Machine) (inside waiting : Machine → ℕ → Bool) (steps : ℕ) (r : Tables) (states : List (Machine × List ℕ)) (st : States) (g : Graph)
-    (processes : g.processes ≡ sys.processes) (are : AreStates r st.known.entries states)
+    (processes : g.processes ≡ sys.processes) (are : AreStates r st states)
     (origin_here : (i : ℕ) (x : Machine × List ℕ) → slice_get states i ≡ Some x → IsWordOf states (origin_at st.known.entries i) x.1)
     (round_waits : (q i : ℕ) (word : List ℕ) → q < sys.processes → IsRound g (keeping.Waiting q) i word → (x : Machine × List ℕ) × (slice_get states i ≡ Some x) × AreLasso sys waiting q steps x.1 word)
     (round_lingers : (q i : ℕ) (word : List ℕ) → q < sys.processes → IsRound g (keeping.Inside q) i word → (x : Machine × List ℕ) × (slice_get states i ≡ Some x) × AreLingeringLasso sys inside waiting q steps x.1 word)

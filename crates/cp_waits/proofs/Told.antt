@@ -96,7 +96,7 @@ module _ (r : Tables) (gates : slot_gates.Gates) (steps most : ℕ) (found : Fou
       let edges = edge_is_choice sys in_call_on_slots waits_on_slots steps f.states g graph in
       let choices = choice_is_edge sys in_call_on_slots waits_on_slots steps f.states g graph in
       tell_waits sys in_call_on_slots waits_on_slots steps r f.states found.states g graph.processes holds.states
-      (λ i x at. origin_here r found.states.known.entries f.states i x holds.states at)
+      (λ i x at. origin_here r found.states f.states i x holds.states at)
       (round_waits sys in_call_on_slots waits_on_slots steps f.states g graph.processes edges reached)
       (round_lingers sys in_call_on_slots waits_on_slots steps f.states g graph.processes edges reached)
       (stands_still sys in_call_on_slots waits_on_slots steps f.states g reached graph.stills)

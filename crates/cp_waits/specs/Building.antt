@@ -23,7 +23,7 @@ use Rattle.cp_waits.specs.declared.graph.Standstill.{Standstill}
 
 -- The states are all that were found, no more than can be counted, and no choice leads out of them.
 pub record AreAll (r : Tables) (gates : Gates) (steps : ℕ) (found : Found) (states : List (Machine × List ℕ)) : Type 0 where
-  pub held : AreStates r found.states.known.entries states
+  pub held : AreStates r found.states states
   pub few : length states < 2 ^ 32
   pub closed : IsClosedSet (silent_slots r gates) steps (HasWord states)
 

@@ -23,7 +23,7 @@ use Rattle.cp_waits.specs.Walks.{IsRound}
 
 -- the word is the one of this origin, among those that were found
 abbrev pub IsWordFrom : States → Origin → List ℕ → Type 0
-IsWordFrom states origin word = (r : Tables) (list : List (Machine × List ℕ)) (w : List ℕ) → AreStates r states.known.entries list → IsWordOf list origin w → word ≡ w
+IsWordFrom states origin word = (r : Tables) (list : List (Machine × List ℕ)) (w : List ℕ) → AreStates r states list → IsWordOf list origin w → word ≡ w
 
 -- ---- yes
 

@@ -16,10 +16,9 @@ ghost use Rattle.cp_waits.specs.Legs.{Comes, Leg};
 
 use crate::graph::{Edge, Graph, Standstill};
 use crate::passing::Passing;
-use crate::watching::{Came, choose, empty_key, open};
+use crate::watching::{Came, choose, open};
 use cp_ends::Found;
 use cp_ends::origin::Origin;
-use cp_ends::state_key::StateKey;
 use cp_machine::{State, Ticks};
 use cp_run::{Limits, wanted};
 use cp_slots::Resolved;
@@ -31,7 +30,6 @@ use std::sync::ledger::{Blank, Ledger};
 #[derive(Drop)]
 struct Builder {
     graph: Graph,
-    key: StateKey,
 }
 
 /// The choices of each state that was found, with what happens on the way to the next one.
@@ -63,7 +61,6 @@ fn built<S: Ledger>(
     let mut steps: Ticks<S> = Ticks::new(blank);
     let mut builder = Builder {
         graph: Graph::new(alloc, program.processes()),
-        key: empty_key(alloc),
     };
     let mut state = State::start(alloc, program, limits.gates)?;
     let mut passing = Passing::new(builder.graph.everybody());
@@ -182,10 +179,9 @@ impl Builder {
     // The number of a state that was found.
     fn number_of(&mut self, found: &Found, state: &State) -> Result<Option<u32>, AllocError>
         ensures graph { self.new.graph ≡ self.old.graph }
-        ensures number { IfOk result (λ to. (r : Tables) (states : List (Machine × List ℕ)) → AreStates r found.now.states.known.entries states → length states < 2 ^ 32 → HasWord states (machine_of state.now) → IsNumber states (Choosing (machine_of state.now)) to) }
+        ensures number { IfOk result (λ to. (r : Tables) (states : List (Machine × List ℕ)) → AreStates r found.now.states states → length states < 2 ^ 32 → HasWord states (machine_of state.now) → IsNumber states (Choosing (machine_of state.now)) to) }
     {
-        self.key.take_from(state)?;
-        let Some(number) = found.states.known.get_index_of(&self.key) else {
+        let Some(number) = found.states.number(state) else {
             return Ok(None);
         };
         Ok(match u32::try_from(number) {

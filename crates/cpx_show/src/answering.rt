@@ -4,12 +4,14 @@ ghost use Rattle.std.specs.Prelude.{◌≡◌, ◌+◌, ◌≤◌, IfOk, length}
 ghost use Rattle.cp_walk.specs.Rows.{UsedWithin};
 ghost use Rattle.cpx_show.specs.Showing as spec;
 
+use crate::covering::with_coverage;
 use crate::lines::lines_of;
 use crate::mark_words::Examinee;
 use crate::marks::mark_answer;
 use crate::parts::{Asked, Part};
 use crate::refusals::explanation_answer;
 use cp_check::check;
+use cp_cover::{Entries, entries_of};
 use cp_drops::{drop_checked, drop_program, drop_tree};
 use cp_ends_story::{Subject as Endless, ends_story};
 use cp_lanes::{PictureSubject, View, picture_in};
@@ -181,9 +183,10 @@ fn answer_tree(
         Ok(checked) => {
             let resolved = resolve(alloc, &checked);
             let legend = legend_of(alloc, checked.tree());
+            let entries = entries_of(alloc, checked.tree());
             drop_checked(checked);
             let program = resolved?;
-            let answer = shown_with(alloc, asked, &program, legend, source);
+            let answer = shown_with(alloc, asked, &program, legend, entries, source);
             drop_program(program);
             answer
         }
@@ -200,9 +203,18 @@ fn shown_with(
     asked: &Asked,
     program: &Resolved,
     legend: Result<Legend, AllocError>,
+    entries: Result<Entries, AllocError>,
     source: &[u8],
 ) -> Result<Answer, AllocError> {
-    answer_part(alloc, asked, program, &legend?, source)
+    let legend = legend?;
+    let answer = answer_part(alloc, asked, program, &legend, source)?;
+    match asked.part {
+        Part::Outcomes { json, cover: true } => {
+            let options = &asked.options;
+            with_coverage(alloc, options, program, &legend, &entries?, answer, json)
+        }
+        _ => Ok(answer),
+    }
 }
 
 fn refusal_answer(alloc: Global, line: u32, reason: Option<&str>) -> Result<Answer, AllocError> {
@@ -241,7 +253,7 @@ fn answer_part(
     match &asked.part {
         Part::Trace { .. } | Part::Lanes(_) => shown_once(alloc, asked, program, legend, &lines),
         Part::Page { states } => page_answer(alloc, asked, program, legend, *states, source),
-        Part::Outcomes { json } => {
+        Part::Outcomes { json, .. } => {
             outcomes_answer(alloc, options, program, legend, &lines, *json)
         }
         Part::Ends { json } => { ends_answer(alloc, options, program, legend, &lines, *json) }

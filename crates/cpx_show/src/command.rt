@@ -142,7 +142,17 @@ fn outcomes<'a>(alloc: Global) -> Result<Command<'a>, AllocError> {
     let command = Command::new(alloc, "outcomes")
         .about(OUTCOMES)
         .override_usage("cpx_show outcomes [OPTIONS] < PROGRAM");
-    Ok(with_limits(alloc, command)?.arg(json(alloc))?)
+    let command = with_limits(alloc, command)?.arg(json(alloc))?;
+    Ok(command.arg(cover(alloc))?)
+}
+
+fn cover<'a>(alloc: Global) -> Arg<'a> {
+    Arg::new(alloc, "cover")
+        .long("cover")
+        .action(ArgAction::SetTrue)
+        .help(
+            "Tell as well which statements no schedule reaches, and in which queues and at which gates nobody ever waits",
+        )
 }
 
 fn ends<'a>(alloc: Global) -> Result<Command<'a>, AllocError> {

@@ -3,6 +3,7 @@
 
 mod answering;
 mod command;
+mod covering;
 mod lines;
 mod mark_words;
 mod marks;

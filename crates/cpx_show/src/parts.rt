@@ -37,9 +37,10 @@ pub enum Part {
     Page {
         states: u32,
     },
-    /// The outcomes of all schedules, as lines or as JSON.
+    /// The outcomes of all schedules, as lines or as JSON; and with `cover` what no schedule comes to.
     Outcomes {
         json: bool,
+        cover: bool,
     },
     /// The ends that are possible in schedules of any length, as lines or as JSON.
     Ends {
@@ -108,6 +109,7 @@ fn read_matches(alloc: Global, matches: &ArgMatches<'_>) -> Result<Asked, Option
         },
         "outcomes" => Part::Outcomes {
             json: inner.get_flag("json"),
+            cover: inner.get_flag("cover"),
         },
         "ends" => Part::Ends {
             json: inner.get_flag("json"),

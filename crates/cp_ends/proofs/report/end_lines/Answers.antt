@@ -7,7 +7,7 @@ use Rattle.cp_ends.proofs.report.end_lines.Goals.{then-is_told+in_ok-push_end_li
 
 pub loop-end-preserved : goal.loop-end-preserved
 loop-end-preserved c =
-    let es = c.args.states.now.known.entries in
+    let es = c.args.states.now in
     let word = c.in_ok-word.word.items in
     elim c.if-is_told.branch [
       | then-is_told+in_ok-push_end_line w ↦

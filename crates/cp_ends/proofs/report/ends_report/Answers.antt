@@ -13,5 +13,5 @@ returns c = λ r f depth h is.
     let ends = subst (λ es. AreFound f.states (map end_origin es) f.ends) (sym c.deref.ensures.value) h.ends in
     let values = subst (λ vs. AreFound f.states (map value_origin vs) f.values) (sym c.deref-2.ensures.value) h.values in
     let head = c.in_ok-push_head.ensures ∙ ap (λ t. t ++ head_text c.len.result own) c.new-text.ensures.bytes in
-    let all = report_so names f own c.len.result (string_bytes c.push_head.new.text) (string_bytes c.push_ends.new.text) (string_bytes c.push_values.new.text) (c.len.ensures.count ∙ states_length r c.args.found.now.states.known.entries f.states h.states) head (c.in_ok-push_ends.ensures r f.states f.ends h.states ends) (c.in_ok-push_values.ensures r f.states f.values h.states values) in
+    let all = report_so names f own c.len.result (string_bytes c.push_head.new.text) (string_bytes c.push_ends.new.text) (string_bytes c.push_values.new.text) (c.len.ensures.count ∙ states_length r c.args.found.now.states f.states h.states) head (c.in_ok-push_ends.ensures r f.states f.ends h.states ends) (c.in_ok-push_values.ensures r f.states f.values h.states values) in
     c.new.ensures ∙ all ∙ ap (λ (d : Option ℕ). ends_text names f d) same)

@@ -8,7 +8,7 @@ use Rattle.cp_ends.proofs.report.value_lines.Goals.{then-is_told+in_ok-push_earl
 
 pub loop-value-preserved : goal.loop-value-preserved
 loop-value-preserved c =
-    let es = c.args.states.now.known.entries in
+    let es = c.args.states.now in
     let word = c.in_ok-word.word.items in
     elim c.if-is_told.branch [
       | then-is_told+in_ok-push_early w ↦

@@ -9,7 +9,7 @@ use Rattle.cp_merged.specs.Holds.{same_key, AreLeads}
 use Rattle.cp_merged.proofs.Making.{Making, leads_length, making_start, making_next, making_more, making_done, making_many, making_room, making_small}
 use Rattle.cp_merged.proofs.Knowing.{all_moved}
 use Rattle.cp_merged.specs.declared.prefixes.Prefixes as code
-use Rattle.cp_merged.specs.declared.state_row.StateRow.{StateRow}
+use Rattle.cp_states.specs.declared.row.Row.{Row}
 use Rattle.cp_merged.proofs.layering.next_layer.Goals as goal
 
 pub loop-key-init : goal.loop-key-init
@@ -37,7 +37,7 @@ take-requires-clause-row g c =
     let d = c.args.depth in
     let old = c.loop-key.frontier in
     let es = c.next.new.self in
-    let e : StateRow × code.Prefixes = (c.in-Some.key.now, c.in-Some.prefixes.now) in
+    let e : Row × code.Prefixes = (c.in-Some.key.now, c.in-Some.prefixes.now) in
     let at : c.loop-key.key-iterator ≡ (c.in-Some.key.now, c.in-Some.prefixes.now) ∷ c.next.new.self = first_of (search (rules, c.in-Some.ensures.steps), cc (c.in-Some.ensures.steps, c.in-Some.key-is, c.in-Some.prefixes-is), grind (arith, c.in-Some.ensures.steps, c.in-Some.key-is, c.in-Some.prefixes-is), assumption c.in-Some.ensures.steps) in
     let m = subst (Making r l.gates l.steps d old.store old.ended.entries old.layer.entries) at c.loop-key.invariant.making in
     let n = making_next r l.gates l.steps d old.store old.ended.entries old.layer.entries es e m in
@@ -50,7 +50,7 @@ take_choices-requires-clause-own g c =
     let d = c.args.depth in
     let old = c.loop-key.frontier in
     let es = c.next.new.self in
-    let e : StateRow × code.Prefixes = (c.in-Some.key.now, c.in-Some.prefixes.now) in
+    let e : Row × code.Prefixes = (c.in-Some.key.now, c.in-Some.prefixes.now) in
     let at : c.loop-key.key-iterator ≡ (c.in-Some.key.now, c.in-Some.prefixes.now) ∷ c.next.new.self = first_of (search (rules, c.in-Some.ensures.steps), cc (c.in-Some.ensures.steps, c.in-Some.key-is, c.in-Some.prefixes-is), grind (arith, c.in-Some.ensures.steps, c.in-Some.key-is, c.in-Some.prefixes-is), assumption c.in-Some.ensures.steps) in
     let m = subst (Making r l.gates l.steps d old.store old.ended.entries old.layer.entries) at c.loop-key.invariant.making in
     let n = making_next r l.gates l.steps d old.store old.ended.entries old.layer.entries es e m in
@@ -63,11 +63,11 @@ take_choices-requires-clause-known g c =
     let d = c.args.depth in
     let old = c.loop-key.frontier in
     let es = c.next.new.self in
-    let e : StateRow × code.Prefixes = (c.in-Some.key.now, c.in-Some.prefixes.now) in
+    let e : Row × code.Prefixes = (c.in-Some.key.now, c.in-Some.prefixes.now) in
     let at : c.loop-key.key-iterator ≡ (c.in-Some.key.now, c.in-Some.prefixes.now) ∷ c.next.new.self = first_of (search (rules, c.in-Some.ensures.steps), cc (c.in-Some.ensures.steps, c.in-Some.key-is, c.in-Some.prefixes-is), grind (arith, c.in-Some.ensures.steps, c.in-Some.key-is, c.in-Some.prefixes-is), assumption c.in-Some.ensures.steps) in
     let m = subst (Making r l.gates l.steps d old.store old.ended.entries old.layer.entries) at c.loop-key.invariant.making in
     let n = making_next r l.gates l.steps d old.store old.ended.entries old.layer.entries es e m in
-    subst (IsRowOf old.store c.in-Some.key.now.row.numbers) (sym (c.take.ensures.same r n.lead.state c.loop-key.invariant.own n.own n.row)) n.row
+    subst (IsRowOf old.store c.in-Some.key.now.numbers) (sym (c.take.ensures.same r n.lead.state c.loop-key.invariant.own n.own n.row)) n.row
 
 pub returns-in_default-clause-own : goal.returns-in_default-clause-own
 returns-in_default-clause-own g c =
@@ -76,7 +76,7 @@ returns-in_default-clause-own g c =
     let d = c.args.depth in
     let old = c.loop-key.frontier in
     let es = c.next.new.self in
-    let e : StateRow × code.Prefixes = (c.in-Some.key.now, c.in-Some.prefixes.now) in
+    let e : Row × code.Prefixes = (c.in-Some.key.now, c.in-Some.prefixes.now) in
     let at : c.loop-key.key-iterator ≡ (c.in-Some.key.now, c.in-Some.prefixes.now) ∷ c.next.new.self = first_of (search (rules, c.in-Some.ensures.steps), cc (c.in-Some.ensures.steps, c.in-Some.key-is, c.in-Some.prefixes-is), grind (arith, c.in-Some.ensures.steps, c.in-Some.key-is, c.in-Some.prefixes-is), assumption c.in-Some.ensures.steps) in
     let m = subst (Making r l.gates l.steps d old.store old.ended.entries old.layer.entries) at c.loop-key.invariant.making in
     let n = making_next r l.gates l.steps d old.store old.ended.entries old.layer.entries es e m in
@@ -89,7 +89,7 @@ returns-then-len-most-clause-own g c =
     let d = c.args.depth in
     let old = c.loop-key.frontier in
     let es = c.next.new.self in
-    let e : StateRow × code.Prefixes = (c.in-Some.key.now, c.in-Some.prefixes.now) in
+    let e : Row × code.Prefixes = (c.in-Some.key.now, c.in-Some.prefixes.now) in
     let at : c.loop-key.key-iterator ≡ (c.in-Some.key.now, c.in-Some.prefixes.now) ∷ c.next.new.self = first_of (search (rules, c.in-Some.ensures.steps), cc (c.in-Some.ensures.steps, c.in-Some.key-is, c.in-Some.prefixes-is), grind (arith, c.in-Some.ensures.steps, c.in-Some.key-is, c.in-Some.prefixes-is), assumption c.in-Some.ensures.steps) in
     let m = subst (Making r l.gates l.steps d old.store old.ended.entries old.layer.entries) at c.loop-key.invariant.making in
     let n = making_next r l.gates l.steps d old.store old.ended.entries old.layer.entries es e m in
@@ -105,7 +105,7 @@ take_choices-requires-clause-room g c =
     let d = c.args.depth in
     let old = c.loop-key.frontier in
     let es = c.next.new.self in
-    let e : StateRow × code.Prefixes = (c.in-Some.key.now, c.in-Some.prefixes.now) in
+    let e : Row × code.Prefixes = (c.in-Some.key.now, c.in-Some.prefixes.now) in
     let at : c.loop-key.key-iterator ≡ (c.in-Some.key.now, c.in-Some.prefixes.now) ∷ c.next.new.self = first_of (search (rules, c.in-Some.ensures.steps), cc (c.in-Some.ensures.steps, c.in-Some.key-is, c.in-Some.prefixes-is), grind (arith, c.in-Some.ensures.steps, c.in-Some.key-is, c.in-Some.prefixes-is), assumption c.in-Some.ensures.steps) in
     let m = subst (Making r l.gates l.steps d old.store old.ended.entries old.layer.entries) at c.loop-key.invariant.making in
     let due = c.requires.due in
@@ -119,7 +119,7 @@ take_choices-requires-clause-small g c =
     let d = c.args.depth in
     let old = c.loop-key.frontier in
     let es = c.next.new.self in
-    let e : StateRow × code.Prefixes = (c.in-Some.key.now, c.in-Some.prefixes.now) in
+    let e : Row × code.Prefixes = (c.in-Some.key.now, c.in-Some.prefixes.now) in
     let at : c.loop-key.key-iterator ≡ (c.in-Some.key.now, c.in-Some.prefixes.now) ∷ c.next.new.self = first_of (search (rules, c.in-Some.ensures.steps), cc (c.in-Some.ensures.steps, c.in-Some.key-is, c.in-Some.prefixes-is), grind (arith, c.in-Some.ensures.steps, c.in-Some.key-is, c.in-Some.prefixes-is), assumption c.in-Some.ensures.steps) in
     let m = subst (Making r l.gates l.steps d old.store old.ended.entries old.layer.entries) at c.loop-key.invariant.making in
     making_small r l.gates l.steps d old.store old.ended.entries old.layer.entries es e m
@@ -131,7 +131,7 @@ returns-then-len-most-clause-many g c =
     let d = c.args.depth in
     let old = c.loop-key.frontier in
     let es = c.next.new.self in
-    let e : StateRow × code.Prefixes = (c.in-Some.key.now, c.in-Some.prefixes.now) in
+    let e : Row × code.Prefixes = (c.in-Some.key.now, c.in-Some.prefixes.now) in
     let at : c.loop-key.key-iterator ≡ (c.in-Some.key.now, c.in-Some.prefixes.now) ∷ c.next.new.self = first_of (search (rules, c.in-Some.ensures.steps), cc (c.in-Some.ensures.steps, c.in-Some.key-is, c.in-Some.prefixes-is), grind (arith, c.in-Some.ensures.steps, c.in-Some.key-is, c.in-Some.prefixes-is), assumption c.in-Some.ensures.steps) in
     let m = subst (Making r l.gates l.steps d old.store old.ended.entries old.layer.entries) at c.loop-key.invariant.making in
     let n = making_next r l.gates l.steps d old.store old.ended.entries old.layer.entries es e m in
@@ -148,18 +148,18 @@ loop-key-preserved g c =
     let d = c.args.depth in
     let old = c.loop-key.frontier in
     let es = c.next.new.self in
-    let e : StateRow × code.Prefixes = (c.in-Some.key.now, c.in-Some.prefixes.now) in
+    let e : Row × code.Prefixes = (c.in-Some.key.now, c.in-Some.prefixes.now) in
     let at : c.loop-key.key-iterator ≡ (c.in-Some.key.now, c.in-Some.prefixes.now) ∷ c.next.new.self = first_of (search (rules, c.in-Some.ensures.steps), cc (c.in-Some.ensures.steps, c.in-Some.key-is, c.in-Some.prefixes-is), grind (arith, c.in-Some.ensures.steps, c.in-Some.key-is, c.in-Some.prefixes-is), assumption c.in-Some.ensures.steps) in
     let m = subst (Making r l.gates l.steps d old.store old.ended.entries old.layer.entries) at c.loop-key.invariant.making in
     let n = making_next r l.gates l.steps d old.store old.ended.entries old.layer.entries es e m in
     let new = c.take_choices.new.frontier in
     let same : machine_of c.take.new.state ≡ n.lead.state = c.take.ensures.same r n.lead.state c.loop-key.invariant.own n.own n.row in
     let made = making_more r l.gates l.steps d old.store new.store old.ended.entries new.ended.entries old.layer.entries new.layer.entries es e m (machine_of c.take.new.state) c.requires.own.sound.few c.in-Ok.ensures.kept same (λ f h. c.in-Ok.ensures.front f h) in
-    let is = subst (IsRowOf old.store c.in-Some.key.now.row.numbers) (sym same) n.row in
+    let is = subst (IsRowOf old.store c.in-Some.key.now.numbers) (sym same) n.row in
     record {
       own = c.take.ensures.own r n.lead.state c.loop-key.invariant.own n.own n.row;
       next = c.take_choices.ensures.next;
-      row = row_on old.store new.store c.in-Some.key.now.row.numbers (machine_of c.take.new.state) c.in-Ok.ensures.kept is;
+      row = row_on old.store new.store c.in-Some.key.now.numbers (machine_of c.take.new.state) c.in-Ok.ensures.kept is;
       moved = c.take_choices.ensures.moved;
       few = omega arith;
       making = made;

@@ -12,24 +12,30 @@ returns-then-contains c = λ f word h is before.
     (let r = c.args.program.now in
     let m = machine_of c.args.state.now in
     let present : c.contains.result ≡ true = search in
-    state_known r c.args.most c.args.self.now.found f m word h (sym (c.contains.ensures r f.states m h.holds.states c.in_ok-take_from.ensures) ∙ present))
+    let are = c.row_anew.ensures.kept r f.states h.holds.states in
+    let known = sym (c.contains.ensures r f.states m are (machine_own r c.args.state.now c.requires.own) c.in_ok-row.ensures.row) ∙ present in
+    state_known r c.args.most c.args.self.now.found f m word h known c.row_anew.new.self are)
 
 pub returns-then-len-most : goal.returns-then-len-most
 returns-then-len-most c = λ f word h is before.
     (let r = c.args.program.now in
     let m = machine_of c.args.state.now in
     let absent : c.contains.result ≡ false = search in
-    let same = states_length r c.args.self.now.found.states.known.entries f.states h.holds.states in
+    let are = c.row_anew.ensures.kept r f.states h.holds.states in
+    let same = states_length r c.row_anew.new.self f.states are in
     let many : c.args.most ≤ length f.states = omega (arith, same) in
-    state_full r c.args.most c.args.self.now.found f m word h (sym (c.contains.ensures r f.states m h.holds.states c.in_ok-take_from.ensures) ∙ absent) many)
+    let new = sym (c.contains.ensures r f.states m are (machine_own r c.args.state.now c.requires.own) c.in_ok-row.ensures.row) ∙ absent in
+    state_full r c.args.most c.args.self.now.found f m word h new many c.row_anew.new.self are)
 
 pub returns : goal.returns
 returns c = λ f word h is before.
     (let r = c.args.program.now in
     let m = machine_of c.args.state.now in
-    let key = c.in_ok-take_from.ensures in
+    let own = machine_own r c.args.state.now c.requires.own in
+    let row = c.in_ok-row.ensures.row in
     let absent : c.contains.result ≡ false = search in
-    let new : has same_key f.states m ≡ false = sym (c.contains.ensures r f.states m h.holds.states key) ∙ absent in
-    let same = states_length r c.args.self.now.found.states.known.entries f.states h.holds.states in
+    let are = c.row_anew.ensures.kept r f.states h.holds.states in
+    let new : has same_key f.states m ≡ false = sym (c.contains.ensures r f.states m are own row) ∙ absent in
+    let same = states_length r c.row_anew.new.self f.states are in
     let room : length f.states < c.args.most = omega (arith, same) in
-    state_new r c.args.most c.args.self.now.found f m word h new room c.add.new.self (c.in_ok-add.ensures r f.states m word h.holds.states new (machine_own r c.args.state.now c.requires.own) c.requires.quiet key is before))
+    state_new r c.args.most c.args.self.now.found f m word h new room c.add.new.self (c.in_ok-add.ensures r f.states m word are new own c.requires.quiet row is before))

@@ -25,7 +25,7 @@ returns-then-not-thaw_at g c =
     let f : SlotFindings = searched gr ends_tests n in
     let h = c.loop-number.invariant.found in
     let none : c.thaw_at.result ≡ false = search in
-    search_done r gr c.args.most c.loop-number.self.found n h (past_none f.states n (subst (λ b. IsAt f.states n b (machine_of c.thaw_at.new.state)) none (c.thaw_at.ensures.at r f.states h.holds.states)))
+    search_done r gr c.args.most c.loop-number.self.found n h (past_none f.states n (subst (λ b. IsAt f.states n b (machine_of c.thaw_at.new.state)) none (c.thaw_at.ensures.at r f.states c.loop-number.invariant.own h.holds.states)))
 
 pub take_choices-requires-clause-own : goal.take_choices-requires-clause-own
 take_choices-requires-clause-own g c =
@@ -44,7 +44,7 @@ take_choices-requires-clause-quiet g c =
     let f : SlotFindings = searched gr ends_tests n in
     let h = c.loop-number.invariant.found in
     let found : c.thaw_at.result ≡ true = search in
-    let at : IsAt f.states n true (machine_of c.thaw_at.new.state) = subst (λ b. IsAt f.states n b (machine_of c.thaw_at.new.state)) found (c.thaw_at.ensures.at r f.states h.holds.states) in
+    let at : IsAt f.states n true (machine_of c.thaw_at.new.state) = subst (λ b. IsAt f.states n b (machine_of c.thaw_at.new.state)) found (c.thaw_at.ensures.at r f.states c.loop-number.invariant.own h.holds.states) in
     ap output_of at.2 ∙ all_at (λ (x : Machine × List ℕ). x.0.output ≡ []) f.states n at.0 h.holds.states.quiet at.1
 
 pub take_choices-requires-clause-next : goal.take_choices-requires-clause-next
@@ -58,7 +58,7 @@ returns-then-not-is_room g c =
     let f : SlotFindings = searched gr ends_tests n in
     let h = c.loop-number.invariant.found in
     let found : c.thaw_at.result ≡ true = search in
-    let at : IsAt f.states n true (machine_of c.thaw_at.new.state) = subst (λ b. IsAt f.states n b (machine_of c.thaw_at.new.state)) found (c.thaw_at.ensures.at r f.states h.holds.states) in
+    let at : IsAt f.states n true (machine_of c.thaw_at.new.state) = subst (λ b. IsAt f.states n b (machine_of c.thaw_at.new.state)) found (c.thaw_at.ensures.at r f.states c.loop-number.invariant.own h.holds.states) in
     let none : c.in_ok-is_room.is_room ≡ false = search in
     record { from = at.0; is = at.1; stops = subst (GoesOn r gr c.args.most c.take_choices.new.self.found f at.0) none (c.in_ok-is_room.ensures.found f at.0 h at.1 at.2) }
 
@@ -70,7 +70,7 @@ loop-number-preserved g c =
     let f : SlotFindings = searched gr ends_tests n in
     let h = c.loop-number.invariant.found in
     let found : c.thaw_at.result ≡ true = search in
-    let at : IsAt f.states n true (machine_of c.thaw_at.new.state) = subst (λ b. IsAt f.states n b (machine_of c.thaw_at.new.state)) found (c.thaw_at.ensures.at r f.states h.holds.states) in
+    let at : IsAt f.states n true (machine_of c.thaw_at.new.state) = subst (λ b. IsAt f.states n b (machine_of c.thaw_at.new.state)) found (c.thaw_at.ensures.at r f.states c.loop-number.invariant.own h.holds.states) in
     let room : c.in_ok-is_room.is_room ≡ true = search in
     let on = subst (GoesOn r gr c.args.most c.take_choices.new.self.found f at.0) room (c.in_ok-is_room.ensures.found f at.0 h at.1 at.2) in
     let more = subst (HoldsFew r c.args.most c.take_choices.new.self.found) (sym (searched_on gr ends_tests n at.0 at.1)) on in

@@ -25,7 +25,7 @@ take_choices-requires-clause-quiet g c =
     let k = c.requires.kept in
     let states = k.0.states in
     let found : c.thaw_at.result ≡ true = search in
-    let at : IsAt states c.loop-number.number true (machine_of c.thaw_at.new.state) = subst (λ b. IsAt states c.loop-number.number b (machine_of c.thaw_at.new.state)) found (c.thaw_at.ensures.at c.args.program.now states k.1.states) in
+    let at : IsAt states c.loop-number.number true (machine_of c.thaw_at.new.state) = subst (λ b. IsAt states c.loop-number.number b (machine_of c.thaw_at.new.state)) found (c.thaw_at.ensures.at c.args.program.now states c.loop-number.invariant.own k.1.states) in
     ap output_of at.2 ∙ all_at (λ (x : Machine × List ℕ). x.0.output ≡ []) states c.loop-number.number at.0 k.1.states.quiet at.1
 
 pub loop-number-init : goal.loop-number-init
@@ -45,7 +45,7 @@ loop-number-preserved g c =
           let n = c.loop-number.number in
           let m = machine_of c.thaw_at.new.state in
           let found : c.thaw_at.result ≡ true = search in
-          let at : IsAt states n true m = subst (λ b. IsAt states n b m) found (c.thaw_at.ensures.at r states all.held) in
+          let at : IsAt states n true m = subst (λ b. IsAt states n b m) found (c.thaw_at.ensures.at r states c.loop-number.invariant.own all.held) in
           let before = c.loop-number.invariant.graph states all begun in
           let new = c.in_ok-take_choices.ensures.graph states at.0 all before.processes at.1 at.2 in
           let silent = subst (λ (f : ℕ → _). AddsChoicesOnSlots r gates steps states n at.0.0 (those_below (length r.processes) f) c.loop-number.self.graph c.take_choices.new.self.graph) (quiet_may r gates at.0.0) new in
@@ -58,7 +58,7 @@ returns-then-not-thaw_at g c = λ states all begun.
     (let r = c.args.program.now in
     let n = c.loop-number.number in
     let none : c.thaw_at.result ≡ false = search in
-    let past : length states ≤ n = past_none states n (subst (λ b. IsAt states n b (machine_of c.thaw_at.new.state)) none (c.thaw_at.ensures.at r states all.held)) in
+    let past : length states ≤ n = past_none states n (subst (λ b. IsAt states n b (machine_of c.thaw_at.new.state)) none (c.thaw_at.ensures.at r states c.loop-number.invariant.own all.held)) in
     graph_done (silent_slots r c.args.limits.gates) in_call_on_slots waits_on_slots c.args.limits.steps states n c.loop-number.self.graph (c.loop-number.invariant.graph states all begun) past)
 
 pub returns : goal.returns

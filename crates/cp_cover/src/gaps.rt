@@ -1,0 +1,114 @@
+//! What no schedule comes to, in the names of the source.
+
+use crate::entries::Entries;
+pub use crate::lines::UnreachedLine;
+use crate::lines::unreached_lines;
+use crate::mark::Mark;
+use crate::marks::Marks;
+use crate::search::Coverage;
+use crate::statements::statements;
+use cp_legend::{Component, Legend};
+use cp_slots::{ComponentKind, Resolved};
+use std::alloc::{AllocError, Global};
+
+/// What no schedule comes to.
+#[derive(Drop)]
+pub struct Gaps {
+    pub lines: Vec<UnreachedLine>,
+    /// The queues in which nobody ever waits.
+    pub queues: Vec<String>,
+    /// Whether there are queues at all.
+    pub has_queues: bool,
+    /// The entries of monitors at whose gates nobody ever waits for them.
+    pub gates: Vec<String>,
+    /// Whether monitors have entries at all.
+    pub has_gates: bool,
+    /// The schedules are all those of at most so many choices.
+    pub choices: u8,
+    /// Whether no schedule was stopped by a limit.
+    pub is_whole: bool,
+}
+
+/// What the coverage of a program leaves out.
+pub fn gaps_of(
+    alloc: Global,
+    program: &Resolved,
+    legend: &Legend,
+    entries: &Entries,
+    coverage: &Coverage,
+) -> Result<Gaps, AllocError> {
+    let statements = statements(alloc, program)?;
+    let mut whole = Gaps {
+        lines: unreached_lines(alloc, &statements, &coverage.marks)?,
+        queues: Vec::new(alloc),
+        has_queues: false,
+        gates: Vec::new(alloc),
+        has_gates: false,
+        choices: coverage.choices,
+        is_whole: coverage.is_whole,
+    };
+    for component in &legend.components {
+        whole.add_queues(alloc, legend, component, &coverage.marks)?;
+        whole.add_gates(alloc, program, legend, entries, component, &coverage.marks)?;
+    }
+    Ok(whole)
+}
+
+impl Gaps {
+    // The queues of a component.
+    fn add_queues(
+        &mut self,
+        alloc: Global,
+        legend: &Legend,
+        component: &Component,
+        marks: &Marks,
+    ) -> Result<(), AllocError> {
+        for variable in legend.variables_of(component) {
+            if legend.shapes.is_queues(variable.shape) {
+                let first = component.base.saturating_add(variable.slot);
+                for place in 0..legend.shapes.cells_of(variable.shape) {
+                    let cell = first.saturating_add(place);
+                    self.has_queues = true;
+                    if !marks.has(Mark::Queue(cell)) {
+                        let name = legend.permanent_name(alloc, cell, 1)?;
+                        self.queues.push(joined(alloc, component, name.as_str())?)?;
+                    }
+                }
+            }
+        }
+        Ok(())
+    }
+
+    // The entries of a component, if it is a monitor.
+    fn add_gates(
+        &mut self,
+        alloc: Global,
+        program: &Resolved,
+        legend: &Legend,
+        entries: &Entries,
+        component: &Component,
+        marks: &Marks,
+    ) -> Result<(), AllocError> {
+        let ComponentKind::Monitor(monitor) = component.kind else {
+            return Ok(());
+        };
+        // The program's own initial statement is the last routine.
+        let _processes = program.processes();
+        let process = program.process(0);
+        for routine in 0..process.routine {
+            if entries.has(routine) && program.routine(routine).system == component.system {
+                self.has_gates = true;
+                if !marks.has(Mark::Gate { monitor, routine }) {
+                    let name = legend.routine_name(routine);
+                    self.gates.push(joined(alloc, component, name)?)?;
+                }
+            }
+        }
+        Ok(())
+    }
+}
+
+// A name with that of its component before it.
+fn joined(alloc: Global, component: &Component, name: &str) -> Result<String, AllocError> {
+    format!(in alloc; "{}.{name}", component.path.as_str())
+}

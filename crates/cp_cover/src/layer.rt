@@ -1,0 +1,56 @@
+//! The states in which a choice is due after as many choices.
+
+ghost use Rattle.std.specs.Prelude.{IfOk};
+ghost use Rattle.cp_slots.specs.Tables.{Tables};
+ghost use Rattle.cp_machine.specs.System.{IsStateOf};
+ghost use Rattle.cp_cover.specs.Layers.{AreOwn};
+
+use crate::keys::{StateKey, key_of_state};
+use cp_key::{Parts, thaw};
+use cp_machine::{Moved, State};
+use indexmap::IndexSet;
+use std::alloc::{AllocError, Global};
+
+/// States in which a choice is due, each once.
+#[derive(Drop)]
+pub struct Layer {
+    pub known: IndexSet<StateKey>,
+}
+
+impl Layer {
+    /// No state.
+    pub fn new(alloc: Global) -> Layer
+        ensures { (r : Tables) → AreOwn r result.known.keys }
+    {
+        Layer {
+            known: IndexSet::new(alloc),
+        }
+    }
+
+    /// One state more, where it is new.
+    pub fn add(&mut self, alloc: Global, state: &State) -> Result<(), AllocError>
+        ensures { IfOk result (λ _. (r : Tables) → AreOwn r self.old.known.keys → IsStateOf r state.now → AreOwn r self.new.known.keys) }
+    {
+        let key = key_of_state(alloc, state)?;
+        self.known.insert(key)?;
+        Ok(())
+    }
+
+    /// How many states there are.
+    pub fn len(&self) -> usize {
+        self.known.len()
+    }
+
+    /// A state becomes the one of this number; `false` where there is none.
+    pub fn thaw_at(&self, number: usize, state: &mut State) -> bool
+        requires { (r : Tables) × IsStateOf r state.old × AreOwn r self.now.known.keys }
+        ensures { (r : Tables) → IsStateOf r state.old → AreOwn r self.now.known.keys → IsStateOf r state.new }
+    {
+        let Some(key) = self.known.get_index(number) else {
+            return false;
+        };
+        let mut moved = Moved::everybody();
+        let _ = thaw(key.bytes.as_slice(), &Parts::none(), state, &mut moved);
+        true
+    }
+}

@@ -1,0 +1,208 @@
+//! What all schedules come to, by layers of states.
+
+ghost use Rattle.std.specs.Prelude.{◌≡◌, IfOk, true};
+ghost use Rattle.cp_slots.specs.Tables.{Tables};
+ghost use Rattle.cp_machine.specs.System.{machine_of, IsStateOf};
+ghost use Rattle.cp_run.specs.Run.{may};
+ghost use Rattle.cp_run.specs.Slots.{slots};
+ghost use Rattle.cp_cover.specs.Layers.{AreOwn};
+
+use crate::layer::Layer;
+use crate::marks::Marks;
+use crate::noting::{note_choice, note_opening};
+use cp_machine::{State, Ticks};
+use cp_run::{Halt, Limits, OutcomeKind, wanted};
+use cp_slots::Resolved;
+use std::alloc::{AllocError, Global};
+use std::marker::Brand;
+use std::mem;
+use std::sync::ledger::{Blank, Ledger};
+
+/// What schedules come to.
+#[derive(Drop)]
+pub struct Coverage {
+    pub marks: Marks,
+    /// They are all schedules of at most so many choices.
+    pub choices: u8,
+    /// Whether no schedule was stopped by a limit.
+    pub is_whole: bool,
+}
+
+// What schedules came to so far, and where the next choice is due.
+#[derive(Drop)]
+struct Search {
+    marks: Marks,
+    layer: Layer,
+    is_stopped: bool,
+}
+
+/// What all schedules of a table come to, by its layers, each of which may have `most` states. A layer of more ends the search.
+pub fn find_coverage(
+    alloc: Global,
+    program: &Resolved,
+    limits: Limits,
+    most: u32,
+) -> Result<Coverage, AllocError> {
+    find_with::<Brand>(alloc, program, limits, most, Blank::new(1))
+}
+
+fn find_with<S: Ledger>(
+    alloc: Global,
+    program: &Resolved,
+    limits: Limits,
+    most: u32,
+    blank: Blank,
+) -> Result<Coverage, AllocError>
+    requires name { blank.name ≡ S.name }
+    requires parts { blank.parts ≡ S.parts }
+    requires one { S.parts ≡ 1 }
+{
+    let mut steps: Ticks<S> = Ticks::new(blank);
+    let mut search = Search {
+        marks: Marks::new(alloc),
+        layer: Layer::new(alloc),
+        is_stopped: false,
+    };
+    let mut state = State::start(alloc, program, limits.gates)?;
+    let halt = note_opening(program, limits, &mut state, &mut steps, &mut search.marks)?;
+    search.arrive(alloc, program, &state, halt)?;
+    let mut next = state.copy(alloc)?;
+    for depth in 0..limits.choices {
+        let before = search.marks.copy(alloc)?;
+        let layer = search.take_layer(alloc);
+        search.next_layer(
+            alloc, program, limits, most, &layer, &mut state, &mut next, &mut steps,
+        )?;
+        if search.layer.len() > most as usize {
+            return Ok(Coverage {
+                marks: before,
+                choices: depth,
+                is_whole: false,
+            });
+        }
+    }
+    let is_whole = !search.is_stopped && search.layer.len() == 0;
+    Ok(Coverage {
+        marks: search.marks,
+        choices: limits.choices,
+        is_whole,
+    })
+}
+
+impl Search {
+    // The layer that was made. The next one is empty.
+    fn take_layer(&mut self, alloc: Global) -> Layer
+        ensures taken { (r : Tables) → AreOwn r self.old.layer.known.keys → AreOwn r result.known.keys }
+        ensures empty { (r : Tables) → AreOwn r self.new.layer.known.keys }
+    {
+        mem::replace(&mut self.layer, Layer::new(alloc))
+    }
+
+    // Goes on from each state of a layer, with each number that may be chosen there. Stops where the next layer has more than `most`.
+    fn next_layer<S: Ledger>(
+        &mut self,
+        alloc: Global,
+        program: &Resolved,
+        limits: Limits,
+        most: u32,
+        layer: &Layer,
+        state: &mut State,
+        next: &mut State,
+        steps: &mut Ticks<S>,
+    ) -> Result<(), AllocError>
+        requires own { IsStateOf program.now state.old }
+        requires next { IsStateOf program.now next.old }
+        requires taken { AreOwn program.now layer.now.known.keys }
+        requires layer { AreOwn program.now self.old.layer.known.keys }
+        ensures own { IsStateOf program.now state.new }
+        ensures next { IsStateOf program.now next.new }
+        ensures layer { IfOk result (λ _. AreOwn program.now self.new.layer.known.keys) }
+    {
+        for number in 0..layer.len() {
+            if !layer.thaw_at(number, state) {
+                return Ok(());
+            }
+            self.take_choices(alloc, program, limits, state, next, steps)?;
+            if self.layer.len() > most as usize {
+                return Ok(());
+            }
+        }
+        Ok(())
+    }
+
+    // Goes on from a state with each number that may be chosen there.
+    fn take_choices<S: Ledger>(
+        &mut self,
+        alloc: Global,
+        program: &Resolved,
+        limits: Limits,
+        state: &State,
+        next: &mut State,
+        steps: &mut Ticks<S>,
+    ) -> Result<(), AllocError>
+        requires own { IsStateOf program.now state.now }
+        requires next { IsStateOf program.now next.old }
+        requires layer { AreOwn program.now self.old.layer.known.keys }
+        ensures next { IsStateOf program.now next.new }
+        ensures layer { IfOk result (λ _. AreOwn program.now self.new.layer.known.keys) }
+    {
+        let numbers = wanted(program, limits, state);
+        for process in numbers.as_slice() {
+            next.take_from(state);
+            self.take_choice(alloc, program, limits, next, *process, steps)?;
+        }
+        Ok(())
+    }
+
+    // Takes a choice in a state where it is due.
+    fn take_choice<S: Ledger>(
+        &mut self,
+        alloc: Global,
+        program: &Resolved,
+        limits: Limits,
+        state: &mut State,
+        process: u8,
+        steps: &mut Ticks<S>,
+    ) -> Result<(), AllocError>
+        requires own { IsStateOf program.now state.old }
+        requires may { may (slots program.now limits.gates) (machine_of state.old) process ≡ true }
+        requires layer { AreOwn program.now self.old.layer.known.keys }
+        ensures own { IsStateOf program.now state.new }
+        ensures layer { IfOk result (λ _. AreOwn program.now self.new.layer.known.keys) }
+    {
+        let halt = note_choice(program, limits, state, process, steps, &mut self.marks)?;
+        self.arrive(alloc, program, state, halt)
+    }
+
+    // A stretch came to a state.
+    fn arrive(
+        &mut self,
+        alloc: Global,
+        program: &Resolved,
+        state: &State,
+        halt: Halt,
+    ) -> Result<(), AllocError>
+        requires own { IsStateOf program.now state.now }
+        requires layer { AreOwn program.now self.old.layer.known.keys }
+        ensures { IfOk result (λ _. AreOwn program.now self.new.layer.known.keys) }
+    {
+        let _ = program;
+        match halt {
+            Halt::Choice => self.layer.add(alloc, state),
+            Halt::Ended(kind) => {
+                if is_limit(kind) {
+                    self.is_stopped = true;
+                }
+                Ok(())
+            }
+        }
+    }
+}
+
+// Whether a limit ended the run.
+fn is_limit(kind: OutcomeKind) -> bool {
+    match kind {
+        OutcomeKind::ChoiceLimit | OutcomeKind::StepLimit | OutcomeKind::OutputLimit => true,
+        OutcomeKind::Finished | OutcomeKind::AllWaiting | OutcomeKind::RunError { .. } => false,
+    }
+}
