@@ -5,4 +5,3 @@ mod Matched
 mod WordLemmas
 pub mod Meaning
 pub mod Merging
-pub mod Parsing

@@ -1,11 +1,8 @@
 pub mod Answered
-pub mod Calls
 pub mod Command
 pub mod Finds
 pub mod Merged
 pub mod Numbers
 pub mod OnSlots
 pub mod Options
-pub mod Refusals
-pub mod Transfer
 pub mod Words

@@ -1,31 +1,31 @@
 //! From the bytes of a source to the bytes of an answer.
-ghost use Rattle.std.specs.Prelude.{◌≡◌, ◌+◌, ◌<◌, ◌≤◌, false, length, map, max, min, IfOk, IfErr, option_map};
+ghost use Rattle.std.specs.Prelude.{◌≡◌, ◌+◌, ◌<◌, ◌≤◌, false, length, map, max, min, IfOk, IfErr, Result};
 ghost use Rattle.cp_run.specs.Slots.{slots};
 ghost use Rattle.cp_run.specs.Table.{table};
 ghost use Rattle.cp_walk.specs.Rows.{line_of, IsTooMany};
-ghost use Rattle.cp_tree.specs.TreeView.{tree_view};
+ghost use Rattle.cp_front.specs.Refusals.{IsLineOf};
+ghost use Rattle.cp_front.specs.Transfer.{code_by, faults_in};
+ghost use Rattle.cp_front.specs.declared.transfer.StreamFault.{StreamFault};
 ghost use Rattle.cp_tool.specs.Answered as spec;
 ghost use Rattle.cp_tool.specs.Merged as merging;
 ghost use Rattle.cp_tool.specs.OnSlots as on_slots;
-ghost use Rattle.cp_tool.specs.declared.answering.Ending.{Ending};
+ghost use Rattle.cp_tool.specs.declared.answering.Verdict.{Verdict};
+ghost use Rattle.cp_tool.specs.declared.answering.Verdict.TheVariants.{Refused};
 
 use crate::dealing::deal;
 use crate::options::Options;
-use crate::refusal::{check_reason, parse_reason, refusal, scan_reason};
-use crate::stream::{Sink, Source};
-use crate::transfer::{MOST_BYTES, ReadFault, read_source, write_text};
-use cp_check::check;
-use cp_drops::{drop_checked, drop_program, drop_tree};
+use cp_drops::drop_program;
 use cp_explore::{
     Cutting, ExploreFault, Job, MergeFault, NoGate, Table, Text, explore, explore_merged,
     merged_report, report, trace_report,
 };
+use cp_front::{
+    MOST_BYTES, ReadFault, Refusal, Sink, Source, StreamFault, drop_refusal, load, read_source,
+    refusal_line, write_text,
+};
 use cp_machine::Ticks;
-use cp_resolved::resolve;
 use cp_run::{Limits, trace};
 use cp_slots::Resolved;
-use cp_text::{Tokens, scan};
-use cp_tree::{Tree, parse};
 use std::alloc::{AllocError, Global};
 use std::marker::Brand;
 use std::sync::ledger::{Blank, Ledger};
@@ -50,19 +50,6 @@ pub enum Verdict {
     NotSettled,
 }
 
-/// How an exploration of a stream ended.
-#[derive(Clone, Copy)]
-pub enum Ending {
-    /// The whole answer was written.
-    Told(Verdict),
-    /// Memory was refused.
-    OutOfMemory,
-    /// A read failed.
-    ReadFailed,
-    /// A write failed or took nothing.
-    WriteFailed,
-}
-
 /// A text, and what it tells.
 #[derive(Drop)]
 pub struct Answer {
@@ -70,20 +57,31 @@ pub struct Answer {
     pub text: Text,
 }
 
-/// The exit code of an ending.
-pub fn code_of(ending: Ending) -> u8
-    ensures { result ≡ spec.code_of ending }
+impl Verdict {
+    /// The exit code.
+    pub fn code(self) -> u8
+        ensures { result ≡ spec.code_of self }
+    {
+        match self {
+            Verdict::Reported => 0,
+            Verdict::Refused => 1,
+            Verdict::TooManyRows => 5,
+            Verdict::TooManyStates => 5,
+            Verdict::TooManyOutcomes => 5,
+            Verdict::NotSettled => 5,
+        }
+    }
+}
+
+/// The exit code of what was told, or of what came in between.
+pub fn status_of(ending: Result<Verdict, StreamFault>) -> ExitStatus
+    ensures { result.code ≡ code_by spec.code_of ending }
 {
     match ending {
-        Ending::Told(Verdict::Reported) => 0,
-        Ending::Told(Verdict::Refused) => 1,
-        Ending::Told(Verdict::TooManyRows) => 5,
-        Ending::Told(Verdict::TooManyStates) => 5,
-        Ending::Told(Verdict::TooManyOutcomes) => 5,
-        Ending::Told(Verdict::NotSettled) => 5,
-        Ending::OutOfMemory => 3,
-        Ending::ReadFailed => 4,
-        Ending::WriteFailed => 4,
+        Ok(verdict) => ExitStatus {
+            code: verdict.code(),
+        },
+        Err(fault) => ExitStatus { code: fault.code() },
     }
 }
 
@@ -99,48 +97,46 @@ pub fn explore_stream<X: Threads + Sync, R: Source, W: Sink>(
     sink: &mut W,
 ) -> ExitStatus
     // What is written is the answer to what was read, and nothing else; status 4 comes exactly where a call failed or took nothing.
-    ensures told { (ending : Ending) × (result.code ≡ spec.code_of ending) × spec.Tells (spec.IsExploredAlone options.now) (R.remaining source.old) (W.contents sink.old) (W.contents sink.new) ending × (R.failed_reads source.new + (W.failed_writes sink.new + W.empty_writes sink.new) ≡ R.failed_reads source.old + (W.failed_writes sink.old + W.empty_writes sink.old) + spec.faults_of_ending ending) }
+    ensures told { (ending : Result Verdict StreamFault) × (result.code ≡ code_by spec.code_of ending) × spec.Tells (spec.IsExploredAlone options.now) (R.remaining source.old) (W.contents sink.old) (W.contents sink.new) ending × (R.failed_reads source.new + (W.failed_writes sink.new + W.empty_writes sink.new) ≡ R.failed_reads source.old + (W.failed_writes sink.old + W.empty_writes sink.old) + faults_in ending) }
     ensures reads { R.reads source.new ≤ R.reads source.old + 65536 }
 {
-    ExitStatus {
-        code: code_of(streamed(rt, alloc, options, source, sink)),
-    }
+    status_of(serve(rt, alloc, options, source, sink))
 }
 
-fn streamed<X: Threads + Sync, R: Source, W: Sink>(
+fn serve<X: Threads + Sync, R: Source, W: Sink>(
     rt: &X,
     alloc: Global,
     options: &Options,
     source: &mut R,
     sink: &mut W,
-) -> Ending
+) -> Result<Verdict, StreamFault>
     ensures told { spec.Tells (spec.IsExploredAlone options.now) (R.remaining source.old) (W.contents sink.old) (W.contents sink.new) result }
-    ensures faults { R.failed_reads source.new + (W.failed_writes sink.new + W.empty_writes sink.new) ≡ R.failed_reads source.old + (W.failed_writes sink.old + W.empty_writes sink.old) + spec.faults_of_ending result }
+    ensures faults { R.failed_reads source.new + (W.failed_writes sink.new + W.empty_writes sink.new) ≡ R.failed_reads source.old + (W.failed_writes sink.old + W.empty_writes sink.old) + faults_in result }
     ensures reads { R.reads source.new ≤ R.reads source.old + 65536 }
 {
     match read_source(alloc, source, MOST_BYTES) {
-        Ok(bytes) => match answered(rt, alloc, options, &bytes) {
-            Ok(answer) => written(sink, &answer),
-            Err(_) => Ending::OutOfMemory,
+        Ok(bytes) => match answer_to(rt, alloc, options, &bytes) {
+            Ok(answer) => write_answer(sink, &answer),
+            Err(_) => Err(StreamFault::Memory),
         },
-        Err(ReadFault::Memory) => Ending::OutOfMemory,
-        Err(ReadFault::Failed) => Ending::ReadFailed,
+        Err(ReadFault::Memory) => Err(StreamFault::Memory),
+        Err(ReadFault::Failed) => Err(StreamFault::Read),
     }
 }
 
 /// Writes an answer.
-pub fn written<W: Sink>(sink: &mut W, answer: &Answer) -> Ending
+pub fn write_answer<W: Sink>(sink: &mut W, answer: &Answer) -> Result<Verdict, StreamFault>
     ensures written { spec.IsWritten (W.contents sink.old) (W.contents sink.new) answer.now.verdict answer.now.text result }
-    ensures faults { W.failed_writes sink.new + W.empty_writes sink.new ≡ W.failed_writes sink.old + W.empty_writes sink.old + spec.faults_of_ending result }
+    ensures faults { W.failed_writes sink.new + W.empty_writes sink.new ≡ W.failed_writes sink.old + W.empty_writes sink.old + faults_in result }
 {
     match write_text(sink, answer.text.as_str().as_bytes()) {
-        Ok(()) => Ending::Told(answer.verdict),
-        Err(_) => Ending::WriteFailed,
+        Ok(()) => Ok(answer.verdict),
+        Err(_) => Err(StreamFault::Write),
     }
 }
 
-/// What is answered to a source.
-fn answered<X: Threads + Sync>(
+// What is answered to a source.
+fn answer_to<X: Threads + Sync>(
     rt: &X,
     alloc: Global,
     options: &Options,
@@ -148,81 +144,27 @@ fn answered<X: Threads + Sync>(
 ) -> Result<Answer, AllocError>
     ensures { IfOk result (λ a. spec.AnswersSource (spec.IsExploredAlone options.now) source.now a.verdict a.text) }
 {
-    match scan(alloc, source) {
-        Ok(tokens) => parsed(rt, alloc, options, &tokens),
-        Err(fault) => refused(alloc, fault.line, scan_reason(fault.cause)),
-    }
-}
-
-/// What is answered to the tokens of a source.
-fn parsed<X: Threads + Sync>(
-    rt: &X,
-    alloc: Global,
-    options: &Options,
-    tokens: &Tokens,
-) -> Result<Answer, AllocError>
-    ensures { IfOk result (λ a. spec.AnswersTokens (spec.IsExploredAlone options.now) tokens.now a.verdict a.text) }
-{
-    match parse(alloc, tokens) {
-        Ok(tree) => checked(rt, alloc, options, tokens, tree),
-        Err(fault) => refused_at(alloc, tokens, parse_reason(&fault)),
-    }
-}
-
-/// What is answered to a tree.
-fn checked<X: Threads + Sync>(
-    rt: &X,
-    alloc: Global,
-    options: &Options,
-    tokens: &Tokens,
-    tree: Tree,
-) -> Result<Answer, AllocError>
-    ensures { IfOk result (λ a. spec.AnswersTree (spec.IsExploredAlone options.now) tokens.now (tree_view tree) a.verdict a.text) }
-{
-    match check(alloc, tree) {
-        Ok(checked) => {
-            let resolved = resolve(alloc, &checked);
-            drop_checked(checked);
-            let program = resolved?;
+    match load(alloc, source) {
+        Ok(loaded) => {
+            let program = loaded.into_program();
             let answer = explored(rt, alloc, options, &program);
             drop_program(program);
             answer
         }
-        Err((fault, tree)) => {
-            drop_tree(tree);
-            refused_at(alloc, tokens, check_reason(&fault))
-        }
+        Err(refusal) => refused(alloc, refusal),
     }
 }
 
-/// The refusal in a line, if there is a reason.
-pub fn refused(alloc: Global, line: u32, reason: Option<&str>) -> Result<Answer, AllocError>
-    ensures { IfOk result (λ a. spec.IsRefusedIn line (option_map (λ s. s.now) reason.entry) a.verdict a.text) }
+/// The refusal in a line.
+pub fn refused(alloc: Global, refusal: Refusal) -> Result<Answer, AllocError>
+    ensures { IfOk result (λ a. (a.verdict ≡ Refused) × IsLineOf refusal a.text) }
 {
-    let Some(reason) = reason else {
-        return Err(AllocError);
-    };
+    let written = refusal_line(alloc, &refusal);
+    drop_refusal(refusal);
+    let line = written?;
     Ok(Answer {
         verdict: Verdict::Refused,
-        text: Text::new(refusal(alloc, line, reason)?),
-    })
-}
-
-/// The refusal at a token, or at the last one for the end of the source.
-pub fn refused_at(
-    alloc: Global,
-    tokens: &Tokens,
-    reason: Option<(usize, &str)>,
-) -> Result<Answer, AllocError>
-    ensures { IfOk result (λ a. spec.IsRefusedAt tokens.now (option_map (λ r. (r.0, r.1.now)) reason.entry) a.verdict a.text) }
-{
-    let Some((at, reason)) = reason else {
-        return Err(AllocError);
-    };
-    let line = tokens.line(at.min(tokens.count()));
-    Ok(Answer {
-        verdict: Verdict::Refused,
-        text: Text::new(refusal(alloc, line, reason)?),
+        text: Text::new(line),
     })
 }
 

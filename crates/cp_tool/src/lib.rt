@@ -8,15 +8,10 @@ mod dealing;
 mod numbers;
 pub mod options;
 pub mod reason;
-pub mod refusal;
 mod schedule;
-pub mod stream;
-pub mod transfer;
-pub mod wrapped;
 
 pub use answering::{ExitStatus, explore_stream};
 pub use command_line::read_options;
+pub use cp_front::{Failed, Sink, Source, Wrapped};
 pub use options::{OptionFault, Options};
 pub use reason::{SourceReading, VERSION, asks_version, reason_for, word_reason};
-pub use stream::{Failed, Sink, Source};
-pub use wrapped::Wrapped;

@@ -14,6 +14,9 @@ use cp_check::check;
 use cp_cover::{Entries, entries_of};
 use cp_drops::{drop_checked, drop_program, drop_tree};
 use cp_ends_story::{Subject as Endless, ends_story};
+use cp_front::reasons::{check_reason, parse_reason, reason_line, scan_reason};
+use cp_front::transfer::{MOST_BYTES, ReadFault, read_source, write_text};
+use cp_front::{Sink, Source};
 use cp_lanes::{PictureSubject, View, picture_in};
 use cp_legend::{Legend, legend_of};
 use cp_machine::Ticks;
@@ -27,9 +30,7 @@ use cp_run::{Limits, MOST_CHOICES};
 use cp_slots::Resolved;
 use cp_story::{Story, json, tell, text};
 use cp_text::{Tokens, scan};
-use cp_tool::refusal::{check_reason, parse_reason, refusal, scan_reason};
-use cp_tool::transfer::{MOST_BYTES, ReadFault, read_source, write_text};
-use cp_tool::{Options, Sink, Source};
+use cp_tool::Options;
 use cp_tree::{Tree, parse};
 use cp_walk::{Job, trace_report};
 use std::alloc::{AllocError, Global};
@@ -223,7 +224,7 @@ fn refusal_answer(alloc: Global, line: u32, reason: Option<&str>) -> Result<Answ
     };
     Ok(Answer {
         verdict: Verdict::Refused,
-        text: refusal(alloc, line, reason)?,
+        text: reason_line(alloc, line, reason)?,
     })
 }
 

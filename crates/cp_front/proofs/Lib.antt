@@ -1,0 +1,3 @@
+pub mod Loads
+pub mod Parsing
+pub mod Scanning

@@ -1,0 +1,29 @@
+use Rattle.std.proofs.Common.{◌≡◌, ◌≢◌, ℕ, ◌+◌, ◌-◌, ◌≤◌, List, ◌++◌, rules, arith, length, take, slice_range, sym, ap, ◌∙◌, subst, le_refl, drop_at, length-take-le}
+use Rattle.std.proofs.lemmas.Slice.{take-put_mid_below}
+use Rattle.std.specs.Io.KnownBytes.{Consumes}
+use Rattle.std.proofs.KnownBytes.{Consumes-trans}
+use borrow.Rule.Slice.PartMut.{put_mid, post_of}
+use lib.Seq.{take-add, take-append-le}
+use Rattle.cp_front.proofs.transfer.fill.Goals as goal
+
+take_split : (a b : ℕ) (old new : List ℕ) → a ≤ b → take a new ≡ take a old → take a old ++ slice_range new a b ≡ take b new
+take_split a b old new h front =
+    let same : a + (b - a) ≡ b = omega arith in
+    ap (λ l. l ++ slice_range new a b) (sym front) ∙ sym (take-add a (b - a) new) ∙ ap (λ n. take n new) same
+
+slice_range-put_mid : (a k n : ℕ) (xs ys : List ℕ) → a ≤ length xs → n ≤ length ys → slice_range (put_mid a k xs ys) a (a + n) ≡ take n ys
+slice_range-put_mid a k n xs ys within fits =
+    let same : (a + n) - a ≡ n = omega arith in
+    let after = post_of a k xs in
+    ap (take ((a + n) - a)) (drop_at (take a xs) (ys ++ after) a (length-take-le a xs within)) ∙ ap (λ m. take m (ys ++ after)) same ∙ take-append-le n ys after fits
+
+pub loop-turn-preserved : goal.loop-turn-preserved
+loop-turn-preserved g c =
+    let from = c.loop-turn.filled in
+    let room = length c.loop-turn.buffer - from in
+    let within = c.loop-turn.invariant.1 in
+    let part = slice_range-put_mid from room c.in-Ok.n c.loop-turn.buffer c.read.new.buffer within c.in-Ok.ensures.bound in
+    let joined = take_split from (from + c.in-Ok.n) c.loop-turn.buffer (put_mid from room c.loop-turn.buffer c.read.new.buffer) (omega arith) (take-put_mid_below _ _ _ _ _ (le_refl _) within) in
+    let some : c.in-Ok.n ≢ 0 = c.in-Ok.n-test.1 in
+    let moved : c.loop-turn._turn + 1 ≤ c.loop-turn.filled + c.in-Ok.n = omega (arith, c.loop-turn.invariant.5, some) in
+    (search rules, search rules, subst (Consumes _ _) (ap (λ l. take from c.loop-turn.buffer ++ l) (sym part) ∙ joined) (Consumes-trans _ _ _ _ _ c.loop-turn.invariant.2 c.in-Ok.ensures.bytes.0), omega (arith, c.in-Ok.ensures.reads, c.loop-turn.invariant.3), omega (arith, c.in-Ok.ensures.failed, c.loop-turn.invariant.4), moved)

@@ -1,0 +1,4 @@
+pub mod Calls
+pub mod Loading
+pub mod Refusals
+pub mod Transfer
