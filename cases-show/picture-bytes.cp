@@ -1,2 +1,2 @@
-"GrÃ¶ÃŸe, naÃ¯ve â€“ æ¼¢å­— and ÿÃ(â‚; the bytes after it are none."
+"GrÃ¶ÃŸe, naÃ¯ve â€“ æ¼¢å­— AB and ÿÃ(â‚; the bytes after it are none."
 begin display(1) "Ã„ş" end.

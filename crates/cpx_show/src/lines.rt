@@ -32,6 +32,7 @@ fn front_of(bytes: &[u8]) -> (char, usize) {
     match bytes.first() {
         Some(byte @ 32..=126) => (char::from(*byte), 1),
         Some(0..=31) => (' ', 1),
+        Some(127) => ('?', 1),
         _ => wide_front(bytes),
     }
 }
