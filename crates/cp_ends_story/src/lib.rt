@@ -2,6 +2,7 @@
 #![tactic(auto)]
 
 mod finding;
+mod members;
 mod objects;
 pub mod placing;
 pub mod subject;

@@ -1,14 +1,14 @@
 //! Ends as JSON.
 
-use crate::placing::{is_full, story_of};
+use crate::members::{Items, Members};
+use crate::placing::whole_story;
 use crate::subject::{Findings, KnownEnd, KnownValue, Reach, Subject};
-use crate::texts::{is_cut, line_of};
+use crate::texts::{is_cut, line_of, shown_text};
 use cp_ends::End;
 use cp_ends::found::MOST_VALUES;
 use cp_machine::Ticks;
 use cp_run::OutcomeKind;
-use cp_story::objects::{Object, monitors, numbers, processes, put_kind, waits};
-use cp_story::push_shown;
+use cp_story::objects::{monitors, numbers, processes, waits};
 use cp_waits::{How, Set, Waiting, Waits};
 use serde_json::Value;
 use std::alloc::{AllocError, Global};
@@ -21,54 +21,55 @@ pub fn json<L: Ledger>(
     findings: &Findings,
     ticks: &mut Ticks<L>,
 ) -> Result<String, AllocError> {
-    let mut object = Object::new(alloc);
-    object.put("processes", processes(alloc, subject.legend)?)?;
-    object.put("monitors", monitors(alloc, subject.legend)?)?;
-    put_states(subject, &mut object, findings)?;
-    put_ends(alloc, subject, &mut object, findings, ticks)?;
-    put_values(alloc, subject, &mut object, findings)?;
-    put_waits(alloc, subject, &mut object, findings, ticks)?;
-    let mut text = object.done().to_string(alloc)?;
+    let mut text = object(alloc, subject, findings, ticks)?.to_string(alloc)?;
     text.push('\n')?;
     Ok(text)
 }
 
-// How many states there are, or how many there may be and of how many choices all schedules were looked at; and whether kernel calls were made at once.
-fn put_states(
+fn object<L: Ledger>(
+    alloc: Global,
     subject: Subject<'_>,
-    object: &mut Object,
     findings: &Findings,
-) -> Result<(), AllocError> {
+    ticks: &mut Ticks<L>,
+) -> Result<Value, AllocError> {
+    let mut members = Members::new(alloc);
+    members.put("processes", processes(alloc, subject.legend));
+    members.put("monitors", monitors(alloc, subject.legend));
+    put_states(subject, &mut members, findings);
+    put_ends(alloc, subject, &mut members, findings, ticks);
+    put_values(alloc, subject, &mut members, findings);
+    put_waits(alloc, subject, &mut members, findings, ticks);
+    members.finish()
+}
+
+// How many states there are, or how many there may be and of how many choices all schedules were looked at; and whether kernel calls were made at once.
+fn put_states(subject: Subject<'_>, members: &mut Members, findings: &Findings) {
     match findings.reach {
         Reach::States(count) => {
-            object.number("states", count as u64)?;
-            object.put("complete", Value::Bool(!is_cut(findings)))
+            members.number("states", count as u64);
+            members.truth("complete", !is_cut(findings));
         }
         Reach::StatesAtOnce(count) => {
-            put_at_once(object)?;
-            object.number("states", count as u64)?;
-            object.put("complete", Value::Bool(!is_cut(findings)))
+            members.truth("at_once", true);
+            members.number("states", count as u64);
+            members.truth("complete", !is_cut(findings));
         }
         Reach::Choices(choices) => {
-            put_too_many(subject, object)?;
-            object.number("choices", choices as u64)?;
-            object.put("complete", Value::Bool(false))
+            put_too_many(subject, members);
+            members.number("choices", choices as u64);
+            members.truth("complete", false);
         }
         Reach::SomeAtOnce => {
-            put_at_once(object)?;
-            put_too_many(subject, object)?;
-            object.put("complete", Value::Bool(false))
+            members.truth("at_once", true);
+            put_too_many(subject, members);
+            members.truth("complete", false);
         }
     }
 }
 
-fn put_at_once(object: &mut Object) -> Result<(), AllocError> {
-    object.put("at_once", Value::Bool(true))
-}
-
-fn put_too_many(subject: Subject<'_>, object: &mut Object) -> Result<(), AllocError> {
-    object.text("too_many", "states")?;
-    object.number("states", u64::from(subject.most))
+fn put_too_many(subject: Subject<'_>, members: &mut Members) {
+    members.text("too_many", "states");
+    members.number("states", u64::from(subject.most));
 }
 
 // What a word is called: some other one may be shorter where kernel calls are made at once.
@@ -82,15 +83,15 @@ fn name_of_word(findings: &Findings) -> &'static str {
 fn put_ends<L: Ledger>(
     alloc: Global,
     subject: Subject<'_>,
-    object: &mut Object,
+    members: &mut Members,
     findings: &Findings,
     ticks: &mut Ticks<L>,
-) -> Result<(), AllocError> {
-    let mut items = Vec::new(alloc);
+) {
+    let mut items = Items::new(alloc);
     for end in &findings.ends {
-        items.push(end_object(alloc, subject, end, name_of_word(findings), ticks)?)?;
+        items.add(end_object(alloc, subject, end, name_of_word(findings), ticks));
     }
-    object.put("ends", Value::Array(items))
+    members.put("ends", items.finish());
 }
 
 fn end_object<L: Ledger>(
@@ -101,63 +102,55 @@ fn end_object<L: Ledger>(
     ticks: &mut Ticks<L>,
 ) -> Result<Value, AllocError> {
     let word = end.word.as_slice();
-    let mut object = Object::new(alloc);
+    let mut members = Members::new(alloc);
     match end.end {
-        End::Over(kind) => put_kind(&mut object, kind)?,
-        End::Alone(process) => put_going(&mut object, "alone", process)?,
-        End::Spins(process) => put_going(&mut object, "spins", process)?,
+        End::Over(kind) => members.kind(kind),
+        End::Alone(process) => put_going(&mut members, "alone", process),
+        End::Spins(process) => put_going(&mut members, "spins", process),
     }
-    object.put(name, numbers(alloc, word)?)?;
+    members.put(name, numbers(alloc, word));
     match end.end {
         End::Over(OutcomeKind::AllWaiting) => {
-            put_final(alloc, subject, &mut object, word, ticks)?;
+            put_final(alloc, subject, &mut members, word, ticks);
         }
         End::Over(OutcomeKind::RunError { line, .. }) => {
-            object.text("text", line_of(subject.source, line))?;
+            members.text("text", line_of(subject.source, line));
         }
         _ => {}
     }
-    Ok(object.done())
+    members.finish()
 }
 
-fn put_going(object: &mut Object, kind: &str, process: u8) -> Result<(), AllocError> {
-    object.text("kind", kind)?;
-    object.number("process", u64::from(process))
+fn put_going(members: &mut Members, kind: &str, process: u8) {
+    members.text("kind", kind);
+    members.number("process", u64::from(process));
 }
 
 // Who waits where at the end of a word.
 fn put_final<L: Ledger>(
     alloc: Global,
     subject: Subject<'_>,
-    object: &mut Object,
+    members: &mut Members,
     word: &[u8],
     ticks: &mut Ticks<L>,
-) -> Result<(), AllocError> {
-    let Some(story) = story_of(alloc, subject, word, ticks)? else {
-        return Ok(());
-    };
-    if is_full(&story) {
-        return Ok(());
+) {
+    match whole_story(alloc, subject, word, ticks) {
+        Ok(Some(story)) => members.put("final", waits(alloc, subject.legend, &story.waits)),
+        Ok(None) => {}
+        Err(_) => members.refuse(),
     }
-    object.put("final", waits(alloc, subject.legend, &story.waits)?)
 }
 
-fn put_values(
-    alloc: Global,
-    subject: Subject<'_>,
-    object: &mut Object,
-    findings: &Findings,
-) -> Result<(), AllocError> {
-    let mut items = Vec::new(alloc);
+fn put_values(alloc: Global, subject: Subject<'_>, members: &mut Members, findings: &Findings) {
+    let mut items = Items::new(alloc);
     let count = findings.values.len().min(MOST_VALUES);
     for value in &findings.values[..count] {
-        items.push(value_object(alloc, subject, value, name_of_word(findings))?)?;
+        items.add(value_object(alloc, subject, value, name_of_word(findings)));
     }
-    object.put("shown", Value::Array(items))?;
+    members.put("shown", items.finish());
     if findings.values.len() > MOST_VALUES {
-        object.put("more", Value::Bool(true))?;
+        members.truth("more", true);
     }
-    Ok(())
 }
 
 fn value_object(
@@ -166,30 +159,36 @@ fn value_object(
     value: &KnownValue,
     name: &str,
 ) -> Result<Value, AllocError> {
-    let mut object = Object::new(alloc);
-    let mut text = String::new(alloc);
-    push_shown(subject.legend, &mut text, value.value)?;
-    object.put("value", Value::String(text))?;
-    object.put(name, numbers(alloc, value.word.as_slice())?)?;
-    Ok(object.done())
+    let mut members = Members::new(alloc);
+    members.put("value", shown_value(alloc, subject, value));
+    members.put(name, numbers(alloc, value.word.as_slice()));
+    members.finish()
+}
+
+fn shown_value(
+    alloc: Global,
+    subject: Subject<'_>,
+    value: &KnownValue,
+) -> Result<Value, AllocError> {
+    Ok(Value::String(shown_text(alloc, subject.legend, value.value)?))
 }
 
 fn put_waits<L: Ledger>(
     alloc: Global,
     subject: Subject<'_>,
-    object: &mut Object,
+    members: &mut Members,
     findings: &Findings,
     ticks: &mut Ticks<L>,
-) -> Result<(), AllocError> {
+) {
     match &findings.waits {
-        None => Ok(()),
-        Some(Waits::NotSettled(process)) => { object.number("not_settled", u64::from(*process)) }
+        None => {}
+        Some(Waits::NotSettled(process)) => members.number("not_settled", u64::from(*process)),
         Some(Waits::Known(list)) => {
-            let mut items = Vec::new(alloc);
+            let mut items = Items::new(alloc);
             for waiting in list {
-                items.push(waiting_object(alloc, subject, waiting, ticks)?)?;
+                items.add(waiting_object(alloc, subject, waiting, ticks));
             }
-            object.put("waits", Value::Array(items))
+            members.put("waits", items.finish());
         }
     }
 }
@@ -200,30 +199,36 @@ fn waiting_object<L: Ledger>(
     waiting: &Waiting,
     ticks: &mut Ticks<L>,
 ) -> Result<Value, AllocError> {
-    let mut object = Object::new(alloc);
-    object.number("process", u64::from(waiting.process))?;
-    object.text(
+    let mut members = Members::new(alloc);
+    members.number("process", u64::from(waiting.process));
+    members.text(
         "how",
         match waiting.how {
             How::Throughout => "throughout",
             How::ForGood => "for good",
             How::InItsCall => "in its call",
         },
-    )?;
+    );
     let others = waiting.step.without(waiting.process);
-    object.put("others", members(alloc, subject, others)?)?;
-    object.put("first", numbers(alloc, waiting.first.as_slice())?)?;
-    object.put("again", numbers(alloc, waiting.again.as_slice())?)?;
-    put_final(alloc, subject, &mut object, waiting.first.as_slice(), ticks)?;
-    Ok(object.done())
+    members.put("others", processes_of(alloc, subject, others));
+    members.put("first", numbers(alloc, waiting.first.as_slice()));
+    members.put("again", numbers(alloc, waiting.again.as_slice()));
+    put_final(
+        alloc,
+        subject,
+        &mut members,
+        waiting.first.as_slice(),
+        ticks,
+    );
+    members.finish()
 }
 
-fn members(alloc: Global, subject: Subject<'_>, set: Set) -> Result<Value, AllocError> {
-    let mut items = Vec::new(alloc);
+fn processes_of(alloc: Global, subject: Subject<'_>, set: Set) -> Result<Value, AllocError> {
+    let mut items = Items::new(alloc);
     for process in 0..subject.legend.processes() {
         if set.has(process) {
-            items.push(Value::from(u64::from(process)))?;
+            items.add(Ok(Value::from(u64::from(process))));
         }
     }
-    Ok(Value::Array(items))
+    items.finish()
 }

@@ -7,6 +7,22 @@ use cp_story::{Happening, MOST_NUMBERS, OpenCall, Story, Wait, tell};
 use std::alloc::{AllocError, Global};
 use std::sync::ledger::Ledger;
 
+/// The story of a word that is told to its end; none where the word has too many numbers, or the run was stopped by how much it displayed.
+pub fn whole_story<L: Ledger>(
+    alloc: Global,
+    subject: Subject<'_>,
+    word: &[u8],
+    ticks: &mut Ticks<L>,
+) -> Result<Option<Story>, AllocError> {
+    let Some(story) = story_of(alloc, subject, word, ticks)? else {
+        return Ok(None);
+    };
+    if is_full(&story) {
+        return Ok(None);
+    }
+    Ok(Some(story))
+}
+
 /// The story of a word; none where it has too many numbers.
 pub fn story_of<L: Ledger>(
     alloc: Global,
