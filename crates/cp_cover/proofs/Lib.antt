@@ -1,2 +1,6 @@
-pub mod Layering
+pub mod Adding
+pub mod FromLayer
+pub mod FromState
+pub mod Processes
+pub mod Stretches
 pub mod Wanted

@@ -1,9 +1,10 @@
 //! The states in which a choice is due after as many choices.
 
-ghost use Rattle.std.specs.Prelude.{IfOk};
+ghost use Rattle.std.specs.Prelude.{◌≡◌, [], true, IfOk, Some, length, slice_get};
 ghost use Rattle.cp_slots.specs.Tables.{Tables};
-ghost use Rattle.cp_machine.specs.System.{IsStateOf};
-ghost use Rattle.cp_cover.specs.Layers.{AreOwn};
+ghost use Rattle.cp_machine.specs.System.{machine_of, IsStateOf};
+ghost use Rattle.cp_cover.specs.Layers.{AddsState, AreOwn, IsKeyOf};
+ghost use Rattle.cp_cover.specs.declared.keys.StateKey.{StateKey};
 
 use crate::keys::{StateKey, key_of_state};
 use cp_key::{Parts, thaw};
@@ -20,7 +21,7 @@ pub struct Layer {
 impl Layer {
     /// No state.
     pub fn new(alloc: Global) -> Layer
-        ensures { (r : Tables) → AreOwn r result.known.keys }
+        ensures { result.known.keys ≡ [] }
     {
         Layer {
             known: IndexSet::new(alloc),
@@ -29,7 +30,7 @@ impl Layer {
 
     /// One state more, where it is new.
     pub fn add(&mut self, alloc: Global, state: &State) -> Result<(), AllocError>
-        ensures { IfOk result (λ _. (r : Tables) → AreOwn r self.old.known.keys → IsStateOf r state.now → AreOwn r self.new.known.keys) }
+        ensures { IfOk result (λ _. AddsState self.old.known.keys (machine_of state.now) self.new.known.keys) }
     {
         let key = key_of_state(alloc, state)?;
         self.known.insert(key)?;
@@ -37,14 +38,17 @@ impl Layer {
     }
 
     /// How many states there are.
-    pub fn len(&self) -> usize {
+    pub fn len(&self) -> usize
+        ensures { result ≡ length self.now.known.keys }
+    {
         self.known.len()
     }
 
     /// A state becomes the one of this number; `false` where there is none.
     pub fn thaw_at(&self, number: usize, state: &mut State) -> bool
         requires { (r : Tables) × IsStateOf r state.old × AreOwn r self.now.known.keys }
-        ensures { (r : Tables) → IsStateOf r state.old → AreOwn r self.now.known.keys → IsStateOf r state.new }
+        ensures own { (r : Tables) → IsStateOf r state.old → AreOwn r self.now.known.keys → IsStateOf r state.new }
+        ensures key { result ≡ true → (key : StateKey) × (slice_get self.now.known.keys number ≡ Some key) × IsKeyOf key (machine_of state.new) }
     {
         let Some(key) = self.known.get_index(number) else {
             return false;

@@ -1,5 +1,8 @@
 //! What schedules came to.
 
+ghost use Rattle.std.specs.Prelude.{◌≡◌, ◌∷◌, [], true, Contains, IfOk};
+ghost use Rattle.cp_cover.specs.Marks.{Adds};
+
 use crate::mark::Mark;
 use indexmap::IndexSet;
 use std::alloc::{AllocError, Global};
@@ -12,20 +15,26 @@ pub struct Marks {
 
 impl Marks {
     /// Nothing.
-    pub fn new(alloc: Global) -> Marks {
+    pub fn new(alloc: Global) -> Marks
+        ensures { result.known.keys ≡ [] }
+    {
         Marks {
             known: IndexSet::new(alloc),
         }
     }
 
     /// One more, where it is new.
-    pub fn add(&mut self, mark: Mark) -> Result<(), AllocError> {
+    pub fn add(&mut self, mark: Mark) -> Result<(), AllocError>
+        ensures { IfOk result (λ _. Adds self.old.known.keys (mark ∷ []) self.new.known.keys) }
+    {
         self.known.insert(mark)?;
         Ok(())
     }
 
     /// The same once more.
-    pub fn copy(&self, alloc: Global) -> Result<Marks, AllocError> {
+    pub fn copy(&self, alloc: Global) -> Result<Marks, AllocError>
+        ensures { IfOk result (λ m. Adds [] self.now.known.keys m.known.keys) }
+    {
         let mut copy = Marks::new(alloc);
         for mark in self.known.as_slice() {
             copy.add(*mark)?;
@@ -34,7 +43,9 @@ impl Marks {
     }
 
     /// Whether some schedule came to it.
-    pub fn has(&self, mark: Mark) -> bool {
+    pub fn has(&self, mark: Mark) -> bool
+        ensures { result ≡ true → Contains self.now.known.keys mark }
+    {
         self.known.contains(&mark)
     }
 }

@@ -1,11 +1,13 @@
 //! What all schedules come to, by layers of states.
 
-ghost use Rattle.std.specs.Prelude.{◌≡◌, IfOk, true};
-ghost use Rattle.cp_slots.specs.Tables.{Tables};
-ghost use Rattle.cp_machine.specs.System.{machine_of, IsStateOf};
-ghost use Rattle.cp_run.specs.Run.{may};
+ghost use Rattle.std.specs.Prelude.{◌≡◌, ◌≤◌, [], IfOk, true};
+ghost use Rattle.cp_machine.specs.System.{machine_of, opening, IsStateOf};
+ghost use Rattle.cp_run.specs.Run.{chosen, may, those_below};
+ghost use Rattle.cp_run.specs.Code.{node_of};
 ghost use Rattle.cp_run.specs.Slots.{slots};
-ghost use Rattle.cp_cover.specs.Layers.{AreOwn};
+ghost use Rattle.cp_cover.specs.Layers.{AddsNode, AreReached, FromState, IsAfter, IsLayer};
+ghost use Rattle.cp_cover.specs.Marks.{Adds};
+ghost use Rattle.cp_cover.specs.Reached.{chosen_marks};
 
 use crate::layer::Layer;
 use crate::marks::Marks;
@@ -42,7 +44,10 @@ pub fn find_coverage(
     program: &Resolved,
     limits: Limits,
     most: u32,
-) -> Result<Coverage, AllocError> {
+) -> Result<Coverage, AllocError>
+    ensures reached { IfOk result (λ c. AreReached (slots program.now limits.gates) limits.steps c.choices c.marks.known.keys) }
+    ensures choices { IfOk result (λ c. c.choices ≤ limits.choices) }
+{
     find_with::<Brand>(alloc, program, limits, most, Blank::new(1))
 }
 
@@ -56,24 +61,21 @@ fn find_with<S: Ledger>(
     requires name { blank.name ≡ S.name }
     requires parts { blank.parts ≡ S.parts }
     requires one { S.parts ≡ 1 }
+    ensures reached { IfOk result (λ c. AreReached (slots program.now limits.gates) limits.steps c.choices c.marks.known.keys) }
+    ensures choices { IfOk result (λ c. c.choices ≤ limits.choices) }
 {
     let mut steps: Ticks<S> = Ticks::new(blank);
-    let mut search = Search {
-        marks: Marks::new(alloc),
-        layer: Layer::new(alloc),
-        is_stopped: false,
-    };
+    let mut search = Search::new(alloc);
     let mut state = State::start(alloc, program, limits.gates)?;
-    let halt = note_opening(program, limits, &mut state, &mut steps, &mut search.marks)?;
-    search.arrive(alloc, program, &state, halt)?;
+    search.open(alloc, program, limits, &mut state, &mut steps)?;
     let mut next = state.copy(alloc)?;
     for depth in 0..limits.choices {
         let before = search.marks.copy(alloc)?;
         let layer = search.take_layer(alloc);
-        search.next_layer(
-            alloc, program, limits, most, &layer, &mut state, &mut next, &mut steps,
+        let is_room = search.next_layer(
+            alloc, program, limits, most, depth, &layer, &mut state, &mut next, &mut steps,
         )?;
-        if search.layer.len() > most as usize {
+        if !is_room {
             return Ok(Coverage {
                 marks: before,
                 choices: depth,
@@ -90,44 +92,82 @@ fn find_with<S: Ledger>(
 }
 
 impl Search {
+    fn new(alloc: Global) -> Search
+        ensures marks { result.marks.known.keys ≡ [] }
+        ensures layer { result.layer.known.keys ≡ [] }
+    {
+        Search {
+            marks: Marks::new(alloc),
+            layer: Layer::new(alloc),
+            is_stopped: false,
+        }
+    }
+
+    // The layer of no choice, from the opening state.
+    fn open<S: Ledger>(
+        &mut self,
+        alloc: Global,
+        program: &Resolved,
+        limits: Limits,
+        state: &mut State,
+        steps: &mut Ticks<S>,
+    ) -> Result<(), AllocError>
+        requires own { IsStateOf program.now state.old }
+        requires start { machine_of state.old ≡ opening program.now limits.gates }
+        requires no_marks { self.old.marks.known.keys ≡ [] }
+        requires no_layer { self.old.layer.known.keys ≡ [] }
+        ensures own { IsStateOf program.now state.new }
+        ensures marks { IfOk result (λ _. AreReached (slots program.now limits.gates) limits.steps 0 self.new.marks.known.keys) }
+        ensures layer { IfOk result (λ _. IsLayer program.now (slots program.now limits.gates) limits.steps 0 self.new.layer.known.keys) }
+    {
+        let halt = note_opening(program, limits, state, steps, &mut self.marks)?;
+        self.arrive(alloc, program, state, halt)
+    }
+
     // The layer that was made. The next one is empty.
     fn take_layer(&mut self, alloc: Global) -> Layer
-        ensures taken { (r : Tables) → AreOwn r self.old.layer.known.keys → AreOwn r result.known.keys }
-        ensures empty { (r : Tables) → AreOwn r self.new.layer.known.keys }
+        ensures taken { result.known.keys ≡ self.old.layer.known.keys }
+        ensures empty { self.new.layer.known.keys ≡ [] }
+        ensures marks { self.new.marks.known.keys ≡ self.old.marks.known.keys }
     {
         mem::replace(&mut self.layer, Layer::new(alloc))
     }
 
-    // Goes on from each state of a layer, with each number that may be chosen there. Stops where the next layer has more than `most`.
+    // Goes on from each state of the layer of `depth` choices, with each number that may be chosen there. `false` where the next layer
+    // has more than `most`; then not all is done.
     fn next_layer<S: Ledger>(
         &mut self,
         alloc: Global,
         program: &Resolved,
         limits: Limits,
         most: u32,
+        depth: u8,
         layer: &Layer,
         state: &mut State,
         next: &mut State,
         steps: &mut Ticks<S>,
-    ) -> Result<(), AllocError>
+    ) -> Result<bool, AllocError>
         requires own { IsStateOf program.now state.old }
         requires next { IsStateOf program.now next.old }
-        requires taken { AreOwn program.now layer.now.known.keys }
-        requires layer { AreOwn program.now self.old.layer.known.keys }
+        requires layer { IsLayer program.now (slots program.now limits.gates) limits.steps depth layer.now.known.keys }
+        requires marks { AreReached (slots program.now limits.gates) limits.steps depth self.old.marks.known.keys }
+        requires empty { self.old.layer.known.keys ≡ [] }
         ensures own { IsStateOf program.now state.new }
         ensures next { IsStateOf program.now next.new }
-        ensures layer { IfOk result (λ _. AreOwn program.now self.new.layer.known.keys) }
+        ensures after { IfOk result (λ is_room. IsAfter program.now (slots program.now limits.gates) limits.steps depth self.new.marks.known.keys self.new.layer.known.keys is_room) }
     {
-        for number in 0..layer.len() {
+        let _ = depth;
+        let count = layer.len();
+        for number in 0..count {
             if !layer.thaw_at(number, state) {
-                return Ok(());
+                return Ok(false);
             }
             self.take_choices(alloc, program, limits, state, next, steps)?;
             if self.layer.len() > most as usize {
-                return Ok(());
+                return Ok(false);
             }
         }
-        Ok(())
+        Ok(true)
     }
 
     // Goes on from a state with each number that may be chosen there.
@@ -142,9 +182,8 @@ impl Search {
     ) -> Result<(), AllocError>
         requires own { IsStateOf program.now state.now }
         requires next { IsStateOf program.now next.old }
-        requires layer { AreOwn program.now self.old.layer.known.keys }
         ensures next { IsStateOf program.now next.new }
-        ensures layer { IfOk result (λ _. AreOwn program.now self.new.layer.known.keys) }
+        ensures from { IfOk result (λ _. FromState program.now (slots program.now limits.gates) limits.steps (machine_of state.now) (those_below (slots program.now limits.gates).processes (may (slots program.now limits.gates) (machine_of state.now))) self.old.marks.known.keys self.old.layer.known.keys self.new.marks.known.keys self.new.layer.known.keys) }
     {
         let numbers = wanted(program, limits, state);
         for process in numbers.as_slice() {
@@ -166,9 +205,9 @@ impl Search {
     ) -> Result<(), AllocError>
         requires own { IsStateOf program.now state.old }
         requires may { may (slots program.now limits.gates) (machine_of state.old) process ≡ true }
-        requires layer { AreOwn program.now self.old.layer.known.keys }
         ensures own { IsStateOf program.now state.new }
-        ensures layer { IfOk result (λ _. AreOwn program.now self.new.layer.known.keys) }
+        ensures marks { IfOk result (λ _. Adds self.old.marks.known.keys (chosen_marks (slots program.now limits.gates) limits.steps (machine_of state.old) process) self.new.marks.known.keys) }
+        ensures layer { IfOk result (λ _. AddsNode program.now self.old.layer.known.keys (chosen (slots program.now limits.gates) limits.steps (machine_of state.old) process) self.new.layer.known.keys) }
     {
         let halt = note_choice(program, limits, state, process, steps, &mut self.marks)?;
         self.arrive(alloc, program, state, halt)
@@ -183,8 +222,8 @@ impl Search {
         halt: Halt,
     ) -> Result<(), AllocError>
         requires own { IsStateOf program.now state.now }
-        requires layer { AreOwn program.now self.old.layer.known.keys }
-        ensures { IfOk result (λ _. AreOwn program.now self.new.layer.known.keys) }
+        ensures marks { IfOk result (λ _. self.new.marks.known.keys ≡ self.old.marks.known.keys) }
+        ensures layer { IfOk result (λ _. AddsNode program.now self.old.layer.known.keys (node_of halt (machine_of state.now)) self.new.layer.known.keys) }
     {
         let _ = program;
         match halt {

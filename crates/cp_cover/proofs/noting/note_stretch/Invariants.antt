@@ -1,5 +1,10 @@
-use Rattle.std.proofs.Common.{◌≡◌, true, false}
+use Rattle.std.proofs.Common.{◌≡◌, ◌-◌, List, true, false}
 use Rattle.cp_machine.specs.System.{machine_of, is_ready, is_pending, IsStateOf}
+use Rattle.cp_run.specs.Run.{stretch}
+use Rattle.cp_run.specs.Slots.{slots}
+use Rattle.cp_cover.specs.Marks.{Adds}
+use Rattle.cp_cover.specs.Reached.{stretch_marks}
+use Rattle.cp_cover.specs.declared.mark.Mark.{Mark}
 use Rattle.cp_cover.proofs.noting.note_stretch.Given as goal
 
 abbrev pub invariant-loop : goal.invariant-loop
@@ -8,4 +13,6 @@ invariant-loop g l =
       own : IsStateOf l.program l.state;
       ready : is_ready (machine_of l.state) l.going ≡ true;
       free : is_pending (machine_of l.state) ≡ false;
+      node : stretch (slots l.program l.limits.gates) l.limits.steps (machine_of l.fn.state) l.fn.pid ≡ stretch (slots l.program l.limits.gates) (l.limits.steps - l.counter) (machine_of l.state) l.going;
+      marks : (all : List Mark) → Adds l.marks.known.keys (stretch_marks (slots l.program l.limits.gates) (l.limits.steps - l.counter) (machine_of l.state) l.going) all → Adds l.fn.marks.known.keys (stretch_marks (slots l.program l.limits.gates) l.limits.steps (machine_of l.fn.state) l.fn.pid) all;
     }

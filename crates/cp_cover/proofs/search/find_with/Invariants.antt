@@ -1,5 +1,6 @@
 use Rattle.cp_machine.specs.System.{IsStateOf}
-use Rattle.cp_cover.specs.Layers.{AreOwn}
+use Rattle.cp_run.specs.Slots.{slots}
+use Rattle.cp_cover.specs.Layers.{AreReached, IsLayer}
 use Rattle.cp_cover.proofs.search.find_with.Given as goal
 
 abbrev pub invariant-loop-depth : goal.invariant-loop-depth
@@ -7,5 +8,6 @@ invariant-loop-depth g l =
     record {
       own : IsStateOf l.program l.state;
       next : IsStateOf l.program l.next;
-      layer : AreOwn l.program l.search.layer.known.keys;
+      layer : IsLayer l.program (slots l.program l.limits.gates) l.limits.steps l.depth l.search.layer.known.keys;
+      marks : AreReached (slots l.program l.limits.gates) l.limits.steps l.depth l.search.marks.known.keys;
     }

@@ -1,5 +1,6 @@
 use Rattle.cp_machine.specs.System.{IsStateOf}
-use Rattle.cp_cover.specs.Layers.{AreOwn}
+use Rattle.cp_run.specs.Slots.{slots}
+use Rattle.cp_cover.specs.Layers.{FromLayer}
 use Rattle.cp_cover.proofs.search.Search.next_layer.Given as goal
 
 abbrev pub invariant-loop-number : goal.invariant-loop-number
@@ -7,5 +8,5 @@ invariant-loop-number g l =
     record {
       own : IsStateOf l.program l.state;
       next : IsStateOf l.program l.next;
-      layer : AreOwn l.program l.self.layer.known.keys;
+      from : FromLayer l.program (slots l.program l.limits.gates) l.limits.steps l.depth l.layer.known.keys l.number l.initial.self.marks.known.keys l.self.marks.known.keys l.self.layer.known.keys;
     }
