@@ -1,9 +1,11 @@
 -- What calls, starts, tests and waits come to, by what their parts answer.
-use Rattle.std.proofs.Common.{◌≡◌, ◌∙◌, ℕ, ◌<◌, ◌∷◌, Bool, true, false, not, if◌then◌else◌, List, length, Option, None, Result, Ok, Err, refl, ap, sym, arith}
+use Rattle.std.proofs.Common.{◌≡◌, ◌∙◌, ℕ, ◌<◌, ◌∷◌, Bool, true, false, not, if◌then◌else◌, List, length, Option, None, Result, Ok, Err, IfOk, refl, ap, sym, arith}
 use Rattle.std.specs.Prelude.{ℤ, pos, slice_set, slice_index_or}
+use Rattle.std.specs.Result.{IsErrAnd}
 use denote.Enum.Bare.{sameb}
 use Rattle.std.proofs.lemmas.List.{length-map, length-set}
 use Rattle.cp_slots.specs.Tables.{Tables, component_at}
+use Rattle.cp_slots.specs.declared.item.Arm.{Arm}
 use Rattle.cp_slots.specs.declared.place.Argument.{Argument}
 use Rattle.cp_slots.specs.declared.place.ComponentPlace.{ComponentPlace}
 use Rattle.cp_slots.specs.declared.place.Expression.{Expression}
@@ -27,7 +29,7 @@ use Rattle.cp_machine.specs.Kernel.{delayed}
 use Rattle.cp_machine.specs.Machine.{Machine, Thread, is_initialised, is_uninitialised, machine_of, monitor_of, phase_at, thread_at, thread_of, with_phase, with_stack}
 use Rattle.cp_machine.specs.Memory.{address_of, arguments_of, component_of, parameters_bound, value_of}
 use Rattle.cp_machine.specs.Stack.{rest_of}
-use Rattle.cp_machine.specs.Statements.{Stepped, branch, fault, local, until, while_do, with_value}
+use Rattle.cp_machine.specs.Statements.{Stepped, arm_for, branch, case_of, fault, local, until, while_do, with_value}
 
 -- ---- a value, or its run error
 
@@ -36,6 +38,11 @@ value_goes failed go e = ap (λ o. with_value o failed go) e
 
 pub value_fails : {A : Type 0} {o : Result A ErrorName} {x : ErrorName} (failed : ErrorName → Stepped) (go : A → Stepped) → o ≡ Err x → with_value o failed go ≡ failed x
 value_fails failed go e = ap (λ o. with_value o failed go) e
+
+-- what is handed on is an error
+pub none_well : {A E : Type 0} (r : Result A E) (P : E → Type 0) (Q : A → Type 0) → IsErrAnd r P → IfOk r Q
+none_well (Ok a) P Q h = absurd h
+none_well (Err e) P Q h = tt
 
 -- ---- the processes, after one of them alone changed
 
@@ -92,6 +99,19 @@ module _ (m : Machine) (pid line : ℕ) (test : Expression) (list : Option ℕ) 
 
   pub until_goes : (v : ℤ) (b : Bool) → value_of m pid test ≡ Ok v → is_true v ≡ b → until m pid line test list again next es ≡ local (with_stack m pid (if b then rest_of next es else rest_of list (Rest again ∷ es)))
   until_goes v b e is = value_goes (fault m pid line) (λ v. local (with_stack m pid (if is_true v then rest_of next es else rest_of list (Rest again ∷ es)))) e ∙ ap (λ b. local (with_stack m pid (if b then rest_of next es else rest_of list (Rest again ∷ es)))) is
+
+module _ (m : Machine) (pid line : ℕ) (selector : Expression) (arms : List Arm) (rest : List Entry) where
+  pub case_fails : (x : ErrorName) → value_of m pid selector ≡ Err x → case_of m pid line selector arms rest ≡ fault m pid line x
+  case_fails x e = value_fails (fault m pid line) (λ v. with_value (arm_for v arms) (fault m pid line) (λ list. local (with_stack m pid (rest_of list rest)))) e
+
+  chosen : (v : ℤ) → value_of m pid selector ≡ Ok v → case_of m pid line selector arms rest ≡ with_value (arm_for v arms) (fault m pid line) (λ list. local (with_stack m pid (rest_of list rest)))
+  chosen v e = value_goes (fault m pid line) (λ v. with_value (arm_for v arms) (fault m pid line) (λ list. local (with_stack m pid (rest_of list rest)))) e
+
+  pub case_no_arm : (v : ℤ) (x : ErrorName) → value_of m pid selector ≡ Ok v → arm_for v arms ≡ Err x → case_of m pid line selector arms rest ≡ fault m pid line x
+  case_no_arm v x e none = chosen v e ∙ value_fails (fault m pid line) (λ list. local (with_stack m pid (rest_of list rest))) none
+
+  pub case_arm : (v : ℤ) (list : Option ℕ) → value_of m pid selector ≡ Ok v → arm_for v arms ≡ Ok list → case_of m pid line selector arms rest ≡ local (with_stack m pid (rest_of list rest))
+  case_arm v list e arm = chosen v e ∙ value_goes (fault m pid line) (λ list. local (with_stack m pid (rest_of list rest))) arm
 
 -- ---- calls
 
