@@ -2,7 +2,7 @@
 
 ghost use Rattle.std.specs.Prelude.{◌≡◌, ◌≤◌, ℕ, List, [], length, slice_get, Some, IfOk};
 ghost use Rattle.cp_slots.specs.Tables.{Tables};
-ghost use Rattle.cp_machine.specs.System.{Machine, machine_of, output_of, IsStateOf};
+ghost use Rattle.cp_machine.specs.System.{Machine, machine_of, opening, output_of, IsStateOf};
 ghost use Rattle.cp_ends.specs.Answer.{slot_graph};
 ghost use Rattle.cp_ends.specs.Arrivals.{goal_at};
 ghost use Rattle.cp_ends.specs.Graph.{ArrivesAt, LeadsToPlace};
@@ -62,33 +62,7 @@ fn search_with<S: Ledger>(
     let mut steps: Ticks<S> = Ticks::new(blank);
     let mut state = State::start(alloc, program, limits.gates)?;
     let mut search = SearchAtOnce::new(alloc, program, &state)?;
-    let arrival = open(
-        alloc,
-        program,
-        limits,
-        &mut state,
-        &mut search.told,
-        &mut steps,
-    )?;
-    let mut next = state.copy(alloc)?;
-    let is_room = search.follow(
-        alloc,
-        program,
-        limits,
-        most,
-        &mut next,
-        arrival,
-        Origin::start(),
-        &mut steps,
-    )?;
-    if !is_room {
-        search.found.is_whole = false;
-        return Ok(search.found);
-    }
-    let is_whole = search.go_on(
-        alloc, program, limits, most, &mut state, &mut next, &mut steps,
-    )?;
-    search.found.is_whole = is_whole;
+    search.fill(alloc, program, limits, most, &mut state, &mut steps)?;
     Ok(search.found)
 }
 
@@ -110,6 +84,74 @@ impl SearchAtOnce {
             told: Vec::new(alloc),
             ahead: state.copy(alloc)?,
         })
+    }
+
+    // Goes on from the opening state, and from each state that is kept. Notes whether these are all.
+    fn fill<S: Ledger>(
+        &mut self,
+        alloc: Global,
+        program: &Resolved,
+        limits: Limits,
+        most: u32,
+        state: &mut State,
+        steps: &mut Ticks<S>,
+    ) -> Result<(), AllocError>
+        requires own { IsStateOf program.now state.old }
+        requires start { machine_of state.old ≡ opening program.now limits.gates }
+        requires kept { self.old.found.kept.known.entries ≡ [] }
+        requires ends { self.old.found.ends.items ≡ [] }
+        requires values { self.old.found.values.items ≡ [] }
+        requires told { self.old.told.items ≡ [] }
+        requires ahead { IsStateOf program.now self.old.ahead }
+        ensures { IfOk result (λ _. Answers program.now (slot_graph program.now limits.gates limits.steps) (HasLeg program.now limits.gates) most 8 self.new.found self.new.found.is_whole) }
+    {
+        let arrival = open(alloc, program, limits, state, &mut self.told, steps)?;
+        let mut next = state.copy(alloc)?;
+        self.go_through(
+            alloc, program, limits, most, state, &mut next, arrival, steps,
+        )
+    }
+
+    // The same, from where the opening stretch came to. Borrows both states, so that they are let go in one place.
+    fn go_through<S: Ledger>(
+        &mut self,
+        alloc: Global,
+        program: &Resolved,
+        limits: Limits,
+        most: u32,
+        state: &mut State,
+        next: &mut State,
+        arrival: Arrival,
+        steps: &mut Ticks<S>,
+    ) -> Result<(), AllocError>
+        requires own { IsStateOf program.now state.old }
+        requires next { IsStateOf program.now next.old }
+        requires quiet { output_of (machine_of next.old) ≡ [] }
+        requires ahead { IsStateOf program.now self.old.ahead }
+        requires kept { self.old.found.kept.known.entries ≡ [] }
+        requires ends { self.old.found.ends.items ≡ [] }
+        requires values { self.old.found.values.items ≡ [] }
+        requires goal { goal_at arrival (machine_of next.old) ≡ (slot_graph program.now limits.gates limits.steps).start.goal }
+        requires shown { self.old.told.items ≡ (slot_graph program.now limits.gates limits.steps).start.shown }
+        ensures { IfOk result (λ _. Answers program.now (slot_graph program.now limits.gates limits.steps) (HasLeg program.now limits.gates) most 8 self.new.found self.new.found.is_whole) }
+    {
+        let is_room = self.follow(
+            alloc,
+            program,
+            limits,
+            most,
+            next,
+            arrival,
+            Origin::start(),
+            steps,
+        )?;
+        if !is_room {
+            self.found.is_whole = false;
+            return Ok(());
+        }
+        let is_whole = self.go_on(alloc, program, limits, most, state, next, steps)?;
+        self.found.is_whole = is_whole;
+        Ok(())
     }
 
     // Goes on from each state that is kept. `false` where there is a state too many.

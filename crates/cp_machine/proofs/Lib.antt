@@ -1,5 +1,6 @@
 pub mod Alike
 pub mod CallerLemmas
+pub mod CallOutcomes
 pub mod CopyLemmas
 pub mod Covered
 pub mod Executing

@@ -1,5 +1,6 @@
 pub mod Alike
 pub mod Choosing
+pub mod Failing
 pub mod Owning
 pub mod Prefixes
 pub mod Running

@@ -1,6 +1,7 @@
 -- What is written at a token.
-use Rattle.std.proofs.Common.{Bor, ◌≡◌, ℕ, nat_eq, Bool, true, false, cond, if◌then◌else◌, List, [], ◌∷◌, ◌++◌, map, Option, Some, None, option_map, is_some, refl, sym, ap, ◌∙◌}
+use Rattle.std.proofs.Common.{Bor, ◌≡◌, ℕ, nat_eq, Bool, true, false, cond, if◌then◌else◌, List, [], ◌∷◌, ◌++◌, map, Option, Some, None, option_map, is_some, Result, Ok, Err, refl, sym, ap, ◌∙◌}
 use Rattle.std.specs.Map.{lookup}
+use Rattle.std.specs.Prelude.{OnOk}
 use Rattle.std.specs.Option.{option_copied}
 use Rattle.std.proofs.lemmas.List.{map-append}
 use Rattle.indexmap.specs.IndexMap.{IndexMap, insert_entry}
@@ -52,3 +53,15 @@ added s new n d h i = ap (map shape_entry) (i ∙ insert_entry-new nat_eq s.item
 
 pub keep_new : (s new : code_shapes.Shapes) (n : ℕ) (d : code_shape.Shape) → is_some (lookup (nat_eq n) s.items.entries) ≡ false → new.items.entries ≡ insert_entry nat_eq s.items.entries n d → shapes_of new ≡ with_shape (shapes_of s) n (shape_view d)
 keep_new s new n d h i = rw (kept_here s n, h) (added s new n d h i)
+
+kept_by : (s new : code_shapes.Shapes) (n : ℕ) (d : code_shape.Shape) (b : Bool) → is_some (lookup (nat_eq n) s.items.entries) ≡ b → new.items.entries ≡ (if b then s.items.entries else insert_entry nat_eq s.items.entries n d) → shapes_of new ≡ with_shape (shapes_of s) n (shape_view d)
+unfolding shapes_of
+kept_by s new n d true h e = ap (map shape_entry) e ∙ keep_again s n (shape_view d) h
+kept_by s new n d false h e = keep_new s new n d h e
+
+pub kept_first : (s new : code_shapes.Shapes) (n : ℕ) (d : code_shape.Shape) → new.items.entries ≡ (if is_some (lookup (nat_eq n) s.items.entries) then s.items.entries else insert_entry nat_eq s.items.entries n d) → shapes_of new ≡ with_shape (shapes_of s) n (shape_view d)
+kept_first s new n d e = kept_by s new n d (is_some (lookup (nat_eq n) s.items.entries)) refl e
+
+pub ok_on : {A E : Type 0} (P Q : Type 0) (r : Result A E) → (P → Q) → OnOk r P → OnOk r Q
+ok_on P Q (Ok a) f h = f h
+ok_on P Q (Err e) f h = h

@@ -1,6 +1,8 @@
 //! What is written at the tokens of a program.
 
-ghost use Rattle.std.specs.Prelude.{◌≡◌, option_map, Some, IfErr, OnOk, []};
+ghost use Rattle.std.specs.Prelude.{◌≡◌, option_map, Some, IfErr, OnOk, [], if◌then◌else◌, is_some, nat_eq};
+ghost use Rattle.std.specs.Map.{lookup};
+ghost use Rattle.indexmap.specs.IndexMap.{insert_entry};
 ghost use Rattle.cp_scope.specs.Scopes as spec;
 ghost use Rattle.cp_scope.specs.View.{shape_view, shapes_of, heading_view};
 ghost use Rattle.cp_scope.specs.declared.fault.CheckFault.TheVariants as check_fault;
@@ -13,6 +15,21 @@ use cp_text::Name;
 use cp_tree::SystemKind;
 use indexmap::IndexMap;
 use std::alloc::Global;
+
+// Keeps a value at a number, where nothing was kept. A value that is let go here may be of any type, so its parts are not looked at.
+fn keep_first<T: Drop>(
+    items: &mut IndexMap<usize, T>,
+    at: usize,
+    value: T,
+) -> Result<(), CheckFault>
+    ensures kept { OnOk result (items.new.entries ≡ (if is_some (lookup (nat_eq at) items.old.entries) then items.old.entries else insert_entry nat_eq items.old.entries at value)) }
+    ensures memory { IfErr result (λ e. e ≡ check_fault.Memory) }
+{
+    if !items.contains_key(&at) {
+        items.insert(at, value)?;
+    }
+    Ok(())
+}
 
 /// Arrays, records, system types, headings and bodies, by the tokens where they are written.
 #[derive(Drop)]
@@ -44,10 +61,7 @@ impl Shapes {
         ensures ok { OnOk result (shapes_of self.new ≡ spec.with_shape (shapes_of self.old) at (shape_view shape)) }
         ensures memory { IfErr result (λ e. e ≡ check_fault.Memory) }
     {
-        if !self.items.contains_key(&at) {
-            self.items.insert(at, shape)?;
-        }
-        Ok(())
+        keep_first(&mut self.items, at, shape)
     }
 
     /// An array's index and elements.

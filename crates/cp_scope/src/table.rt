@@ -1,6 +1,6 @@
 //! What is known while a program is checked.
 
-ghost use Rattle.std.specs.Prelude.{◌≡◌, option_map, map, Some, IfErr, IfOk, OnOk};
+ghost use Rattle.std.specs.Prelude.{◌≡◌, option_map, map, Some, IfErr, IfOk, OnOk, false};
 ghost use Rattle.cp_scope.specs.Scopes as spec;
 ghost use Rattle.cp_scope.specs.View.{scopes_of, scope_of, shapes_of, shape_view};
 ghost use Rattle.cp_scope.specs.declared.fault.CheckFault.TheVariants as check_fault;
@@ -49,12 +49,20 @@ impl Table {
         ensures memory { IfErr result (λ e. e ≡ check_fault.Memory) }
     {
         let mut table = Table::empty(alloc);
-        table.add_types(alloc)?;
-        table.add_constants(alloc)?;
-        table.add_functions(alloc)?;
-        table.add_procedures(alloc)?;
-        table.enter(alloc, false)?;
+        table.add_predeclared(alloc)?;
         Ok(table)
+    }
+
+    // Borrows the table, which is let go in one place where memory is refused.
+    fn add_predeclared(&mut self, alloc: Global) -> Result<(), CheckFault>
+        ensures ok { OnOk result (scopes_of self.new ≡ spec.enter false (spec.with_procedures (spec.with_functions (spec.with_constants (spec.with_types (scopes_of self.old)))))) }
+        ensures memory { IfErr result (λ e. e ≡ check_fault.Memory) }
+    {
+        self.add_types(alloc)?;
+        self.add_constants(alloc)?;
+        self.add_functions(alloc)?;
+        self.add_procedures(alloc)?;
+        self.enter(alloc, false)
     }
 
     fn add_types(&mut self, alloc: Global) -> Result<(), CheckFault>

@@ -1,5 +1,5 @@
 -- What is added to a graph, choice by choice and state by state, makes it the graph of the states.
-use Rattle.std.proofs.Common.{◌≡◌, ◌⊎◌, inl, inr, ⊎_elim, ◌<◌, ◌≤◌, ◌+◌, ◌∙◌, ℕ, zero, suc, Bool, true, List, [], ◌∷◌, ◌++◌, Option, None, Some, map, length, get_or, refl, sym, ap, subst, arith, length-append, append_assoc}
+use Rattle.std.proofs.Common.{◌≡◌, ◌⊎◌, inl, inr, ⊎_elim, ◌<◌, ◌≤◌, ◌+◌, ◌∙◌, ℕ, zero, suc, Bool, true, List, [], ◌∷◌, ◌++◌, Option, None, Some, Result, Ok, Err, IfOk, map, length, get_or, refl, sym, ap, subst, arith, length-append, append_assoc}
 use Rattle.std.specs.Prelude.{Contains, slice_get}
 use Rattle.std.specs.List.{AllByRecursion as Each}
 use Rattle.std.proofs.Math.ListN.{get_or-append}
@@ -223,3 +223,8 @@ module _ {S : Type 0} (sys : System S) (inside waiting : S → ℕ → Bool) (st
             round = new.round;
             fair = new.fair;
           }
+
+-- what holds of what comes out well
+pub ok_then : {A E : Type 0} (r : Result A E) (P Q : A → Type 0) → IfOk r P → ((a : A) → P a → Q a) → IfOk r Q
+ok_then (Ok a) P Q h f = f a h
+ok_then (Err e) P Q h f = h

@@ -1,6 +1,7 @@
 pub mod Adding
 pub mod Alike
 pub mod Edges
+pub mod Failing
 pub mod Falling
 pub mod Graphs
 pub mod Insides

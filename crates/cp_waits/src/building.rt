@@ -2,7 +2,7 @@
 
 ghost use Rattle.std.specs.Prelude.{◌≡◌, ◌≤◌, ◌<◌, ◌^◌, ◌∷◌, ℕ, List, Some, IfOk, [], length, slice_get, true};
 ghost use Rattle.cp_slots.specs.Tables.{Tables};
-ghost use Rattle.cp_machine.specs.System.{Machine, machine_of, output_of, IsStateOf};
+ghost use Rattle.cp_machine.specs.System.{Machine, machine_of, opening, output_of, IsStateOf};
 ghost use Rattle.cp_machine.specs.declared.gates.Gates as slot_gates;
 ghost use Rattle.cp_run.specs.Run.{Choosing, may, those_below};
 ghost use Rattle.cp_run.specs.Slots.{slots};
@@ -63,17 +63,37 @@ fn built<S: Ledger>(
         graph: Graph::new(alloc, program.processes()),
     };
     let mut state = State::start(alloc, program, limits.gates)?;
-    let mut passing = Passing::new(builder.graph.everybody());
-    let came = open(alloc, program, limits, &mut state, &mut passing, &mut steps)?;
-    builder.note_standstill(came, Origin::Start)?;
-    let mut next = state.copy(alloc)?;
-    builder.go_on(
-        alloc, program, limits, found, &mut state, &mut next, &mut steps,
-    )?;
+    builder.fill(alloc, program, limits, found, &mut state, &mut steps)?;
     Ok(builder.graph)
 }
 
 impl Builder {
+    // Follows the opening stretch, and takes the choices of each state.
+    fn fill<S: Ledger>(
+        &mut self,
+        alloc: Global,
+        program: &Resolved,
+        limits: Limits,
+        found: &Found,
+        state: &mut State,
+        steps: &mut Ticks<S>,
+    ) -> Result<(), AllocError>
+        requires own { IsStateOf program.now state.old }
+        requires start { machine_of state.old ≡ opening program.now limits.gates }
+        requires kept { HasFindings program.now found.now }
+        requires processes { self.old.graph.processes ≡ length program.now.processes }
+        requires standstills { self.old.graph.standstills.items ≡ [] }
+        requires edges { self.old.graph.edges.items ≡ [] }
+        requires ends { self.old.graph.ends.items ≡ [] }
+        ensures { IfOk result (λ _. IsGraphOfAll program.now limits.gates limits.steps found.now self.new.graph) }
+    {
+        let mut passing = Passing::new(self.graph.everybody());
+        let came = open(alloc, program, limits, state, &mut passing, steps)?;
+        self.note_standstill(came, Origin::Start)?;
+        let mut next = state.copy(alloc)?;
+        self.go_on(alloc, program, limits, found, state, &mut next, steps)
+    }
+
     // Takes the choices of each state.
     fn go_on<S: Ledger>(
         &mut self,

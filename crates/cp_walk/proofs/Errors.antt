@@ -25,3 +25,8 @@ err_then (Err e) P Q h f = f e h
 pub ok_as : {A : Type 0} (r : Result A ExploreFault) (P Q : A → Type 0) → IfOk r P → ((a : A) → P a → Q a) → IfOk r Q
 ok_as (Ok a) P Q h f = f a h
 ok_as (Err e) P Q h f = h
+
+-- what is handed on is an error
+pub not_ok : {A : Type 0} (r : Result A ExploreFault) (P : ExploreFault → Type 0) (Q : A → Type 0) → IsErrAnd r P → IfOk r Q
+not_ok (Ok a) P Q h = absurd h
+not_ok (Err e) P Q h = tt

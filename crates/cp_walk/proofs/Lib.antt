@@ -20,6 +20,7 @@ pub mod Parting
 pub mod Placing
 pub mod Repeats
 pub mod Replaying
+pub mod Reporting
 pub mod Starting
 pub mod Walks
 pub mod Whole

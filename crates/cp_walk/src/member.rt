@@ -6,11 +6,8 @@ ghost use Rattle.cp_walk.specs.Cutting.{rows_behind};
 ghost use Rattle.cp_walk.specs.Rows.{line_of, IsTooMany};
 
 use crate::fault::ExploreFault;
-use crate::memo::Walked;
-use crate::one_thread::copies;
+use crate::one_thread::walk_on;
 use crate::row::Row;
-use crate::walk::walk_from;
-use crate::word::word_of;
 use cp_machine::{State, Ticks, Unwatched};
 use cp_run::{Limits, choose, is_over, may, open};
 use cp_slots::Resolved;
@@ -63,25 +60,8 @@ pub fn member_rows<S: Ledger, C: Ledger>(
         );
     }
     let left = limits.choices - word.len() as u8;
-    let Ok(mut kept) = copies(alloc, program, &state, left) else {
-        return Err(ExploreFault::Memory);
-    };
-    let mut path = word_of(word);
-    let Ok(mut walked) = Walked::new(alloc, &state) else {
-        return Err(ExploreFault::Memory);
-    };
-    walk_from(
-        alloc,
-        program,
-        limits,
-        &mut state,
-        halt,
-        kept.as_mut_slice(),
-        &mut path,
-        &mut rows,
-        &mut walked,
-        &mut steps,
-        &mut calls,
+    walk_on(
+        alloc, program, limits, &mut state, halt, word, left, &mut rows, &mut steps, &mut calls,
     )?;
     Ok(rows)
 }

@@ -1,20 +1,22 @@
 //! The exploration of all schedules.
 
-ghost use Rattle.std.specs.Prelude.{◌≡◌, ◌<◌, ◌≤◌, ◌+◌, length, map, All, IfOk, IfErr, vec_len};
+ghost use Rattle.std.specs.Prelude.{◌≡◌, ◌<◌, ◌≤◌, ◌+◌, ◌++◌, length, map, All, IfOk, IfErr, vec_len};
 ghost use Rattle.cp_machine.specs.System.{machine_of, IsStateOf};
+ghost use Rattle.cp_run.specs.Code.{node_of};
 ghost use Rattle.cp_run.specs.Slots.{slots};
 ghost use Rattle.cp_run.specs.Table.{table};
-ghost use Rattle.cp_walk.specs.Beginnings.{beginnings, words_of_rows};
+ghost use Rattle.cp_walk.specs.Beginnings.{beginnings, words_in, words_of_rows};
 ghost use Rattle.cp_walk.specs.Rows.{line_of, IsTooMany};
+ghost use Rattle.cp_walk.specs.Walk.{behind, walk, IsDue};
 
 use crate::fault::ExploreFault;
 use crate::job::Job;
 use crate::memo::Walked;
-use crate::row::{Rows, Table};
+use crate::row::{Row, Rows, Table};
 use crate::walk::walk_from;
-use arrayvec::ArrayVec;
+use crate::word::word_of;
 use cp_machine::{State, Ticks};
-use cp_run::{Limits, open};
+use cp_run::{Halt, Limits, open};
 use cp_slots::Resolved;
 use std::alloc::{AllocError, Global};
 use std::marker::Brand;
@@ -55,25 +57,17 @@ fn explore_counted<S: Ledger, C: Ledger>(
     let Ok(mut first) = State::start(alloc, program, limits.gates) else {
         return Err(ExploreFault::Memory);
     };
-    let Ok(mut kept) = copies(alloc, program, &first, limits.choices) else {
-        return Err(ExploreFault::Memory);
-    };
     let halt = open(program, limits, &mut first, &mut steps, calls);
-    let mut word = ArrayVec::new();
     let mut rows = Vec::new(alloc);
-    let Ok(mut walked) = Walked::new(alloc, &first) else {
-        return Err(ExploreFault::Memory);
-    };
-    walk_from(
+    walk_on(
         alloc,
         program,
         limits,
         &mut first,
         halt,
-        kept.as_mut_slice(),
-        &mut word,
+        &[],
+        limits.choices,
         &mut rows,
-        &mut walked,
         &mut steps,
         calls,
     )?;
@@ -82,8 +76,53 @@ fn explore_counted<S: Ledger, C: Ledger>(
     })
 }
 
-/// So many copies of a state.
-pub fn copies(
+/// Walks from a node on, of which no states are known: the rows that begin with `word`, after those that are there.
+pub fn walk_on<S: Ledger, C: Ledger>(
+    alloc: Global,
+    program: &Resolved,
+    limits: Limits,
+    state: &mut State,
+    halt: Halt,
+    word: &[u8],
+    left: u8,
+    rows: &mut Vec<Row>,
+    steps: &mut Ticks<S>,
+    calls: &mut Ticks<C>,
+) -> Result<(), ExploreFault>
+    requires own { IsStateOf program.now state.old }
+    requires room { length word.now + left ≤ 20 }
+    requires deep { length word.now + left ≡ limits.choices }
+    requires rows { length rows.old.items ≤ 50000 }
+    requires due { IsDue (slots program.now limits.gates) (node_of halt (machine_of state.old)) }
+    ensures rows { IfOk result (λ _. map line_of rows.new.items ≡ map line_of rows.old.items ++ map (behind word.now) (walk (slots program.now limits.gates) limits.steps left (node_of halt (machine_of state.old)))) }
+    ensures few { IfOk result (λ _. length rows.new.items ≤ 50000) }
+    ensures many { IfErr result (λ e. IsTooMany e → 50000 < length rows.old.items + length (walk (slots program.now limits.gates) limits.steps left (node_of halt (machine_of state.old)))) }
+    ensures calls { IfOk result (λ _. calls.new + 1 ≤ calls.old + beginnings (words_in (walk (slots program.now limits.gates) limits.steps left (node_of halt (machine_of state.old))))) }
+{
+    let Ok(mut kept) = copies(alloc, program, state, left) else {
+        return Err(ExploreFault::Memory);
+    };
+    let mut path = word_of(word);
+    let Ok(mut walked) = Walked::new(alloc, state) else {
+        return Err(ExploreFault::Memory);
+    };
+    walk_from(
+        alloc,
+        program,
+        limits,
+        state,
+        halt,
+        kept.as_mut_slice(),
+        &mut path,
+        rows,
+        &mut walked,
+        steps,
+        calls,
+    )
+}
+
+// So many copies of a state.
+fn copies(
     alloc: Global,
     program: &Resolved,
     state: &State,

@@ -1,7 +1,7 @@
 //! The report of a table.
 
-ghost use Rattle.std.specs.Prelude.{◌≡◌, ◌++◌, map, IfOk, string_bytes, codes};
-ghost use Rattle.indexmap.specs.IndexMap.{values};
+ghost use Rattle.std.specs.Prelude.{◌≡◌, ◌++◌, [], map, IfOk, if◌then◌else◌, length, string_bytes, codes};
+ghost use Rattle.indexmap.specs.IndexMap.{index_map_len, values};
 ghost use Rattle.cp_natural.specs.Decimal.{number_text};
 ghost use Rattle.cp_run.specs.Table.{each};
 ghost use Rattle.cp_walk.specs.Groups.{tally, tally_text};
@@ -68,6 +68,37 @@ fn push_line(text: &mut String, name: &str, number: usize) -> Result<(), AllocEr
     text.push_str("\n")
 }
 
+// The lines of the rows, if they are wanted, and of the outcomes. Borrows these, which are let go in one place.
+fn push_parts(
+    text: &mut String,
+    program: &Resolved,
+    all: &[Row],
+    groups: &IndexMap<OutcomeKey, Group>,
+    rows: bool,
+) -> Result<(), AllocError>
+    ensures { IfOk result (λ _. string_bytes text.new ≡ string_bytes text.old ++ (if rows then rows_text program.now.names (map line_of all.now) else []) ++ codes "schedules " ++ number_text (length all.now) ++ codes "\n" ++ codes "outcomes " ++ number_text (index_map_len groups.now) ++ codes "\n" ++ each (tally_text program.now.names) (map tally (values groups.now))) }
+{
+    if rows {
+        push_rows(text, program, all)?;
+    }
+    push_line(text, "schedules ", all.len())?;
+    push_line(text, "outcomes ", groups.len())?;
+    push_groups(text, program, groups)
+}
+
+fn push_report(
+    alloc: Global,
+    text: &mut String,
+    program: &Resolved,
+    all: &[Row],
+    rows: bool,
+) -> Result<(), AllocError>
+    ensures { IfOk result (λ _. string_bytes text.new ≡ string_bytes text.old ++ report_text program.now.names (map line_of all.now) rows) }
+{
+    let groups = grouped(alloc, all)?;
+    push_parts(text, program, all, &groups, rows)
+}
+
 /// The text of a table: with `rows` a line for each row, and then the distinct outcomes in order of their first rows, each with its
 /// count and first word.
 pub fn report(
@@ -78,15 +109,8 @@ pub fn report(
 ) -> Result<Report, AllocError>
     ensures { IfOk result (λ r. r.text ≡ report_text program.now.names (map line_of table.now.rows) rows) }
 {
-    let all = table.rows.as_slice();
-    let groups = grouped(alloc, all)?;
     let mut lines = String::new(alloc);
-    if rows {
-        push_rows(&mut lines, program, all)?;
-    }
-    push_line(&mut lines, "schedules ", all.len())?;
-    push_line(&mut lines, "outcomes ", groups.len())?;
-    push_groups(&mut lines, program, &groups)?;
+    push_report(alloc, &mut lines, program, table.rows.as_slice(), rows)?;
     Ok(Report {
         text: Text::new(lines),
     })

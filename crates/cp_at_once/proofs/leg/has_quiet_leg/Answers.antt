@@ -27,3 +27,9 @@ returns-clause-kept g c = λ moved this. c.take_leg-event.ensures.kept moved (ma
 
 pub returns-then-not-is_quiet-clause-kept : goal.returns-then-not-is_quiet-clause-kept
 returns-then-not-is_quiet-clause-kept g c = λ moved this. c.take_leg-event.ensures.kept moved (machine_of c.args.state.now) (subst (KeepBodies moved (machine_of c.args.state.now)) (sym c.take_moved.ensures.same) (keep_refl moved (machine_of c.args.state.now))) this
+
+pub returns-then-not-is_quiet-clause-ahead : goal.returns-then-not-is_quiet-clause-ahead
+returns-then-not-is_quiet-clause-ahead g c = c.take_leg-event.ensures.own
+
+pub returns-clause-ahead : goal.returns-clause-ahead
+returns-clause-ahead g c = c.take_leg-event.ensures.own

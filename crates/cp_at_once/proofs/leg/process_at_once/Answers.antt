@@ -51,3 +51,27 @@ loop-pid-preserved g c =
       ahead = c.has_quiet_leg.ensures.ahead;
       kept = c.has_quiet_leg.ensures.kept (has_moved c.add.new.self) c.add.ensures.this;
     }
+
+pub returns-then-is_some-clause-ahead : goal.returns-then-is_some-clause-ahead
+returns-then-is_some-clause-ahead g c = c.requires.ahead
+
+pub returns-then-is_some-clause-leg : goal.returns-then-is_some-clause-leg
+returns-then-is_some-clause-leg g c = tt
+
+pub returns-then-is_some-clause-may : goal.returns-then-is_some-clause-may
+returns-then-is_some-clause-may g c = tt
+
+pub has_quiet_leg-requires-clause-own : goal.has_quiet_leg-requires-clause-own
+has_quiet_leg-requires-clause-own g c = c.requires.own
+
+pub has_quiet_leg-requires-clause-quiet : goal.has_quiet_leg-requires-clause-quiet
+has_quiet_leg-requires-clause-quiet g c = c.requires.quiet
+
+pub returns-then-has_quiet_leg-clause-ahead : goal.returns-then-has_quiet_leg-clause-ahead
+returns-then-has_quiet_leg-clause-ahead g c = c.has_quiet_leg.ensures.ahead
+
+pub returns-clause-leg : goal.returns-clause-leg
+returns-clause-leg g c = tt
+
+pub returns-clause-may : goal.returns-clause-may
+returns-clause-may g c = tt

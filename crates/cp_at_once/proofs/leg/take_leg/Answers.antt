@@ -6,6 +6,7 @@ use Rattle.cp_machine.proofs.CallerLemmas.{local_ready, pending_is, ready_thread
 use Rattle.cp_ends.proofs.LocalOutput.{local_output}
 use Rattle.cp_at_once.specs.Legs.{EndsQuietly}
 use Rattle.cp_at_once.proofs.Legs.{ends_here, ends_later, kept_by}
+use Rattle.std.proofs.lemmas.Bool.{false≢true}
 use Rattle.cp_at_once.proofs.leg.take_leg.Goals as goal
 use Rattle.cp_at_once.proofs.leg.take_leg.Goals.{then-not-local_step+in-Local+else-is_some, else-not-local_step}
 
@@ -64,3 +65,28 @@ returns-then-is_some-clause-kept g c = λ moved before k this.
     let none : c.local_step.result ≡ false = search in
     let same = c.local_step.ensures.same none in
     kept_by r moved before (machine_of c.loop.state) (machine_of c.step-event.new.state) p Local (c.loop.invariant.kept moved before k this) this (ap (λ x. step_at r x p) (sym same) ∙ c.in-Local.ensures.after))
+
+pub local_step-requires-clause-own : goal.local_step-requires-clause-own
+local_step-requires-clause-own g c = c.loop.invariant.own
+
+pub local_step-requires-clause-still : goal.local_step-requires-clause-still
+local_step-requires-clause-still g c = c.loop.invariant.free
+
+pub step-event-requires-clause-own : goal.step-event-requires-clause-own
+step-event-requires-clause-own g c = c.local_step.ensures.own
+
+pub step-event-requires-clause-still : goal.step-event-requires-clause-still
+step-event-requires-clause-still g c = c.local_step.ensures.still
+
+pub returns-then-is_some-clause-own : goal.returns-then-is_some-clause-own
+returns-then-is_some-clause-own g c = c.step-event.ensures.own
+
+
+pub returns-clause-own : goal.returns-clause-own
+returns-clause-own g c = c.loop.invariant.own
+
+pub returns-clause-leg : goal.returns-clause-leg
+returns-clause-leg g c = λ quiet. absurd (false≢true quiet)
+
+pub returns-clause-kept : goal.returns-clause-kept
+returns-clause-kept g c = c.loop.invariant.kept

@@ -5,6 +5,9 @@ use Rattle.cp_machine.specs.Fits.{HaveGateRoom}
 use Rattle.cp_machine.specs.Kernel.{entered}
 use Rattle.cp_machine.specs.Machine.{Machine}
 use Rattle.cp_machine.specs.Statements.{Stepped}
+use Rattle.cp_machine.proofs.CallOutcomes.{count_within, guards_as}
+use Rattle.std.proofs.Common.{length, ◌<◌}
+use Rattle.std.proofs.lemmas.List.{length-set}
 use Rattle.cp_machine.proofs.call.call_monitor.Goals as goal
 
 pub enter-requires-clause-line : goal.enter-requires-clause-line
@@ -23,3 +26,24 @@ open_call-requires-clause-busy c = c.requires.busy
 
 pub open_call-requires-clause-count : goal.open_call-requires-clause-count
 open_call-requires-clause-count c = c.requires.count
+
+pub open_call-requires-clause-pid : goal.open_call-requires-clause-pid
+open_call-requires-clause-pid c = c.requires.pid
+
+pub open_call-requires-clause-routine : goal.open_call-requires-clause-routine
+open_call-requires-clause-routine c = c.requires.routine
+
+pub open_call-requires-clause-room : goal.open_call-requires-clause-room
+open_call-requires-clause-room c = c.requires.room
+
+pub open_call-requires-clause-fit : goal.open_call-requires-clause-fit
+open_call-requires-clause-fit c = c.requires.fit
+
+pub open_call-requires-clause-there : goal.open_call-requires-clause-there
+open_call-requires-clause-there c = c.requires.there
+
+pub enter-requires-clause-pid : goal.enter-requires-clause-pid
+enter-requires-clause-pid c = count_within c.args.state.now c.open_call.new.state c.args.pid (ap (λ k. length k.threads) c.open_call.ensures.after ∙ length-set _ c.args.pid _ ∙ length-set _ c.args.pid _) c.requires.pid
+
+pub enter-requires-clause-gate : goal.enter-requires-clause-gate
+enter-requires-clause-gate c = subst (λ n. c.args.monitor < n) (sym (guards_as c.args.state.now c.open_call.new.state (ap (λ k. k.monitors) c.open_call.ensures.after))) c.requires.monitor

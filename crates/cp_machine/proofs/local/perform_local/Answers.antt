@@ -9,6 +9,8 @@ use Rattle.cp_machine.specs.Step.{act}
 use Rattle.cp_machine.proofs.LocalSteps.{assign_calm, branch_calm, while_calm, until_calm, done_pending, done_same}
 use Rattle.cp_machine.proofs.ReadLemmas.{taken_fits, taken_reads, taken_room}
 use Rattle.cp_machine.proofs.RoomLemmas.{is_busy}
+use Rattle.cp_machine.proofs.TakeLemmas.{item_room, item_taken}
+use Rattle.cp_slots.specs.declared.item.Action.TheVariants.{Block, Cycle}
 use Rattle.cp_machine.proofs.local.perform_local.Goals as goal
 
 pub assign-requires-clause-reads : goal.assign-requires-clause-reads
@@ -158,3 +160,26 @@ while_do-requires-clause-busy c = is_busy c.args.state.now c.args.pid (Rest c.ar
 
 pub until-requires-clause-busy : goal.until-requires-clause-busy
 until-requires-clause-busy c = is_busy c.args.state.now c.args.pid (Rest c.args.at) (under (machine_of c.args.state.now) c.args.pid) c.requires.taken.within c.requires.taken.top
+
+pub replace-requires-clause-pid : goal.replace-requires-clause-pid
+replace-requires-clause-pid c = c.requires.taken.within
+
+pub replace-requires-clause-room : goal.replace-requires-clause-room
+replace-requires-clause-room c =
+    item_room c.args.program.now c.args.state.now c.args.pid c.args.at (under (machine_of c.args.state.now) c.args.pid) c.args.item.now c.requires.taken.within c.requires.taken.own c.requires.taken.top c.requires.taken.same c.in-Block.list (item_taken c.args.program.now c.args.state.now c.args.pid c.args.at (under (machine_of c.args.state.now) c.args.pid) c.args.item.now c.requires.taken.within c.requires.taken.own c.requires.taken.top c.requires.taken.same (Block c.in-Block.list) c.in-Block.is)
+
+pub repeat-requires-clause-pid : goal.repeat-requires-clause-pid
+repeat-requires-clause-pid c = c.requires.taken.within
+
+pub repeat-requires-clause-room : goal.repeat-requires-clause-room
+repeat-requires-clause-room c =
+    item_room c.args.program.now c.args.state.now c.args.pid c.args.at (under (machine_of c.args.state.now) c.args.pid) c.args.item.now c.requires.taken.within c.requires.taken.own c.requires.taken.top c.requires.taken.same c.in-Cycle.list (item_taken c.args.program.now c.args.state.now c.args.pid c.args.at (under (machine_of c.args.state.now) c.args.pid) c.args.item.now c.requires.taken.within c.requires.taken.own c.requires.taken.top c.requires.taken.same (Cycle c.in-Cycle.list) c.in-Cycle.is)
+
+pub assign-requires-clause-pid : goal.assign-requires-clause-pid
+assign-requires-clause-pid c = c.requires.taken.within
+
+pub while_do-requires-clause-pid : goal.while_do-requires-clause-pid
+while_do-requires-clause-pid c = c.requires.taken.within
+
+pub until-requires-clause-pid : goal.until-requires-clause-pid
+until-requires-clause-pid c = c.requires.taken.within

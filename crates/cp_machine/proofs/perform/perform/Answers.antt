@@ -7,6 +7,8 @@ use Rattle.cp_machine.specs.Statements.{local}
 use Rattle.cp_machine.specs.Step.{act}
 use Rattle.cp_machine.proofs.ReadLemmas.{taken_fits, taken_reads, taken_room}
 use Rattle.cp_machine.proofs.RoomLemmas.{is_busy}
+use Rattle.cp_machine.proofs.TakeLemmas.{item_room, item_taken}
+use Rattle.cp_slots.specs.declared.item.Action.TheVariants.{Block, Cycle}
 use Rattle.cp_machine.proofs.perform.perform.Goals as goal
 
 pub returns-in-Display-clause-reserved : goal.returns-in-Display-clause-reserved
@@ -161,3 +163,35 @@ display-requires-clause-room c = c.requires.taken.own.reserved.output
 
 pub display-requires-clause-shown : goal.display-requires-clause-shown
 display-requires-clause-shown c = c.requires.taken.own.reserved.shown
+
+pub replace-requires-clause-pid : goal.replace-requires-clause-pid
+replace-requires-clause-pid c = c.requires.taken.within
+
+pub replace-requires-clause-room : goal.replace-requires-clause-room
+replace-requires-clause-room c = tt
+
+pub replace-requires-in-Block-clause-pid : goal.replace-requires-in-Block-clause-pid
+replace-requires-in-Block-clause-pid c = c.requires.taken.within
+
+pub replace-requires-in-Block-clause-room : goal.replace-requires-in-Block-clause-room
+replace-requires-in-Block-clause-room c =
+    item_room c.args.program.now c.args.state.now c.args.pid c.args.at (under (machine_of c.args.state.now) c.args.pid) c.args.item.now c.requires.taken.within c.requires.taken.own c.requires.taken.top c.requires.taken.same c.in-Block.list (item_taken c.args.program.now c.args.state.now c.args.pid c.args.at (under (machine_of c.args.state.now) c.args.pid) c.args.item.now c.requires.taken.within c.requires.taken.own c.requires.taken.top c.requires.taken.same (Block c.in-Block.list) c.in-Block.is)
+
+pub repeat-requires-clause-pid : goal.repeat-requires-clause-pid
+repeat-requires-clause-pid c = c.requires.taken.within
+
+pub repeat-requires-clause-room : goal.repeat-requires-clause-room
+repeat-requires-clause-room c =
+    item_room c.args.program.now c.args.state.now c.args.pid c.args.at (under (machine_of c.args.state.now) c.args.pid) c.args.item.now c.requires.taken.within c.requires.taken.own c.requires.taken.top c.requires.taken.same c.in-Cycle.list (item_taken c.args.program.now c.args.state.now c.args.pid c.args.at (under (machine_of c.args.state.now) c.args.pid) c.args.item.now c.requires.taken.within c.requires.taken.own c.requires.taken.top c.requires.taken.same (Cycle c.in-Cycle.list) c.in-Cycle.is)
+
+pub while_do-requires-clause-pid : goal.while_do-requires-clause-pid
+while_do-requires-clause-pid c = c.requires.taken.within
+
+pub until-requires-clause-pid : goal.until-requires-clause-pid
+until-requires-clause-pid c = c.requires.taken.within
+
+pub display-requires-clause-pid : goal.display-requires-clause-pid
+display-requires-clause-pid c = c.requires.taken.within
+
+pub perform_call-requires-clause-line : goal.perform_call-requires-clause-line
+perform_call-requires-clause-line c = c.requires.line

@@ -9,6 +9,8 @@ use Rattle.cp_machine.proofs.TakeLemmas.{item_taken, item_call_room}
 use Rattle.std.proofs.Common.{subst, sym, ◌∙◌, ap}
 use Rattle.cp_machine.specs.Reach.{CanCall, CanStart}
 use Rattle.cp_machine.proofs.NamingLemmas.{taken_call, taken_start}
+use Rattle.cp_machine.proofs.TakeLemmas.{guards_count, processes_count}
+use Rattle.std.proofs.Common.{arith, length}
 use Rattle.cp_machine.proofs.perform.perform_call.Goals as goal
 
 pub call-requires-clause-room : goal.call-requires-clause-room
@@ -68,3 +70,42 @@ returns-in-Start-clause-after c =
     let m = machine_of c.args.state.now in
     let below = under m c.args.pid in
     λ at. ap (λ a. act c.args.program.now m c.args.pid at c.args.item.now a below) c.in-Start.is ∙ ap (λ given. start c.args.program.now m c.args.pid c.args.item.now.line c.in-Start.component c.in-Start.routine given (rest_of c.args.item.now.next below)) (sym c.deref-in-Start.ensures.value) ∙ c.start.ensures.after
+
+pub call-requires-clause-pid : goal.call-requires-clause-pid
+call-requires-clause-pid c = c.requires.taken.1.within
+
+pub call-requires-clause-routine : goal.call-requires-clause-routine
+call-requires-clause-routine c = (item_taken c.args.program.now c.args.state.now c.args.pid c.requires.taken.0 (under (machine_of c.args.state.now) c.args.pid) c.args.item.now c.requires.taken.1.within c.requires.taken.1.own c.requires.taken.1.top c.requires.taken.1.same (Call c.in-Call.routine c.in-Call.component c.in-Call.is_entry c.in-Call.arguments c.in-Call.result) c.in-Call.is).routine
+
+pub call-requires-clause-most : goal.call-requires-clause-most
+call-requires-clause-most c =
+    let count = (item_taken c.args.program.now c.args.state.now c.args.pid c.requires.taken.0 (under (machine_of c.args.state.now) c.args.pid) c.args.item.now c.requires.taken.1.within c.requires.taken.1.own c.requires.taken.1.top c.requires.taken.1.same (Call c.in-Call.routine c.in-Call.component c.in-Call.is_entry c.in-Call.arguments c.in-Call.result) c.in-Call.is).count in
+    let given = ap length c.deref.ensures.value in
+    omega (arith, count, given, c.requires.taken.1.own.reserved.bounds)
+
+pub call-requires-clause-guards : goal.call-requires-clause-guards
+call-requires-clause-guards c = guards_count c.args.program.now c.args.state.now c.requires.taken.1.own
+
+pub call-requires-clause-sound : goal.call-requires-clause-sound
+call-requires-clause-sound c = c.requires.taken.1.own.sound
+
+pub call-requires-clause-line : goal.call-requires-clause-line
+call-requires-clause-line c = c.requires.line
+
+pub start-requires-clause-pid : goal.start-requires-clause-pid
+start-requires-clause-pid c = c.requires.taken.1.within
+
+pub start-requires-clause-routine : goal.start-requires-clause-routine
+start-requires-clause-routine c = (item_taken c.args.program.now c.args.state.now c.args.pid c.requires.taken.0 (under (machine_of c.args.state.now) c.args.pid) c.args.item.now c.requires.taken.1.within c.requires.taken.1.own c.requires.taken.1.top c.requires.taken.1.same (Start c.in-Start.component c.in-Start.routine c.in-Start.arguments) c.in-Start.is).routine
+
+pub start-requires-clause-most : goal.start-requires-clause-most
+start-requires-clause-most c =
+    let count = (item_taken c.args.program.now c.args.state.now c.args.pid c.requires.taken.0 (under (machine_of c.args.state.now) c.args.pid) c.args.item.now c.requires.taken.1.within c.requires.taken.1.own c.requires.taken.1.top c.requires.taken.1.same (Start c.in-Start.component c.in-Start.routine c.in-Start.arguments) c.in-Start.is).count in
+    let given = ap length c.deref-in-Start.ensures.value in
+    omega (arith, count, given, c.requires.taken.1.own.reserved.bounds)
+
+pub start-requires-clause-threads : goal.start-requires-clause-threads
+start-requires-clause-threads c = processes_count c.args.program.now c.args.state.now c.requires.taken.1.own
+
+pub start-requires-clause-sound : goal.start-requires-clause-sound
+start-requires-clause-sound c = c.requires.taken.1.own.sound

@@ -10,6 +10,11 @@ use Rattle.cp_machine.specs.Reach.{HasCells, ThreadReaches}
 use Rattle.cp_machine.proofs.Framing.{end_reaches}
 use Rattle.cp_machine.specs.Fits.{AreFirstKnown}
 use Rattle.cp_machine.proofs.LineLemmas.{thread_known}
+use Rattle.cp_machine.proofs.CallOutcomes.{continue_fails, continue_goes, guards_as}
+use Rattle.cp_machine.proofs.Outcomes.{replaced_within}
+use Rattle.cp_machine.specs.Calls.{continued_from}
+use Rattle.cp_machine.specs.Statements.{fault, local, outcome}
+use Rattle.std.proofs.Common.{rules}
 use Rattle.cp_machine.proofs.queue.continue_with.Goals as goal
 
 pub continue_from-requires-clause-fits : goal.continue_from-requires-clause-fits
@@ -42,3 +47,54 @@ continue_from-requires-clause-cell c =
 
 pub continue_from-requires-clause-lines : goal.continue_from-requires-clause-lines
 continue_from-requires-clause-lines c = subst AreFirstKnown (sym c.unwind.ensures.after) (thread_known (machine_of c.args.state.now) c.args.pid _ c.requires.lines)
+
+pub address_of-requires-clause-pid : goal.address_of-requires-clause-pid
+address_of-requires-clause-pid c = c.requires.pid
+
+pub address_of-requires-clause-reach : goal.address_of-requires-clause-reach
+address_of-requires-clause-reach c = (1, c.requires.reach)
+
+pub returns-in_err-cell-clause-after : goal.returns-in_err-cell-clause-after
+returns-in_err-cell-clause-after c =
+    let m = machine_of c.args.state.now in
+    let told : outcome c.from_residual.result m c.args.pid c.args.item.now.line ≡ fault m c.args.pid c.args.item.now.line c.in_err-cell.field-0.0 = search rules in
+    continue_fails c.args.program.now m c.args.pid c.args.item.now.line c.args.place.now c.args.item.now.next (under m c.args.pid) c.in_err-cell.field-0.0 (sym c.address_of.ensures.value ∙ c.in_err-cell.was {u = tt}) ∙ sym told
+
+pub returns-in_err-cell-clause-reserved : goal.returns-in_err-cell-clause-reserved
+returns-in_err-cell-clause-reserved c = λ r h. h
+
+pub unwind-requires : goal.unwind-requires
+unwind-requires c = record { pid = c.requires.pid }
+
+pub continue_from-requires-clause-pid : goal.continue_from-requires-clause-pid
+continue_from-requires-clause-pid c = replaced_within c.args.state.now c.unwind.new.state c.args.pid _ c.unwind.ensures.after c.requires.pid
+
+pub continue_from-requires-clause-guards : goal.continue_from-requires-clause-guards
+continue_from-requires-clause-guards c = guards_as c.args.state.now c.unwind.new.state (ap (λ k. k.monitors) c.unwind.ensures.after) ∙ c.requires.guards
+
+pub replace-requires-clause-pid : goal.replace-requires-clause-pid
+replace-requires-clause-pid c = c.requires.pid
+
+pub replace-requires-clause-busy : goal.replace-requires-clause-busy
+replace-requires-clause-busy c = c.requires.busy
+
+pub replace-requires-clause-room : goal.replace-requires-clause-room
+replace-requires-clause-room c = tt
+
+pub returns-in-Permanent-clause-after : goal.returns-in-Permanent-clause-after
+returns-in-Permanent-clause-after c =
+    let m = machine_of c.args.state.now in
+    let r = c.args.program.now in
+    let t = thread_at m.threads c.args.pid in
+    let es = from_end (under m c.args.pid) in
+    let after : Thread = record t { stack = es } in
+    let same : thread_at (machine_of c.unwind.new.state).threads c.args.pid ≡ after = ap (λ n. thread_at n.threads c.args.pid) c.unwind.ensures.after ∙ get_or-set_same m.threads c.args.pid after no_thread (within c.args.state.now c.args.pid c.requires.pid) in
+    continue_goes c.args.program.now m c.args.pid c.args.item.now.line c.args.place.now c.args.item.now.next (under m c.args.pid) _ _ (sym c.address_of.ensures.value ∙ c.in_ok-cell.was {u = tt}) c.in-Permanent.is ∙ ap (λ k. continued_from r k c.args.pid c.in-Permanent.cell es) (sym c.unwind.ensures.after) ∙ ap (λ k. continued_from r (machine_of c.unwind.new.state) c.args.pid c.in-Permanent.cell k.stack) (sym same) ∙ c.continue_from.ensures.after
+
+pub returns-in-Local-clause-after : goal.returns-in-Local-clause-after
+returns-in-Local-clause-after c =
+    let m = machine_of c.args.state.now in
+    continue_goes c.args.program.now m c.args.pid c.args.item.now.line c.args.place.now c.args.item.now.next (under m c.args.pid) _ _ (sym c.address_of.ensures.value ∙ c.in_ok-cell.was {u = tt}) c.in-Local.is ∙ ap local (sym c.replace.ensures.after)
+
+pub returns-in-Local-clause-reserved : goal.returns-in-Local-clause-reserved
+returns-in-Local-clause-reserved c = c.replace.ensures.reserved

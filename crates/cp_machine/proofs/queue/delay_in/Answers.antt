@@ -3,6 +3,18 @@ use Rattle.cp_machine.specs.Machine.{Machine}
 use Rattle.cp_machine.specs.Fits.{AreFirstKnown}
 use Rattle.cp_machine.proofs.LineLemmas.{thread_known}
 use Rattle.cp_machine.specs.Machine.{machine_of}
+use Rattle.cp_machine.proofs.CallOutcomes.{delayed_if, guards_as}
+use Rattle.cp_machine.proofs.Outcomes.{replaced_within}
+use Rattle.cp_machine.specs.Kernel.{delayed}
+use Rattle.cp_machine.specs.Machine.{under}
+use Rattle.cp_machine.specs.Stack.{rest_of}
+use Rattle.cp_machine.specs.Statements.{Stepped}
+use Rattle.cp_machine.specs.declared.event.Event.TheVariants.{Kernel}
+use Rattle.cp_machine.specs.declared.event.Kernel.TheVariants.{Delay}
+use Rattle.cp_store.specs.Values.{is_true}
+use Rattle.std.proofs.Common.{Bool, ap, false, of_z, rules, to_z, true, w16, ◌∙◌, ◌≡◌}
+use Rattle.std.proofs.lemmas.List.{get_or_read}
+use Rattle.std.specs.Prelude.{pos, slice_index_or}
 use Rattle.cp_machine.proofs.queue.delay_in.Goals as goal
 
 pub delay-requires-clause-cell : goal.delay-requires-clause-cell
@@ -12,3 +24,41 @@ delay-requires-clause-cell c =
 
 pub delay-requires-clause-lines : goal.delay-requires-clause-lines
 delay-requires-clause-lines c = subst AreFirstKnown (sym c.replace.ensures.after) (thread_known (machine_of c.args.state.now) c.args.pid _ c.requires.lines)
+
+pub returns-then-is_true-clause-after : goal.returns-then-is_true-clause-after
+returns-then-is_true-clause-after c =
+    let m = machine_of c.args.state.now in
+    let at : c.index.result.now ≡ slice_index_or c.args.state.now.permanents.items c.args.cell (pos 0) = get_or_read c.args.state.now.permanents.items _ _ c.requires.cell c.index.ensures (pos 0) in
+    let value_is : to_z w16 (of_z w16 c.index.result.now) ≡ c.index.result.now = search rules in
+    let test : ◌≡◌ {A = Bool} (is_true (slice_index_or c.args.state.now.permanents.items c.args.cell (pos 0))) true = cc (at, value_is, c.is_true.ensures, c.if-is_true.true) in
+    delayed_if m c.args.pid c.args.item.now.line c.args.cell c.args.monitor (rest_of c.args.item.now.next (under m c.args.pid)) true test
+
+pub returns-then-is_true-clause-reserved : goal.returns-then-is_true-clause-reserved
+returns-then-is_true-clause-reserved c = λ r h. h
+
+pub replace-requires-clause-pid : goal.replace-requires-clause-pid
+replace-requires-clause-pid c = c.requires.pid
+
+pub replace-requires-clause-busy : goal.replace-requires-clause-busy
+replace-requires-clause-busy c = c.requires.busy
+
+pub replace-requires-clause-room : goal.replace-requires-clause-room
+replace-requires-clause-room c = tt
+
+pub delay-requires-clause-pid : goal.delay-requires-clause-pid
+delay-requires-clause-pid c = replaced_within c.args.state.now c.replace.new.state c.args.pid _ c.replace.ensures.after c.requires.pid
+
+pub delay-requires-clause-gate : goal.delay-requires-clause-gate
+delay-requires-clause-gate c = subst (λ n. c.args.monitor < n) (sym (guards_as c.args.state.now c.replace.new.state (ap (λ k. k.monitors) c.replace.ensures.after))) c.requires.monitor
+
+pub returns-clause-after : goal.returns-clause-after
+returns-clause-after c =
+    let m = machine_of c.args.state.now in
+    let at : c.index.result.now ≡ slice_index_or c.args.state.now.permanents.items c.args.cell (pos 0) = get_or_read c.args.state.now.permanents.items _ _ c.requires.cell c.index.ensures (pos 0) in
+    let value_is : to_z w16 (of_z w16 c.index.result.now) ≡ c.index.result.now = search rules in
+    let test : ◌≡◌ {A = Bool} (is_true (slice_index_or c.args.state.now.permanents.items c.args.cell (pos 0))) false = cc (at, value_is, c.is_true.ensures, c.if-is_true.false) in
+    let in_kernel : Machine → Stepped = λ n. record { machine = n; event = Kernel Delay } in
+    delayed_if m c.args.pid c.args.item.now.line c.args.cell c.args.monitor (rest_of c.args.item.now.next (under m c.args.pid)) false test ∙ ap in_kernel (sym (c.delay.ensures.after ∙ ap (λ n. delayed n c.args.pid c.args.monitor c.args.cell) c.replace.ensures.after))
+
+pub returns-clause-reserved : goal.returns-clause-reserved
+returns-clause-reserved c = λ r h. c.delay.ensures.reserved r (c.replace.ensures.reserved r h)

@@ -4,6 +4,16 @@ use Rattle.cp_machine.specs.Machine.{machine_of}
 use Rattle.cp_machine.specs.Memory.{arguments_of, component_of}
 use Rattle.cp_machine.specs.Reach.{FitsComponent}
 use Rattle.std.proofs.Common.{length, arith}
+use Rattle.cp_machine.proofs.CallOutcomes.{start_arguments_fail, start_component_fails, start_goes}
+use Rattle.cp_machine.specs.Calls.{started}
+use Rattle.cp_machine.specs.Fits.{HasCallRoom}
+use Rattle.cp_machine.specs.Machine.{under}
+use Rattle.cp_machine.specs.Stack.{rest_of}
+use Rattle.cp_machine.specs.Statements.{fault, outcome}
+use Rattle.cp_machine.specs.declared.process.Process.{Process}
+use Rattle.cp_slots.specs.Tables.{component_at}
+use Rattle.std.proofs.Common.{Err, rules, ◌<◌}
+use Rattle.std.specs.Prelude.{slice_index_or, vec_len}
 use Rattle.cp_machine.proofs.start_component.start.Goals as goal
 
 pub returns-clause-reserved : goal.returns-clause-reserved
@@ -30,3 +40,68 @@ start_by-requires-clause-there c =
     let found : component_of (machine_of c.args.state.now) c.args.pid c.args.place.now ≡ Ok c.in_ok-component.component = sym c.component_of.ensures ∙ c.in_ok-component.was in
     let owner = c.requires.reads.component.owner c.in_ok-component.component found in
     owner.0
+
+pub component_of-requires-clause-pid : goal.component_of-requires-clause-pid
+component_of-requires-clause-pid c = c.requires.pid
+
+pub component_of-requires-clause-finds : goal.component_of-requires-clause-finds
+component_of-requires-clause-finds c = c.requires.reads.component.found
+
+pub returns-in_err-component-clause-after : goal.returns-in_err-component-clause-after
+returns-in_err-component-clause-after c =
+    let m = machine_of c.args.state.now in
+    let told : outcome c.from_residual.result m c.args.pid c.args.item.now.line ≡ fault m c.args.pid c.args.item.now.line c.in_err-component.field-0.0 = search rules in
+    start_component_fails c.args.program.now m c.args.pid c.args.item.now.line c.args.place.now c.args.routine c.args.arguments.now (rest_of c.args.item.now.next (under m c.args.pid)) c.in_err-component.field-0.0 (sym c.component_of.ensures ∙ c.in_err-component.was) ∙ sym told
+
+pub returns-in_err-component-clause-reserved : goal.returns-in_err-component-clause-reserved
+returns-in_err-component-clause-reserved c = λ r h. h
+
+pub arguments_of-requires-clause-pid : goal.arguments_of-requires-clause-pid
+arguments_of-requires-clause-pid c = c.requires.pid
+
+pub arguments_of-requires-clause-reads : goal.arguments_of-requires-clause-reads
+arguments_of-requires-clause-reads c = c.requires.reads.reads
+
+pub arguments_of-requires-clause-room : goal.arguments_of-requires-clause-room
+arguments_of-requires-clause-room c = c.requires.most
+
+pub returns-in_err-arguments_of-clause-after : goal.returns-in_err-arguments_of-clause-after
+returns-in_err-arguments_of-clause-after c =
+    let m = machine_of c.args.state.now in
+    let n = machine_of c.arguments_of.new.state in
+    let told : outcome c.from_residual-in_err-arguments_of.result n c.args.pid c.args.item.now.line ≡ fault n c.args.pid c.args.item.now.line c.in_err-arguments_of.field-0.0 = search rules in
+    let found : component_of m c.args.pid c.args.place.now ≡ Ok c.in_ok-component.component = sym c.component_of.ensures ∙ c.in_ok-component.was in
+    let fails : arguments_of m c.args.pid c.args.arguments.now ≡ Err c.in_err-arguments_of.field-0.0 = c.arguments_of.ensures.bounds ∙ ap (λ o. bounds_or o c.arguments_of.new.state.bounds.items) c.in_err-arguments_of.was in
+    start_arguments_fail c.args.program.now m c.args.pid c.args.item.now.line c.args.place.now c.args.routine c.args.arguments.now (rest_of c.args.item.now.next (under m c.args.pid)) c.in_ok-component.component c.in_err-arguments_of.field-0.0 found fails ∙ ap (λ k. fault k c.args.pid c.args.item.now.line c.in_err-arguments_of.field-0.0) (sym c.arguments_of.ensures.same) ∙ sym told
+
+pub returns-in_err-arguments_of-clause-reserved : goal.returns-in_err-arguments_of-clause-reserved
+returns-in_err-arguments_of-clause-reserved c = c.arguments_of.ensures.reserved
+
+pub start_by-requires-clause-pid : goal.start_by-requires-clause-pid
+start_by-requires-clause-pid c = subst (λ p. c.args.pid < length p.items) (sym c.arguments_of.ensures.processes) c.requires.pid
+
+pub start_by-requires-clause-busy : goal.start_by-requires-clause-busy
+start_by-requires-clause-busy c = subst (λ p. (d : Process) → 0 < vec_len (slice_index_or p.items c.args.pid d).stack) (sym c.arguments_of.ensures.processes) c.requires.busy
+
+pub start_by-requires-clause-count : goal.start_by-requires-clause-count
+start_by-requires-clause-count c = c.in_ok-arguments_of.ensures.count
+
+pub start_by-requires-clause-routine : goal.start_by-requires-clause-routine
+start_by-requires-clause-routine c = c.requires.routine
+
+pub start_by-requires-clause-room : goal.start_by-requires-clause-room
+start_by-requires-clause-room c = subst (λ p. HasCallRoom c.args.program.now p.items c.args.pid c.args.routine) (sym c.arguments_of.ensures.processes) c.requires.room
+
+pub start_by-requires-clause-threads : goal.start_by-requires-clause-threads
+start_by-requires-clause-threads c = ap (λ p. length p.items) c.arguments_of.ensures.processes ∙ c.requires.threads
+
+pub start_by-requires-clause-sound : goal.start_by-requires-clause-sound
+start_by-requires-clause-sound c = c.requires.sound
+
+pub returns-clause-after : goal.returns-clause-after
+returns-clause-after c =
+    let m = machine_of c.args.state.now in
+    let bounds = c.arguments_of.new.state.bounds.items in
+    let found : component_of m c.args.pid c.args.place.now ≡ Ok c.in_ok-component.component = sym c.component_of.ensures ∙ c.in_ok-component.was in
+    let given : arguments_of m c.args.pid c.args.arguments.now ≡ Ok bounds = c.arguments_of.ensures.bounds ∙ ap (λ o. bounds_or o bounds) c.in_ok-arguments_of.was in
+    start_goes c.args.program.now m c.args.pid c.args.item.now.line c.args.place.now c.args.routine c.args.arguments.now (rest_of c.args.item.now.next (under m c.args.pid)) c.in_ok-component.component bounds found given ∙ ap (λ k. started c.args.program.now k c.args.pid c.args.item.now.line (component_at c.args.program.now c.in_ok-component.component).kind c.args.routine c.in_ok-component.component c.args.arguments.now bounds (rest_of c.args.item.now.next (under k c.args.pid))) (sym c.arguments_of.ensures.same) ∙ c.start_by.ensures.after

@@ -6,6 +6,17 @@ use Rattle.cp_machine.specs.Reach.{FitsComponent}
 use Rattle.cp_machine.proofs.NamingLemmas.{begun_fits}
 use Rattle.std.proofs.Common.{◌<◌, length}
 use Rattle.cp_machine.specs.Machine.{Machine}
+use Rattle.cp_machine.proofs.CallOutcomes.{begins_if, not_false, not_true, set_within, uninitialised_is}
+use Rattle.cp_machine.specs.Calls.{opened}
+use Rattle.cp_machine.specs.Machine.{is_uninitialised, phase_at, thread_at, under, with_phase}
+use Rattle.cp_machine.specs.Memory.{parameters_bound}
+use Rattle.cp_machine.specs.Stack.{rest_of}
+use Rattle.cp_machine.specs.Statements.{local}
+use Rattle.cp_machine.specs.declared.process.Entry.TheVariants.{InitEnd}
+use Rattle.cp_machine.specs.declared.state.Phase.TheVariants.{Initialising}
+use Rattle.cp_slots.specs.Tables.{component_at}
+use Rattle.cp_store.specs.declared.memory.Frame.{Frame}
+use Rattle.std.proofs.Common.{ap, false, true, ◌∙◌, ◌≡◌}
 use Rattle.cp_machine.proofs.start_component.start_inside.Goals as goal
 
 pub returns-clause-reserved : goal.returns-clause-reserved
@@ -22,3 +33,56 @@ pub set_phase-requires : goal.set_phase-requires
 set_phase-requires c =
     let P : Machine → Type 0 = λ m. c.args.component < length m.phases in
     record { known = subst P (sym c.bind_parameters.ensures.after) (subst P (sym c.open.ensures.after) c.requires.known) }
+
+pub phase_of-requires : goal.phase_of-requires
+phase_of-requires c = c.requires.known
+
+pub returns-then-ne-clause-after : goal.returns-then-ne-clause-after
+returns-then-ne-clause-after c =
+    let m = machine_of c.args.state.now in
+    let test : is_uninitialised (phase_at m c.args.component) ≡ false = ap is_uninitialised (sym c.phase_of.ensures) ∙ sym (uninitialised_is c.phase_of.result) ∙ not_true _ (sym c.ne.ensures ∙ c.if-ne.true) in
+    begins_if c.args.program.now m c.args.pid c.args.item.now.line c.args.routine c.args.component c.args.arguments.now c.args.state.now.bounds.items (rest_of c.args.item.now.next (under m c.args.pid)) false test
+
+pub returns-then-ne-clause-reserved : goal.returns-then-ne-clause-reserved
+returns-then-ne-clause-reserved c = λ r h. h
+
+pub frame_of-requires : goal.frame_of-requires
+frame_of-requires c = c.requires.pid
+
+pub open-requires-clause-pid : goal.open-requires-clause-pid
+open-requires-clause-pid c = c.requires.pid
+
+pub open-requires-clause-busy : goal.open-requires-clause-busy
+open-requires-clause-busy c = c.requires.busy
+
+pub open-requires-clause-routine : goal.open-requires-clause-routine
+open-requires-clause-routine c = c.requires.routine
+
+pub open-requires-clause-room : goal.open-requires-clause-room
+open-requires-clause-room c = c.requires.room
+
+pub open-requires-clause-there : goal.open-requires-clause-there
+open-requires-clause-there c = c.requires.there
+
+pub component-base-requires : goal.component-base-requires
+component-base-requires c = c.requires.there
+
+pub bind_parameters-requires-clause-pid : goal.bind_parameters-requires-clause-pid
+bind_parameters-requires-clause-pid c = set_within c.args.state.now c.open.new.state c.args.pid c.args.pid _ (ap (λ k. k.threads) c.open.ensures.after) c.requires.pid
+
+pub bind_parameters-requires-clause-count : goal.bind_parameters-requires-clause-count
+bind_parameters-requires-clause-count c = ap (λ b. length b.items) c.open.ensures.bounds ∙ c.requires.count
+
+pub returns-clause-after : goal.returns-clause-after
+returns-clause-after c =
+    let m = machine_of c.args.state.now in
+    let r = c.args.program.now in
+    let opening = λ (f : Frame). opened r m c.args.pid c.args.routine c.args.component (InitEnd f c.args.component) (rest_of c.args.item.now.next (under m c.args.pid)) in
+    let frame = (thread_at m.threads c.args.pid).frame in
+    let given = c.args.arguments.now in
+    let bounds = c.open.new.state.bounds.items in
+    let base = c.component-base.result.base in
+    let begun = λ (n : Machine). with_phase n c.args.component Initialising in
+    let test : is_uninitialised (phase_at m c.args.component) ≡ true = ap is_uninitialised (sym c.phase_of.ensures) ∙ sym (uninitialised_is c.phase_of.result) ∙ not_false _ (sym c.ne.ensures ∙ c.if-ne.false) in
+    let bound = c.bind_parameters.ensures.after ∙ ap (λ n. parameters_bound n c.args.pid base given bounds) c.open.ensures.after ∙ ap (λ f. parameters_bound (opening f) c.args.pid base given bounds) c.frame_of.ensures ∙ ap (λ k. parameters_bound (opening frame) c.args.pid k.base given bounds) c.component-base.ensures.value ∙ ap (λ b. parameters_bound (opening frame) c.args.pid (component_at r c.args.component).base given b.items) c.open.ensures.bounds in
+    begins_if c.args.program.now m c.args.pid c.args.item.now.line c.args.routine c.args.component c.args.arguments.now c.args.state.now.bounds.items (rest_of c.args.item.now.next (under m c.args.pid)) true test ∙ ap local (sym (c.set_phase.ensures.after ∙ ap begun bound))

@@ -4,6 +4,8 @@ use Rattle.cp_machine.specs.Machine.{machine_of}
 use Rattle.cp_machine.specs.Memory.{memory_at}
 use Rattle.cp_machine.specs.Reach.{FitsComponent}
 use Rattle.cp_machine.proofs.NamingLemmas.{replaced_fits}
+use Rattle.cp_machine.proofs.CallOutcomes.{set_within}
+use Rattle.std.proofs.Common.{ap, length, ◌∙◌}
 use Rattle.cp_machine.proofs.start_component.start_process.Goals as goal
 
 pub returns-clause-reserved : goal.returns-clause-reserved
@@ -15,3 +17,30 @@ bind_parameters-requires-clause-fit c =
     subst (λ k. AllFitComponent (memory_at n c.args.pid) n.bindings k.base c.args.arguments.now c.replace.new.state.bounds.items) (sym c.component-base.ensures.value)
     (subst (λ bounds. FitsComponent c.args.program.now n c.args.pid c.args.component c.args.arguments.now bounds.items) (sym c.replace.ensures.bounds)
     (replaced_fits c.args.program.now c.args.state.now n c.args.pid c.args.component _ c.args.arguments.now c.args.state.now.bounds.items c.requires.pid c.replace.ensures.after c.requires.fit))
+
+pub status_of-requires : goal.status_of-requires
+status_of-requires c = c.requires.process
+
+pub returns-then-ne-clause-reserved : goal.returns-then-ne-clause-reserved
+returns-then-ne-clause-reserved c = λ r h. h
+
+pub component-base-requires : goal.component-base-requires
+component-base-requires c = c.requires.there
+
+pub replace-requires-clause-pid : goal.replace-requires-clause-pid
+replace-requires-clause-pid c = c.requires.pid
+
+pub replace-requires-clause-busy : goal.replace-requires-clause-busy
+replace-requires-clause-busy c = c.requires.busy
+
+pub replace-requires-clause-room : goal.replace-requires-clause-room
+replace-requires-clause-room c = tt
+
+pub bind_parameters-requires-clause-pid : goal.bind_parameters-requires-clause-pid
+bind_parameters-requires-clause-pid c = set_within c.args.state.now c.replace.new.state c.args.pid c.args.pid _ (ap (λ k. k.threads) c.replace.ensures.after) c.requires.pid
+
+pub bind_parameters-requires-clause-count : goal.bind_parameters-requires-clause-count
+bind_parameters-requires-clause-count c = ap (λ b. length b.items) c.replace.ensures.bounds ∙ c.requires.count
+
+pub set_status-requires : goal.set_status-requires
+set_status-requires c = record { pid = set_within c.replace.new.state c.bind_parameters.new.state c.args.pid c.args.number _ (ap (λ k. k.threads) c.bind_parameters.ensures.after) (set_within c.args.state.now c.replace.new.state c.args.pid c.args.number _ (ap (λ k. k.threads) c.replace.ensures.after) c.requires.process) }

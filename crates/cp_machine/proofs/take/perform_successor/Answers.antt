@@ -39,3 +39,9 @@ returns-in-For-clause-after c =
     let value_is : to_z w16 (of_z w16 c.args.value) ≡ c.args.value = search rules in
     let last_is : to_z w16 (of_z w16 c.args.last) ≡ c.args.last = search rules in
     ap (λ a. succeeded m c.args.pid c.args.at c.args.item.now a below c.args.value c.args.last) c.in-For.is ∙ ap (λ z. next_turn m c.args.pid c.args.item.now.line c.args.at c.in-For.variable z c.in-For.high c.in-For.down c.in-For.body c.args.item.now.next below c.args.value c.args.last) (sym low_is) ∙ ap (λ z. next_turn m c.args.pid c.args.item.now.line c.args.at c.in-For.variable (to_z w16 (of_z w16 c.in-For.low)) z c.in-For.down c.in-For.body c.args.item.now.next below c.args.value c.args.last) (sym high_is) ∙ ap (λ z. next_turn m c.args.pid c.args.item.now.line c.args.at c.in-For.variable (to_z w16 (of_z w16 c.in-For.low)) (to_z w16 (of_z w16 c.in-For.high)) c.in-For.down c.in-For.body c.args.item.now.next below z c.args.last) (sym value_is) ∙ ap (λ z. next_turn m c.args.pid c.args.item.now.line c.args.at c.in-For.variable (to_z w16 (of_z w16 c.in-For.low)) (to_z w16 (of_z w16 c.in-For.high)) c.in-For.down c.in-For.body c.args.item.now.next below (to_z w16 (of_z w16 c.args.value)) z) (sym last_is) ∙ c.successor.ensures.after
+
+pub successor-requires-clause-pid : goal.successor-requires-clause-pid
+successor-requires-clause-pid c = c.requires.pid
+
+pub replace-requires : goal.replace-requires
+replace-requires c = record { pid = c.requires.pid; busy = is_busy c.args.state.now c.args.pid (Successor c.args.at c.args.value c.args.last) (under (machine_of c.args.state.now) c.args.pid) c.requires.pid c.requires.top; room = tt }

@@ -58,3 +58,39 @@ returns-in-Due-clause-kept g c = λ before h. let_in (g.W.Watch.moved c.args.wat
 
 pub returns-in-Goes-clause-kept : goal.returns-in-Goes-clause-kept
 returns-in-Goes-clause-kept g c = λ before h. c.stretch-in-Goes.ensures.kept before (let_in (g.W.Watch.moved c.args.watch.now) before (machine_of c.args.state.now) (machine_of c.admit.new.self) c.args.process c.admit.ensures.after h)
+
+pub stretch-requires-clause-own : goal.stretch-requires-clause-own
+stretch-requires-clause-own g c = c.requires.own
+
+pub stretch-requires-clause-free : goal.stretch-requires-clause-free
+stretch-requires-clause-free g c = pending_is (machine_of c.args.state.now) c.pending.result false c.pending.ensures c.if-is_none.ensures
+
+pub returns-then-is_none-clause-own : goal.returns-then-is_none-clause-own
+returns-then-is_none-clause-own g c = c.stretch.ensures.own
+
+pub returns-in-Goes-clause-own : goal.returns-in-Goes-clause-own
+returns-in-Goes-clause-own g c = c.stretch-in-Goes.ensures.own
+
+pub returns-then-is_none-clause-steps : goal.returns-then-is_none-clause-steps
+returns-then-is_none-clause-steps g c = c.stretch.ensures.steps
+
+pub returns-in-Goes-clause-steps : goal.returns-in-Goes-clause-steps
+returns-in-Goes-clause-steps g c = c.stretch-in-Goes.ensures.steps
+
+pub settled_turn-requires-clause-own : goal.settled_turn-requires-clause-own
+settled_turn-requires-clause-own g c = c.admit.ensures.own c.args.program.now c.requires.own
+
+pub stretch-requires-in-Goes-clause-own : goal.stretch-requires-in-Goes-clause-own
+stretch-requires-in-Goes-clause-own g c = c.admit.ensures.own c.args.program.now c.requires.own
+
+pub stretch-requires-in-Goes-clause-ready : goal.stretch-requires-in-Goes-clause-ready
+stretch-requires-in-Goes-clause-ready g c = c.in-Goes.ensures.ready
+
+pub returns-in-Over-clause-own : goal.returns-in-Over-clause-own
+returns-in-Over-clause-own g c = c.admit.ensures.own c.args.program.now c.requires.own
+
+pub returns-in-Due-clause-own : goal.returns-in-Due-clause-own
+returns-in-Due-clause-own g c = c.admit.ensures.own c.args.program.now c.requires.own
+
+pub returns-then-is_none-clause-kept : goal.returns-then-is_none-clause-kept
+returns-then-is_none-clause-kept g c = c.stretch.ensures.kept

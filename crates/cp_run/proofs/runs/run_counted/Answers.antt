@@ -6,6 +6,7 @@ use Rattle.cp_run.specs.Run.{Answer, Ended, may, run, run_from}
 use Rattle.cp_run.specs.Slots.{slots}
 use Rattle.cp_run.proofs.TraceBounds.{ticks_within}
 use Rattle.cp_run.proofs.Running.{over_at, limit_at, refused_at, goes_at, drop_next}
+use Rattle.cp_run.proofs.Failing.{none_well}
 use Rattle.cp_run.proofs.runs.run_counted.Goals as goal
 
 pub returns-in-Ended-clause-answer : goal.returns-in-Ended-clause-answer
@@ -91,3 +92,18 @@ returns-in_err-outcome-in-Ended-clause-ticks g c = ticks_within _ _ _ _ _ c.loop
 
 pub returns-in_err-outcome-in-Choice-clause-ticks : goal.returns-in_err-outcome-in-Choice-clause-ticks
 returns-in_err-outcome-in-Choice-clause-ticks g c = ticks_within _ _ _ _ _ c.loop-place.invariant.ticks c.loop-place.invariant.within
+
+pub returns-in_err-state-clause-answer : goal.returns-in_err-state-clause-answer
+returns-in_err-state-clause-answer g c = none_well c.from_residual.result _ _ c.from_residual.ensures.1
+
+pub returns-in_err-outcome-in-Ended-clause-answer : goal.returns-in_err-outcome-in-Ended-clause-answer
+returns-in_err-outcome-in-Ended-clause-answer g c = none_well c.from_residual-in_err-outcome-in-Ended.result _ _ c.from_residual-in_err-outcome-in-Ended.ensures.1
+
+pub returns-in_err-outcome-in-Choice-clause-answer : goal.returns-in_err-outcome-in-Choice-clause-answer
+returns-in_err-outcome-in-Choice-clause-answer g c = none_well c.from_residual-in_err-outcome-in-Choice.result _ _ c.from_residual-in_err-outcome-in-Choice.ensures.1
+
+pub may-requires : goal.may-requires
+may-requires g c = record { own = c.loop-place.invariant.own }
+
+pub choose-halt-requires-clause-own : goal.choose-halt-requires-clause-own
+choose-halt-requires-clause-own g c = c.loop-place.invariant.own

@@ -23,3 +23,27 @@ returns-clause-steps g c =
           )
       | else-is_under_way-via-else-is_under_way w ↦ omega (arith, c.turn_after_step.ensures.steps, w.steps-is)
     ]
+
+pub local_step-requires-clause-own : goal.local_step-requires-clause-own
+local_step-requires-clause-own g c = c.requires.own
+
+pub local_step-requires-clause-still : goal.local_step-requires-clause-still
+local_step-requires-clause-still g c = c.requires.free
+
+pub returns-then-local_step-clause-own : goal.returns-then-local_step-clause-own
+returns-then-local_step-clause-own g c = c.local_step.ensures.own
+
+pub returns-then-local_step-clause-ready : goal.returns-then-local_step-clause-ready
+returns-then-local_step-clause-ready g c = c.local_step.ensures.ready
+
+pub returns-then-local_step-clause-free : goal.returns-then-local_step-clause-free
+returns-then-local_step-clause-free g c = c.local_step.ensures.still
+
+pub returns-clause-own : goal.returns-clause-own
+returns-clause-own g c = c.turn_after_step.ensures.own
+
+pub returns-clause-ready : goal.returns-clause-ready
+returns-clause-ready g c = c.turn_after_step.ensures.ready
+
+pub returns-clause-free : goal.returns-clause-free
+returns-clause-free g c = c.turn_after_step.ensures.free

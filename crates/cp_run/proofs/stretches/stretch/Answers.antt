@@ -41,3 +41,33 @@ returns-in-Over-clause-kept g c = λ before h. stepped c.args.program.now c.args
 
 pub returns-in-Due-clause-kept : goal.returns-in-Due-clause-kept
 returns-in-Due-clause-kept g c = λ before h. stepped c.args.program.now c.args.limits.gates (g.W.Watch.moved c.loop.watch) before (machine_of c.loop.state) (machine_of c.next_turn.new.state) c.loop.going c.in-Due.ensures.state (c.loop.invariant.kept before h) c.loop.invariant.moved
+
+pub next_turn-requires-clause-own : goal.next_turn-requires-clause-own
+next_turn-requires-clause-own g c = c.loop.invariant.own
+
+pub next_turn-requires-clause-ready : goal.next_turn-requires-clause-ready
+next_turn-requires-clause-ready g c = c.loop.invariant.ready
+
+pub next_turn-requires-clause-free : goal.next_turn-requires-clause-free
+next_turn-requires-clause-free g c = c.loop.invariant.free
+
+pub returns-in-Over-clause-own : goal.returns-in-Over-clause-own
+returns-in-Over-clause-own g c = c.next_turn.ensures.own
+
+pub returns-in-Due-clause-own : goal.returns-in-Due-clause-own
+returns-in-Due-clause-own g c = c.next_turn.ensures.own
+
+pub returns-in-Over-clause-calls : goal.returns-in-Over-clause-calls
+returns-in-Over-clause-calls g c = c.loop.invariant.calls
+
+pub returns-in-Due-clause-calls : goal.returns-in-Due-clause-calls
+returns-in-Due-clause-calls g c = c.loop.invariant.calls
+
+pub returns-clause-own : goal.returns-clause-own
+returns-clause-own g c = c.loop.invariant.own
+
+pub returns-clause-calls : goal.returns-clause-calls
+returns-clause-calls g c = c.loop.invariant.calls
+
+pub returns-clause-kept : goal.returns-clause-kept
+returns-clause-kept g c = c.loop.invariant.kept

@@ -10,6 +10,7 @@ use Rattle.cp_run.proofs.Running.{refused_at, goes_at, drop_next, drop_all}
 use Rattle.cp_run.proofs.TraceBounds.{few_lines, ticks_within}
 use Rattle.cp_run.proofs.TraceRuns.{over_run, over_lines, no_word_lines, not_over, some_left, refused_lines, chosen_further}
 use Rattle.cp_run.proofs.Tracing.{no_more}
+use Rattle.cp_run.proofs.Failing.{none_well}
 use Rattle.cp_run.proofs.traces.trace.Goals as goal
 
 pub returns-then-is_over-clause-lines : goal.returns-then-is_over-clause-lines
@@ -125,3 +126,48 @@ returns-in_err-end-clause-ticks g c = ticks_within _ _ _ _ _ c.loop-place.invari
 
 pub returns-in_err-end-2-clause-ticks : goal.returns-in_err-end-2-clause-ticks
 returns-in_err-end-2-clause-ticks g c = ticks_within _ _ _ _ _ c.loop-place.invariant.ticks c.loop-place.invariant.within
+
+pub returns-in_err-state-clause-lines : goal.returns-in_err-state-clause-lines
+returns-in_err-state-clause-lines g c = none_well c.from_residual.result _ _ c.from_residual.ensures.1
+
+pub returns-in_err-state-clause-answer : goal.returns-in_err-state-clause-answer
+returns-in_err-state-clause-answer g c = none_well c.from_residual.result _ _ c.from_residual.ensures.1
+
+pub returns-in_err-state-clause-few : goal.returns-in_err-state-clause-few
+returns-in_err-state-clause-few g c = none_well c.from_residual.result _ _ c.from_residual.ensures.1
+
+pub returns-in_err-halt-clause-lines : goal.returns-in_err-halt-clause-lines
+returns-in_err-halt-clause-lines g c = none_well c.from_residual-in_err-halt.result _ _ c.from_residual-in_err-halt.ensures.1
+
+pub returns-in_err-halt-clause-answer : goal.returns-in_err-halt-clause-answer
+returns-in_err-halt-clause-answer g c = none_well c.from_residual-in_err-halt.result _ _ c.from_residual-in_err-halt.ensures.1
+
+pub returns-in_err-halt-clause-few : goal.returns-in_err-halt-clause-few
+returns-in_err-halt-clause-few g c = none_well c.from_residual-in_err-halt.result _ _ c.from_residual-in_err-halt.ensures.1
+
+pub returns-in_err-end-clause-lines : goal.returns-in_err-end-clause-lines
+returns-in_err-end-clause-lines g c = none_well c.from_residual-in_err-end.result _ _ c.from_residual-in_err-end.ensures.1
+
+pub returns-in_err-end-clause-answer : goal.returns-in_err-end-clause-answer
+returns-in_err-end-clause-answer g c = none_well c.from_residual-in_err-end.result _ _ c.from_residual-in_err-end.ensures.1
+
+pub returns-in_err-end-clause-few : goal.returns-in_err-end-clause-few
+returns-in_err-end-clause-few g c = none_well c.from_residual-in_err-end.result _ _ c.from_residual-in_err-end.ensures.1
+
+pub returns-in_err-halt-2-clause-lines : goal.returns-in_err-halt-2-clause-lines
+returns-in_err-halt-2-clause-lines g c = none_well c.from_residual-in_err-halt-2.result _ _ c.from_residual-in_err-halt-2.ensures.1
+
+pub returns-in_err-halt-2-clause-answer : goal.returns-in_err-halt-2-clause-answer
+returns-in_err-halt-2-clause-answer g c = none_well c.from_residual-in_err-halt-2.result _ _ c.from_residual-in_err-halt-2.ensures.1
+
+pub returns-in_err-halt-2-clause-few : goal.returns-in_err-halt-2-clause-few
+returns-in_err-halt-2-clause-few g c = none_well c.from_residual-in_err-halt-2.result _ _ c.from_residual-in_err-halt-2.ensures.1
+
+pub returns-in_err-end-2-clause-lines : goal.returns-in_err-end-2-clause-lines
+returns-in_err-end-2-clause-lines g c = none_well c.from_residual-in_err-end-2.result _ _ c.from_residual-in_err-end-2.ensures.1
+
+pub returns-in_err-end-2-clause-answer : goal.returns-in_err-end-2-clause-answer
+returns-in_err-end-2-clause-answer g c = none_well c.from_residual-in_err-end-2.result _ _ c.from_residual-in_err-end-2.ensures.1
+
+pub returns-in_err-end-2-clause-few : goal.returns-in_err-end-2-clause-few
+returns-in_err-end-2-clause-few g c = none_well c.from_residual-in_err-end-2.result _ _ c.from_residual-in_err-end-2.ensures.1

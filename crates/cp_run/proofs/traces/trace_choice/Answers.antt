@@ -5,6 +5,7 @@ use Rattle.cp_run.specs.Slots.{slots}
 use Rattle.cp_run.proofs.Choosing.{may_in_line, may_be_ready, chosen_free, chosen_at_gate}
 use Rattle.cp_machine.proofs.CallerLemmas.{pending_is, line_within, admitted_free}
 use Rattle.cp_run.proofs.Tracing.{ok_as, behind_admission, none_added, chosen_free_lines}
+use Rattle.cp_run.proofs.Failing.{none_well}
 use Rattle.cp_run.proofs.traces.trace_choice.Goals as goal
 
 pub trace_stretch-requires-clause-ready : goal.trace_stretch-requires-clause-ready
@@ -69,3 +70,48 @@ pub returns-in-Goes-clause-lines : goal.returns-in-Goes-clause-lines
 returns-in-Goes-clause-lines g c =
     let e : is_pending (machine_of c.args.state.now) ≡ true = pending_is (machine_of c.args.state.now) c.pending.result true c.pending.ensures c.if-is_none.ensures in
     ok_as c.trace_stretch-in-Goes.result _ _ c.trace_stretch-in-Goes.ensures.lines (λ h is. behind_admission (slots c.args.program.now c.args.limits.gates) c.args.limits.steps (machine_of c.args.state.now) (machine_of c.admit.new.self) c.args.process (Goes c.in-Goes.next) c.args.lines.now.items c.push_line.new.lines.items c.trace_stretch-in-Goes.new.lines.items e c.admit.ensures.after c.in-Goes.ensures.turn c.in_ok-push_line.ensures is)
+
+pub trace_stretch-requires-clause-own : goal.trace_stretch-requires-clause-own
+trace_stretch-requires-clause-own g c = c.requires.own
+
+pub trace_stretch-requires-clause-free : goal.trace_stretch-requires-clause-free
+trace_stretch-requires-clause-free g c = pending_is (machine_of c.args.state.now) c.pending.result false c.pending.ensures c.if-is_none.ensures
+
+pub returns-then-is_none-clause-own : goal.returns-then-is_none-clause-own
+returns-then-is_none-clause-own g c = c.trace_stretch.ensures.own
+
+pub returns-in-Goes-clause-own : goal.returns-in-Goes-clause-own
+returns-in-Goes-clause-own g c = c.trace_stretch-in-Goes.ensures.own
+
+pub returns-then-is_none-clause-steps : goal.returns-then-is_none-clause-steps
+returns-then-is_none-clause-steps g c = c.trace_stretch.ensures.steps
+
+pub returns-in-Goes-clause-steps : goal.returns-in-Goes-clause-steps
+returns-in-Goes-clause-steps g c = c.trace_stretch-in-Goes.ensures.steps
+
+pub settled_turn-requires-clause-own : goal.settled_turn-requires-clause-own
+settled_turn-requires-clause-own g c = c.admit.ensures.own c.args.program.now c.requires.own
+
+pub trace_stretch-requires-in-Goes-clause-own : goal.trace_stretch-requires-in-Goes-clause-own
+trace_stretch-requires-in-Goes-clause-own g c = c.admit.ensures.own c.args.program.now c.requires.own
+
+pub trace_stretch-requires-in-Goes-clause-ready : goal.trace_stretch-requires-in-Goes-clause-ready
+trace_stretch-requires-in-Goes-clause-ready g c = c.in-Goes.ensures.ready
+
+pub returns-in-Over-clause-own : goal.returns-in-Over-clause-own
+returns-in-Over-clause-own g c = c.admit.ensures.own c.args.program.now c.requires.own
+
+pub returns-in-Due-clause-own : goal.returns-in-Due-clause-own
+returns-in-Due-clause-own g c = c.admit.ensures.own c.args.program.now c.requires.own
+
+pub push_line-requires : goal.push_line-requires
+push_line-requires g c = c.admit.ensures.own c.args.program.now c.requires.own
+
+pub returns-in_err-push_line-clause-node : goal.returns-in_err-push_line-clause-node
+returns-in_err-push_line-clause-node g c = none_well c.from_residual.result _ _ c.from_residual.ensures.1
+
+pub returns-in_err-push_line-clause-lines : goal.returns-in_err-push_line-clause-lines
+returns-in_err-push_line-clause-lines g c = none_well c.from_residual.result _ _ c.from_residual.ensures.1
+
+pub returns-in_err-push_line-clause-own : goal.returns-in_err-push_line-clause-own
+returns-in_err-push_line-clause-own g c = c.admit.ensures.own c.args.program.now c.requires.own

@@ -27,3 +27,27 @@ returns-in-Goes-clause-lines g c = ok_as c.trace_stretch.result _ _ c.trace_stre
 
 pub turn_at-requires-clause-goes_on : goal.turn_at-requires-clause-goes_on
 turn_at-requires-clause-goes_on g c = λ e. opening_ready c.args.program.now c.args.limits.gates (machine_of c.args.state.now) c.processes-processes.ensures.sound.some c.requires.start
+
+pub turn_at-requires-clause-own : goal.turn_at-requires-clause-own
+turn_at-requires-clause-own g c = c.requires.own
+
+pub trace_stretch-requires-clause-own : goal.trace_stretch-requires-clause-own
+trace_stretch-requires-clause-own g c = c.requires.own
+
+pub trace_stretch-requires-clause-ready : goal.trace_stretch-requires-clause-ready
+trace_stretch-requires-clause-ready g c = c.in-Goes.ensures.ready
+
+pub trace_stretch-requires-clause-free : goal.trace_stretch-requires-clause-free
+trace_stretch-requires-clause-free g c = c.in-Goes.ensures.free
+
+pub returns-in-Over-clause-own : goal.returns-in-Over-clause-own
+returns-in-Over-clause-own g c = c.requires.own
+
+pub returns-in-Due-clause-own : goal.returns-in-Due-clause-own
+returns-in-Due-clause-own g c = c.requires.own
+
+pub returns-in-Goes-clause-own : goal.returns-in-Goes-clause-own
+returns-in-Goes-clause-own g c = c.trace_stretch.ensures.own
+
+pub returns-in-Goes-clause-steps : goal.returns-in-Goes-clause-steps
+returns-in-Goes-clause-steps g c = c.trace_stretch.ensures.steps

@@ -7,6 +7,7 @@ use Rattle.cp_run.specs.Slots.{slots}
 use Rattle.cp_run.specs.Trace.{stretch_lines}
 use Rattle.cp_run.proofs.Stretching.{step_on, used_up}
 use Rattle.cp_run.proofs.Tracing.{counted, lines_further, lines_used_up, no_more}
+use Rattle.cp_run.proofs.Failing.{none_well}
 use Rattle.cp_run.proofs.traces.trace_stretch.Goals as goal
 
 pub turn_of-requires-clause-goes_on : goal.turn_of-requires-clause-goes_on
@@ -65,3 +66,30 @@ pub returns-clause-lines : goal.returns-clause-lines
 returns-clause-lines g c =
     let done : c.args.limits.steps - c.loop.counter ≡ 0 = omega arith in
     lines_used_up (slots c.args.program.now c.args.limits.gates) (c.args.limits.steps - c.loop.counter) (machine_of c.loop.state) c.loop.going _ c.loop.lines.items done c.loop.invariant.lines
+
+pub step-event-requires-clause-own : goal.step-event-requires-clause-own
+step-event-requires-clause-own g c = c.loop.invariant.own
+
+pub push_step-requires : goal.push_step-requires
+push_step-requires g c = c.step-event.ensures.own
+
+pub returns-in_err-push_step-clause-node : goal.returns-in_err-push_step-clause-node
+returns-in_err-push_step-clause-node g c = none_well c.from_residual.result _ _ c.from_residual.ensures.1
+
+pub returns-in_err-push_step-clause-lines : goal.returns-in_err-push_step-clause-lines
+returns-in_err-push_step-clause-lines g c = none_well c.from_residual.result _ _ c.from_residual.ensures.1
+
+pub returns-in_err-push_step-clause-own : goal.returns-in_err-push_step-clause-own
+returns-in_err-push_step-clause-own g c = c.step-event.ensures.own
+
+pub turn_of-requires-clause-own : goal.turn_of-requires-clause-own
+turn_of-requires-clause-own g c = c.step-event.ensures.own
+
+pub returns-in-Over-clause-own : goal.returns-in-Over-clause-own
+returns-in-Over-clause-own g c = c.step-event.ensures.own
+
+pub returns-in-Due-clause-own : goal.returns-in-Due-clause-own
+returns-in-Due-clause-own g c = c.step-event.ensures.own
+
+pub returns-clause-own : goal.returns-clause-own
+returns-clause-own g c = c.loop.invariant.own

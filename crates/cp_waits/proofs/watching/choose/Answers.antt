@@ -80,3 +80,39 @@ returns-in-Goes-clause-comes g c =
     comes_same quiet in_call_on_slots waits_on_slots c.args.limits.steps (choice_leg quiet c.args.limits.steps s c.args.process) _ (s ∷ []) c.stretch-in-Goes.new.passing came (machine_of c.stretch-in-Goes.new.state)
     (next_let_in quiet c.args.limits.steps s t c.args.process (Goes c.in-Goes.next) e c.admit.ensures.after (c.in-Goes.ensures.turn ∙ settled_alike sys without_output t true c.args.process))
     (comes (s ∷ []) (c.see_due.ensures r c.args.limits.gates c.requires.own h)))
+
+pub stretch-requires-clause-own : goal.stretch-requires-clause-own
+stretch-requires-clause-own g c = c.requires.own
+
+pub stretch-requires-clause-free : goal.stretch-requires-clause-free
+stretch-requires-clause-free g c = pending_is (machine_of c.args.state.now) c.pending.result false c.pending.ensures c.if-is_none.ensures
+
+pub stretch-requires-clause-quiet : goal.stretch-requires-clause-quiet
+stretch-requires-clause-quiet g c = c.requires.quiet
+
+pub returns-then-is_none-clause-own : goal.returns-then-is_none-clause-own
+returns-then-is_none-clause-own g c = c.stretch.ensures.own
+
+pub returns-in-Goes-clause-own : goal.returns-in-Goes-clause-own
+returns-in-Goes-clause-own g c = c.stretch-in-Goes.ensures.own
+
+pub returns-then-is_none-clause-quiet : goal.returns-then-is_none-clause-quiet
+returns-then-is_none-clause-quiet g c = c.stretch.ensures.quiet
+
+pub returns-in-Goes-clause-quiet : goal.returns-in-Goes-clause-quiet
+returns-in-Goes-clause-quiet g c = c.stretch-in-Goes.ensures.quiet
+
+pub settled_turn-requires-clause-own : goal.settled_turn-requires-clause-own
+settled_turn-requires-clause-own g c = c.admit.ensures.own c.args.program.now c.requires.own
+
+pub stretch-requires-in-Goes-clause-own : goal.stretch-requires-in-Goes-clause-own
+stretch-requires-in-Goes-clause-own g c = c.admit.ensures.own c.args.program.now c.requires.own
+
+pub stretch-requires-in-Goes-clause-ready : goal.stretch-requires-in-Goes-clause-ready
+stretch-requires-in-Goes-clause-ready g c = c.in-Goes.ensures.ready
+
+pub returns-in-Over-clause-own : goal.returns-in-Over-clause-own
+returns-in-Over-clause-own g c = c.admit.ensures.own c.args.program.now c.requires.own
+
+pub returns-in-Due-clause-own : goal.returns-in-Due-clause-own
+returns-in-Due-clause-own g c = c.admit.ensures.own c.args.program.now c.requires.own

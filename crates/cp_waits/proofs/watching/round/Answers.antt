@@ -8,6 +8,7 @@ use Rattle.cp_ends.proofs.Stretches.{spot_before, spot_next, stops}
 use Rattle.cp_ends.proofs.named.Keys.{key_same, key_self}
 use Rattle.cp_waits.proofs.Legs.{never_back, none_yet, not_back, not_true, returned, seen_after, seen_before, seen_once}
 use Rattle.cp_waits.proofs.Insides.{everybody_is}
+use Rattle.cp_waits.proofs.Failing.{none_well}
 use Rattle.cp_waits.proofs.watching.round.Goals as goal
 use Rattle.cp_waits.proofs.watching.round.Goals.{else-going-pid-via-then-going-pid+in_ok-is_at+else-branch, else-going-pid-via-else-going-pid}
 
@@ -88,3 +89,51 @@ returns-then-branch-clause-round g c =
       returned quiet s p n u q spot back c.if-going-pid.true,
       seen_once quiet in_call_on_slots waits_on_slots [] n s p c.add.new.self (seen_after quiet in_call_on_slots waits_on_slots [] n s p t c.loop.going c.add.new.self i.spot (c.add.ensures r c.args.limits.gates [] _ i.own i.seen)),
     )
+
+pub take_step-requires-clause-own : goal.take_step-requires-clause-own
+take_step-requires-clause-own g c = c.loop.invariant.own
+
+pub take_step-requires-clause-ready : goal.take_step-requires-clause-ready
+take_step-requires-clause-ready g c = c.loop.invariant.ready
+
+pub take_step-requires-clause-free : goal.take_step-requires-clause-free
+take_step-requires-clause-free g c = c.loop.invariant.free
+
+pub take_step-requires-clause-quiet : goal.take_step-requires-clause-quiet
+take_step-requires-clause-quiet g c = c.loop.invariant.quiet
+
+pub returns-in_err-take_from-clause-own : goal.returns-in_err-take_from-clause-own
+returns-in_err-take_from-clause-own g c = c.requires.own
+
+pub returns-in_err-take_from-clause-quiet : goal.returns-in_err-take_from-clause-quiet
+returns-in_err-take_from-clause-quiet g c = none_well c.from_residual.result _ _ c.from_residual.ensures.1
+
+pub returns-in_err-take_from-clause-round : goal.returns-in_err-take_from-clause-round
+returns-in_err-take_from-clause-round g c = none_well c.from_residual.result _ _ c.from_residual.ensures.1
+
+pub returns-in_err-stepped-clause-own : goal.returns-in_err-stepped-clause-own
+returns-in_err-stepped-clause-own g c = c.take_step.ensures.own
+
+pub returns-in_err-stepped-clause-quiet : goal.returns-in_err-stepped-clause-quiet
+returns-in_err-stepped-clause-quiet g c = none_well c.from_residual-in_err-stepped.result _ _ c.from_residual-in_err-stepped.ensures.1
+
+pub returns-in_err-stepped-clause-round : goal.returns-in_err-stepped-clause-round
+returns-in_err-stepped-clause-round g c = none_well c.from_residual-in_err-stepped.result _ _ c.from_residual-in_err-stepped.ensures.1
+
+pub returns-in_err-is_at-clause-own : goal.returns-in_err-is_at-clause-own
+returns-in_err-is_at-clause-own g c = c.take_step.ensures.own
+
+pub returns-in_err-is_at-clause-quiet : goal.returns-in_err-is_at-clause-quiet
+returns-in_err-is_at-clause-quiet g c = none_well c.from_residual-in_err-is_at.result _ _ c.from_residual-in_err-is_at.ensures.1
+
+pub returns-in_err-is_at-clause-round : goal.returns-in_err-is_at-clause-round
+returns-in_err-is_at-clause-round g c = none_well c.from_residual-in_err-is_at.result _ _ c.from_residual-in_err-is_at.ensures.1
+
+pub returns-then-branch-clause-own : goal.returns-then-branch-clause-own
+returns-then-branch-clause-own g c = c.take_step.ensures.own
+
+pub returns-clause-own : goal.returns-clause-own
+returns-clause-own g c = c.loop.invariant.own
+
+pub returns-clause-quiet : goal.returns-clause-quiet
+returns-clause-quiet g c = c.loop.invariant.quiet

@@ -5,6 +5,7 @@ use Rattle.cp_ends.proofs.Stepping.{if_goes}
 use Rattle.cp_ends.proofs.Stretches.{spot_before, spot_next}
 use Rattle.cp_waits.specs.Legs.{HasRound}
 use Rattle.cp_waits.proofs.Legs.{comes_again, cut_for_good, due_there, over_there, seen_before, seen_after}
+use Rattle.cp_waits.proofs.Failing.{none_well}
 use Rattle.cp_waits.proofs.watching.stretch.Goals as goal
 
 pub loop-init : goal.loop-init
@@ -86,3 +87,57 @@ returns-clause-comes g c = λ due h.
     let all : c.loop.counter ≡ c.args.limits.steps = omega arith in
     let x = subst (HasRound r c.args.limits.gates c.args.limits.steps t c.loop.going) c.in-Some.is c.in_ok-round.ensures.round in
     comes_again quiet in_call_on_slots waits_on_slots c.args.limits.steps (machine_of c.args.state.now) c.args.pid due c.then.new.self c.loop.counter t t c.loop.going x.0 c.in-Some.again all i.spot x.1 x.2 x.3 (c.then.ensures r c.args.limits.gates due _ _ (i.seen due h) x.3))
+
+pub take_step-requires-clause-own : goal.take_step-requires-clause-own
+take_step-requires-clause-own g c = c.loop.invariant.own
+
+pub round-requires-clause-own : goal.round-requires-clause-own
+round-requires-clause-own g c = c.loop.invariant.own
+
+pub take_step-requires-clause-ready : goal.take_step-requires-clause-ready
+take_step-requires-clause-ready g c = c.loop.invariant.ready
+
+pub round-requires-clause-ready : goal.round-requires-clause-ready
+round-requires-clause-ready g c = c.loop.invariant.ready
+
+pub take_step-requires-clause-free : goal.take_step-requires-clause-free
+take_step-requires-clause-free g c = c.loop.invariant.free
+
+pub round-requires-clause-free : goal.round-requires-clause-free
+round-requires-clause-free g c = c.loop.invariant.free
+
+pub take_step-requires-clause-quiet : goal.take_step-requires-clause-quiet
+take_step-requires-clause-quiet g c = c.loop.invariant.quiet
+
+pub round-requires-clause-quiet : goal.round-requires-clause-quiet
+round-requires-clause-quiet g c = c.loop.invariant.quiet
+
+pub returns-in_err-stepped-clause-own : goal.returns-in_err-stepped-clause-own
+returns-in_err-stepped-clause-own g c = c.take_step.ensures.own
+
+pub returns-in_err-stepped-clause-quiet : goal.returns-in_err-stepped-clause-quiet
+returns-in_err-stepped-clause-quiet g c = none_well c.from_residual.result _ _ c.from_residual.ensures.1
+
+pub returns-in_err-stepped-clause-comes : goal.returns-in_err-stepped-clause-comes
+returns-in_err-stepped-clause-comes g c = none_well c.from_residual.result _ _ c.from_residual.ensures.1
+
+pub returns-in_err-round-clause-own : goal.returns-in_err-round-clause-own
+returns-in_err-round-clause-own g c = c.round.ensures.own
+
+pub returns-in_err-round-clause-quiet : goal.returns-in_err-round-clause-quiet
+returns-in_err-round-clause-quiet g c = none_well c.from_residual-in_err-round.result _ _ c.from_residual-in_err-round.ensures.1
+
+pub returns-in_err-round-clause-comes : goal.returns-in_err-round-clause-comes
+returns-in_err-round-clause-comes g c = none_well c.from_residual-in_err-round.result _ _ c.from_residual-in_err-round.ensures.1
+
+pub returns-in-Over-clause-own : goal.returns-in-Over-clause-own
+returns-in-Over-clause-own g c = c.take_step.ensures.own
+
+pub returns-in-Due-clause-own : goal.returns-in-Due-clause-own
+returns-in-Due-clause-own g c = c.take_step.ensures.own
+
+pub returns-in-None-clause-own : goal.returns-in-None-clause-own
+returns-in-None-clause-own g c = c.round.ensures.own
+
+pub returns-clause-own : goal.returns-clause-own
+returns-clause-own g c = c.round.ensures.own

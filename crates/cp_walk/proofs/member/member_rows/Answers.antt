@@ -1,4 +1,4 @@
-use Rattle.std.proofs.Common.{◌≡◌, ◌∙◌, ◌+◌, ◌-◌, ◌<◌, ap, sym, arith, subst, length, map, take, drop, get_or, ◌++◌, []}
+use Rattle.std.proofs.Common.{◌≡◌, ◌∙◌, ◌+◌, ◌-◌, ◌<◌, ap, sym, arith, subst, length, map, take, drop, get_or, []}
 use Rattle.cp_machine.specs.System.{machine_of}
 use Rattle.cp_run.specs.Code.{node_of}
 use Rattle.cp_run.specs.Slots.{slots}
@@ -10,7 +10,7 @@ use Rattle.cp_walk.specs.Walk.{behind, walk}
 use Rattle.std.proofs.lemmas.List.{length-map}
 use Rattle.cp_walk.proofs.Errors.{err_as}
 use Rattle.cp_walk.proofs.Leading.{due_opened, due_chosen}
-use Rattle.cp_walk.proofs.Replaying.{none_over, refused_rows, replayed, replayed_all, nothing_replayed}
+use Rattle.cp_walk.proofs.Replaying.{many_at, none_over, refused_rows, replayed, replayed_all, nothing_replayed, walked_at}
 use Rattle.cp_walk.proofs.member.member_rows.Goals as goal
 
 pub loop-place-init : goal.loop-place-init
@@ -53,18 +53,15 @@ returns-clause-rows g c =
     let n = c.loop-place.place in
     let all : n ≡ length c.args.word.now = omega arith in
     let node = node_of c.loop-place.halt (machine_of c.loop-place.state) in
-    let deep : length c.as_mut_slice.result.now ≡ c.args.limits.choices - n = ap length c.as_mut_slice.ensures.value ∙ c.in-Ok-copies.ensures.count ∙ omega arith in
-    c.in_ok-walk_from.ensures.rows ∙ ap (λ l. map line_of l ++ map (behind c.word_of-path.result.items) (walk sys c.args.limits.steps (length c.as_mut_slice.result.now) node)) c.new-rows.ensures.items ∙ ap (λ w. map (behind w) (walk sys c.args.limits.steps (length c.as_mut_slice.result.now) node)) c.word_of-path.ensures ∙ ap (λ k. map (behind c.args.word.now) (walk sys c.args.limits.steps k node)) deep ∙ sym (c.loop-place.invariant.same ∙ replayed_all sys c.args.limits.steps (c.args.limits.choices - n) n c.args.word.now node all)
+    walked_at sys c.args.limits.steps c.args.word.now node (map line_of c.walk_on.new.rows.items) (map line_of c.new-rows.result.items) _ (c.args.limits.choices - n) c.in_ok-walk_on.ensures.rows (ap (map line_of) c.new-rows.ensures.items) (omega arith) ∙ sym (c.loop-place.invariant.same ∙ replayed_all sys c.args.limits.steps (c.args.limits.choices - n) n c.args.word.now node all)
 
-pub returns-in_err-walk_from-clause-many : goal.returns-in_err-walk_from-clause-many
-returns-in_err-walk_from-clause-many g c =
+pub returns-in_err-walk_on-clause-many : goal.returns-in_err-walk_on-clause-many
+returns-in_err-walk_on-clause-many g c =
     let sys = slots c.args.program.now c.args.limits.gates in
     let n = c.loop-place.place in
     let all : n ≡ length c.args.word.now = omega arith in
     let node = node_of c.loop-place.halt (machine_of c.loop-place.state) in
-    let deep : length c.as_mut_slice.result.now ≡ c.args.limits.choices - n = ap length c.as_mut_slice.ensures.value ∙ c.in-Ok-copies.ensures.count ∙ omega arith in
     let same = ap length (c.loop-place.invariant.same ∙ replayed_all sys c.args.limits.steps (c.args.limits.choices - n) n c.args.word.now node all) in
     let as_many = length-map (walk sys c.args.limits.steps (c.args.limits.choices - n) node) (behind c.args.word.now) in
     let none = ap length c.new-rows.ensures.items in
-    let depth = ap (λ k. length (walk sys c.args.limits.steps k node)) deep in
-    err_as c.from_residual.result _ (λ e. IsTooMany e → 50000 < length (rows_behind sys c.args.limits.choices c.args.limits.steps c.args.word.now)) c.from_residual.ensures.1 (λ f h many. let more = c.in_err-walk_from.ensures.many (subst IsTooMany h many) in omega (arith, same, as_many, none, depth, more))
+    err_as c.from_residual.result _ (λ e. IsTooMany e → 50000 < length (rows_behind sys c.args.limits.choices c.args.limits.steps c.args.word.now)) c.from_residual.ensures.1 (λ f h many. let more = many_at sys c.args.limits.steps node (length c.new-rows.result.items) _ (c.args.limits.choices - n) (c.in_err-walk_on.ensures.many (subst IsTooMany h many)) (omega arith) in omega (arith, same, as_many, none, more))

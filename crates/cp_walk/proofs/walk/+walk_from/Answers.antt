@@ -15,7 +15,7 @@ use Rattle.cp_key.specs.Key.{core_key}
 use Rattle.cp_walk.proofs.Branches.{walk_over, walk_limit, one_behind, not_ended, append_none, all_parts}
 use Rattle.cp_walk.proofs.Calling.{calls_leaf, if_ok}
 use Rattle.cp_walk.proofs.Counted.{added}
-use Rattle.cp_walk.proofs.Errors.{err_more, err_as, err_then, ok_as, ok_both}
+use Rattle.cp_walk.proofs.Errors.{err_more, err_as, err_then, not_ok, ok_as, ok_both}
 use Rattle.cp_walk.proofs.Leading.{due_chosen}
 use Rattle.cp_walk.proofs.Listed.{behind_each, may_other, may_last, rows_other, calls_other, many_other, rows_last, some_last, calls_last, many_last, none_due}
 use Rattle.cp_walk.proofs.Repeats.{added_or_not, known_node, new_span, some_beginnings, walked_more}
@@ -461,3 +461,263 @@ walk_once-returns-clause-walked g t c =
       same = new_span rows (map (behind word) (walk sys steps left (Choosing s))) new span lines first end;
     } in
     added_or_not sys steps choices new before c.add.new.self.nodes.entries c.in-Some.key span c.add.ensures c.in_ok-walk_from.ensures.walked is
+
+pub walk_once-returns-in-Ended-clause-rows : goal.walk_once-returns-in-Ended-clause-rows
+walk_once-returns-in-Ended-clause-rows g t c = c.walk_from.ensures.rows
+
+pub walk_once-returns-in-Ended-clause-word : goal.walk_once-returns-in-Ended-clause-word
+walk_once-returns-in-Ended-clause-word g t c = c.walk_from.ensures.word
+
+pub walk_once-returns-in-Ended-clause-walked : goal.walk_once-returns-in-Ended-clause-walked
+walk_once-returns-in-Ended-clause-walked g t c = c.walk_from.ensures.walked
+
+pub walk_once-returns-in-Ended-clause-own : goal.walk_once-returns-in-Ended-clause-own
+walk_once-returns-in-Ended-clause-own g t c = c.walk_from.ensures.own
+
+pub walk_once-returns-in-Ended-clause-kept : goal.walk_once-returns-in-Ended-clause-kept
+walk_once-returns-in-Ended-clause-kept g t c = c.walk_from.ensures.kept
+
+pub walk_once-returns-in-Ended-clause-few : goal.walk_once-returns-in-Ended-clause-few
+walk_once-returns-in-Ended-clause-few g t c = c.walk_from.ensures.few
+
+pub walk_once-returns-in-Ended-clause-many : goal.walk_once-returns-in-Ended-clause-many
+walk_once-returns-in-Ended-clause-many g t c = c.walk_from.ensures.many
+
+pub walk_once-returns-in-Ended-clause-some : goal.walk_once-returns-in-Ended-clause-some
+walk_once-returns-in-Ended-clause-some g t c = c.walk_from.ensures.some
+
+pub walk_once-returns-in-Ended-clause-calls : goal.walk_once-returns-in-Ended-clause-calls
+walk_once-returns-in-Ended-clause-calls g t c = c.walk_from.ensures.calls
+
+pub walk_once-returns-then-is_empty-clause-rows : goal.walk_once-returns-then-is_empty-clause-rows
+walk_once-returns-then-is_empty-clause-rows g t c = c.walk_from-then-is_empty.ensures.rows
+
+pub walk_once-returns-then-is_empty-clause-word : goal.walk_once-returns-then-is_empty-clause-word
+walk_once-returns-then-is_empty-clause-word g t c = c.walk_from-then-is_empty.ensures.word
+
+pub walk_once-returns-then-is_empty-clause-walked : goal.walk_once-returns-then-is_empty-clause-walked
+walk_once-returns-then-is_empty-clause-walked g t c = c.walk_from-then-is_empty.ensures.walked
+
+pub walk_once-returns-then-is_empty-clause-own : goal.walk_once-returns-then-is_empty-clause-own
+walk_once-returns-then-is_empty-clause-own g t c = c.walk_from-then-is_empty.ensures.own
+
+pub walk_once-returns-then-is_empty-clause-kept : goal.walk_once-returns-then-is_empty-clause-kept
+walk_once-returns-then-is_empty-clause-kept g t c = c.walk_from-then-is_empty.ensures.kept
+
+pub walk_once-returns-then-is_empty-clause-few : goal.walk_once-returns-then-is_empty-clause-few
+walk_once-returns-then-is_empty-clause-few g t c = c.walk_from-then-is_empty.ensures.few
+
+pub walk_once-returns-then-is_empty-clause-many : goal.walk_once-returns-then-is_empty-clause-many
+walk_once-returns-then-is_empty-clause-many g t c = c.walk_from-then-is_empty.ensures.many
+
+pub walk_once-returns-then-is_empty-clause-some : goal.walk_once-returns-then-is_empty-clause-some
+walk_once-returns-then-is_empty-clause-some g t c = c.walk_from-then-is_empty.ensures.some
+
+pub walk_once-returns-then-is_empty-clause-calls : goal.walk_once-returns-then-is_empty-clause-calls
+walk_once-returns-then-is_empty-clause-calls g t c = c.walk_from-then-is_empty.ensures.calls
+
+pub walk_once-returns-in_default-key-clause-rows : goal.walk_once-returns-in_default-key-clause-rows
+walk_once-returns-in_default-key-clause-rows g t c = c.walk_from-in_default-key.ensures.rows
+
+pub walk_once-returns-in_default-key-clause-word : goal.walk_once-returns-in_default-key-clause-word
+walk_once-returns-in_default-key-clause-word g t c = c.walk_from-in_default-key.ensures.word
+
+pub walk_once-returns-in_default-key-clause-walked : goal.walk_once-returns-in_default-key-clause-walked
+walk_once-returns-in_default-key-clause-walked g t c = c.walk_from-in_default-key.ensures.walked
+
+pub walk_once-returns-in_default-key-clause-own : goal.walk_once-returns-in_default-key-clause-own
+walk_once-returns-in_default-key-clause-own g t c = c.walk_from-in_default-key.ensures.own
+
+pub walk_once-returns-in_default-key-clause-kept : goal.walk_once-returns-in_default-key-clause-kept
+walk_once-returns-in_default-key-clause-kept g t c = c.walk_from-in_default-key.ensures.kept
+
+pub walk_once-returns-in_default-key-clause-few : goal.walk_once-returns-in_default-key-clause-few
+walk_once-returns-in_default-key-clause-few g t c = c.walk_from-in_default-key.ensures.few
+
+pub walk_once-returns-in_default-key-clause-many : goal.walk_once-returns-in_default-key-clause-many
+walk_once-returns-in_default-key-clause-many g t c = c.walk_from-in_default-key.ensures.many
+
+pub walk_once-returns-in_default-key-clause-some : goal.walk_once-returns-in_default-key-clause-some
+walk_once-returns-in_default-key-clause-some g t c = c.walk_from-in_default-key.ensures.some
+
+pub walk_once-returns-in_default-key-clause-calls : goal.walk_once-returns-in_default-key-clause-calls
+walk_once-returns-in_default-key-clause-calls g t c = c.walk_from-in_default-key.ensures.calls
+
+pub walk_once-returns-in_default-key_of-clause-rows : goal.walk_once-returns-in_default-key_of-clause-rows
+walk_once-returns-in_default-key_of-clause-rows g t c = tt
+
+pub walk_once-returns-in_default-key_of-clause-word : goal.walk_once-returns-in_default-key_of-clause-word
+walk_once-returns-in_default-key_of-clause-word g t c = tt
+
+pub walk_once-returns-in_default-key_of-clause-walked : goal.walk_once-returns-in_default-key_of-clause-walked
+walk_once-returns-in_default-key_of-clause-walked g t c = tt
+
+pub walk_once-returns-in_default-key_of-clause-few : goal.walk_once-returns-in_default-key_of-clause-few
+walk_once-returns-in_default-key_of-clause-few g t c = tt
+
+pub walk_once-returns-in_default-key_of-clause-some : goal.walk_once-returns-in_default-key_of-clause-some
+walk_once-returns-in_default-key_of-clause-some g t c = tt
+
+pub walk_once-returns-in_default-key_of-clause-calls : goal.walk_once-returns-in_default-key_of-clause-calls
+walk_once-returns-in_default-key_of-clause-calls g t c = tt
+
+pub walk_once-returns-in_default-key_of-clause-own : goal.walk_once-returns-in_default-key_of-clause-own
+walk_once-returns-in_default-key_of-clause-own g t c = c.requires.own
+
+pub walk_once-returns-in_default-key_of-clause-kept : goal.walk_once-returns-in_default-key_of-clause-kept
+walk_once-returns-in_default-key_of-clause-kept g t c = c.requires.kept
+
+pub walk_once-returns-in_default-key_of-clause-many : goal.walk_once-returns-in_default-key_of-clause-many
+walk_once-returns-in_default-key_of-clause-many g t c = λ many. absurd many
+
+pub walk_once-returns-in_err-walk_from-clause-rows : goal.walk_once-returns-in_err-walk_from-clause-rows
+walk_once-returns-in_err-walk_from-clause-rows g t c = not_ok c.from_residual.result _ _ c.from_residual.ensures.1
+
+pub walk_once-returns-in_err-walk_from-clause-word : goal.walk_once-returns-in_err-walk_from-clause-word
+walk_once-returns-in_err-walk_from-clause-word g t c = not_ok c.from_residual.result _ _ c.from_residual.ensures.1
+
+pub walk_once-returns-in_err-walk_from-clause-walked : goal.walk_once-returns-in_err-walk_from-clause-walked
+walk_once-returns-in_err-walk_from-clause-walked g t c = not_ok c.from_residual.result _ _ c.from_residual.ensures.1
+
+pub walk_once-returns-in_err-walk_from-clause-few : goal.walk_once-returns-in_err-walk_from-clause-few
+walk_once-returns-in_err-walk_from-clause-few g t c = not_ok c.from_residual.result _ _ c.from_residual.ensures.1
+
+pub walk_once-returns-in_err-walk_from-clause-some : goal.walk_once-returns-in_err-walk_from-clause-some
+walk_once-returns-in_err-walk_from-clause-some g t c = not_ok c.from_residual.result _ _ c.from_residual.ensures.1
+
+pub walk_once-returns-in_err-walk_from-clause-calls : goal.walk_once-returns-in_err-walk_from-clause-calls
+walk_once-returns-in_err-walk_from-clause-calls g t c = not_ok c.from_residual.result _ _ c.from_residual.ensures.1
+
+pub walk_once-returns-in_err-walk_from-clause-own : goal.walk_once-returns-in_err-walk_from-clause-own
+walk_once-returns-in_err-walk_from-clause-own g t c = c.walk_from-2.ensures.own
+
+pub walk_once-returns-in_err-walk_from-clause-kept : goal.walk_once-returns-in_err-walk_from-clause-kept
+walk_once-returns-in_err-walk_from-clause-kept g t c = c.walk_from-2.ensures.kept
+
+pub walk_once-returns-in_err-walk_from-clause-many : goal.walk_once-returns-in_err-walk_from-clause-many
+walk_once-returns-in_err-walk_from-clause-many g t c =
+    let sys = slots c.args.program.now c.args.limits.gates in
+    err_as c.from_residual.result _ (λ e. IsTooMany e → 50000 < length c.args.rows.now.items + length (walk sys c.args.limits.steps (length c.args.kept.now) (node_of c.args.halt (machine_of c.args.state.now)))) c.from_residual.ensures.1 (λ f h many. c.in_err-walk_from.ensures.many (subst IsTooMany h many))
+
+pub walk_once-returns-clause-rows : goal.walk_once-returns-clause-rows
+walk_once-returns-clause-rows g t c = c.in_ok-walk_from.ensures.rows
+
+pub walk_once-returns-clause-word : goal.walk_once-returns-clause-word
+walk_once-returns-clause-word g t c = c.in_ok-walk_from.ensures.word
+
+pub walk_once-returns-clause-few : goal.walk_once-returns-clause-few
+walk_once-returns-clause-few g t c = c.in_ok-walk_from.ensures.few
+
+pub walk_once-returns-clause-some : goal.walk_once-returns-clause-some
+walk_once-returns-clause-some g t c = c.in_ok-walk_from.ensures.some
+
+pub walk_once-returns-clause-calls : goal.walk_once-returns-clause-calls
+walk_once-returns-clause-calls g t c = c.in_ok-walk_from.ensures.calls
+
+pub walk_once-returns-clause-own : goal.walk_once-returns-clause-own
+walk_once-returns-clause-own g t c = c.walk_from-2.ensures.own
+
+pub walk_once-returns-clause-kept : goal.walk_once-returns-clause-kept
+walk_once-returns-clause-kept g t c = c.walk_from-2.ensures.kept
+
+pub walk_once-returns-clause-many : goal.walk_once-returns-clause-many
+walk_once-returns-clause-many g t c = tt
+
+pub walk_once-returns-in-Some-find-clause-word : goal.walk_once-returns-in-Some-find-clause-word
+walk_once-returns-in-Some-find-clause-word g t c = if_ok _ c.add_replayed.result refl
+
+pub walk_once-returns-in-Some-find-clause-own : goal.walk_once-returns-in-Some-find-clause-own
+walk_once-returns-in-Some-find-clause-own g t c = c.requires.own
+
+pub walk_once-returns-in-Some-find-clause-kept : goal.walk_once-returns-in-Some-find-clause-kept
+walk_once-returns-in-Some-find-clause-kept g t c = c.requires.kept
+
+pub walk_once-returns-in-Some-find-clause-few : goal.walk_once-returns-in-Some-find-clause-few
+walk_once-returns-in-Some-find-clause-few g t c = c.add_replayed.ensures.few
+
+pub walk_child-returns-in_err-walk_once-clause-rows : goal.walk_child-returns-in_err-walk_once-clause-rows
+walk_child-returns-in_err-walk_once-clause-rows g t c = not_ok c.from_residual.result _ _ c.from_residual.ensures.1
+
+pub walk_child-returns-in_err-walk_once-clause-word : goal.walk_child-returns-in_err-walk_once-clause-word
+walk_child-returns-in_err-walk_once-clause-word g t c = not_ok c.from_residual.result _ _ c.from_residual.ensures.1
+
+pub walk_child-returns-in_err-walk_once-clause-walked : goal.walk_child-returns-in_err-walk_once-clause-walked
+walk_child-returns-in_err-walk_once-clause-walked g t c = not_ok c.from_residual.result _ _ c.from_residual.ensures.1
+
+pub walk_child-returns-in_err-walk_once-clause-few : goal.walk_child-returns-in_err-walk_once-clause-few
+walk_child-returns-in_err-walk_once-clause-few g t c = not_ok c.from_residual.result _ _ c.from_residual.ensures.1
+
+pub walk_child-returns-in_err-walk_once-clause-some : goal.walk_child-returns-in_err-walk_once-clause-some
+walk_child-returns-in_err-walk_once-clause-some g t c = not_ok c.from_residual.result _ _ c.from_residual.ensures.1
+
+pub walk_child-returns-in_err-walk_once-clause-calls : goal.walk_child-returns-in_err-walk_once-clause-calls
+walk_child-returns-in_err-walk_once-clause-calls g t c = not_ok c.from_residual.result _ _ c.from_residual.ensures.1
+
+pub walk_child-returns-in_err-walk_once-clause-own : goal.walk_child-returns-in_err-walk_once-clause-own
+walk_child-returns-in_err-walk_once-clause-own g t c = c.walk_once.ensures.own
+
+pub walk_child-returns-in_err-walk_once-clause-deeper : goal.walk_child-returns-in_err-walk_once-clause-deeper
+walk_child-returns-in_err-walk_once-clause-deeper g t c = c.walk_once.ensures.kept
+
+pub walk_child-returns-clause-walked : goal.walk_child-returns-clause-walked
+walk_child-returns-clause-walked g t c = c.in_ok-walk_once.ensures.walked
+
+pub walk_child-returns-clause-own : goal.walk_child-returns-clause-own
+walk_child-returns-clause-own g t c = c.walk_once.ensures.own
+
+pub walk_child-returns-clause-deeper : goal.walk_child-returns-clause-deeper
+walk_child-returns-clause-deeper g t c = c.walk_once.ensures.kept
+
+pub walk_child-returns-clause-few : goal.walk_child-returns-clause-few
+walk_child-returns-clause-few g t c = c.in_ok-walk_once.ensures.few
+
+pub walk_child-returns-clause-many : goal.walk_child-returns-clause-many
+walk_child-returns-clause-many g t c = tt
+
+pub walk_from-returns-in-Ended-clause-word : goal.walk_from-returns-in-Ended-clause-word
+walk_from-returns-in-Ended-clause-word g t c = if_ok _ c.add_row.result refl
+
+pub walk_from-returns-in-Ended-clause-own : goal.walk_from-returns-in-Ended-clause-own
+walk_from-returns-in-Ended-clause-own g t c = c.requires.own
+
+pub walk_from-returns-in-Ended-clause-kept : goal.walk_from-returns-in-Ended-clause-kept
+walk_from-returns-in-Ended-clause-kept g t c = c.requires.kept
+
+pub walk_from-returns-in-Ended-clause-few : goal.walk_from-returns-in-Ended-clause-few
+walk_from-returns-in-Ended-clause-few g t c = c.add_row.ensures.few
+
+pub walk_from-returns-in_default-split_first_mut-clause-word : goal.walk_from-returns-in_default-split_first_mut-clause-word
+walk_from-returns-in_default-split_first_mut-clause-word g t c = if_ok _ c.add_row-in_default-split_first_mut.result refl
+
+pub walk_from-returns-in_default-split_first_mut-clause-own : goal.walk_from-returns-in_default-split_first_mut-clause-own
+walk_from-returns-in_default-split_first_mut-clause-own g t c = c.requires.own
+
+pub walk_from-returns-in_default-split_first_mut-clause-few : goal.walk_from-returns-in_default-split_first_mut-clause-few
+walk_from-returns-in_default-split_first_mut-clause-few g t c = c.add_row-in_default-split_first_mut.ensures.few
+
+pub walk_from-returns-in_err-walk_child-clause-rows : goal.walk_from-returns-in_err-walk_child-clause-rows
+walk_from-returns-in_err-walk_child-clause-rows g t c = not_ok c.from_residual.result _ _ c.from_residual.ensures.1
+
+pub walk_from-returns-in_err-walk_child-clause-word : goal.walk_from-returns-in_err-walk_child-clause-word
+walk_from-returns-in_err-walk_child-clause-word g t c = not_ok c.from_residual.result _ _ c.from_residual.ensures.1
+
+pub walk_from-returns-in_err-walk_child-clause-walked : goal.walk_from-returns-in_err-walk_child-clause-walked
+walk_from-returns-in_err-walk_child-clause-walked g t c = not_ok c.from_residual.result _ _ c.from_residual.ensures.1
+
+pub walk_from-returns-in_err-walk_child-clause-few : goal.walk_from-returns-in_err-walk_child-clause-few
+walk_from-returns-in_err-walk_child-clause-few g t c = not_ok c.from_residual.result _ _ c.from_residual.ensures.1
+
+pub walk_from-returns-in_err-walk_child-clause-some : goal.walk_from-returns-in_err-walk_child-clause-some
+walk_from-returns-in_err-walk_child-clause-some g t c = not_ok c.from_residual.result _ _ c.from_residual.ensures.1
+
+pub walk_from-returns-in_err-walk_child-clause-calls : goal.walk_from-returns-in_err-walk_child-clause-calls
+walk_from-returns-in_err-walk_child-clause-calls g t c = not_ok c.from_residual.result _ _ c.from_residual.ensures.1
+
+pub walk_from-returns-clause-walked : goal.walk_from-returns-clause-walked
+walk_from-returns-clause-walked g t c = c.walk_child-2.ensures.walked
+
+pub walk_from-returns-clause-own : goal.walk_from-returns-clause-own
+walk_from-returns-clause-own g t c = c.walk_child-2.ensures.own
+
+pub walk_from-returns-clause-few : goal.walk_from-returns-clause-few
+walk_from-returns-clause-few g t c = c.walk_child-2.ensures.few

@@ -6,6 +6,9 @@ use Rattle.cp_ends.proofs.GoingOn.{ok_to}
 use Rattle.cp_at_once.specs.Legs.{HasLeg}
 use Rattle.cp_at_once.proofs.Following.{at_end, at_kept, at_leg, going_first, leads_to}
 use Rattle.cp_at_once.proofs.Keeping.{word_longer}
+use Rattle.cp_at_once.proofs.Nothing.{none_well}
+use Rattle.cp_machine.specs.System.{IsStateOf}
+use Rattle.std.proofs.Common.{subst, sym}
 use Rattle.cp_at_once.proofs.search.SearchAtOnce.follow.Goals as goal
 
 pub loop-made-init : goal.loop-made-init
@@ -84,3 +87,78 @@ returns-in-End-arrival-clause-found g c = λ states word a h is arrives to shown
     let x = c.loop-made.invariant.found states word a h is arrives to shown in
     let n = c.in_ok-note-2.ensures.found r gr c.args.most x.more x.word x.here m x.holds x.is_word x.arrives x.to x.shows in
     at_end r gr (HasLeg r c.args.limits.gates) c.args.most c.args.self.now.found states c.loop-made.self.found c.note-2.new.self.found a (goal_at c.loop-made.arrival m) c.loop-made.self.told.items c.loop-made.origin c.loop-made.made x n _ (ap (λ v. goal_at v m) c.in-End-arrival.is))
+
+pub returns-in_err-note-clause-own : goal.returns-in_err-note-clause-own
+returns-in_err-note-clause-own g c = c.loop-made.invariant.own
+
+pub returns-in_err-note-clause-found : goal.returns-in_err-note-clause-found
+returns-in_err-note-clause-found g c = none_well c.from_residual.result _ _ c.from_residual.ensures.1
+
+pub returns-in_err-note-clause-ahead : goal.returns-in_err-note-clause-ahead
+returns-in_err-note-clause-ahead g c = subst (IsStateOf c.args.program.now) (sym c.note.ensures.ahead) c.loop-made.invariant.ahead
+
+pub returns-in-End-clause-own : goal.returns-in-End-clause-own
+returns-in-End-clause-own g c = c.loop-made.invariant.own
+
+pub returns-in-End-clause-ahead : goal.returns-in-End-clause-ahead
+returns-in-End-clause-ahead g c = subst (IsStateOf c.args.program.now) (sym c.note.ensures.ahead) c.loop-made.invariant.ahead
+
+pub process_at_once-requires-clause-own : goal.process_at_once-requires-clause-own
+process_at_once-requires-clause-own g c = c.loop-made.invariant.own
+
+pub process_at_once-requires-clause-quiet : goal.process_at_once-requires-clause-quiet
+process_at_once-requires-clause-quiet g c = c.loop-made.invariant.quiet
+
+pub process_at_once-requires-clause-ahead : goal.process_at_once-requires-clause-ahead
+process_at_once-requires-clause-ahead g c = subst (IsStateOf c.args.program.now) (sym c.note.ensures.ahead) c.loop-made.invariant.ahead
+
+pub keep-requires-clause-own : goal.keep-requires-clause-own
+keep-requires-clause-own g c = c.loop-made.invariant.own
+
+pub keep-requires-clause-quiet : goal.keep-requires-clause-quiet
+keep-requires-clause-quiet g c = c.loop-made.invariant.quiet
+
+pub returns-in_default-clause-own : goal.returns-in_default-clause-own
+returns-in_default-clause-own g c = c.loop-made.invariant.own
+
+pub returns-in_default-clause-ahead : goal.returns-in_default-clause-ahead
+returns-in_default-clause-ahead g c = subst (IsStateOf c.args.program.now) (sym c.keep.ensures.ahead) c.process_at_once.ensures.ahead
+
+pub choose-requires-clause-own : goal.choose-requires-clause-own
+choose-requires-clause-own g c = c.loop-made.invariant.own
+
+pub choose-requires-clause-quiet : goal.choose-requires-clause-quiet
+choose-requires-clause-quiet g c = c.loop-made.invariant.quiet
+
+pub returns-in_err-arrival-clause-own : goal.returns-in_err-arrival-clause-own
+returns-in_err-arrival-clause-own g c = c.choose.ensures.own
+
+pub returns-in_err-arrival-clause-found : goal.returns-in_err-arrival-clause-found
+returns-in_err-arrival-clause-found g c = none_well c.from_residual-in_err-arrival.result _ _ c.from_residual-in_err-arrival.ensures.1
+
+pub returns-in_err-arrival-clause-ahead : goal.returns-in_err-arrival-clause-ahead
+returns-in_err-arrival-clause-ahead g c = c.process_at_once.ensures.ahead
+
+pub returns-in_err-note-2-clause-own : goal.returns-in_err-note-2-clause-own
+returns-in_err-note-2-clause-own g c = c.loop-made.invariant.own
+
+pub returns-in_err-note-2-clause-found : goal.returns-in_err-note-2-clause-found
+returns-in_err-note-2-clause-found g c = none_well c.from_residual-in_err-note-2.result _ _ c.from_residual-in_err-note-2.ensures.1
+
+pub keep-requires-in-Choice-arrival-clause-own : goal.keep-requires-in-Choice-arrival-clause-own
+keep-requires-in-Choice-arrival-clause-own g c = c.loop-made.invariant.own
+
+pub keep-requires-in-Choice-arrival-clause-quiet : goal.keep-requires-in-Choice-arrival-clause-quiet
+keep-requires-in-Choice-arrival-clause-quiet g c = c.loop-made.invariant.quiet
+
+pub returns-in-End-arrival-clause-own : goal.returns-in-End-arrival-clause-own
+returns-in-End-arrival-clause-own g c = c.loop-made.invariant.own
+
+pub returns-in-Choice-arrival-clause-own : goal.returns-in-Choice-arrival-clause-own
+returns-in-Choice-arrival-clause-own g c = c.loop-made.invariant.own
+
+pub returns-in_err-note-2-clause-ahead : goal.returns-in_err-note-2-clause-ahead
+returns-in_err-note-2-clause-ahead g c = subst (IsStateOf c.args.program.now) (sym c.note-2.ensures.ahead) c.loop-made.invariant.ahead
+
+pub returns-in-End-arrival-clause-ahead : goal.returns-in-End-arrival-clause-ahead
+returns-in-End-arrival-clause-ahead g c = subst (IsStateOf c.args.program.now) (sym c.note-2.ensures.ahead) c.loop-made.invariant.ahead

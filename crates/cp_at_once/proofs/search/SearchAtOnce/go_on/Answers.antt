@@ -6,6 +6,7 @@ use Rattle.cp_ends.proofs.Searching.Lists.{all_at}
 use Rattle.cp_at_once.specs.Following.{AllGoOn, IsGoneThrough}
 use Rattle.cp_at_once.specs.Legs.{HasLeg}
 use Rattle.cp_at_once.proofs.Choices.{past_all, through_all, through_more}
+use Rattle.cp_at_once.proofs.Nothing.{none_well}
 use Rattle.cp_at_once.proofs.search.SearchAtOnce.go_on.Goals as goal
 
 pub thaw_at-requires : goal.thaw_at-requires
@@ -70,3 +71,6 @@ returns g c =
     let h = c.loop-number.invariant.found in
     let few = h.1.few in
     through_all r (slot_graph r c.args.limits.gates c.args.limits.steps) (HasLeg r c.args.limits.gates) c.args.most c.loop-number.self.found h.0 c.loop-number.number h.1 h.2 (omega (arith, few))
+
+pub returns-in_err-is_room : goal.returns-in_err-is_room
+returns-in_err-is_room g c = none_well c.from_residual.result _ _ c.from_residual.ensures.1

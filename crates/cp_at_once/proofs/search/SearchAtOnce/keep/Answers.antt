@@ -6,6 +6,8 @@ use Rattle.cp_ends.specs.Searched.{has}
 use Rattle.cp_at_once.proofs.Following.{known_again, one_more, one_too_many}
 use Rattle.cp_at_once.proofs.Keeping.{states_length}
 use Rattle.cp_at_once.proofs.Same.{key_self}
+use Rattle.cp_at_once.proofs.Nothing.{none_well}
+use Rattle.std.proofs.Common.{refl}
 use Rattle.cp_at_once.proofs.search.SearchAtOnce.keep.Goals as goal
 
 pub returns-then-contains-clause-found : goal.returns-then-contains-clause-found
@@ -34,3 +36,24 @@ returns-clause-found c = λ g states word h is leads.
     let same = states_length r c.args.self.now.found.kept.known.entries states h.kept in
     let room : length states < c.args.most = omega (arith, same) in
     one_more r g c.args.most c.args.self.now.found states h m word leads new (key_self m) room c.add.new.self (c.in_ok-add.ensures r states m word h.kept new (machine_own r c.args.state.now c.requires.own) c.requires.quiet key is))
+
+pub returns-in_err-take_from-clause-found : goal.returns-in_err-take_from-clause-found
+returns-in_err-take_from-clause-found c = none_well c.from_residual.result _ _ c.from_residual.ensures.1
+
+pub returns-in_err-add-clause-found : goal.returns-in_err-add-clause-found
+returns-in_err-add-clause-found c = none_well c.from_residual-in_err-add.result _ _ c.from_residual-in_err-add.ensures.1
+
+pub returns-in_err-take_from-clause-ahead : goal.returns-in_err-take_from-clause-ahead
+returns-in_err-take_from-clause-ahead c = refl
+
+pub returns-then-contains-clause-ahead : goal.returns-then-contains-clause-ahead
+returns-then-contains-clause-ahead c = refl
+
+pub returns-then-len-most-clause-ahead : goal.returns-then-len-most-clause-ahead
+returns-then-len-most-clause-ahead c = refl
+
+pub returns-in_err-add-clause-ahead : goal.returns-in_err-add-clause-ahead
+returns-in_err-add-clause-ahead c = refl
+
+pub returns-clause-ahead : goal.returns-clause-ahead
+returns-clause-ahead c = refl

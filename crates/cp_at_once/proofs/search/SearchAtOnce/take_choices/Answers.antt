@@ -10,6 +10,7 @@ use Rattle.cp_ends.proofs.Wanted.{may_those}
 use Rattle.cp_at_once.specs.Following.{GoesOn}
 use Rattle.cp_at_once.specs.Legs.{HasLeg}
 use Rattle.cp_at_once.proofs.Choices.{all_chosen, choice_taken, none_chosen, one_chosen}
+use Rattle.cp_at_once.proofs.Nothing.{none_well}
 use Rattle.cp_at_once.proofs.search.SearchAtOnce.take_choices.Goals as goal
 
 pub choose-requires-clause-may : goal.choose-requires-clause-may
@@ -77,3 +78,42 @@ returns-clause-found g c = λ states x h at same.
     let listed : all ≡ those_below gr.below (gr.may x.0) = c.as_slice-process-items.ensures.value ∙ c.wanted-numbers.ensures ∙ ap (λ m. those_below gr.below (gr.may m)) same in
     let whole : take i all ≡ all = take_all i all (omega arith) in
     all_chosen r gr (HasLeg r c.args.limits.gates) c.args.most c.args.self.now.found states c.loop-process.self.found x.0 (take i all) (λ p. ap (list_any (λ y. y == p)) (whole ∙ listed) ∙ any_wanted sys x.0 p) (c.loop-process.invariant.found states x h at same))
+
+pub returns-in_err-arrival-clause-next : goal.returns-in_err-arrival-clause-next
+returns-in_err-arrival-clause-next g c = c.choose.ensures.own
+
+pub returns-in_err-arrival-clause-found : goal.returns-in_err-arrival-clause-found
+returns-in_err-arrival-clause-found g c = none_well c.from_residual.result _ _ c.from_residual.ensures.1
+
+pub returns-in_err-arrival-clause-ahead : goal.returns-in_err-arrival-clause-ahead
+returns-in_err-arrival-clause-ahead g c = c.loop-process.invariant.ahead
+
+pub follow-requires-clause-own : goal.follow-requires-clause-own
+follow-requires-clause-own g c = c.choose.ensures.own
+
+pub follow-requires-clause-quiet : goal.follow-requires-clause-quiet
+follow-requires-clause-quiet g c = c.in_ok-arrival.ensures.quiet
+
+pub follow-requires-clause-ahead : goal.follow-requires-clause-ahead
+follow-requires-clause-ahead g c = c.loop-process.invariant.ahead
+
+pub returns-in_err-follow-clause-next : goal.returns-in_err-follow-clause-next
+returns-in_err-follow-clause-next g c = c.follow.ensures.own
+
+pub returns-in_err-follow-clause-found : goal.returns-in_err-follow-clause-found
+returns-in_err-follow-clause-found g c = none_well c.from_residual-in_err-follow.result _ _ c.from_residual-in_err-follow.ensures.1
+
+pub returns-in_err-follow-clause-ahead : goal.returns-in_err-follow-clause-ahead
+returns-in_err-follow-clause-ahead g c = c.follow.ensures.ahead
+
+pub returns-then-not-branch-clause-next : goal.returns-then-not-branch-clause-next
+returns-then-not-branch-clause-next g c = c.follow.ensures.own
+
+pub returns-then-not-branch-clause-ahead : goal.returns-then-not-branch-clause-ahead
+returns-then-not-branch-clause-ahead g c = c.follow.ensures.ahead
+
+pub returns-clause-next : goal.returns-clause-next
+returns-clause-next g c = c.loop-process.invariant.next
+
+pub returns-clause-ahead : goal.returns-clause-ahead
+returns-clause-ahead g c = c.loop-process.invariant.ahead

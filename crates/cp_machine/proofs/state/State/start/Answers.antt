@@ -6,6 +6,7 @@ use Rattle.cp_machine.specs.Reach.{Reaches}
 use Rattle.cp_machine.proofs.ReachingKept.{opening_reaches}
 use Rattle.cp_machine.proofs.OpeningFits.{still_fits, restatused}
 use Rattle.cp_machine.proofs.OpeningLines.{opening_lines}
+use Rattle.cp_machine.proofs.CallOutcomes.{none_well}
 use Rattle.cp_machine.proofs.state.State.start.Goals as goal
 
 pub returns-clause-own : goal.returns-clause-own
@@ -21,3 +22,9 @@ returns-clause-own c =
       reach = subst (Reaches r) (sym c.set_status.ensures.after) (subst R (sym c.in_ok-state.ensures.still) (opening_reaches r c.args.gates c.in_ok-state.ensures.sound c.in_ok-state.ensures.sound.typed c.in_ok-state.ensures.sound.program));
       reserved = c.set_status.ensures.reserved r c.in_ok-state.ensures.reserved;
     }
+
+pub returns-in_err-state-clause-opening : goal.returns-in_err-state-clause-opening
+returns-in_err-state-clause-opening c = none_well c.from_residual.result _ _ c.from_residual.ensures.1
+
+pub returns-in_err-state-clause-own : goal.returns-in_err-state-clause-own
+returns-in_err-state-clause-own c = none_well c.from_residual.result _ _ c.from_residual.ensures.1

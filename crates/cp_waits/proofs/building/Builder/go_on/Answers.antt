@@ -10,6 +10,7 @@ use Rattle.cp_ends.proofs.Searching.Lists.{all_at}
 use Rattle.cp_waits.specs.Building.{AddsChoicesOnSlots, IsSlotGraphTo}
 use Rattle.cp_waits.proofs.Adding.{graph_next, graph_done}
 use Rattle.cp_waits.proofs.Numbers.{quiet_may}
+use Rattle.cp_waits.proofs.Failing.{none_well}
 use Rattle.cp_waits.proofs.building.Builder.go_on.Goals as goal
 
 pub thaw_at-requires : goal.thaw_at-requires
@@ -68,3 +69,9 @@ returns g c = λ states all begun.
     let few = all.few in
     let past : length states ≤ n = omega (arith, few) in
     graph_done (silent_slots r c.args.limits.gates) in_call_on_slots waits_on_slots c.args.limits.steps states n c.loop-number.self.graph (c.loop-number.invariant.graph states all begun) past)
+
+pub returns-in_err-take_choices : goal.returns-in_err-take_choices
+returns-in_err-take_choices g c = none_well c.from_residual.result _ _ c.from_residual.ensures.1
+
+pub returns-in_err-end_state : goal.returns-in_err-end_state
+returns-in_err-end_state g c = none_well c.from_residual-in_err-end_state.result _ _ c.from_residual-in_err-end_state.ensures.1

@@ -13,6 +13,7 @@ use Rattle.cp_waits.proofs.Adding.{adds_one_choice}
 use Rattle.cp_waits.proofs.Insides.{everybody_is}
 use Rattle.cp_waits.proofs.Numbers.{few_processes, quiet_may}
 use Rattle.cp_waits.proofs.Standing.{choice_of_stretch}
+use Rattle.cp_waits.proofs.Failing.{none_well}
 use Rattle.cp_waits.proofs.building.Builder.take_choice.Goals as goal
 
 pub returns-clause-graph : goal.returns-clause-graph
@@ -38,3 +39,39 @@ returns-clause-graph g c = λ states x all count at same.
     let still = c.in_ok-note_standstill.ensures.still r gates steps (choice_leg quiet steps m p) (m ∷ []) passing last (few_processes r c.args.state.now c.requires.own c.args.state.now.few) (ap (λ (g : Graph). g.processes) same_graph ∙ count) (choice_of_stretch quiet steps m p) comes in
     let more : AddsChoicesOnSlots r gates steps states c.args.number m (p ∷ []) mid new = adds_one_choice quiet in_call_on_slots waits_on_slots steps states c.args.number (m, x.1) p c.in_ok-to.to passing came last mid noted new here allowed leads comes still c.note_standstill.ensures.processes c.note_standstill.ensures.ends c.note_standstill.ensures.edges refl refl refl c.in_ok-push.ensures.items in
     subst (λ n. AddsChoicesOnSlots r gates steps states c.args.number n (p ∷ []) c.args.self.now.graph new) same (subst (λ (g : Graph). AddsChoicesOnSlots r gates steps states c.args.number m (p ∷ []) g new) same_graph more))
+
+pub choose-requires-clause-own : goal.choose-requires-clause-own
+choose-requires-clause-own g c = c.requires.own
+
+pub choose-requires-clause-may : goal.choose-requires-clause-may
+choose-requires-clause-may g c = c.requires.may
+
+pub choose-requires-clause-quiet : goal.choose-requires-clause-quiet
+choose-requires-clause-quiet g c = c.requires.quiet
+
+pub returns-in_err-came-clause-own : goal.returns-in_err-came-clause-own
+returns-in_err-came-clause-own g c = c.choose.ensures.own
+
+pub returns-in_err-came-clause-graph : goal.returns-in_err-came-clause-graph
+returns-in_err-came-clause-graph g c = none_well c.from_residual.result _ _ c.from_residual.ensures.1
+
+pub returns-in_err-to-clause-own : goal.returns-in_err-to-clause-own
+returns-in_err-to-clause-own g c = c.choose.ensures.own
+
+pub returns-in_err-to-clause-graph : goal.returns-in_err-to-clause-graph
+returns-in_err-to-clause-graph g c = none_well c.from_residual-in_err-to.result _ _ c.from_residual-in_err-to.ensures.1
+
+pub returns-in_err-note_standstill-clause-own : goal.returns-in_err-note_standstill-clause-own
+returns-in_err-note_standstill-clause-own g c = c.choose.ensures.own
+
+pub returns-in_err-note_standstill-clause-graph : goal.returns-in_err-note_standstill-clause-graph
+returns-in_err-note_standstill-clause-graph g c = none_well c.from_residual-in_err-note_standstill.result _ _ c.from_residual-in_err-note_standstill.ensures.1
+
+pub returns-in_err-push-clause-own : goal.returns-in_err-push-clause-own
+returns-in_err-push-clause-own g c = c.choose.ensures.own
+
+pub returns-in_err-push-clause-graph : goal.returns-in_err-push-clause-graph
+returns-in_err-push-clause-graph g c = none_well c.from_residual-in_err-push.result _ _ c.from_residual-in_err-push.ensures.1
+
+pub returns-clause-own : goal.returns-clause-own
+returns-clause-own g c = c.choose.ensures.own

@@ -1,0 +1,60 @@
+use Rattle.cp_machine.proofs.CallOutcomes.{branch_fails, branch_goes}
+use Rattle.cp_machine.specs.Machine.{machine_of, under}
+use Rattle.cp_machine.specs.Stack.{rest_of}
+use Rattle.cp_machine.specs.Statements.{fault, local, outcome}
+use Rattle.cp_store.specs.Values.{is_true}
+use Rattle.std.proofs.Common.{Bool, ap, false, of_z, rules, sym, to_z, true, w16, ◌∙◌, ◌≡◌}
+use Rattle.cp_machine.proofs.statement.branch.Goals as goal
+
+pub value_of-requires-clause-pid : goal.value_of-requires-clause-pid
+value_of-requires-clause-pid c = c.requires.pid
+
+pub value_of-requires-clause-reads : goal.value_of-requires-clause-reads
+value_of-requires-clause-reads c = c.requires.reads
+
+pub returns-in_err-value-clause-after : goal.returns-in_err-value-clause-after
+returns-in_err-value-clause-after c =
+    let m = machine_of c.args.state.now in
+    let told : outcome c.from_residual.result m c.args.pid c.args.item.now.line ≡ fault m c.args.pid c.args.item.now.line c.in_err-value.field-0.0 = search rules in
+    branch_fails m c.args.pid c.args.item.now.line c.args.test.now c.args.list c.args.other (rest_of c.args.item.now.next (under m c.args.pid)) c.in_err-value.field-0.0 (sym c.value_of.ensures ∙ c.in_err-value.was {u = tt}) ∙ sym told
+
+pub returns-in_err-value-clause-reserved : goal.returns-in_err-value-clause-reserved
+returns-in_err-value-clause-reserved c = λ r h. h
+
+pub replace-requires-clause-pid : goal.replace-requires-clause-pid
+replace-requires-clause-pid c = c.requires.pid
+
+pub replace-requires-clause-busy : goal.replace-requires-clause-busy
+replace-requires-clause-busy c = c.requires.busy
+
+pub replace-requires-clause-room : goal.replace-requires-clause-room
+replace-requires-clause-room c = c.requires.room
+
+pub replace-requires-else-is_true-clause-pid : goal.replace-requires-else-is_true-clause-pid
+replace-requires-else-is_true-clause-pid c = c.requires.pid
+
+pub replace-requires-else-is_true-clause-busy : goal.replace-requires-else-is_true-clause-busy
+replace-requires-else-is_true-clause-busy c = c.requires.busy
+
+pub replace-requires-else-is_true-clause-room : goal.replace-requires-else-is_true-clause-room
+replace-requires-else-is_true-clause-room c = c.requires.other_room
+
+pub returns-then-is_true-clause-after : goal.returns-then-is_true-clause-after
+returns-then-is_true-clause-after c =
+    let m = machine_of c.args.state.now in
+    let value_is : to_z w16 (of_z w16 c.in_ok-value.value) ≡ c.in_ok-value.value = search rules in
+    let test : ◌≡◌ {A = Bool} (is_true c.in_ok-value.value) true = cc (value_is, c.is_true.ensures, c.if-is_true.true) in
+    branch_goes m c.args.pid c.args.item.now.line c.args.test.now c.args.list c.args.other (rest_of c.args.item.now.next (under m c.args.pid)) c.in_ok-value.value true (sym c.value_of.ensures ∙ c.in_ok-value.was {u = tt}) test ∙ ap local (sym c.replace.ensures.after)
+
+pub returns-then-is_true-clause-reserved : goal.returns-then-is_true-clause-reserved
+returns-then-is_true-clause-reserved c = c.replace.ensures.reserved
+
+pub returns-else-is_true-clause-after : goal.returns-else-is_true-clause-after
+returns-else-is_true-clause-after c =
+    let m = machine_of c.args.state.now in
+    let value_is : to_z w16 (of_z w16 c.in_ok-value.value) ≡ c.in_ok-value.value = search rules in
+    let test : ◌≡◌ {A = Bool} (is_true c.in_ok-value.value) false = cc (value_is, c.is_true.ensures, c.if-is_true.false) in
+    branch_goes m c.args.pid c.args.item.now.line c.args.test.now c.args.list c.args.other (rest_of c.args.item.now.next (under m c.args.pid)) c.in_ok-value.value false (sym c.value_of.ensures ∙ c.in_ok-value.was {u = tt}) test ∙ ap local (sym c.replace-else-is_true.ensures.after)
+
+pub returns-else-is_true-clause-reserved : goal.returns-else-is_true-clause-reserved
+returns-else-is_true-clause-reserved c = c.replace-else-is_true.ensures.reserved

@@ -1,0 +1,31 @@
+use Rattle.cp_machine.specs.Machine.{machine_of, under}
+use Rattle.cp_machine.specs.Statements.{Stepped, outcome}
+use Rattle.cp_machine.specs.Step.{act}
+use Rattle.cp_machine.specs.declared.event.Event.{Event}
+use Rattle.std.proofs.Common.{ap, sym, ◌∙◌}
+use Rattle.cp_machine.proofs.take.take_item.Goals as goal
+
+pub perform-requires-clause-taken : goal.perform-requires-clause-taken
+perform-requires-clause-taken c = record { own = c.requires.own; within = c.requires.pid; ready = c.requires.ready; same = c.item-item.ensures.value; top = c.requires.top }
+
+pub perform-requires-clause-line : goal.perform-requires-clause-line
+perform-requires-clause-line c = c.requires.line
+
+pub returns-in-Ok-clause-after : goal.returns-in-Ok-clause-after
+returns-in-Ok-clause-after c =
+    let m = machine_of c.args.state.now in
+    let n = machine_of c.perform.new.state in
+    ap (λ i. act c.args.program.now m c.args.pid c.args.at i i.action (under m c.args.pid)) (sym c.item-item.ensures.value) ∙ c.perform.ensures.after ∙ ap (λ o. outcome o n c.args.pid c.item-item.result.now.line) c.in-Ok.is
+
+pub returns-in-Ok-clause-reserved : goal.returns-in-Ok-clause-reserved
+returns-in-Ok-clause-reserved c = c.perform.ensures.reserved
+
+pub returns-in-Err-clause-after : goal.returns-in-Err-clause-after
+returns-in-Err-clause-after c =
+    let m = machine_of c.args.state.now in
+    let n = machine_of c.perform.new.state in
+    let told : Event → Stepped = λ e. record { machine = n; event = e } in
+    ap (λ i. act c.args.program.now m c.args.pid c.args.at i i.action (under m c.args.pid)) (sym c.item-item.ensures.value) ∙ c.perform.ensures.after ∙ ap (λ o. outcome o n c.args.pid c.item-item.result.now.line) c.in-Err.is ∙ ap told (sym c.failed.ensures)
+
+pub returns-in-Err-clause-reserved : goal.returns-in-Err-clause-reserved
+returns-in-Err-clause-reserved c = c.perform.ensures.reserved
