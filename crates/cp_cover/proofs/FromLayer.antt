@@ -1,5 +1,5 @@
 -- From layer to layer.
-use Rattle.std.proofs.Common.{true≢false, ◌≡◌, ◌⊎◌, inl, inr, ⊎_elim, ◌<◌, ◌≤◌, ◌+◌, ℕ, zero, suc, Bool, true, false, ◌&&◌, nat_lt, if◌then◌else◌, List, [], ◌∷◌, ◌++◌, length, get_or, Some, refl, sym, ap, subst, ◌∙◌, arith}
+use Rattle.std.proofs.Common.{true≢false, ◌≡◌, ◌⊎◌, inl, inr, ⊎_elim, ◌<◌, ◌≤◌, ◌+◌, ℕ, zero, suc, Bool, true, false, ◌&&◌, nat_lt, if◌then◌else◌, List, [], ◌∷◌, length, Some, refl, sym, ap, subst, ◌∙◌, arith}
 use Rattle.std.specs.Prelude.{Contains, slice_get}
 use Rattle.std.proofs.lemmas.Bool.{ltb-true, cases_order}
 use Rattle.std.proofs.lemmas.List.Elements.{Contains-append_left, Contains-append_right, Contains-append_cases, Contains-push, Contains-push_cases}
@@ -8,12 +8,12 @@ use Rattle.cp_slots.specs.Tables.{Tables}
 use Rattle.cp_key.proofs.Keys.{key_tells}
 use Rattle.cp_machine.specs.Machine.{Machine}
 use Rattle.cp_run.specs.System.{System}
-use Rattle.cp_run.specs.Run.{Node, Choosing, may, those_below, chosen, opened}
+use Rattle.cp_run.specs.Run.{Node, may, those_below, chosen, opened}
 use Rattle.cp_cover.specs.declared.keys.StateKey.{StateKey}
 use Rattle.cp_cover.specs.declared.mark.Mark.{Mark}
 use Rattle.cp_cover.specs.Reached.{IsDue, IsReached, chosen_marks, opened_marks}
 use Rattle.cp_cover.specs.Marks.{Adds}
-use Rattle.cp_cover.specs.Layers.{AddsNode, AreOwn, IsKeyOf, HasKey, IsDueKey, IsLayer, AreReached, FromState, FromLayer, IsAfter}
+use Rattle.cp_cover.specs.Layers.{AddsNode, AreOwn, IsKeyOf, HasKey, IsLayer, AreReached, FromState, FromLayer, IsAfter}
 
 pub contains_at : {X : Type 0} (xs : List X) (i : ℕ) (x : X) → slice_get xs i ≡ Some x → Contains xs x
 contains_at xs i x at = (i, slice_get_within xs i x at, get_or_from_slice_get xs i x x at)

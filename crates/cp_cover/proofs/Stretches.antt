@@ -1,5 +1,5 @@
 -- The marks of a stretch, step by step.
-use Rattle.std.proofs.Common.{◌≡◌, ℕ, suc, ◌-◌, ◌+◌, ◌<◌, true, false, if◌then◌else◌, List, [], ◌++◌, ap, refl, sym, subst, ◌∙◌, arith}
+use Rattle.std.proofs.Common.{◌≡◌, ℕ, suc, ◌-◌, ◌+◌, ◌<◌, true, false, List, ◌++◌, ap, refl, sym, subst, ◌∙◌, arith}
 use Rattle.cp_machine.specs.Machine.{Machine, thread_at}
 use Rattle.cp_run.specs.declared.outcome.Turn.{Turn}
 use Rattle.cp_run.specs.System.{System}

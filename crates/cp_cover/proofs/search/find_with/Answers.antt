@@ -2,7 +2,7 @@ use Rattle.std.proofs.Common.{◌≡◌, ◌+◌, ℕ, suc, List, true, sym, sub
 use Rattle.cp_run.specs.Slots.{slots}
 use Rattle.cp_cover.specs.declared.keys.StateKey.{StateKey}
 use Rattle.cp_cover.specs.declared.mark.Mark.{Mark}
-use Rattle.cp_cover.specs.Layers.{AreReached, IsAfter, IsLayer}
+use Rattle.cp_cover.specs.Layers.{AreReached, IsLayer}
 use Rattle.cp_cover.proofs.FromLayer.{same_marks}
 use Rattle.cp_cover.proofs.search.find_with.Goals as goal
 

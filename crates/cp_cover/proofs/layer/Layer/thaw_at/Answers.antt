@@ -1,4 +1,4 @@
-use Rattle.std.proofs.Common.{◌∙◌, Some, sym, ap}
+use Rattle.std.proofs.Common.{◌∙◌, sym, ap}
 use Rattle.cp_key.specs.Key.{key_of}
 use Rattle.cp_cover.proofs.FromLayer.{contains_at}
 use Rattle.cp_cover.proofs.layer.Layer.thaw_at.Goals as goal

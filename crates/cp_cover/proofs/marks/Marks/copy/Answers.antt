@@ -1,4 +1,4 @@
-use Rattle.std.proofs.Common.{◌<◌, [], ◌∷◌, length, sym, subst, take, arith}
+use Rattle.std.proofs.Common.{◌<◌, [], length, sym, subst, take, arith}
 use Rattle.std.proofs.lemmas.List.{take_more}
 use Rattle.cp_cover.specs.Marks.{Adds}
 use Rattle.cp_cover.proofs.Adding.{adds_then}

@@ -1,11 +1,11 @@
-use Rattle.std.proofs.Common.{rules, ◌≡◌, ◌∙◌, ◌≤◌, List, [], true, false, length, refl, sym, ap, subst, arith}
+use Rattle.std.proofs.Common.{◌≡◌, ◌≤◌, List, true, length, refl, sym, subst, arith}
 use Rattle.cp_machine.specs.System.{machine_of}
 use Rattle.cp_run.specs.Run.{may, those_below}
 use Rattle.cp_run.specs.Slots.{slots}
 use Rattle.cp_cover.specs.declared.keys.StateKey.{StateKey}
-use Rattle.cp_cover.specs.Layers.{AreOwn, FromLayer, IsAfter, IsDueKey, IsKeyOf}
+use Rattle.cp_cover.specs.Layers.{FromLayer}
 use Rattle.cp_cover.specs.Reached.{IsDue}
-use Rattle.cp_cover.proofs.FromLayer.{contains_at, from_all, from_more, from_none, key_machine, no_room, own_keys}
+use Rattle.cp_cover.proofs.FromLayer.{from_all, from_more, from_none, key_machine, no_room, own_keys}
 use Rattle.cp_cover.proofs.search.Search.next_layer.Goals as goal
 
 pub loop-number-init : goal.loop-number-init

@@ -1,4 +1,4 @@
-use Rattle.std.proofs.Common.{◌≡◌, ◌∙◌, List, [], sym, ap, subst}
+use Rattle.std.proofs.Common.{List, [], sym, subst}
 use Rattle.cp_run.specs.Slots.{slots}
 use Rattle.cp_run.proofs.Tracing.{ok_as}
 use Rattle.cp_cover.specs.declared.mark.Mark.{Mark}

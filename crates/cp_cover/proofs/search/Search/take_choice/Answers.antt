@@ -1,4 +1,4 @@
-use Rattle.std.proofs.Common.{◌≡◌, sym, subst}
+use Rattle.std.proofs.Common.{sym, subst}
 use Rattle.cp_machine.specs.Machine.{Machine}
 use Rattle.cp_run.specs.Run.{Node}
 use Rattle.cp_run.proofs.Tracing.{ok_as}

@@ -1,8 +1,8 @@
-use Rattle.std.proofs.Common.{rules, ◌≡◌, ◌∙◌, ◌<◌, ◌++◌, ◌∷◌, [], ℕ, List, true, get_or, length, sym, take, ap, subst, arith}
+use Rattle.std.proofs.Common.{rules, ◌≡◌, ◌∙◌, ◌<◌, ℕ, List, true, get_or, length, sym, take, ap, subst, arith}
 use Rattle.std.proofs.lemmas.List.{take_all, take_more}
 use Rattle.cp_machine.specs.Machine.{Machine}
 use Rattle.cp_machine.specs.System.{machine_of}
-use Rattle.cp_run.specs.Run.{Node, chosen, may, those_below}
+use Rattle.cp_run.specs.Run.{chosen, may, those_below}
 use Rattle.cp_run.specs.Slots.{slots}
 use Rattle.cp_cover.specs.Layers.{AddsNode, FromState}
 use Rattle.cp_cover.specs.Marks.{Adds}
