@@ -81,7 +81,6 @@ step-event-requires-clause-still g c = c.local_step.ensures.still
 pub returns-then-is_some-clause-own : goal.returns-then-is_some-clause-own
 returns-then-is_some-clause-own g c = c.step-event.ensures.own
 
-
 pub returns-clause-own : goal.returns-clause-own
 returns-clause-own g c = c.loop.invariant.own
 
