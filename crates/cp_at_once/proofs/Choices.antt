@@ -17,8 +17,8 @@ use Rattle.cp_ends.proofs.Searching.Lists.{all_at}
 use Rattle.cp_ends.proofs.words.Translated.{arrival_on}
 use Rattle.cp_at_once.specs.Following.{AllGoOn, Answers, Follows, GoesOn, Grows, IsDone, IsGone, IsGoneThrough, SlotGraph}
 use Rattle.cp_at_once.specs.Holds.{Holds, IsWordOf}
-use Rattle.cp_at_once.specs.declared.found.Found.{Found}
-use Rattle.cp_at_once.specs.declared.origin.Origin.{Origin}
+use Rattle.cp_at_once.specs.declared.found.FoundAtOnce.{FoundAtOnce}
+use Rattle.cp_at_once.specs.declared.origin.OriginAtOnce.{OriginAtOnce}
 use Rattle.cp_at_once.proofs.Following.{States, done_still, gone_still}
 use Rattle.cp_at_once.proofs.Keeping.{word_choice}
 use Rattle.cp_at_once.proofs.Noting.{grows_on, grows_same}
@@ -35,16 +35,16 @@ or_cases false b h = inr h
 
 module _ (r : Tables) (g : SlotGraph) (Leg : Machine → ℕ → Type 0) (most : ℕ) where
   -- these choices of a state were gone on from
-  pub record Chosen (before : Found) (states : States) (now : Found) (s : Machine) (ps : List ℕ) : Type 0 where
+  pub record Chosen (before : FoundAtOnce) (states : States) (now : FoundAtOnce) (s : Machine) (ps : List ℕ) : Type 0 where
     pub more : States
     pub holds : Holds r g most now more
     pub grows : Grows before states now more
     pub gone : (p : ℕ) → list_any (λ y. y == p) ps ≡ true → IsGone now (Follows g Leg now more 8) (g.on s p)
 
-  pub none_chosen : (before : Found) (states : States) (s : Machine) → Holds r g most before states → Chosen before states before s []
+  pub none_chosen : (before : FoundAtOnce) (states : States) (s : Machine) → Holds r g most before states → Chosen before states before s []
   none_chosen before states s h = record { more = states; holds = h; grows = grows_same before states; gone = λ p k. absurd (cc) }
 
-  pub one_chosen : (before : Found) (states : States) (now after : Found) (s : Machine) (all : List ℕ) (i : ℕ) → i < length all → (x : Chosen before states now s (take i all)) → GoesOn r g Leg most 8 now x.more after (g.on s (get_or all i 0)) true → Chosen before states after s (take (i + 1) all)
+  pub one_chosen : (before : FoundAtOnce) (states : States) (now after : FoundAtOnce) (s : Machine) (all : List ℕ) (i : ℕ) → i < length all → (x : Chosen before states now s (take i all)) → GoesOn r g Leg most 8 now x.more after (g.on s (get_or all i 0)) true → Chosen before states after s (take (i + 1) all)
   one_chosen before states now after s all i lt x k =
       let m : Grows now x.more after k.0 = k.2 in
       record {
@@ -59,16 +59,16 @@ module _ (r : Tables) (g : SlotGraph) (Leg : Machine → ℕ → Type 0) (most :
       by p m (inr is) = subst (λ q. IsGone after (Follows g Leg after k.0 8) (g.on s q)) (number (get_or all i 0) p is) k.3
 
   -- one of them leads to a state too many
-  pub choice_stops : (before : Found) (states : States) (now after : Found) (s : Machine) (a : SlotArrival) (ps : List ℕ) (x : Chosen before states now s ps) → GoesOn r g Leg most 8 now x.more after a false → AllGoOn r g Leg most 8 before states after s false
+  pub choice_stops : (before : FoundAtOnce) (states : States) (now after : FoundAtOnce) (s : Machine) (a : SlotArrival) (ps : List ℕ) (x : Chosen before states now s ps) → GoesOn r g Leg most 8 now x.more after a false → AllGoOn r g Leg most 8 before states after s false
   choice_stops before states now after s a ps x k = k
 
   -- all of them are
-  pub all_chosen : (before : Found) (states : States) (now : Found) (s : Machine) (ps : List ℕ) → ((p : ℕ) → list_any (λ y. y == p) ps ≡ g.may s p) → Chosen before states now s ps → AllGoOn r g Leg most 8 before states now s true
+  pub all_chosen : (before : FoundAtOnce) (states : States) (now : FoundAtOnce) (s : Machine) (ps : List ℕ) → ((p : ℕ) → list_any (λ y. y == p) ps ≡ g.may s p) → Chosen before states now s ps → AllGoOn r g Leg most 8 before states now s true
   all_chosen before states now s ps same x = (x.more, x.holds, x.grows, λ p may. x.gone p (same p ∙ may))
 
   -- ---- a kept state more
 
-  pub through_more : (now : Found) (states : States) (n : ℕ) (x : Machine × List ℕ) (after : Found) → IsGoneThrough g Leg 8 n now states → slice_get states n ≡ Some x → AllGoOn r g Leg most 8 now states after x.0 true → (more : States) × Holds r g most after more × IsGoneThrough g Leg 8 (n + 1) after more
+  pub through_more : (now : FoundAtOnce) (states : States) (n : ℕ) (x : Machine × List ℕ) (after : FoundAtOnce) → IsGoneThrough g Leg 8 n now states → slice_get states n ≡ Some x → AllGoOn r g Leg most 8 now states after x.0 true → (more : States) × Holds r g most after more × IsGoneThrough g Leg 8 (n + 1) after more
   through_more now states n x after t at k =
       let m : Grows now states after k.0 = k.2 in (
         k.0,
@@ -92,7 +92,7 @@ module _ (r : Tables) (g : SlotGraph) (Leg : Machine → ℕ → Type 0) (most :
       by m i y there (inr (inr beyond)) less = absurd (omega (arith, beyond, less))
 
   -- there is no further one
-  pub through_all : (now : Found) (states : States) (n : ℕ) → Holds r g most now states → IsGoneThrough g Leg 8 n now states → length states ≤ n → Answers r g Leg most 8 now true
+  pub through_all : (now : FoundAtOnce) (states : States) (n : ℕ) → Holds r g most now states → IsGoneThrough g Leg 8 n now states → length states ≤ n → Answers r g Leg most 8 now true
   through_all now states n h t few = (states, h, record { start = t.start; on = λ i x less at. t.on i x (omega (arith, less, few)) at })
 
 -- where no state has this number, there are no more
@@ -107,7 +107,7 @@ past_all states n none = by (slice_get_cases states n).1
 
 module _ (r : Tables) (g : SlotGraph) (Leg : Machine → ℕ → Type 0) (most : ℕ) where
   -- by what holds of the arrival to which it leads
-  pub choice_taken : (before : Found) (states : States) (now after : Found) (at : ℕ) (x : Machine × List ℕ) (ps : List ℕ) (c : Chosen r g Leg most before states now x.0 ps) → slice_get states at ≡ Some x → (p : ℕ) → g.may x.0 p ≡ true → (o : Origin) → o.state ≡ Some at → o.numbers.items ≡ p ∷ [] → (goal : Goal Machine End) (told : List Shown) → goal ≡ (g.on x.0 p).goal → told ≡ (g.on x.0 p).shown → (is_room : Bool) →
+  pub choice_taken : (before : FoundAtOnce) (states : States) (now after : FoundAtOnce) (at : ℕ) (x : Machine × List ℕ) (ps : List ℕ) (c : Chosen r g Leg most before states now x.0 ps) → slice_get states at ≡ Some x → (p : ℕ) → g.may x.0 p ≡ true → (o : OriginAtOnce) → o.state ≡ Some at → o.numbers.items ≡ p ∷ [] → (goal : Goal Machine End) (told : List Shown) → goal ≡ (g.on x.0 p).goal → told ≡ (g.on x.0 p).shown → (is_room : Bool) →
       ((states : States) (word : List ℕ) (a : SlotArrival) → Holds r g most now states → IsWordOf states o word → ArrivesAt g word a → goal ≡ a.goal → told ≡ a.shown → GoesOn r g Leg most 8 now states after a is_room) → GoesOn r g Leg most 8 now c.more after (g.on x.0 p) is_room
   choice_taken before states now after at x ps c there p may o state numbers goal told to shows is_room on =
       let here = c.grows.places at x there in
@@ -117,13 +117,13 @@ module _ (r : Tables) (g : SlotGraph) (Leg : Machine → ℕ → Type 0) (most :
 -- ---- what is found, whether it is said to be whole or not
 
 module _ (r : Tables) (g : SlotGraph) (Leg : Machine → ℕ → Type 0) (most : ℕ) where
-  grows_marked : (found : Found) (w : Bool) (states : States) → Grows found states (record found { is_whole = w }) states
+  grows_marked : (found : FoundAtOnce) (w : Bool) (states : States) → Grows found states (record found { is_whole = w }) states
   grows_marked found w states = record { ends = λ e h. h; values = λ v h. h; kept = λ m h. h; places = λ i x h. h }
 
-  holds_marked : (found : Found) (w : Bool) (states : States) → Holds r g most found states → Holds r g most (record found { is_whole = w }) states
+  holds_marked : (found : FoundAtOnce) (w : Bool) (states : States) → Holds r g most found states → Holds r g most (record found { is_whole = w }) states
   holds_marked found w states h = record { kept = h.kept; few = h.few; reached = h.reached; ends = h.ends; values = h.values }
 
-  pub answers_marked : (found : Found) (w b : Bool) → Answers r g Leg most 8 found b → Answers r g Leg most 8 (record found { is_whole = w }) b
+  pub answers_marked : (found : FoundAtOnce) (w b : Bool) → Answers r g Leg most 8 found b → Answers r g Leg most 8 (record found { is_whole = w }) b
   answers_marked found w true (states, h, t) =
       let m = grows_marked found w states in (
         states,

@@ -15,9 +15,9 @@ use Rattle.cp_ends.proofs.Keeping.{get_more}
 use Rattle.cp_ends.proofs.words.Translated.{arrival_on}
 use Rattle.cp_at_once.specs.Following.{Follows, GoesOn, Grows, IsDone, IsGone, IsKept, IsKnownGoal, NotesArrival, SlotGraph}
 use Rattle.cp_at_once.specs.Holds.{AreStates, HasWord, Holds, IsWordOf}
-use Rattle.cp_at_once.specs.declared.found.Found.{Found}
+use Rattle.cp_at_once.specs.declared.found.FoundAtOnce.{FoundAtOnce}
 use Rattle.cp_at_once.specs.declared.kept.Kept.{Kept}
-use Rattle.cp_at_once.specs.declared.origin.Origin.{Origin}
+use Rattle.cp_at_once.specs.declared.origin.OriginAtOnce.{OriginAtOnce}
 use Rattle.cp_at_once.proofs.Keeping.{word_grows}
 use Rattle.cp_at_once.proofs.Noting.{grows_on, grows_same}
 
@@ -26,7 +26,7 @@ States = List (Machine × List ℕ)
 
 -- ---- followed still
 
-module _ (g : SlotGraph) (Leg : Machine → ℕ → Type 0) (f : Found) (a : States) (h : Found) (b : States) (m : Grows f a h b) where
+module _ (g : SlotGraph) (Leg : Machine → ℕ → Type 0) (f : FoundAtOnce) (a : States) (h : FoundAtOnce) (b : States) (m : Grows f a h b) where
   goal_grows : (P Q : Machine → Type 0) → ((s : Machine) → P s → Q s) → (o : Goal Machine End) → IsKnownGoal f P o → IsKnownGoal h Q o
   goal_grows P Q on (Place s) k = on s k
   goal_grows P Q on (graph.End e) k = m.ends e k
@@ -46,18 +46,18 @@ module _ (g : SlotGraph) (Leg : Machine → ℕ → Type 0) (f : Found) (a : Sta
   done_still c s k = λ p may. gone_still c (g.on s p) (k p may)
 
 -- a kept state is followed
-pub kept_follows : (g : SlotGraph) (Leg : Machine → ℕ → Type 0) (f : Found) (a : States) (c : ℕ) (s : Machine) → has same_key a s ≡ true → Follows g Leg f a c s
+pub kept_follows : (g : SlotGraph) (Leg : Machine → ℕ → Type 0) (f : FoundAtOnce) (a : States) (c : ℕ) (s : Machine) → has same_key a s ≡ true → Follows g Leg f a c s
 kept_follows g Leg f a zero s k = k
 kept_follows g Leg f a (suc c) s k = inl k
 
 -- ---- words
 
-pub words_still : (a b : States) → ((i : ℕ) (x : Machine × List ℕ) → slice_get a i ≡ Some x → slice_get b i ≡ Some x) → (o : Origin) (P : List ℕ → Type 0) → HasWord a o P → HasWord b o P
+pub words_still : (a b : States) → ((i : ℕ) (x : Machine × List ℕ) → slice_get a i ≡ Some x → slice_get b i ≡ Some x) → (o : OriginAtOnce) (P : List ℕ → Type 0) → HasWord a o P → HasWord b o P
 words_still a b on o P h = (h.0, word_grows a b o h.0 on h.1, h.2)
 
 -- ---- a state more
 
-module _ (r : Tables) (g : SlotGraph) (most : ℕ) (found : Found) (states : States) (h : Holds r g most found states) (m : Machine) (word : List ℕ) (leads : LeadsToPlace g m word) (new : has same_key states m ≡ false) where
+module _ (r : Tables) (g : SlotGraph) (most : ℕ) (found : FoundAtOnce) (states : States) (h : Holds r g most found states) (m : Machine) (word : List ℕ) (leads : LeadsToPlace g m word) (new : has same_key states m ≡ false) where
   abbrev more : States
   more = states ++ (m, word) ∷ []
 
@@ -97,14 +97,14 @@ module _ (r : Tables) (g : SlotGraph) (most : ℕ) (found : Found) (states : Sta
   pub one_too_many : most ≤ length states → IsKept r g most found states found m false
   one_too_many full = (h, record { state = m; word = word; leads = leads; new = new; full = full })
 
-pub known_again : (r : Tables) (g : SlotGraph) (most : ℕ) (found : Found) (states : States) (m : Machine) → Holds r g most found states → has same_key states m ≡ true → IsKept r g most found states found m true
+pub known_again : (r : Tables) (g : SlotGraph) (most : ℕ) (found : FoundAtOnce) (states : States) (m : Machine) → Holds r g most found states → has same_key states m ≡ true → IsKept r g most found states found m true
 known_again r g most found states m h there = (states, h, grows_same found states, there)
 
 -- ---- an arrival
 
 module _ (r : Tables) (g : SlotGraph) (Leg : Machine → ℕ → Type 0) (most : ℕ) where
   -- From `before` on so much was found, and the arrival b is to be gone on from with c legs in a row at most, so that a is gone on from.
-  pub record Going (before : Found) (states : States) (now : Found) (a : SlotArrival) (goal : Goal Machine End) (told : List Shown) (o : Origin) (made : ℕ) : Type 0 where
+  pub record Going (before : FoundAtOnce) (states : States) (now : FoundAtOnce) (a : SlotArrival) (goal : Goal Machine End) (told : List Shown) (o : OriginAtOnce) (made : ℕ) : Type 0 where
     pub more : States
     pub word : List ℕ
     pub here : SlotArrival
@@ -116,13 +116,13 @@ module _ (r : Tables) (g : SlotGraph) (Leg : Machine → ℕ → Type 0) (most :
     pub arrives : ArrivesAt g word here
     pub to : goal ≡ here.goal
     pub shows : told ≡ here.shown
-    pub onward : (after : Found) (last : States) → Grows now more after last → IsGone after (Follows g Leg after last left) here → IsGone after (Follows g Leg after last 8) a
+    pub onward : (after : FoundAtOnce) (last : States) → Grows now more after last → IsGone after (Follows g Leg after last left) here → IsGone after (Follows g Leg after last 8) a
 
-  pub going_first : (before : Found) (states : States) (a : SlotArrival) (goal : Goal Machine End) (told : List Shown) (o : Origin) (word : List ℕ) → Holds r g most before states → IsWordOf states o word → ArrivesAt g word a → goal ≡ a.goal → told ≡ a.shown → Going before states before a goal told o 0
+  pub going_first : (before : FoundAtOnce) (states : States) (a : SlotArrival) (goal : Goal Machine End) (told : List Shown) (o : OriginAtOnce) (word : List ℕ) → Holds r g most before states → IsWordOf states o word → ArrivesAt g word a → goal ≡ a.goal → told ≡ a.shown → Going before states before a goal told o 0
   going_first before states a goal told o word h is arrives to shows =
       record { more = states; word = word; here = a; left = 8; count = refl; holds = h; grows = grows_same before states; is_word = is; arrives = arrives; to = to; shows = shows; onward = λ after last m k. k }
 
-  module _ (before : Found) (states : States) (now mid : Found) (a : SlotArrival) (goal : Goal Machine End) (told : List Shown) (o : Origin) (made : ℕ) (x : Going before states now a goal told o made) (noted : NotesArrival r g most now x.more mid x.here) where
+  module _ (before : FoundAtOnce) (states : States) (now mid : FoundAtOnce) (a : SlotArrival) (goal : Goal Machine End) (told : List Shown) (o : OriginAtOnce) (made : ℕ) (x : Going before states now a goal told o made) (noted : NotesArrival r g most now x.more mid x.here) where
     -- at an end
     pub at_end : (e : End) → goal ≡ graph.End e → GoesOn r g Leg most 8 before states mid a true
     at_end e is =
@@ -132,7 +132,7 @@ module _ (r : Tables) (g : SlotGraph) (Leg : Machine → ℕ → Type 0) (most :
         known = subst (IsKnownGoal mid (Follows g Leg mid x.more x.left)) (sym is ∙ x.to) (noted.3 e (sym x.to ∙ is))
 
     -- at a choice that is kept
-    pub at_kept : (m : Machine) → goal ≡ Place m → (after : Found) (is_room : Bool) → IsKept r g most mid x.more after m is_room → GoesOn r g Leg most 8 before states after a is_room
+    pub at_kept : (m : Machine) → goal ≡ Place m → (after : FoundAtOnce) (is_room : Bool) → IsKept r g most mid x.more after m is_room → GoesOn r g Leg most 8 before states after a is_room
     at_kept m is after false k = (x.more, k.0, k.1)
     at_kept m is after true k =
         let mids : Grows mid x.more after k.0 = k.2 in
@@ -152,7 +152,7 @@ module _ (r : Tables) (g : SlotGraph) (Leg : Machine → ℕ → Type 0) (most :
       left_of zero e = absurd (omega (arith, e, made_less))
       left_of (suc d) e = (d, refl, omega (arith, e))
 
-      pub at_leg : (o2 : Origin) (goal2 : Goal Machine End) (told2 : List Shown) → IsWordOf x.more o2 (x.word ++ p ∷ []) → goal2 ≡ (g.on m p).goal → told2 ≡ (g.on m p).shown → Going before states mid a goal2 told2 o2 (made + 1)
+      pub at_leg : (o2 : OriginAtOnce) (goal2 : Goal Machine End) (told2 : List Shown) → IsWordOf x.more o2 (x.word ++ p ∷ []) → goal2 ≡ (g.on m p).goal → told2 ≡ (g.on m p).shown → Going before states mid a goal2 told2 o2 (made + 1)
       at_leg o2 goal2 told2 word2 to2 shows2 =
           let d = left_of x.left x.count in
           record {
@@ -176,5 +176,5 @@ module _ (r : Tables) (g : SlotGraph) (Leg : Machine → ℕ → Type 0) (most :
           }
 
   -- no leg is made at once, or so many were: the state is led to
-  pub leads_to : (before : Found) (states : States) (now : Found) (a : SlotArrival) (goal : Goal Machine End) (told : List Shown) (o : Origin) (made : ℕ) (x : Going before states now a goal told o made) (m : Machine) → goal ≡ Place m → LeadsToPlace g m x.word
+  pub leads_to : (before : FoundAtOnce) (states : States) (now : FoundAtOnce) (a : SlotArrival) (goal : Goal Machine End) (told : List Shown) (o : OriginAtOnce) (made : ℕ) (x : Going before states now a goal told o made) (m : Machine) → goal ≡ Place m → LeadsToPlace g m x.word
   leads_to before states now a goal told o made x m is = (x.here, x.arrives, sym x.to ∙ is)

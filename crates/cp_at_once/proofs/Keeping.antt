@@ -14,14 +14,14 @@ use Rattle.cp_key.specs.Room.{IsMachineOf}
 use Rattle.cp_machine.specs.System.{Machine}
 use Rattle.cp_ends.specs.Holds.{same_key}
 use Rattle.cp_ends.specs.Searched.{has}
-use Rattle.cp_ends.specs.declared.state_key.StateKey.{StateKey}
+use Rattle.cp_ends.specs.declared.state_key.ReachedKey.{ReachedKey}
 use Rattle.cp_ends.proofs.Keeping.{get_cases, get_more}
 use Rattle.cp_ends.proofs.Searching.Lists.{all_at}
 use Rattle.cp_at_once.specs.Holds.{AreStates, IsBefore, IsWordBy, IsWordOf}
-use Rattle.cp_at_once.specs.declared.origin.Origin.{Origin}
+use Rattle.cp_at_once.specs.declared.origin.OriginAtOnce.{OriginAtOnce}
 
 abbrev pub Keys : Type 0
-Keys = StateKey × Origin
+Keys = ReachedKey × OriginAtOnce
 
 abbrev pub Stated : Type 0
 Stated = Machine × List ℕ
@@ -34,18 +34,18 @@ key_at x = key_of x.0
 
 -- ---- words stay
 
-pub word_grows : (states more : List Stated) (o : Origin) (word : List ℕ) → ((i : ℕ) (x : Stated) → slice_get states i ≡ Some x → slice_get more i ≡ Some x) → IsWordOf states o word → IsWordOf more o word
+pub word_grows : (states more : List Stated) (o : OriginAtOnce) (word : List ℕ) → ((i : ℕ) (x : Stated) → slice_get states i ≡ Some x → slice_get more i ≡ Some x) → IsWordOf states o word → IsWordOf more o word
 word_grows states more o word grow h = by o.state h
   where
     by : (at : Option ℕ) → IsWordBy states at o.numbers.items word → IsWordBy more at o.numbers.items word
     by None h = h
     by (Some at) h = (h.0, grow at h.0 h.1, h.2)
 
-pub word_more : (states : List Stated) (y : Stated) (o : Origin) (word : List ℕ) → IsWordOf states o word → IsWordOf (states ++ y ∷ []) o word
+pub word_more : (states : List Stated) (y : Stated) (o : OriginAtOnce) (word : List ℕ) → IsWordOf states o word → IsWordOf (states ++ y ∷ []) o word
 word_more states y o word h = word_grows states (states ++ y ∷ []) o word (λ i x at. get_more states y i x at) h
 
 -- one number more
-pub word_longer : (states : List Stated) (o more : Origin) (p : ℕ) (word : List ℕ) → IsWordOf states o word → more.state ≡ o.state → more.numbers.items ≡ o.numbers.items ++ p ∷ [] → IsWordOf states more (word ++ p ∷ [])
+pub word_longer : (states : List Stated) (o more : OriginAtOnce) (p : ℕ) (word : List ℕ) → IsWordOf states o word → more.state ≡ o.state → more.numbers.items ≡ o.numbers.items ++ p ∷ [] → IsWordOf states more (word ++ p ∷ [])
 word_longer states o more p word h same longer = subst (λ at. IsWordBy states at more.numbers.items (word ++ p ∷ [])) (sym same) (subst (λ ns. IsWordBy states o.state ns (word ++ p ∷ [])) (sym longer) (by o.state h))
   where
     by : (at : Option ℕ) → IsWordBy states at o.numbers.items word → IsWordBy states at (o.numbers.items ++ p ∷ []) (word ++ p ∷ [])
@@ -53,7 +53,7 @@ word_longer states o more p word h same longer = subst (λ at. IsWordBy states a
     by (Some at) h = (h.0, h.1, ap (λ w. w ++ p ∷ []) h.2 ∙ append_assoc h.0.1 o.numbers.items (p ∷ []))
 
 -- an origin goes back to a state that is kept
-pub word_before : (states : List Stated) (o : Origin) (word : List ℕ) → IsWordOf states o word → IsBefore (length states) o.state
+pub word_before : (states : List Stated) (o : OriginAtOnce) (word : List ℕ) → IsWordOf states o word → IsBefore (length states) o.state
 word_before states o word h = by o.state h
   where
     by : (at : Option ℕ) → IsWordBy states at o.numbers.items word → IsBefore (length states) at
@@ -61,11 +61,11 @@ word_before states o word h = by o.state h
     by (Some at) h = slice_get_within states at h.0 h.1
 
 -- the word of a state, and a number
-pub word_choice : (states : List Stated) (o : Origin) (at p : ℕ) (x : Stated) → slice_get states at ≡ Some x → o.state ≡ Some at → o.numbers.items ≡ p ∷ [] → IsWordOf states o (x.1 ++ p ∷ [])
+pub word_choice : (states : List Stated) (o : OriginAtOnce) (at p : ℕ) (x : Stated) → slice_get states at ≡ Some x → o.state ≡ Some at → o.numbers.items ≡ p ∷ [] → IsWordOf states o (x.1 ++ p ∷ [])
 word_choice states o at p x there state numbers = subst (λ s. IsWordBy states s o.numbers.items (x.1 ++ p ∷ [])) (sym state) (subst (λ ns. IsWordBy states (Some at) ns (x.1 ++ p ∷ [])) (sym numbers) (x, there, refl))
 
 -- the word without numbers
-pub word_start : (states : List Stated) (o : Origin) → o.state ≡ None → o.numbers.items ≡ [] → IsWordOf states o []
+pub word_start : (states : List Stated) (o : OriginAtOnce) → o.state ≡ None → o.numbers.items ≡ [] → IsWordOf states o []
 word_start states o state numbers = subst (λ s. IsWordBy states s o.numbers.items []) (sym state) (sym numbers)
 
 -- ---- keys
@@ -84,7 +84,7 @@ key_here (k ∷ es) (y ∷ xs) zero e x same at to = ap bytes_of (sym (same_Some
 key_here (k ∷ es) (y ∷ xs) (suc i) e x same at to = key_here es xs i e x (tail_same bytes_of key_at k es y xs same) at to
 
 -- a key is that of an entry exactly where its machine has the key of a state
-pub found_same : (es : List Keys) (xs : List Stated) (k : StateKey) (m : Machine) → map bytes_of es ≡ map key_at xs → k.bytes.items ≡ key_of m → is_some (lookup (λ j. pointwise nat_eq k.bytes.items j.bytes.items) es) ≡ has same_key xs m
+pub found_same : (es : List Keys) (xs : List Stated) (k : ReachedKey) (m : Machine) → map bytes_of es ≡ map key_at xs → k.bytes.items ≡ key_of m → is_some (lookup (λ j. pointwise nat_eq k.bytes.items j.bytes.items) es) ≡ has same_key xs m
 unfolding same_key
 found_same [] [] k m same key = refl
 found_same [] (x ∷ xs) k m same key = cc
@@ -100,7 +100,7 @@ found_same (e ∷ es) (x ∷ xs) k m same key = by (pointwise nat_eq k.bytes.ite
     by true false t on = cc
     by false true t on = cc
 
-insert_new : (eq : StateKey → StateKey → Bool) (es : List Keys) (k : StateKey) (o : Origin) → is_some (lookup (eq k) es) ≡ false → insert_entry eq es k o ≡ es ++ (k, o) ∷ []
+insert_new : (eq : ReachedKey → ReachedKey → Bool) (es : List Keys) (k : ReachedKey) (o : OriginAtOnce) → is_some (lookup (eq k) es) ≡ false → insert_entry eq es k o ≡ es ++ (k, o) ∷ []
 insert_new eq [] k o new = refl
 insert_new eq (e ∷ es) k o new = by (eq k e.0) new (insert_new eq es k o)
   where
@@ -129,7 +129,7 @@ module _ (r : Tables) (es : List Keys) (xs : List Stated) (h : AreStates r es xs
       by (inr past) = let le = past.0 in let few = states_length in slice_get_past xs i (omega (arith, le, few))
 
   -- one more
-  module _ (k : StateKey) (o : Origin) (m : Machine) (word : List ℕ) where
+  module _ (k : ReachedKey) (o : OriginAtOnce) (m : Machine) (word : List ℕ) where
     pub states_more : has same_key xs m ≡ false → IsMachineOf r m → m.output ≡ [] → k.bytes.items ≡ key_of m → IsWordOf xs o word → AreStates r (insert_entry (λ a b. pointwise nat_eq a.bytes.items b.bytes.items) es k o) (xs ++ (m, word) ∷ [])
     states_more new own quiet key is = subst (λ l. AreStates r l (xs ++ (m, word) ∷ [])) (sym put) more
       where

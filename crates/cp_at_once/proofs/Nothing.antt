@@ -7,7 +7,7 @@ use Rattle.cp_slots.specs.Tables.{Tables}
 use Rattle.cp_ends.specs.Graph.{LeadsToPlace, LeadsToEnd, ShowsLast}
 use Rattle.cp_at_once.specs.Following.{SlotGraph}
 use Rattle.cp_at_once.specs.Holds.{AreStates, HasWord, Holds}
-use Rattle.cp_at_once.specs.declared.found.Found.{Found}
+use Rattle.cp_at_once.specs.declared.found.FoundAtOnce.{FoundAtOnce}
 
 no_states : (r : Tables) → AreStates r [] []
 no_states r = record { keys = refl_nil; own = All-nil _; quiet = All-nil _; words = λ i e x at to. cc; before = λ i e at. absurd (cc) }
@@ -15,7 +15,7 @@ no_states r = record { keys = refl_nil; own = All-nil _; quiet = All-nil _; word
     refl_nil : (◌≡◌ {A = List (List ℕ)}) [] []
     refl_nil = cc
 
-pub nothing_found : (r : Tables) (g : SlotGraph) (most : ℕ) (found : Found) → found.kept.known.entries ≡ [] → found.ends.items ≡ [] → found.values.items ≡ [] → Holds r g most found []
+pub nothing_found : (r : Tables) (g : SlotGraph) (most : ℕ) (found : FoundAtOnce) → found.kept.known.entries ≡ [] → found.ends.items ≡ [] → found.values.items ≡ [] → Holds r g most found []
 nothing_found r g most found kept ends values =
     record {
       kept = subst (λ es. AreStates r es []) (sym kept) (no_states r);

@@ -14,19 +14,19 @@ use Rattle.cp_ends.specs.Graph.{LeadsToEnd, ShowsLast}
 use Rattle.cp_ends.specs.declared.end.End.{End}
 use Rattle.cp_at_once.specs.Following.{Grows, NotesEnd, NotesValues, SlotGraph, knows_value}
 use Rattle.cp_at_once.specs.Holds.{HasWord, Holds, IsWordOf}
-use Rattle.cp_at_once.specs.declared.found.Found.{Found}
-use Rattle.cp_at_once.specs.declared.found.FoundEnd.{FoundEnd}
-use Rattle.cp_at_once.specs.declared.found.FoundValue.{FoundValue}
-use Rattle.cp_at_once.specs.declared.origin.Origin.{Origin}
+use Rattle.cp_at_once.specs.declared.found.FoundAtOnce.{FoundAtOnce}
+use Rattle.cp_at_once.specs.declared.found.EndAtOnce.{EndAtOnce}
+use Rattle.cp_at_once.specs.declared.found.ValueAtOnce.{ValueAtOnce}
+use Rattle.cp_at_once.specs.declared.origin.OriginAtOnce.{OriginAtOnce}
 use Rattle.std.specs.declared.alloc.Global.{Global}
 use Rattle.std.specs.declared.vec.Vec.{Vec}
 
 -- ---- what is found stays found
 
-pub grows_same : (f : Found) (states : List (Machine × List ℕ)) → Grows f states f states
+pub grows_same : (f : FoundAtOnce) (states : List (Machine × List ℕ)) → Grows f states f states
 grows_same f states = record { ends = λ e h. h; values = λ v h. h; kept = λ m h. h; places = λ i x h. h }
 
-pub grows_on : (f g h : Found) (a b c : List (Machine × List ℕ)) → Grows f a g b → Grows g b h c → Grows f a h c
+pub grows_on : (f g h : FoundAtOnce) (a b c : List (Machine × List ℕ)) → Grows f a g b → Grows g b h c → Grows f a h c
 grows_on f g h a b c m n =
     record {
       ends = λ e k. n.ends e (m.ends e k);
@@ -88,11 +88,11 @@ full_cut p ys many = or_right (list_any p (take 1001 ys)) _ (let l = length-take
 
 -- ---- an end
 
-module _ (r : Tables) (g : SlotGraph) (most : ℕ) (found : Found) (states : List (Machine × List ℕ)) (word : List ℕ) (h : Holds r g most found states) where
+module _ (r : Tables) (g : SlotGraph) (most : ℕ) (found : FoundAtOnce) (states : List (Machine × List ℕ)) (word : List ℕ) (h : Holds r g most found states) where
   pub end_again : (e : End) → list_any (λ x. ends_tests.end x.end e) found.ends.items ≡ true → NotesEnd r g most found states found e
   end_again e again = (h, grows_same found states, again)
 
-  pub end_new : (e : End) (o : Origin) (at : ℕ) (same : ends_tests.end e e ≡ true) → IsWordOf states o word → LeadsToEnd g e word → (ends : Vec FoundEnd Global) → ends.items ≡ insert found.ends.items at (record { end = e; origin = o }) → NotesEnd r g most found states (record found { ends = ends }) e
+  pub end_new : (e : End) (o : OriginAtOnce) (at : ℕ) (same : ends_tests.end e e ≡ true) → IsWordOf states o word → LeadsToEnd g e word → (ends : Vec EndAtOnce Global) → ends.items ≡ insert found.ends.items at (record { end = e; origin = o }) → NotesEnd r g most found states (record found { ends = ends }) e
   end_new e o at same is leads ends put = (
     record {
       kept = h.kept;
@@ -110,13 +110,13 @@ module _ (r : Tables) (g : SlotGraph) (most : ℕ) (found : Found) (states : Lis
     ap (list_any (test e)) put ∙ any_new (test e) found.ends.items at x same,
   )
     where
-      x : FoundEnd
+      x : EndAtOnce
       x = record { end = e; origin = o }
 
-      P : FoundEnd → Type 0
+      P : EndAtOnce → Type 0
       P y = HasWord states y.origin (LeadsToEnd g y.end)
 
-      test : End → FoundEnd → Bool
+      test : End → EndAtOnce → Bool
       test d y = ends_tests.end y.end d
 
   -- ---- a value
@@ -124,7 +124,7 @@ module _ (r : Tables) (g : SlotGraph) (most : ℕ) (found : Found) (states : Lis
   pub value_again : (v : Shown) → list_any (λ x. ends_tests.value x.value v) found.values.items ≡ true → NotesValues r g most found states found (v ∷ [])
   value_again v again = (h, grows_same found states, All-cons (λ u. knows_value found u ≡ true) v [] (or_true (list_any (λ x. ends_tests.value x.value v) found.values.items) _ again) (All-nil (λ u. knows_value found u ≡ true)))
 
-  pub value_new : (v : Shown) (o : Origin) (at : ℕ) (same : ends_tests.value v v ≡ true) → IsWordOf states o word → ShowsLast g v word → (values : Vec FoundValue Global) → values.items ≡ take 1001 (insert found.values.items at (record { value = v; origin = o })) → NotesValues r g most found states (record found { values = values }) (v ∷ [])
+  pub value_new : (v : Shown) (o : OriginAtOnce) (at : ℕ) (same : ends_tests.value v v ≡ true) → IsWordOf states o word → ShowsLast g v word → (values : Vec ValueAtOnce Global) → values.items ≡ take 1001 (insert found.values.items at (record { value = v; origin = o })) → NotesValues r g most found states (record found { values = values }) (v ∷ [])
   value_new v o at same is shows values put = (
     record {
       kept = h.kept;
@@ -142,13 +142,13 @@ module _ (r : Tables) (g : SlotGraph) (most : ℕ) (found : Found) (states : Lis
     All-cons (λ u. knows_value (record found { values = values }) u ≡ true) v [] (subst (λ l. (list_any (test v) l || nat_lt 1000 (length l)) ≡ true) (sym put) (any_cut (test v) (insert found.values.items at x) (any_new (test v) found.values.items at x same))) (All-nil (λ u. knows_value (record found { values = values }) u ≡ true)),
   )
     where
-      x : FoundValue
+      x : ValueAtOnce
       x = record { value = v; origin = o }
 
-      P : FoundValue → Type 0
+      P : ValueAtOnce → Type 0
       P y = HasWord states y.origin (ShowsLast g y.value)
 
-      test : Shown → FoundValue → Bool
+      test : Shown → ValueAtOnce → Bool
       test u y = ends_tests.value y.value u
 
       stays : (u : Shown) → (list_any (test u) found.values.items ≡ true) ⊎ (nat_lt 1000 (length found.values.items) ≡ true) → (list_any (test u) (take 1001 (insert found.values.items at x)) || nat_lt 1000 (length (take 1001 (insert found.values.items at x)))) ≡ true
@@ -157,11 +157,11 @@ module _ (r : Tables) (g : SlotGraph) (most : ℕ) (found : Found) (states : Lis
 
 -- ---- values
 
-module _ (r : Tables) (g : SlotGraph) (most : ℕ) (before : Found) (states : List (Machine × List ℕ)) where
+module _ (r : Tables) (g : SlotGraph) (most : ℕ) (before : FoundAtOnce) (states : List (Machine × List ℕ)) where
   pub values_none : Holds r g most before states → NotesValues r g most before states before []
   values_none h = (h, grows_same before states, All-nil (λ v. knows_value before v ≡ true))
 
-  pub values_more : (mid : Found) (vs : List Shown) → NotesValues r g most before states mid vs → (after : Found) (v : Shown) → NotesValues r g most mid states after (v ∷ []) → NotesValues r g most before states after (vs ++ v ∷ [])
+  pub values_more : (mid : FoundAtOnce) (vs : List Shown) → NotesValues r g most before states mid vs → (after : FoundAtOnce) (v : Shown) → NotesValues r g most mid states after (v ∷ []) → NotesValues r g most before states after (vs ++ v ∷ [])
   values_more mid vs n after v k = (
     k.0,
     grows_on before mid after states states states n.1 k.1,

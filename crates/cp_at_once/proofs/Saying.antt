@@ -24,13 +24,13 @@ use Rattle.cp_at_once.specs.Following.{Answers, IsGoneThrough, IsOneTooMany, kno
 use Rattle.cp_at_once.specs.Holds.{HasWord, Holds}
 use Rattle.cp_at_once.specs.Legs.{HasLeg}
 use Rattle.cp_at_once.specs.Whole.{HasTooMany, IsAnswer, IsComplete}
-use Rattle.cp_at_once.specs.declared.found.Found.{Found}
+use Rattle.cp_at_once.specs.declared.found.FoundAtOnce.{FoundAtOnce}
 use Rattle.cp_at_once.proofs.Following.{States}
 use Rattle.cp_at_once.proofs.Pending.{never_pending}
 use Rattle.cp_at_once.proofs.Same.{key_same, key_self}
 use Rattle.cp_at_once.proofs.Tied.{searches}
 
-module _ (nothing_out : LeavesNothingOut) (r : Tables) (steps most : ℕ) (found : Found) where
+module _ (nothing_out : LeavesNothingOut) (r : Tables) (steps most : ℕ) (found : FoundAtOnce) where
   -- ---- words
 
   module _ (gates : Gates) (states : States) (h : Holds r (slot_graph r gates steps) most found states) where
@@ -75,5 +75,5 @@ module _ (nothing_out : LeavesNothingOut) (r : Tables) (steps most : ℕ) (found
       record { states = states; kept = h.kept; few = h.few; reached = reached gates states h; ends = ends gates states h; values = values gates states h; whole = λ is first uncut. absurd (true_false (sym (e ∙ is))); too_many = λ none. too_many gates states h many }
 
 -- of the code's result
-pub says : {E : Type 0} → LeavesNothingOut → (r : Tables) (gates : Gates) (steps most : ℕ) (result : Result Found E) → IfOk result (λ found. Answers r (slot_graph r gates steps) (HasLeg r gates) most 8 found found.is_whole) → IfOk result (λ found. IsAnswer r gates steps most found)
+pub says : {E : Type 0} → LeavesNothingOut → (r : Tables) (gates : Gates) (steps most : ℕ) (result : Result FoundAtOnce E) → IfOk result (λ found. Answers r (slot_graph r gates steps) (HasLeg r gates) most 8 found found.is_whole) → IfOk result (λ found. IsAnswer r gates steps most found)
 says out r gates steps most result h = ok_to result _ _ h (λ found a. by out r steps most found gates found.is_whole refl a)

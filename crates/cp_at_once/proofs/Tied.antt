@@ -42,7 +42,7 @@ use Rattle.cp_at_once_laws.specs.Search.{IsFollowed, IsTaken, SearchesAtOnce}
 use Rattle.cp_at_once_laws.specs.Through.{IsOpeningKnown}
 use Rattle.cp_at_once.specs.Following.{Follows, IsDone, IsGone, IsGoneThrough, IsKnownGoal, knows_end, knows_value}
 use Rattle.cp_at_once.specs.Legs.{HasLeg}
-use Rattle.cp_at_once.specs.declared.found.Found.{Found}
+use Rattle.cp_at_once.specs.declared.found.FoundAtOnce.{FoundAtOnce}
 use Rattle.cp_at_once.proofs.Following.{States}
 use Rattle.cp_at_once.proofs.Same.{key_same, key_self}
 
@@ -98,7 +98,7 @@ each_append f (x ∷ xs) ys = ap (λ l. f x ++ l) (each_append f xs ys) ∙ sym 
 
 -- ---- what the code found
 
-module _ (r : Tables) (steps : ℕ) (found : Found) (states : States) (uncut : knows_end found (Over StepLimit) ≡ false) where
+module _ (r : Tables) (steps : ℕ) (found : FoundAtOnce) (states : States) (uncut : knows_end found (Over StepLimit) ≡ false) where
   abbrev sys : System Machine
   sys = slots r First
 

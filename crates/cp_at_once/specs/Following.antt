@@ -12,51 +12,51 @@ use Rattle.cp_ends.specs.Searched.{has}
 use Rattle.cp_ends.specs.declared.end.End.{End}
 use Rattle.cp_ends.specs.declared.found.TheConstants.{MOST_VALUES}
 use Rattle.cp_at_once.specs.Holds.{Holds}
-use Rattle.cp_at_once.specs.declared.found.Found.{Found}
+use Rattle.cp_at_once.specs.declared.found.FoundAtOnce.{FoundAtOnce}
 
 abbrev pub SlotGraph : Type 0
 SlotGraph = Graph Machine End Shown
 
 -- whether this end is found
-abbrev pub knows_end : Found → End → Bool
+abbrev pub knows_end : FoundAtOnce → End → Bool
 knows_end found e = list_any (λ x. ends_tests.end x.end e) found.ends.items
 
 -- whether this value is found, or more values than are told
-abbrev pub knows_value : Found → Shown → Bool
+abbrev pub knows_value : FoundAtOnce → Shown → Bool
 knows_value found v = list_any (λ x. ends_tests.value x.value v) found.values.items || nat_lt MOST_VALUES (length found.values.items)
 
 -- an end is found, a choice is followed
-abbrev pub IsKnownGoal : Found → (Machine → Type 0) → Goal Machine End → Type 0
+abbrev pub IsKnownGoal : FoundAtOnce → (Machine → Type 0) → Goal Machine End → Type 0
 IsKnownGoal found followed (Place s) = followed s
 IsKnownGoal found followed (graph.End e) = knows_end found e ≡ true
 
 -- where a stretch arrives is gone on from, and what it shows is found
-pub record IsGone (found : Found) (followed : Machine → Type 0) (a : SlotArrival) : Type 0 where
+pub record IsGone (found : FoundAtOnce) (followed : Machine → Type 0) (a : SlotArrival) : Type 0 where
   pub goal : IsKnownGoal found followed a.goal
   pub shown : (v : Shown) → Contains a.shown v → knows_value found v ≡ true
 
 -- A due choice is followed: its state is kept, or one process makes a leg at once (`Leg`), and where that arrives is gone on from, with c in a row at most.
-abbrev pub Follows : SlotGraph → (Machine → ℕ → Type 0) → Found → List (Machine × List ℕ) → ℕ → Machine → Type 0
+abbrev pub Follows : SlotGraph → (Machine → ℕ → Type 0) → FoundAtOnce → List (Machine × List ℕ) → ℕ → Machine → Type 0
 Follows g Leg found states zero s = has same_key states s ≡ true
 Follows g Leg found states (suc c) s = (has same_key states s ≡ true) ⊎ ((p : ℕ) × (g.may s p ≡ true) × Leg s p × IsGone found (Follows g Leg found states c) (g.on s p))
 
 -- what is found stays found
-pub record Grows (before : Found) (states : List (Machine × List ℕ)) (after : Found) (more : List (Machine × List ℕ)) : Type 0 where
+pub record Grows (before : FoundAtOnce) (states : List (Machine × List ℕ)) (after : FoundAtOnce) (more : List (Machine × List ℕ)) : Type 0 where
   pub ends : (e : End) → knows_end before e ≡ true → knows_end after e ≡ true
   pub values : (v : Shown) → knows_value before v ≡ true → knows_value after v ≡ true
   pub kept : (m : Machine) → has same_key states m ≡ true → has same_key more m ≡ true
   pub places : (i : ℕ) (x : Machine × List ℕ) → slice_get states i ≡ Some x → slice_get more i ≡ Some x
 
 -- an end is noted
-abbrev pub NotesEnd : Tables → SlotGraph → ℕ → Found → List (Machine × List ℕ) → Found → End → Type 0
+abbrev pub NotesEnd : Tables → SlotGraph → ℕ → FoundAtOnce → List (Machine × List ℕ) → FoundAtOnce → End → Type 0
 NotesEnd r g most before states after e = Holds r g most after states × Grows before states after states × (knows_end after e ≡ true)
 
 -- values are noted
-abbrev pub NotesValues : Tables → SlotGraph → ℕ → Found → List (Machine × List ℕ) → Found → List Shown → Type 0
+abbrev pub NotesValues : Tables → SlotGraph → ℕ → FoundAtOnce → List (Machine × List ℕ) → FoundAtOnce → List Shown → Type 0
 NotesValues r g most before states after values = Holds r g most after states × Grows before states after states × All (λ v. knows_value after v ≡ true) values
 
 -- an arrival is noted: its values, and its end if it is one
-abbrev pub NotesArrival : Tables → SlotGraph → ℕ → Found → List (Machine × List ℕ) → Found → SlotArrival → Type 0
+abbrev pub NotesArrival : Tables → SlotGraph → ℕ → FoundAtOnce → List (Machine × List ℕ) → FoundAtOnce → SlotArrival → Type 0
 NotesArrival r g most before states after a = Holds r g most after states × Grows before states after states × ((v : Shown) → Contains a.shown v → knows_value after v ≡ true) × ((e : End) → a.goal ≡ graph.End e → knows_end after e ≡ true)
 
 -- there is a state too many: schedules lead to more states than may be kept
@@ -68,30 +68,30 @@ pub record IsOneTooMany (g : SlotGraph) (most : ℕ) (states : List (Machine × 
   pub full : most ≤ length states
 
 -- what holds when a due choice is to be kept; `false` where its state is one too many
-abbrev pub IsKept : Tables → SlotGraph → ℕ → Found → List (Machine × List ℕ) → Found → Machine → Bool → Type 0
+abbrev pub IsKept : Tables → SlotGraph → ℕ → FoundAtOnce → List (Machine × List ℕ) → FoundAtOnce → Machine → Bool → Type 0
 IsKept r g most before states after m true = (more : List (Machine × List ℕ)) × Holds r g most after more × Grows before states after more × (has same_key more m ≡ true)
 IsKept r g most before states after m false = Holds r g most after states × IsOneTooMany g most states
 
 -- what holds when an arrival was gone on from with c legs in a row at most; `false` where there is a state too many
-abbrev pub GoesOn : Tables → SlotGraph → (Machine → ℕ → Type 0) → (most c : ℕ) → Found → List (Machine × List ℕ) → Found → SlotArrival → Bool → Type 0
+abbrev pub GoesOn : Tables → SlotGraph → (Machine → ℕ → Type 0) → (most c : ℕ) → FoundAtOnce → List (Machine × List ℕ) → FoundAtOnce → SlotArrival → Bool → Type 0
 GoesOn r g Leg most c before states after a true = (more : List (Machine × List ℕ)) × Holds r g most after more × Grows before states after more × IsGone after (Follows g Leg after more c) a
 GoesOn r g Leg most c before states after a false = (more : List (Machine × List ℕ)) × Holds r g most after more × IsOneTooMany g most more
 
 -- each choice of a state was gone on from
-abbrev pub IsDone : SlotGraph → (Machine → ℕ → Type 0) → (c : ℕ) → Found → List (Machine × List ℕ) → Machine → Type 0
+abbrev pub IsDone : SlotGraph → (Machine → ℕ → Type 0) → (c : ℕ) → FoundAtOnce → List (Machine × List ℕ) → Machine → Type 0
 IsDone g Leg c found states s = (p : ℕ) → g.may s p ≡ true → IsGone found (Follows g Leg found states c) (g.on s p)
 
 -- the same of a kept state; `false` where there is a state too many
-abbrev pub AllGoOn : Tables → SlotGraph → (Machine → ℕ → Type 0) → (most c : ℕ) → Found → List (Machine × List ℕ) → Found → Machine → Bool → Type 0
+abbrev pub AllGoOn : Tables → SlotGraph → (Machine → ℕ → Type 0) → (most c : ℕ) → FoundAtOnce → List (Machine × List ℕ) → FoundAtOnce → Machine → Bool → Type 0
 AllGoOn r g Leg most c before states after s true = (more : List (Machine × List ℕ)) × Holds r g most after more × Grows before states after more × IsDone g Leg c after more s
 AllGoOn r g Leg most c before states after s false = (more : List (Machine × List ℕ)) × Holds r g most after more × IsOneTooMany g most more
 
 -- The first arrival and each choice of the first n kept states were gone on from.
-pub record IsGoneThrough (g : SlotGraph) (Leg : Machine → ℕ → Type 0) (c n : ℕ) (found : Found) (states : List (Machine × List ℕ)) : Type 0 where
+pub record IsGoneThrough (g : SlotGraph) (Leg : Machine → ℕ → Type 0) (c n : ℕ) (found : FoundAtOnce) (states : List (Machine × List ℕ)) : Type 0 where
   pub start : IsGone found (Follows g Leg found states c) g.start
   pub on : (i : ℕ) (x : Machine × List ℕ) → i < n → slice_get states i ≡ Some x → IsDone g Leg c found states x.0
 
 -- the answer of a search: all was gone through, or there is a state too many
-abbrev pub Answers : Tables → SlotGraph → (Machine → ℕ → Type 0) → (most c : ℕ) → Found → Bool → Type 0
+abbrev pub Answers : Tables → SlotGraph → (Machine → ℕ → Type 0) → (most c : ℕ) → FoundAtOnce → Bool → Type 0
 Answers r g Leg most c found true = (states : List (Machine × List ℕ)) × Holds r g most found states × IsGoneThrough g Leg c (length states) found states
 Answers r g Leg most c found false = (states : List (Machine × List ℕ)) × Holds r g most found states × IsOneTooMany g most states

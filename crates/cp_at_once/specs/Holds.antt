@@ -7,9 +7,9 @@ use Rattle.cp_machine.specs.declared.shown.Shown.{Shown}
 use Rattle.cp_machine.specs.System.{Machine}
 use Rattle.cp_ends.specs.Graph.{Graph, LeadsToPlace, LeadsToEnd, ShowsLast}
 use Rattle.cp_ends.specs.declared.end.End.{End}
-use Rattle.cp_ends.specs.declared.state_key.StateKey.{StateKey}
-use Rattle.cp_at_once.specs.declared.found.Found.{Found}
-use Rattle.cp_at_once.specs.declared.origin.Origin.{Origin}
+use Rattle.cp_ends.specs.declared.state_key.ReachedKey.{ReachedKey}
+use Rattle.cp_at_once.specs.declared.found.FoundAtOnce.{FoundAtOnce}
+use Rattle.cp_at_once.specs.declared.origin.OriginAtOnce.{OriginAtOnce}
 
 -- the word of a kept state, if one is named, and these numbers
 abbrev pub IsWordBy : List (Machine × List ℕ) → Option ℕ → List ℕ → List ℕ → Type 0
@@ -17,11 +17,11 @@ IsWordBy states None numbers word = word ≡ numbers
 IsWordBy states (Some at) numbers word = (x : Machine × List ℕ) × (slice_get states at ≡ Some x) × (word ≡ x.1 ++ numbers)
 
 -- the word that an origin stands for
-abbrev pub IsWordOf : List (Machine × List ℕ) → Origin → List ℕ → Type 0
+abbrev pub IsWordOf : List (Machine × List ℕ) → OriginAtOnce → List ℕ → Type 0
 IsWordOf states o word = IsWordBy states o.state o.numbers.items word
 
 -- the word that an origin stands for is so
-abbrev pub HasWord : List (Machine × List ℕ) → Origin → (List ℕ → Type 0) → Type 0
+abbrev pub HasWord : List (Machine × List ℕ) → OriginAtOnce → (List ℕ → Type 0) → Type 0
 HasWord states o P = (word : List ℕ) × IsWordOf states o word × P word
 
 -- it goes back to a kept state before the one of this number
@@ -30,30 +30,30 @@ IsBefore n None = Unit {0}
 IsBefore n (Some at) = at < n
 
 -- where the state of this number comes from, and the numbers after it
-abbrev pub state_of : Option (StateKey × Origin) → Option ℕ
+abbrev pub state_of : Option (ReachedKey × OriginAtOnce) → Option ℕ
 state_of None = None
 state_of (Some e) = e.1.state
 
-abbrev pub numbers_of : Option (StateKey × Origin) → List ℕ
+abbrev pub numbers_of : Option (ReachedKey × OriginAtOnce) → List ℕ
 numbers_of None = []
 numbers_of (Some e) = e.1.numbers.items
 
-abbrev pub state_at : List (StateKey × Origin) → ℕ → Option ℕ
+abbrev pub state_at : List (ReachedKey × OriginAtOnce) → ℕ → Option ℕ
 state_at entries at = state_of (slice_get entries at)
 
-abbrev pub numbers_at : List (StateKey × Origin) → ℕ → List ℕ
+abbrev pub numbers_at : List (ReachedKey × OriginAtOnce) → ℕ → List ℕ
 numbers_at entries at = numbers_of (slice_get entries at)
 
 -- the entries are the states, each with its word
-pub record AreStates (r : Tables) (entries : List (StateKey × Origin)) (states : List (Machine × List ℕ)) : Type 0 where
+pub record AreStates (r : Tables) (entries : List (ReachedKey × OriginAtOnce)) (states : List (Machine × List ℕ)) : Type 0 where
   pub keys : map (λ e. e.0.bytes.items) entries ≡ map (λ x. key_of x.0) states
   pub own : All (λ x. IsMachineOf r x.0) states
   pub quiet : All (λ x. x.0.output ≡ []) states
-  pub words : (i : ℕ) (e : StateKey × Origin) (x : Machine × List ℕ) → slice_get entries i ≡ Some e → slice_get states i ≡ Some x → IsWordOf states e.1 x.1
-  pub before : (i : ℕ) (e : StateKey × Origin) → slice_get entries i ≡ Some e → IsBefore i e.1.state
+  pub words : (i : ℕ) (e : ReachedKey × OriginAtOnce) (x : Machine × List ℕ) → slice_get entries i ≡ Some e → slice_get states i ≡ Some x → IsWordOf states e.1 x.1
+  pub before : (i : ℕ) (e : ReachedKey × OriginAtOnce) → slice_get entries i ≡ Some e → IsBefore i e.1.state
 
 -- at most so many states are kept, and the words lead to them, to the ends and to the values
-pub record Holds (r : Tables) (g : Graph Machine End Shown) (most : ℕ) (found : Found) (states : List (Machine × List ℕ)) : Type 0 where
+pub record Holds (r : Tables) (g : Graph Machine End Shown) (most : ℕ) (found : FoundAtOnce) (states : List (Machine × List ℕ)) : Type 0 where
   pub kept : AreStates r found.kept.known.entries states
   pub few : length states ≤ most
   pub reached : All (λ x. LeadsToPlace g x.0 x.1) states

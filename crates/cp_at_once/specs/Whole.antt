@@ -18,24 +18,24 @@ use Rattle.cp_at_once_laws.specs.OnSlots.{IsQuietOnSlots, LeavesNone, Tells}
 use Rattle.cp_at_once_laws.specs.Search.{SearchesAtOnce}
 use Rattle.cp_at_once.specs.Following.{knows_end, knows_value}
 use Rattle.cp_at_once.specs.Holds.{AreStates, HasWord}
-use Rattle.cp_at_once.specs.declared.found.Found.{Found}
+use Rattle.cp_at_once.specs.declared.found.FoundAtOnce.{FoundAtOnce}
 
 -- the end is among those that were found
-abbrev pub ends_known : Found → OutcomeKind → Type 0
+abbrev pub ends_known : FoundAtOnce → OutcomeKind → Type 0
 ends_known found kind = knows_end found (Over kind) ≡ true
 
-abbrev pub alone_known : Found → ℕ → Type 0
+abbrev pub alone_known : FoundAtOnce → ℕ → Type 0
 alone_known found q = knows_end found (Alone q) ≡ true
 
-abbrev pub spins_known : Found → ℕ → Type 0
+abbrev pub spins_known : FoundAtOnce → ℕ → Type 0
 spins_known found q = knows_end found (Spins q) ≡ true
 
 -- the value is, or there are more than are told
-abbrev pub values_known : Found → Shown → Type 0
+abbrev pub values_known : FoundAtOnce → Shown → Type 0
 values_known found v = knows_value found v ≡ true
 
 -- With at most 8 legs at once in a row, each choice in a kept state was followed, and what that leads to was found: on slots, and so on the program's own names.
-pub record IsComplete (r : Tables) (steps : ℕ) (found : Found) (states : List (Machine × List ℕ)) : Type 0 where
+pub record IsComplete (r : Tables) (steps : ℕ) (found : FoundAtOnce) (states : List (Machine × List ℕ)) : Type 0 where
   pub search : SearchesAtOnce (silent_slots r First) steps 8 (IsQuietOnSlots r) (λ m. has same_key states m ≡ true) (ends_known found) (alone_known found) (spins_known found) (Tells r (values_known found))
   pub meaning : OfItsPrograms r (λ t. LeavesNone t (ends_known found) (alone_known found) (spins_known found) (values_known found))
 
@@ -48,7 +48,7 @@ pub record HasTooMany (r : Tables) (gates : Gates) (steps most : ℕ) (states : 
   pub new : has same_key states state ≡ false
 
 -- The kept states, the ends and the values are led to by their words. Where no state was one too many, and no stretch was cut, they are complete.
-pub record IsAnswer (r : Tables) (gates : Gates) (steps most : ℕ) (found : Found) : Type 0 where
+pub record IsAnswer (r : Tables) (gates : Gates) (steps most : ℕ) (found : FoundAtOnce) : Type 0 where
   pub states : List (Machine × List ℕ)
   pub kept : AreStates r found.kept.known.entries states
   pub few : length states ≤ most

@@ -11,7 +11,7 @@ ghost use Rattle.cp_at_once.specs.Holds.{Holds, IsWordOf};
 
 use crate::kept::Kept;
 use crate::order::{place_of_end, place_of_value};
-use crate::origin::Origin;
+use crate::origin::OriginAtOnce;
 use cp_ends::End;
 use cp_ends::found::MOST_VALUES;
 use cp_machine::Shown;
@@ -20,37 +20,37 @@ use std::alloc::{AllocError, Global};
 
 /// An end, with a word that leads to it.
 #[derive(Drop)]
-pub struct FoundEnd {
+pub struct EndAtOnce {
     pub end: End,
-    pub origin: Origin,
+    pub origin: OriginAtOnce,
 }
 
 /// A value that can be displayed, with a word that leads to a stretch that displays it.
 #[derive(Drop)]
-pub struct FoundValue {
+pub struct ValueAtOnce {
     pub value: Shown,
-    pub origin: Origin,
+    pub origin: OriginAtOnce,
 }
 
 /// The kept states, and the ends and values, each once and in the order in which they are told.
 #[derive(Drop)]
-pub struct Found {
+pub struct FoundAtOnce {
     pub kept: Kept,
-    pub ends: Vec<FoundEnd>,
+    pub ends: Vec<EndAtOnce>,
     /// The first of all values; one more than is told.
-    pub values: Vec<FoundValue>,
+    pub values: Vec<ValueAtOnce>,
     /// Whether each kept state was gone on from.
     pub is_whole: bool,
 }
 
-impl Found {
+impl FoundAtOnce {
     /// Nothing was found.
-    pub fn new(alloc: Global) -> Found
+    pub fn new(alloc: Global) -> FoundAtOnce
         ensures kept { result.kept.known.entries ≡ [] }
         ensures ends { result.ends.items ≡ [] }
         ensures values { result.values.items ≡ [] }
     {
-        Found {
+        FoundAtOnce {
             kept: Kept::new(alloc),
             ends: Vec::new(alloc),
             values: Vec::new(alloc),
@@ -59,7 +59,7 @@ impl Found {
     }
 
     /// A word leads to an end.
-    pub fn add_end(&mut self, end: End, origin: &Origin) -> Result<(), AllocError>
+    pub fn add_end(&mut self, end: End, origin: &OriginAtOnce) -> Result<(), AllocError>
         ensures { IfOk result (λ _. (r : Tables) (g : SlotGraph) (most : ℕ) (states : List (Machine × List ℕ)) (word : List ℕ) → Holds r g most self.old states → IsWordOf states origin.now word → LeadsToEnd g end word → NotesEnd r g most self.old states self.new end) }
     {
         let ends = self.ends.as_slice();
@@ -68,12 +68,12 @@ impl Found {
             return Ok(());
         }
         let origin = origin.copy();
-        self.ends.insert(at, FoundEnd { end, origin })?;
+        self.ends.insert(at, EndAtOnce { end, origin })?;
         Ok(())
     }
 
     /// A word leads to a stretch that displays these values.
-    pub fn add_values(&mut self, values: &[Shown], origin: &Origin) -> Result<(), AllocError>
+    pub fn add_values(&mut self, values: &[Shown], origin: &OriginAtOnce) -> Result<(), AllocError>
         ensures { IfOk result (λ _. (r : Tables) (g : SlotGraph) (most : ℕ) (states : List (Machine × List ℕ)) (word : List ℕ) → Holds r g most self.old states → IsWordOf states origin.now word → All (λ v. ShowsLast g v word) values.now → NotesValues r g most self.old states self.new values.now) }
     {
         for value in values {
@@ -82,7 +82,7 @@ impl Found {
         Ok(())
     }
 
-    fn add_value(&mut self, value: Shown, origin: &Origin) -> Result<(), AllocError>
+    fn add_value(&mut self, value: Shown, origin: &OriginAtOnce) -> Result<(), AllocError>
         ensures { IfOk result (λ _. (r : Tables) (g : SlotGraph) (most : ℕ) (states : List (Machine × List ℕ)) (word : List ℕ) → Holds r g most self.old states → IsWordOf states origin.now word → ShowsLast g value word → NotesValues r g most self.old states self.new (value ∷ [])) }
     {
         let values = self.values.as_slice();
@@ -91,7 +91,7 @@ impl Found {
             return Ok(());
         }
         let origin = origin.copy();
-        self.values.insert(at, FoundValue { value, origin })?;
+        self.values.insert(at, ValueAtOnce { value, origin })?;
         self.values.truncate(MOST_VALUES + 1);
         Ok(())
     }
@@ -105,7 +105,7 @@ impl Found {
 }
 
 // Where this end stands among those that were found, or is to stand.
-fn place_among_ends(ends: &[FoundEnd], end: End) -> usize
+fn place_among_ends(ends: &[EndAtOnce], end: End) -> usize
     ensures { result ≤ length ends.now }
 {
     let place = place_of_end(end);
@@ -115,7 +115,7 @@ fn place_among_ends(ends: &[FoundEnd], end: End) -> usize
 }
 
 // Where this value stands among those that were found, or is to stand.
-fn place_among_values(values: &[FoundValue], value: Shown) -> usize
+fn place_among_values(values: &[ValueAtOnce], value: Shown) -> usize
     ensures { result ≤ length values.now }
 {
     let place = place_of_value(value);
@@ -125,7 +125,7 @@ fn place_among_values(values: &[FoundValue], value: Shown) -> usize
 }
 
 // Whether this end stands at this place.
-fn has_end_at(ends: &[FoundEnd], at: usize, end: End) -> bool
+fn has_end_at(ends: &[EndAtOnce], at: usize, end: End) -> bool
     ensures { result ≡ true → list_any (λ e. ends_tests.end e.end end) ends.now ≡ true }
 {
     match ends.get(at) {
@@ -135,7 +135,7 @@ fn has_end_at(ends: &[FoundEnd], at: usize, end: End) -> bool
 }
 
 // Whether this value stands at this place.
-fn has_value_at(values: &[FoundValue], at: usize, value: Shown) -> bool
+fn has_value_at(values: &[ValueAtOnce], at: usize, value: Shown) -> bool
     ensures { result ≡ true → list_any (λ v. ends_tests.value v.value value) values.now ≡ true }
 {
     match values.get(at) {

@@ -9,8 +9,8 @@ ghost use Rattle.cp_ends.specs.Holds.{IsAt, same_key};
 ghost use Rattle.cp_ends.specs.Searched.{has};
 ghost use Rattle.cp_at_once.specs.Holds.{AreStates, IsWordOf, numbers_at, state_at};
 
-use crate::origin::Origin;
-use cp_ends::state_key::StateKey;
+use crate::origin::OriginAtOnce;
+use cp_ends::state_key::ReachedKey;
 use cp_key::{Parts, thaw};
 use cp_machine::{Moved, State};
 use indexmap::IndexMap;
@@ -19,7 +19,7 @@ use std::alloc::{AllocError, Global};
 /// The states that are kept, each once, in the order in which they were found, with words that lead there.
 #[derive(Drop)]
 pub struct Kept {
-    pub known: IndexMap<StateKey, Origin>,
+    pub known: IndexMap<ReachedKey, OriginAtOnce>,
 }
 
 impl Kept {
@@ -41,18 +41,23 @@ impl Kept {
     }
 
     /// Whether the state with this key is kept.
-    pub fn contains(&self, key: &StateKey) -> bool
+    pub fn contains(&self, key: &ReachedKey) -> bool
         ensures { (r : Tables) (states : List (Machine × List ℕ)) (m : Machine) → AreStates r self.now.known.entries states → key.now.bytes.items ≡ key_of m → result ≡ has same_key states m }
     {
         self.known.contains_key(key)
     }
 
     /// A state that was not kept is.
-    pub fn add(&mut self, alloc: Global, key: &StateKey, origin: Origin) -> Result<(), AllocError>
+    pub fn add(
+        &mut self,
+        alloc: Global,
+        key: &ReachedKey,
+        origin: OriginAtOnce,
+    ) -> Result<(), AllocError>
         ensures { IfOk result (λ _. (r : Tables) (states : List (Machine × List ℕ)) (m : Machine) (word : List ℕ) → AreStates r self.old.known.entries states → has same_key states m ≡ false → IsMachineOf r m → m.output ≡ [] → key.now.bytes.items ≡ key_of m → IsWordOf states origin word → AreStates r self.new.known.entries (states ++ (m, word) ∷ [])) }
     {
         let bytes = Vec::from_slice(alloc, key.bytes.as_slice())?;
-        self.known.insert(StateKey { bytes }, origin)?;
+        self.known.insert(ReachedKey { bytes }, origin)?;
         Ok(())
     }
 
@@ -71,7 +76,7 @@ impl Kept {
     }
 
     /// The numbers of a word.
-    pub fn word(&self, alloc: Global, origin: &Origin) -> Result<Vec<u8>, AllocError>
+    pub fn word(&self, alloc: Global, origin: &OriginAtOnce) -> Result<Vec<u8>, AllocError>
         ensures { IfOk result (λ v. (r : Tables) (states : List (Machine × List ℕ)) (word : List ℕ) → AreStates r self.now.known.entries states → IsWordOf states origin.now word → v.items ≡ word) }
     {
         let mut word = Vec::new(alloc);

@@ -8,7 +8,7 @@ ghost use Rattle.cp_run.specs.Slots.{slots};
 ghost use Rattle.cp_at_once.specs.Legs.{EndsQuietly, HasLeg, ends_quietly};
 
 use cp_machine::{Event, Kernel, Moved, State, Ticks, Watch, local_step, step};
-use cp_run::{Limits, wanted};
+use cp_run::{Limits, candidates};
 use cp_slots::Resolved;
 use std::sync::ledger::Ledger;
 
@@ -102,7 +102,7 @@ pub fn process_at_once<S: Ledger>(
     if state.pending().is_some() {
         return None;
     }
-    let numbers = wanted(program, limits, state);
+    let numbers = candidates(program, limits, state);
     let mut moved = Moved::everybody();
     for pid in numbers.as_slice() {
         if has_quiet_leg(program, limits, state, ahead, &moved, *pid, steps) {

@@ -10,6 +10,6 @@ pub mod origin;
 pub mod report;
 pub mod search;
 
-pub use found::Found;
+pub use found::FoundAtOnce;
 pub use report::at_once_report;
 pub use search::search_at_once;

@@ -1,7 +1,7 @@
 //! The report of a search.
 
-use crate::found::{Found, FoundValue};
-use crate::origin::Origin;
+use crate::found::{FoundAtOnce, ValueAtOnce};
+use crate::origin::OriginAtOnce;
 use cp_ends::found::MOST_VALUES;
 use cp_ends::report::push_end;
 use cp_slots::Resolved;
@@ -13,7 +13,7 @@ use std::alloc::{AllocError, Global};
 pub fn at_once_report(
     alloc: Global,
     program: &Resolved,
-    found: &Found,
+    found: &FoundAtOnce,
 ) -> Result<Report, AllocError> {
     let mut text = String::new(alloc);
     push_head(&mut text, found)?;
@@ -27,7 +27,7 @@ pub fn at_once_report(
     })
 }
 
-fn push_head(text: &mut String, found: &Found) -> Result<(), AllocError> {
+fn push_head(text: &mut String, found: &FoundAtOnce) -> Result<(), AllocError> {
     if !found.is_whole {
         return text.push_str("too many states\n");
     }
@@ -36,7 +36,7 @@ fn push_head(text: &mut String, found: &Found) -> Result<(), AllocError> {
     text.push_str(" at once\n")
 }
 
-fn push_ends(alloc: Global, text: &mut String, found: &Found) -> Result<(), AllocError> {
+fn push_ends(alloc: Global, text: &mut String, found: &FoundAtOnce) -> Result<(), AllocError> {
     text.push_str("ends ")?;
     push_count(text, found.ends.len())?;
     text.push_str("\n")?;
@@ -53,7 +53,7 @@ fn push_values(
     alloc: Global,
     text: &mut String,
     program: &Resolved,
-    found: &Found,
+    found: &FoundAtOnce,
 ) -> Result<(), AllocError> {
     let count = found.values.len().min(MOST_VALUES);
     text.push_str("shown ")?;
@@ -72,8 +72,8 @@ fn push_value(
     alloc: Global,
     text: &mut String,
     program: &Resolved,
-    found: &Found,
-    value: &FoundValue,
+    found: &FoundAtOnce,
+    value: &ValueAtOnce,
 ) -> Result<(), AllocError> {
     push_by(alloc, text, found, &value.origin)?;
     text.push_str(" shows ")?;
@@ -84,8 +84,8 @@ fn push_value(
 fn push_by(
     alloc: Global,
     text: &mut String,
-    found: &Found,
-    origin: &Origin,
+    found: &FoundAtOnce,
+    origin: &OriginAtOnce,
 ) -> Result<(), AllocError> {
     let word = found.kept.word(alloc, origin)?;
     text.push_str("by ")?;

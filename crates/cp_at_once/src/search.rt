@@ -12,14 +12,14 @@ ghost use Rattle.cp_at_once.specs.Holds.{Holds, IsWordOf};
 ghost use Rattle.cp_at_once.specs.Legs.{HasLeg};
 ghost use Rattle.cp_at_once.specs.Whole.{IsAnswer};
 
-use crate::found::Found;
+use crate::found::FoundAtOnce;
 use crate::leg::process_at_once;
-use crate::origin::{MOST_IN_A_ROW, Origin};
+use crate::origin::{MOST_IN_A_ROW, OriginAtOnce};
 use cp_ends::choosing::{choose, open};
 use cp_ends::end::Arrival;
-use cp_ends::state_key::StateKey;
+use cp_ends::state_key::ReachedKey;
 use cp_machine::{Shown, State, Ticks};
-use cp_run::{Limits, wanted};
+use cp_run::{Limits, candidates};
 use cp_slots::Resolved;
 use std::alloc::{AllocError, Global};
 use std::marker::Brand;
@@ -28,8 +28,8 @@ use std::sync::ledger::{Blank, Ledger};
 // What is found so far, with room for a key, for displayed values, and for a state in which a leg is tried.
 #[derive(Drop)]
 struct SearchAtOnce {
-    found: Found,
-    key: StateKey,
+    found: FoundAtOnce,
+    key: ReachedKey,
     told: Vec<Shown>,
     ahead: State,
 }
@@ -41,7 +41,7 @@ pub fn search_at_once(
     program: &Resolved,
     limits: Limits,
     most: u32,
-) -> Result<Found, AllocError>
+) -> Result<FoundAtOnce, AllocError>
     ensures { IfOk result (λ found. IsAnswer program.now limits.gates limits.steps most found) }
 {
     search_with::<Brand>(alloc, program, limits, most, Blank::new(1))
@@ -53,7 +53,7 @@ fn search_with<S: Ledger>(
     limits: Limits,
     most: u32,
     blank: Blank,
-) -> Result<Found, AllocError>
+) -> Result<FoundAtOnce, AllocError>
     requires name { blank.name ≡ S.name }
     requires parts { blank.parts ≡ S.parts }
     requires one { S.parts ≡ 1 }
@@ -77,8 +77,8 @@ impl SearchAtOnce {
     {
         let _ = program;
         Ok(SearchAtOnce {
-            found: Found::new(alloc),
-            key: StateKey {
+            found: FoundAtOnce::new(alloc),
+            key: ReachedKey {
                 bytes: Vec::new(alloc),
             },
             told: Vec::new(alloc),
@@ -142,7 +142,7 @@ impl SearchAtOnce {
             most,
             next,
             arrival,
-            Origin::start(),
+            OriginAtOnce::start(),
             steps,
         )?;
         if !is_room {
@@ -205,7 +205,7 @@ impl SearchAtOnce {
         ensures found { IfOk result (λ is_room. (states : List (Machine × List ℕ)) (x : Machine × List ℕ) → Holds program.now (slot_graph program.now limits.gates limits.steps) most self.old.found states → slice_get states number ≡ Some x → machine_of state.now ≡ x.0 → AllGoOn program.now (slot_graph program.now limits.gates limits.steps) (HasLeg program.now limits.gates) most 8 self.old.found states self.new.found x.0 is_room) }
         ensures ahead { IsStateOf program.now self.new.ahead }
     {
-        let numbers = wanted(program, limits, state);
+        let numbers = candidates(program, limits, state);
         for process in numbers.as_slice() {
             next.take_from(state);
             self.told.clear();
@@ -218,7 +218,7 @@ impl SearchAtOnce {
                 &mut self.told,
                 steps,
             )?;
-            let origin = Origin::choice(number, *process);
+            let origin = OriginAtOnce::choice(number, *process);
             if !self.follow(alloc, program, limits, most, next, arrival, origin, steps)? {
                 return Ok(false);
             }
@@ -235,7 +235,7 @@ impl SearchAtOnce {
         most: u32,
         state: &mut State,
         arrival: Arrival,
-        origin: Origin,
+        origin: OriginAtOnce,
         steps: &mut Ticks<S>,
     ) -> Result<bool, AllocError>
         requires own { IsStateOf program.now state.old }
@@ -269,7 +269,7 @@ impl SearchAtOnce {
     }
 
     // A word leads to where a stretch came to.
-    fn note(&mut self, arrival: Arrival, origin: &Origin) -> Result<(), AllocError>
+    fn note(&mut self, arrival: Arrival, origin: &OriginAtOnce) -> Result<(), AllocError>
         ensures ahead { self.new.ahead ≡ self.old.ahead }
         ensures found { IfOk result (λ _. (r : Tables) (g : SlotGraph) (most : ℕ) (states : List (Machine × List ℕ)) (word : List ℕ) (a : SlotArrival) (m : Machine) → Holds r g most self.old.found states → IsWordOf states origin.now word → ArrivesAt g word a → goal_at arrival m ≡ a.goal → self.old.told.items ≡ a.shown → NotesArrival r g most self.old.found states self.new.found a) }
     {
@@ -287,7 +287,7 @@ impl SearchAtOnce {
         program: &Resolved,
         most: u32,
         state: &State,
-        origin: Origin,
+        origin: OriginAtOnce,
     ) -> Result<bool, AllocError>
         requires own { IsStateOf program.now state.now }
         requires quiet { output_of (machine_of state.now) ≡ [] }

@@ -7,9 +7,9 @@ use Rattle.std.proofs.lemmas.Map.Views.{exact_unsigned_eq}
 use Rattle.indexmap.specs.IndexSet.{insert_key}
 use Rattle.indexmap.proofs.CallerLemmas.{Contains-list_any}
 use Rattle.cp_cover.specs.Marks.{Adds}
-use Rattle.cp_cover.specs.contracts.mark.MarkPartialEq.TheImpl as mark_eq
-use Rattle.cp_cover.specs.declared.mark.Mark.{Mark}
-use Rattle.cp_cover.specs.declared.mark.Mark.TheVariants.{Statement, Queue, Gate}
+use Rattle.cp_cover.specs.contracts.mark.CoverMarkPartialEq.TheImpl as mark_eq
+use Rattle.cp_cover.specs.declared.mark.CoverMark.{CoverMark}
+use Rattle.cp_cover.specs.declared.mark.CoverMark.TheVariants.{Statement, Queue, Gate}
 
 both : (a b : Bool) → (a && b) ≡ true → (a ≡ true) × (b ≡ true)
 both true true h = (refl, refl)
@@ -17,7 +17,7 @@ both true false h = absurd (cc)
 both false b h = absurd (cc)
 
 -- marks that are equal are one
-pub one_mark : (a b : Mark) → (mark_eq.ghosts).eq a b ≡ true → a ≡ b
+pub one_mark : (a b : CoverMark) → (mark_eq.ghosts).eq a b ≡ true → a ≡ b
 one_mark (Statement a) (Statement b) h = ap Statement (exact_unsigned_eq a b h)
 one_mark (Statement a) (Queue b) h = absurd (cc)
 one_mark (Statement a) (Gate m r) h = absurd (cc)
@@ -30,13 +30,13 @@ one_mark (Gate m r) (Gate n s) h =
     let e = both _ _ h in
     ap (λ k. Gate k r) (exact_unsigned_eq m n e.0) ∙ ap (λ k. Gate n k) (exact_unsigned_eq r s e.1)
 
-none_has : (mark : Mark) → Contains [] mark → ⊥
+none_has : (mark : CoverMark) → Contains [] mark → ⊥
 none_has mark h = let lt = h.1 in absurd (omega (arith, lt))
 
-pub adds_none : (before : List Mark) → Adds before [] before
+pub adds_none : (before : List CoverMark) → Adds before [] before
 adds_none before = record { kept = λ mark h. h; added = λ mark h. absurd (none_has mark h); only = λ mark h. inl h }
 
-pub adds_then : (a xs b ys c : List Mark) → Adds a xs b → Adds b ys c → Adds a (xs ++ ys) c
+pub adds_then : (a xs b ys c : List CoverMark) → Adds a xs b → Adds b ys c → Adds a (xs ++ ys) c
 adds_then a xs b ys c f g =
     record {
       kept = λ mark h. g.kept mark (f.kept mark h);
@@ -45,10 +45,10 @@ adds_then a xs b ys c f g =
     }
 
 -- one mark, where it is new
-pub adds_mark : (marks : List Mark) (mark : Mark) → Adds marks (mark ∷ []) (insert_key (mark_eq.ghosts).eq marks mark)
+pub adds_mark : (marks : List CoverMark) (mark : CoverMark) → Adds marks (mark ∷ []) (insert_key (mark_eq.ghosts).eq marks mark)
 adds_mark marks mark = by (list_any ((mark_eq.ghosts).eq mark) marks) refl
   where
-    is_one : (other : Mark) → Contains (mark ∷ []) other → mark ≡ other
+    is_one : (other : CoverMark) → Contains (mark ∷ []) other → mark ≡ other
     is_one other h = ⊎_elim (λ (c : Contains [] other). absurd (none_has other c)) (λ (e : mark ≡ other). e) (Contains-push_cases [] mark other h)
 
     by : (b : Bool) → list_any ((mark_eq.ghosts).eq mark) marks ≡ b → Adds marks (mark ∷ []) (if b then marks else marks ++ mark ∷ [])
@@ -66,5 +66,5 @@ adds_mark marks mark = by (list_any ((mark_eq.ghosts).eq mark) marks) refl
         }
 
 -- a mark that is found is among them
-pub found_mark : (marks : List Mark) (mark : Mark) (b : Bool) → b ≡ list_any ((mark_eq.ghosts).eq mark) marks → b ≡ true → Contains marks mark
+pub found_mark : (marks : List CoverMark) (mark : CoverMark) (b : Bool) → b ≡ list_any ((mark_eq.ghosts).eq mark) marks → b ≡ true → Contains marks mark
 found_mark marks mark b e h = Contains-list_any (mark_eq.ghosts).eq one_mark marks mark (sym e ∙ h)

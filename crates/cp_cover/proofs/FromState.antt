@@ -12,28 +12,28 @@ use Rattle.cp_machine.specs.Machine.{Machine}
 use Rattle.cp_run.specs.declared.outcome.OutcomeKind.{OutcomeKind}
 use Rattle.cp_run.specs.System.{System}
 use Rattle.cp_run.specs.Run.{Node, Halted, Choosing, chosen}
-use Rattle.cp_cover.specs.contracts.keys.StateKeyPartialEq.TheImpl as key_eq
-use Rattle.cp_cover.specs.declared.keys.StateKey.{StateKey}
-use Rattle.cp_cover.specs.declared.mark.Mark.{Mark}
+use Rattle.cp_cover.specs.contracts.keys.CoverStateKeyPartialEq.TheImpl as key_eq
+use Rattle.cp_cover.specs.declared.keys.CoverStateKey.{CoverStateKey}
+use Rattle.cp_cover.specs.declared.mark.CoverMark.{CoverMark}
 use Rattle.cp_cover.specs.Marks.{Adds}
 use Rattle.cp_cover.specs.Reached.{chosen_marks}
 use Rattle.cp_cover.specs.Layers.{IsKeyOf, HasKey, AddsState, AddsNode, FromState}
 
-abbrev pub same_key : StateKey → StateKey → Bool
+abbrev pub same_key : CoverStateKey → CoverStateKey → Bool
 same_key = (key_eq.ghosts).eq
 
 -- a key that is known is that of one of the keys
-known_key : (keys : List StateKey) (key : StateKey) → list_any (same_key key) keys ≡ true → (other : StateKey) × Contains keys other × (other.bytes.items ≡ key.bytes.items)
+known_key : (keys : List CoverStateKey) (key : CoverStateKey) → list_any (same_key key) keys ≡ true → (other : CoverStateKey) × Contains keys other × (other.bytes.items ≡ key.bytes.items)
 known_key [] key h = absurd (cc)
 known_key (k ∷ keys) key h = by (same_key key k) refl (known_key keys key)
   where
-    by : (b : Bool) → same_key key k ≡ b → (list_any (same_key key) keys ≡ true → (other : StateKey) × Contains keys other × (other.bytes.items ≡ key.bytes.items)) → (other : StateKey) × Contains (k ∷ keys) other × (other.bytes.items ≡ key.bytes.items)
+    by : (b : Bool) → same_key key k ≡ b → (list_any (same_key key) keys ≡ true → (other : CoverStateKey) × Contains keys other × (other.bytes.items ≡ key.bytes.items)) → (other : CoverStateKey) × Contains (k ∷ keys) other × (other.bytes.items ≡ key.bytes.items)
     by true e on = (k, Contains-append_left (k ∷ []) keys k (Contains-push [] k), sym ((bytes_decides key.bytes.items k.bytes.items).0 e))
     by false e on =
         let rest = on (sym (ap (λ b. b || list_any (same_key key) keys) e) ∙ h) in
         (rest.0, Contains-append_right (k ∷ []) keys rest.0 rest.1, rest.2)
 
-pub adds_state : (keys : List StateKey) (key : StateKey) (m : Machine) → IsKeyOf key m → AddsState keys m (insert_key same_key keys key)
+pub adds_state : (keys : List CoverStateKey) (key : CoverStateKey) (m : Machine) → IsKeyOf key m → AddsState keys m (insert_key same_key keys key)
 adds_state keys key m is = by (list_any (same_key key) keys) refl
   where
     by : (b : Bool) → list_any (same_key key) keys ≡ b → AddsState keys m (if b then keys else keys ++ key ∷ [])
@@ -51,7 +51,7 @@ node_of_choice : Node Machine → Machine → Machine
 node_of_choice (Halted kind m) n = n
 node_of_choice (Choosing m) n = m
 
-pub node_choosing : (r : Tables) (before after : List StateKey) (m : Machine) → IsMachineOf r m → AddsState before m after → AddsNode r before (Choosing m) after
+pub node_choosing : (r : Tables) (before after : List CoverStateKey) (m : Machine) → IsMachineOf r m → AddsState before m after → AddsNode r before (Choosing m) after
 unfolding node_of_choice
 node_choosing r before after m own h =
     record {
@@ -60,14 +60,14 @@ node_choosing r before after m own h =
       only = λ key c. ⊎_elim (λ (o : Contains before key). inl o) (λ (is : IsKeyOf key m). inr (m, own, refl, is)) (h.only key c);
     }
 
-pub node_halted : (r : Tables) (before : List StateKey) (kind : OutcomeKind) (m : Machine) → AddsNode r before (Halted kind m) before
+pub node_halted : (r : Tables) (before : List CoverStateKey) (kind : OutcomeKind) (m : Machine) → AddsNode r before (Halted kind m) before
 node_halted r before kind m = record { kept = λ key h. h; found = λ n e. absurd (cc); only = λ key h. inl h }
 
 module _ (r : Tables) (sys : System Machine) (steps : ℕ) (m : Machine) where
   none_in : {X : Type 0} (x : X) → Contains [] x → ⊥
   none_in x h = let lt = h.1 in absurd (omega (arith, lt))
 
-  pub state_none : (marks : List Mark) (keys : List StateKey) → FromState r sys steps m [] marks keys marks keys
+  pub state_none : (marks : List CoverMark) (keys : List CoverStateKey) → FromState r sys steps m [] marks keys marks keys
   state_none marks keys =
       record {
         kept = λ mark h. h;
@@ -78,7 +78,7 @@ module _ (r : Tables) (sys : System Machine) (steps : ℕ) (m : Machine) where
         own = λ key h. inl h;
       }
 
-  pub state_more : (ps : List ℕ) (p : ℕ) (a b c : List Mark) (k l q : List StateKey) → FromState r sys steps m ps a k b l → Adds b (chosen_marks sys steps m p) c → AddsNode r l (chosen sys steps m p) q → FromState r sys steps m (ps ++ p ∷ []) a k c q
+  pub state_more : (ps : List ℕ) (p : ℕ) (a b c : List CoverMark) (k l q : List CoverStateKey) → FromState r sys steps m ps a k b l → Adds b (chosen_marks sys steps m p) c → AddsNode r l (chosen sys steps m p) q → FromState r sys steps m (ps ++ p ∷ []) a k c q
   state_more ps p a b c k l q f g h =
       record {
         kept = λ mark i. g.kept mark (f.kept mark i);
@@ -89,10 +89,10 @@ module _ (r : Tables) (sys : System Machine) (steps : ℕ) (m : Machine) where
         own = λ key i. ⊎_elim (λ (j : Contains l key). own_before key (f.own key j)) (λ (x : (n : Machine) × IsMachineOf r n × (chosen sys steps m p ≡ Choosing n) × IsKeyOf key n). inr (p, x.0, Contains-push ps p, x.1, x.2, x.3)) (h.only key i);
       }
     where
-      only_before : (mark : Mark) → Contains a mark ⊎ ((o : ℕ) × Contains ps o × Contains (chosen_marks sys steps m o) mark) → Contains a mark ⊎ ((o : ℕ) × Contains (ps ++ p ∷ []) o × Contains (chosen_marks sys steps m o) mark)
+      only_before : (mark : CoverMark) → Contains a mark ⊎ ((o : ℕ) × Contains ps o × Contains (chosen_marks sys steps m o) mark) → Contains a mark ⊎ ((o : ℕ) × Contains (ps ++ p ∷ []) o × Contains (chosen_marks sys steps m o) mark)
       only_before mark (inl i) = inl i
       only_before mark (inr x) = inr (x.0, Contains-append_left ps (p ∷ []) x.0 x.1, x.2)
 
-      own_before : (key : StateKey) → Contains k key ⊎ ((o : ℕ) × (n : Machine) × Contains ps o × IsMachineOf r n × (chosen sys steps m o ≡ Choosing n) × IsKeyOf key n) → Contains k key ⊎ ((o : ℕ) × (n : Machine) × Contains (ps ++ p ∷ []) o × IsMachineOf r n × (chosen sys steps m o ≡ Choosing n) × IsKeyOf key n)
+      own_before : (key : CoverStateKey) → Contains k key ⊎ ((o : ℕ) × (n : Machine) × Contains ps o × IsMachineOf r n × (chosen sys steps m o ≡ Choosing n) × IsKeyOf key n) → Contains k key ⊎ ((o : ℕ) × (n : Machine) × Contains (ps ++ p ∷ []) o × IsMachineOf r n × (chosen sys steps m o ≡ Choosing n) × IsKeyOf key n)
       own_before key (inl i) = inl i
       own_before key (inr x) = inr (x.0, x.1, Contains-append_left ps (p ∷ []) x.0 x.2, x.3, x.4, x.5)

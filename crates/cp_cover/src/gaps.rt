@@ -3,7 +3,7 @@
 use crate::entries::Entries;
 pub use crate::lines::UnreachedLine;
 use crate::lines::unreached_lines;
-use crate::mark::Mark;
+use crate::mark::CoverMark;
 use crate::marks::Marks;
 use crate::search::Coverage;
 use crate::statements::statements;
@@ -69,9 +69,10 @@ impl Gaps {
                 for place in 0..legend.shapes.cells_of(variable.shape) {
                     let cell = first.saturating_add(place);
                     self.has_queues = true;
-                    if !marks.has(Mark::Queue(cell)) {
+                    if !marks.has(CoverMark::Queue(cell)) {
                         let name = legend.permanent_name(alloc, cell, 1)?;
-                        self.queues.push(joined(alloc, component, name.as_str())?)?;
+                        self.queues
+                            .push(qualified_name(alloc, component, name.as_str())?)?;
                     }
                 }
             }
@@ -98,9 +99,9 @@ impl Gaps {
         for routine in 0..process.routine {
             if entries.has(routine) && program.routine(routine).system == component.system {
                 self.has_gates = true;
-                if !marks.has(Mark::Gate { monitor, routine }) {
+                if !marks.has(CoverMark::Gate { monitor, routine }) {
                     let name = legend.routine_name(routine);
-                    self.gates.push(joined(alloc, component, name)?)?;
+                    self.gates.push(qualified_name(alloc, component, name)?)?;
                 }
             }
         }
@@ -109,6 +110,6 @@ impl Gaps {
 }
 
 // A name with that of its component before it.
-fn joined(alloc: Global, component: &Component, name: &str) -> Result<String, AllocError> {
+fn qualified_name(alloc: Global, component: &Component, name: &str) -> Result<String, AllocError> {
     format!(in alloc; "{}.{name}", component.path.as_str())
 }

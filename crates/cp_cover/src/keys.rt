@@ -15,11 +15,11 @@ use std::hash::{Hash, Hasher};
 
 /// The key of a state.
 #[derive(Drop)]
-pub struct StateKey {
+pub struct CoverStateKey {
     pub bytes: Vec<u8>,
 }
 
-impl PartialEq for StateKey {
+impl PartialEq for CoverStateKey {
     ghost eq = { λ x y. pointwise nat_eq x.bytes.items y.bytes.items };
 
     ghost laws = { on_per (λ x. x.bytes.items) (partial_equiv_from_equiv nat_list_eq_equiv) };
@@ -29,11 +29,11 @@ impl PartialEq for StateKey {
     }
 }
 
-impl Eq for StateKey {
+impl Eq for CoverStateKey {
     ghost laws = { on_equiv (λ x. x.bytes.items) nat_list_eq_equiv };
 }
 
-impl Hash for StateKey {
+impl Hash for CoverStateKey {
     ghost hash_input = { λ x. x.bytes.items ∷ [] };
 
     ghost respects_eq = { λ x y h. ap (λ bytes. bytes ∷ []) ((bytes_decides x.bytes.items y.bytes.items).0 h) };
@@ -44,7 +44,7 @@ impl Hash for StateKey {
 }
 
 /// The key of a state.
-pub fn key_of_state(alloc: Global, state: &State) -> Result<StateKey, AllocError>
+pub fn key_of_state(alloc: Global, state: &State) -> Result<CoverStateKey, AllocError>
     ensures { IfOk result (λ key. key.bytes.items ≡ key_of (machine_of state.now)) }
 {
     let mut bytes = Vec::new(alloc);
@@ -55,5 +55,5 @@ pub fn key_of_state(alloc: Global, state: &State) -> Result<StateKey, AllocError
         &Moved::everybody(),
         &mut bytes,
     )?;
-    Ok(StateKey { bytes })
+    Ok(CoverStateKey { bytes })
 }

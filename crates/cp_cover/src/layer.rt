@@ -4,9 +4,9 @@ ghost use Rattle.std.specs.Prelude.{◌≡◌, [], true, IfOk, Some, length, sli
 ghost use Rattle.cp_slots.specs.Tables.{Tables};
 ghost use Rattle.cp_machine.specs.System.{machine_of, IsStateOf};
 ghost use Rattle.cp_cover.specs.Layers.{AddsState, AreOwn, IsKeyOf};
-ghost use Rattle.cp_cover.specs.declared.keys.StateKey.{StateKey};
+ghost use Rattle.cp_cover.specs.declared.keys.CoverStateKey.{CoverStateKey};
 
-use crate::keys::{StateKey, key_of_state};
+use crate::keys::{CoverStateKey, key_of_state};
 use cp_key::{Parts, thaw};
 use cp_machine::{Moved, State};
 use indexmap::IndexSet;
@@ -15,7 +15,7 @@ use std::alloc::{AllocError, Global};
 /// States in which a choice is due, each once.
 #[derive(Drop)]
 pub struct Layer {
-    pub known: IndexSet<StateKey>,
+    pub known: IndexSet<CoverStateKey>,
 }
 
 impl Layer {
@@ -48,7 +48,7 @@ impl Layer {
     pub fn thaw_at(&self, number: usize, state: &mut State) -> bool
         requires { (r : Tables) × IsStateOf r state.old × AreOwn r self.now.known.keys }
         ensures own { (r : Tables) → IsStateOf r state.old → AreOwn r self.now.known.keys → IsStateOf r state.new }
-        ensures key { result ≡ true → (key : StateKey) × (slice_get self.now.known.keys number ≡ Some key) × IsKeyOf key (machine_of state.new) }
+        ensures key { result ≡ true → (key : CoverStateKey) × (slice_get self.now.known.keys number ≡ Some key) × IsKeyOf key (machine_of state.new) }
     {
         let Some(key) = self.known.get_index(number) else {
             return false;

@@ -16,7 +16,7 @@ mod texts;
 
 pub use entries::{Entries, entries_of};
 pub use gaps::{Gaps, UnreachedLine, gaps_of};
-pub use mark::Mark;
+pub use mark::CoverMark;
 pub use marks::Marks;
 pub use objects::cover_json;
 pub use search::{Coverage, find_coverage};

@@ -1,8 +1,8 @@
 //! The lines whose statements are not reached.
 
-use crate::mark::Mark;
+use crate::mark::CoverMark;
 use crate::marks::Marks;
-use crate::statements::Statement;
+use crate::statements::CoverStatement;
 use std::alloc::{AllocError, Global};
 
 /// A line of statements that no schedule reaches.
@@ -24,7 +24,7 @@ struct Line {
 /// The lines of the statements that are not among the marks, in rising order.
 pub fn unreached_lines(
     alloc: Global,
-    statements: &[Statement],
+    statements: &[CoverStatement],
     marks: &Marks,
 ) -> Result<Vec<UnreachedLine>, AllocError> {
     let mut unreached = Vec::new(alloc);
@@ -42,14 +42,14 @@ pub fn unreached_lines(
 // The lines with statements, in rising order.
 fn lines_of(
     alloc: Global,
-    statements: &[Statement],
+    statements: &[CoverStatement],
     marks: &Marks,
 ) -> Result<Vec<Line>, AllocError> {
     let mut sorted = Vec::from_slice(alloc, statements)?;
     sorted.sort_unstable_by_key(|statement| statement.line);
     let mut lines: Vec<Line> = Vec::new(alloc);
     for statement in &sorted {
-        let is_reached = marks.has(Mark::Statement(statement.item));
+        let is_reached = marks.has(CoverMark::Statement(statement.item));
         match lines.last_mut() {
             Some(last) if last.line == statement.line => {
                 last.has_reached = last.has_reached || is_reached;

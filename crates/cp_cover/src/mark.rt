@@ -2,7 +2,7 @@
 
 /// What a schedule can come to.
 #[derive(Clone, Copy, PartialEq, Eq, Hash, Drop)]
-pub enum Mark {
+pub enum CoverMark {
     /// A process makes a step of the item of this number: of a statement, or of a call in an expression.
     Statement(usize),
     /// A process waits in the queue that has this permanent cell.

@@ -3,14 +3,14 @@
 ghost use Rattle.std.specs.Prelude.{◌≡◌, ◌∷◌, [], true, Contains, IfOk};
 ghost use Rattle.cp_cover.specs.Marks.{Adds};
 
-use crate::mark::Mark;
+use crate::mark::CoverMark;
 use indexmap::IndexSet;
 use std::alloc::{AllocError, Global};
 
 /// What schedules came to, each once.
 #[derive(Drop)]
 pub struct Marks {
-    pub known: IndexSet<Mark>,
+    pub known: IndexSet<CoverMark>,
 }
 
 impl Marks {
@@ -24,7 +24,7 @@ impl Marks {
     }
 
     /// One more, where it is new.
-    pub fn add(&mut self, mark: Mark) -> Result<(), AllocError>
+    pub fn add(&mut self, mark: CoverMark) -> Result<(), AllocError>
         ensures { IfOk result (λ _. Adds self.old.known.keys (mark ∷ []) self.new.known.keys) }
     {
         self.known.insert(mark)?;
@@ -43,7 +43,7 @@ impl Marks {
     }
 
     /// Whether some schedule came to it.
-    pub fn has(&self, mark: Mark) -> bool
+    pub fn has(&self, mark: CoverMark) -> bool
         ensures { result ≡ true → Contains self.now.known.keys mark }
     {
         self.known.contains(&mark)

@@ -10,7 +10,7 @@ ghost use Rattle.cp_run.specs.Code.{node_of};
 ghost use Rattle.cp_cover.specs.Marks.{marks_in, Adds};
 ghost use Rattle.cp_cover.specs.Reached.{item_marks, wait_marks, stretch_marks, opened_marks, chosen_marks};
 
-use crate::mark::Mark;
+use crate::mark::CoverMark;
 use crate::marks::Marks;
 use cp_machine::{Entry, State, Status, Ticks, step};
 use cp_run::turn::{settled_turn, turn_at, turn_of};
@@ -29,27 +29,27 @@ fn top_of(state: &State, pid: u8) -> Option<&Entry>
 }
 
 // The item whose step a process makes next, if it is one.
-fn item_of(state: &State, pid: u8) -> Option<Mark>
+fn item_of(state: &State, pid: u8) -> Option<CoverMark>
     requires { pid < length state.now.processes.items }
     ensures { marks_in result ≡ item_marks (thread_at (machine_of state.now).threads pid).stack }
 {
     match top_of(state, pid) {
-        Some(&Entry::Rest(at)) => Some(Mark::Statement(at)),
+        Some(&Entry::Rest(at)) => Some(CoverMark::Statement(at)),
         Some(&Entry::Successor(..)) | Some(&Entry::Return(..)) | Some(&Entry::InitEnd(..)) | None =>
             None,
     }
 }
 
 // Where a process waits, if it does.
-fn wait_of(state: &State, pid: u8) -> Option<Mark>
+fn wait_of(state: &State, pid: u8) -> Option<CoverMark>
     requires { pid < length state.now.processes.items }
     ensures { marks_in result ≡ wait_marks (thread_at (machine_of state.now).threads pid) }
 {
     let process = &state.processes[pid as usize];
     let routine = process.frame.routine;
     match process.status {
-        Status::AtGate(monitor) => Some(Mark::Gate { monitor, routine }),
-        Status::Delayed(cell) => Some(Mark::Queue(cell)),
+        Status::AtGate(monitor) => Some(CoverMark::Gate { monitor, routine }),
+        Status::Delayed(cell) => Some(CoverMark::Queue(cell)),
         Status::Unstarted | Status::Ready | Status::Ended => None,
     }
 }

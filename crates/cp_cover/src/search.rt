@@ -13,7 +13,7 @@ use crate::layer::Layer;
 use crate::marks::Marks;
 use crate::noting::{note_choice, note_opening};
 use cp_machine::{State, Ticks};
-use cp_run::{Halt, Limits, OutcomeKind, wanted};
+use cp_run::{Halt, Limits, OutcomeKind, candidates};
 use cp_slots::Resolved;
 use std::alloc::{AllocError, Global};
 use std::marker::Brand;
@@ -32,7 +32,7 @@ pub struct Coverage {
 
 // What schedules came to so far, and where the next choice is due.
 #[derive(Drop)]
-struct Search {
+struct CoverSearch {
     marks: Marks,
     layer: Layer,
     is_stopped: bool,
@@ -65,7 +65,7 @@ fn find_with<S: Ledger>(
     ensures choices { IfOk result (λ c. c.choices ≤ limits.choices) }
 {
     let mut steps: Ticks<S> = Ticks::new(blank);
-    let mut search = Search::new(alloc);
+    let mut search = CoverSearch::new(alloc);
     let mut state = State::start(alloc, program, limits.gates)?;
     search.open(alloc, program, limits, &mut state, &mut steps)?;
     let mut next = state.copy(alloc)?;
@@ -91,12 +91,12 @@ fn find_with<S: Ledger>(
     })
 }
 
-impl Search {
-    fn new(alloc: Global) -> Search
+impl CoverSearch {
+    fn new(alloc: Global) -> CoverSearch
         ensures marks { result.marks.known.keys ≡ [] }
         ensures layer { result.layer.known.keys ≡ [] }
     {
-        Search {
+        CoverSearch {
             marks: Marks::new(alloc),
             layer: Layer::new(alloc),
             is_stopped: false,
@@ -185,7 +185,7 @@ impl Search {
         ensures next { IsStateOf program.now next.new }
         ensures from { IfOk result (λ _. FromState program.now (slots program.now limits.gates) limits.steps (machine_of state.now) (those_below (slots program.now limits.gates).processes (may (slots program.now limits.gates) (machine_of state.now))) self.old.marks.known.keys self.old.layer.known.keys self.new.marks.known.keys self.new.layer.known.keys) }
     {
-        let numbers = wanted(program, limits, state);
+        let numbers = candidates(program, limits, state);
         for process in numbers.as_slice() {
             next.take_from(state);
             self.take_choice(alloc, program, limits, next, *process, steps)?;

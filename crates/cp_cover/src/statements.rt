@@ -7,14 +7,14 @@ use std::alloc::{AllocError, Global};
 
 /// A statement, or a call in an expression, by its item.
 #[derive(Clone, Copy)]
-pub struct Statement {
+pub struct CoverStatement {
     pub item: usize,
     /// The line of its first token.
     pub line: u32,
 }
 
 /// All statements of all routines. Empty statements do nothing, and of compound ones the inner statements are told.
-pub fn statements(alloc: Global, program: &Resolved) -> Result<Vec<Statement>, AllocError> {
+pub fn statements(alloc: Global, program: &Resolved) -> Result<Vec<CoverStatement>, AllocError> {
     let mut found = Vec::new(alloc);
     // Of the items the program's own are laid out last, and of these the first one last of all.
     let _processes = program.processes();
@@ -32,13 +32,13 @@ pub fn statements(alloc: Global, program: &Resolved) -> Result<Vec<Statement>, A
 fn add_statement(
     program: &Resolved,
     at: usize,
-    found: &mut Vec<Statement>,
+    found: &mut Vec<CoverStatement>,
 ) -> Result<(), AllocError>
     requires { at < length program.now.items }
 {
     let item = program.item(at);
     if tells_itself(&item.action) {
-        found.push(Statement {
+        found.push(CoverStatement {
             item: at,
             line: item.line,
         })?;

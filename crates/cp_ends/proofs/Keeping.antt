@@ -12,7 +12,7 @@ use Rattle.cp_slots.specs.Tables.{Tables}
 use Rattle.cp_key.specs.Room.{IsMachineOf}
 use Rattle.cp_machine.specs.System.{Machine}
 use Rattle.cp_states.specs.Rows.{IsRowOf, KeepParts}
-use Rattle.cp_states.specs.declared.row.Row.{Row}
+use Rattle.cp_states.specs.declared.row.StateRow.{StateRow}
 use Rattle.cp_states.specs.declared.store.Store.{Store}
 use Rattle.cp_states.proofs.Alone.{one_machine, one_row}
 use Rattle.cp_states.proofs.Following.{row_on}
@@ -25,7 +25,7 @@ use Rattle.cp_ends.proofs.Searching.Lists.{all_at}
 use Rattle.cp_ends.proofs.named.Keys.{key_same, key_self}
 
 abbrev pub Entry : Type 0
-Entry = Row × Origin
+Entry = StateRow × Origin
 
 abbrev pub Stated : Type 0
 Stated = Machine × List ℕ
@@ -130,7 +130,7 @@ states_none r kept none =
     }
 
 -- a row is that of an entry exactly where its machine is a state
-pub found_same : (r : Tables) (store : Store) (es : List Entry) (xs : List Stated) (row : Row) (m : Machine) → AreRows store es xs → ((i : ℕ) (x : Stated) → slice_get xs i ≡ Some x → IsMachineOf r x.0) → IsMachineOf r m → IsRowOf store row.numbers m → is_some (lookup (λ j. pointwise nat_eq row.numbers j.numbers) es) ≡ has same_key xs m
+pub found_same : (r : Tables) (store : Store) (es : List Entry) (xs : List Stated) (row : StateRow) (m : Machine) → AreRows store es xs → ((i : ℕ) (x : Stated) → slice_get xs i ≡ Some x → IsMachineOf r x.0) → IsMachineOf r m → IsRowOf store row.numbers m → is_some (lookup (λ j. pointwise nat_eq row.numbers j.numbers) es) ≡ has same_key xs m
 found_same r store [] [] row m h owns own is = refl
 found_same r store [] (x ∷ xs) row m h owns own is = absurd h
 found_same r store (e ∷ es) [] row m h owns own is = absurd h
@@ -142,7 +142,7 @@ found_same r store (e ∷ es) (x ∷ xs) row m h owns own is = by (pointwise nat
     by true false t on = cc
     by false true t on = cc
 
-insert_new : (eq : Row → Row → Bool) (es : List Entry) (k : Row) (o : Origin) → is_some (lookup (eq k) es) ≡ false → insert_entry eq es k o ≡ es ++ (k, o) ∷ []
+insert_new : (eq : StateRow → StateRow → Bool) (es : List Entry) (k : StateRow) (o : Origin) → is_some (lookup (eq k) es) ≡ false → insert_entry eq es k o ≡ es ++ (k, o) ∷ []
 insert_new eq [] k o new = refl
 insert_new eq (e ∷ es) k o new = by (eq k e.0) new (insert_new eq es k o)
   where
@@ -177,7 +177,7 @@ module _ (r : Tables) (kept : States) (xs : List Stated) (h : AreStates r kept x
       by (inr past) = let le = past.0 in let few = states_length in slice_get_past xs i (omega (arith, le, few))
 
   -- one more
-  module _ (k : Row) (o : Origin) (m : Machine) (word : List ℕ) where
+  module _ (k : StateRow) (o : Origin) (m : Machine) (word : List ℕ) where
     pub states_more : has same_key xs m ≡ false → IsMachineOf r m → m.output ≡ [] → IsRowOf kept.store k.numbers m → IsWordOf xs o word → IsBefore (length xs) o → (new : States) → new.store ≡ kept.store → new.known.entries ≡ insert_entry (λ a b. pointwise nat_eq a.numbers b.numbers) kept.known.entries k o → AreStates r new (xs ++ (m, word) ∷ [])
     states_more fresh own quiet row is before new same listed = more
       where

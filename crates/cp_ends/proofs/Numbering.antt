@@ -10,7 +10,7 @@ use Rattle.cp_slots.specs.Tables.{Tables}
 use Rattle.cp_key.specs.Room.{IsMachineOf}
 use Rattle.cp_machine.specs.System.{Machine}
 use Rattle.cp_states.specs.Rows.{IsRowOf}
-use Rattle.cp_states.specs.declared.row.Row.{Row}
+use Rattle.cp_states.specs.declared.row.StateRow.{StateRow}
 use Rattle.cp_states.specs.declared.store.Store.{Store}
 use Rattle.cp_states.proofs.Alone.{one_machine}
 use Rattle.cp_ends.specs.Holds.{same_key, AreRows, AreStates, IsNumberOf}
@@ -19,7 +19,7 @@ use Rattle.cp_ends.specs.declared.states.States.{States}
 use Rattle.cp_ends.proofs.Keeping.{Entry, Stated, found_same, owned, state_of}
 use Rattle.cp_ends.proofs.named.Keys.{key_same}
 
-key_at : (es : List Entry) (j : ℕ) (e : Entry) (d : Row) → slice_get es j ≡ Some e → get_or (keys_of es) j d ≡ e.0
+key_at : (es : List Entry) (j : ℕ) (e : Entry) (d : StateRow) → slice_get es j ≡ Some e → get_or (keys_of es) j d ≡ e.0
 key_at [] j e d at = absurd (cc)
 key_at (x ∷ es) zero e d at = ap (λ (y : Entry). y.0) (same_Some x e at)
 key_at (x ∷ es) (suc j) e d at = key_at es j e d at
@@ -43,7 +43,7 @@ module _ (r : Tables) (kept : States) (states : List Stated) (held : AreStates r
   pub no_number : ((row : List ℕ) → IsRowOf kept.store row m → ⊥) → IsNumberOf states m None
   no_number none = unrowed kept.store kept.known.entries states m held.rows none
 
-  module _ (row : Row) (own : IsMachineOf r m) (is : IsRowOf kept.store row.numbers m) where
+  module _ (row : StateRow) (own : IsMachineOf r m) (is : IsRowOf kept.store row.numbers m) where
     here : (j : ℕ) → position (λ k. pointwise nat_eq row.numbers k.numbers) (keys_of kept.known.entries) ≡ Some j → IsNumberOf states m (Some j)
     here j at = by (slice_get_cases kept.known.entries j).1
       where
@@ -54,7 +54,7 @@ module _ (r : Tables) (kept : States) (states : List Stated) (held : AreStates r
         by (inr past) = let lt = found.0 in let le = past.0 in let same = long kept.known.entries in absurd (omega (arith, lt, le, same))
         by (inl e) =
             let x = state_of r kept states held j e.0 e.2 in
-            let same : row.numbers ≡ e.0.0.numbers = (bytes_decides row.numbers e.0.0.numbers).0 (ap (λ (k : Row). pointwise nat_eq row.numbers k.numbers) (sym (key_at kept.known.entries j e.0 row e.2)) ∙ found.1) in
+            let same : row.numbers ≡ e.0.0.numbers = (bytes_decides row.numbers e.0.0.numbers).0 (ap (λ (k : StateRow). pointwise nat_eq row.numbers k.numbers) (sym (key_at kept.known.entries j e.0 row e.2)) ∙ found.1) in
             (x.0, x.1, one_machine kept.store e.0.0.numbers x.0.0 m (x.2.fits.threads ∙ sym own.fits.threads) x.4 (subst (λ l. IsRowOf kept.store l m) same is))
 
     pub numbered : (o : Option ℕ) → o ≡ position (λ k. pointwise nat_eq row.numbers k.numbers) (keys_of kept.known.entries) → is_some o ≡ is_some (lookup (λ k. pointwise nat_eq row.numbers k.numbers) kept.known.entries) → IsNumberOf states m o

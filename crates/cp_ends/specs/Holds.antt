@@ -16,7 +16,7 @@ use Rattle.cp_ends.specs.declared.origin.Origin.{Origin}
 use Rattle.cp_ends.specs.declared.origin.Origin.TheVariants.{Start, Choice}
 use Rattle.cp_ends.specs.declared.states.States.{States}
 use Rattle.cp_states.specs.Rows.{IsRowOf}
-use Rattle.cp_states.specs.declared.row.Row.{Row}
+use Rattle.cp_states.specs.declared.row.StateRow.{StateRow}
 use Rattle.cp_states.specs.declared.store.Store.{Store}
 
 -- whether two machines have one key
@@ -34,11 +34,11 @@ IsBefore n Start = Unit {0}
 IsBefore n (Choice at number) = at < n
 
 -- the origin of the state of this number
-abbrev pub origin_or : Option (Row × Origin) → Origin
+abbrev pub origin_or : Option (StateRow × Origin) → Origin
 origin_or None = Start
 origin_or (Some e) = e.1
 
-abbrev pub origin_at : List (Row × Origin) → ℕ → Origin
+abbrev pub origin_at : List (StateRow × Origin) → ℕ → Origin
 origin_at entries at = origin_or (slice_get entries at)
 
 -- whether there is a state of this number, which is this machine
@@ -52,7 +52,7 @@ IsNumberOf states m (Some at) = (x : Machine × List ℕ) × (slice_get states a
 IsNumberOf states m None = has same_key states m ≡ false
 
 -- the entries are the rows of the states
-abbrev pub AreRows : Store → List (Row × Origin) → List (Machine × List ℕ) → Type 0
+abbrev pub AreRows : Store → List (StateRow × Origin) → List (Machine × List ℕ) → Type 0
 AreRows store [] [] = Unit {0}
 AreRows store [] (x ∷ xs) = ⊥
 AreRows store (e ∷ es) [] = ⊥
@@ -63,8 +63,8 @@ pub record AreStates (r : Tables) (kept : States) (states : List (Machine × Lis
   pub rows : AreRows kept.store kept.known.entries states
   pub own : All (λ x. IsMachineOf r x.0) states
   pub quiet : All (λ x. x.0.output ≡ []) states
-  pub words : (i : ℕ) (e : Row × Origin) (x : Machine × List ℕ) → slice_get kept.known.entries i ≡ Some e → slice_get states i ≡ Some x → IsWordOf states e.1 x.1
-  pub before : (i : ℕ) (e : Row × Origin) → slice_get kept.known.entries i ≡ Some e → IsBefore i e.1
+  pub words : (i : ℕ) (e : StateRow × Origin) (x : Machine × List ℕ) → slice_get kept.known.entries i ≡ Some e → slice_get states i ≡ Some x → IsWordOf states e.1 x.1
+  pub before : (i : ℕ) (e : StateRow × Origin) → slice_get kept.known.entries i ≡ Some e → IsBefore i e.1
 
 -- things with their origins are things with their words
 abbrev pub AreFound : {A : Type 0} → List (Machine × List ℕ) → List (A × Origin) → List (A × List ℕ) → Type 0

@@ -12,7 +12,7 @@ ghost use Rattle.cp_ends.specs.Holds.{same_key};
 
 use crate::end::End;
 use crate::going::take_step;
-use crate::state_key::StateKey;
+use crate::state_key::ReachedKey;
 use cp_machine::{Shown, State, Ticks};
 use cp_run::{Limits, OutcomeKind, Turn};
 use cp_slots::Resolved;
@@ -67,11 +67,11 @@ fn round_of<S: Ledger>(
     ensures none { IfOk result (λ r. IfNone r (return_within (silent_slots program.now limits.gates) same_key (machine_of state.old) pid limits.steps ≡ None)) }
     ensures more { IfOk result (λ _. (more : List said.Shown) × (told.new.items ≡ told.old.items ++ more)) }
 {
-    let mut first = StateKey {
+    let mut first = ReachedKey {
         bytes: Vec::new(alloc),
     };
     first.take_from(state)?;
-    let mut key = StateKey {
+    let mut key = ReachedKey {
         bytes: Vec::new(alloc),
     };
     let mut going = pid;
@@ -95,7 +95,7 @@ fn round_of<S: Ledger>(
 }
 
 // Whether this is the state of a key. There is room for another one.
-fn is_at(state: &State, first: &StateKey, key: &mut StateKey) -> Result<bool, AllocError>
+fn is_at(state: &State, first: &ReachedKey, key: &mut ReachedKey) -> Result<bool, AllocError>
     ensures { IfOk result (λ b. (m : Machine) → first.now.bytes.items ≡ key_of m → b ≡ same_key (machine_of state.now) m) }
 {
     key.take_from(state)?;

@@ -18,7 +18,7 @@ use crate::found::Found;
 use crate::origin::Origin;
 use cp_machine::{Shown, State, Ticks};
 use cp_progress::{ObserveLayers, Progress, Unobserved};
-use cp_run::{Limits, wanted};
+use cp_run::{Limits, candidates};
 use cp_slots::Resolved;
 use std::alloc::{AllocError, Global};
 use std::marker::Brand;
@@ -171,7 +171,7 @@ impl Search {
         ensures next { IsStateOf program.now next.new }
         ensures found { IfOk result (λ is_room. (f : SlotFindings) (x : Machine × List ℕ) → HoldsFew program.now most self.old.found f → slice_get f.states number ≡ Some x → machine_of state.now ≡ x.0 → GoesOn program.now (slot_graph program.now limits.gates limits.steps) most self.new.found f x is_room) }
     {
-        let numbers = wanted(program, limits, state);
+        let numbers = candidates(program, limits, state);
         for process in numbers.as_slice() {
             next.take_from(state);
             let origin = Origin::Choice {

@@ -15,11 +15,11 @@ use std::hash::{Hash, Hasher};
 
 /// The key of a state.
 #[derive(Drop)]
-pub struct StateKey {
+pub struct ReachedKey {
     pub bytes: Vec<u8>,
 }
 
-impl PartialEq for StateKey {
+impl PartialEq for ReachedKey {
     ghost eq = { λ x y. pointwise nat_eq x.bytes.items y.bytes.items };
 
     ghost laws = { on_per (λ x. x.bytes.items) (partial_equiv_from_equiv nat_list_eq_equiv) };
@@ -29,11 +29,11 @@ impl PartialEq for StateKey {
     }
 }
 
-impl Eq for StateKey {
+impl Eq for ReachedKey {
     ghost laws = { on_equiv (λ x. x.bytes.items) nat_list_eq_equiv };
 }
 
-impl Hash for StateKey {
+impl Hash for ReachedKey {
     ghost hash_input = { λ x. x.bytes.items ∷ [] };
 
     ghost respects_eq = { λ x y h. ap (λ bytes. bytes ∷ []) ((bytes_decides x.bytes.items y.bytes.items).0 h) };
@@ -43,7 +43,7 @@ impl Hash for StateKey {
     }
 }
 
-impl StateKey {
+impl ReachedKey {
     /// Becomes the key of a state.
     pub fn take_from(&mut self, state: &State) -> Result<(), AllocError>
         ensures { IfOk result (λ _. self.new.bytes.items ≡ key_of (machine_of state.now)) }

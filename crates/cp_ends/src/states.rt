@@ -10,7 +10,7 @@ ghost use Rattle.cp_ends.specs.Searched.{has};
 
 use crate::origin::Origin;
 use cp_machine::State;
-use cp_states::{Row, Store};
+use cp_states::{StateRow, Store};
 use indexmap::IndexMap;
 use std::alloc::{AllocError, Global};
 
@@ -18,7 +18,7 @@ use std::alloc::{AllocError, Global};
 #[derive(Drop)]
 pub struct States {
     /// The row of each state.
-    pub known: IndexMap<Row, Origin>,
+    pub known: IndexMap<StateRow, Origin>,
     /// The parts of the states.
     pub store: Store,
 }
@@ -43,7 +43,7 @@ impl States {
     }
 
     /// The row of a state, whether it was found or not.
-    pub fn row_anew(&mut self, alloc: Global, state: &State) -> Result<Row, AllocError>
+    pub fn row_anew(&mut self, alloc: Global, state: &State) -> Result<StateRow, AllocError>
         ensures row { IfOk result (λ row. IsRowOf self.new.store row.numbers (machine_of state.now)) }
         ensures kept { (r : Tables) (states : List (Machine × List ℕ)) → AreStates r self.old states → AreStates r self.new states }
         ensures known { self.new.known ≡ self.old.known }
@@ -52,14 +52,14 @@ impl States {
     }
 
     /// Whether the state with this row was found.
-    pub fn contains(&self, row: &Row) -> bool
+    pub fn contains(&self, row: &StateRow) -> bool
         ensures { (r : Tables) (states : List (Machine × List ℕ)) (m : Machine) → AreStates r self.now states → IsMachineOf r m → IsRowOf self.now.store row.now.numbers m → result ≡ has same_key states m }
     {
         self.known.contains_key(row)
     }
 
     /// A state that was not found is.
-    pub fn add(&mut self, row: Row, origin: Origin) -> Result<(), AllocError>
+    pub fn add(&mut self, row: StateRow, origin: Origin) -> Result<(), AllocError>
         ensures { IfOk result (λ _. (r : Tables) (states : List (Machine × List ℕ)) (m : Machine) (word : List ℕ) → AreStates r self.old states → has same_key states m ≡ false → IsMachineOf r m → m.output ≡ [] → IsRowOf self.old.store row.numbers m → IsWordOf states origin word → IsBefore (length states) origin → AreStates r self.new (states ++ (m, word) ∷ [])) }
     {
         self.known.insert(row, origin)?;

@@ -2,7 +2,7 @@
 
 ghost use Rattle.std.specs.Prelude.{◌≡◌};
 
-use crate::subject::{Findings, KnownEnd, KnownValue, Reach, Subject};
+use crate::subject::{EndsSubject, Findings, Reach, ToldEnd, ToldValue};
 use cp_at_once::search_at_once;
 use cp_ends::{Found, search_ends};
 use cp_machine::Gates;
@@ -10,7 +10,7 @@ use cp_waits::{Waits, find_waits};
 use std::alloc::{AllocError, Global};
 
 /// What is found by following each state, or, where that was asked for or there are too many of them, with kernel calls at once.
-pub fn findings(alloc: Global, subject: Subject<'_>) -> Result<Findings, AllocError> {
+pub fn findings(alloc: Global, subject: EndsSubject<'_>) -> Result<Findings, AllocError> {
     if subject.at_once {
         return found_at_once(alloc, subject, false);
     }
@@ -29,14 +29,14 @@ fn is_too_many(findings: &Findings) -> bool {
     matches!(findings.reach, Reach::Choices(_))
 }
 
-fn is_first_in_line(subject: Subject<'_>) -> bool {
+fn is_first_in_line(subject: EndsSubject<'_>) -> bool {
     match subject.limits.gates {
         Gates::First => true,
         Gates::Any => false,
     }
 }
 
-fn found_by_states(alloc: Global, subject: Subject<'_>) -> Result<Findings, AllocError> {
+fn found_by_states(alloc: Global, subject: EndsSubject<'_>) -> Result<Findings, AllocError> {
     let found = search_ends(alloc, subject.program, subject.limits, subject.most)?;
     let waits = if subject.waits && found.stopped.is_none() {
         Some(find_waits(alloc, subject.program, subject.limits, &found)?)
@@ -69,24 +69,24 @@ fn most_numbers(alloc: Global, found: &Found) -> Result<usize, AllocError> {
 }
 
 // The ends to which words lead that are not too long.
-fn ends_within(alloc: Global, found: &Found, most: usize) -> Result<Vec<KnownEnd>, AllocError> {
+fn ends_within(alloc: Global, found: &Found, most: usize) -> Result<Vec<ToldEnd>, AllocError> {
     let mut ends = Vec::new(alloc);
     for end in &found.ends {
         let word = found.states.word(alloc, end.origin)?;
         if word.len() <= most {
-            ends.push(KnownEnd { end: end.end, word })?;
+            ends.push(ToldEnd { end: end.end, word })?;
         }
     }
     Ok(ends)
 }
 
 // The values that words display that are not too long.
-fn values_within(alloc: Global, found: &Found, most: usize) -> Result<Vec<KnownValue>, AllocError> {
+fn values_within(alloc: Global, found: &Found, most: usize) -> Result<Vec<ToldValue>, AllocError> {
     let mut values = Vec::new(alloc);
     for value in &found.values {
         let word = found.states.word(alloc, value.origin)?;
         if word.len() <= most {
-            values.push(KnownValue {
+            values.push(ToldValue {
                 value: value.value,
                 word,
             })?;
@@ -98,19 +98,19 @@ fn values_within(alloc: Global, found: &Found, most: usize) -> Result<Vec<KnownV
 // What is found with kernel calls at once.
 fn found_at_once(
     alloc: Global,
-    subject: Subject<'_>,
+    subject: EndsSubject<'_>,
     is_second: bool,
 ) -> Result<Findings, AllocError> {
     let found = search_at_once(alloc, subject.program, subject.limits, subject.most)?;
     let mut ends = Vec::new(alloc);
     for end in &found.ends {
         let word = found.kept.word(alloc, &end.origin)?;
-        ends.push(KnownEnd { end: end.end, word })?;
+        ends.push(ToldEnd { end: end.end, word })?;
     }
     let mut values = Vec::new(alloc);
     for value in &found.values {
         let word = found.kept.word(alloc, &value.origin)?;
-        values.push(KnownValue {
+        values.push(ToldValue {
             value: value.value,
             word,
         })?;

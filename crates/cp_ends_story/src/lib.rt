@@ -9,5 +9,5 @@ pub mod subject;
 mod telling;
 mod texts;
 
-pub use subject::{EndsFormat, EndsSummary, Subject};
+pub use subject::{EndsFormat, EndsSubject, EndsSummary};
 pub use telling::ends_story;

@@ -2,7 +2,7 @@
 
 use crate::members::{Items, Members};
 use crate::placing::whole_story;
-use crate::subject::{Findings, KnownEnd, KnownValue, Reach, Subject};
+use crate::subject::{EndsSubject, Findings, Reach, ToldEnd, ToldValue};
 use crate::texts::{is_cut, line_of, shown_text};
 use cp_ends::End;
 use cp_ends::found::MOST_VALUES;
@@ -17,7 +17,7 @@ use std::sync::ledger::Ledger;
 /// The ends as one JSON object: processes, monitors, how many states there are, the ends, the values, and who may wait for ever.
 pub fn json<L: Ledger>(
     alloc: Global,
-    subject: Subject<'_>,
+    subject: EndsSubject<'_>,
     findings: &Findings,
     ticks: &mut Ticks<L>,
 ) -> Result<String, AllocError> {
@@ -28,7 +28,7 @@ pub fn json<L: Ledger>(
 
 fn object<L: Ledger>(
     alloc: Global,
-    subject: Subject<'_>,
+    subject: EndsSubject<'_>,
     findings: &Findings,
     ticks: &mut Ticks<L>,
 ) -> Result<Value, AllocError> {
@@ -43,7 +43,7 @@ fn object<L: Ledger>(
 }
 
 // How many states there are, or how many there may be and of how many choices all schedules were looked at; and whether kernel calls were made at once.
-fn put_states(subject: Subject<'_>, members: &mut Members, findings: &Findings) {
+fn put_states(subject: EndsSubject<'_>, members: &mut Members, findings: &Findings) {
     match findings.reach {
         Reach::States(count) => {
             members.number("states", count as u64);
@@ -67,7 +67,7 @@ fn put_states(subject: Subject<'_>, members: &mut Members, findings: &Findings) 
     }
 }
 
-fn put_too_many(subject: Subject<'_>, members: &mut Members) {
+fn put_too_many(subject: EndsSubject<'_>, members: &mut Members) {
     members.text("too_many", "states");
     members.number("states", u64::from(subject.most));
 }
@@ -82,7 +82,7 @@ fn name_of_word(findings: &Findings) -> &'static str {
 
 fn put_ends<L: Ledger>(
     alloc: Global,
-    subject: Subject<'_>,
+    subject: EndsSubject<'_>,
     members: &mut Members,
     findings: &Findings,
     ticks: &mut Ticks<L>,
@@ -96,8 +96,8 @@ fn put_ends<L: Ledger>(
 
 fn end_object<L: Ledger>(
     alloc: Global,
-    subject: Subject<'_>,
-    end: &KnownEnd,
+    subject: EndsSubject<'_>,
+    end: &ToldEnd,
     name: &str,
     ticks: &mut Ticks<L>,
 ) -> Result<Value, AllocError> {
@@ -129,7 +129,7 @@ fn put_going(members: &mut Members, kind: &str, process: u8) {
 // Who waits where at the end of a word.
 fn put_final<L: Ledger>(
     alloc: Global,
-    subject: Subject<'_>,
+    subject: EndsSubject<'_>,
     members: &mut Members,
     word: &[u8],
     ticks: &mut Ticks<L>,
@@ -141,7 +141,7 @@ fn put_final<L: Ledger>(
     }
 }
 
-fn put_values(alloc: Global, subject: Subject<'_>, members: &mut Members, findings: &Findings) {
+fn put_values(alloc: Global, subject: EndsSubject<'_>, members: &mut Members, findings: &Findings) {
     let mut items = Items::new(alloc);
     let count = findings.values.len().min(MOST_VALUES);
     for value in &findings.values[..count] {
@@ -155,8 +155,8 @@ fn put_values(alloc: Global, subject: Subject<'_>, members: &mut Members, findin
 
 fn value_object(
     alloc: Global,
-    subject: Subject<'_>,
-    value: &KnownValue,
+    subject: EndsSubject<'_>,
+    value: &ToldValue,
     name: &str,
 ) -> Result<Value, AllocError> {
     let mut members = Members::new(alloc);
@@ -167,15 +167,15 @@ fn value_object(
 
 fn shown_value(
     alloc: Global,
-    subject: Subject<'_>,
-    value: &KnownValue,
+    subject: EndsSubject<'_>,
+    value: &ToldValue,
 ) -> Result<Value, AllocError> {
     Ok(Value::String(shown_text(alloc, subject.legend, value.value)?))
 }
 
 fn put_waits<L: Ledger>(
     alloc: Global,
-    subject: Subject<'_>,
+    subject: EndsSubject<'_>,
     members: &mut Members,
     findings: &Findings,
     ticks: &mut Ticks<L>,
@@ -195,7 +195,7 @@ fn put_waits<L: Ledger>(
 
 fn waiting_object<L: Ledger>(
     alloc: Global,
-    subject: Subject<'_>,
+    subject: EndsSubject<'_>,
     waiting: &Waiting,
     ticks: &mut Ticks<L>,
 ) -> Result<Value, AllocError> {
@@ -223,7 +223,7 @@ fn waiting_object<L: Ledger>(
     members.finish()
 }
 
-fn processes_of(alloc: Global, subject: Subject<'_>, set: Set) -> Result<Value, AllocError> {
+fn processes_of(alloc: Global, subject: EndsSubject<'_>, set: Set) -> Result<Value, AllocError> {
     let mut items = Items::new(alloc);
     for process in 0..subject.legend.processes() {
         if set.has(process) {

@@ -1,6 +1,6 @@
 //! Where processes are at the end of a word.
 
-use crate::subject::Subject;
+use crate::subject::EndsSubject;
 use cp_machine::Ticks;
 use cp_run::{OutcomeKind, RunEnd};
 use cp_story::{Happening, MOST_NUMBERS, OpenCall, Story, Wait, tell};
@@ -10,7 +10,7 @@ use std::sync::ledger::Ledger;
 /// The story of a word that is told to its end; none where the word has too many numbers, or the run was stopped by how much it displayed.
 pub fn whole_story<L: Ledger>(
     alloc: Global,
-    subject: Subject<'_>,
+    subject: EndsSubject<'_>,
     word: &[u8],
     ticks: &mut Ticks<L>,
 ) -> Result<Option<Story>, AllocError> {
@@ -26,11 +26,11 @@ pub fn whole_story<L: Ledger>(
 /// The story of a word; none where it has too many numbers.
 pub fn story_of<L: Ledger>(
     alloc: Global,
-    subject: Subject<'_>,
+    subject: EndsSubject<'_>,
     word: &[u8],
     ticks: &mut Ticks<L>,
 ) -> Result<Option<Story>, AllocError> {
-    let Subject {
+    let EndsSubject {
         program,
         legend,
         limits,

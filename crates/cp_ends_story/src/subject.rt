@@ -16,7 +16,7 @@ pub enum EndsFormat {
 
 /// The program whose ends are told, and how they are found.
 #[derive(Clone, Copy)]
-pub struct Subject<'a> {
+pub struct EndsSubject<'a> {
     pub program: &'a Resolved,
     pub legend: &'a Legend,
     pub limits: Limits,
@@ -40,14 +40,14 @@ pub struct EndsSummary {
 
 /// An end, and a word that leads to it.
 #[derive(Drop)]
-pub struct KnownEnd {
+pub struct ToldEnd {
     pub end: End,
     pub word: Vec<u8>,
 }
 
 /// A value that can be displayed, and a word that leads to a stretch that displays it.
 #[derive(Drop)]
-pub struct KnownValue {
+pub struct ToldValue {
     pub value: Shown,
     pub word: Vec<u8>,
 }
@@ -68,9 +68,9 @@ pub enum Reach {
 /// What was found.
 #[derive(Drop)]
 pub struct Findings {
-    pub ends: Vec<KnownEnd>,
+    pub ends: Vec<ToldEnd>,
     /// One value more than is told, where there are so many.
-    pub values: Vec<KnownValue>,
+    pub values: Vec<ToldValue>,
     pub reach: Reach,
     /// Whether kernel calls at once were tried because there are too many states without.
     pub is_second: bool,

@@ -4,7 +4,7 @@ ghost use Rattle.std.specs.Prelude.{◌≡◌};
 
 use crate::finding::findings;
 use crate::objects::json;
-use crate::subject::{EndsFormat, EndsSummary, Findings, Reach, Subject};
+use crate::subject::{EndsFormat, EndsSubject, EndsSummary, Findings, Reach};
 use crate::texts::text;
 use cp_machine::Ticks;
 use cp_waits::Waits;
@@ -15,7 +15,7 @@ use std::sync::ledger::{Blank, Ledger};
 /// The ends that are possible in schedules of any length, the values that can be displayed, and who may wait for ever, in words.
 pub fn ends_story(
     alloc: Global,
-    subject: Subject<'_>,
+    subject: EndsSubject<'_>,
     form: EndsFormat,
 ) -> Result<EndsSummary, AllocError> {
     let findings = findings(alloc, subject)?;
@@ -25,7 +25,7 @@ pub fn ends_story(
     })
 }
 
-fn is_whole(subject: Subject<'_>, findings: &Findings) -> bool {
+fn is_whole(subject: EndsSubject<'_>, findings: &Findings) -> bool {
     match findings.reach {
         Reach::States(_) => !matches!(&findings.waits, Some(Waits::NotSettled(_))),
         Reach::StatesAtOnce(_) => !subject.waits,
@@ -35,7 +35,7 @@ fn is_whole(subject: Subject<'_>, findings: &Findings) -> bool {
 
 fn write_findings<L: Ledger>(
     alloc: Global,
-    subject: Subject<'_>,
+    subject: EndsSubject<'_>,
     form: EndsFormat,
     findings: &Findings,
     blank: Blank,

@@ -1,7 +1,7 @@
 //! Ends as lines of text.
 
 use crate::placing::{outermost_call, wait_of, whole_story};
-use crate::subject::{Findings, KnownEnd, Reach, Subject};
+use crate::subject::{EndsSubject, Findings, Reach, ToldEnd};
 use cp_ends::End;
 use cp_ends::found::MOST_VALUES;
 use cp_legend::Legend;
@@ -20,7 +20,7 @@ const INDENT: &str = "          ";
 /// The ends, each with its first word; the values that can be displayed; who may wait for ever; and whether this is all.
 pub fn text<L: Ledger>(
     alloc: Global,
-    subject: Subject<'_>,
+    subject: EndsSubject<'_>,
     findings: &Findings,
     ticks: &mut Ticks<L>,
 ) -> Result<String, AllocError> {
@@ -97,7 +97,7 @@ fn call_text(alloc: Global, legend: &Legend, call: OpenCall) -> Result<String, A
     Ok(text)
 }
 
-fn push_process(subject: Subject<'_>, text: &mut Prose, process: u8) {
+fn push_process(subject: EndsSubject<'_>, text: &mut Prose, process: u8) {
     let name = subject.legend.process_name(process);
     text.put_display(process);
     text.put_char(' ');
@@ -113,7 +113,7 @@ fn before_word(findings: &Findings) -> &'static str {
 }
 
 // That there are too many states without kernel calls at once.
-fn push_second(subject: Subject<'_>, text: &mut Prose, findings: &Findings) {
+fn push_second(subject: EndsSubject<'_>, text: &mut Prose, findings: &Findings) {
     match findings.reach {
         Reach::StatesAtOnce(_) if findings.is_second => {
             text.put("too many states: there may be ");
@@ -127,7 +127,7 @@ fn push_second(subject: Subject<'_>, text: &mut Prose, findings: &Findings) {
 // The ends, each with its word.
 fn push_ends<L: Ledger>(
     alloc: Global,
-    subject: Subject<'_>,
+    subject: EndsSubject<'_>,
     text: &mut Prose,
     findings: &Findings,
     ticks: &mut Ticks<L>,
@@ -149,9 +149,9 @@ fn push_ends<L: Ledger>(
 
 fn push_end<L: Ledger>(
     alloc: Global,
-    subject: Subject<'_>,
+    subject: EndsSubject<'_>,
     text: &mut Prose,
-    end: &KnownEnd,
+    end: &ToldEnd,
     before: &str,
     ticks: &mut Ticks<L>,
 ) {
@@ -177,7 +177,7 @@ fn push_end<L: Ledger>(
     }
 }
 
-fn push_kind(subject: Subject<'_>, text: &mut Prose, end: End) {
+fn push_kind(subject: EndsSubject<'_>, text: &mut Prose, end: End) {
     match end {
         End::Over(OutcomeKind::RunError { name, .. }) => {
             text.put("run-error ");
@@ -200,7 +200,7 @@ fn push_kind(subject: Subject<'_>, text: &mut Prose, end: End) {
 // The story of a word, where it is told to its end. Where there is no memory for it the text is refused.
 fn story_for<L: Ledger>(
     alloc: Global,
-    subject: Subject<'_>,
+    subject: EndsSubject<'_>,
     text: &mut Prose,
     word: &[u8],
     ticks: &mut Ticks<L>,
@@ -216,7 +216,7 @@ fn story_for<L: Ledger>(
 
 fn push_all_waiting<L: Ledger>(
     alloc: Global,
-    subject: Subject<'_>,
+    subject: EndsSubject<'_>,
     text: &mut Prose,
     word: &[u8],
     ticks: &mut Ticks<L>,
@@ -229,7 +229,7 @@ fn push_all_waiting<L: Ledger>(
 }
 
 // Where a process waits.
-fn push_wait(alloc: Global, subject: Subject<'_>, text: &mut Prose, wait: &Wait) {
+fn push_wait(alloc: Global, subject: EndsSubject<'_>, text: &mut Prose, wait: &Wait) {
     text.put(INDENT);
     text.put_made(wait_words(alloc, subject.legend, wait));
     text.put_char('\n');
@@ -245,7 +245,7 @@ pub fn line_of(source: &[String], line: u32) -> &str {
 }
 
 // The values, each with its word.
-fn push_values(alloc: Global, subject: Subject<'_>, text: &mut Prose, findings: &Findings) {
+fn push_values(alloc: Global, subject: EndsSubject<'_>, text: &mut Prose, findings: &Findings) {
     let count = findings.values.len();
     if count == 0 {
         return;
@@ -272,7 +272,7 @@ fn push_values(alloc: Global, subject: Subject<'_>, text: &mut Prose, findings: 
 // Who may wait for ever.
 fn push_waits<L: Ledger>(
     alloc: Global,
-    subject: Subject<'_>,
+    subject: EndsSubject<'_>,
     text: &mut Prose,
     waits: &Waits,
     ticks: &mut Ticks<L>,
@@ -299,7 +299,7 @@ fn push_waits<L: Ledger>(
 // A sentence on a process that may wait for ever, where it waits, and the words that show it.
 fn push_waiting<L: Ledger>(
     alloc: Global,
-    subject: Subject<'_>,
+    subject: EndsSubject<'_>,
     text: &mut Prose,
     waiting: &Waiting,
     ticks: &mut Ticks<L>,
@@ -322,7 +322,7 @@ fn push_waiting<L: Ledger>(
 }
 
 // While who goes on.
-fn push_others(subject: Subject<'_>, text: &mut Prose, others: Set) {
+fn push_others(subject: EndsSubject<'_>, text: &mut Prose, others: Set) {
     let mut before = " while ";
     let mut count = 0usize;
     for process in 0..subject.legend.processes() {
@@ -343,7 +343,7 @@ fn push_others(subject: Subject<'_>, text: &mut Prose, others: Set) {
 // Where it waits after the first word, or in which call it stays.
 fn push_place<L: Ledger>(
     alloc: Global,
-    subject: Subject<'_>,
+    subject: EndsSubject<'_>,
     text: &mut Prose,
     waiting: &Waiting,
     ticks: &mut Ticks<L>,
@@ -367,7 +367,7 @@ fn push_place<L: Ledger>(
 }
 
 // Whether this is all; if not, what is known and what to try.
-fn push_last(subject: Subject<'_>, text: &mut Prose, findings: &Findings) {
+fn push_last(subject: EndsSubject<'_>, text: &mut Prose, findings: &Findings) {
     match findings.reach {
         Reach::Choices(choices) => push_too_many(subject, text, findings, choices),
         Reach::SomeAtOnce => push_too_many_at_once(subject, text),
@@ -392,7 +392,7 @@ fn push_last(subject: Subject<'_>, text: &mut Prose, findings: &Findings) {
 
 // That all states were looked at, unless a stretch was cut.
 fn push_complete(
-    subject: Subject<'_>,
+    subject: EndsSubject<'_>,
     text: &mut Prose,
     findings: &Findings,
     before: &str,
@@ -426,7 +426,7 @@ pub fn is_cut(findings: &Findings) -> bool {
     false
 }
 
-fn push_too_many(subject: Subject<'_>, text: &mut Prose, findings: &Findings, choices: usize) {
+fn push_too_many(subject: EndsSubject<'_>, text: &mut Prose, findings: &Findings, choices: usize) {
     text.put("too many states: there may be ");
     push_number(text, subject.most as usize);
     if findings.is_second {
@@ -442,7 +442,7 @@ fn push_too_many(subject: Subject<'_>, text: &mut Prose, findings: &Findings, ch
     });
 }
 
-fn push_too_many_at_once(subject: Subject<'_>, text: &mut Prose) {
+fn push_too_many_at_once(subject: EndsSubject<'_>, text: &mut Prose) {
     text.put("too many states with kernel calls at once: there may be ");
     push_number(text, subject.most as usize);
     text.put("\nwhat is told can be, and there may be more\ntry greater --states\n");

@@ -10,7 +10,7 @@ ghost use Rattle.cp_ends_tool.specs.Answered as spec;
 use crate::searching::answer_for;
 use cp_drops::drop_program;
 use cp_front::{MOST_BYTES, ReadFault, Sink, Source, StreamFault, load, read_source};
-use cp_tool::answering::{Answer, Verdict, refused, status_of, write_answer};
+use cp_tool::answering::{Answer, Verdict, answer_refusal, status_of, write_answer};
 use cp_tool::{ExitStatus, Options, explore_stream};
 use std::alloc::{AllocError, Global};
 use std::thread::Threads;
@@ -91,6 +91,6 @@ fn answer_to(alloc: Global, options: &Options, source: &[u8]) -> Result<Answer, 
             drop_program(program);
             answer
         }
-        Err(refusal) => refused(alloc, refusal),
+        Err(refusal) => answer_refusal(alloc, refusal),
     }
 }

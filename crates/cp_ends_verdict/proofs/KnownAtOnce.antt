@@ -24,9 +24,9 @@ use Rattle.cp_at_once_laws.specs.OnSlots.{LeavesNone}
 use Rattle.cp_at_once.specs.Following as found_spec
 use Rattle.cp_at_once.specs.Holds.{HasWord, IsWordOf}
 use Rattle.cp_at_once.specs.Whole.{IsAnswer}
-use Rattle.cp_at_once.specs.declared.found.Found.{Found}
-use Rattle.cp_at_once.specs.declared.found.FoundEnd.{FoundEnd}
-use Rattle.cp_at_once.specs.declared.found.FoundValue.{FoundValue}
+use Rattle.cp_at_once.specs.declared.found.FoundAtOnce.{FoundAtOnce}
+use Rattle.cp_at_once.specs.declared.found.EndAtOnce.{EndAtOnce}
+use Rattle.cp_at_once.specs.declared.found.ValueAtOnce.{ValueAtOnce}
 use Rattle.cp_ends_verdict.specs.AtOnce.{IsKnownAtOnce, knows_end, knows_value}
 use Rattle.cp_ends_verdict.specs.Expectations.{is_cut}
 use Rattle.cp_ends_verdict.specs.Knowledge.{HasTexts, end_pair, is_whole, value_pair}
@@ -52,16 +52,16 @@ words_more {K} {A} pair P old new k is so h =
     (subst (All (λ (x : A × List ℕ). P x.0 x.1)) (sym (map-append pair old (k ∷ []))) (All-append (λ (x : A × List ℕ). P x.0 x.1) (map pair old) (pair k ∷ []) h (All-cons (λ (x : A × List ℕ). P x.0 x.1) (pair k) [] so (All-nil (λ (x : A × List ℕ). P x.0 x.1)))))
 
 module _ (states : List (Machine × List ℕ)) where
-  pub end_word : (P : End → List ℕ → Type 0) (items : List FoundEnd) (i : ℕ) (d : FoundEnd) (word : List ℕ) → i < length items → All (λ e. HasWord states e.origin (P e.end)) items →
+  pub end_word : (P : End → List ℕ → Type 0) (items : List EndAtOnce) (i : ℕ) (d : EndAtOnce) (word : List ℕ) → i < length items → All (λ e. HasWord states e.origin (P e.end)) items →
       ((w : List ℕ) → IsWordOf states (get_or items i d).origin w → word ≡ w) → P (get_or items i d).end word
   end_word P items i d word less h reads =
-      let x = All-get_or (λ (e : FoundEnd). HasWord states e.origin (P e.end)) items i d less h in
+      let x = All-get_or (λ (e : EndAtOnce). HasWord states e.origin (P e.end)) items i d less h in
       subst (P (get_or items i d).end) (sym (reads x.0 x.1)) x.2
 
-  pub value_word : (P : Shown → List ℕ → Type 0) (items : List FoundValue) (i : ℕ) (d : FoundValue) (word : List ℕ) → i < length items → All (λ e. HasWord states e.origin (P e.value)) items →
+  pub value_word : (P : Shown → List ℕ → Type 0) (items : List ValueAtOnce) (i : ℕ) (d : ValueAtOnce) (word : List ℕ) → i < length items → All (λ e. HasWord states e.origin (P e.value)) items →
       ((w : List ℕ) → IsWordOf states (get_or items i d).origin w → word ≡ w) → P (get_or items i d).value word
   value_word P items i d word less h reads =
-      let x = All-get_or (λ (e : FoundValue). HasWord states e.origin (P e.value)) items i d less h in
+      let x = All-get_or (λ (e : ValueAtOnce). HasWord states e.origin (P e.value)) items i d less h in
       subst (P (get_or items i d).value) (sym (reads x.0 x.1)) x.2
 
 pub text_more : (names : Spellings) (old new : List KnownValue) (k : KnownValue) → new ≡ old ++ k ∷ [] → string_bytes k.text ≡ output_text names (k.value ∷ []) → HasTexts names old → HasTexts names new
@@ -72,37 +72,37 @@ text_more names old new k is same h =
 
 -- ---- the loops
 
-module _ (found : Found) where
-  pub end_more : (items : List FoundEnd) (i : ℕ) (d : FoundEnd) (old new : List KnownEnd) (k : KnownEnd) → items ≡ found.ends.items → i < length items → new ≡ old ++ k ∷ [] → k.end ≡ (get_or items i d).end →
+module _ (found : FoundAtOnce) where
+  pub end_more : (items : List EndAtOnce) (i : ℕ) (d : EndAtOnce) (old new : List KnownEnd) (k : KnownEnd) → items ≡ found.ends.items → i < length items → new ≡ old ++ k ∷ [] → k.end ≡ (get_or items i d).end →
       map (λ e. e.end) old ≡ map (λ e. e.end) (take i found.ends.items) → map (λ e. e.end) new ≡ map (λ e. e.end) (take (i + 1) found.ends.items)
   end_more items i d old new k from less is same h =
-      subst (λ l. map (λ (e : KnownEnd). e.end) new ≡ map (λ (e : FoundEnd). e.end) (take (i + 1) l)) from
-      (things_more (λ (e : KnownEnd). e.end) (λ (e : FoundEnd). e.end) items i d old new k less is same (subst (λ l. map (λ (e : KnownEnd). e.end) old ≡ map (λ (e : FoundEnd). e.end) (take i l)) (sym from) h))
+      subst (λ l. map (λ (e : KnownEnd). e.end) new ≡ map (λ (e : EndAtOnce). e.end) (take (i + 1) l)) from
+      (things_more (λ (e : KnownEnd). e.end) (λ (e : EndAtOnce). e.end) items i d old new k less is same (subst (λ l. map (λ (e : KnownEnd). e.end) old ≡ map (λ (e : EndAtOnce). e.end) (take i l)) (sym from) h))
 
-  pub end_words : (states : List (Machine × List ℕ)) (P : End → List ℕ → Type 0) (items : List FoundEnd) (i : ℕ) (d : FoundEnd) (old new : List KnownEnd) (k : KnownEnd) → items ≡ found.ends.items → i < length items →
+  pub end_words : (states : List (Machine × List ℕ)) (P : End → List ℕ → Type 0) (items : List EndAtOnce) (i : ℕ) (d : EndAtOnce) (old new : List KnownEnd) (k : KnownEnd) → items ≡ found.ends.items → i < length items →
       new ≡ old ++ k ∷ [] → k.end ≡ (get_or items i d).end → ((w : List ℕ) → IsWordOf states (get_or items i d).origin w → k.word.items ≡ w) → All (λ e. HasWord states e.origin (P e.end)) found.ends.items →
       All (λ x. P x.0 x.1) (map end_pair old) → All (λ x. P x.0 x.1) (map end_pair new)
   end_words states P items i d old new k from less is same reads all h =
-      words_more end_pair P old new k is (subst (λ e. P e k.word.items) (sym same) (end_word states P items i d k.word.items less (subst (All (λ (e : FoundEnd). HasWord states e.origin (P e.end))) (sym from) all) reads)) h
+      words_more end_pair P old new k is (subst (λ e. P e k.word.items) (sym same) (end_word states P items i d k.word.items less (subst (All (λ (e : EndAtOnce). HasWord states e.origin (P e.end))) (sym from) all) reads)) h
 
-  pub value_more : (items : List FoundValue) (i : ℕ) (d : FoundValue) (old new : List KnownValue) (k : KnownValue) → items ≡ found.values.items → i < length items → new ≡ old ++ k ∷ [] → k.value ≡ (get_or items i d).value →
+  pub value_more : (items : List ValueAtOnce) (i : ℕ) (d : ValueAtOnce) (old new : List KnownValue) (k : KnownValue) → items ≡ found.values.items → i < length items → new ≡ old ++ k ∷ [] → k.value ≡ (get_or items i d).value →
       map (λ e. e.value) old ≡ map (λ e. e.value) (take i found.values.items) → map (λ e. e.value) new ≡ map (λ e. e.value) (take (i + 1) found.values.items)
   value_more items i d old new k from less is same h =
-      subst (λ l. map (λ (e : KnownValue). e.value) new ≡ map (λ (e : FoundValue). e.value) (take (i + 1) l)) from
-      (things_more (λ (e : KnownValue). e.value) (λ (e : FoundValue). e.value) items i d old new k less is same (subst (λ l. map (λ (e : KnownValue). e.value) old ≡ map (λ (e : FoundValue). e.value) (take i l)) (sym from) h))
+      subst (λ l. map (λ (e : KnownValue). e.value) new ≡ map (λ (e : ValueAtOnce). e.value) (take (i + 1) l)) from
+      (things_more (λ (e : KnownValue). e.value) (λ (e : ValueAtOnce). e.value) items i d old new k less is same (subst (λ l. map (λ (e : KnownValue). e.value) old ≡ map (λ (e : ValueAtOnce). e.value) (take i l)) (sym from) h))
 
-  pub value_words : (states : List (Machine × List ℕ)) (P : Shown → List ℕ → Type 0) (items : List FoundValue) (i : ℕ) (d : FoundValue) (old new : List KnownValue) (k : KnownValue) → items ≡ found.values.items → i < length items →
+  pub value_words : (states : List (Machine × List ℕ)) (P : Shown → List ℕ → Type 0) (items : List ValueAtOnce) (i : ℕ) (d : ValueAtOnce) (old new : List KnownValue) (k : KnownValue) → items ≡ found.values.items → i < length items →
       new ≡ old ++ k ∷ [] → k.value ≡ (get_or items i d).value → ((w : List ℕ) → IsWordOf states (get_or items i d).origin w → k.word.items ≡ w) → All (λ e. HasWord states e.origin (P e.value)) found.values.items →
       All (λ x. P x.0 x.1) (map value_pair old) → All (λ x. P x.0 x.1) (map value_pair new)
   value_words states P items i d old new k from less is same reads all h =
-      words_more value_pair P old new k is (subst (λ v. P v k.word.items) (sym same) (value_word states P items i d k.word.items less (subst (All (λ (e : FoundValue). HasWord states e.origin (P e.value))) (sym from) all) reads)) h
+      words_more value_pair P old new k is (subst (λ v. P v k.word.items) (sym same) (value_word states P items i d k.word.items less (subst (All (λ (e : ValueAtOnce). HasWord states e.origin (P e.value))) (sym from) all) reads)) h
 
-module _ (found : Found) where
-  pub ends_done : (items : List FoundEnd) (i : ℕ) (all : List KnownEnd) → items ≡ found.ends.items → length items ≤ i → map (λ e. e.end) all ≡ map (λ e. e.end) (take i found.ends.items) → map (λ e. e.end) all ≡ map (λ e. e.end) found.ends.items
-  ends_done items i all from le h = h ∙ ap (map (λ (e : FoundEnd). e.end)) (take_all i found.ends.items (subst (λ l. length l ≤ i) from le))
+module _ (found : FoundAtOnce) where
+  pub ends_done : (items : List EndAtOnce) (i : ℕ) (all : List KnownEnd) → items ≡ found.ends.items → length items ≤ i → map (λ e. e.end) all ≡ map (λ e. e.end) (take i found.ends.items) → map (λ e. e.end) all ≡ map (λ e. e.end) found.ends.items
+  ends_done items i all from le h = h ∙ ap (map (λ (e : EndAtOnce). e.end)) (take_all i found.ends.items (subst (λ l. length l ≤ i) from le))
 
-  pub values_done : (items : List FoundValue) (i : ℕ) (all : List KnownValue) → items ≡ found.values.items → length items ≤ i → map (λ e. e.value) all ≡ map (λ e. e.value) (take i found.values.items) → map (λ e. e.value) all ≡ map (λ e. e.value) found.values.items
-  values_done items i all from le h = h ∙ ap (map (λ (e : FoundValue). e.value)) (take_all i found.values.items (subst (λ l. length l ≤ i) from le))
+  pub values_done : (items : List ValueAtOnce) (i : ℕ) (all : List KnownValue) → items ≡ found.values.items → length items ≤ i → map (λ e. e.value) all ≡ map (λ e. e.value) (take i found.values.items) → map (λ e. e.value) all ≡ map (λ e. e.value) found.values.items
+  values_done items i all from le h = h ∙ ap (map (λ (e : ValueAtOnce). e.value)) (take_all i found.values.items (subst (λ l. length l ≤ i) from le))
 
 -- ---- all
 
@@ -143,15 +143,15 @@ more_known t known known' alone alone' spins spins' told told' k a s v h =
 abbrev pub IsKnownWords : Tables → ℕ → Known → Type 0
 IsKnownWords r steps k = All (λ x. EndsSo (silent_slots r First) steps x.0 x.1) (map end_pair k.ends.items) × All (λ x. ShowsSo (slots r First) without_output steps x.0 x.1) (map value_pair k.values.items)
 
-module _ (found : Found) (k : Known) (ends : map (λ e. e.end) k.ends.items ≡ map (λ e. e.end) found.ends.items) (values : map (λ v. v.value) k.values.items ≡ map (λ v. v.value) found.values.items) where
+module _ (found : FoundAtOnce) (k : Known) (ends : map (λ e. e.end) k.ends.items ≡ map (λ e. e.end) found.ends.items) (values : map (λ v. v.value) k.values.items ≡ map (λ v. v.value) found.values.items) where
   same_end : (e : End) → found_spec.knows_end found e ≡ knows_end k e
   same_end e =
-      sym (any_map (λ (x : FoundEnd). x.end) (λ x. ends_tests.end x e) found.ends.items) ∙ ap (list_any (λ x. ends_tests.end x e)) (sym ends) ∙ any_map (λ (x : KnownEnd). x.end) (λ x. ends_tests.end x e) k.ends.items
+      sym (any_map (λ (x : EndAtOnce). x.end) (λ x. ends_tests.end x e) found.ends.items) ∙ ap (list_any (λ x. ends_tests.end x e)) (sym ends) ∙ any_map (λ (x : KnownEnd). x.end) (λ x. ends_tests.end x e) k.ends.items
 
   same_value : (v : Shown) → found_spec.knows_value found v ≡ knows_value k v
   same_value v =
-      ap (λ b. b || nat_lt MOST_VALUES (length found.values.items)) (sym (any_map (λ (x : FoundValue). x.value) (λ x. ends_tests.value x v) found.values.items) ∙ ap (list_any (λ x. ends_tests.value x v)) (sym values) ∙ any_map (λ (x : KnownValue). x.value) (λ x. ends_tests.value x v) k.values.items) ∙
-      ap (λ n. list_any (λ (x : KnownValue). ends_tests.value x.value v) k.values.items || nat_lt MOST_VALUES n) (sym (length-map found.values.items (λ (x : FoundValue). x.value)) ∙ sym (ap length values) ∙ length-map k.values.items (λ (x : KnownValue). x.value))
+      ap (λ b. b || nat_lt MOST_VALUES (length found.values.items)) (sym (any_map (λ (x : ValueAtOnce). x.value) (λ x. ends_tests.value x v) found.values.items) ∙ ap (list_any (λ x. ends_tests.value x v)) (sym values) ∙ any_map (λ (x : KnownValue). x.value) (λ x. ends_tests.value x v) k.values.items) ∙
+      ap (λ n. list_any (λ (x : KnownValue). ends_tests.value x.value v) k.values.items || nat_lt MOST_VALUES n) (sym (length-map found.values.items (λ (x : ValueAtOnce). x.value)) ∙ sym (ap length values) ∙ length-map k.values.items (λ (x : KnownValue). x.value))
 
   pub known_all : (r : Tables) (steps most : ℕ) → IsAnswer r First steps most found → (k.looked ≡ None → found.is_whole ≡ true) → is_whole k ≡ true →
       (t : Tree) → LeavesNone t (λ kind. found_spec.knows_end found (Over kind) ≡ true) (λ q. found_spec.knows_end found (Alone q) ≡ true) (λ q. found_spec.knows_end found (Spins q) ≡ true) (λ v. found_spec.knows_value found v ≡ true) →

@@ -14,12 +14,16 @@ ghost use Rattle.cp_ends_verdict.specs.Knowledge.{HasTexts, end_pair, value_pair
 
 use crate::knowing::text_of;
 use crate::known::{Known, KnownEnd, KnownValue};
-use cp_at_once::Found;
+use cp_at_once::FoundAtOnce;
 use cp_slots::Resolved;
 use std::alloc::{AllocError, Global};
 
 /// The ends and values that a search found, each with a word; where there were too many states, of schedules of no choice at least.
-pub fn known_at_once(alloc: Global, program: &Resolved, found: &Found) -> Result<Known, AllocError>
+pub fn known_at_once(
+    alloc: Global,
+    program: &Resolved,
+    found: &FoundAtOnce,
+) -> Result<Known, AllocError>
     ensures { IfOk result (λ k. (steps most : ℕ) → IsAnswer program.now First steps most found.now → spec.IsKnownAtOnce program.now steps k) }
 {
     let ends = known_ends(alloc, found)?;
@@ -33,13 +37,13 @@ pub fn known_at_once(alloc: Global, program: &Resolved, found: &Found) -> Result
 }
 
 /// Where there were too many states, the schedules of no choice were looked at.
-fn looked_at(found: &Found) -> Option<usize>
+fn looked_at(found: &FoundAtOnce) -> Option<usize>
     ensures { result ≡ None → found.now.is_whole ≡ true }
 {
     if found.is_whole { None } else { Some(0) }
 }
 
-fn known_ends(alloc: Global, found: &Found) -> Result<Vec<KnownEnd>, AllocError>
+fn known_ends(alloc: Global, found: &FoundAtOnce) -> Result<Vec<KnownEnd>, AllocError>
     ensures ends { IfOk result (λ v. map (λ e. e.end) v.items ≡ map (λ e. e.end) found.now.ends.items) }
     ensures words { IfOk result (λ v. (r : Tables) (steps : ℕ) (states : List (Machine × List ℕ)) → AreStates r found.now.kept.known.entries states → All (λ e. HasWord states e.origin (EndsSo (silent_slots r First) steps e.end)) found.now.ends.items → All (λ x. EndsSo (silent_slots r First) steps x.0 x.1) (map end_pair v.items)) }
 {
@@ -54,7 +58,7 @@ fn known_ends(alloc: Global, found: &Found) -> Result<Vec<KnownEnd>, AllocError>
 fn known_values(
     alloc: Global,
     program: &Resolved,
-    found: &Found,
+    found: &FoundAtOnce,
 ) -> Result<Vec<KnownValue>, AllocError>
     ensures values { IfOk result (λ v. map (λ e. e.value) v.items ≡ map (λ e. e.value) found.now.values.items) }
     ensures texts { IfOk result (λ v. HasTexts program.now.names v.items) }

@@ -9,8 +9,8 @@ pub use cp_lawful::{law_exclusive, law_ownership};
 pub use cp_merged::{MergeFault, Tallies, merged_report};
 pub use cp_run::law_prefix_free;
 pub use cp_walk::{
-    Cutting, ExploreFault, Gate, GatherFault, Job, MOST_MEMBERS, NoGate, Piece, Report, Row, Rows,
-    SplitFault, Table, Text, beginnings, gather, report, trace_report,
+    Cutting, ExploreFault, GatherFault, Job, MOST_MEMBERS, NoGate, Report, Row, RowPiece, Rows,
+    SplitFault, StartGate, Table, Text, beginnings, gather, report, trace_report,
 };
 pub use merged::explore_merged;
 pub use one_thread::explore_one;

@@ -6,12 +6,12 @@ ghost use Rattle.cp_run.specs.Table.{table};
 ghost use Rattle.cp_walk.specs.Rows.{line_of};
 ghost use Rattle.cp_explore.specs.Meant.{AreExclusive, AreMeant};
 
-use cp_walk::{Cutting, ExploreFault, Gate, Table, walk_on_threads};
+use cp_walk::{Cutting, ExploreFault, StartGate, Table, walk_on_threads};
 use std::alloc::Global;
 use std::thread::Threads;
 
 /// The table of a cutting's job, by workers that draw its members. Each worker calls `gate` after it drew a member and before its runs.
-pub fn explore<X: Threads + Sync, G: Gate + Sync>(
+pub fn explore<X: Threads + Sync, G: StartGate + Sync>(
     rt: &X,
     alloc: Global,
     cutting: &Cutting,

@@ -9,7 +9,7 @@ use Rattle.std.proofs.lemmas.List.{append_assoc, append-nil, get_or_append_left,
 use Rattle.cp_machine.specs.Bodies.{Body, body_of, has_moved}
 use Rattle.cp_machine.specs.Machine.{Thread, no_thread, thread_at, thread_of}
 use Rattle.cp_machine.specs.declared.moved.Moved.{Moved}
-use Rattle.cp_machine.specs.declared.process.Process.{Process}
+use Rattle.cp_machine.specs.declared.process.ProcessState.{ProcessState}
 use Rattle.cp_machine.specs.declared.process.Status.{Status}
 use Rattle.cp_store.specs.declared.memory.Room.{Room}
 use Rattle.cp_key.specs.declared.bodies.Bodies.{Bodies}
@@ -80,7 +80,7 @@ run_of known moved ts first end h order le still =
 pub after_run : (ts : List Thread) (known : Bodies) (first end : ℕ) (start old new bytes : List ℕ) → IsRunOf known ts first end bytes → old ≡ start ++ bodies_key (take first ts) → new ≡ old ++ bytes → new ≡ start ++ bodies_key (take end ts)
 after_run ts known first end start old new bytes h e f = f ∙ ap (λ ns. ns ++ bytes) e ∙ append_assoc start (bodies_key (take first ts)) bytes ∙ ap (λ ns. start ++ ns) h.written
 
-pub after_body : (ps : List Process) (at : ℕ) (p : Process) (start old new : List ℕ) → at < length ps → p ≡ slice_index_or ps at p → old ≡ start ++ bodies_key (take at (map thread_of ps)) → new ≡ old ++ body_key (inside p) → new ≡ start ++ bodies_key (take (at + 1) (map thread_of ps))
+pub after_body : (ps : List ProcessState) (at : ℕ) (p : ProcessState) (start old new : List ℕ) → at < length ps → p ≡ slice_index_or ps at p → old ≡ start ++ bodies_key (take at (map thread_of ps)) → new ≡ old ++ body_key (inside p) → new ≡ start ++ bodies_key (take (at + 1) (map thread_of ps))
 after_body ps at p start old new lt read e f =
     let ts = map thread_of ps in
     let long = length-map ps thread_of in
@@ -91,7 +91,7 @@ after_body ps at p start old new lt read e f =
     ∙ ap (λ ns. start ++ ns) (sym (bodies_more ts at (omega (arith, long, lt))))
 
 -- processes that are the same inside have the same body
-pub inside_same : (p q : Process) → AreSameInside p q → inside p ≡ inside q
+pub inside_same : (p q : ProcessState) → AreSameInside p q → inside p ≡ inside q
 inside_same p q h = rw (h.frame, h.stack, h.room) refl
 
 -- one process more that did not move
@@ -103,7 +103,7 @@ still_more moved first pid here before q a b = go (cases_eq q pid)
     go (inr ne) = before q a (omega arith)
 
 -- a process that is there has a body
-pub some_bytes : (ps : List Process) (at : ℕ) (rest more : List ℕ) → at < length ps → ((d : Process) → rest ≡ body_key (inside (slice_index_or ps at d)) ++ more) → (bytes : List ℕ) × (rest ≡ bytes ++ more)
+pub some_bytes : (ps : List ProcessState) (at : ℕ) (rest more : List ℕ) → at < length ps → ((d : ProcessState) → rest ≡ body_key (inside (slice_index_or ps at d)) ++ more) → (bytes : List ℕ) × (rest ≡ bytes ++ more)
 some_bytes [] at rest more lt h = absurd (omega arith)
 some_bytes (p ∷ ps) at rest more lt h = (body_key (inside (slice_index_or (p ∷ ps) at p)), h p)
 
@@ -153,12 +153,12 @@ rest_more old new ts more rest at same added long whole left before q le = go (c
 thread_by : Status → Body → Thread
 thread_by s b = record { status = s; frame = b.frame; stack = b.stack; cells = b.cells; references = b.references }
 
-pub thread_is : (p : Process) (t : Thread) → p.status ≡ t.status → inside p ≡ body_of t → thread_of p ≡ t
+pub thread_is : (p : ProcessState) (t : Thread) → p.status ≡ t.status → inside p ≡ body_of t → thread_of p ≡ t
 unfolding thread_by
 thread_is p t s b = ap (λ x. thread_by x (inside p)) s ∙ ap (λ x. thread_by t.status x) b
 
 -- the processes with room for threads, where they differ in their statuses at most
-pub room_same : (ps qs : List Process) (ts : List Thread) → length ps ≡ length qs → ((q : ℕ) (d : Process) → AreSameInside (slice_index_or ps q d) (slice_index_or qs q d)) → HaveThreadRoom qs ts → HaveThreadRoom ps ts
+pub room_same : (ps qs : List ProcessState) (ts : List Thread) → length ps ≡ length qs → ((q : ℕ) (d : ProcessState) → AreSameInside (slice_index_or ps q d) (slice_index_or qs q d)) → HaveThreadRoom qs ts → HaveThreadRoom ps ts
 room_same ps qs ts long same h =
     record {
       count = h.count ∙ sym long;
@@ -169,11 +169,11 @@ room_same ps qs ts long same h =
     }
 
 -- the bodies of a machine are those of its processes
-pub bodies_in : (known : Bodies) (ps : List Process) → AreBodies known (map thread_of ps) → AreBodiesIn known ps
+pub bodies_in : (known : Bodies) (ps : List ProcessState) → AreBodies known (map thread_of ps) → AreBodiesIn known ps
 bodies_in known ps h = λ pid d lt few. h pid few ∙ ap (λ t. body_key (body_of t) ++ rest_at known (pid + 1)) (get_or-map thread_of ps pid d no_thread lt)
 
 -- processes with the same bodies are threads with the same bodies
-pub bodies_alike : (ps qs : List Process) (pid : ℕ) → length ps ≡ length qs → ((d : Process) → inside (slice_index_or ps pid d) ≡ inside (slice_index_or qs pid d)) → body_of (thread_at (map thread_of ps) pid) ≡ body_of (thread_at (map thread_of qs) pid)
+pub bodies_alike : (ps qs : List ProcessState) (pid : ℕ) → length ps ≡ length qs → ((d : ProcessState) → inside (slice_index_or ps pid d) ≡ inside (slice_index_or qs pid d)) → body_of (thread_at (map thread_of ps) pid) ≡ body_of (thread_at (map thread_of qs) pid)
 bodies_alike [] [] pid e h = refl
 bodies_alike [] (q ∷ qs) pid e h = absurd (omega arith)
 bodies_alike (p ∷ ps) [] pid e h = absurd (omega arith)

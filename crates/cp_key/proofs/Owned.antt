@@ -6,7 +6,7 @@ use Rattle.std.specs.declared.alloc.Global.{Global}
 use Rattle.std.proofs.lemmas.List.{length-map}
 use Rattle.std.proofs.lemmas.Map.Steps.{length-le_from_distinct_below}
 use Rattle.cp_slots.specs.Tables.{Tables}
-use Rattle.cp_machine.specs.declared.process.Process.{Process}
+use Rattle.cp_machine.specs.declared.process.ProcessState.{ProcessState}
 use Rattle.cp_machine.specs.declared.state.State.{State}
 use Rattle.cp_machine.specs.Fits.{IsStateOf, LinesFit}
 use Rattle.cp_machine.specs.Machine.{Machine, machine_of, monitor_at, monitor_of, no_thread, thread_of}
@@ -46,7 +46,7 @@ machine_room r s m own its =
     count : length m.threads ≡ length s.processes.items
     count = its.fits.threads ∙ sym own.fits.threads ∙ length-map s.processes.items thread_of
 
-    room : (q : ℕ) (d : Process) → q < length s.processes.items → HasThreadRoom (slice_index_or s.processes.items q d) (slice_index_or m.threads q no_thread)
+    room : (q : ℕ) (d : ProcessState) → q < length s.processes.items → HasThreadRoom (slice_index_or s.processes.items q d) (slice_index_or m.threads q no_thread)
     room q d lt =
         let few = thread_within r (slice_index_or m.threads q no_thread) own.sound (its.fits.each q (omega (arith, count, lt))) in
         record {

@@ -1,7 +1,7 @@
 -- Processes and monitors that are read one by one.
 use Rattle.std.proofs.Common.{◌≡◌, ◌∙◌, ℕ, suc, ◌<◌, List, [], ◌∷◌, length, map, ap, refl, arith}
 use Rattle.std.specs.Prelude.{slice_index_or}
-use Rattle.cp_machine.specs.declared.process.Process.{Process}
+use Rattle.cp_machine.specs.declared.process.ProcessState.{ProcessState}
 use Rattle.cp_machine.specs.declared.state.Gate.{Gate}
 use Rattle.cp_machine.specs.Machine.{Monitor, Thread, monitor_of, no_monitor, no_thread, thread_of}
 
@@ -15,7 +15,7 @@ seen_as see y (a ∷ xs) (b ∷ ys) e h =
     let rest = seen_as see y xs ys (omega arith) (λ k d lt. h (suc k) d (omega arith)) in
     ap (λ z. z ∷ map see xs) first ∙ ap (λ zs. b ∷ zs) rest
 
-pub threads_seen : (ps : List Process) (ts : List Thread) → length ts ≡ length ps → ((k : ℕ) (d : Process) → k < length ps → thread_of (slice_index_or ps k d) ≡ slice_index_or ts k no_thread) → map thread_of ps ≡ ts
+pub threads_seen : (ps : List ProcessState) (ts : List Thread) → length ts ≡ length ps → ((k : ℕ) (d : ProcessState) → k < length ps → thread_of (slice_index_or ps k d) ≡ slice_index_or ts k no_thread) → map thread_of ps ≡ ts
 threads_seen = seen_as thread_of no_thread
 
 pub monitors_seen : (gs : List Gate) (ms : List Monitor) → length ms ≡ length gs → ((k : ℕ) (d : Gate) → k < length gs → monitor_of (slice_index_or gs k d) ≡ slice_index_or ms k no_monitor) → map monitor_of gs ≡ ms

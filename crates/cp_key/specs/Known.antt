@@ -3,7 +3,7 @@ use Rattle.std.specs.Prelude.{◌≡◌, ◌+◌, ◌-◌, ◌<◌, ◌≤◌, �
 use Rattle.cp_machine.specs.Bodies.{Body, body_of, has_moved}
 use Rattle.cp_machine.specs.Machine.{Machine, Thread, thread_at, thread_of}
 use Rattle.cp_machine.specs.declared.moved.Moved.{Moved}
-use Rattle.cp_machine.specs.declared.process.Process.{Process}
+use Rattle.cp_machine.specs.declared.process.ProcessState.{ProcessState}
 use Rattle.cp_key.specs.declared.bodies.Bodies.{Bodies}
 use Rattle.cp_key.specs.declared.bodies.Parts.{Parts}
 use Rattle.cp_key.specs.Key.{body_key}
@@ -47,20 +47,20 @@ pub record IsRun (known : Bodies) (first end : ℕ) (bytes : List ℕ) : Type 0 
   pub rest : rest_at known first ≡ bytes ++ rest_at known end
 
 -- the body of a process
-abbrev pub inside : Process → Body
+abbrev pub inside : ProcessState → Body
 inside p = body_of (thread_of p)
 
 -- these are the bodies of the first of these processes
-abbrev pub AreBodiesIn : Bodies → List Process → Type 0
-AreBodiesIn known ps = (pid : ℕ) (d : Process) → pid < length ps → pid + 1 < length known.rests.items → rest_at known pid ≡ body_key (inside (slice_index_or ps pid d)) ++ rest_at known (pid + 1)
+abbrev pub AreBodiesIn : Bodies → List ProcessState → Type 0
+AreBodiesIn known ps = (pid : ℕ) (d : ProcessState) → pid < length ps → pid + 1 < length known.rests.items → rest_at known pid ≡ body_key (inside (slice_index_or ps pid d)) ++ rest_at known (pid + 1)
 
 -- two processes differ in their statuses at most
-pub record AreSameInside (p q : Process) : Type 0 where
+pub record AreSameInside (p q : ProcessState) : Type 0 where
   pub frame : p.frame ≡ q.frame
   pub stack : p.stack ≡ q.stack
   pub room : p.room ≡ q.room
 
 -- the processes that did not move did not move before either, and have the same bodies
-pub record KeepUnmoved (before after : Moved) (old new : List Process) : Type 0 where
+pub record KeepUnmoved (before after : Moved) (old new : List ProcessState) : Type 0 where
   pub moved : (pid : ℕ) → has_moved after pid ≡ false → has_moved before pid ≡ false
-  pub bodies : (pid : ℕ) (d : Process) → has_moved after pid ≡ false → inside (slice_index_or new pid d) ≡ inside (slice_index_or old pid d)
+  pub bodies : (pid : ℕ) (d : ProcessState) → has_moved after pid ≡ false → inside (slice_index_or new pid d) ≡ inside (slice_index_or old pid d)

@@ -15,7 +15,7 @@ use crate::bodies::{Bodies, Parts};
 use crate::keyed::{Keyed, thaw_list, thaw_numbers};
 use crate::reader::KeyReader;
 use arrayvec::ArrayVec;
-use cp_machine::{Gate, Gates, MOST_SHOWN, Moved, Process, State, Status, Watch};
+use cp_machine::{Gate, Gates, MOST_SHOWN, Moved, ProcessState, State, Status, Watch};
 use cp_store::Frame;
 
 /// A state becomes the one of the same program that has a key. It takes no memory. Answers the parts that are in the key. Those that
@@ -94,7 +94,7 @@ fn thaw_same<'a, T: Keyed>(key: &mut KeyReader<'a>, known: &'a [u8], list: &mut 
 fn thaw_processes<'a>(
     key: &mut KeyReader<'a>,
     known: &Bodies,
-    processes: &mut [Process],
+    processes: &mut [ProcessState],
     moved: &mut Moved,
 ) -> Bodies<'a>
     requires few { length processes.old ≤ 16 }
@@ -111,9 +111,9 @@ fn thaw_processes<'a>(
 }
 
 #[inline(always)]
-fn thaw_statuses(key: &mut KeyReader, processes: &mut [Process])
-    ensures same { (ts : List Thread) (more : List ℕ) → key.old.bytes.now ≡ list_key (λ t. status_key t.status) ts ++ more → length ts ≡ length processes.old → ((q : ℕ) (d : Process) → q < length processes.old → (slice_index_or processes.new q d).status ≡ (thread_at ts q).status) × (key.new.bytes.now ≡ more) }
-    ensures insides { (q : ℕ) (d : Process) → AreSameInside (slice_index_or processes.new q d) (slice_index_or processes.old q d) }
+fn thaw_statuses(key: &mut KeyReader, processes: &mut [ProcessState])
+    ensures same { (ts : List Thread) (more : List ℕ) → key.old.bytes.now ≡ list_key (λ t. status_key t.status) ts ++ more → length ts ≡ length processes.old → ((q : ℕ) (d : ProcessState) → q < length processes.old → (slice_index_or processes.new q d).status ≡ (thread_at ts q).status) × (key.new.bytes.now ≡ more) }
+    ensures insides { (q : ℕ) (d : ProcessState) → AreSameInside (slice_index_or processes.new q d) (slice_index_or processes.old q d) }
 {
     let _ = usize::thaw(key);
     for at in 0..processes.len() {
@@ -126,13 +126,13 @@ fn thaw_statuses(key: &mut KeyReader, processes: &mut [Process])
 fn thaw_bodies<'a>(
     key: &mut KeyReader<'a>,
     known: &Bodies,
-    processes: &mut [Process],
+    processes: &mut [ProcessState],
     moved: &mut Moved,
 ) -> Bodies<'a>
     requires few { length processes.old ≤ 16 }
     requires known { AreBodiesIn known.now processes.old }
-    ensures same { (ts : List Thread) (more : List ℕ) → key.old.bytes.now ≡ flat_map (λ t. body_key (body_of t)) ts ++ more → HaveThreadRoom processes.old ts → ((q : ℕ) (d : Process) → q < length processes.old → inside (slice_index_or processes.new q d) ≡ body_of (thread_at ts q)) × (key.new.bytes.now ≡ more) × AreBodies result ts }
-    ensures statuses { (q : ℕ) (d : Process) → (slice_index_or processes.new q d).status ≡ (slice_index_or processes.old q d).status }
+    ensures same { (ts : List Thread) (more : List ℕ) → key.old.bytes.now ≡ flat_map (λ t. body_key (body_of t)) ts ++ more → HaveThreadRoom processes.old ts → ((q : ℕ) (d : ProcessState) → q < length processes.old → inside (slice_index_or processes.new q d) ≡ body_of (thread_at ts q)) × (key.new.bytes.now ≡ more) × AreBodies result ts }
+    ensures statuses { (q : ℕ) (d : ProcessState) → (slice_index_or processes.new q d).status ≡ (slice_index_or processes.old q d).status }
     ensures all { length result.rests.items ≡ length processes.old + 1 }
     ensures kept { KeepUnmoved moved.old moved.new processes.old processes.new }
     ensures stacks { (depth : ℕ) → HaveStacks depth processes.old → HaveStacks depth processes.new }
@@ -151,7 +151,13 @@ fn thaw_bodies<'a>(
 
 // The body of a process that perhaps is the known one.
 #[inline(always)]
-fn thaw_next(key: &mut KeyReader, body: &[u8], process: &mut Process, pid: u8, moved: &mut Moved)
+fn thaw_next(
+    key: &mut KeyReader,
+    body: &[u8],
+    process: &mut ProcessState,
+    pid: u8,
+    moved: &mut Moved,
+)
     requires { 0 < length body.now → body.now ≡ body_key (inside process.old) }
     ensures same { (t : Thread) (more : List ℕ) → key.old.bytes.now ≡ body_key (body_of t) ++ more → HasThreadRoom process.old t → (inside process.new ≡ body_of t) × (key.new.bytes.now ≡ more) }
     ensures status { process.new.status ≡ process.old.status }
@@ -182,7 +188,7 @@ fn thaw_known(key: &mut KeyReader, body: &[u8]) -> bool
 }
 
 #[inline(always)]
-fn thaw_body(key: &mut KeyReader, process: &mut Process)
+fn thaw_body(key: &mut KeyReader, process: &mut ProcessState)
     ensures same { (t : Thread) (more : List ℕ) → key.old.bytes.now ≡ body_key (body_of t) ++ more → HasThreadRoom process.old t → (inside process.new ≡ body_of t) × (key.new.bytes.now ≡ more) }
     ensures status { process.new.status ≡ process.old.status }
     ensures stack { vec_capacity process.old.stack ≤ vec_capacity process.new.stack }

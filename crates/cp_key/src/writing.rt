@@ -10,7 +10,7 @@ ghost use Rattle.cp_key.specs.Numbers.{integer_key, list_key, number_key};
 
 use crate::bodies::{Bodies, Parts};
 use crate::keyed::{Keyed, freeze_list, freeze_numbers};
-use cp_machine::{Gate, Moved, Process, State, Watch};
+use cp_machine::{Gate, Moved, ProcessState, State, Watch};
 use std::alloc::AllocError;
 
 // The bytes of the longest number.
@@ -161,7 +161,7 @@ fn freeze_rest(state: &State, key: &mut Vec<u8>) -> Result<(), AllocError>
 }
 
 fn freeze_processes(
-    processes: &[Process],
+    processes: &[ProcessState],
     known: &Bodies,
     moved: &Moved,
     key: &mut Vec<u8>,
@@ -173,7 +173,7 @@ fn freeze_processes(
     freeze_bodies(processes, known, moved, key)
 }
 
-fn freeze_statuses(processes: &[Process], key: &mut Vec<u8>) -> Result<(), AllocError>
+fn freeze_statuses(processes: &[ProcessState], key: &mut Vec<u8>) -> Result<(), AllocError>
     ensures { IfOk result (λ _. key.new.items ≡ key.old.items ++ list_key (λ t. status_key t.status) (map thread_of processes.now)) }
 {
     processes.len().freeze(key)?;
@@ -185,7 +185,7 @@ fn freeze_statuses(processes: &[Process], key: &mut Vec<u8>) -> Result<(), Alloc
 
 // Those that did not move are copied, as many at a time as stand side by side.
 fn freeze_bodies(
-    processes: &[Process],
+    processes: &[ProcessState],
     known: &Bodies,
     moved: &Moved,
     key: &mut Vec<u8>,
@@ -222,7 +222,7 @@ fn freeze_known(
     Ok(())
 }
 
-fn freeze_body(process: &Process, key: &mut Vec<u8>) -> Result<(), AllocError>
+fn freeze_body(process: &ProcessState, key: &mut Vec<u8>) -> Result<(), AllocError>
     ensures { IfOk result (λ _. key.new.items ≡ key.old.items ++ body_key (body_of (thread_of process.now))) }
 {
     process.frame.freeze(key)?;
@@ -231,7 +231,7 @@ fn freeze_body(process: &Process, key: &mut Vec<u8>) -> Result<(), AllocError>
 
 // What the frames of a process hold.
 #[tactic(auto, using(crate::proofs::Lists::turned_twice))]
-fn freeze_frames(process: &Process, key: &mut Vec<u8>) -> Result<(), AllocError>
+fn freeze_frames(process: &ProcessState, key: &mut Vec<u8>) -> Result<(), AllocError>
     ensures { IfOk result (λ _. key.new.items ≡ key.old.items ++ frames_key (body_of (thread_of process.now))) }
 {
     freeze_list(&process.stack, key)?;

@@ -1,6 +1,6 @@
 //! Lanes: lives, stays, waits and holds.
 
-use crate::labels::{Face, Label, points, push_routine};
+use crate::labels::{Face, PictureLabel, points, push_routine};
 use crate::palette::{RED, hue_of};
 use crate::pictures::Scene;
 use crate::plan::Plan;
@@ -16,31 +16,24 @@ use std::alloc::{AllocError, Global};
 const DEEPEST: usize = 16;
 
 /// Draws what lasts longer than an event.
-pub fn spans_drawn(
-    alloc: Global,
-    svg: &mut Svg,
-    scene: Scene<'_>,
-    plan: &Plan,
-    spans: &Spans,
-) -> Result<(), AllocError> {
+pub fn spans_drawn(alloc: Global, svg: &mut Svg, scene: Scene<'_>, plan: &Plan, spans: &Spans) {
     for life in &spans.lives {
-        draw_life(svg, plan, life)?;
+        draw_life(svg, plan, life);
     }
     for depth in 0..DEEPEST {
         for stay in &spans.stays {
             if stay.depth == depth {
-                draw_stay(alloc, svg, scene, plan, stay)?;
+                draw_stay(alloc, svg, scene, plan, stay);
             }
         }
     }
     let is_stuck = all_wait(scene.story);
     for pause in &spans.pauses {
-        draw_pause(alloc, svg, scene, plan, pause, is_stuck)?;
+        draw_pause(svg, scene, plan, pause, is_stuck);
     }
     for hold in &spans.holds {
-        draw_hold(alloc, svg, scene, plan, hold)?;
+        draw_hold(svg, scene, plan, hold);
     }
-    Ok(())
 }
 
 /// Whether nobody is left who could wake the others.
@@ -51,32 +44,27 @@ pub fn all_wait(story: &Story) -> bool {
     }
 }
 
-fn draw_life(svg: &mut Svg, plan: &Plan, life: &Life) -> Result<(), AllocError> {
+fn draw_life(svg: &mut Svg, plan: &Plan, life: &Life) {
     let x = plan.dot(life.process);
     svg.line(
         (x, life.top),
         (x, life.bottom),
         "#9aa5b1",
         "stroke-width=\"1.6\"",
-    )
+    );
 }
 
-fn draw_stay(
-    alloc: Global,
-    svg: &mut Svg,
-    scene: Scene<'_>,
-    plan: &Plan,
-    stay: &Stay,
-) -> Result<(), AllocError> {
+fn draw_stay(alloc: Global, svg: &mut Svg, scene: Scene<'_>, plan: &Plan, stay: &Stay) {
     let lane = plan.lane(stay.process);
     let hue = hue_of(stay.call.monitor);
     let inset = points(stay.depth) * 8.0;
-    let process = stay.process;
-    let mut title = format!(in alloc; "{process} ")?;
-    title.push_str(scene.legend.process_name(stay.process))?;
-    title.push_str(" is inside ")?;
-    push_call(scene.legend, &mut title, stay.call, &[])?;
-    svg.open(title.as_str())?;
+    svg.begin_title();
+    svg.digits(u32::from(stay.process));
+    svg.raw(" ");
+    svg.escaped(scene.legend.process_name(stay.process));
+    svg.raw(" is inside ");
+    svg.escaped_made(call_words(alloc, scene, stay));
+    svg.end_title();
     svg.block(Block {
         left: lane.left + 1.0 + inset,
         top: stay.top,
@@ -86,30 +74,30 @@ fn draw_stay(
         fill: hue.soft,
         stroke: hue.strong,
         stroke_width: 1.5,
-    })?;
-    svg.close()
+    });
+    svg.close();
 }
 
-fn draw_pause(
-    alloc: Global,
-    svg: &mut Svg,
-    scene: Scene<'_>,
-    plan: &Plan,
-    pause: &Pause,
-    is_stuck: bool,
-) -> Result<(), AllocError> {
+fn call_words(alloc: Global, scene: Scene<'_>, stay: &Stay) -> Result<String, AllocError> {
+    let mut words = String::new(alloc);
+    push_call(scene.legend, &mut words, stay.call, &[])?;
+    Ok(words)
+}
+
+fn draw_pause(svg: &mut Svg, scene: Scene<'_>, plan: &Plan, pause: &Pause, is_stuck: bool) {
     let hue = hue_of(pause.monitor);
     let is_red = pause.lasts && is_stuck;
-    let process = pause.process;
-    let mut title = format!(in alloc; "{process} ")?;
-    title.push_str(scene.legend.process_name(pause.process))?;
-    title.push_str(if pause.at_gate {
+    svg.begin_title();
+    svg.digits(u32::from(pause.process));
+    svg.raw(" ");
+    svg.escaped(scene.legend.process_name(pause.process));
+    svg.raw(if pause.at_gate {
         " waits at the gate of "
     } else {
         " waits in a queue of "
-    })?;
-    title.push_str(scene.legend.monitor_name(pause.monitor))?;
-    svg.open(title.as_str())?;
+    });
+    svg.escaped(scene.legend.monitor_name(pause.monitor));
+    svg.end_title();
     svg.block(Block {
         left: plan.dot(pause.process) - 9.0,
         top: pause.top,
@@ -119,25 +107,20 @@ fn draw_pause(
         fill: if pause.at_gate { hue.gate } else { hue.queue },
         stroke: if is_red { RED } else { hue.strong },
         stroke_width: if is_red { 2.0 } else { 1.2 },
-    })?;
-    svg.close()
+    });
+    svg.close();
 }
 
-fn draw_hold(
-    alloc: Global,
-    svg: &mut Svg,
-    scene: Scene<'_>,
-    plan: &Plan,
-    hold: &Hold,
-) -> Result<(), AllocError> {
+fn draw_hold(svg: &mut Svg, scene: Scene<'_>, plan: &Plan, hold: &Hold) {
     let bar = plan.bar(hold.monitor);
     let middle = bar.left + bar.width / 2.0;
-    let process = hold.process;
-    let mut title = String::new(alloc);
-    title.push_str(scene.legend.monitor_name(hold.monitor))?;
-    write!(title, " is held by {process} ")?;
-    title.push_str(scene.legend.process_name(hold.process))?;
-    svg.open(title.as_str())?;
+    svg.begin_title();
+    svg.escaped(scene.legend.monitor_name(hold.monitor));
+    svg.raw(" is held by ");
+    svg.digits(u32::from(hold.process));
+    svg.raw(" ");
+    svg.escaped(scene.legend.process_name(hold.process));
+    svg.end_title();
     svg.block(Block {
         left: middle - 12.0,
         top: hold.top,
@@ -147,7 +130,7 @@ fn draw_hold(
         fill: hue_of(hold.monitor).strong,
         stroke: "",
         stroke_width: 0.0,
-    })?;
+    });
     let y = (hold.top + hold.bottom) / 2.0 + 4.0;
     svg.number(
         middle,
@@ -158,8 +141,8 @@ fn draw_hold(
             more: "text-anchor=\"middle\" font-weight=\"bold\"",
         },
         u32::from(hold.process),
-    )?;
-    svg.close()
+    );
+    svg.close();
 }
 
 // The process with which the run stops, where no event tells of it.
@@ -178,9 +161,9 @@ pub fn draw_resumed(
     plan: &Plan,
     sheet: &Sheet,
     stay: &Stay,
-) -> Result<(), AllocError> {
+) {
     let Some(event) = stay.resumed else {
-        return Ok(());
+        return;
     };
     let event = event.saturating_add(1);
     let next = match scene.story.events.get(event) {
@@ -188,31 +171,35 @@ pub fn draw_resumed(
         None => stopped_process(scene.story),
     };
     let Some(row) = sheet.row_of(event) else {
-        return Ok(());
+        return;
     };
     let y = row.middle();
     if next == Some(stay.process) || y > stay.bottom {
-        return Ok(());
+        return;
     }
-    let mut words = String::from_str(alloc, "in ")?;
-    push_routine(scene.legend, &mut words, stay.call, &[])?;
     let lane = plan.lane(stay.process);
-    let label = Label {
-        words,
-        face: Face::Plain,
-        pill: None,
-    };
-    let room = lane.width - 36.0;
     let style = Style {
         size: 10.5,
         fill: hue_of(stay.call.monitor).strong,
         more: "font-style=\"italic\"",
     };
-    let lines = label_lines(alloc, &label, room, room)?;
-    let mut at = if lines.len() > 1 { y - 2.0 } else { y + 4.0 };
-    for line in &lines {
-        svg.words(lane.left + 31.0, at, style, line.as_str())?;
-        at += 12.0;
-    }
-    Ok(())
+    let lines = resumed_lines(alloc, scene, stay, lane.width - 36.0);
+    svg.lines_made(lane.left + 31.0, y, style, lines);
+}
+
+// Where a process goes on, in lines.
+fn resumed_lines(
+    alloc: Global,
+    scene: Scene<'_>,
+    stay: &Stay,
+    room: f64,
+) -> Result<Vec<String>, AllocError> {
+    let mut words = String::from_str(alloc, "in ")?;
+    push_routine(scene.legend, &mut words, stay.call, &[])?;
+    let label = PictureLabel {
+        words,
+        face: Face::Plain,
+        pill: None,
+    };
+    label_lines(alloc, &label, room, room)
 }

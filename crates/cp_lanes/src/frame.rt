@@ -23,64 +23,52 @@ const MARKER: &str =
     "<marker id=\"arrow\" markerWidth=\"9\" markerHeight=\"8\" refX=\"7.5\" refY=\"4\" orient=\"auto\" markerUnits=\"userSpaceOnUse\"><path d=\"M0,0.5 L8,4 L0,7.5 z\" fill=\"#1f2933\"/></marker>\n";
 
 /// The picture's title, the patterns of the monitors' colours, and the point of an arrow.
-pub fn draw_patterns(
-    alloc: Global,
-    svg: &mut Svg,
-    scene: Scene<'_>,
-    title: &str,
-) -> Result<(), AllocError> {
-    svg.raw("<title>")?;
+pub fn draw_patterns(alloc: Global, svg: &mut Svg, scene: Scene<'_>, title: &str) {
+    svg.raw("<title>");
     if !title.is_empty() {
-        svg.escaped(title)?;
-        svg.raw(", ")?;
+        svg.escaped(title);
+        svg.raw(", ");
     }
     if let RunEnd::Ended { .. } = scene.story.end {
-        svg.escaped(end_words(alloc, scene.story)?.as_str())?;
-        svg.raw(", ")?;
+        svg.escaped_made(end_words(alloc, scene.story));
+        svg.raw(", ");
     }
-    svg.raw("schedule ")?;
-    svg.escaped(scene.schedule)?;
-    svg.raw("</title>\n<desc>")?;
-    svg.escaped(scene.end.trim())?;
-    svg.raw("</desc>\n<defs>\n")?;
+    svg.raw("schedule ");
+    svg.escaped(scene.schedule);
+    svg.raw("</title>\n<desc>");
+    svg.escaped(scene.end.trim());
+    svg.raw("</desc>\n<defs>\n");
     for number in 0..scene.legend.monitors().max(1).min(HUES) {
-        draw_pattern(svg, number)?;
+        draw_pattern(svg, number);
     }
-    svg.raw(MARKER)?;
-    svg.raw("</defs>\n")
+    svg.raw(MARKER);
+    svg.raw("</defs>\n");
 }
 
-fn draw_pattern(svg: &mut Svg, number: u8) -> Result<(), AllocError> {
+fn draw_pattern(svg: &mut Svg, number: u8) {
     let colour = hue_of(number).strong;
-    svg.pattern("gate", number, " patternTransform=\"rotate(45)\"")?;
+    svg.pattern("gate", number, " patternTransform=\"rotate(45)\"");
     svg.raw(
         "<rect width=\"7\" height=\"7\" fill=\"#fff\"/><rect width=\"2.2\" height=\"7\" opacity=\".6\" fill=\"",
-    )?;
-    svg.raw(colour)?;
-    svg.raw("\"/></pattern>\n")?;
-    svg.pattern("queue", number, "")?;
+    );
+    svg.raw(colour);
+    svg.raw("\"/></pattern>\n");
+    svg.pattern("queue", number, "");
     svg.raw(
         "<rect width=\"7\" height=\"7\" fill=\"#fff\"/><circle cx=\"2\" cy=\"2\" r=\"1.3\" fill=\"",
-    )?;
-    svg.raw(colour)?;
-    svg.raw("\"/></pattern>\n")
+    );
+    svg.raw(colour);
+    svg.raw("\"/></pattern>\n");
 }
 
 /// White, and every other row shaded.
-pub fn draw_ground(
-    svg: &mut Svg,
-    plan: &Plan,
-    sheet: &Sheet,
-    above: f64,
-    height: f64,
-) -> Result<(), AllocError> {
-    svg.block(plain(0.0, 0.0 - above, plan.width, height + above, "#fff"))?;
+pub fn draw_ground(svg: &mut Svg, plan: &Plan, sheet: &Sheet, above: f64, height: f64) {
+    svg.block(plain(0.0, 0.0 - above, plan.width, height + above, "#fff"));
     for (place, row) in sheet.rows.iter().enumerate() {
         if place % 2 == 0 {
-            svg.block(plain(14.0, row.top, plan.width - 28.0, row.height, "#f5f7fa"))?;
+            svg.block(plain(14.0, row.top, plan.width - 28.0, row.height, "#f5f7fa"));
         }
     }
-    Ok(())
 }
 
 fn plain<'a>(left: f64, top: f64, width: f64, height: f64, fill: &'a str) -> Block<'a> {
@@ -97,53 +85,42 @@ fn plain<'a>(left: f64, top: f64, width: f64, height: f64, fill: &'a str) -> Blo
 }
 
 /// The heads of the columns.
-pub fn draw_heads(
-    alloc: Global,
-    svg: &mut Svg,
-    scene: Scene<'_>,
-    plan: &Plan,
-    sheet: &Sheet,
-) -> Result<(), AllocError> {
-    svg.words(20.0, 71.0, FAINT, "who may go on")?;
+pub fn draw_heads(alloc: Global, svg: &mut Svg, scene: Scene<'_>, plan: &Plan, sheet: &Sheet) {
+    svg.words(20.0, 71.0, FAINT, "who may go on");
     for process in 0..scene.legend.processes() {
-        draw_lane_head(alloc, svg, scene, plan, process)?;
+        draw_lane_head(alloc, svg, scene, plan, process);
     }
     for monitor in 0..scene.legend.monitors() {
-        draw_bar_head(alloc, svg, scene, plan, sheet, monitor)?;
+        draw_bar_head(alloc, svg, scene, plan, sheet, monitor);
     }
     if plan.changes.width > 0.0 {
-        svg.words(plan.changes.left, 71.0, FAINT, "what changed inside")?;
+        svg.words(plan.changes.left, 71.0, FAINT, "what changed inside");
     }
     if scene.is_plain {
-        return Ok(());
+        return;
     }
-    svg.words(plan.numbers - 20.0, 71.0, FAINT, "line")
+    svg.words(plan.numbers - 20.0, 71.0, FAINT, "line");
 }
 
-fn draw_lane_head(
-    alloc: Global,
-    svg: &mut Svg,
-    scene: Scene<'_>,
-    plan: &Plan,
-    process: u8,
-) -> Result<(), AllocError> {
+fn draw_lane_head(alloc: Global, svg: &mut Svg, scene: Scene<'_>, plan: &Plan, process: u8) {
     let lane = plan.lane(process);
     let name = scene.legend.process_name(process);
     let type_name = scene.legend.process_type(process);
-    open_lane(alloc, svg, process, name, type_name)?;
+    let opened = open_lane(alloc, svg, process, name, type_name);
+    svg.keep(opened);
     svg.block(Block {
         radius: 6.0,
         ..plain(lane.left, 52.0, lane.width, 30.0, "#eaeef2")
-    })?;
-    svg.circle(lane.left + 17.0, 67.0, 10.0, INK, "")?;
+    });
+    svg.circle(lane.left + 17.0, 67.0, 10.0, INK, "");
     let white = Style {
         size: 11.5,
         fill: "#fff",
         more: "text-anchor=\"middle\" font-weight=\"bold\"",
     };
-    svg.number(lane.left + 17.0, 71.0, white, u32::from(process))?;
-    draw_names(alloc, svg, lane, name, type_name)?;
-    svg.close()
+    svg.number(lane.left + 17.0, 71.0, white, u32::from(process));
+    draw_names(alloc, svg, lane, name, type_name);
+    svg.close();
 }
 
 fn open_lane(
@@ -157,36 +134,35 @@ fn open_lane(
     title.push_str(name)?;
     title.push(' ')?;
     title.push_str(type_name)?;
-    svg.open(title.as_str().trim())
+    svg.open(title.as_str().trim());
+    Ok(())
 }
 
 // The name of a process and its type, one below the other where there is no room for both in a line.
-fn draw_names(
-    alloc: Global,
-    svg: &mut Svg,
-    lane: Column,
-    name: &str,
-    type_name: &str,
-) -> Result<(), AllocError> {
+fn draw_names(alloc: Global, svg: &mut Svg, lane: Column, name: &str, type_name: &str) {
     let room = lane.width - 36.0;
     let left = lane.left + 33.0;
     let used = bold_width(name, 12.0) + 9.0;
     if room < 30.0 {
-        return Ok(());
+        return;
     }
     if used + plain_width(type_name, 12.0) <= room {
-        svg.words(left, 71.0, bold(12.0, INK), name)?;
-        return svg.words(left + used, 71.0, light(12.0), type_name);
+        svg.words(left, 71.0, bold(12.0, INK), name);
+        svg.words(left + used, 71.0, light(12.0), type_name);
+        return;
     }
     if bold_width(name, 11.0) <= room {
-        svg.words(left, 65.0, bold(11.0, INK), name)?;
-        let kind = cut_plain(alloc, type_name, room, 10.0)?;
-        return svg.words(left, 77.5, light(10.0), kind.as_str());
+        svg.words(left, 65.0, bold(11.0, INK), name);
+        svg.words_made(
+            left,
+            77.5,
+            light(10.0),
+            cut_plain(alloc, type_name, room, 10.0),
+        );
+        return;
     }
-    let (first, rest) = halves(alloc, name, room, 10.0)?;
-    svg.words(left, 64.5, bold(10.0, INK), first.as_str())?;
-    let rest = cut_bold(alloc, rest.as_str(), room, 10.0)?;
-    svg.words(left, 77.0, bold(10.0, INK), rest.as_str())
+    let drawn = draw_halves(alloc, svg, left, bold(10.0, INK), room, name);
+    svg.keep(drawn);
 }
 
 fn bold(size: f64, fill: &'static str) -> Style<'static> {
@@ -212,50 +188,64 @@ fn draw_bar_head(
     plan: &Plan,
     sheet: &Sheet,
     monitor: u8,
-) -> Result<(), AllocError> {
+) {
     let bar = plan.bar(monitor);
     let middle = bar.left + bar.width / 2.0;
     let name = scene.legend.monitor_name(monitor);
-    let mut title = String::from_str(alloc, "monitor ")?;
-    title.push_str(name)?;
-    title.push(' ')?;
-    title.push_str(scene.legend.monitor_type(monitor))?;
-    svg.open(title.as_str())?;
+    svg.begin_title();
+    svg.raw("monitor ");
+    svg.escaped(name);
+    svg.raw(" ");
+    svg.escaped(scene.legend.monitor_type(monitor));
+    svg.end_title();
     svg.block(Block {
         radius: 6.0,
         ..plain(bar.left, 52.0, bar.width, 30.0, hue_of(monitor).strong)
-    })?;
-    draw_bar_name(alloc, svg, middle, bar.width - 6.0, name)?;
+    });
+    draw_bar_name(alloc, svg, middle, bar.width - 6.0, name);
     svg.line(
         (middle, 98.0),
         (middle, sheet.end + 4.0),
         "#c9d1d9",
         "stroke-width=\"1\"",
-    )?;
-    svg.close()
+    );
+    svg.close();
 }
 
 // The name of a monitor in one line or in two.
-fn draw_bar_name(
-    alloc: Global,
-    svg: &mut Svg,
-    middle: f64,
-    room: f64,
-    name: &str,
-) -> Result<(), AllocError> {
+fn draw_bar_name(alloc: Global, svg: &mut Svg, middle: f64, room: f64, name: &str) {
     let style = Style {
         size: 10.5,
         fill: "#fff",
         more: "text-anchor=\"middle\" font-weight=\"bold\"",
     };
     if bold_width(name, 10.5) <= room {
-        return svg.words(middle, 71.0, style, name);
+        svg.words(middle, 71.0, style, name);
+        return;
     }
     let small = Style { size: 9.5, ..style };
-    let (first, rest) = halves(alloc, name, room, 9.5)?;
-    svg.words(middle, 64.5, small, first.as_str())?;
-    let rest = cut_bold(alloc, rest.as_str(), room, 9.5)?;
-    svg.words(middle, 77.0, small, rest.as_str())
+    let drawn = draw_halves(alloc, svg, middle, small, room, name);
+    svg.keep(drawn);
+}
+
+// A name in two lines, of which the second one is cut where there is no room.
+fn draw_halves(
+    alloc: Global,
+    svg: &mut Svg,
+    x: f64,
+    style: Style<'_>,
+    room: f64,
+    name: &str,
+) -> Result<(), AllocError> {
+    let (first, rest) = halves(alloc, name, room, style.size)?;
+    svg.words(x, 64.5, style, first.as_str());
+    svg.words_made(
+        x,
+        77.0,
+        style,
+        cut_bold(alloc, rest.as_str(), room, style.size),
+    );
+    Ok(())
 }
 
 // As many characters as there is room for, and the others.
@@ -274,105 +264,73 @@ fn halves(alloc: Global, name: &str, room: f64, size: f64) -> Result<(String, St
 }
 
 /// A bracket from a row to the last one, which says that they can be gone again and again.
-pub fn draw_again(
-    svg: &mut Svg,
-    plan: &Plan,
-    sheet: &Sheet,
-    event: usize,
-) -> Result<(), AllocError> {
+pub fn draw_again(svg: &mut Svg, plan: &Plan, sheet: &Sheet, event: usize) {
     let top = match sheet.row_of(event) {
         Some(row) => row.top,
         None => TOP,
     };
     let bottom = sheet.end;
-    svg.open("again and again")?;
-    svg.line((10.0, top), (16.0, top), INK, BRACKET)?;
-    svg.line((10.0, top), (10.0, bottom), INK, BRACKET)?;
-    svg.line((10.0, bottom), (16.0, bottom), INK, BRACKET)?;
+    svg.open("again and again");
+    svg.line((10.0, top), (16.0, top), INK, BRACKET);
+    svg.line((10.0, top), (10.0, bottom), INK, BRACKET);
+    svg.line((10.0, bottom), (16.0, bottom), INK, BRACKET);
     svg.line(
         (16.0, top),
         (plan.width - 14.0, top),
         INK,
         "stroke-width=\"1\" stroke-dasharray=\"4 3\"",
-    )?;
+    );
     svg.words(
         10.0,
         sheet.bottom() + 16.0,
         bold(12.0, INK),
         "again and again",
-    )?;
-    svg.close()
+    );
+    svg.close();
 }
 
 /// Broken edges where rows are left out before the first or after the last.
-pub fn draw_edges(
-    alloc: Global,
-    svg: &mut Svg,
-    plan: &Plan,
-    sheet: &Sheet,
-) -> Result<(), AllocError> {
+pub fn draw_edges(alloc: Global, svg: &mut Svg, plan: &Plan, sheet: &Sheet) {
     if sheet.before > 0 {
-        draw_edge(alloc, svg, plan, TOP, sheet.before)?;
+        draw_edge(alloc, svg, plan, TOP, sheet.before);
     }
     if sheet.after > 0 {
-        draw_edge(alloc, svg, plan, sheet.end, sheet.after)?;
+        draw_edge(alloc, svg, plan, sheet.end, sheet.after);
     }
-    Ok(())
+}
+
+fn edge_words(alloc: Global, count: usize) -> Result<String, AllocError> {
+    if count == 1 {
+        return String::from_str(alloc, "1 row is left out");
+    }
+    format!(in alloc; "{count} rows are left out")
 }
 
 // A broken edge, which says how many rows are left out.
-fn draw_edge(
-    alloc: Global,
-    svg: &mut Svg,
-    plan: &Plan,
-    top: f64,
-    count: usize,
-) -> Result<(), AllocError> {
-    let words = if count == 1 {
-        String::from_str(alloc, "1 row is left out")?
-    } else {
-        format!(in alloc; "{count} rows are left out")?
-    };
-    svg.open(words.as_str())?;
+fn draw_edge(alloc: Global, svg: &mut Svg, plan: &Plan, top: f64, count: usize) {
+    match edge_words(alloc, count) {
+        Ok(words) => draw_edge_with(svg, plan, top, words.as_str()),
+        Err(_) => svg.refuse(),
+    }
+}
+
+fn draw_edge_with(svg: &mut Svg, plan: &Plan, top: f64, words: &str) {
+    svg.open(words);
     let middle = top + EDGE / 2.0;
-    svg.block(plain(14.0, top + 2.0, plan.width - 28.0, EDGE - 4.0, "#fff"))?;
-    svg.zigzag((14.0, middle), plan.width - 14.0, PALE)?;
-    let width = plain_width(words.as_str(), 10.5) + 16.0;
-    svg.block(plain(40.0, top + 2.0, width, EDGE - 4.0, "#fff"))?;
-    svg.words(48.0, middle + 4.0, FAINT, words.as_str())?;
-    svg.close()
+    svg.block(plain(14.0, top + 2.0, plan.width - 28.0, EDGE - 4.0, "#fff"));
+    svg.zigzag((14.0, middle), plan.width - 14.0, PALE);
+    let width = plain_width(words, 10.5) + 16.0;
+    svg.block(plain(40.0, top + 2.0, width, EDGE - 4.0, "#fff"));
+    svg.words(48.0, middle + 4.0, FAINT, words);
+    svg.close();
 }
 
 /// How the run stops, and who waits then.
-pub fn draw_end(
-    alloc: Global,
-    svg: &mut Svg,
-    scene: Scene<'_>,
-    plan: &Plan,
-    top: f64,
-) -> Result<(), AllocError> {
-    let words = end_words(alloc, scene.story)?;
-    let width = bold_width(words.as_str(), 12.5) + 26.0;
-    svg.open(scene.end.trim())?;
-    svg.block(Block {
-        radius: 13.0,
-        ..plain(20.0, top, width, 26.0, end_colour(scene.story))
-    })?;
-    let white = Style {
-        size: 12.5,
-        fill: "#fff",
-        more: "font-weight=\"bold\"",
-    };
-    svg.words(33.0, top + 17.5, white, words.as_str())?;
-    let beside = 20.0 + width + 14.0;
-    let plain = cut_plain(
-        alloc,
-        outcome_of(scene.end),
-        plan.width - beside - 20.0,
-        12.0,
-    )?;
-    svg.words(beside, top + 17.5, light(12.0), plain.as_str())?;
-    svg.close()?;
+pub fn draw_end(alloc: Global, svg: &mut Svg, scene: Scene<'_>, plan: &Plan, top: f64) {
+    match end_words(alloc, scene.story) {
+        Ok(words) => draw_outcome(alloc, svg, scene, plan, top, words.as_str()),
+        Err(_) => svg.refuse(),
+    }
     let mut y = top + 46.0;
     let style = Style {
         size: 12.0,
@@ -380,11 +338,37 @@ pub fn draw_end(
         more: "",
     };
     for wait in &scene.story.waits {
-        let words = wait_words(alloc, scene.legend, wait)?;
-        svg.words(26.0, y, style, words.as_str())?;
+        svg.words_made(26.0, y, style, wait_words(alloc, scene.legend, wait));
         y += 20.0;
     }
-    Ok(())
+}
+
+// How the run stops, with the last line of the trace beside it.
+fn draw_outcome(
+    alloc: Global,
+    svg: &mut Svg,
+    scene: Scene<'_>,
+    plan: &Plan,
+    top: f64,
+    words: &str,
+) {
+    let width = bold_width(words, 12.5) + 26.0;
+    svg.open(scene.end.trim());
+    svg.block(Block {
+        radius: 13.0,
+        ..plain(20.0, top, width, 26.0, end_colour(scene.story))
+    });
+    let white = Style {
+        size: 12.5,
+        fill: "#fff",
+        more: "font-weight=\"bold\"",
+    };
+    svg.words(33.0, top + 17.5, white, words);
+    let beside = 20.0 + width + 14.0;
+    let room = plan.width - beside - 20.0;
+    let outcome = cut_plain(alloc, outcome_of(scene.end), room, 12.0);
+    svg.words_made(beside, top + 17.5, light(12.0), outcome);
+    svg.close();
 }
 
 // The last line of a trace without its first words.

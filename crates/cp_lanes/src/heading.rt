@@ -25,7 +25,7 @@ const GREY_LINE: Style<'static> = Style {
 
 /// The heading of a picture, and its schedule, in lines.
 #[derive(Drop)]
-pub struct Heading {
+pub struct PictureHeading {
     /// The whole heading.
     pub title: String,
     lines: Vec<String>,
@@ -35,7 +35,11 @@ pub struct Heading {
 }
 
 /// The heading of what is drawn.
-pub fn heading_of(alloc: Global, scene: Scene<'_>, width: f64) -> Result<Heading, AllocError> {
+pub fn heading_of(
+    alloc: Global,
+    scene: Scene<'_>,
+    width: f64,
+) -> Result<PictureHeading, AllocError> {
     let title = sentence(alloc, scene.source)?;
     let room = width - 40.0;
     let lines = if title.is_empty() {
@@ -45,7 +49,7 @@ pub fn heading_of(alloc: Global, scene: Scene<'_>, width: f64) -> Result<Heading
     };
     let schedule = schedule_in_lines(alloc, scene, room)?;
     let is_beside = fits_beside(&lines, &schedule, room);
-    Ok(Heading {
+    Ok(PictureHeading {
         title,
         lines,
         schedule,
@@ -76,7 +80,7 @@ fn fits_beside(lines: &[String], schedule: &[String], room: f64) -> bool {
     }
 }
 
-impl Heading {
+impl PictureHeading {
     // How many lines there are.
     fn count(&self) -> usize {
         if self.is_beside {
@@ -93,10 +97,10 @@ impl Heading {
 }
 
 /// Draws the heading and the schedule above the columns.
-pub fn draw_heading(svg: &mut Svg, heading: &Heading) -> Result<(), AllocError> {
+pub fn draw_heading(svg: &mut Svg, heading: &PictureHeading) {
     let mut y = 28.0 - heading.extra();
     for line in &heading.lines {
-        svg.words(20.0, y, BOLD_LINE, line.as_str())?;
+        svg.words(20.0, y, BOLD_LINE, line.as_str());
         y += 22.0;
     }
     let mut x = 20.0;
@@ -107,8 +111,7 @@ pub fn draw_heading(svg: &mut Svg, heading: &Heading) -> Result<(), AllocError> 
         }
     }
     for line in &heading.schedule {
-        svg.words(x, y, GREY_LINE, line.as_str())?;
+        svg.words(x, y, GREY_LINE, line.as_str());
         y += 22.0;
     }
-    Ok(())
 }

@@ -6,8 +6,7 @@ use crate::pictures::Scene;
 use crate::sheet::Sheet;
 use crate::spans::Spans;
 use crate::svg::{Block, Style, Svg};
-use cp_story::{Choice, Event, Happening};
-use std::alloc::AllocError;
+use cp_story::{Choice, Happening, StoryEvent};
 
 /// Which signs occur.
 #[derive(Clone, Copy)]
@@ -35,7 +34,7 @@ const BROKEN: &str = "stroke-width=\"1.5\" stroke-dasharray=\"4 3\" marker-end=\
 
 /// A sign of the key.
 #[derive(Clone, Copy, PartialEq, Eq)]
-enum Sign {
+enum KeySign {
     Stay,
     Gate,
     Queue,
@@ -46,15 +45,15 @@ enum Sign {
     Lost,
 }
 
-const ALL: [Sign; 8] = [
-    Sign::Stay,
-    Sign::Gate,
-    Sign::Queue,
-    Sign::Chosen,
-    Sign::Admitted,
-    Sign::Full,
-    Sign::Broken,
-    Sign::Lost,
+const ALL: [KeySign; 8] = [
+    KeySign::Stay,
+    KeySign::Gate,
+    KeySign::Queue,
+    KeySign::Chosen,
+    KeySign::Admitted,
+    KeySign::Full,
+    KeySign::Broken,
+    KeySign::Lost,
 ];
 
 /// The signs that occur in the rows.
@@ -88,7 +87,7 @@ fn has_pause(spans: &Spans, at_gate: bool) -> bool {
 }
 
 impl Signs {
-    fn see_event(&mut self, event: &Event) {
+    fn see_event(&mut self, event: &StoryEvent) {
         self.see_choice(&event.choice);
         let starts = matches!(event.happening, Happening::Start(_));
         self.full = self.full || starts || !event.woken.is_empty();
@@ -103,16 +102,16 @@ impl Signs {
         }
     }
 
-    fn has(self, sign: Sign) -> bool {
+    fn has(self, sign: KeySign) -> bool {
         match sign {
-            Sign::Stay => self.stays,
-            Sign::Gate => self.gates,
-            Sign::Queue => self.queues,
-            Sign::Chosen => self.chosen,
-            Sign::Admitted => self.admitted,
-            Sign::Full => self.full,
-            Sign::Broken => self.broken,
-            Sign::Lost => self.lost,
+            KeySign::Stay => self.stays,
+            KeySign::Gate => self.gates,
+            KeySign::Queue => self.queues,
+            KeySign::Chosen => self.chosen,
+            KeySign::Admitted => self.admitted,
+            KeySign::Full => self.full,
+            KeySign::Broken => self.broken,
+            KeySign::Lost => self.lost,
         }
     }
 
@@ -134,36 +133,36 @@ impl Signs {
     }
 }
 
-fn words_of(sign: Sign) -> &'static str {
+fn words_of(sign: KeySign) -> &'static str {
     match sign {
-        Sign::Stay => "inside a monitor",
-        Sign::Gate => "waits at its gate",
-        Sign::Queue => "delayed in a queue of it",
-        Sign::Chosen => "chosen; the other could go on too",
-        Sign::Admitted => "let in; the other waits at the gate too",
-        Sign::Full => "starts or wakes",
-        Sign::Broken => "lets in",
-        Sign::Lost => "continues a queue where nobody waits",
+        KeySign::Stay => "inside a monitor",
+        KeySign::Gate => "waits at its gate",
+        KeySign::Queue => "delayed in a queue of it",
+        KeySign::Chosen => "chosen; the other could go on too",
+        KeySign::Admitted => "let in; the other waits at the gate too",
+        KeySign::Full => "starts or wakes",
+        KeySign::Broken => "lets in",
+        KeySign::Lost => "continues a queue where nobody waits",
     }
 }
 
 // How wide the picture of a sign is, with the space after it.
-fn sign_width(sign: Sign) -> f64 {
+fn sign_width(sign: KeySign) -> f64 {
     match sign {
-        Sign::Stay | Sign::Gate | Sign::Queue => 28.0,
-        Sign::Chosen | Sign::Admitted => 44.0,
-        Sign::Full | Sign::Broken => 34.0,
-        Sign::Lost => 20.0,
+        KeySign::Stay | KeySign::Gate | KeySign::Queue => 28.0,
+        KeySign::Chosen | KeySign::Admitted => 44.0,
+        KeySign::Full | KeySign::Broken => 34.0,
+        KeySign::Lost => 20.0,
     }
 }
 
-fn width_of(sign: Sign) -> f64 {
+fn width_of(sign: KeySign) -> f64 {
     sign_width(sign) + plain_width(words_of(sign), 10.5) + 24.0
 }
 
 /// Draws the signs that occur, with what they mean, in as many lines as they need.
-pub fn draw_key(svg: &mut Svg, signs: Signs, width: f64, top: f64) -> Result<(), AllocError> {
-    svg.open("what the signs mean")?;
+pub fn draw_key(svg: &mut Svg, signs: Signs, width: f64, top: f64) {
+    svg.open("what the signs mean");
     let mut x = 20.0;
     let mut y = top;
     for sign in ALL {
@@ -173,35 +172,35 @@ pub fn draw_key(svg: &mut Svg, signs: Signs, width: f64, top: f64) -> Result<(),
                 x = 20.0;
                 y += 24.0;
             }
-            draw_sign(svg, sign, x, y)?;
-            svg.words(x + sign_width(sign), y + 11.0, FAINT, words_of(sign))?;
+            draw_sign(svg, sign, x, y);
+            svg.words(x + sign_width(sign), y + 11.0, FAINT, words_of(sign));
             x += width_of(sign);
         }
     }
-    svg.close()
+    svg.close();
 }
 
-fn draw_sign(svg: &mut Svg, sign: Sign, x: f64, y: f64) -> Result<(), AllocError> {
+fn draw_sign(svg: &mut Svg, sign: KeySign, x: f64, y: f64) {
     let hue = hue_of(0);
     match sign {
-        Sign::Stay => draw_box(svg, x, y, hue.soft),
-        Sign::Gate => draw_box(svg, x, y, hue.gate),
-        Sign::Queue => draw_box(svg, x, y, hue.queue),
-        Sign::Chosen => {
-            svg.circle(x + 8.0, y + 7.0, 8.0, INK, "")?;
+        KeySign::Stay => draw_box(svg, x, y, hue.soft),
+        KeySign::Gate => draw_box(svg, x, y, hue.gate),
+        KeySign::Queue => draw_box(svg, x, y, hue.queue),
+        KeySign::Chosen => {
+            svg.circle(x + 8.0, y + 7.0, 8.0, INK, "");
             svg.circle(x + 27.0, y + 7.0, 7.5, "#fff", "stroke=\"#aab4be\"")
         }
-        Sign::Admitted => {
-            draw_square(svg, x, y, INK, INK)?;
+        KeySign::Admitted => {
+            draw_square(svg, x, y, INK, INK);
             draw_square(svg, x + 19.0, y, "#fff", "#aab4be")
         }
-        Sign::Full => svg.line((x, y + 7.0), (x + 26.0, y + 7.0), INK, FULL),
-        Sign::Broken => svg.line((x, y + 7.0), (x + 26.0, y + 7.0), INK, BROKEN),
-        Sign::Lost => draw_lost(svg, x + 7.0, y + 7.0),
+        KeySign::Full => svg.line((x, y + 7.0), (x + 26.0, y + 7.0), INK, FULL),
+        KeySign::Broken => svg.line((x, y + 7.0), (x + 26.0, y + 7.0), INK, BROKEN),
+        KeySign::Lost => draw_lost(svg, x + 7.0, y + 7.0),
     }
 }
 
-fn draw_box(svg: &mut Svg, x: f64, y: f64, fill: &str) -> Result<(), AllocError> {
+fn draw_box(svg: &mut Svg, x: f64, y: f64, fill: &str) {
     svg.block(Block {
         left: x,
         top: y,
@@ -211,10 +210,10 @@ fn draw_box(svg: &mut Svg, x: f64, y: f64, fill: &str) -> Result<(), AllocError>
         fill,
         stroke: hue_of(0).strong,
         stroke_width: 1.3,
-    })
+    });
 }
 
-fn draw_square(svg: &mut Svg, x: f64, y: f64, fill: &str, stroke: &str) -> Result<(), AllocError> {
+fn draw_square(svg: &mut Svg, x: f64, y: f64, fill: &str, stroke: &str) {
     svg.block(Block {
         left: x,
         top: y - 1.0,
@@ -224,12 +223,12 @@ fn draw_square(svg: &mut Svg, x: f64, y: f64, fill: &str, stroke: &str) -> Resul
         fill,
         stroke,
         stroke_width: 1.0,
-    })
+    });
 }
 
 /// The sign of a queue that is continued while nobody waits in it: a ring that is struck out.
-pub fn draw_lost(svg: &mut Svg, x: f64, y: f64) -> Result<(), AllocError> {
-    svg.circle(x, y, 5.6, "#fff", "stroke=\"#1f2933\" stroke-width=\"1.6\"")?;
+pub fn draw_lost(svg: &mut Svg, x: f64, y: f64) {
+    svg.circle(x, y, 5.6, "#fff", "stroke=\"#1f2933\" stroke-width=\"1.6\"");
     let thin = "stroke-width=\"1.6\"";
-    svg.line((x - 4.0, y + 4.0), (x + 4.0, y - 4.0), INK, thin)
+    svg.line((x - 4.0, y + 4.0), (x + 4.0, y - 4.0), INK, thin);
 }

@@ -2,7 +2,7 @@
 
 use crate::sheet::{Fold, Row};
 use cp_legend::{Legend, Value};
-use cp_story::{Event, Happening, OpenCall, Returned, Story, push_returned, push_shown};
+use cp_story::{Happening, OpenCall, Returned, Story, StoryEvent, push_returned, push_shown};
 use std::alloc::{AllocError, Global};
 
 /// How wide a character is, for each point of its size.
@@ -25,7 +25,7 @@ pub enum Face {
 
 /// The words beside an event, and a displayed value in a pill.
 #[derive(Drop)]
-pub struct Label {
+pub struct PictureLabel {
     pub words: String,
     pub face: Face,
     pub pill: Option<String>,
@@ -91,7 +91,7 @@ pub fn label_of(
     legend: &Legend,
     story: &Story,
     row: Row,
-) -> Result<Option<Label>, AllocError> {
+) -> Result<Option<PictureLabel>, AllocError> {
     match row.fold {
         Fold::None => match story.events.get(row.first) {
             Some(event) => Ok(Some(event_label(alloc, legend, event)?)),
@@ -108,15 +108,19 @@ pub fn label_of(
     }
 }
 
-fn plain_label(words: String) -> Result<Option<Label>, AllocError> {
-    Ok(Some(Label {
+fn plain_label(words: String) -> Result<Option<PictureLabel>, AllocError> {
+    Ok(Some(PictureLabel {
         words,
         face: Face::Faint,
         pill: None,
     }))
 }
 
-fn event_label(alloc: Global, legend: &Legend, event: &Event) -> Result<Label, AllocError> {
+fn event_label(
+    alloc: Global,
+    legend: &Legend,
+    event: &StoryEvent,
+) -> Result<PictureLabel, AllocError> {
     let mut words = String::new(alloc);
     push_words(legend, &mut words, event)?;
     push_values(&mut words, &event.returned)?;
@@ -127,7 +131,7 @@ fn event_label(alloc: Global, legend: &Legend, event: &Event) -> Result<Label, A
         push_shown(legend, &mut shown, *value)?;
         pill = Some(shown);
     }
-    Ok(Label { words, face, pill })
+    Ok(PictureLabel { words, face, pill })
 }
 
 // What comes back; one value alone has no name, which the row of the call has already.
@@ -139,7 +143,7 @@ fn push_values(words: &mut String, returned: &[Returned]) -> Result<(), AllocErr
     push_returned(words, returned)
 }
 
-fn face_of(event: &Event) -> Face {
+fn face_of(event: &StoryEvent) -> Face {
     match event.happening {
         Happening::Leave(_) if !event.returned.is_empty() => Face::Plain,
         Happening::Leave(_) | Happening::End => Face::Faint,
@@ -148,7 +152,7 @@ fn face_of(event: &Event) -> Face {
     }
 }
 
-fn push_words(legend: &Legend, words: &mut String, event: &Event) -> Result<(), AllocError> {
+fn push_words(legend: &Legend, words: &mut String, event: &StoryEvent) -> Result<(), AllocError> {
     match &event.happening {
         Happening::Enter {
             call,
@@ -212,7 +216,7 @@ fn push_woken(words: &mut String, woken: &[u8]) -> Result<(), AllocError> {
     Ok(())
 }
 
-impl Label {
+impl PictureLabel {
     /// How wide the label is.
     pub fn width(&self) -> f64 {
         let words = self.words_width();

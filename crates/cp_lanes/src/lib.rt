@@ -16,5 +16,5 @@ mod svg;
 mod title;
 mod wrapping;
 
-pub use pictures::{PictureSubject, View, picture, picture_in};
-pub use sheet::Extent;
+pub use pictures::{PictureSubject, PictureView, picture, picture_in};
+pub use sheet::SheetExtent;

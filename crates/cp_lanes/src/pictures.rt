@@ -2,17 +2,17 @@
 
 use crate::draw::spans_drawn;
 use crate::frame::{draw_again, draw_edges, draw_end, draw_ground, draw_heads, draw_patterns};
-use crate::heading::{Heading, draw_heading, heading_of};
+use crate::heading::{PictureHeading, draw_heading, heading_of};
 use crate::key::{draw_key, signs_of};
-use crate::labels::{Label, WIDTH, fixed_width, label_of, plain_width, points};
+use crate::labels::{PictureLabel, WIDTH, fixed_width, label_of, plain_width, points};
 use crate::plan::{Plan, Widths, plan_of};
 use crate::rows::draw_rows;
-use crate::sheet::{Extent, Sheet, height_of, sheet_of};
+use crate::sheet::{Sheet, SheetExtent, height_of, sheet_of};
 use crate::spans::{Spans, spans_of};
 use crate::svg::Svg;
 use crate::wrapping::wrap;
 use cp_legend::Legend;
-use cp_story::{Change, Event, Story};
+use cp_story::{Change, Story, StoryEvent};
 use std::alloc::{AllocError, Global};
 
 /// The schedule that is drawn.
@@ -31,8 +31,8 @@ pub struct PictureSubject<'a> {
 
 /// What of it is drawn, and how.
 #[derive(Clone, Copy)]
-pub struct View {
-    pub extent: Extent,
+pub struct PictureView {
+    pub extent: SheetExtent,
     /// Whether source, schedule and key are left out, and letters are larger.
     pub is_plain: bool,
 }
@@ -46,7 +46,7 @@ pub struct Scene<'a> {
     pub end: &'a str,
     pub source: &'a [String],
     pub again: Option<usize>,
-    pub extent: Extent,
+    pub extent: SheetExtent,
     pub is_plain: bool,
 }
 
@@ -54,7 +54,7 @@ pub struct Scene<'a> {
 #[derive(Drop)]
 pub struct Texts {
     /// None beside a stop.
-    pub labels: Vec<Option<Label>>,
+    pub labels: Vec<Option<PictureLabel>>,
     /// What changed, in lines.
     pub changes: Vec<Vec<String>>,
 }
@@ -64,8 +64,8 @@ const LARGER: f64 = 1.4;
 
 /// The lanes of a whole story as SVG.
 pub fn picture(alloc: Global, subject: PictureSubject<'_>) -> Result<String, AllocError> {
-    let whole = View {
-        extent: Extent::All,
+    let whole = PictureView {
+        extent: SheetExtent::All,
         is_plain: false,
     };
     picture_in(alloc, subject, whole)
@@ -75,7 +75,7 @@ pub fn picture(alloc: Global, subject: PictureSubject<'_>) -> Result<String, All
 pub fn picture_in(
     alloc: Global,
     subject: PictureSubject<'_>,
-    view: View,
+    view: PictureView,
 ) -> Result<String, AllocError> {
     let PictureSubject {
         legend,
@@ -85,7 +85,7 @@ pub fn picture_in(
         source,
         again,
     } = subject;
-    let View { extent, is_plain } = view;
+    let PictureView { extent, is_plain } = view;
     lay_out(
         alloc,
         Scene {
@@ -139,17 +139,17 @@ fn draw_parts(
         } else {
             signs.height(plan.width)
         };
-    let mut svg = new_drawing(alloc, scene, plan, &heading, height)?;
-    draw_patterns(alloc, &mut svg, scene, heading.title.as_str())?;
-    draw_ground(&mut svg, plan, sheet, heading.extra(), height)?;
-    draw_heading(&mut svg, &heading)?;
-    draw_heads(alloc, &mut svg, scene, plan, sheet)?;
-    spans_drawn(alloc, &mut svg, scene, plan, spans)?;
-    draw_rows(alloc, &mut svg, scene, plan, sheet, spans, texts)?;
-    draw_around(alloc, &mut svg, scene, plan, sheet)?;
-    draw_end(alloc, &mut svg, scene, plan, bottom)?;
+    let mut svg = new_drawing(alloc, scene, plan, &heading, height);
+    draw_patterns(alloc, &mut svg, scene, heading.title.as_str());
+    draw_ground(&mut svg, plan, sheet, heading.extra(), height);
+    draw_heading(&mut svg, &heading);
+    draw_heads(alloc, &mut svg, scene, plan, sheet);
+    spans_drawn(alloc, &mut svg, scene, plan, spans);
+    draw_rows(alloc, &mut svg, scene, plan, sheet, spans, texts);
+    draw_around(alloc, &mut svg, scene, plan, sheet);
+    draw_end(alloc, &mut svg, scene, plan, bottom);
     if !scene.is_plain {
-        draw_key(&mut svg, signs, plan.width, key)?;
+        draw_key(&mut svg, signs, plan.width, key);
     }
     svg.finish()
 }
@@ -159,25 +159,19 @@ fn new_drawing(
     alloc: Global,
     scene: Scene<'_>,
     plan: &Plan,
-    heading: &Heading,
+    heading: &PictureHeading,
     height: f64,
-) -> Result<Svg, AllocError> {
+) -> Svg {
     let scale = if scene.is_plain { LARGER } else { 1.0 };
     Svg::new(alloc, plan.width, heading.extra(), height, scale)
 }
 
 // What says that rows are gone again and again, or are left out.
-fn draw_around(
-    alloc: Global,
-    svg: &mut Svg,
-    scene: Scene<'_>,
-    plan: &Plan,
-    sheet: &Sheet,
-) -> Result<(), AllocError> {
+fn draw_around(alloc: Global, svg: &mut Svg, scene: Scene<'_>, plan: &Plan, sheet: &Sheet) {
     if let Some(event) = scene.again {
-        draw_again(svg, plan, sheet, event)?;
+        draw_again(svg, plan, sheet, event);
     }
-    draw_edges(alloc, svg, plan, sheet)
+    draw_edges(alloc, svg, plan, sheet);
 }
 
 // How wide what changed is, and the source.
@@ -210,7 +204,7 @@ fn widths(alloc: Global, scene: Scene<'_>, sheet: &Sheet) -> Result<Widths, Allo
 }
 
 // The line of the first of a row's events, or of the stop where there is none.
-fn line_of(story: &Story, events: &[Event]) -> Option<u32> {
+fn line_of(story: &Story, events: &[StoryEvent]) -> Option<u32> {
     match (events.first(), &story.stop) {
         (Some(event), _) => event.line,
         (None, Some(stop)) => stop.line,
@@ -250,7 +244,7 @@ fn changes_in_lines(
 pub fn changes_words(
     alloc: Global,
     legend: &Legend,
-    events: &[Event],
+    events: &[StoryEvent],
 ) -> Result<String, AllocError> {
     let mut text = String::new(alloc);
     let mut named = None;
@@ -267,7 +261,7 @@ pub fn changes_words(
 }
 
 // Whether the same variable is changed in one of these events.
-fn is_changed(events: &[Event], change: &Change) -> bool {
+fn is_changed(events: &[StoryEvent], change: &Change) -> bool {
     for event in events {
         for other in &event.changes {
             if other.monitor == change.monitor && other.name.as_str() == change.name.as_str() {

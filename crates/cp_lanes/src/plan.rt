@@ -1,6 +1,6 @@
 //! Where everything stands in the picture.
 
-use crate::labels::{Label, bold_width, plain_width, points};
+use crate::labels::{PictureLabel, bold_width, plain_width, points};
 use crate::sheet::Row;
 use cp_legend::Legend;
 use cp_story::{Happening, Story};
@@ -80,7 +80,7 @@ pub fn plan_of(
     legend: &Legend,
     story: &Story,
     rows: &[Row],
-    labels: &[Option<Label>],
+    labels: &[Option<PictureLabel>],
     widths: Widths,
 ) -> Result<Plan, AllocError> {
     let left = left_edge(story);
@@ -198,7 +198,7 @@ fn lane_widths(
     legend: &Legend,
     story: &Story,
     rows: &[Row],
-    labels: &[Option<Label>],
+    labels: &[Option<PictureLabel>],
 ) -> Result<Vec<f64>, AllocError> {
     let mut widths = Vec::new(alloc);
     for process in 0..legend.processes() {

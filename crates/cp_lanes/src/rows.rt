@@ -2,7 +2,7 @@
 
 use crate::draw::draw_resumed;
 use crate::key::draw_lost;
-use crate::labels::{Face, Label, cut_fixed, pill_width, points};
+use crate::labels::{Face, PictureLabel, cut_fixed, pill_width, points};
 use crate::palette::{GREY, INK, PALE, RED, hue_of};
 use crate::pictures::{Scene, Texts, changes_words, source_line};
 use crate::plan::{Plan, ROW};
@@ -10,7 +10,7 @@ use crate::sheet::{Fold, LINE, Row, Sheet};
 use crate::spans::Spans;
 use crate::svg::{Block, Style, Svg};
 use crate::wrapping::label_lines;
-use cp_story::{AbruptEnd, Choice, Event, Happening, happening_words};
+use cp_story::{AbruptEnd, Choice, Happening, StoryEvent, happening_words};
 use std::alloc::{AllocError, Global};
 
 /// The free space between two lanes, into which a label may reach.
@@ -25,15 +25,14 @@ pub fn draw_rows(
     sheet: &Sheet,
     spans: &Spans,
     texts: &Texts,
-) -> Result<(), AllocError> {
+) {
     for stay in &spans.stays {
-        draw_resumed(alloc, svg, scene, plan, sheet, stay)?;
+        draw_resumed(alloc, svg, scene, plan, sheet, stay);
     }
     let beside = texts.labels.iter().zip(&texts.changes);
     for (row, (label, changes)) in sheet.rows.iter().zip(beside) {
-        draw_row(alloc, svg, scene, plan, spans, *row, label, changes)?;
+        draw_row(alloc, svg, scene, plan, spans, *row, label, changes);
     }
-    Ok(())
 }
 
 fn draw_row(
@@ -43,20 +42,21 @@ fn draw_row(
     plan: &Plan,
     spans: &Spans,
     row: Row,
-    label: &Option<Label>,
+    label: &Option<PictureLabel>,
     changes: &[String],
-) -> Result<(), AllocError> {
+) {
     if let (Some(first), Some(label)) = (row.events(scene.story).first(), label) {
-        svg.open(row_title(alloc, scene, row)?.as_str())?;
-        draw_number(alloc, svg, row)?;
-        draw_event(alloc, svg, scene, plan, spans, row, first, label)?;
-        draw_changes(svg, plan, first, changes, row.middle())?;
-        draw_source(alloc, svg, scene, plan, first.line, row.middle())?;
-        return svg.close();
+        open_row(alloc, svg, scene, row);
+        draw_number(alloc, svg, row);
+        draw_event(alloc, svg, scene, plan, spans, row, first, label);
+        draw_changes(svg, plan, first, changes, row.middle());
+        draw_source(alloc, svg, scene, plan, first.line, row.middle());
+        svg.close();
+        return;
     }
     match &scene.story.stop {
         Some(stop) => draw_stop(alloc, svg, scene, plan, spans, row, stop),
-        None => Ok(()),
+        None => {}
     }
 }
 
@@ -68,35 +68,28 @@ fn draw_event(
     plan: &Plan,
     spans: &Spans,
     row: Row,
-    event: &Event,
-    label: &Label,
-) -> Result<(), AllocError> {
+    event: &StoryEvent,
+    label: &PictureLabel,
+) {
     let y = row.middle();
     match row.fold {
         Fold::None => {
             if let Some(choice) = &event.choice {
-                draw_choice(svg, choice, y)?;
+                draw_choice(svg, choice, y);
             }
-            draw_dot(svg, plan, event, y)?;
+            draw_dot(svg, plan, event, y);
         }
-        Fold::Starts | Fold::Rounds(_) => draw_folded(svg, scene, plan, row, event, y)?,
+        Fold::Starts | Fold::Rounds(_) => draw_folded(svg, scene, plan, row, event, y),
     }
     for event in row.events(scene.story) {
-        draw_arrows(svg, plan, event, label, y)?;
+        draw_arrows(svg, plan, event, label, y);
     }
     let room = room_of_label(plan, spans, event, row.fold, y);
-    draw_label(alloc, svg, plan, event.plain.process, label, room, y)
+    draw_label(alloc, svg, plan, event.plain.process, label, room, y);
 }
 
 // How often a process was chosen whose events are folded, and a dot that stands for several.
-fn draw_folded(
-    svg: &mut Svg,
-    scene: Scene<'_>,
-    plan: &Plan,
-    row: Row,
-    event: &Event,
-    y: f64,
-) -> Result<(), AllocError> {
+fn draw_folded(svg: &mut Svg, scene: Scene<'_>, plan: &Plan, row: Row, event: &StoryEvent, y: f64) {
     let process = event.plain.process;
     let mut count = 0u32;
     for event in row.events(scene.story) {
@@ -105,23 +98,23 @@ fn draw_folded(
         }
     }
     if count > 0 {
-        draw_option(svg, 54.0, y, process, true, false)?;
+        draw_option(svg, 54.0, y, process, true, false);
         let style = Style {
             size: 10.5,
             fill: GREY,
             more: "",
         };
-        svg.words(68.0, y + 3.8, style, "×")?;
-        svg.number(77.0, y + 3.8, style, count)?;
+        svg.words(68.0, y + 3.8, style, "×");
+        svg.number(77.0, y + 3.8, style, count);
     }
     let x = plan.dot(process);
-    svg.circle(x, y - 5.0, 2.2, INK, "")?;
-    svg.circle(x, y, 2.2, INK, "")?;
-    svg.circle(x, y + 5.0, 2.2, INK, "")
+    svg.circle(x, y - 5.0, 2.2, INK, "");
+    svg.circle(x, y, 2.2, INK, "");
+    svg.circle(x, y + 5.0, 2.2, INK, "");
 }
 
 // How much room a label has, with that of the lanes beside it in which there is nothing but the line of a life.
-fn room_of_label(plan: &Plan, spans: &Spans, event: &Event, fold: Fold, y: f64) -> f64 {
+fn room_of_label(plan: &Plan, spans: &Spans, event: &StoryEvent, fold: Fold, y: f64) -> f64 {
     let process = event.plain.process;
     let moves = matches!(event.happening, Happening::Start(_));
     if moves || fold != Fold::None || !event.woken.is_empty() || !event.let_in.is_empty() {
@@ -158,32 +151,47 @@ fn is_busy(spans: &Spans, process: u8, y: f64) -> bool {
     false
 }
 
-fn row_title(alloc: Global, scene: Scene<'_>, row: Row) -> Result<String, AllocError> {
+// Begins a row with a title: what happened, and what changed.
+fn open_row(alloc: Global, svg: &mut Svg, scene: Scene<'_>, row: Row) {
     let events = row.events(scene.story);
-    let mut title = String::new(alloc);
+    svg.begin_title();
+    let mut is_first = true;
     for event in events {
-        if !title.is_empty() {
-            title.push_str("; ")?;
+        if !is_first {
+            svg.raw("; ");
         }
-        let process = event.plain.process;
-        write!(title, "{process} ")?;
-        title.push_str(scene.legend.process_name(process))?;
-        if let Some(line) = event.line {
-            write!(title, ", line {line}")?;
-        }
-        title.push_str(": ")?;
-        title.push_str(happening_words(alloc, scene.legend, event)?.as_str())?;
+        is_first = false;
+        write_event(alloc, svg, scene, event);
     }
-    let changes = changes_words(alloc, scene.legend, events)?;
+    match changes_words(alloc, scene.legend, events) {
+        Ok(changes) => write_changes(svg, changes.as_str()),
+        Err(_) => svg.refuse(),
+    }
+    svg.end_title();
+}
+
+fn write_event(alloc: Global, svg: &mut Svg, scene: Scene<'_>, event: &StoryEvent) {
+    let process = event.plain.process;
+    svg.digits(u32::from(process));
+    svg.raw(" ");
+    svg.escaped(scene.legend.process_name(process));
+    if let Some(line) = event.line {
+        svg.raw(", line ");
+        svg.digits(line);
+    }
+    svg.raw(": ");
+    svg.escaped_made(happening_words(alloc, scene.legend, event));
+}
+
+fn write_changes(svg: &mut Svg, changes: &str) {
     if !changes.is_empty() {
-        title.push_str("; ")?;
-        title.push_str(changes.as_str())?;
+        svg.raw("; ");
+        svg.escaped(changes);
     }
-    Ok(title)
 }
 
 // The number of a row, or the first and the last of those that are folded.
-fn draw_number(alloc: Global, svg: &mut Svg, row: Row) -> Result<(), AllocError> {
+fn draw_number(alloc: Global, svg: &mut Svg, row: Row) {
     let style = Style {
         size: 9.5,
         fill: PALE,
@@ -194,39 +202,30 @@ fn draw_number(alloc: Global, svg: &mut Svg, row: Row) -> Result<(), AllocError>
     let last = row.first.saturating_add(row.count);
     if last < 100 {
         let text = if first < last {
-            format!(in alloc; "{first}–{last}")?
+            format!(in alloc; "{first}–{last}")
         } else {
-            format!(in alloc; "{first}")?
+            format!(in alloc; "{first}")
         };
-        return svg.words(36.0, y, style, text.as_str());
+        svg.words_made(36.0, y, style, text);
+        return;
     }
     if first < last {
-        let text = format!(in alloc; "{first}–")?;
-        svg.words(36.0, y - 5.0, style, text.as_str())?;
+        svg.words_made(36.0, y - 5.0, style, format!(in alloc; "{first}–"));
     }
-    let text = format!(in alloc; "{last}")?;
     let below = if first < last { 5.0 } else { 0.0 };
-    svg.words(36.0, y + below, style, text.as_str())
+    svg.words_made(36.0, y + below, style, format!(in alloc; "{last}"));
 }
 
 // Circles for those who could go on, squares for those who could be let in; the chosen one is filled.
-fn draw_choice(svg: &mut Svg, choice: &Choice, y: f64) -> Result<(), AllocError> {
+fn draw_choice(svg: &mut Svg, choice: &Choice, y: f64) {
     for (place, option) in choice.options.as_slice().iter().enumerate() {
         let x = 54.0 + points(place) * 22.0;
         let is_chosen = *option == choice.number;
-        draw_option(svg, x, y, *option, is_chosen, choice.at_gate)?;
+        draw_option(svg, x, y, *option, is_chosen, choice.at_gate);
     }
-    Ok(())
 }
 
-fn draw_option(
-    svg: &mut Svg,
-    x: f64,
-    y: f64,
-    option: u8,
-    is_chosen: bool,
-    at_gate: bool,
-) -> Result<(), AllocError> {
+fn draw_option(svg: &mut Svg, x: f64, y: f64, option: u8, is_chosen: bool, at_gate: bool) {
     if at_gate {
         svg.block(Block {
             left: x - 9.0,
@@ -237,11 +236,11 @@ fn draw_option(
             fill: if is_chosen { INK } else { "#fff" },
             stroke: if is_chosen { INK } else { "#aab4be" },
             stroke_width: 1.0,
-        })?;
+        });
     } else if is_chosen {
-        svg.circle(x, y, 9.0, INK, "")?;
+        svg.circle(x, y, 9.0, INK, "");
     } else {
-        svg.circle(x, y, 8.5, "#fff", "stroke=\"#aab4be\"")?;
+        svg.circle(x, y, 8.5, "#fff", "stroke=\"#aab4be\"");
     }
     let style = Style {
         size: 10.5,
@@ -252,10 +251,10 @@ fn draw_option(
             "text-anchor=\"middle\""
         },
     };
-    svg.number(x, y + 3.8, style, u32::from(option))
+    svg.number(x, y + 3.8, style, u32::from(option));
 }
 
-fn draw_dot(svg: &mut Svg, plan: &Plan, event: &Event, y: f64) -> Result<(), AllocError> {
+fn draw_dot(svg: &mut Svg, plan: &Plan, event: &StoryEvent, y: f64) {
     let x = plan.dot(event.plain.process);
     match event.happening {
         Happening::End => svg.block(Block {
@@ -279,10 +278,10 @@ fn draw_label(
     svg: &mut Svg,
     plan: &Plan,
     process: u8,
-    label: &Label,
+    label: &PictureLabel,
     beside: f64,
     y: f64,
-) -> Result<(), AllocError> {
+) {
     let lane = plan.lane(process);
     let x = lane.left + 31.0;
     let pill_room = match &label.pill {
@@ -292,19 +291,15 @@ fn draw_label(
     let room = (lane.width - 36.0 - pill_room).max(20.0);
     let style = style_of(label.face);
     if label.words_width() <= room {
-        svg.words(x, y + 4.0, style, label.words.as_str())?;
+        svg.words(x, y + 4.0, style, label.words.as_str());
     } else if label.pill.is_none() {
         let small = Style {
             size: 10.5,
             more: halo_of(label.face),
             ..style
         };
-        let lines = label_lines(alloc, label, room, (beside - pill_room).max(room))?;
-        let mut at = if lines.len() > 1 { y - 2.0 } else { y + 4.0 };
-        for line in &lines {
-            svg.words(x, at, small, line.as_str())?;
-            at += 12.0;
-        }
+        let lines = label_lines(alloc, label, room, (beside - pill_room).max(room));
+        svg.lines_made(x, y, small, lines);
     }
     match &label.pill {
         Some(pill) if label.words_width() > room => draw_pill(svg, x, y, pill.as_str()),
@@ -314,7 +309,7 @@ fn draw_label(
             y,
             pill.as_str(),
         ),
-        None => Ok(()),
+        None => {}
     }
 }
 
@@ -339,7 +334,7 @@ fn halo_of(face: Face) -> &'static str {
     }
 }
 
-fn draw_pill(svg: &mut Svg, x: f64, y: f64, value: &str) -> Result<(), AllocError> {
+fn draw_pill(svg: &mut Svg, x: f64, y: f64, value: &str) {
     let width = pill_width(value);
     svg.block(Block {
         left: x,
@@ -350,34 +345,27 @@ fn draw_pill(svg: &mut Svg, x: f64, y: f64, value: &str) -> Result<(), AllocErro
         fill: INK,
         stroke: "",
         stroke_width: 0.0,
-    })?;
+    });
     let style = Style {
         size: 11.5,
         fill: "#fff",
         more: "text-anchor=\"middle\" font-weight=\"bold\"",
     };
-    svg.words(x + width / 2.0, y + 4.0, style, value)
+    svg.words(x + width / 2.0, y + 4.0, style, value);
 }
 
 // Arrows to whom the event moves: full to who is started or woken, broken to who is let in.
-fn draw_arrows(
-    svg: &mut Svg,
-    plan: &Plan,
-    event: &Event,
-    label: &Label,
-    y: f64,
-) -> Result<(), AllocError> {
+fn draw_arrows(svg: &mut Svg, plan: &Plan, event: &StoryEvent, label: &PictureLabel, y: f64) {
     let process = event.plain.process;
     if let Happening::Start(started) = event.happening {
-        draw_arrow(svg, plan, process, started, label, y, y, FULL)?;
+        draw_arrow(svg, plan, process, started, label, y, y, FULL);
     }
     for other in event.woken.as_slice() {
-        draw_arrow(svg, plan, process, *other, label, y, y + 13.0, FULL)?;
+        draw_arrow(svg, plan, process, *other, label, y, y + 13.0, FULL);
     }
     for other in event.let_in.as_slice() {
-        draw_arrow(svg, plan, process, *other, label, y, y + 13.0, BROKEN)?;
+        draw_arrow(svg, plan, process, *other, label, y, y + 13.0, BROKEN);
     }
-    Ok(())
 }
 
 const FULL: &str = "stroke-width=\"1.5\" marker-end=\"url(#arrow)\"";
@@ -390,11 +378,11 @@ fn draw_arrow(
     plan: &Plan,
     from: u8,
     to: u8,
-    label: &Label,
+    label: &PictureLabel,
     y: f64,
     end: f64,
     more: &str,
-) -> Result<(), AllocError> {
+) {
     let target = plan.dot(to);
     if from < to {
         let lane = plan.lane(from);
@@ -405,13 +393,7 @@ fn draw_arrow(
     }
 }
 
-fn draw_changes(
-    svg: &mut Svg,
-    plan: &Plan,
-    event: &Event,
-    lines: &[String],
-    y: f64,
-) -> Result<(), AllocError> {
+fn draw_changes(svg: &mut Svg, plan: &Plan, event: &StoryEvent, lines: &[String], y: f64) {
     let monitor = match event.changes.first() {
         Some(change) => change.monitor,
         None => 0,
@@ -423,10 +405,9 @@ fn draw_changes(
     };
     let mut at = y + 4.0 - points(lines.len().saturating_sub(1)) * LINE / 2.0;
     for line in lines {
-        svg.words(plan.changes.left, at, style, line.as_str())?;
+        svg.words(plan.changes.left, at, style, line.as_str());
         at += LINE;
     }
-    Ok(())
 }
 
 fn draw_source(
@@ -436,30 +417,30 @@ fn draw_source(
     plan: &Plan,
     line: Option<u32>,
     y: f64,
-) -> Result<(), AllocError> {
+) {
     let Some(line) = line else {
-        return Ok(());
+        return;
     };
     if scene.is_plain {
-        return Ok(());
+        return;
     }
     let number = Style {
         size: 10.5,
         fill: GREY,
         more: "text-anchor=\"end\"",
     };
-    svg.number(plan.numbers, y + 4.0, number, line)?;
+    svg.number(plan.numbers, y + 4.0, number, line);
     if plan.source.width <= 0.0 {
-        return Ok(());
+        return;
     }
     let text = source_line(scene.source, line);
-    let text = cut_fixed(alloc, text, plan.source.width, 10.5)?;
     let style = Style {
         size: 10.5,
         fill: "#3e4c59",
         more: "font-family=\"DejaVu Sans Mono, Menlo, Consolas, monospace\"",
     };
-    svg.words(plan.source.left, y + 4.0, style, text.as_str())
+    let text = cut_fixed(alloc, text, plan.source.width, 10.5);
+    svg.words_made(plan.source.left, y + 4.0, style, text);
 }
 
 // The row of a run error or of a limit.
@@ -471,22 +452,17 @@ fn draw_stop(
     spans: &Spans,
     row: Row,
     stop: &AbruptEnd,
-) -> Result<(), AllocError> {
+) {
     let y = row.middle();
-    svg.open(stop.words.as_str())?;
-    draw_number(alloc, svg, row)?;
+    svg.open(stop.words.as_str());
+    draw_number(alloc, svg, row);
     if let Some(choice) = &scene.story.last_choice {
-        draw_choice(svg, choice, y)?;
+        draw_choice(svg, choice, y);
     }
     let x = plan.dot(stop.process);
     let red = "stroke-width=\"3\"";
-    svg.line((x - 5.0, y - 5.0), (x + 5.0, y + 5.0), RED, red)?;
-    svg.line((x - 5.0, y + 5.0), (x + 5.0, y - 5.0), RED, red)?;
-    let label = Label {
-        words: stop.words.clone()?,
-        face: Face::Bold,
-        pill: None,
-    };
+    svg.line((x - 5.0, y - 5.0), (x + 5.0, y + 5.0), RED, red);
+    svg.line((x - 5.0, y + 5.0), (x + 5.0, y - 5.0), RED, red);
     let lane = plan.lane(stop.process);
     let room = lane.width - 36.0;
     let style = Style {
@@ -495,12 +471,22 @@ fn draw_stop(
         more: "font-weight=\"bold\"",
     };
     let beside = room_beside(plan, spans, stop.process, y);
-    let lines = label_lines(alloc, &label, room, beside)?;
-    let mut at = if lines.len() > 1 { y - 2.0 } else { y + 4.0 };
-    for line in &lines {
-        svg.words(lane.left + 31.0, at, style, line.as_str())?;
-        at += 12.0;
-    }
-    draw_source(alloc, svg, scene, plan, stop.line, y)?;
-    svg.close()
+    let lines = stop_lines(alloc, stop, room, beside);
+    svg.lines_made(lane.left + 31.0, y, style, lines);
+    draw_source(alloc, svg, scene, plan, stop.line, y);
+    svg.close();
+}
+
+fn stop_lines(
+    alloc: Global,
+    stop: &AbruptEnd,
+    room: f64,
+    beside: f64,
+) -> Result<Vec<String>, AllocError> {
+    let label = PictureLabel {
+        words: stop.words.clone()?,
+        face: Face::Bold,
+        pill: None,
+    };
+    label_lines(alloc, &label, room, beside)
 }

@@ -2,7 +2,7 @@
 
 use crate::labels::points;
 use crate::plan::{ROW, TOP};
-use cp_story::{Event, Happening, OpenCall, Story};
+use cp_story::{Happening, OpenCall, Story, StoryEvent};
 use std::alloc::{AllocError, Global};
 
 /// How many starts, or rounds of one process alone, are folded at least.
@@ -19,7 +19,7 @@ pub const LINE: f64 = 13.0;
 
 /// Which rows are drawn, counted from 1.
 #[derive(Clone, Copy, PartialEq, Eq)]
-pub enum Extent {
+pub enum SheetExtent {
     All,
     Between(usize, usize),
     Last(usize),
@@ -64,7 +64,7 @@ impl Row {
     }
 
     /// The events of a story that it stands for.
-    pub fn events(self, story: &Story) -> &[Event] {
+    pub fn events(self, story: &Story) -> &[StoryEvent] {
         let end = self
             .first
             .saturating_add(self.count)
@@ -122,7 +122,7 @@ impl Sheet {
 pub fn sheet_of(
     alloc: Global,
     story: &Story,
-    extent: Extent,
+    extent: SheetExtent,
     again: Option<usize>,
 ) -> Result<Sheet, AllocError> {
     let extra = if story.stop.is_some() { 1 } else { 0usize };
@@ -148,14 +148,14 @@ pub fn sheet_of(
 }
 
 // The first event that is drawn, and the one after the last.
-fn bounds(extent: Extent, total: usize) -> (usize, usize) {
+fn bounds(extent: SheetExtent, total: usize) -> (usize, usize) {
     match extent {
-        Extent::All => (0, total),
-        Extent::Between(first, last) => {
+        SheetExtent::All => (0, total),
+        SheetExtent::Between(first, last) => {
             let first = first.saturating_sub(1).min(total);
             (first, last.min(total).max(first))
         }
-        Extent::Last(count) => (total.saturating_sub(count), total),
+        SheetExtent::Last(count) => (total.saturating_sub(count), total),
     }
 }
 

@@ -2,7 +2,7 @@
 
 use crate::plan::TOP;
 use crate::sheet::Sheet;
-use cp_story::{Event, Happening, OpenCall, Story};
+use cp_story::{Happening, OpenCall, Story, StoryEvent};
 use std::alloc::{AllocError, Global};
 
 /// A stay of a process inside a monitor.
@@ -191,7 +191,7 @@ impl SpanBuilder {
         })
     }
 
-    fn event(&mut self, row: usize, event: &Event, y: f64) -> Result<(), AllocError> {
+    fn event(&mut self, row: usize, event: &StoryEvent, y: f64) -> Result<(), AllocError> {
         let process = event.plain.process;
         match &event.happening {
             Happening::Enter { call, waits, .. } => {
@@ -298,7 +298,7 @@ impl SpanBuilder {
     }
 
     // The holders after an event.
-    fn hold(&mut self, event: &Event, y: f64) -> Result<(), AllocError> {
+    fn hold(&mut self, event: &StoryEvent, y: f64) -> Result<(), AllocError> {
         for (monitor, holder) in event.plain.holders.as_slice().iter().enumerate() {
             if let Some(held) = self.holders.get_mut(monitor) {
                 let before = match held {

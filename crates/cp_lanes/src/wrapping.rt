@@ -1,6 +1,6 @@
 //! Texts that break into lines at a word.
 
-use crate::labels::{Label, cut_to_fit, points};
+use crate::labels::{PictureLabel, cut_to_fit, points};
 use std::alloc::{AllocError, Global};
 use std::mem;
 
@@ -79,7 +79,7 @@ fn marked_line(alloc: Global, line: &str, room: f64, each: f64) -> Result<String
 /// The lines of a label, two at most, in the room of its lane, or of the free lanes beside it where that is not enough.
 pub fn label_lines(
     alloc: Global,
-    label: &Label,
+    label: &PictureLabel,
     room: f64,
     beside: f64,
 ) -> Result<Vec<String>, AllocError> {

@@ -6,9 +6,9 @@ use Rattle.cp_tree.specs.declared.expression.Selector as tree_selector
 use Rattle.cp_tree.specs.declared.expression.FactorKind.{the_lemmas as tree_lemmas}
 use Rattle.cp_tree.specs.Syntax as syntax
 use Rattle.cp_tree.specs.View.{expression_view, selector_view}
-use Rattle.cp_layout.specs.declared.kinds.ValueType.TheVariants as types
+use Rattle.cp_layout.specs.declared.kinds.CellType.TheVariants as types
 use Rattle.cp_layout.specs.declared.kinds.ArrayType.{ArrayType}
-use Rattle.cp_layout.specs.declared.kinds.ValueType.{ValueType}
+use Rattle.cp_layout.specs.declared.kinds.CellType.{CellType}
 use Rattle.cp_layout.specs.declared.layer.Passing.{Passing}
 use Rattle.cp_layout.specs.declared.layer.Passing.TheVariants as passing
 use Rattle.cp_layout.specs.declared.layer.Layouter as code_layer
@@ -32,7 +32,7 @@ module _ (l : code_layer.Layouter) where
   field_around (a_standard r) x = refl
   field_around no_designated x = refl
 
-  of_array : (first : ℕ) (a : ArrayType) (t : ValueType) (e : Expression) → component_of_array (around_seen l.around) first a t e ≡ component_of_array (layer_seen l) first a t e
+  of_array : (first : ℕ) (a : ArrayType) (t : CellType) (e : Expression) → component_of_array (around_seen l.around) first a t e ≡ component_of_array (layer_seen l) first a t e
   unfolding layer_seen
   of_array first a (types.Ordinal r) e = refl
   of_array first a types.Queue e = refl
@@ -67,7 +67,7 @@ module _ (l : code_layer.Layouter) where
   passed_around (passing.Constant (types.Record n)) v = refl
   passed_around (passing.Constant (types.System n)) v = refl
 
-  assigned_around : (p : Place) (v : Value) (t : ValueType) → assigned_as (around_seen l.around) p v t ≡ assigned_as (layer_seen l) p v t
+  assigned_around : (p : Place) (v : Value) (t : CellType) → assigned_as (around_seen l.around) p v t ≡ assigned_as (layer_seen l) p v t
   unfolding layer_seen
   assigned_around p v (types.Ordinal r) = refl
   assigned_around p v types.Queue = refl

@@ -12,11 +12,11 @@ use Rattle.cp_tree.specs.declared.expression.Sum as tree_sum
 use Rattle.cp_tree.specs.declared.expression.FactorKind.{the_lemmas as tree_lemmas}
 use Rattle.cp_tree.specs.Syntax as syntax
 use Rattle.cp_tree.specs.View.{expression_view, expressions_view, expressions_of, sum_view, term_view, terms_view, terms_of, factor_view, factors_view, factors_of, selector_view, selectors_view, selectors_of}
-use Rattle.cp_slots.specs.declared.place.Origin.{Origin}
+use Rattle.cp_slots.specs.declared.place.PlaceOrigin.{PlaceOrigin}
 use Rattle.cp_slots.specs.declared.place.Index as code_index
 use Rattle.cp_slots.specs.declared.place.Place as code_place
 use Rattle.cp_slots.specs.declared.place.Expression.{the_lemmas as place_lemmas}
-use Rattle.cp_layout.specs.declared.layer.Parameter.{Parameter}
+use Rattle.cp_layout.specs.declared.layer.ParameterLayout.{ParameterLayout}
 use Rattle.cp_slots.specs.Code as code
 use Rattle.cp_slots.specs.Code.{Index, Indices, SetExpression, Argument, place_seen, index_seen, indices_of}
 use Rattle.cp_layout.specs.Values.{Value, Designated, ordinal_of, multiplied, added}
@@ -64,7 +64,7 @@ module _ (l : Layer) (t : Value) (xs : List (Addition × tree_term.Term)) (i : �
 abbrev pub with_front : List Argument → List Argument × Layer → List Argument × Layer
 with_front front x = (front ++ x.0, x.1)
 
-split_argument : (l : Layer) (p : Option Parameter) (v : Value) (rest : List Argument) → with_argument l p v rest ≡ with_argument l p v [] ++ rest
+split_argument : (l : Layer) (p : Option ParameterLayout) (v : Value) (rest : List Argument) → with_argument l p v rest ≡ with_argument l p v [] ++ rest
 split_argument l None v rest = refl
 split_argument l (Some p) v rest = refl
 
@@ -119,7 +119,7 @@ last_pushed (j ∷ js) i = ap (code.more_indices j) (last_pushed js i)
 pub index_push : (xs : List code_index.Index) (i : code_index.Index) → indices_of (map index_seen (xs ++ i ∷ [])) ≡ with_last (indices_of (map index_seen xs)) (index_seen i)
 index_push xs i = ap indices_of (map-append index_seen xs (i ∷ [])) ∙ last_pushed (map index_seen xs) (index_seen i)
 
-place_rolled : (o : Origin) (n : ℕ) (v : Vec code_index.Index Global) → place_seen (code_place.roll-Place (record { origin = o; offset = n; indices = v })) ≡ code.place o n (indices_of (map index_seen v.items))
+place_rolled : (o : PlaceOrigin) (n : ℕ) (v : Vec code_index.Index Global) → place_seen (code_place.roll-Place (record { origin = o; offset = n; indices = v })) ≡ code.place o n (indices_of (map index_seen v.items))
 place_rolled o n v = search (rules, place_lemmas)
 
 -- a place with one index more

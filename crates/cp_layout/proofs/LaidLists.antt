@@ -7,7 +7,7 @@ use Rattle.cp_tree.specs.declared.statement.Statement as tree_statement
 use Rattle.cp_tree.specs.declared.statement.Arm as tree_arm
 use Rattle.cp_tree.specs.declared.statement.Start as tree_start
 use Rattle.cp_tree.specs.View.{statement_view, statements_view, statements_of, arm_view, arms_view, arms_of, start_view}
-use Rattle.cp_slots.specs.declared.item.Arm as code_arm
+use Rattle.cp_slots.specs.declared.item.ResolvedArm as code_arm
 use Rattle.cp_slots.specs.Code.{Arm, arm_seen}
 use Rattle.cp_layout.specs.Layers.{Layer, Names, settled}
 use Rattle.cp_layout.specs.LaidStatements.{statement, statements, one_arm, arms, starts, started}
@@ -56,8 +56,8 @@ module _ (l : Layer) (front : List Arm) (xs : List tree_arm.Arm) (i : ℕ) where
   unfolding arms
   arms_none h = rw (drop_all i xs h, append-nil front) refl
 
-module _ (l : Layer) (front new : List code_arm.Arm) (xs : List tree_arm.Arm) (i : ℕ) where
-  pub arms_step : (x : tree_arm.Arm) → i < length xs → x ≡ get_or xs i x → (a : code_arm.Arm) (m : Layer) → one_arm l (arm_view x) ≡ (arm_seen a, m) → new ≡ front ++ a ∷ []
+module _ (l : Layer) (front new : List code_arm.ResolvedArm) (xs : List tree_arm.Arm) (i : ℕ) where
+  pub arms_step : (x : tree_arm.Arm) → i < length xs → x ≡ get_or xs i x → (a : code_arm.ResolvedArm) (m : Layer) → one_arm l (arm_view x) ≡ (arm_seen a, m) → new ≡ front ++ a ∷ []
       → with_front (map arm_seen front) (arms l (arms_of (arms_view (drop i xs)))) ≡ with_front (map arm_seen new) (arms m (arms_of (arms_view (drop (i + 1) xs))))
   arms_step x within here a m h e =
       arms_split l (map arm_seen front) xs i x within here (arm_seen a) m h

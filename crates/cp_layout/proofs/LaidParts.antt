@@ -14,8 +14,8 @@ use Rattle.cp_tree.specs.declared.declaration.Routine as tree_routine
 use Rattle.cp_tree.specs.declared.declaration.SystemDefinition as tree_system_definition
 use Rattle.cp_tree.specs.declared.declaration.ProgramPart as tree_program_part
 use Rattle.cp_tree.specs.View.{field_group_view, field_groups_view, field_groups_of, constant_definition_view, type_definition_view, variable_group_view, part_view, group_view, parameter_group_view, routine_view, system_definition_view, program_part_view}
-use Rattle.cp_layout.specs.declared.kinds.Base.{Base}
-use Rattle.cp_layout.specs.declared.kinds.ValueType.{ValueType}
+use Rattle.cp_layout.specs.declared.kinds.CellBase.{CellBase}
+use Rattle.cp_layout.specs.declared.kinds.CellType.{CellType}
 use Rattle.cp_layout.specs.declared.names.Meaning.TheVariants as meaning
 use Rattle.cp_layout.specs.Kinds.{Fields, with_field}
 use Rattle.cp_layout.specs.Layers.{Layer}
@@ -26,7 +26,7 @@ use Rattle.cp_layout.specs.LaidDeclarations.{Parameters, constants, type_definit
 
 -- ---- types
 
-module _ (r : Fields) (xs : List Identifier) (i : ℕ) (t : ValueType) (cells : ℕ) where
+module _ (r : Fields) (xs : List Identifier) (i : ℕ) (t : CellType) (cells : ℕ) where
   pub fields_step : (x : Identifier) → i < length xs → x ≡ get_or xs i x → (s : Fields) → with_field r x.name t cells ≡ s → fields_of_type r (drop i xs) t cells ≡ fields_of_type s (drop (i + 1) xs) t cells
   unfolding fields_of_type
   fields_step x within here s h = rw (add-one, drop-cons xs i x, ← here) (ap (λ (y : Fields). fields_of_type y (drop (suc i) xs) t cells) h)
@@ -35,7 +35,7 @@ module _ (r : Fields) (xs : List Identifier) (i : ℕ) (t : ValueType) (cells : 
   unfolding fields_of_type
   fields_none h = rw (drop_all i xs h) refl
 
-module _ (l : Layer) (b : Base) (xs : List Identifier) (i : ℕ) where
+module _ (l : Layer) (b : CellBase) (xs : List Identifier) (i : ℕ) where
   pub enumerated_step : (x : Identifier) → i < length xs → x ≡ get_or xs i x → (m : Layer) → with_constant l x.name (meaning.Constant b (as_integer i)) ≡ m → enumerated l b i (drop i xs) ≡ enumerated m b (i + 1) (drop (i + 1) xs)
   unfolding enumerated
   enumerated_step x within here m h = rw (drop-cons xs i x, ← here, ← add-one i) (ap (λ (y : Layer). enumerated y b (i + 1) (drop (i + 1) xs)) h)
@@ -74,7 +74,7 @@ module _ (l : Layer) (xs : List tree_type_definition.TypeDefinition) (i : ℕ) w
   unfolding type_definitions
   type_definitions_none h = rw (drop_all i xs h) refl
 
-module _ (l : Layer) (t : ValueType) (xs : List Identifier) (i : ℕ) where
+module _ (l : Layer) (t : CellType) (xs : List Identifier) (i : ℕ) where
   pub variables_of_step : (x : Identifier) → i < length xs → x ≡ get_or xs i x → (m : Layer) → spec.variable l x.name t ≡ m → variables_of l t (drop i xs) ≡ variables_of m t (drop (i + 1) xs)
   unfolding variables_of
   variables_of_step x within here m h = rw (add-one, drop-cons xs i x, ← here) (ap (λ (y : Layer). variables_of y t (drop (suc i) xs)) h)
@@ -92,7 +92,7 @@ module _ (l : Layer) (xs : List tree_variable_group.VariableGroup) (i : ℕ) whe
   unfolding variables
   variables_none h = rw (drop_all i xs h) refl
 
-module _ (l : Layer) (t : ValueType) (xs : List Identifier) (i : ℕ) where
+module _ (l : Layer) (t : CellType) (xs : List Identifier) (i : ℕ) where
   pub locals_of_step : (x : Identifier) → i < length xs → x ≡ get_or xs i x → (m : Layer) → spec.local l x.name t ≡ m → locals_of l t (drop i xs) ≡ locals_of m t (drop (i + 1) xs)
   unfolding locals_of
   locals_of_step x within here m h = rw (add-one, drop-cons xs i x, ← here) (ap (λ (y : Layer). locals_of y t (drop (suc i) xs)) h)
@@ -130,7 +130,7 @@ module _ (l : Layer) (xs : List tree_part.Part) (i : ℕ) where
 
 -- ---- headings
 
-module _ (l : Layer) (ps : Parameters) (t : ValueType) (xs : List Identifier) (i : ℕ) where
+module _ (l : Layer) (ps : Parameters) (t : CellType) (xs : List Identifier) (i : ℕ) where
   pub constant_parameters_of_step : (x : Identifier) → i < length xs → x ≡ get_or xs i x → (qs : Parameters) (m : Layer) → spec.constant_parameter l ps x.name t ≡ (qs, m) → constant_parameters_of l ps t (drop i xs) ≡ constant_parameters_of m qs t (drop (i + 1) xs)
   unfolding constant_parameters_of
   constant_parameters_of_step x within here qs m h = rw (add-one, drop-cons xs i x, ← here) (ap (λ (y : Parameters × Layer). constant_parameters_of y.1 y.0 t (drop (suc i) xs)) h)
@@ -148,7 +148,7 @@ module _ (l : Layer) (ps : Parameters) (xs : List tree_group.Group) (i : ℕ) wh
   unfolding constant_groups
   constant_groups_none h = rw (drop_all i xs h) refl
 
-module _ (l : Layer) (ps : Parameters) (t : ValueType) (xs : List Identifier) (i : ℕ) where
+module _ (l : Layer) (ps : Parameters) (t : CellType) (xs : List Identifier) (i : ℕ) where
   pub var_parameters_of_step : (x : Identifier) → i < length xs → x ≡ get_or xs i x → (qs : Parameters) (m : Layer) → spec.var_parameter l ps x.name t ≡ (qs, m) → var_parameters_of l ps t (drop i xs) ≡ var_parameters_of m qs t (drop (i + 1) xs)
   unfolding var_parameters_of
   var_parameters_of_step x within here qs m h = rw (add-one, drop-cons xs i x, ← here) (ap (λ (y : Parameters × Layer). var_parameters_of y.1 y.0 t (drop (suc i) xs)) h)
@@ -166,7 +166,7 @@ module _ (l : Layer) (ps : Parameters) (xs : List tree_parameter_group.Parameter
   unfolding parameter_groups
   parameter_groups_none h = rw (drop_all i xs h) refl
 
-module _ (l : Layer) (ps : Parameters) (t : ValueType) (xs : List Identifier) (i : ℕ) where
+module _ (l : Layer) (ps : Parameters) (t : CellType) (xs : List Identifier) (i : ℕ) where
   pub system_parameters_of_step : (x : Identifier) → i < length xs → x ≡ get_or xs i x → (qs : Parameters) (m : Layer) → spec.system_parameter l ps x.name t ≡ (qs, m) → system_parameters_of l ps t (drop i xs) ≡ system_parameters_of m qs t (drop (i + 1) xs)
   unfolding system_parameters_of
   system_parameters_of_step x within here qs m h = rw (add-one, drop-cons xs i x, ← here) (ap (λ (y : Parameters × Layer). system_parameters_of y.1 y.0 t (drop (suc i) xs)) h)

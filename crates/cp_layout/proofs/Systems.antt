@@ -3,15 +3,15 @@ use Rattle.std.proofs.Common.{◌≡◌, ℕ, suc, ◌+◌, ◌<◌, ◌≤◌, 
 use Rattle.std.proofs.Math.Seq.{drop-cons, take-suc}
 use Rattle.std.proofs.lemmas.List.{drop_all, take_all, map-append}
 use Rattle.cp_slots.specs.declared.tables.Process.{Process}
-use Rattle.cp_layout.specs.declared.tables.Room.{Room}
+use Rattle.cp_layout.specs.declared.tables.RoomNeed.{RoomNeed}
 use Rattle.cp_layout.specs.declared.layer.System as code_system
 use Rattle.cp_layout.specs.Layers.{Layer, system_seen}
 use Rattle.cp_layout.specs.Laid.{room_for, room_from, system_type, types_of}
 
-module _ (l : Layer) (r : Room) (xs : List Process) (i : ℕ) where
-  pub room_step : (d : Process) → i < length xs → (s : Room) → s ≡ room_for l r (slice_get l.routines (get_or xs i d).routine) → room_from l r (drop i xs) ≡ room_from l s (drop (i + 1) xs)
+module _ (l : Layer) (r : RoomNeed) (xs : List Process) (i : ℕ) where
+  pub room_step : (d : Process) → i < length xs → (s : RoomNeed) → s ≡ room_for l r (slice_get l.routines (get_or xs i d).routine) → room_from l r (drop i xs) ≡ room_from l s (drop (i + 1) xs)
   unfolding room_from
-  room_step d within s h = rw (add-one, drop-cons xs i d) (ap (λ (y : Room). room_from l y (drop (suc i) xs)) (sym h))
+  room_step d within s h = rw (add-one, drop-cons xs i d) (ap (λ (y : RoomNeed). room_from l y (drop (suc i) xs)) (sym h))
 
   pub room_none : length xs ≤ i → room_from l r (drop i xs) ≡ r
   unfolding room_from

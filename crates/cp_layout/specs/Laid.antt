@@ -5,7 +5,7 @@ use Rattle.std.specs.Prelude.{ℕ, ◌-◌, max, ℤ, List, [], ◌∷◌, ◌++
 use Rattle.cp_tree.specs.Syntax.{Tree}
 use Rattle.cp_slots.specs.declared.tables.Component.{Component}
 use Rattle.cp_slots.specs.declared.tables.Process.{Process}
-use Rattle.cp_layout.specs.declared.tables.Room.{Room}
+use Rattle.cp_layout.specs.declared.tables.RoomNeed.{RoomNeed}
 use Rattle.cp_slots.specs.Tables.{Tables, RoutineView, SystemView}
 use Rattle.cp_slots.specs.Code.{Item, item_seen}
 use Rattle.cp_layout.specs.Kinds.{plus}
@@ -59,23 +59,23 @@ system_types ss o = types_of ss ++ system_type o ∷ []
 
 -- ---- what each process may need
 
-abbrev pub room_with : Room → RoutineView → (depth : ℕ) → Room
+abbrev pub room_with : RoomNeed → RoutineView → (depth : ℕ) → RoomNeed
 room_with r routine depth = record { depth = max r.depth depth; cells = max r.cells routine.room; references = max r.references routine.reference_room }
 
-abbrev pub room_for : Layer → Room → Option RoutineView → Room
+abbrev pub room_for : Layer → RoomNeed → Option RoutineView → RoomNeed
 room_for l r None = r
 room_for l r (Some routine) = room_with r routine (plus (need_of l.items routine.body) 1)
 
-unfoldable pub room_from : Layer → Room → List Process → Room
+unfoldable pub room_from : Layer → RoomNeed → List Process → RoomNeed
 room_from l r [] = r
 room_from l r (p ∷ ps) = room_from l (room_for l r (slice_get l.routines p.routine)) ps
 
-abbrev pub no_room : Room
+abbrev pub no_room : RoomNeed
 no_room = record { depth = 1; cells = 0; references = 0 }
 
 -- ---- the tables
 
-abbrev pub tables_with : Layer → Listing → Room → PlainTables
+abbrev pub tables_with : Layer → Listing → RoomNeed → PlainTables
 tables_with l c r =
     record {
       items = l.items;

@@ -4,18 +4,18 @@ use Rattle.cp_tree.specs.declared.constant.Identifier.{Identifier}
 use Rattle.cp_tree.specs.declared.declaration.SystemKind.{SystemKind}
 use Rattle.cp_tree.specs.Syntax as syntax
 use Rattle.cp_tree.specs.Syntax.{ConstantDefinition, TypeDefinition, VariableGroup, Part, Group, ParameterGroup, RoutineKind, Routine, Body, Definition, SystemDefinition, ProgramPart, Program}
-use Rattle.cp_slots.specs.declared.place.Origin.TheVariants as origin
+use Rattle.cp_slots.specs.declared.place.PlaceOrigin.TheVariants as origin
 use Rattle.cp_slots.specs.declared.tables.ComponentParameter.{ComponentParameter}
-use Rattle.cp_layout.specs.declared.kinds.Base.{Base}
-use Rattle.cp_layout.specs.declared.kinds.ValueType.{ValueType}
-use Rattle.cp_layout.specs.declared.kinds.ValueType.TheVariants as types
+use Rattle.cp_layout.specs.declared.kinds.CellBase.{CellBase}
+use Rattle.cp_layout.specs.declared.kinds.CellType.{CellType}
+use Rattle.cp_layout.specs.declared.kinds.CellType.TheVariants as types
 use Rattle.cp_layout.specs.declared.kinds.ArrayType.{ArrayType}
 use Rattle.cp_layout.specs.declared.names.Meaning.{Meaning}
 use Rattle.cp_layout.specs.declared.names.Meaning.TheVariants as meaning
 use Rattle.cp_layout.specs.declared.layer.Contained.{Contained}
 use Rattle.cp_layout.specs.declared.layer.Content.TheVariants as content
 use Rattle.cp_layout.specs.declared.layer.Passing.TheVariants as passing
-use Rattle.cp_layout.specs.declared.layer.Parameter.{Parameter}
+use Rattle.cp_layout.specs.declared.layer.ParameterLayout.{ParameterLayout}
 use Rattle.cp_layout.specs.declared.layer.FunctionResult.{FunctionResult}
 use Rattle.cp_layout.specs.declared.declaration.Outer as code_outer
 use Rattle.cp_layout.specs.Kinds.{Compounds, array_of, cells_of, count_of, least, plus, times}
@@ -26,7 +26,7 @@ use Rattle.cp_layout.specs.LaidStatements.{statements}
 
 -- ---- constants and types
 
-abbrev pub constant_meaning : Base × ℤ → Meaning
+abbrev pub constant_meaning : CellBase × ℤ → Meaning
 constant_meaning c = meaning.Constant c.0 c.1
 
 abbrev pub constant : Layer → ConstantDefinition → Layer
@@ -37,7 +37,7 @@ constants l [] = l
 constants l (d ∷ ds) = constants (constant l d) ds
 
 -- a name for a type, by the type and the state after it
-abbrev pub type_named : List ℕ → ValueType × Layer → Layer
+abbrev pub type_named : List ℕ → CellType × Layer → Layer
 type_named x t = with_name t.1 x (meaning.Kind t.0)
 
 abbrev pub type_definition : Layer → TypeDefinition → Layer
@@ -49,7 +49,7 @@ type_definitions l (d ∷ ds) = type_definitions (type_definition l d) ds
 
 -- ---- permanent variables
 
-abbrev pub array_components : ArrayType → ValueType → Option Contained
+abbrev pub array_components : ArrayType → CellType → Option Contained
 array_components a (types.System k) = Some (record { system = k; count = count_of a.index })
 array_components a t = None
 
@@ -58,7 +58,7 @@ components_in None = None
 components_in (Some a) = array_components a a.element
 
 -- the components of a variable
-abbrev pub components_of : Compounds → ValueType → Option Contained
+abbrev pub components_of : Compounds → CellType → Option Contained
 components_of ts (types.System k) = Some (record { system = k; count = 1 })
 components_of ts t = components_in (array_of ts t)
 
@@ -67,30 +67,30 @@ abbrev pub with_components : Layer → Contained → ℕ × Layer
 with_components l c =
     (l.owned.count, record l { owned = record l.owned { count = plus l.owned.count (times (component_count l c.system) c.count); contained = l.owned.contained ++ c ∷ [] } })
 
-abbrev pub component_variable : Layer → List ℕ → ValueType → Contained → Layer
+abbrev pub component_variable : Layer → List ℕ → CellType → Contained → Layer
 component_variable l x t c =
     let y = with_components l c in
     with_name y.1 x (meaning.Contained y.0 t)
 
 -- more permanent cells, and the first of them
-abbrev pub with_permanent : Layer → ValueType → ℕ × Layer
+abbrev pub with_permanent : Layer → CellType → ℕ × Layer
 with_permanent l t = (l.owned.cells, record l { owned = record l.owned { cells = plus l.owned.cells (cells_of l.types t); contents = l.owned.contents ++ content.Variable t ∷ [] } })
 
 -- a variable of permanent cells, and the first of them
-abbrev pub cell_variable : Layer → List ℕ → ValueType → ℕ × Layer
+abbrev pub cell_variable : Layer → List ℕ → CellType → ℕ × Layer
 cell_variable l x t =
     let y = with_permanent l t in
     (y.0, with_name y.1 x (meaning.Variable (origin.Permanent y.0) t))
 
-abbrev pub variable_with : Layer → List ℕ → ValueType → Option Contained → Layer
+abbrev pub variable_with : Layer → List ℕ → CellType → Option Contained → Layer
 variable_with l x t None = (cell_variable l x t).1
 variable_with l x t (Some c) = component_variable l x t c
 
-abbrev pub variable : Layer → List ℕ → ValueType → Layer
+abbrev pub variable : Layer → List ℕ → CellType → Layer
 variable l x t = variable_with l x t (components_of l.types t)
 
 -- variables of one type
-unfoldable pub variables_of : Layer → ValueType → List Identifier → Layer
+unfoldable pub variables_of : Layer → CellType → List Identifier → Layer
 variables_of l t [] = l
 variables_of l t (i ∷ is) = variables_of (variable l i.name t) t is
 
@@ -106,19 +106,19 @@ variables l (g ∷ gs) = variables (variable_group l g) gs
 -- ---- local variables
 
 -- the cells of a parameter, a result or a local variable, and the first of them
-abbrev pub with_local : Layer → ValueType → ℕ × Layer
+abbrev pub with_local : Layer → CellType → ℕ × Layer
 with_local l t = (length l.frame.image, record l { frame = record l.frame { image = l.frame.image ++ least l.types t } })
 
 -- a variable or a constant parameter, and its first cell
-abbrev pub local_at : Layer → List ℕ → ValueType → ℕ × Layer
+abbrev pub local_at : Layer → List ℕ → CellType → ℕ × Layer
 local_at l x t =
     let y = with_local l t in
     (y.0, with_name y.1 x (meaning.Variable (origin.Local y.0) t))
 
-abbrev pub local : Layer → List ℕ → ValueType → Layer
+abbrev pub local : Layer → List ℕ → CellType → Layer
 local l x t = (local_at l x t).1
 
-unfoldable pub locals_of : Layer → ValueType → List Identifier → Layer
+unfoldable pub locals_of : Layer → CellType → List Identifier → Layer
 locals_of l t [] = l
 locals_of l t (i ∷ is) = locals_of (local l i.name t) t is
 
@@ -154,18 +154,18 @@ local_parts l (p ∷ ps) = local_parts (local_part l p) ps
 -- ---- headings: each function takes the parameters so far
 
 abbrev pub Parameters : Type 0
-Parameters = List Parameter
+Parameters = List ParameterLayout
 
-abbrev pub value_parameter : ℕ → ValueType → Parameter
+abbrev pub value_parameter : ℕ → CellType → ParameterLayout
 value_parameter slot t = record { slot = slot; passing = passing.Constant t }
 
-abbrev pub constant_parameter : Layer → Parameters → List ℕ → ValueType → Parameters × Layer
+abbrev pub constant_parameter : Layer → Parameters → List ℕ → CellType → Parameters × Layer
 constant_parameter l ps x t =
     let y = local_at l x t in
     (ps ++ value_parameter y.0 t ∷ [], y.1)
 
 -- constant parameters of one type
-unfoldable pub constant_parameters_of : Layer → Parameters → ValueType → List Identifier → Parameters × Layer
+unfoldable pub constant_parameters_of : Layer → Parameters → CellType → List Identifier → Parameters × Layer
 constant_parameters_of l ps t [] = (ps, l)
 constant_parameters_of l ps t (i ∷ is) =
     let x = constant_parameter l ps i.name t in
@@ -180,20 +180,20 @@ constant_groups l ps (g ∷ gs) =
     let x = constant_group l ps g in
     constant_groups x.1 x.0 gs
 
-abbrev pub reference_parameter : ℕ → Parameter
+abbrev pub reference_parameter : ℕ → ParameterLayout
 reference_parameter slot = record { slot = slot; passing = passing.Reference }
 
 -- the cells of a `var` parameter, by its number among these
-abbrev pub with_extent : Layer → ValueType → ℕ × Layer
+abbrev pub with_extent : Layer → CellType → ℕ × Layer
 with_extent l t = (length l.frame.extents, record l { frame = record l.frame { extents = l.frame.extents ++ cells_of l.types t ∷ [] } })
 
-abbrev pub var_parameter : Layer → Parameters → List ℕ → ValueType → Parameters × Layer
+abbrev pub var_parameter : Layer → Parameters → List ℕ → CellType → Parameters × Layer
 var_parameter l ps x t =
     let y = with_extent l t in
     (ps ++ reference_parameter y.0 ∷ [], with_name y.1 x (meaning.Variable (origin.Reference y.0) t))
 
 -- `var` parameters of one type
-unfoldable pub var_parameters_of : Layer → Parameters → ValueType → List Identifier → Parameters × Layer
+unfoldable pub var_parameters_of : Layer → Parameters → CellType → List Identifier → Parameters × Layer
 var_parameters_of l ps t [] = (ps, l)
 var_parameters_of l ps t (i ∷ is) =
     let x = var_parameter l ps i.name t in
@@ -214,11 +214,11 @@ parameter_groups l ps (g ∷ gs) =
 abbrev pub heading_with : List ℕ → Parameters → Option FunctionResult → Heading
 heading_with x ps result = record { name = x; parameters = ps; result = result }
 
-abbrev pub result_at : ℕ → ValueType → FunctionResult
+abbrev pub result_at : ℕ → CellType → FunctionResult
 result_at slot t = record { slot = slot; value_type = t }
 
 -- a function's result comes after its parameters
-abbrev pub function_heading : List ℕ → Parameters × Layer → ValueType → Heading × Layer
+abbrev pub function_heading : List ℕ → Parameters × Layer → CellType → Heading × Layer
 function_heading x p t =
     let y = with_local p.1 t in
     (heading_with x p.0 (Some (result_at y.0 t)), y.1)
@@ -286,7 +286,7 @@ with_component_cell l k = (
   record l { owned = record l.owned { cells = plus l.owned.cells 1; contents = l.owned.contents ++ content.Component ∷ []; parameters = l.owned.parameters ++ component_cell l.owned.cells k ∷ [] } },
 )
 
-abbrev pub passed_component : ℕ → Parameter
+abbrev pub passed_component : ℕ → ParameterLayout
 passed_component slot = record { slot = slot; passing = passing.Component }
 
 abbrev pub component_parameter : Layer → Parameters → List ℕ → ℕ → Parameters × Layer
@@ -294,17 +294,17 @@ component_parameter l ps x k =
     let y = with_component_cell l k in
     (ps ++ passed_component y.0 ∷ [], with_name y.1 x (meaning.Bound y.0 k))
 
-abbrev pub cell_parameter : Layer → Parameters → List ℕ → ValueType → Parameters × Layer
+abbrev pub cell_parameter : Layer → Parameters → List ℕ → CellType → Parameters × Layer
 cell_parameter l ps x t =
     let y = cell_variable l x t in
     (ps ++ value_parameter y.0 t ∷ [], y.1)
 
-abbrev pub system_parameter : Layer → Parameters → List ℕ → ValueType → Parameters × Layer
+abbrev pub system_parameter : Layer → Parameters → List ℕ → CellType → Parameters × Layer
 system_parameter l ps x (types.System k) = component_parameter l ps x k
 system_parameter l ps x t = cell_parameter l ps x t
 
 -- parameters of one type
-unfoldable pub system_parameters_of : Layer → Parameters → ValueType → List Identifier → Parameters × Layer
+unfoldable pub system_parameters_of : Layer → Parameters → CellType → List Identifier → Parameters × Layer
 system_parameters_of l ps t [] = (ps, l)
 system_parameters_of l ps t (i ∷ is) =
     let x = system_parameter l ps i.name t in
@@ -335,7 +335,7 @@ abbrev pub system_of : SystemKind → Owned → (first initial : ℕ) → System
 system_of kind o first last = record { kind = kind; owned = o; first = first; initial = last }
 
 -- a system type is whole
-abbrev pub left : Layer → Outer → SystemKind → (first initial : ℕ) → ValueType × Layer
+abbrev pub left : Layer → Outer → SystemKind → (first initial : ℕ) → CellType × Layer
 left l o kind first last =
     (types.System (length l.systems), record l { names = o.names; owned = o.owned; systems = l.systems ++ system_of kind l.owned first last ∷ [] })
 
@@ -343,10 +343,10 @@ left l o kind first last =
 abbrev pub system_inside : Layer → syntax.System → Layer
 system_inside l s = routines (permanent_parts l s.parts) s.routines
 
-abbrev pub system_with : Layer → Outer → (first : ℕ) → Parameters → syntax.System → ValueType × Layer
+abbrev pub system_with : Layer → Outer → (first : ℕ) → Parameters → syntax.System → CellType × Layer
 system_with l o first ps s = left (initial_statement l ps s.body) o s.kind first (length l.routines)
 
-unfoldable pub system : Layer → syntax.System → ValueType × Layer
+unfoldable pub system : Layer → syntax.System → CellType × Layer
 system l s =
     let o = entered l in
     let x = system_groups o.1 [] s.parameters in
@@ -354,7 +354,7 @@ system l s =
 
 -- ---- the program
 
-abbrev pub definition : Layer → Definition → ValueType × Layer
+abbrev pub definition : Layer → Definition → CellType × Layer
 definition l (syntax.type_definition t) = written_type l t
 definition l (syntax.system_definition s) = system l s
 

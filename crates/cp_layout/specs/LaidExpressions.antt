@@ -5,16 +5,16 @@ use Rattle.cp_tree.specs.declared.constant.Sign.{Sign}
 use Rattle.cp_tree.specs.declared.constant.Sign.TheVariants as sign
 use Rattle.cp_tree.specs.Syntax as syntax
 use Rattle.cp_tree.specs.Syntax.{Sum, Terms, Term, Factors, Factor, Expressions, Designator, Selectors, Selector}
-use Rattle.cp_slots.specs.declared.place.Origin.TheVariants as origin
-use Rattle.cp_layout.specs.declared.kinds.Base.TheVariants as base
-use Rattle.cp_layout.specs.declared.kinds.ValueType.{ValueType}
-use Rattle.cp_layout.specs.declared.kinds.ValueType.TheVariants as types
+use Rattle.cp_slots.specs.declared.place.PlaceOrigin.TheVariants as origin
+use Rattle.cp_layout.specs.declared.kinds.CellBase.TheVariants as base
+use Rattle.cp_layout.specs.declared.kinds.CellType.{CellType}
+use Rattle.cp_layout.specs.declared.kinds.CellType.TheVariants as types
 use Rattle.cp_layout.specs.declared.kinds.ArrayType.{ArrayType}
 use Rattle.cp_layout.specs.declared.names.Meaning.{Meaning}
 use Rattle.cp_layout.specs.declared.names.Meaning.TheVariants as meaning
 use Rattle.cp_layout.specs.declared.layer.Passing.{Passing}
 use Rattle.cp_layout.specs.declared.layer.Passing.TheVariants as passing
-use Rattle.cp_layout.specs.declared.layer.Parameter.{Parameter}
+use Rattle.cp_layout.specs.declared.layer.ParameterLayout.{ParameterLayout}
 use Rattle.cp_layout.specs.declared.layer.FunctionResult.{FunctionResult}
 use Rattle.cp_layout.specs.Kinds.{Field, field_of, array_of, cells_of, plus}
 use Rattle.cp_slots.specs.Code as code
@@ -90,7 +90,7 @@ abbrev pub element_found : Place → Option ArrayType → Expression → Designa
 element_found p None e = no_designated
 element_found p (Some a) e = a_variable (with_index p (code.index e a.index.low a.index.high a.element_cells)) a.element
 
-abbrev pub component_of_array : Layer → ℕ → ArrayType → ValueType → Expression → Designated
+abbrev pub component_of_array : Layer → ℕ → ArrayType → CellType → Expression → Designated
 component_of_array l first a (types.System k) e = a_component (code.element first a.index.low a.index.high (component_count l k) e) k
 component_of_array l first a t e = no_designated
 
@@ -122,7 +122,7 @@ passed l (passing.Constant (types.Ordinal r)) v = code.scalar (ordinal_of v) r.l
 passed l (passing.Constant (types.Set r)) v = code.set (set_of v) (byte_or 0 r.low) (byte_or 255 r.high)
 passed l (passing.Constant t) v = code.copy (place_of v) (cells_of l.types t)
 
-abbrev pub with_argument : Layer → Option Parameter → Value → List Argument → List Argument
+abbrev pub with_argument : Layer → Option ParameterLayout → Value → List Argument → List Argument
 with_argument l None v rest = rest
 with_argument l (Some p) v rest = (let a : Argument = record { slot = p.slot; value = passed l p.passing v } in a) ∷ rest
 

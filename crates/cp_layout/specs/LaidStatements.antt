@@ -6,18 +6,18 @@ use Rattle.cp_tree.specs.Syntax as syntax
 use Rattle.cp_tree.specs.Syntax.{Expressions, Designator, Statement, Statements, Arms, Start}
 use Rattle.cp_slots.specs.declared.item.ShownKind.{ShownKind}
 use Rattle.cp_slots.specs.declared.item.ShownKind.TheVariants as shown
-use Rattle.cp_slots.specs.declared.place.Origin.{Origin}
-use Rattle.cp_slots.specs.declared.place.Origin.TheVariants as origin
-use Rattle.cp_layout.specs.declared.kinds.Base.TheVariants as base
-use Rattle.cp_layout.specs.declared.kinds.ValueType.{ValueType}
-use Rattle.cp_layout.specs.declared.kinds.ValueType.TheVariants as types
+use Rattle.cp_slots.specs.declared.place.PlaceOrigin.{PlaceOrigin}
+use Rattle.cp_slots.specs.declared.place.PlaceOrigin.TheVariants as origin
+use Rattle.cp_layout.specs.declared.kinds.CellBase.TheVariants as base
+use Rattle.cp_layout.specs.declared.kinds.CellType.{CellType}
+use Rattle.cp_layout.specs.declared.kinds.CellType.TheVariants as types
 use Rattle.cp_layout.specs.declared.names.Predeclared.{Predeclared}
 use Rattle.cp_layout.specs.declared.names.Predeclared.TheVariants as predeclared
 use Rattle.cp_layout.specs.declared.layer.FunctionResult.{FunctionResult}
 use Rattle.cp_slots.specs.declared.place.ComponentPlace as code_component
-use Rattle.cp_layout.specs.declared.statement.Target as code_target
-use Rattle.cp_layout.specs.declared.statement.Callee as code_callee
-use Rattle.cp_layout.specs.declared.statement.Callee.TheVariants as callee
+use Rattle.cp_layout.specs.declared.statement.StatementTarget as code_target
+use Rattle.cp_layout.specs.declared.statement.CalledRoutine as code_callee
+use Rattle.cp_layout.specs.declared.statement.CalledRoutine.TheVariants as callee
 use Rattle.cp_layout.specs.Kinds.{cells_of, values_of}
 use Rattle.cp_slots.specs.Code as code
 use Rattle.cp_slots.specs.Code.{Place, place_seen, ComponentPlace, component_seen, Arm, Action}
@@ -31,9 +31,9 @@ use Rattle.cp_layout.specs.LaidExpressions.{begun, byte_or, name_at, expression,
 -- a variable that is assigned to
 pub record Target : Type 0 where
   pub place : Place
-  pub value_type : ValueType
+  pub value_type : CellType
 
-abbrev pub target_seen : code_target.Target → Target
+abbrev pub target_seen : code_target.StatementTarget → Target
 target_seen t = record { place = place_seen t.place; value_type = t.value_type }
 
 abbrev pub no_target : Target
@@ -50,7 +50,7 @@ target_of l (a_variable p t) = record { place = p; value_type = t }
 target_of l (a_routine r) = result_target (is_own l r) (result_of l r)
 target_of l d = no_target
 
-abbrev pub assigned_as : Layer → Place → Value → ValueType → Action
+abbrev pub assigned_as : Layer → Place → Value → CellType → Action
 assigned_as l p v (types.Ordinal r) = code.assign p (ordinal_of v) r.low r.high
 assigned_as l p v (types.Set r) = code.assign_set p (set_of v) (byte_or 0 r.low) (byte_or 255 r.high)
 assigned_as l p v t = code.copy_cells p (place_of v) (cells_of l.types t)
@@ -98,7 +98,7 @@ pub data Callee : Type 0 where
   a_procedure : ComponentPlace → Bool → ℕ → Callee
   no_callee : Callee
 
-abbrev pub callee_seen : code_callee.Callee → Callee
+abbrev pub callee_seen : code_callee.CalledRoutine → Callee
 callee_seen (callee.Predeclared r) = a_standard_procedure r
 callee_seen (callee.Routine c is_entry r) = a_procedure (component_seen c) is_entry r
 callee_seen callee.Nothing = no_callee
@@ -161,15 +161,15 @@ selected l at e as' =
     let x = expression l e in
     added x.1 at (code.select (ordinal_of x.0) as') (arms_need x.1 0 as')
 
-abbrev pub low_of : ValueType → ℤ
+abbrev pub low_of : CellType → ℤ
 low_of (types.Ordinal r) = r.low
 low_of t = negsuc 32767
 
-abbrev pub high_of : ValueType → ℤ
+abbrev pub high_of : CellType → ℤ
 high_of (types.Ordinal r) = r.high
 high_of t = pos 32767
 
-abbrev pub origin_of : Place → Origin
+abbrev pub origin_of : Place → PlaceOrigin
 origin_of (code.place o n is) = o
 
 abbrev pub is_down : Direction → Bool

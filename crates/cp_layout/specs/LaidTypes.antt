@@ -8,11 +8,11 @@ use Rattle.cp_tree.specs.declared.constant.ConstantKind.{ConstantKind}
 use Rattle.cp_tree.specs.declared.constant.ConstantKind.TheVariants as constant_kind
 use Rattle.cp_tree.specs.Syntax as syntax
 use Rattle.cp_tree.specs.Syntax.{Simple, TypeTerm, FieldGroup, FieldGroups}
-use Rattle.cp_layout.specs.declared.kinds.Base.{Base}
-use Rattle.cp_layout.specs.declared.kinds.Base.TheVariants as base
-use Rattle.cp_layout.specs.declared.kinds.Range.{Range}
-use Rattle.cp_layout.specs.declared.kinds.ValueType.{ValueType}
-use Rattle.cp_layout.specs.declared.kinds.ValueType.TheVariants as types
+use Rattle.cp_layout.specs.declared.kinds.CellBase.{CellBase}
+use Rattle.cp_layout.specs.declared.kinds.CellBase.TheVariants as base
+use Rattle.cp_layout.specs.declared.kinds.CellRange.{CellRange}
+use Rattle.cp_layout.specs.declared.kinds.CellType.{CellType}
+use Rattle.cp_layout.specs.declared.kinds.CellType.TheVariants as types
 use Rattle.cp_layout.specs.declared.names.Meaning.{Meaning}
 use Rattle.cp_layout.specs.declared.names.Meaning.TheVariants as meaning
 use Rattle.cp_layout.specs.Kinds.{Compounds, whole, values_of, cells_of, with_array, Fields, no_fields, with_field, with_record}
@@ -29,17 +29,17 @@ abbrev pub signed_number : Option Sign → ℤ → ℤ
 signed_number (Some sign.Minus) z = opposite_number z
 signed_number s z = z
 
-abbrev pub constant_meant : Option Sign → Option Meaning → Base × ℤ
+abbrev pub constant_meant : Option Sign → Option Meaning → CellBase × ℤ
 constant_meant s (Some (meaning.Constant b z)) = (b, signed_number s z)
 constant_meant s m = (base.Integer, pos 0)
 
-abbrev pub constant_of_kind : Names → ConstantKind → Base × ℤ
+abbrev pub constant_of_kind : Names → ConstantKind → CellBase × ℤ
 constant_of_kind names (constant_kind.Number s n) = (base.Integer, signed_number s (as_integer n))
 constant_of_kind names (constant_kind.Name s i) = constant_meant s (find i.name names)
 constant_of_kind names (constant_kind.Character c) = (base.Char, pos c)
 
 -- the base and the value of a constant
-abbrev pub constant_of : Names → Constant → Base × ℤ
+abbrev pub constant_of : Names → Constant → CellBase × ℤ
 constant_of names c = constant_of_kind names c.kind
 
 abbrev pub labels_of : Names → List Constant → List ℤ
@@ -48,15 +48,15 @@ labels_of names cs = map (λ c. (constant_of names c).1) cs
 -- ---- simple types
 
 -- a name that no type has
-abbrev pub type_meant : Option ValueType → ValueType
+abbrev pub type_meant : Option CellType → CellType
 type_meant (Some t) = t
 type_meant None = values_of base.Integer
 
 -- the type that a name stands for
-abbrev pub named_type : Layer → List ℕ → ValueType
+abbrev pub named_type : Layer → List ℕ → CellType
 named_type l x = type_meant (find_type x l.names)
 
-abbrev pub subrange : (low high : Base × ℤ) → ValueType
+abbrev pub subrange : (low high : CellBase × ℤ) → CellType
 subrange low high = types.Ordinal (record { base = low.0; low = low.1; high = high.1 })
 
 -- one more constant of an enumeration
@@ -64,7 +64,7 @@ abbrev pub with_constant : Layer → List ℕ → Meaning → Layer
 with_constant l x m = record l { names = (x, m) ∷ l.names; constants = l.constants ++ x ∷ [] }
 
 -- the constants of an enumeration, from the one with this number on
-unfoldable pub enumerated : Layer → Base → ℕ → List Identifier → Layer
+unfoldable pub enumerated : Layer → CellBase → ℕ → List Identifier → Layer
 enumerated l b n [] = l
 enumerated l b n (i ∷ is) = enumerated (with_constant l i.name (meaning.Constant b (as_integer n))) b (n + 1) is
 
@@ -72,43 +72,43 @@ abbrev pub first_constant : ℕ → ℕ
 first_constant n = if nat_le n 65535 then n else 65535
 
 -- the base of an enumeration, by the number of its first constant and how many it has
-abbrev pub enumeration_base : (first count : ℕ) → Base
+abbrev pub enumeration_base : (first count : ℕ) → CellBase
 enumeration_base first count = base.Enumeration (first_constant first) (as_integer (count - 1))
 
-abbrev pub enumeration : Layer → List Identifier → ValueType × Layer
+abbrev pub enumeration : Layer → List Identifier → CellType × Layer
 enumeration l is = (values_of (enumeration_base (length l.constants) (length is)), enumerated l (enumeration_base (length l.constants) (length is)) 0 is)
 
-unfoldable pub simple_type : Layer → Simple → ValueType × Layer
+unfoldable pub simple_type : Layer → Simple → CellType × Layer
 simple_type l (syntax.type_name at x) = (named_type l x, l)
 simple_type l (syntax.enumeration at is) = enumeration l is
 simple_type l (syntax.subrange at c d) = (subrange (constant_of l.names c) (constant_of l.names d), l)
 
 -- the values of an ordinal type
-abbrev pub range_of : ValueType → Range
+abbrev pub range_of : CellType → CellRange
 range_of (types.Ordinal r) = r
 range_of t = whole base.Integer
 
 -- ---- all types
 
-abbrev pub with_types : Layer → ValueType × Compounds → ValueType × Layer
+abbrev pub with_types : Layer → CellType × Compounds → CellType × Layer
 with_types l x = (x.0, record l { types = x.1 })
 
 -- a new array type
-abbrev pub with_array_type : Layer → (index : Range) → (element : ValueType) → ValueType × Layer
+abbrev pub with_array_type : Layer → (index : CellRange) → (element : CellType) → CellType × Layer
 with_array_type l i t = with_types l (with_array l.types i t)
 
 -- a new record type
-abbrev pub with_record_type : Layer → Fields → ValueType × Layer
+abbrev pub with_record_type : Layer → Fields → CellType × Layer
 with_record_type l r = with_types l (with_record l.types r)
 
 -- fields of one type
-unfoldable pub fields_of_type : Fields → List Identifier → ValueType → (cells : ℕ) → Fields
+unfoldable pub fields_of_type : Fields → List Identifier → CellType → (cells : ℕ) → Fields
 fields_of_type r [] t n = r
 fields_of_type r (i ∷ is) t n = fields_of_type (with_field r i.name t n) is t n
 
 unfoldable mutual
   -- a type, with the constants of its enumerations declared
-  pub written_type : Layer → TypeTerm → ValueType × Layer
+  pub written_type : Layer → TypeTerm → CellType × Layer
   written_type l (syntax.simple at s) = simple_type l s
   written_type l (syntax.array_of at s t) =
       let x = simple_type l s in

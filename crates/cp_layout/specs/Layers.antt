@@ -4,19 +4,19 @@ use Rattle.std.specs.String.{string_bytes}
 use Rattle.std.specs.Str.{bytes_eq}
 use Rattle.cp_tree.specs.declared.declaration.SystemKind.{SystemKind}
 use Rattle.cp_slots.specs.declared.tables.ComponentParameter.{ComponentParameter}
-use Rattle.cp_layout.specs.declared.kinds.ValueType.{ValueType}
-use Rattle.cp_layout.specs.declared.kinds.ValueType.TheVariants as types
-use Rattle.cp_layout.specs.declared.kinds.Base.TheVariants as base
+use Rattle.cp_layout.specs.declared.kinds.CellType.{CellType}
+use Rattle.cp_layout.specs.declared.kinds.CellType.TheVariants as types
+use Rattle.cp_layout.specs.declared.kinds.CellBase.TheVariants as base
 use Rattle.cp_layout.specs.declared.names.Meaning.{Meaning}
 use Rattle.cp_layout.specs.declared.names.Meaning.TheVariants as meaning
 use Rattle.cp_layout.specs.declared.names.Predeclared.TheVariants as predeclared
 use Rattle.cp_layout.specs.declared.names.Names as code_names
 use Rattle.cp_layout.specs.declared.names.Declared as code_declared
-use Rattle.cp_layout.specs.declared.layer.Parameter.{Parameter}
+use Rattle.cp_layout.specs.declared.layer.ParameterLayout.{ParameterLayout}
 use Rattle.cp_layout.specs.declared.layer.FunctionResult.{FunctionResult}
 use Rattle.cp_layout.specs.declared.layer.Contained.{Contained}
 use Rattle.cp_layout.specs.declared.layer.Content.{Content}
-use Rattle.cp_layout.specs.declared.layer.Heading as code_heading
+use Rattle.cp_layout.specs.declared.layer.HeadingLayout as code_heading
 use Rattle.cp_layout.specs.declared.frame.Frame as code_frame
 use Rattle.cp_layout.specs.declared.layer.Owned as code_owned
 use Rattle.cp_layout.specs.declared.layer.System as code_system
@@ -39,7 +39,7 @@ find x (d ∷ ds) = if bytes_eq d.0 x then Some d.1 else find x ds
 
 -- Where a type is written, a name stands for the latest type of that name. In its heading a routine's own name is not visible yet, and is passed over.
 -- The rules refuse every other name there that is no type.
-abbrev pub find_type : List ℕ → Names → Option ValueType
+abbrev pub find_type : List ℕ → Names → Option CellType
 find_type x [] = None
 find_type x ((n, meaning.Kind t) ∷ ds) = if bytes_eq n x then Some t else find_type x ds
 find_type x (d ∷ ds) = find_type x ds
@@ -102,7 +102,7 @@ names_seen n = latest_first n.items.items []
 
 pub record Heading : Type 0 where
   pub name : List ℕ
-  pub parameters : List Parameter
+  pub parameters : List ParameterLayout
   pub result : Option FunctionResult
 
 pub record Frame : Type 0 where
@@ -144,7 +144,7 @@ pub record Layer : Type 0 where
   pub pending : List Pending
   pub arguments : ℕ
 
-abbrev pub heading_seen : code_heading.Heading → Heading
+abbrev pub heading_seen : code_heading.HeadingLayout → Heading
 heading_seen h = record { name = h.name.now; parameters = h.parameters.items; result = h.result }
 
 abbrev pub frame_seen : code_frame.Frame → Frame
@@ -229,12 +229,12 @@ Leads laid new (Err e) = Unit {0}
 abbrev pub with_name : Layer → List ℕ → Meaning → Layer
 with_name l x m = record l { names = (x, m) ∷ l.names }
 
-abbrev pub parameter_at : Option Heading → ℕ → Option Parameter
+abbrev pub parameter_at : Option Heading → ℕ → Option ParameterLayout
 parameter_at None n = None
 parameter_at (Some h) n = slice_get h.parameters n
 
 -- a parameter of a routine
-abbrev pub parameter_of : Layer → (routine place : ℕ) → Option Parameter
+abbrev pub parameter_of : Layer → (routine place : ℕ) → Option ParameterLayout
 parameter_of l routine n = parameter_at (slice_get l.headings routine) n
 
 abbrev pub result_in : Option Heading → Option FunctionResult

@@ -6,8 +6,8 @@ use Rattle.cp_tree.specs.declared.expression.Addition.{Addition}
 use Rattle.cp_tree.specs.declared.expression.Addition.TheVariants as addition
 use Rattle.cp_tree.specs.declared.expression.Multiplication.{Multiplication}
 use Rattle.cp_tree.specs.declared.expression.Multiplication.TheVariants as multiplication
-use Rattle.cp_slots.specs.declared.place.Origin.{Origin}
-use Rattle.cp_slots.specs.declared.place.Origin.TheVariants as origin
+use Rattle.cp_slots.specs.declared.place.PlaceOrigin.{PlaceOrigin}
+use Rattle.cp_slots.specs.declared.place.PlaceOrigin.TheVariants as origin
 use Rattle.cp_slots.specs.declared.place.Arithmetic.{Arithmetic}
 use Rattle.cp_slots.specs.declared.place.Arithmetic.TheVariants as arithmetic
 use Rattle.cp_slots.specs.declared.place.Logic.{Logic}
@@ -16,10 +16,10 @@ use Rattle.cp_slots.specs.declared.place.Comparison.{Comparison}
 use Rattle.cp_slots.specs.declared.place.Comparison.TheVariants as comparison
 use Rattle.cp_slots.specs.declared.place.SetOperation.{SetOperation}
 use Rattle.cp_slots.specs.declared.place.SetOperation.TheVariants as set_operation
-use Rattle.cp_layout.specs.declared.kinds.Base.{Base}
-use Rattle.cp_layout.specs.declared.kinds.Base.TheVariants as base
-use Rattle.cp_layout.specs.declared.kinds.ValueType.{ValueType}
-use Rattle.cp_layout.specs.declared.kinds.ValueType.TheVariants as types
+use Rattle.cp_layout.specs.declared.kinds.CellBase.{CellBase}
+use Rattle.cp_layout.specs.declared.kinds.CellBase.TheVariants as base
+use Rattle.cp_layout.specs.declared.kinds.CellType.{CellType}
+use Rattle.cp_layout.specs.declared.kinds.CellType.TheVariants as types
 use Rattle.cp_layout.specs.declared.names.Predeclared.{Predeclared}
 use Rattle.cp_layout.specs.declared.names.Predeclared.TheVariants as predeclared
 use Rattle.cp_layout.specs.declared.value.Value as code_value
@@ -32,10 +32,10 @@ use Rattle.cp_slots.specs.Code.{Place, Expression, SetExpression, ComponentPlace
 
 -- the value of an expression
 pub data Value : Type 0 where
-  ordinal_value : Expression → Base → Value
+  ordinal_value : Expression → CellBase → Value
   set_value : SetExpression → Value
   -- an array, a record or a queue
-  whole_value : Place → ValueType → Value
+  whole_value : Place → CellType → Value
   component_value : ComponentPlace → Value
 
 abbrev pub value_seen : code_value.Value → Value
@@ -47,8 +47,8 @@ value_seen (value.Component c) = component_value (component_seen c)
 -- what a name with selectors stands for
 pub data Designated : Type 0 where
   a_value : Value → Designated
-  a_variable : Place → ValueType → Designated
-  a_contained : ℕ → ValueType → Designated
+  a_variable : Place → CellType → Designated
+  a_contained : ℕ → CellType → Designated
   a_component : ComponentPlace → ℕ → Designated
   a_routine : ℕ → Designated
   an_entry : ComponentPlace → ℕ → Designated
@@ -65,18 +65,18 @@ designated_seen (designated.Entry c r) = an_entry (component_seen c) r
 designated_seen (designated.Predeclared r) = a_standard r
 designated_seen designated.Nothing = no_designated
 
-abbrev pub number_value : ℤ → Base → Value
+abbrev pub number_value : ℤ → CellBase → Value
 number_value z b = ordinal_value (code.number z) b
 
 -- what stands for a value that cannot be
 abbrev pub no_value : Value
 no_value = number_value (pos 0) base.Integer
 
-abbrev pub place_at : Origin → Place
+abbrev pub place_at : PlaceOrigin → Place
 place_at o = code.place o 0 code.no_indices
 
 -- the value of a variable
-abbrev pub loaded : Place → ValueType → Value
+abbrev pub loaded : Place → CellType → Value
 loaded p (types.Ordinal r) = ordinal_value (code.load p) r.base
 loaded p (types.Set r) = set_value (code.load_set p)
 loaded p t = whole_value p t
@@ -156,7 +156,7 @@ related relation.Greater v w = compared comparison.Greater v w
 related relation.AtMost v w = compared comparison.AtMost v w
 related relation.AtLeast v w = compared comparison.AtLeast v w
 
-abbrev pub applied_to : Predeclared → Expression → Base → Value
+abbrev pub applied_to : Predeclared → Expression → CellBase → Value
 applied_to predeclared.Succ e b = ordinal_value (code.successor e (whole b).high) b
 applied_to predeclared.Pred e b = ordinal_value (code.predecessor e (whole b).low) b
 applied_to predeclared.Chr e b = ordinal_value (code.character e) base.Char

@@ -7,8 +7,8 @@ ghost use Rattle.cp_layout.specs.LaidDeclarations as spec;
 ghost use Rattle.cp_layout.specs.LaidDeclarations.{outer_seen};
 
 use crate::frame::Frame;
-use crate::kinds::ValueType;
-use crate::layer::{Heading, Layouter, Owned, Parameter, System};
+use crate::kinds::CellType;
+use crate::layer::{HeadingLayout, Layouter, Owned, ParameterLayout, System};
 use crate::names::{Meaning, Names};
 use cp_tree::{
     Body, Definition, Program, ProgramPart, ProgramPartKind, Routine, System as WrittenSystem,
@@ -80,7 +80,7 @@ impl<'a> Layouter<'a> {
         self.declare(&node.name, Meaning::Kind(value_type))
     }
 
-    fn definition(&mut self, alloc: Global, node: &'a Definition) -> Result<ValueType, AllocError>
+    fn definition(&mut self, alloc: Global, node: &'a Definition) -> Result<CellType, AllocError>
         ensures { Lays (λ t. t) (spec.definition (layer_seen self.old) (definition_view node.now)) (layer_seen self.new) result }
     {
         match node {
@@ -90,7 +90,7 @@ impl<'a> Layouter<'a> {
     }
 
     #[tactic(auto, unfolding(crate::specs::LaidDeclarations::system))]
-    fn system(&mut self, alloc: Global, node: &'a WrittenSystem) -> Result<ValueType, AllocError>
+    fn system(&mut self, alloc: Global, node: &'a WrittenSystem) -> Result<CellType, AllocError>
         ensures { Lays (λ t. t) (spec.system (layer_seen self.old) (system_view node.now)) (layer_seen self.new) result }
     {
         let first = self.routine_count();
@@ -130,7 +130,7 @@ impl<'a> Layouter<'a> {
         kind: SystemKind,
         first: usize,
         initial: usize,
-    ) -> Result<ValueType, AllocError>
+    ) -> Result<CellType, AllocError>
         ensures { Lays (λ t. t) (spec.left (layer_seen self.old) (outer_seen outer.entry) kind first initial) (layer_seen self.new) result }
     {
         self.around.names = outer.names;
@@ -142,7 +142,7 @@ impl<'a> Layouter<'a> {
             first,
             initial,
         })?;
-        Ok(ValueType::System(number))
+        Ok(CellType::System(number))
     }
 
     #[tactic(auto, using(crate::proofs::LaidParts::routines_step, crate::proofs::LaidParts::routines_none))]
@@ -195,7 +195,7 @@ impl<'a> Layouter<'a> {
     }
 
     #[tactic(auto, unfolding(crate::specs::Layers::layer_seen))]
-    fn add_heading(&mut self, heading: Heading<'a>) -> Result<(), AllocError>
+    fn add_heading(&mut self, heading: HeadingLayout<'a>) -> Result<(), AllocError>
         ensures { Leads (spec.with_heading (layer_seen self.old) (heading_seen heading.entry)) (layer_seen self.new) result }
     {
         self.around.headings.push(heading)?;
@@ -213,13 +213,13 @@ impl<'a> Layouter<'a> {
     fn initial_statement(
         &mut self,
         alloc: Global,
-        parameters: Vec<Parameter>,
+        parameters: Vec<ParameterLayout>,
         node: &'a Body,
     ) -> Result<(), AllocError>
         ensures { Leads (spec.initial_statement (layer_seen self.old) parameters.items (body_view node.now)) (layer_seen self.new) result }
     {
         self.begin_frame(alloc);
-        self.add_heading(Heading {
+        self.add_heading(HeadingLayout {
             name: "",
             parameters,
             result: None,

@@ -6,8 +6,8 @@ ghost use Rattle.cp_layout.specs.Values.{designated_seen, a_contained};
 ghost use Rattle.cp_layout.specs.Layers.{around_seen, find, names_seen, system_seen, heading_seen};
 ghost use Rattle.cp_layout.specs.LaidExpressions as spec;
 
-use crate::kinds::ValueType;
-use crate::layer::{Heading, System};
+use crate::kinds::CellType;
+use crate::layer::{HeadingLayout, System};
 use crate::names::{Meaning, Names};
 use crate::surroundings::Surroundings;
 use crate::value::{Designated, number, place_at};
@@ -28,7 +28,7 @@ impl<'a> Names<'a> {
             Meaning::Variable(origin, value_type) => {
                 Designated::Variable(place_at(alloc, origin), value_type)
             }
-            Meaning::Contained(first, ValueType::System(system)) => {
+            Meaning::Contained(first, CellType::System(system)) => {
                 Designated::Component(ComponentPlace::Contained(first), system)
             }
             Meaning::Contained(first, value_type) => Designated::Contained(first, value_type),
@@ -109,7 +109,7 @@ impl<'a> Surroundings<'a> {
         &self,
         alloc: Global,
         first: usize,
-        value_type: ValueType,
+        value_type: CellType,
         index: Expression,
     ) -> Result<Designated, AllocError>
         ensures { IfOk result (λ d. designated_seen d ≡ spec.element_selected (around_seen self.now) (a_contained first value_type) (expression_seen index)) }
@@ -117,7 +117,7 @@ impl<'a> Surroundings<'a> {
         let Some(array) = self.types.array(value_type) else {
             return Ok(Designated::Nothing);
         };
-        let ValueType::System(system) = array.element else {
+        let CellType::System(system) = array.element else {
             return Ok(Designated::Nothing);
         };
         let place = ComponentPlace::Element {
@@ -160,7 +160,7 @@ fn with_index(place: Place, index: Index) -> Result<Place, AllocError>
 }
 
 // The number of a routine with this heading.
-fn entry_among(system: &System, headings: &[Heading<'_>], name: &str) -> Option<usize>
+fn entry_among(system: &System, headings: &[HeadingLayout<'_>], name: &str) -> Option<usize>
     ensures { result ≡ spec.entry_among (system_seen system.now) (map heading_seen headings.now) 0 name.now }
 {
     for number in 0..headings.len() {

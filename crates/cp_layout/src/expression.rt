@@ -8,15 +8,15 @@ ghost use Rattle.cp_layout.specs.Values.{value_seen, designated_seen};
 ghost use Rattle.cp_layout.specs.Layers.{layer_seen, around_seen, Lays, parameter_of};
 ghost use Rattle.cp_layout.specs.LaidExpressions as spec;
 
-use crate::kinds::{Base, ValueType};
+use crate::kinds::{CellBase, CellType};
 use crate::layer::{FunctionResult, Layouter, Passing};
 use crate::surroundings::Surroundings;
 use crate::value::{
-    Designated, Value, boxed, comparison_of, load, negation_of, no_value, number, opposite,
-    ordinal, place_at, place_of, product_of, set, standard_value, sum_of,
+    Designated, Value, comparison_of, in_two_boxes, load, negation_of, no_value, number, opposite,
+    ordinal, place_at, place_of, product_of, set_expression, standard_value, sum_of,
 };
 use cp_slots::{
-    Action, Argument, ArgumentValue, ComponentPlace, Expression, Origin, SetExpression,
+    Action, Argument, ArgumentValue, ComponentPlace, Expression, PlaceOrigin, SetExpression,
 };
 use cp_tree::{
     Addition, Designator, Expression as Written, Factor, FactorKind, Multiplication, Selector,
@@ -76,8 +76,8 @@ impl<'a> Layouter<'a> {
         ensures { Lays value_seen (spec.factor (layer_seen self.old) (factor_view node.now)) (layer_seen self.new) result }
     {
         match &node.kind {
-            FactorKind::Number(value) => Ok(number(integer(*value), Base::Integer)),
-            FactorKind::Character(code) => Ok(number(i16::from(*code), Base::Char)),
+            FactorKind::Number(value) => Ok(number(integer(*value), CellBase::Integer)),
+            FactorKind::Character(code) => Ok(number(i16::from(*code), CellBase::Char)),
             FactorKind::Named(name, arguments) => {
                 let whole = self.designator(alloc, name)?;
                 self.value_of_name(alloc, node.at, whole, arguments)
@@ -179,7 +179,10 @@ impl<'a> Layouter<'a> {
             result: Some(slot),
         };
         self.add(at, action, need)?;
-        Ok(load(place_at(alloc, Origin::Local(slot)), outcome.value_type))
+        Ok(load(
+            place_at(alloc, PlaceOrigin::Local(slot)),
+            outcome.value_type,
+        ))
     }
 
     /// The argument of a predeclared routine.
@@ -332,13 +335,13 @@ impl<'a> Surroundings<'a> {
                 Value::Component(place) => ArgumentValue::Component(place),
                 _ => ArgumentValue::Component(ComponentPlace::Own),
             },
-            Passing::Constant(ValueType::Ordinal(range)) => ArgumentValue::Scalar {
+            Passing::Constant(CellType::Ordinal(range)) => ArgumentValue::Scalar {
                 value: ordinal(value),
                 low: range.low,
                 high: range.high,
             },
-            Passing::Constant(ValueType::Set(base)) => ArgumentValue::Set {
-                value: set(value),
+            Passing::Constant(CellType::Set(base)) => ArgumentValue::Set {
+                value: set_expression(value),
                 low: byte_or(0, base.low),
                 high: byte_or(u8::MAX, base.high),
             },
@@ -401,6 +404,6 @@ fn with_element(
 ) -> Result<SetExpression, AllocError>
     ensures { IfOk result (λ s. set_seen s ≡ code.with_element (set_seen whole) (expression_seen element)) }
 {
-    let (fewer, element) = boxed(alloc, whole, element)?;
+    let (fewer, element) = in_two_boxes(alloc, whole, element)?;
     Ok(SetExpression::With(fewer, element))
 }

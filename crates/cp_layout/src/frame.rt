@@ -6,8 +6,8 @@ ghost use Rattle.cp_layout.specs.Kinds.{types_seen, least};
 ghost use Rattle.cp_layout.specs.Layers as spec;
 ghost use Rattle.cp_layout.specs.Layers.{frame_seen};
 
-use crate::kinds::{Types, ValueType};
-use cp_slots::Routine;
+use crate::kinds::{CellType, Types};
+use cp_slots::ResolvedRoutine;
 use std::alloc::{AllocError, Global};
 
 /// The frame of the routine that is laid out.
@@ -48,7 +48,7 @@ impl Frame {
     pub fn add_cells(
         &mut self,
         types: &Types<'_>,
-        value_type: ValueType,
+        value_type: CellType,
     ) -> Result<usize, AllocError>
         ensures slot { IfOk result (λ n. n ≡ length (frame_seen self.old).image) }
         ensures cells { OnOk result (frame_seen self.new ≡ record (frame_seen self.old) { image = (frame_seen self.old).image ++ least (types_seen types.now) value_type }) }
@@ -69,7 +69,7 @@ impl Frame {
     }
 
     /// Room for the cells and `var` parameters of a routine that is called.
-    pub fn reserve(&mut self, callee: &Routine)
+    pub fn reserve(&mut self, callee: &ResolvedRoutine)
         ensures { frame_seen self.new ≡ spec.frame_with (frame_seen self.old) (Some (routine_view callee.now)) }
     {
         self.room = self.room.max(callee.room);

@@ -5,10 +5,10 @@ ghost use Rattle.cp_tree.specs.View.{group_view, parameter_group_view, routine_k
 ghost use Rattle.cp_layout.specs.Layers.{layer_seen, heading_seen, Lays, Leads};
 ghost use Rattle.cp_layout.specs.LaidDeclarations as spec;
 
-use crate::kinds::ValueType;
-use crate::layer::{FunctionResult, Heading, Layouter, Parameter, Passing};
+use crate::kinds::CellType;
+use crate::layer::{FunctionResult, HeadingLayout, Layouter, ParameterLayout, Passing};
 use crate::names::Meaning;
-use cp_slots::Origin;
+use cp_slots::PlaceOrigin;
 use cp_tree::{Group, Identifier, ParameterGroup, RoutineKind};
 use std::alloc::{AllocError, Global};
 
@@ -20,13 +20,13 @@ impl<'a> Layouter<'a> {
         alloc: Global,
         name: &'a str,
         kind: &'a RoutineKind,
-    ) -> Result<Heading<'a>, AllocError>
+    ) -> Result<HeadingLayout<'a>, AllocError>
         ensures { Lays heading_seen (spec.heading (layer_seen self.old) name.now (routine_kind_view kind.now)) (layer_seen self.new) result }
     {
         match kind {
             RoutineKind::Procedure(groups) => {
                 let parameters = self.parameter_groups(alloc, groups)?;
-                Ok(Heading {
+                Ok(HeadingLayout {
                     name,
                     parameters,
                     result: None,
@@ -36,7 +36,7 @@ impl<'a> Layouter<'a> {
                 let parameters = self.constant_groups(alloc, groups)?;
                 let value_type = self.around.names.named_type(type_name.name.as_str());
                 let slot = self.frame.add_cells(&self.around.types, value_type)?;
-                Ok(Heading {
+                Ok(HeadingLayout {
                     name,
                     parameters,
                     result: Some(FunctionResult { slot, value_type }),
@@ -50,7 +50,7 @@ impl<'a> Layouter<'a> {
         &mut self,
         alloc: Global,
         groups: &'a [ParameterGroup],
-    ) -> Result<Vec<Parameter>, AllocError>
+    ) -> Result<Vec<ParameterLayout>, AllocError>
         ensures { Lays (λ v. v.items) (spec.parameter_groups (layer_seen self.old) [] (map parameter_group_view groups.now)) (layer_seen self.new) result }
     {
         let mut parameters = Vec::new(alloc);
@@ -62,9 +62,9 @@ impl<'a> Layouter<'a> {
 
     fn parameter_group(
         &mut self,
-        before: Vec<Parameter>,
+        before: Vec<ParameterLayout>,
         node: &'a ParameterGroup,
-    ) -> Result<Vec<Parameter>, AllocError>
+    ) -> Result<Vec<ParameterLayout>, AllocError>
         ensures { Lays (λ v. v.items) (spec.parameter_group (layer_seen self.old) before.items (parameter_group_view node.now)) (layer_seen self.new) result }
     {
         if node.is_var {
@@ -79,7 +79,7 @@ impl<'a> Layouter<'a> {
         &mut self,
         alloc: Global,
         groups: &'a [Group],
-    ) -> Result<Vec<Parameter>, AllocError>
+    ) -> Result<Vec<ParameterLayout>, AllocError>
         ensures { Lays (λ v. v.items) (spec.constant_groups (layer_seen self.old) [] (map group_view groups.now)) (layer_seen self.new) result }
     {
         let mut parameters = Vec::new(alloc);
@@ -92,9 +92,9 @@ impl<'a> Layouter<'a> {
     #[tactic(auto, unfolding(crate::specs::Layers::layer_seen))]
     fn constant_group(
         &mut self,
-        before: Vec<Parameter>,
+        before: Vec<ParameterLayout>,
         group: &'a Group,
-    ) -> Result<Vec<Parameter>, AllocError>
+    ) -> Result<Vec<ParameterLayout>, AllocError>
         ensures { Lays (λ v. v.items) (spec.constant_group (layer_seen self.old) before.items (group_view group.now)) (layer_seen self.new) result }
     {
         let value_type = self.around.names.named_type(group.type_name.name.as_str());
@@ -104,10 +104,10 @@ impl<'a> Layouter<'a> {
     #[tactic(auto, using(crate::proofs::LaidParts::constant_parameters_of_step, crate::proofs::LaidParts::constant_parameters_of_none))]
     fn constant_parameters_of(
         &mut self,
-        before: Vec<Parameter>,
-        value_type: ValueType,
+        before: Vec<ParameterLayout>,
+        value_type: CellType,
         names: &'a [Identifier],
-    ) -> Result<Vec<Parameter>, AllocError>
+    ) -> Result<Vec<ParameterLayout>, AllocError>
         ensures { Lays (λ v. v.items) (spec.constant_parameters_of (layer_seen self.old) before.items value_type names.now) (layer_seen self.new) result }
     {
         let mut parameters = before;
@@ -119,15 +119,15 @@ impl<'a> Layouter<'a> {
 
     fn constant_parameter(
         &mut self,
-        before: Vec<Parameter>,
+        before: Vec<ParameterLayout>,
         identifier: &'a Identifier,
-        value_type: ValueType,
-    ) -> Result<Vec<Parameter>, AllocError>
+        value_type: CellType,
+    ) -> Result<Vec<ParameterLayout>, AllocError>
         ensures { Lays (λ v. v.items) (spec.constant_parameter (layer_seen self.old) before.items identifier.now.name value_type) (layer_seen self.new) result }
     {
         let slot = self.local(identifier, value_type)?;
         let mut parameters = before;
-        parameters.push(Parameter {
+        parameters.push(ParameterLayout {
             slot,
             passing: Passing::Constant(value_type),
         })?;
@@ -137,9 +137,9 @@ impl<'a> Layouter<'a> {
     #[tactic(auto, unfolding(crate::specs::Layers::layer_seen))]
     fn var_group(
         &mut self,
-        before: Vec<Parameter>,
+        before: Vec<ParameterLayout>,
         group: &'a Group,
-    ) -> Result<Vec<Parameter>, AllocError>
+    ) -> Result<Vec<ParameterLayout>, AllocError>
         ensures { Lays (λ v. v.items) (spec.var_group (layer_seen self.old) before.items (group_view group.now)) (layer_seen self.new) result }
     {
         let value_type = self.around.names.named_type(group.type_name.name.as_str());
@@ -149,10 +149,10 @@ impl<'a> Layouter<'a> {
     #[tactic(auto, using(crate::proofs::LaidParts::var_parameters_of_step, crate::proofs::LaidParts::var_parameters_of_none))]
     fn var_parameters_of(
         &mut self,
-        before: Vec<Parameter>,
-        value_type: ValueType,
+        before: Vec<ParameterLayout>,
+        value_type: CellType,
         names: &'a [Identifier],
-    ) -> Result<Vec<Parameter>, AllocError>
+    ) -> Result<Vec<ParameterLayout>, AllocError>
         ensures { Lays (λ v. v.items) (spec.var_parameters_of (layer_seen self.old) before.items value_type names.now) (layer_seen self.new) result }
     {
         let mut parameters = before;
@@ -165,20 +165,20 @@ impl<'a> Layouter<'a> {
     #[tactic(auto, unfolding(crate::specs::Layers::layer_seen))]
     fn var_parameter(
         &mut self,
-        before: Vec<Parameter>,
+        before: Vec<ParameterLayout>,
         identifier: &'a Identifier,
-        value_type: ValueType,
-    ) -> Result<Vec<Parameter>, AllocError>
+        value_type: CellType,
+    ) -> Result<Vec<ParameterLayout>, AllocError>
         ensures { Lays (λ v. v.items) (spec.var_parameter (layer_seen self.old) before.items identifier.now.name value_type) (layer_seen self.new) result }
     {
         let cells = self.around.types.cells_of(value_type);
         let slot = self.frame.add_extent(cells)?;
         self.declare(
             identifier,
-            Meaning::Variable(Origin::Reference(slot), value_type),
+            Meaning::Variable(PlaceOrigin::Reference(slot), value_type),
         )?;
         let mut parameters = before;
-        parameters.push(Parameter {
+        parameters.push(ParameterLayout {
             slot,
             passing: Passing::Reference,
         })?;
@@ -191,7 +191,7 @@ impl<'a> Layouter<'a> {
         &mut self,
         alloc: Global,
         groups: &'a [Group],
-    ) -> Result<Vec<Parameter>, AllocError>
+    ) -> Result<Vec<ParameterLayout>, AllocError>
         ensures { Lays (λ v. v.items) (spec.system_groups (layer_seen self.old) [] (map group_view groups.now)) (layer_seen self.new) result }
     {
         let mut parameters = Vec::new(alloc);
@@ -204,9 +204,9 @@ impl<'a> Layouter<'a> {
     #[tactic(auto, unfolding(crate::specs::Layers::layer_seen))]
     fn system_group(
         &mut self,
-        before: Vec<Parameter>,
+        before: Vec<ParameterLayout>,
         group: &'a Group,
-    ) -> Result<Vec<Parameter>, AllocError>
+    ) -> Result<Vec<ParameterLayout>, AllocError>
         ensures { Lays (λ v. v.items) (spec.system_group (layer_seen self.old) before.items (group_view group.now)) (layer_seen self.new) result }
     {
         let value_type = self.around.names.named_type(group.type_name.name.as_str());
@@ -216,10 +216,10 @@ impl<'a> Layouter<'a> {
     #[tactic(auto, using(crate::proofs::LaidParts::system_parameters_of_step, crate::proofs::LaidParts::system_parameters_of_none))]
     fn system_parameters_of(
         &mut self,
-        before: Vec<Parameter>,
-        value_type: ValueType,
+        before: Vec<ParameterLayout>,
+        value_type: CellType,
         names: &'a [Identifier],
-    ) -> Result<Vec<Parameter>, AllocError>
+    ) -> Result<Vec<ParameterLayout>, AllocError>
         ensures { Lays (λ v. v.items) (spec.system_parameters_of (layer_seen self.old) before.items value_type names.now) (layer_seen self.new) result }
     {
         let mut parameters = before;
@@ -231,14 +231,14 @@ impl<'a> Layouter<'a> {
 
     fn system_parameter(
         &mut self,
-        before: Vec<Parameter>,
+        before: Vec<ParameterLayout>,
         identifier: &'a Identifier,
-        value_type: ValueType,
-    ) -> Result<Vec<Parameter>, AllocError>
+        value_type: CellType,
+    ) -> Result<Vec<ParameterLayout>, AllocError>
         ensures { Lays (λ v. v.items) (spec.system_parameter (layer_seen self.old) before.items identifier.now.name value_type) (layer_seen self.new) result }
     {
         match value_type {
-            ValueType::System(system) => self.component_parameter(before, identifier, system),
+            CellType::System(system) => self.component_parameter(before, identifier, system),
             _ => self.cell_parameter(before, identifier, value_type),
         }
     }
@@ -246,16 +246,16 @@ impl<'a> Layouter<'a> {
     #[tactic(auto, unfolding(crate::specs::Layers::layer_seen))]
     fn component_parameter(
         &mut self,
-        before: Vec<Parameter>,
+        before: Vec<ParameterLayout>,
         identifier: &'a Identifier,
         system: usize,
-    ) -> Result<Vec<Parameter>, AllocError>
+    ) -> Result<Vec<ParameterLayout>, AllocError>
         ensures { Lays (λ v. v.items) (spec.component_parameter (layer_seen self.old) before.items identifier.now.name system) (layer_seen self.new) result }
     {
         let slot = self.around.owned.add_component_cell(system)?;
         self.declare(identifier, Meaning::Bound(slot, system))?;
         let mut parameters = before;
-        parameters.push(Parameter {
+        parameters.push(ParameterLayout {
             slot,
             passing: Passing::Component,
         })?;
@@ -264,15 +264,15 @@ impl<'a> Layouter<'a> {
 
     fn cell_parameter(
         &mut self,
-        before: Vec<Parameter>,
+        before: Vec<ParameterLayout>,
         identifier: &'a Identifier,
-        value_type: ValueType,
-    ) -> Result<Vec<Parameter>, AllocError>
+        value_type: CellType,
+    ) -> Result<Vec<ParameterLayout>, AllocError>
         ensures { Lays (λ v. v.items) (spec.cell_parameter (layer_seen self.old) before.items identifier.now.name value_type) (layer_seen self.new) result }
     {
         let slot = self.cell_variable(identifier, value_type)?;
         let mut parameters = before;
-        parameters.push(Parameter {
+        parameters.push(ParameterLayout {
             slot,
             passing: Passing::Constant(value_type),
         })?;

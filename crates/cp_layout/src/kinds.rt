@@ -12,7 +12,7 @@ const SET_CELLS: usize = 8;
 
 /// What the values of an ordinal type are counted in.
 #[derive(Clone, Copy, Drop)]
-pub enum Base {
+pub enum CellBase {
     Integer,
     Boolean,
     Char,
@@ -20,18 +20,18 @@ pub enum Base {
     Enumeration(u16, i16),
 }
 
-impl Base {
+impl CellBase {
     /// All values.
-    pub fn whole(self) -> Range
+    pub fn whole(self) -> CellRange
         ensures { result ≡ spec.whole self }
     {
         let (low, high) = match self {
-            Base::Integer => (i16::MIN, i16::MAX),
-            Base::Boolean => (0, 1),
-            Base::Char => (0, 127),
-            Base::Enumeration(_, last) => (0, last),
+            CellBase::Integer => (i16::MIN, i16::MAX),
+            CellBase::Boolean => (0, 1),
+            CellBase::Char => (0, 127),
+            CellBase::Enumeration(_, last) => (0, last),
         };
-        Range {
+        CellRange {
             base: self,
             low,
             high,
@@ -41,13 +41,13 @@ impl Base {
 
 /// The values of an ordinal type.
 #[derive(Clone, Copy, Drop)]
-pub struct Range {
-    pub base: Base,
+pub struct CellRange {
+    pub base: CellBase,
     pub low: i16,
     pub high: i16,
 }
 
-impl Range {
+impl CellRange {
     /// How many values there are.
     pub fn count(self) -> usize
         ensures { result ≡ spec.count_of self }
@@ -66,27 +66,27 @@ impl Range {
 
 /// A type. Arrays and records are told apart by their numbers among the compound types, and system types by theirs.
 #[derive(Clone, Copy, Drop)]
-pub enum ValueType {
-    Ordinal(Range),
+pub enum CellType {
+    Ordinal(CellRange),
     Queue,
     /// By the values of the base.
-    Set(Range),
+    Set(CellRange),
     Array(usize),
     Record(usize),
     System(usize),
 }
 
 /// The type of all values of a base.
-pub fn values_of(base: Base) -> ValueType
+pub fn values_of(base: CellBase) -> CellType
     ensures { result ≡ spec.values_of base }
 {
-    ValueType::Ordinal(base.whole())
+    CellType::Ordinal(base.whole())
 }
 
 #[derive(Clone, Copy, Drop)]
 pub struct ArrayType {
-    pub index: Range,
-    pub element: ValueType,
+    pub index: CellRange,
+    pub element: CellType,
     pub element_cells: usize,
     pub cells: usize,
 }
@@ -95,7 +95,7 @@ pub struct ArrayType {
 #[derive(Clone, Copy, Drop)]
 pub struct Field<'a> {
     pub name: &'a Name,
-    pub value_type: ValueType,
+    pub value_type: CellType,
     pub offset: usize,
 }
 
@@ -143,7 +143,7 @@ impl<'a> RecordType<'a> {
     pub fn add(
         &mut self,
         name: &'a Name,
-        value_type: ValueType,
+        value_type: CellType,
         cells: usize,
     ) -> Result<(), AllocError>
         ensures { OnOk result (fields_seen self.new ≡ spec.with_field (fields_seen self.old) name.now value_type cells) }
@@ -170,29 +170,29 @@ impl<'a> Types<'a> {
 
     /// How many cells a value has. A component has none.
     #[tactic(auto, unfolding(crate::specs::Kinds::types_seen))]
-    pub fn cells_of(&self, value_type: ValueType) -> usize
+    pub fn cells_of(&self, value_type: CellType) -> usize
         ensures { result ≡ spec.cells_of (types_seen self.now) value_type }
     {
         match value_type {
-            ValueType::Ordinal(_) | ValueType::Queue => 1,
-            ValueType::Set(_) => SET_CELLS,
-            ValueType::Array(number) | ValueType::Record(number) => {
+            CellType::Ordinal(_) | CellType::Queue => 1,
+            CellType::Set(_) => SET_CELLS,
+            CellType::Array(number) | CellType::Record(number) => {
                 match self.compounds.get(number) {
                     Some(Compound::Array(array)) => array.cells,
                     Some(Compound::Record(record)) => record.cells,
                     None => 0,
                 }
             }
-            ValueType::System(_) => 0,
+            CellType::System(_) => 0,
         }
     }
 
     /// An array's index and elements.
     #[tactic(auto, unfolding(crate::specs::Kinds::types_seen))]
-    pub fn array(&self, value_type: ValueType) -> Option<ArrayType>
+    pub fn array(&self, value_type: CellType) -> Option<ArrayType>
         ensures { result ≡ spec.array_of (types_seen self.now) value_type }
     {
-        let ValueType::Array(number) = value_type else {
+        let CellType::Array(number) = value_type else {
             return None;
         };
         match self.compounds.get(number) {
@@ -203,10 +203,10 @@ impl<'a> Types<'a> {
 
     /// A field of a record.
     #[tactic(auto, unfolding(crate::specs::Kinds::types_seen))]
-    pub fn field(&self, value_type: ValueType, name: &Name) -> Option<Field<'a>>
+    pub fn field(&self, value_type: CellType, name: &Name) -> Option<Field<'a>>
         ensures { option_map field_seen result ≡ spec.field_of (types_seen self.now) value_type name.now }
     {
-        let ValueType::Record(number) = value_type else {
+        let CellType::Record(number) = value_type else {
             return None;
         };
         let Some(Compound::Record(record)) = self.compounds.get(number) else {
@@ -217,7 +217,7 @@ impl<'a> Types<'a> {
 
     /// A new array type.
     #[tactic(auto, unfolding(crate::specs::Kinds::types_seen))]
-    pub fn add_array(&mut self, index: Range, element: ValueType) -> Result<ValueType, AllocError>
+    pub fn add_array(&mut self, index: CellRange, element: CellType) -> Result<CellType, AllocError>
         ensures { IfOk result (λ t. (t, types_seen self.new) ≡ spec.with_array (types_seen self.old) index element) }
     {
         let element_cells = self.cells_of(element);
@@ -228,22 +228,22 @@ impl<'a> Types<'a> {
             element_cells,
             cells: element_cells.saturating_mul(index.count()),
         }))?;
-        Ok(ValueType::Array(number))
+        Ok(CellType::Array(number))
     }
 
     /// A new record type.
     #[tactic(auto, unfolding(crate::specs::Kinds::types_seen))]
-    pub fn add_record(&mut self, whole: RecordType<'a>) -> Result<ValueType, AllocError>
+    pub fn add_record(&mut self, whole: RecordType<'a>) -> Result<CellType, AllocError>
         ensures { IfOk result (λ t. (t, types_seen self.new) ≡ spec.with_record (types_seen self.old) (fields_seen whole.entry)) }
     {
         let number = self.compounds.len();
         self.compounds.push(Compound::Record(whole))?;
-        Ok(ValueType::Record(number))
+        Ok(CellType::Record(number))
     }
 
     /// Adds the cells with which a variable begins.
     #[tactic(auto, unfolding(crate::specs::Kinds::types_seen, crate::specs::Kinds::least))]
-    pub fn add_least(&self, cells: &mut Vec<i16>, value_type: ValueType) -> Result<(), AllocError>
+    pub fn add_least(&self, cells: &mut Vec<i16>, value_type: CellType) -> Result<(), AllocError>
         ensures { OnOk result (cells.new.items ≡ cells.old.items ++ spec.least (types_seen self.now) value_type) }
     {
         self.add_least_below(cells, value_type, self.compounds.len())
@@ -255,21 +255,21 @@ impl<'a> Types<'a> {
     fn add_least_below(
         &self,
         cells: &mut Vec<i16>,
-        value_type: ValueType,
+        value_type: CellType,
         bound: usize,
     ) -> Result<(), AllocError>
         ensures { OnOk result (cells.new.items ≡ cells.old.items ++ spec.least_below (types_seen self.now) bound value_type) }
     {
         match value_type {
-            ValueType::Ordinal(range) => cells.push(range.least())?,
-            ValueType::Queue => cells.push(0)?,
-            ValueType::Set(_) => cells.extend_from_slice(&[0; SET_CELLS])?,
-            ValueType::Array(number) | ValueType::Record(number) => {
+            CellType::Ordinal(range) => cells.push(range.least())?,
+            CellType::Queue => cells.push(0)?,
+            CellType::Set(_) => cells.extend_from_slice(&[0; SET_CELLS])?,
+            CellType::Array(number) | CellType::Record(number) => {
                 if number < bound {
                     self.add_compound(cells, number)?;
                 }
             }
-            ValueType::System(_) => {}
+            CellType::System(_) => {}
         }
         Ok(())
     }

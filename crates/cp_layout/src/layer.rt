@@ -9,11 +9,11 @@ ghost use Rattle.cp_layout.specs.Layers.{layer_seen, owned_seen, pending_seen, L
 ghost use Rattle.cp_layout.specs.LaidDeclarations.{component_cell};
 
 use crate::frame::Frame;
-use crate::kinds::{Types, ValueType};
+use crate::kinds::{CellType, Types};
 use crate::lists::{Lists, Pending};
 use crate::names::{Meaning, Names};
 use crate::surroundings::Surroundings;
-use cp_slots::{Action, ComponentParameter, Item, Routine};
+use cp_slots::{Action, ComponentParameter, Item, ResolvedRoutine};
 use cp_tree::{Identifier, SystemKind, Tree};
 use std::alloc::{AllocError, Global};
 use std::mem;
@@ -21,14 +21,14 @@ use std::mem;
 /// How an argument is passed.
 #[derive(Clone, Copy, Drop)]
 pub enum Passing {
-    Constant(ValueType),
+    Constant(CellType),
     Reference,
     Component,
 }
 
 /// A parameter, by its first cell, or by its number among the `var` parameters.
 #[derive(Clone, Copy, Drop)]
-pub struct Parameter {
+pub struct ParameterLayout {
     pub slot: usize,
     pub passing: Passing,
 }
@@ -37,14 +37,14 @@ pub struct Parameter {
 #[derive(Clone, Copy, Drop)]
 pub struct FunctionResult {
     pub slot: usize,
-    pub value_type: ValueType,
+    pub value_type: CellType,
 }
 
 /// The heading of a routine, or of an initial statement, whose name is empty.
 #[derive(Drop)]
-pub struct Heading<'a> {
+pub struct HeadingLayout<'a> {
     pub name: &'a str,
-    pub parameters: Vec<Parameter>,
+    pub parameters: Vec<ParameterLayout>,
     pub result: Option<FunctionResult>,
 }
 
@@ -58,7 +58,7 @@ pub struct Contained {
 /// What is in permanent cells that follow one another.
 #[derive(Clone, Copy, Drop)]
 pub enum Content {
-    Variable(ValueType),
+    Variable(CellType),
     /// A parameter that is a component, in one cell.
     Component,
 }
@@ -111,7 +111,7 @@ impl Owned {
     }
 
     /// A variable of this many cells, by the first of them.
-    pub fn add_variable(&mut self, value_type: ValueType, cells: usize) -> Result<usize, AllocError>
+    pub fn add_variable(&mut self, value_type: CellType, cells: usize) -> Result<usize, AllocError>
         ensures slot { IfOk result (λ n. n ≡ (owned_seen self.old).cells) }
         ensures cells { OnOk result (owned_seen self.new ≡ record (owned_seen self.old) { cells = plus (owned_seen self.old).cells cells; contents = (owned_seen self.old).contents ++ content.Variable value_type ∷ [] }) }
     {
@@ -271,7 +271,7 @@ impl<'a> Layouter<'a> {
         let result = self.result_slot();
         let frame = mem::replace(&mut self.frame, Frame::new(alloc));
         let references = frame.extents.len();
-        self.lists.routines.push(Routine {
+        self.lists.routines.push(ResolvedRoutine {
             body,
             room: frame.image.len().saturating_add(frame.room),
             image: frame.image,

@@ -6,7 +6,7 @@ ghost use Rattle.cp_layout.specs.Kinds.{plus};
 ghost use Rattle.cp_layout.specs.Layers as spec;
 ghost use Rattle.cp_layout.specs.Layers.{pending_seen};
 
-use cp_slots::{Action, Item, Routine};
+use cp_slots::{Action, Item, ResolvedRoutine};
 
 /// An item that is not in the tables yet.
 #[derive(Drop)]
@@ -20,7 +20,7 @@ pub struct Pending {
 /// What goes into the tables.
 #[derive(Drop)]
 pub struct Lists {
-    pub routines: Vec<Routine>,
+    pub routines: Vec<ResolvedRoutine>,
     pub items: Vec<Item>,
     /// The constants of the enumerations.
     pub constants: Vec<String>,

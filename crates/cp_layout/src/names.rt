@@ -4,8 +4,8 @@ ghost use Rattle.std.specs.Prelude.{◌≡◌, ◌∷◌, ◌-◌, length, drop,
 ghost use Rattle.cp_layout.specs.Layers as spec;
 ghost use Rattle.cp_layout.specs.Layers.{names_seen, declared_seen};
 
-use crate::kinds::{Base, ValueType, values_of};
-use cp_slots::Origin;
+use crate::kinds::{CellBase, CellType, values_of};
+use cp_slots::PlaceOrigin;
 use std::alloc::{AllocError, Global};
 
 /// A routine that each program has.
@@ -25,12 +25,12 @@ pub enum Predeclared {
 /// What a name stands for.
 #[derive(Clone, Copy, Drop)]
 pub enum Meaning {
-    Constant(Base, i16),
-    Kind(ValueType),
+    Constant(CellBase, i16),
+    Kind(CellType),
     /// A variable or a parameter.
-    Variable(Origin, ValueType),
+    Variable(PlaceOrigin, CellType),
     /// A component variable, or an array of these, by the number of the first above that of its container.
-    Contained(usize, ValueType),
+    Contained(usize, CellType),
     /// A component parameter, by its permanent cell, with its system type.
     Bound(usize, usize),
     Routine(usize),
@@ -78,8 +78,8 @@ impl<'a> Names<'a> {
         let mut names = Names::empty(alloc);
         names.add_procedures()?;
         names.add_functions()?;
-        names.add("true", Meaning::Constant(Base::Boolean, 1))?;
-        names.add("false", Meaning::Constant(Base::Boolean, 0))?;
+        names.add("true", Meaning::Constant(CellBase::Boolean, 1))?;
+        names.add("false", Meaning::Constant(CellBase::Boolean, 0))?;
         names.add_types()?;
         Ok(names)
     }
@@ -106,10 +106,10 @@ impl<'a> Names<'a> {
     fn add_types(&mut self) -> Result<(), AllocError>
         ensures { OnOk result (names_seen self.new ≡ spec.with_types (names_seen self.old)) }
     {
-        self.add("queue", Meaning::Kind(ValueType::Queue))?;
-        self.add("char", Meaning::Kind(values_of(Base::Char)))?;
-        self.add("boolean", Meaning::Kind(values_of(Base::Boolean)))?;
-        self.add("integer", Meaning::Kind(values_of(Base::Integer)))
+        self.add("queue", Meaning::Kind(CellType::Queue))?;
+        self.add("char", Meaning::Kind(values_of(CellBase::Char)))?;
+        self.add("boolean", Meaning::Kind(values_of(CellBase::Boolean)))?;
+        self.add("integer", Meaning::Kind(values_of(CellBase::Integer)))
     }
 
     /// Declares a name.
@@ -139,7 +139,7 @@ impl<'a> Names<'a> {
 
     /// The type that a name stands for where a type is written: the latest of that name, past what is no type.
     #[tactic(auto, unfolding(crate::specs::Layers::names_seen), using(crate::proofs::NamesSeen::seen_all, crate::proofs::NamesSeen::seen_none, crate::proofs::NamesSeen::seen_last))]
-    pub fn look_type(&self, name: &str) -> Option<ValueType>
+    pub fn look_type(&self, name: &str) -> Option<CellType>
         ensures { result ≡ spec.find_type name.now (names_seen self.now) }
     {
         let mut left = self.items.len();

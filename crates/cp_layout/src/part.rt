@@ -6,10 +6,10 @@ ghost use Rattle.cp_layout.specs.Kinds.{types_seen};
 ghost use Rattle.cp_layout.specs.Layers.{layer_seen, Lays, Leads};
 ghost use Rattle.cp_layout.specs.LaidDeclarations as spec;
 
-use crate::kinds::{Types, ValueType};
+use crate::kinds::{CellType, Types};
 use crate::layer::{Contained, Layouter};
 use crate::names::Meaning;
-use cp_slots::Origin;
+use cp_slots::PlaceOrigin;
 use cp_tree::{ConstantDefinition, Identifier, Part, PartKind, TypeDefinition, VariableGroup};
 use std::alloc::{AllocError, Global};
 
@@ -120,7 +120,7 @@ impl<'a> Layouter<'a> {
     #[tactic(auto, using(crate::proofs::LaidParts::variables_of_step, crate::proofs::LaidParts::variables_of_none))]
     fn variables_of(
         &mut self,
-        value_type: ValueType,
+        value_type: CellType,
         names: &'a [Identifier],
     ) -> Result<(), AllocError>
         ensures { Leads (spec.variables_of (layer_seen self.old) value_type names.now) (layer_seen self.new) result }
@@ -135,7 +135,7 @@ impl<'a> Layouter<'a> {
     fn variable(
         &mut self,
         identifier: &'a Identifier,
-        value_type: ValueType,
+        value_type: CellType,
     ) -> Result<(), AllocError>
         ensures { Leads (spec.variable (layer_seen self.old) identifier.now.name value_type) (layer_seen self.new) result }
     {
@@ -153,7 +153,7 @@ impl<'a> Layouter<'a> {
     fn component_variable(
         &mut self,
         identifier: &'a Identifier,
-        value_type: ValueType,
+        value_type: CellType,
         contained: Contained,
     ) -> Result<(), AllocError>
         ensures { Leads (spec.component_variable (layer_seen self.old) identifier.now.name value_type contained) (layer_seen self.new) result }
@@ -168,7 +168,7 @@ impl<'a> Layouter<'a> {
     pub fn cell_variable(
         &mut self,
         identifier: &'a Identifier,
-        value_type: ValueType,
+        value_type: CellType,
     ) -> Result<usize, AllocError>
         ensures { Lays (λ n. n) (spec.cell_variable (layer_seen self.old) identifier.now.name value_type) (layer_seen self.new) result }
     {
@@ -176,7 +176,7 @@ impl<'a> Layouter<'a> {
         let slot = self.around.owned.add_variable(value_type, cells)?;
         self.declare(
             identifier,
-            Meaning::Variable(Origin::Permanent(slot), value_type),
+            Meaning::Variable(PlaceOrigin::Permanent(slot), value_type),
         )?;
         Ok(slot)
     }
@@ -203,11 +203,7 @@ impl<'a> Layouter<'a> {
     }
 
     #[tactic(auto, using(crate::proofs::LaidParts::locals_of_step, crate::proofs::LaidParts::locals_of_none))]
-    fn locals_of(
-        &mut self,
-        value_type: ValueType,
-        names: &'a [Identifier],
-    ) -> Result<(), AllocError>
+    fn locals_of(&mut self, value_type: CellType, names: &'a [Identifier]) -> Result<(), AllocError>
         ensures { Leads (spec.locals_of (layer_seen self.old) value_type names.now) (layer_seen self.new) result }
     {
         for identifier in names {
@@ -221,29 +217,29 @@ impl<'a> Layouter<'a> {
     pub fn local(
         &mut self,
         identifier: &'a Identifier,
-        value_type: ValueType,
+        value_type: CellType,
     ) -> Result<usize, AllocError>
         ensures { Lays (λ n. n) (spec.local_at (layer_seen self.old) identifier.now.name value_type) (layer_seen self.new) result }
     {
         let slot = self.frame.add_cells(&self.around.types, value_type)?;
         self.declare(
             identifier,
-            Meaning::Variable(Origin::Local(slot), value_type),
+            Meaning::Variable(PlaceOrigin::Local(slot), value_type),
         )?;
         Ok(slot)
     }
 }
 
 // The components of a variable.
-fn components_of(types: &Types<'_>, value_type: ValueType) -> Option<Contained>
+fn components_of(types: &Types<'_>, value_type: CellType) -> Option<Contained>
     ensures { result ≡ spec.components_of (types_seen types.now) value_type }
 {
-    if let ValueType::System(system) = value_type {
+    if let CellType::System(system) = value_type {
         return Some(Contained { system, count: 1 });
     }
     let array = types.array(value_type)?;
     match array.element {
-        ValueType::System(system) => Some(Contained {
+        CellType::System(system) => Some(Contained {
             system,
             count: array.index.count(),
         }),

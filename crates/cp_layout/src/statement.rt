@@ -9,12 +9,12 @@ ghost use Rattle.cp_layout.specs.LaidStatements as spec;
 ghost use Rattle.cp_layout.specs.LaidStatements.{target_seen, callee_seen, placed_seen, token_of};
 
 use crate::expression::byte_or;
-use crate::kinds::{Base, ValueType, values_of};
+use crate::kinds::{CellBase, CellType, values_of};
 use crate::layer::Layouter;
 use crate::names::Predeclared;
 use crate::surroundings::Surroundings;
-use crate::value::{Designated, Value, ordinal, place_at, place_of, set};
-use cp_slots::{Action, Arm, ComponentPlace, Origin, Place, ShownKind};
+use crate::value::{Designated, Value, ordinal, place_at, place_of, set_expression};
+use cp_slots::{Action, ComponentPlace, Place, PlaceOrigin, ResolvedArm, ShownKind};
 use cp_tree::{
     Arm as WrittenArm, Designator, Direction, Expression as Written, Identifier, Start, Statement,
     StatementKind,
@@ -23,28 +23,28 @@ use std::alloc::{AllocError, Global};
 
 /// A variable that is assigned to.
 #[derive(Drop)]
-struct Target {
+struct StatementTarget {
     place: Place,
-    value_type: ValueType,
+    value_type: CellType,
 }
 
 /// What a call statement calls.
 #[derive(Drop)]
-enum Callee {
+enum CalledRoutine {
     Predeclared(Predeclared),
     /// A routine of a component, and whether it is called by the component.
     Routine(ComponentPlace, bool, usize),
     Nothing,
 }
 
-fn callee_of(named: Designated) -> Callee
+fn callee_of(named: Designated) -> CalledRoutine
     ensures { callee_seen result ≡ spec.callee_of (designated_seen named) }
 {
     match named {
-        Designated::Predeclared(routine) => Callee::Predeclared(routine),
-        Designated::Routine(routine) => Callee::Routine(ComponentPlace::Own, false, routine),
-        Designated::Entry(place, routine) => Callee::Routine(place, true, routine),
-        _ => Callee::Nothing,
+        Designated::Predeclared(routine) => CalledRoutine::Predeclared(routine),
+        Designated::Routine(routine) => CalledRoutine::Routine(ComponentPlace::Own, false, routine),
+        Designated::Entry(place, routine) => CalledRoutine::Routine(place, true, routine),
+        _ => CalledRoutine::Nothing,
     }
 }
 
@@ -129,7 +129,7 @@ impl<'a> Layouter<'a> {
 
     #[cycle(statement)]
     #[tactic(auto, using(crate::proofs::LaidLists::arms_step, crate::proofs::LaidLists::arms_none))]
-    fn arms(&mut self, alloc: Global, nodes: &[WrittenArm]) -> Result<Vec<Arm>, AllocError>
+    fn arms(&mut self, alloc: Global, nodes: &[WrittenArm]) -> Result<Vec<ResolvedArm>, AllocError>
         ensures { Lays (λ v. map arm_seen v.items) (spec.arms (layer_seen self.old) (arms_of (arms_view nodes.now))) (layer_seen self.new) result }
     {
         let mut arms = Vec::new(alloc);
@@ -141,20 +141,20 @@ impl<'a> Layouter<'a> {
 
     #[cycle(statement)]
     #[tactic(auto, unfolding(crate::specs::LaidStatements::one_arm, crate::specs::Layers::layer_seen))]
-    fn arm(&mut self, alloc: Global, node: &WrittenArm) -> Result<Arm, AllocError>
+    fn arm(&mut self, alloc: Global, node: &WrittenArm) -> Result<ResolvedArm, AllocError>
         ensures { Lays arm_seen (spec.one_arm (layer_seen self.old) (arm_view node.now)) (layer_seen self.new) result }
     {
         let body = self.statement(alloc, &node.body, None)?;
         let labels = self.around.names.labels(alloc, &node.labels)?;
-        Ok(Arm { labels, body })
+        Ok(ResolvedArm { labels, body })
     }
 
     // The variable on the left of an assignment, or of a `for`.
-    fn target(&self, alloc: Global, named: Designated) -> Target
+    fn target(&self, alloc: Global, named: Designated) -> StatementTarget
         ensures { target_seen result ≡ spec.target_of (layer_seen self.now) (designated_seen named) }
     {
         match named {
-            Designated::Variable(place, value_type) => Target { place, value_type },
+            Designated::Variable(place, value_type) => StatementTarget { place, value_type },
             Designated::Routine(routine) => self.result_target(alloc, routine),
             _ => no_target(alloc),
         }
@@ -162,15 +162,15 @@ impl<'a> Layouter<'a> {
 
     // The result of the function that is laid out.
     #[tactic(auto, unfolding(crate::specs::Layers::layer_seen))]
-    fn result_target(&self, alloc: Global, routine: usize) -> Target
+    fn result_target(&self, alloc: Global, routine: usize) -> StatementTarget
         ensures { target_seen result ≡ spec.result_target (is_own (layer_seen self.now) routine) (result_of (layer_seen self.now) routine) }
     {
         let is_own = self.is_own(routine);
         match self.around.result(routine) {
             Some(result) => {
                 if is_own {
-                    Target {
-                        place: place_at(alloc, Origin::Local(result.slot)),
+                    StatementTarget {
+                        place: place_at(alloc, PlaceOrigin::Local(result.slot)),
                         value_type: result.value_type,
                     }
                 } else {
@@ -218,17 +218,17 @@ impl<'a> Layouter<'a> {
         &mut self,
         alloc: Global,
         at: usize,
-        callee: Callee,
+        callee: CalledRoutine,
         nodes: &[Written],
     ) -> Result<(), AllocError>
         ensures { Leads (spec.invoked_as (layer_seen self.old) at (callee_seen callee) (expressions_of (expressions_view nodes.now))) (layer_seen self.new) result }
     {
         match callee {
-            Callee::Predeclared(routine) => self.perform(alloc, at, routine, nodes),
-            Callee::Routine(component, is_entry, routine) => {
+            CalledRoutine::Predeclared(routine) => self.perform(alloc, at, routine, nodes),
+            CalledRoutine::Routine(component, is_entry, routine) => {
                 self.invoke(alloc, at, component, is_entry, routine, nodes)
             }
-            Callee::Nothing => self.add(at, Action::Empty, 0),
+            CalledRoutine::Nothing => self.add(at, Action::Empty, 0),
         }
     }
 
@@ -348,7 +348,7 @@ impl<'a> Layouter<'a> {
         alloc: Global,
         at: usize,
         selector: &Written,
-        arms: Vec<Arm>,
+        arms: Vec<ResolvedArm>,
         next: Option<usize>,
     ) -> Result<Option<usize>, AllocError>
         ensures { Lays (λ o. o) (settled (spec.selected (layer_seen self.old) at (expression_view selector.now) (map arm_seen arms.items)) next) (layer_seen self.new) result }
@@ -360,7 +360,7 @@ impl<'a> Layouter<'a> {
 
     // The most that arms need.
     #[tactic(auto, unfolding(crate::specs::Layers::layer_seen))]
-    fn arms_need(&self, arms: &[Arm]) -> usize
+    fn arms_need(&self, arms: &[ResolvedArm]) -> usize
         ensures { result ≡ spec.arms_need (layer_seen self.now) 0 (map arm_seen arms.now) }
     {
         let mut need = 0;
@@ -510,19 +510,19 @@ impl<'a> Layouter<'a> {
 
 impl<'a> Surroundings<'a> {
     // An assignment of a value to a variable.
-    fn assignment(&self, alloc: Global, target: Target, value: Value) -> Action
+    fn assignment(&self, alloc: Global, target: StatementTarget, value: Value) -> Action
         ensures { action_seen result ≡ spec.assignment (around_seen self.now) (target_seen target) (value_seen value) }
     {
         match target.value_type {
-            ValueType::Ordinal(range) => Action::Assign {
+            CellType::Ordinal(range) => Action::Assign {
                 target: target.place,
                 value: ordinal(value),
                 low: range.low,
                 high: range.high,
             },
-            ValueType::Set(base) => Action::AssignSet {
+            CellType::Set(base) => Action::AssignSet {
                 target: target.place,
-                value: set(value),
+                value: set_expression(value),
                 low: byte_or(0, base.low),
                 high: byte_or(u8::MAX, base.high),
             },
@@ -535,21 +535,21 @@ impl<'a> Surroundings<'a> {
     }
 }
 
-fn no_target(alloc: Global) -> Target
+fn no_target(alloc: Global) -> StatementTarget
     ensures { target_seen result ≡ spec.no_target }
 {
-    Target {
-        place: place_at(alloc, Origin::Local(0)),
-        value_type: values_of(Base::Integer),
+    StatementTarget {
+        place: place_at(alloc, PlaceOrigin::Local(0)),
+        value_type: values_of(CellBase::Integer),
     }
 }
 
 // The bounds of a type.
-fn bounds_of(value_type: ValueType) -> (i16, i16)
+fn bounds_of(value_type: CellType) -> (i16, i16)
     ensures { result ≡ (spec.low_of value_type, spec.high_of value_type) }
 {
     match value_type {
-        ValueType::Ordinal(range) => (range.low, range.high),
+        CellType::Ordinal(range) => (range.low, range.high),
         _ => (i16::MIN, i16::MAX),
     }
 }
@@ -590,9 +590,9 @@ fn shown_kind(value: &Value) -> ShownKind
     ensures { result ≡ spec.shown_kind (value_seen value.now) }
 {
     match value {
-        Value::Ordinal(_, Base::Char) => ShownKind::Character,
-        Value::Ordinal(_, Base::Boolean) => ShownKind::Truth,
-        Value::Ordinal(_, Base::Enumeration(first, _)) => ShownKind::Constant(*first),
+        Value::Ordinal(_, CellBase::Char) => ShownKind::Character,
+        Value::Ordinal(_, CellBase::Boolean) => ShownKind::Truth,
+        Value::Ordinal(_, CellBase::Enumeration(first, _)) => ShownKind::Constant(*first),
         _ => ShownKind::Integer,
     }
 }

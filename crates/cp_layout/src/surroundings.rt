@@ -7,7 +7,7 @@ ghost use Rattle.cp_layout.specs.LaidExpressions as expressions;
 ghost use Rattle.cp_layout.specs.LaidStatements as statements;
 
 use crate::kinds::Types;
-use crate::layer::{FunctionResult, Heading, Owned, Parameter, System};
+use crate::layer::{FunctionResult, HeadingLayout, Owned, ParameterLayout, System};
 use crate::names::Names;
 
 /// What is declared around a statement.
@@ -19,7 +19,7 @@ pub struct Surroundings<'a> {
     pub names: Names<'a>,
     pub systems: Vec<System>,
     /// Of each routine, and of the one that is laid out.
-    pub headings: Vec<Heading<'a>>,
+    pub headings: Vec<HeadingLayout<'a>>,
     /// The cells and components of the system type that is laid out, or of the program.
     pub owned: Owned,
 }
@@ -33,7 +33,7 @@ impl<'a> Surroundings<'a> {
     }
 
     /// A parameter of a routine.
-    pub fn parameter(&self, routine: usize, place: usize) -> Option<Parameter>
+    pub fn parameter(&self, routine: usize, place: usize) -> Option<ParameterLayout>
         ensures { result ≡ spec.parameter_of (around_seen self.now) routine place }
     {
         let heading = self.headings.get(routine)?;

@@ -10,7 +10,7 @@ ghost use Rattle.cp_layout.specs.Laid.{plain, laid};
 
 use crate::component::Components;
 use crate::layer::{Layouter, Owned, System};
-use cp_slots::{Layout, Process, Routine, SystemType};
+use cp_slots::{Layout, Process, ResolvedRoutine, SystemType};
 use cp_tree::Tree;
 use std::alloc::{AllocError, Global};
 
@@ -85,17 +85,17 @@ fn system_type(alloc: Global, owned: &Owned) -> Result<SystemType, AllocError>
 
 /// What each process may need.
 #[derive(Clone, Copy, Drop)]
-struct Room {
+struct RoomNeed {
     depth: usize,
     cells: usize,
     references: usize,
 }
 
 #[tactic(auto, using(crate::proofs::Systems::room_step, crate::proofs::Systems::room_none))]
-fn room_of(layer: &Layouter<'_>, processes: &[Process]) -> Room
+fn room_of(layer: &Layouter<'_>, processes: &[Process]) -> RoomNeed
     ensures { result ≡ spec.room_from (layer_seen layer.now) spec.no_room processes.now }
 {
-    let mut room = Room {
+    let mut room = RoomNeed {
         depth: 1,
         cells: 0,
         references: 0,
@@ -108,7 +108,7 @@ fn room_of(layer: &Layouter<'_>, processes: &[Process]) -> Room
 
 // Also for a process with this initial statement.
 #[tactic(auto, unfolding(crate::specs::Layers::layer_seen))]
-fn room_for(layer: &Layouter<'_>, room: Room, initial: usize) -> Room
+fn room_for(layer: &Layouter<'_>, room: RoomNeed, initial: usize) -> RoomNeed
     ensures { result ≡ spec.room_for (layer_seen layer.now) room (slice_get (layer_seen layer.now).routines initial) }
 {
     match layer.lists.routines.get(initial) {
@@ -120,11 +120,11 @@ fn room_for(layer: &Layouter<'_>, room: Room, initial: usize) -> Room
     }
 }
 
-impl Room {
-    fn with(self, routine: &Routine, depth: usize) -> Room
+impl RoomNeed {
+    fn with(self, routine: &ResolvedRoutine, depth: usize) -> RoomNeed
         ensures { result ≡ spec.room_with self (routine_view routine.now) depth }
     {
-        Room {
+        RoomNeed {
             depth: self.depth.max(depth),
             cells: self.cells.max(routine.room),
             references: self.references.max(routine.reference_room),

@@ -7,7 +7,7 @@ ghost use Rattle.cp_layout.specs.Layers.{layer_seen, names_seen, find, find_type
 ghost use Rattle.cp_layout.specs.LaidTypes as spec;
 
 use crate::expression::{integer, integer_of};
-use crate::kinds::{Base, Range, RecordType, ValueType, values_of};
+use crate::kinds::{CellBase, CellRange, CellType, RecordType, values_of};
 use crate::layer::Layouter;
 use crate::names::{Meaning, Names};
 use cp_tree::{
@@ -18,7 +18,7 @@ use std::alloc::{AllocError, Global};
 /// The value of a constant.
 #[derive(Clone, Copy, Drop)]
 pub struct Number {
-    pub base: Base,
+    pub base: CellBase,
     pub value: i16,
 }
 
@@ -49,11 +49,11 @@ impl<'a> Names<'a> {
     {
         match &node.kind {
             ConstantKind::Number(sign, number) => Number {
-                base: Base::Integer,
+                base: CellBase::Integer,
                 value: number_with_sign(*sign, integer(*number)),
             },
             ConstantKind::Character(code) => Number {
-                base: Base::Char,
+                base: CellBase::Char,
                 value: i16::from(*code),
             },
             ConstantKind::Name(sign, identifier) => {
@@ -71,7 +71,7 @@ impl<'a> Names<'a> {
                 value: number_with_sign(sign, number),
             },
             _ => Number {
-                base: Base::Integer,
+                base: CellBase::Integer,
                 value: 0,
             },
         }
@@ -90,12 +90,12 @@ impl<'a> Names<'a> {
     }
 
     /// The type that a name stands for.
-    pub fn named_type(&self, name: &str) -> ValueType
+    pub fn named_type(&self, name: &str) -> CellType
         ensures { result ≡ spec.type_meant (find_type name.now (names_seen self.now)) }
     {
         match self.look_type(name) {
             Some(value_type) => value_type,
-            None => values_of(Base::Integer),
+            None => values_of(CellBase::Integer),
         }
     }
 }
@@ -104,7 +104,7 @@ impl<'a> Layouter<'a> {
     /// A type, with its enumeration constants declared.
     #[cycle(types)]
     #[tactic(auto, unfolding(crate::specs::LaidTypes::written_type))]
-    pub fn value_type(&mut self, alloc: Global, node: &'a Type) -> Result<ValueType, AllocError>
+    pub fn value_type(&mut self, alloc: Global, node: &'a Type) -> Result<CellType, AllocError>
         ensures { Lays (λ t. t) (spec.written_type (layer_seen self.old) (type_view node.now)) (layer_seen self.new) result }
     {
         match &node.kind {
@@ -114,7 +114,7 @@ impl<'a> Layouter<'a> {
                 let element = self.value_type(alloc, element)?;
                 self.add_array(index, element)
             }
-            TypeKind::Set(base) => Ok(ValueType::Set(range_of(self.simple(alloc, base)?))),
+            TypeKind::Set(base) => Ok(CellType::Set(range_of(self.simple(alloc, base)?))),
             TypeKind::Record(groups, _) => {
                 let fields = self.field_groups(alloc, groups)?;
                 self.add_record(fields)
@@ -157,21 +157,21 @@ impl<'a> Layouter<'a> {
     }
 
     #[tactic(auto, unfolding(crate::specs::Layers::layer_seen))]
-    fn add_array(&mut self, index: Range, element: ValueType) -> Result<ValueType, AllocError>
+    fn add_array(&mut self, index: CellRange, element: CellType) -> Result<CellType, AllocError>
         ensures { Lays (λ t. t) (spec.with_array_type (layer_seen self.old) index element) (layer_seen self.new) result }
     {
         self.around.types.add_array(index, element)
     }
 
     #[tactic(auto, unfolding(crate::specs::Layers::layer_seen))]
-    fn add_record(&mut self, fields: RecordType<'a>) -> Result<ValueType, AllocError>
+    fn add_record(&mut self, fields: RecordType<'a>) -> Result<CellType, AllocError>
         ensures { Lays (λ t. t) (spec.with_record_type (layer_seen self.old) (fields_seen fields.entry)) (layer_seen self.new) result }
     {
         self.around.types.add_record(fields)
     }
 
     #[tactic(auto, unfolding(crate::specs::LaidTypes::simple_type, crate::specs::Layers::layer_seen))]
-    fn simple(&mut self, alloc: Global, node: &'a Simple) -> Result<ValueType, AllocError>
+    fn simple(&mut self, alloc: Global, node: &'a Simple) -> Result<CellType, AllocError>
         ensures { Lays (λ t. t) (spec.simple_type (layer_seen self.old) (simple_view node.now)) (layer_seen self.new) result }
     {
         match &node.kind {
@@ -180,7 +180,7 @@ impl<'a> Layouter<'a> {
             SimpleKind::Subrange(low, high) => {
                 let low = self.around.names.constant(low);
                 let high = self.around.names.constant(high);
-                Ok(ValueType::Ordinal(Range {
+                Ok(CellType::Ordinal(CellRange {
                     base: low.base,
                     low: low.value,
                     high: high.value,
@@ -194,12 +194,12 @@ impl<'a> Layouter<'a> {
         &mut self,
         alloc: Global,
         constants: &'a [Identifier],
-    ) -> Result<ValueType, AllocError>
+    ) -> Result<CellType, AllocError>
         ensures { Lays (λ t. t) (spec.enumeration (layer_seen self.old) constants.now) (layer_seen self.new) result }
     {
         let first = u16::try_from(self.lists.constants.len()).unwrap_or(u16::MAX);
         let last = integer_of(constants.len().saturating_sub(1));
-        let base = Base::Enumeration(first, last);
+        let base = CellBase::Enumeration(first, last);
         self.enumerate(alloc, base, constants)?;
         Ok(values_of(base))
     }
@@ -208,7 +208,7 @@ impl<'a> Layouter<'a> {
     fn enumerate(
         &mut self,
         alloc: Global,
-        base: Base,
+        base: CellBase,
         constants: &'a [Identifier],
     ) -> Result<(), AllocError>
         ensures { Leads (spec.enumerated (layer_seen self.old) base 0 constants.now) (layer_seen self.new) result }
@@ -237,12 +237,12 @@ impl<'a> Layouter<'a> {
 }
 
 // The values of an ordinal type.
-fn range_of(value_type: ValueType) -> Range
+fn range_of(value_type: CellType) -> CellRange
     ensures { result ≡ spec.range_of value_type }
 {
     match value_type {
-        ValueType::Ordinal(range) => range,
-        _ => Base::Integer.whole(),
+        CellType::Ordinal(range) => range,
+        _ => CellBase::Integer.whole(),
     }
 }
 
@@ -250,7 +250,7 @@ fn range_of(value_type: ValueType) -> Range
 fn add_fields<'a>(
     fields: &mut RecordType<'a>,
     names: &'a [Identifier],
-    value_type: ValueType,
+    value_type: CellType,
     cells: usize,
 ) -> Result<(), AllocError>
     ensures { OnOk result (fields_seen fields.new ≡ spec.fields_of_type (fields_seen fields.old) names.now value_type cells) }

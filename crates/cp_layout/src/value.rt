@@ -5,10 +5,10 @@ ghost use Rattle.cp_slots.specs.Code.{place_seen, expression_seen, set_seen};
 ghost use Rattle.cp_layout.specs.Values as spec;
 ghost use Rattle.cp_layout.specs.Values.{value_seen};
 
-use crate::kinds::{Base, ValueType};
+use crate::kinds::{CellBase, CellType};
 use crate::names::Predeclared;
 use cp_slots::{
-    Arithmetic, Comparison, ComponentPlace, Expression, Logic, Origin, Place, SetExpression,
+    Arithmetic, Comparison, ComponentPlace, Expression, Logic, Place, PlaceOrigin, SetExpression,
     SetOperation,
 };
 use cp_tree::{Addition, Multiplication, Relation};
@@ -17,10 +17,10 @@ use std::alloc::{AllocError, Global};
 /// The value of an expression.
 #[derive(Drop)]
 pub enum Value {
-    Ordinal(Expression, Base),
+    Ordinal(Expression, CellBase),
     Set(SetExpression),
     /// An array, a record or a queue.
-    Whole(Place, ValueType),
+    Whole(Place, CellType),
     Component(ComponentPlace),
 }
 
@@ -28,9 +28,9 @@ pub enum Value {
 #[derive(Drop)]
 pub enum Designated {
     Value(Value),
-    Variable(Place, ValueType),
+    Variable(Place, CellType),
     /// A component, or an array of these, by the number of the first above that of its container.
-    Contained(usize, ValueType),
+    Contained(usize, CellType),
     /// A component of a system type.
     Component(ComponentPlace, usize),
     Routine(usize),
@@ -40,7 +40,7 @@ pub enum Designated {
 }
 
 /// A number.
-pub fn number(number: i16, base: Base) -> Value
+pub fn number(number: i16, base: CellBase) -> Value
     ensures { value_seen result ≡ spec.number_value number base }
 {
     Value::Ordinal(Expression::Number(number), base)
@@ -50,11 +50,11 @@ pub fn number(number: i16, base: Base) -> Value
 pub fn no_value() -> Value
     ensures { value_seen result ≡ spec.no_value }
 {
-    number(0, Base::Integer)
+    number(0, CellBase::Integer)
 }
 
 /// A whole variable.
-pub fn place_at(alloc: Global, origin: Origin) -> Place
+pub fn place_at(alloc: Global, origin: PlaceOrigin) -> Place
     ensures { place_seen result ≡ spec.place_at origin }
 {
     Place {
@@ -65,12 +65,12 @@ pub fn place_at(alloc: Global, origin: Origin) -> Place
 }
 
 /// The value of a variable.
-pub fn load(place: Place, value_type: ValueType) -> Value
+pub fn load(place: Place, value_type: CellType) -> Value
     ensures { value_seen result ≡ spec.loaded (place_seen place) value_type }
 {
     match value_type {
-        ValueType::Ordinal(range) => Value::Ordinal(Expression::Load(place), range.base),
-        ValueType::Set(_) => Value::Set(SetExpression::Load(place)),
+        CellType::Ordinal(range) => Value::Ordinal(Expression::Load(place), range.base),
+        CellType::Set(_) => Value::Set(SetExpression::Load(place)),
         _ => Value::Whole(place, value_type),
     }
 }
@@ -83,7 +83,7 @@ pub fn place_of(alloc: Global, value: Value) -> Place
         Value::Ordinal(Expression::Load(place), _) => place,
         Value::Set(SetExpression::Load(place)) => place,
         Value::Whole(place, _) => place,
-        _ => place_at(alloc, Origin::Local(0)),
+        _ => place_at(alloc, PlaceOrigin::Local(0)),
     }
 }
 
@@ -98,7 +98,7 @@ pub fn ordinal(value: Value) -> Expression
 }
 
 /// The expression of a set.
-pub fn set(value: Value) -> SetExpression
+pub fn set_expression(value: Value) -> SetExpression
     ensures { set_seen result ≡ spec.set_of (value_seen value) }
 {
     match value {
@@ -112,7 +112,7 @@ pub fn negation_of(alloc: Global, value: Value) -> Result<Value, AllocError>
     ensures { IfOk result (λ v. value_seen v ≡ spec.negated (value_seen value)) }
 {
     let inner = Box::new(alloc, ordinal(value))?;
-    Ok(Value::Ordinal(Expression::Not(inner), Base::Boolean))
+    Ok(Value::Ordinal(Expression::Not(inner), CellBase::Boolean))
 }
 
 /// A value with the sign `-`.
@@ -120,11 +120,11 @@ pub fn opposite(alloc: Global, value: Value) -> Result<Value, AllocError>
     ensures { IfOk result (λ v. value_seen v ≡ spec.opposite (value_seen value)) }
 {
     let inner = Box::new(alloc, ordinal(value))?;
-    Ok(Value::Ordinal(Expression::Negate(inner), Base::Integer))
+    Ok(Value::Ordinal(Expression::Negate(inner), CellBase::Integer))
 }
 
 /// Two values, each in a box. They are let go here where memory fails, whatever they are: that takes each caller a long proof.
-pub fn boxed<L: Drop, R: Drop>(
+pub fn in_two_boxes<L: Drop, R: Drop>(
     alloc: Global,
     left: L,
     right: R,
@@ -144,18 +144,18 @@ fn arithmetic(
 ) -> Result<Value, AllocError>
     ensures { IfOk result (λ v. value_seen v ≡ spec.arithmetic_of operation (value_seen left) (value_seen right)) }
 {
-    let (left, right) = boxed(alloc, ordinal(left), ordinal(right))?;
+    let (left, right) = in_two_boxes(alloc, ordinal(left), ordinal(right))?;
     Ok(Value::Ordinal(
         Expression::Arithmetic(operation, left, right),
-        Base::Integer,
+        CellBase::Integer,
     ))
 }
 
 fn logic(alloc: Global, operation: Logic, left: Value, right: Value) -> Result<Value, AllocError>
     ensures { IfOk result (λ v. value_seen v ≡ spec.logic_of operation (value_seen left) (value_seen right)) }
 {
-    let (left, right) = boxed(alloc, ordinal(left), ordinal(right))?;
-    Ok(Value::Ordinal(Expression::Logic(operation, left, right), Base::Boolean))
+    let (left, right) = in_two_boxes(alloc, ordinal(left), ordinal(right))?;
+    Ok(Value::Ordinal(Expression::Logic(operation, left, right), CellBase::Boolean))
 }
 
 fn combined_sets(
@@ -166,7 +166,7 @@ fn combined_sets(
 ) -> Result<Value, AllocError>
     ensures { IfOk result (λ v. value_seen v ≡ spec.combined operation (value_seen left) (value_seen right)) }
 {
-    let (left, right) = boxed(alloc, set(left), set(right))?;
+    let (left, right) = in_two_boxes(alloc, set_expression(left), set_expression(right))?;
     Ok(Value::Set(SetExpression::Combine(operation, left, right)))
 }
 
@@ -216,15 +216,15 @@ pub fn product_of(
 fn member(alloc: Global, left: Value, right: Value) -> Result<Value, AllocError>
     ensures { IfOk result (λ v. value_seen v ≡ spec.member_of (value_seen left) (value_seen right)) }
 {
-    let (element, set) = boxed(alloc, ordinal(left), set(right))?;
-    Ok(Value::Ordinal(Expression::Member(element, set), Base::Boolean))
+    let (element, set) = in_two_boxes(alloc, ordinal(left), set_expression(right))?;
+    Ok(Value::Ordinal(Expression::Member(element, set), CellBase::Boolean))
 }
 
 fn same_set(alloc: Global, is_same: bool, left: Value, right: Value) -> Result<Value, AllocError>
     ensures { IfOk result (λ v. value_seen v ≡ spec.same_sets is_same (value_seen left) (value_seen right)) }
 {
-    let (left, right) = boxed(alloc, set(left), set(right))?;
-    Ok(Value::Ordinal(Expression::SameSet(is_same, left, right), Base::Boolean))
+    let (left, right) = in_two_boxes(alloc, set_expression(left), set_expression(right))?;
+    Ok(Value::Ordinal(Expression::SameSet(is_same, left, right), CellBase::Boolean))
 }
 
 fn comparison(
@@ -235,8 +235,11 @@ fn comparison(
 ) -> Result<Value, AllocError>
     ensures { IfOk result (λ v. value_seen v ≡ spec.compared relation (value_seen left) (value_seen right)) }
 {
-    let (left, right) = boxed(alloc, ordinal(left), ordinal(right))?;
-    Ok(Value::Ordinal(Expression::Compare(relation, left, right), Base::Boolean))
+    let (left, right) = in_two_boxes(alloc, ordinal(left), ordinal(right))?;
+    Ok(Value::Ordinal(
+        Expression::Compare(relation, left, right),
+        CellBase::Boolean,
+    ))
 }
 
 /// Two sums compared.
@@ -285,17 +288,23 @@ pub fn standard_value(
             base,
         ),
         Predeclared::Chr => {
-            Value::Ordinal(Expression::Character(Box::new(alloc, inner)?), Base::Char)
+            Value::Ordinal(
+                Expression::Character(Box::new(alloc, inner)?),
+                CellBase::Char,
+            )
         }
         Predeclared::Abs => {
-            Value::Ordinal(Expression::Absolute(Box::new(alloc, inner)?), Base::Integer)
+            Value::Ordinal(
+                Expression::Absolute(Box::new(alloc, inner)?),
+                CellBase::Integer,
+            )
         }
-        _ => Value::Ordinal(inner, Base::Integer),
+        _ => Value::Ordinal(inner, CellBase::Integer),
     })
 }
 
 fn is_empty(place: Place) -> Value
     ensures { value_seen result ≡ spec.empty_queue (place_seen place) }
 {
-    Value::Ordinal(Expression::IsEmpty(place), Base::Boolean)
+    Value::Ordinal(Expression::IsEmpty(place), CellBase::Boolean)
 }

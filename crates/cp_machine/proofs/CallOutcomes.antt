@@ -5,7 +5,7 @@ use Rattle.std.specs.Result.{IsErrAnd}
 use denote.Enum.Bare.{sameb}
 use Rattle.std.proofs.lemmas.List.{length-map, length-set}
 use Rattle.cp_slots.specs.Tables.{Tables, component_at}
-use Rattle.cp_slots.specs.declared.item.Arm.{Arm}
+use Rattle.cp_slots.specs.declared.item.ResolvedArm.{ResolvedArm}
 use Rattle.cp_slots.specs.declared.place.Argument.{Argument}
 use Rattle.cp_slots.specs.declared.place.ComponentPlace.{ComponentPlace}
 use Rattle.cp_slots.specs.declared.place.Expression.{Expression}
@@ -100,7 +100,7 @@ module _ (m : Machine) (pid line : ℕ) (test : Expression) (list : Option ℕ) 
   pub until_goes : (v : ℤ) (b : Bool) → value_of m pid test ≡ Ok v → is_true v ≡ b → until m pid line test list again next es ≡ local (with_stack m pid (if b then rest_of next es else rest_of list (Rest again ∷ es)))
   until_goes v b e is = value_goes (fault m pid line) (λ v. local (with_stack m pid (if is_true v then rest_of next es else rest_of list (Rest again ∷ es)))) e ∙ ap (λ b. local (with_stack m pid (if b then rest_of next es else rest_of list (Rest again ∷ es)))) is
 
-module _ (m : Machine) (pid line : ℕ) (selector : Expression) (arms : List Arm) (rest : List Entry) where
+module _ (m : Machine) (pid line : ℕ) (selector : Expression) (arms : List ResolvedArm) (rest : List Entry) where
   pub case_fails : (x : ErrorName) → value_of m pid selector ≡ Err x → case_of m pid line selector arms rest ≡ fault m pid line x
   case_fails x e = value_fails (fault m pid line) (λ v. with_value (arm_for v arms) (fault m pid line) (λ list. local (with_stack m pid (rest_of list rest)))) e
 

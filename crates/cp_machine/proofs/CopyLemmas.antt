@@ -10,13 +10,13 @@ use Rattle.cp_machine.specs.declared.process.Entry.{Entry}
 use Rattle.cp_machine.specs.declared.process.Entry.TheVariants.{Rest, Successor, Return, InitEnd}
 use Rattle.cp_machine.specs.Stack.{top_first}
 use Rattle.cp_machine.specs.declared.state.Gate.{Gate}
-use Rattle.cp_machine.specs.declared.process.Process.{Process}
+use Rattle.cp_machine.specs.declared.process.ProcessState.{ProcessState}
 use Rattle.cp_machine.specs.Bodies.{Body, body_of}
 use Rattle.cp_machine.specs.Machine.{Machine, Thread, monitor_of, no_thread, thread_at, thread_of}
 use Rattle.cp_machine.specs.Fits.{FrameFits, HaveCells, HaveReferences, HaveRoom, HaveStacks, MachineFits, StackFits, ThreadFits}
 
 -- processes that are alike one by one
-pub threads_same : (xs ys : List Process) → length xs ≡ length ys → ((k : ℕ) (d : Process) → k < length xs → thread_of (slice_index_or xs k d) ≡ thread_of (slice_index_or ys k d)) → map thread_of xs ≡ map thread_of ys
+pub threads_same : (xs ys : List ProcessState) → length xs ≡ length ys → ((k : ℕ) (d : ProcessState) → k < length xs → thread_of (slice_index_or xs k d) ≡ thread_of (slice_index_or ys k d)) → map thread_of xs ≡ map thread_of ys
 threads_same [] [] e h = refl
 threads_same [] (y ∷ ys) e h = absurd (omega arith)
 threads_same (x ∷ xs) [] e h = absurd (omega arith)
@@ -35,12 +35,12 @@ set_each P xs at x within new n old q d lt = go (cases_eq q at)
         subst R (sym e) (subst (P at d) (sym (get_or-set_same xs at x d within)) (new d))
     go (inr ne) = subst (P q d) (sym (get_or-set_other xs at q x d ne)) (old q d lt ne)
 
-pub copied_more : (mine theirs : List Process) (at : ℕ) (x y : Process) → at < length mine → at < length theirs → thread_of x ≡ thread_of y → y ≡ slice_index_or theirs at y → ((k : ℕ) (d : Process) → k < at → thread_of (slice_index_or mine k d) ≡ thread_of (slice_index_or theirs k d)) → (k : ℕ) (d : Process) → k < at + 1 → thread_of (slice_index_or (slice_set mine at x) k d) ≡ thread_of (slice_index_or theirs k d)
+pub copied_more : (mine theirs : List ProcessState) (at : ℕ) (x y : ProcessState) → at < length mine → at < length theirs → thread_of x ≡ thread_of y → y ≡ slice_index_or theirs at y → ((k : ℕ) (d : ProcessState) → k < at → thread_of (slice_index_or mine k d) ≡ thread_of (slice_index_or theirs k d)) → (k : ℕ) (d : ProcessState) → k < at + 1 → thread_of (slice_index_or (slice_set mine at x) k d) ≡ thread_of (slice_index_or theirs k d)
 copied_more mine theirs at x y lm lt same read old =
     set_each (λ k d p. thread_of p ≡ thread_of (slice_index_or theirs k d)) mine at x lm (λ d. same ∙ ap thread_of (get_or_read theirs at y lt read d)) (at + 1) (λ k d l ne. old k d (omega arith))
 
 -- a measure of each process is at least as great as before where one is replaced by one whose measure is
-pub grown : (of : Process → ℕ) (mine : List Process) (at : ℕ) (x old : Process) → at < length mine → old ≡ slice_index_or mine at old → of old ≤ of x → (n : ℕ → Process → ℕ) → ((q : ℕ) (d : Process) → q < length mine → n q d ≤ of (slice_index_or mine q d)) → (q : ℕ) (d : Process) → q < length (slice_set mine at x) → n q d ≤ of (slice_index_or (slice_set mine at x) q d)
+pub grown : (of : ProcessState → ℕ) (mine : List ProcessState) (at : ℕ) (x old : ProcessState) → at < length mine → old ≡ slice_index_or mine at old → of old ≤ of x → (n : ℕ → ProcessState → ℕ) → ((q : ℕ) (d : ProcessState) → q < length mine → n q d ≤ of (slice_index_or mine q d)) → (q : ℕ) (d : ProcessState) → q < length (slice_set mine at x) → n q d ≤ of (slice_index_or (slice_set mine at x) q d)
 grown of mine at x old lm read more n h q d lt =
     let long = length-set mine at x in
     set_each (λ q d p. n q d ≤ of p) mine at x lm
@@ -48,16 +48,16 @@ grown of mine at x old lm read more n h q d lt =
     (length mine) (λ q d l ne. h q d l) q d (omega (arith, long, lt))
 
 -- the processes before a place are copied, those from it on are still the old ones, and all have room
-pub record AreCopied (old mine theirs : List Process) (at : ℕ) : Type 0 where
-  pub copied : (k : ℕ) (d : Process) → k < at → thread_of (slice_index_or mine k d) ≡ thread_of (slice_index_or theirs k d)
-  pub rest : (k : ℕ) (d : Process) → at ≤ k → slice_index_or mine k d ≡ slice_index_or old k d
+pub record AreCopied (old mine theirs : List ProcessState) (at : ℕ) : Type 0 where
+  pub copied : (k : ℕ) (d : ProcessState) → k < at → thread_of (slice_index_or mine k d) ≡ thread_of (slice_index_or theirs k d)
+  pub rest : (k : ℕ) (d : ProcessState) → at ≤ k → slice_index_or mine k d ≡ slice_index_or old k d
   pub room : HaveRoom mine theirs
   pub stacks : (depth : ℕ) → HaveStacks depth old → HaveStacks depth mine
   pub cells : (cells : ℕ) → HaveCells cells old → HaveCells cells mine
   pub references : (references : ℕ) → HaveReferences references old → HaveReferences references mine
 
 -- one process more is copied
-pub copied_next : (old mine theirs : List Process) (at : ℕ) (x was y : Process) → at < length mine → at < length theirs → was ≡ slice_index_or mine at was → y ≡ slice_index_or theirs at y → thread_of x ≡ thread_of y → vec_capacity was.stack ≤ vec_capacity x.stack → vec_capacity was.room.cells ≤ vec_capacity x.room.cells → vec_capacity was.room.references ≤ vec_capacity x.room.references → AreCopied old mine theirs at → AreCopied old (slice_set mine at x) theirs (at + 1)
+pub copied_next : (old mine theirs : List ProcessState) (at : ℕ) (x was y : ProcessState) → at < length mine → at < length theirs → was ≡ slice_index_or mine at was → y ≡ slice_index_or theirs at y → thread_of x ≡ thread_of y → vec_capacity was.stack ≤ vec_capacity x.stack → vec_capacity was.room.cells ≤ vec_capacity x.room.cells → vec_capacity was.room.references ≤ vec_capacity x.room.references → AreCopied old mine theirs at → AreCopied old (slice_set mine at x) theirs (at + 1)
 copied_next old mine theirs at x was y lm lt read_mine read same stack cells references h =
     let of_stack = grown (λ p. vec_capacity p.stack) mine at x was lm read_mine stack in
     let of_cells = grown (λ p. vec_capacity p.room.cells) mine at x was lm read_mine cells in
@@ -82,7 +82,7 @@ status_taken s t same =
     ap with_body same
 
 -- a process that is still the old one has the body of the other side's, where the old one has
-pub body_kept : (old mine theirs : List Process) (at : ℕ) (was y : Process) → at < length old → at < length theirs → slice_index_or mine at was ≡ slice_index_or old at was → was ≡ slice_index_or mine at was → y ≡ slice_index_or theirs at y → body_of (thread_at (map thread_of old) at) ≡ body_of (thread_at (map thread_of theirs) at) → body_of (thread_of was) ≡ body_of (thread_of y)
+pub body_kept : (old mine theirs : List ProcessState) (at : ℕ) (was y : ProcessState) → at < length old → at < length theirs → slice_index_or mine at was ≡ slice_index_or old at was → was ≡ slice_index_or mine at was → y ≡ slice_index_or theirs at y → body_of (thread_at (map thread_of old) at) ≡ body_of (thread_at (map thread_of theirs) at) → body_of (thread_of was) ≡ body_of (thread_of y)
 body_kept old mine theirs at was y lo lt rest read_mine read kept =
     let mine_is : thread_of was ≡ thread_at (map thread_of old) at = ap thread_of (read_mine ∙ rest) ∙ sym (get_or-map thread_of old at was no_thread lo) in
     let theirs_is : thread_at (map thread_of theirs) at ≡ thread_of y = get_or-map thread_of theirs at y no_thread lt ∙ ap thread_of (sym read) in
@@ -120,7 +120,7 @@ thread_within r t sound h =
     (stack_within r t.frame t.stack h.stack, omega (arith, h.cells, frame.cells, routine.cells), omega (arith, h.references, frame.references, routine.references))
 
 -- the processes of a state of the program have room for those of another
-pub have_room : (r : Tables) (mine theirs : List Process) (m : Machine) → map thread_of theirs ≡ m.threads → length mine ≡ length theirs → IsSound r → MachineFits r m → HaveStacks r.depth mine → HaveCells r.cells mine → HaveReferences r.references mine → HaveRoom mine theirs
+pub have_room : (r : Tables) (mine theirs : List ProcessState) (m : Machine) → map thread_of theirs ≡ m.threads → length mine ≡ length theirs → IsSound r → MachineFits r m → HaveStacks r.depth mine → HaveCells r.cells mine → HaveReferences r.references mine → HaveRoom mine theirs
 have_room r mine theirs m same long sound fits stacks cells references = λ q d lt.
     (let within : q < length theirs = omega (arith, long, lt) in
     let p = slice_index_or theirs q d in

@@ -6,7 +6,7 @@ use Rattle.cp_slots.specs.Tables.{Tables, component_at, parameter_at, routine_at
 use Rattle.cp_slots.specs.declared.place.Argument.{Argument}
 use Rattle.cp_slots.specs.declared.place.ComponentPlace.{ComponentPlace}
 use Rattle.cp_slots.specs.declared.place.ComponentPlace.TheVariants.{Own, Contained, Element, Parameter}
-use Rattle.cp_slots.specs.declared.place.Origin.{Origin}
+use Rattle.cp_slots.specs.declared.place.PlaceOrigin.{PlaceOrigin}
 use Rattle.cp_slots.specs.declared.tables.ComponentKind.{ComponentKind}
 use Rattle.cp_slots.specs.declared.tables.ComponentKind.TheVariants as kind
 use Rattle.cp_store.specs.Arguments.{bindings_after, bound_in_component, bound_in_frame}
@@ -110,7 +110,7 @@ module _ (r : Tables) (m : Machine) (pid : ℕ) (typed : IsTyped r) (fits : Mach
   pub memory_going : (stack : List Entry) (x : Memory) → Runs r m pid own.frame stack → Executing r (with_memory (with_stack m pid stack) pid x)
   memory_going stack x s = memory_executes r (with_stack m pid stack) pid x (stack_going stack s)
 
-  pub gone_going : (at : ℕ) (variable : Origin) (list : Option ℕ) (es : List Entry) (last z : ℤ) → Runs r m pid own.frame es → Executing r (gone_on m pid at variable list es last z)
+  pub gone_going : (at : ℕ) (variable : PlaceOrigin) (list : Option ℕ) (es : List Entry) (last z : ℤ) → Runs r m pid own.frame es → Executing r (gone_on m pid at variable list es last z)
   gone_going at variable list es last z s =
       let stack = rest_of list (Successor at z last ∷ es) in
       memory_going stack (put_number (memory_at (with_stack m pid stack) pid) (origin_of m pid variable) z) (rest_runs r m pid own.frame list (Successor at z last ∷ es) s)

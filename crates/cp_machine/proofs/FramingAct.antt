@@ -11,7 +11,7 @@ use Rattle.cp_slots.specs.declared.item.Action.{Action}
 use Rattle.cp_slots.specs.declared.item.Action.TheVariants.{Empty, Assign, AssignSet, Copy, Block, If, Case, While, Until, For, Cycle, Call, Start, Delay, Continue, Display}
 use Rattle.cp_slots.specs.declared.place.Argument.{Argument}
 use Rattle.cp_slots.specs.declared.place.ComponentPlace.{ComponentPlace}
-use Rattle.cp_slots.specs.declared.place.Origin.{Origin}
+use Rattle.cp_slots.specs.declared.place.PlaceOrigin.{PlaceOrigin}
 use Rattle.cp_slots.specs.declared.tables.ComponentKind.{ComponentKind}
 use Rattle.cp_slots.specs.declared.tables.ComponentKind.TheVariants as kind
 use Rattle.cp_store.specs.declared.argument.Bound.{Bound}
@@ -102,7 +102,7 @@ module _ (r : Tables) (m : Machine) (pid : ℕ) (lt : pid < length m.threads) (s
     going : Framed r (with_stack m pid next)
     going = with_entries next next_below
 
-    goes : (variable : Origin) (list : Option ℕ) (last z : ℤ) → Framed r (gone_on m pid at variable list es last z)
+    goes : (variable : PlaceOrigin) (list : Option ℕ) (last z : ℤ) → Framed r (gone_on m pid at variable list es last z)
     goes variable list last z =
         number_framed r (with_stack m pid (rest_of list (Successor at z last ∷ es))) pid (origin_of m pid variable) z (with_entries _ (with_rest list (Successor at z last ∷ es) below))
 

@@ -3,9 +3,9 @@ use Rattle.std.proofs.Common.{◌≡◌, ℕ, suc, ◌+◌, ◌<◌, ◌≤◌, 
 use Rattle.std.specs.Prelude.{ℤ, pos, slice_index_or, IfSome}
 use Rattle.cp_slots.specs.Tables.{Tables, item_at, component_at}
 use Rattle.cp_slots.specs.Fits.{IsSound, ListFits, InnerFits, CallFits, KindFits}
-use Rattle.cp_slots.specs.declared.item.Arm.{Arm}
+use Rattle.cp_slots.specs.declared.item.ResolvedArm.{ResolvedArm}
 use Rattle.cp_slots.specs.declared.place.Argument.{Argument}
-use Rattle.cp_slots.specs.declared.place.Origin.{Origin}
+use Rattle.cp_slots.specs.declared.place.PlaceOrigin.{PlaceOrigin}
 use Rattle.cp_slots.specs.declared.tables.ComponentKind.{ComponentKind}
 use Rattle.cp_slots.specs.declared.tables.ComponentKind.TheVariants as kind
 use Rattle.cp_store.specs.declared.argument.Bound.{Bound}
@@ -31,7 +31,7 @@ arm_or P true body others list e h k = subst P (cc) h
 arm_or P false body others list e h k = k e
 
 -- the list of the arm that is chosen is one of the arms'
-pub arm_is : (P : Option ℕ → Type 0) (z : ℤ) (arms : List Arm) → ((k : ℕ) (d : Arm) → k < length arms → P (slice_index_or arms k d).body) → (list : Option ℕ) → arm_for z arms ≡ Ok list → P list
+pub arm_is : (P : Option ℕ → Type 0) (z : ℤ) (arms : List ResolvedArm) → ((k : ℕ) (d : ResolvedArm) → k < length arms → P (slice_index_or arms k d).body) → (list : Option ℕ) → arm_for z arms ≡ Ok list → P list
 arm_is P z [] h list e = absurd (cc)
 arm_is P z (a ∷ arms) h list e = arm_or P (has_label z a.labels.items) a.body (arm_for z arms) list e (h 0 a (omega arith)) (λ f. arm_is P z arms (λ k d lt. h (suc k) d (omega arith)) list f)
 
@@ -40,7 +40,7 @@ module _ (r : Tables) (m : Machine) (pid : ℕ) (lt : pid < length m.threads) (s
   own = thread_at m.threads pid
 
   -- a `for` goes on with a value
-  pub goes_fits : (at : ℕ) (variable : Origin) (list : Option ℕ) (es : List Entry) (need : ℕ) (z last : ℤ) → InnerFits r own.frame.routine need list → length es + 1 + need ≤ r.depth → StackFits r own.frame (Successor at z last ∷ es) → MachineFits r (gone_on m pid at variable list es last z)
+  pub goes_fits : (at : ℕ) (variable : PlaceOrigin) (list : Option ℕ) (es : List Entry) (need : ℕ) (z last : ℤ) → InnerFits r own.frame.routine need list → length es + 1 + need ≤ r.depth → StackFits r own.frame (Successor at z last ∷ es) → MachineFits r (gone_on m pid at variable list es last z)
   goes_fits at variable list es need z last i d s =
       let one : length (Successor at z last ∷ es) ≤ length es + 1 = omega arith in
       memory_fits r _ pid _ (kept_number _ _ z) (stack_fits r m pid _ (inner_fits r own.frame list need (length es) _ i one d s) h)

@@ -8,7 +8,7 @@ use Rattle.cp_slots.specs.declared.item.Action.{Action}
 use Rattle.cp_slots.specs.declared.item.Action.TheVariants.{Empty, Assign, AssignSet, Copy, Block, If, Case, While, Until, For, Cycle, Call, Start, Delay, Continue, Display}
 use Rattle.cp_slots.specs.declared.item.Item.{Item}
 use Rattle.cp_slots.specs.declared.place.Argument.{Argument}
-use Rattle.cp_slots.specs.declared.place.Origin.{Origin}
+use Rattle.cp_slots.specs.declared.place.PlaceOrigin.{PlaceOrigin}
 use Rattle.cp_slots.specs.declared.tables.ComponentKind.{ComponentKind}
 use Rattle.cp_slots.specs.declared.tables.ComponentKind.TheVariants as kind
 use Rattle.cp_store.specs.declared.argument.Bound.{Bound}
@@ -103,7 +103,7 @@ module _ (r : Tables) (m : Machine) (pid : ℕ) (lt : pid < length m.threads) (r
   continue_at_fine next es (address.Permanent cell) = continued_from_fine r _ pid cell (from_end es) (stack_ready r m pid lt ready (from_end es))
   continue_at_fine next es (address.Local cell) = λ e. stack_ready r m pid lt ready _
 
-  gone_ready : (at : ℕ) (variable : Origin) (list : Option ℕ) (es : List Entry) (last z : ℤ) → is_ready (gone_on m pid at variable list es last z) pid ≡ true
+  gone_ready : (at : ℕ) (variable : PlaceOrigin) (list : Option ℕ) (es : List Entry) (last z : ℤ) → is_ready (gone_on m pid at variable list es last z) pid ≡ true
   gone_ready at variable list es last z =
       memory_ready r m pid lt ready (rest_of list (Successor at z last ∷ es)) (put_number (memory_at (with_stack m pid (rest_of list (Successor at z last ∷ es))) pid) (origin_of m pid variable) z)
 

@@ -4,7 +4,7 @@ use Rattle.std.specs.Prelude.{ℤ}
 use Rattle.std.specs.Ordering.{int_eq}
 use Rattle.std.proofs.lemmas.List.{length-map, length-set}
 use Rattle.cp_slots.specs.declared.place.Expression.{Expression}
-use Rattle.cp_slots.specs.declared.place.Origin.{Origin}
+use Rattle.cp_slots.specs.declared.place.PlaceOrigin.{PlaceOrigin}
 use Rattle.cp_slots.specs.declared.place.Place.{Place}
 use Rattle.cp_slots.specs.declared.place.SetExpression.{SetExpression}
 use Rattle.cp_store.specs.declared.error.ErrorName.{ErrorName}
@@ -85,7 +85,7 @@ module _ (m : Machine) (pid line : ℕ) (target source : Place) (size : ℕ) (re
 -- ---- loops
 
 -- a `for` goes on with a value, or is left
-module _ (m : Machine) (pid line at : ℕ) (variable : Origin) (list next : Option ℕ) (es : List Entry) (last : ℤ) where
+module _ (m : Machine) (pid line at : ℕ) (variable : PlaceOrigin) (list next : Option ℕ) (es : List Entry) (last : ℤ) where
   for_is : {b d : Bool} (o : Result ℤ ErrorName) → b ≡ d → (if b then local (with_stack m pid (rest_of next es)) else with_value o (fault m pid line) (λ v. local (gone_on m pid at variable list es last v))) ≡ (if d then local (with_stack m pid (rest_of next es)) else with_value o (fault m pid line) (λ v. local (gone_on m pid at variable list es last v)))
   for_is o e = ap (λ b. if b then local (with_stack m pid (rest_of next es)) else with_value o (fault m pid line) (λ v. local (gone_on m pid at variable list es last v))) e
 

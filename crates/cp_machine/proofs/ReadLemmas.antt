@@ -8,8 +8,8 @@ use Rattle.cp_slots.specs.Tables.{Tables, RoutineView, item_at, routine_at}
 use Rattle.cp_slots.specs.declared.item.Action.{Action}
 use Rattle.cp_slots.specs.declared.item.Action.TheVariants.{Empty, Assign, AssignSet, Copy, Block, If, Case, While, Until, For, Cycle, Call, Start, Delay, Continue, Display}
 use Rattle.cp_slots.specs.declared.item.Item.{Item}
-use Rattle.cp_slots.specs.declared.place.Origin.{Origin}
-use Rattle.cp_slots.specs.declared.place.Origin.TheVariants as origin
+use Rattle.cp_slots.specs.declared.place.PlaceOrigin.{PlaceOrigin}
+use Rattle.cp_slots.specs.declared.place.PlaceOrigin.TheVariants as origin
 use Rattle.cp_slots.specs.declared.place.Place.{Place}
 use Rattle.cp_store.specs.declared.error.ErrorName.{ErrorName}
 use Rattle.cp_store.specs.declared.memory.Address.{Address}
@@ -20,7 +20,7 @@ use Rattle.cp_store.specs.Memory.{Memory, memory_of, nowhere, onward}
 use Rattle.cp_store.specs.Places.{origin_address}
 use Rattle.cp_store.proofs.Reaches.{and_left, and_right, has_fewer, have_cells}
 use Rattle.cp_machine.specs.declared.process.Entry.{Entry}
-use Rattle.cp_machine.specs.declared.process.Process.{Process}
+use Rattle.cp_machine.specs.declared.process.ProcessState.{ProcessState}
 use Rattle.cp_machine.specs.declared.state.State.{State}
 use Rattle.cp_machine.specs.Fits.{EntryFits, HasRoom, IsStateOf, IsTaken}
 use Rattle.cp_machine.specs.Machine.{Machine, Thread, machine_of, no_thread, thread_at, under, with_stack}
@@ -42,7 +42,7 @@ reached_in m pid place cells (Ok at) is (r, covers, room) = go (place_room r pla
     go None found enough = absurd (cc)
 
 -- a variable has its cells
-begun_has : (m : Memory) (r : RoutineView) (f : Frame) (o : Origin) (cells : ℕ) → Covers m r f → has cells (room_from r o) ≡ true → store.HasCells m (origin_address m.references f o) cells
+begun_has : (m : Memory) (r : RoutineView) (f : Frame) (o : PlaceOrigin) (cells : ℕ) → Covers m r f → has cells (room_from r o) ≡ true → store.HasCells m (origin_address m.references f o) cells
 begun_has m r f (origin.Permanent slot) cells covers room = go (nat_le slot r.own) refl room
   where
     go : (b : Bool) → nat_le slot r.own ≡ b → has cells (if b then Some (r.own - slot) else None) ≡ true → onward f.own slot + cells ≤ length m.permanents
@@ -64,7 +64,7 @@ begun_has m r f (origin.Reference number) cells covers room = go (nat_lt number 
     go false lt enough = absurd (cc)
 
 -- and is begun at a number of a machine word, or at a place that is there
-pub begins : (m : Memory) (r : RoutineView) (f : Frame) (o : Origin) (cells : ℕ) → Covers m r f → has cells (room_from r o) ≡ true → store.Begins m.references f o
+pub begins : (m : Memory) (r : RoutineView) (f : Frame) (o : PlaceOrigin) (cells : ℕ) → Covers m r f → has cells (room_from r o) ≡ true → store.Begins m.references f o
 begins m r f (origin.Permanent slot) cells covers room = go (nat_le slot r.own) refl room
   where
     go : (b : Bool) → nat_le slot r.own ≡ b → has cells (if b then Some (r.own - slot) else None) ≡ true → f.own + slot < 2 ^ 64
@@ -81,18 +81,18 @@ begins m r f (origin.Reference number) cells covers room = go (nat_lt number (le
     go true lt enough = omega (arith, ltb-true number (length r.extents) lt, covers.references)
     go false lt enough = absurd (cc)
 
-pub named_in : (m : Machine) (pid : ℕ) (o : Origin) (cells : ℕ) (at : Address) → at ≡ origin_of m pid o → CanName m pid o cells → HasCells m pid at cells
+pub named_in : (m : Machine) (pid : ℕ) (o : PlaceOrigin) (cells : ℕ) (at : Address) → at ≡ origin_of m pid o → CanName m pid o cells → HasCells m pid at cells
 named_in m pid o cells at is (r, covers, room) = subst (λ a. HasCells m pid a cells) (sym is) (begun_has (memory_at m pid) r (frame_at m pid) o cells covers room)
 
 -- ---- the memory of a process
 
 -- what is known of the memory and the frame of a process, at its own cells
-pub own_memory : (P : Memory → Frame → Type 0) (s : State) (pid : ℕ) (p : Process) (permanents : List ℤ) → pid < length s.processes.items → p ≡ slice_index_or s.processes.items pid p → permanents ≡ s.permanents.items → P (memory_at (machine_of s) pid) (frame_at (machine_of s) pid) → P (memory_of permanents p.room) p.frame
+pub own_memory : (P : Memory → Frame → Type 0) (s : State) (pid : ℕ) (p : ProcessState) (permanents : List ℤ) → pid < length s.processes.items → p ≡ slice_index_or s.processes.items pid p → permanents ≡ s.permanents.items → P (memory_at (machine_of s) pid) (frame_at (machine_of s) pid) → P (memory_of permanents p.room) p.frame
 own_memory P s pid p permanents lt read same h =
     let Q : Thread → Type 0 = λ t. P (record { permanents = s.permanents.items; cells = t.cells; references = t.references }) t.frame in
     subst (λ ps. P (memory_of ps p.room) p.frame) (sym same) (subst Q (thread_read s.processes.items pid p lt read) h)
 
-pub whole_memory : (P : Memory → Frame → Type 0) (s : State) (pid : ℕ) (p : Process) (permanents : List ℤ) → pid < length s.processes.items → p ≡ slice_index_or s.processes.items pid p → permanents ≡ s.permanents.items → P (memory_of permanents p.room) p.frame → P (memory_at (machine_of s) pid) (frame_at (machine_of s) pid)
+pub whole_memory : (P : Memory → Frame → Type 0) (s : State) (pid : ℕ) (p : ProcessState) (permanents : List ℤ) → pid < length s.processes.items → p ≡ slice_index_or s.processes.items pid p → permanents ≡ s.permanents.items → P (memory_of permanents p.room) p.frame → P (memory_at (machine_of s) pid) (frame_at (machine_of s) pid)
 whole_memory P s pid p permanents lt read same h =
     let Q : Thread → Type 0 = λ t. P (record { permanents = s.permanents.items; cells = t.cells; references = t.references }) t.frame in
     subst Q (sym (thread_read s.processes.items pid p lt read)) (subst (λ ps. P (memory_of ps p.room) p.frame) same h)

@@ -7,7 +7,7 @@ use Rattle.cp_slots.specs.Fits.{InnerFits, CallFits}
 use Rattle.cp_slots.specs.declared.place.Argument.{Argument}
 use Rattle.cp_machine.specs.declared.process.Entry.{Entry}
 use Rattle.cp_machine.specs.declared.process.Entry.TheVariants.{Rest, Successor}
-use Rattle.cp_machine.specs.declared.process.Process.{Process}
+use Rattle.cp_machine.specs.declared.process.ProcessState.{ProcessState}
 use Rattle.cp_machine.specs.declared.state.State.{State}
 use Rattle.cp_machine.specs.Fits.{EntryFits, StackFits, MachineFits, IsReserved, IsStateOf, IsBusy, HasRoom, HasCallRoom}
 use Rattle.cp_machine.specs.Machine.{Thread, thread_of, thread_at, no_thread, machine_of}
@@ -16,25 +16,25 @@ use Rattle.cp_machine.proofs.Keeping.{frame_fits}
 abbrev pub thread : State → ℕ → Thread
 thread s pid = thread_at (machine_of s).threads pid
 
-pub thread_is : (s : State) (pid : ℕ) (d : Process) → pid < length s.processes.items → thread s pid ≡ thread_of (slice_index_or s.processes.items pid d)
+pub thread_is : (s : State) (pid : ℕ) (d : ProcessState) → pid < length s.processes.items → thread s pid ≡ thread_of (slice_index_or s.processes.items pid d)
 thread_is s pid d lt = get_or-map thread_of s.processes.items pid d no_thread lt
 
 pub within : (s : State) (pid : ℕ) → pid < length s.processes.items → pid < length (machine_of s).threads
 within s pid lt = omega (arith, lt, length-map s.processes.items thread_of)
 
-pub stack_length : (s : State) (pid : ℕ) (d : Process) → pid < length s.processes.items → vec_len (slice_index_or s.processes.items pid d).stack ≡ length (thread s pid).stack
+pub stack_length : (s : State) (pid : ℕ) (d : ProcessState) → pid < length s.processes.items → vec_len (slice_index_or s.processes.items pid d).stack ≡ length (thread s pid).stack
 stack_length s pid d lt =
     let p = slice_index_or s.processes.items pid d in
     let len : vec_len p.stack ≡ length p.stack.items = p.stack.ok.0 in
     len ∙ sym (length-reverse p.stack.items) ∙ ap (λ t. length t.stack) (sym (thread_is s pid d lt))
 
-pub cells_length : (s : State) (pid : ℕ) (d : Process) → pid < length s.processes.items → vec_len (slice_index_or s.processes.items pid d).room.cells ≡ length (thread s pid).cells
+pub cells_length : (s : State) (pid : ℕ) (d : ProcessState) → pid < length s.processes.items → vec_len (slice_index_or s.processes.items pid d).room.cells ≡ length (thread s pid).cells
 cells_length s pid d lt =
     let p = slice_index_or s.processes.items pid d in
     let len : vec_len p.room.cells ≡ length p.room.cells.items = p.room.cells.ok.0 in
     len ∙ ap (λ t. length t.cells) (sym (thread_is s pid d lt))
 
-pub references_length : (s : State) (pid : ℕ) (d : Process) → pid < length s.processes.items → vec_len (slice_index_or s.processes.items pid d).room.references ≡ length (thread s pid).references
+pub references_length : (s : State) (pid : ℕ) (d : ProcessState) → pid < length s.processes.items → vec_len (slice_index_or s.processes.items pid d).room.references ≡ length (thread s pid).references
 references_length s pid d lt =
     let p = slice_index_or s.processes.items pid d in
     let len : vec_len p.room.references ≡ length p.room.references.items = p.room.references.ok.0 in

@@ -3,12 +3,12 @@ use Rattle.std.proofs.Common.{◌≡◌, ℕ, ◌<◌, ◌∙◌, List, length, 
 use Rattle.std.specs.Prelude.{slice_index_or}
 use Rattle.std.proofs.lemmas.List.{get_or-map}
 use Rattle.cp_store.specs.Memory.{Memory}
-use Rattle.cp_machine.specs.declared.process.Process.{Process}
+use Rattle.cp_machine.specs.declared.process.ProcessState.{ProcessState}
 use Rattle.cp_machine.specs.declared.state.Gate.{Gate}
 use Rattle.cp_machine.specs.Machine.{Machine, Thread, monitor_of, thread_of, thread_at, no_thread, no_monitor, with_permanents, with_thread}
 use Rattle.cp_machine.specs.Memory.{memory_at, with_memory}
 
-pub thread_read : (ps : List Process) (pid : ℕ) (p : Process) → pid < length ps → p ≡ slice_index_or ps pid p → thread_at (map thread_of ps) pid ≡ thread_of p
+pub thread_read : (ps : List ProcessState) (pid : ℕ) (p : ProcessState) → pid < length ps → p ≡ slice_index_or ps pid p → thread_at (map thread_of ps) pid ≡ thread_of p
 thread_read ps pid p h e = get_or-map thread_of ps pid p no_thread h ∙ ap thread_of (sym e)
 
 pub guard_read : (gs : List Gate) (k : ℕ) (g : Gate) → k < length gs → g ≡ slice_index_or gs k g → slice_index_or (map monitor_of gs) k no_monitor ≡ monitor_of g
@@ -21,7 +21,7 @@ abbrev with_memory_of : Machine → ℕ → Thread → Memory → Machine
 with_memory_of m pid t x = with_thread (with_permanents m x.permanents) pid (record t { cells = x.cells; references = x.references })
 
 -- what a process writes, by what it writes into its own cells
-pub memory_put : (F : Memory → Memory) (m : Machine) (ps : List Process) (pid : ℕ) (p : Process) (x : Memory) → m.threads ≡ map thread_of ps → pid < length ps → p ≡ slice_index_or ps pid p → x ≡ F (record { permanents = m.permanents; cells = p.room.cells.items; references = p.room.references.items }) → with_thread (with_permanents m x.permanents) pid (record (thread_of p) { cells = x.cells; references = x.references }) ≡ with_memory m pid (F (memory_at m pid))
+pub memory_put : (F : Memory → Memory) (m : Machine) (ps : List ProcessState) (pid : ℕ) (p : ProcessState) (x : Memory) → m.threads ≡ map thread_of ps → pid < length ps → p ≡ slice_index_or ps pid p → x ≡ F (record { permanents = m.permanents; cells = p.room.cells.items; references = p.room.references.items }) → with_thread (with_permanents m x.permanents) pid (record (thread_of p) { cells = x.cells; references = x.references }) ≡ with_memory m pid (F (memory_at m pid))
 memory_put F m ps pid p x threads lt read put =
     let e : thread_at m.threads pid ≡ thread_of p = ap (λ ts. thread_at ts pid) threads ∙ thread_read ps pid p lt read in
     ap (with_memory_of m pid (thread_of p)) put ∙ ap (λ t. with_memory_of m pid t (F (memory_in m t))) (sym e)

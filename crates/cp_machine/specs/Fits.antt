@@ -7,7 +7,7 @@ use Rattle.cp_slots.specs.declared.item.Item.{Item}
 use Rattle.cp_store.specs.declared.memory.Frame.{Frame}
 use Rattle.cp_machine.specs.declared.process.Entry.{Entry}
 use Rattle.cp_machine.specs.declared.process.Entry.TheVariants.{Rest, Successor, Return, InitEnd}
-use Rattle.cp_machine.specs.declared.process.Process.{Process}
+use Rattle.cp_machine.specs.declared.process.ProcessState.{ProcessState}
 use Rattle.cp_machine.specs.declared.state.State.{State}
 use Rattle.cp_machine.specs.declared.state.TheConstants.{MOST_SHOWN}
 use Rattle.cp_machine.specs.Machine.{Machine, Thread, is_at_gate, is_ready, machine_of, monitor_at, thread_at, under}
@@ -74,14 +74,14 @@ HaveGateRoom m = (monitor : ℕ) → length (monitor_at m monitor).line < 16
 
 -- each process has this much room for its control stack, its cells and its references
 
-abbrev pub HaveStacks : ℕ → List Process → Type 0
-HaveStacks depth ps = (q : ℕ) (d : Process) → q < length ps → depth ≤ vec_capacity (slice_index_or ps q d).stack
+abbrev pub HaveStacks : ℕ → List ProcessState → Type 0
+HaveStacks depth ps = (q : ℕ) (d : ProcessState) → q < length ps → depth ≤ vec_capacity (slice_index_or ps q d).stack
 
-abbrev pub HaveCells : ℕ → List Process → Type 0
-HaveCells cells ps = (q : ℕ) (d : Process) → q < length ps → cells ≤ vec_capacity (slice_index_or ps q d).room.cells
+abbrev pub HaveCells : ℕ → List ProcessState → Type 0
+HaveCells cells ps = (q : ℕ) (d : ProcessState) → q < length ps → cells ≤ vec_capacity (slice_index_or ps q d).room.cells
 
-abbrev pub HaveReferences : ℕ → List Process → Type 0
-HaveReferences references ps = (q : ℕ) (d : Process) → q < length ps → references ≤ vec_capacity (slice_index_or ps q d).room.references
+abbrev pub HaveReferences : ℕ → List ProcessState → Type 0
+HaveReferences references ps = (q : ℕ) (d : ProcessState) → q < length ps → references ≤ vec_capacity (slice_index_or ps q d).room.references
 
 -- what was reserved: the room of each process, the output, and room for arguments
 pub record IsReserved (r : Tables) (s : State) : Type 0 where
@@ -110,21 +110,21 @@ pub record IsTaken (r : Tables) (s : State) (pid at : ℕ) (item : Item) : Type 
 
 -- a process has an entry, and room for one more where it is wanted
 abbrev pub IsBusy : State → ℕ → Type 0
-IsBusy s pid = (d : Process) → 0 < vec_len (slice_index_or s.processes.items pid d).stack
+IsBusy s pid = (d : ProcessState) → 0 < vec_len (slice_index_or s.processes.items pid d).stack
 
 abbrev pub HasRoom : State → ℕ → Option ℕ → Type 0
 HasRoom s pid None = Unit {0}
-HasRoom s pid (Some at) = (d : Process) → vec_len (slice_index_or s.processes.items pid d).stack < vec_capacity (slice_index_or s.processes.items pid d).stack
+HasRoom s pid (Some at) = (d : ProcessState) → vec_len (slice_index_or s.processes.items pid d).stack < vec_capacity (slice_index_or s.processes.items pid d).stack
 
 -- each process has room for what the other has
-abbrev pub HaveRoom : List Process → List Process → Type 0
-HaveRoom mine theirs = (q : ℕ) (d : Process) → q < length mine →
+abbrev pub HaveRoom : List ProcessState → List ProcessState → Type 0
+HaveRoom mine theirs = (q : ℕ) (d : ProcessState) → q < length mine →
     (vec_len (slice_index_or theirs q d).stack ≤ vec_capacity (slice_index_or mine q d).stack)
     × (vec_len (slice_index_or theirs q d).room.cells ≤ vec_capacity (slice_index_or mine q d).room.cells)
     × (vec_len (slice_index_or theirs q d).room.references ≤ vec_capacity (slice_index_or mine q d).room.references)
 
 -- room for the frame of a routine, and for two entries more
-pub record HasCallRoom (r : Tables) (ps : List Process) (pid routine : ℕ) : Type 0 where
-  pub two : (d : Process) → vec_len (slice_index_or ps pid d).stack + 2 ≤ vec_capacity (slice_index_or ps pid d).stack
-  pub cells : (d : Process) → vec_len (slice_index_or ps pid d).room.cells + size_of r routine ≤ vec_capacity (slice_index_or ps pid d).room.cells
-  pub references : (d : Process) → vec_len (slice_index_or ps pid d).room.references + (routine_at r routine).references ≤ vec_capacity (slice_index_or ps pid d).room.references
+pub record HasCallRoom (r : Tables) (ps : List ProcessState) (pid routine : ℕ) : Type 0 where
+  pub two : (d : ProcessState) → vec_len (slice_index_or ps pid d).stack + 2 ≤ vec_capacity (slice_index_or ps pid d).stack
+  pub cells : (d : ProcessState) → vec_len (slice_index_or ps pid d).room.cells + size_of r routine ≤ vec_capacity (slice_index_or ps pid d).room.cells
+  pub references : (d : ProcessState) → vec_len (slice_index_or ps pid d).room.references + (routine_at r routine).references ≤ vec_capacity (slice_index_or ps pid d).room.references

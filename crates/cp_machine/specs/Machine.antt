@@ -5,7 +5,7 @@ use Rattle.cp_store.specs.declared.memory.Address.{Address}
 use Rattle.cp_store.specs.declared.memory.Frame.{Frame}
 use Rattle.cp_machine.specs.declared.gates.Gates.{Gates}
 use Rattle.cp_machine.specs.declared.process.Entry.{Entry}
-use Rattle.cp_machine.specs.declared.process.Process.{Process}
+use Rattle.cp_machine.specs.declared.process.ProcessState.{ProcessState}
 use Rattle.cp_machine.specs.declared.process.Status.{Status}
 use Rattle.cp_machine.specs.declared.process.Status.TheVariants.{Unstarted, Ready, AtGate, Delayed, Ended}
 use Rattle.cp_machine.specs.declared.shown.Shown.{Shown}
@@ -43,7 +43,7 @@ pub record Machine : Type 0 where
 
 -- ---- what a state of the code is seen as
 
-abbrev pub thread_of : Process → Thread
+abbrev pub thread_of : ProcessState → Thread
 thread_of p =
     record {
       status = p.status;

@@ -4,7 +4,7 @@ use Rattle.cp_slots.specs.Tables.{RoutineView}
 use Rattle.cp_slots.specs.declared.place.Argument.{Argument}
 use Rattle.cp_slots.specs.declared.place.ComponentPlace.{ComponentPlace}
 use Rattle.cp_slots.specs.declared.place.Expression.{Expression}
-use Rattle.cp_slots.specs.declared.place.Origin.{Origin}
+use Rattle.cp_slots.specs.declared.place.PlaceOrigin.{PlaceOrigin}
 use Rattle.cp_slots.specs.declared.place.Place.{Place}
 use Rattle.cp_slots.specs.declared.place.SetExpression.{SetExpression}
 use Rattle.cp_store.specs.declared.argument.Bound.{Bound}
@@ -36,7 +36,7 @@ abbrev pub address_of : Machine → ℕ → Place → Result Address ErrorName
 address_of m pid place = address_at (memory_at m pid) (thread_at m.threads pid).frame place
 
 -- where a variable lies
-abbrev pub origin_of : Machine → ℕ → Origin → Address
+abbrev pub origin_of : Machine → ℕ → PlaceOrigin → Address
 origin_of m pid variable = origin_address (thread_at m.threads pid).references (thread_at m.threads pid).frame variable
 
 abbrev pub component_of : Machine → ℕ → ComponentPlace → Result ℕ ErrorName

@@ -4,7 +4,7 @@ use Rattle.cp_slots.specs.Inside.{has, room_from}
 use Rattle.cp_slots.specs.declared.place.Argument.{Argument}
 use Rattle.cp_slots.specs.declared.place.ComponentPlace.{ComponentPlace}
 use Rattle.cp_slots.specs.declared.place.Expression.{Expression}
-use Rattle.cp_slots.specs.declared.place.Origin.{Origin}
+use Rattle.cp_slots.specs.declared.place.PlaceOrigin.{PlaceOrigin}
 use Rattle.cp_slots.specs.declared.place.Place.{Place}
 use Rattle.cp_slots.specs.declared.place.SetExpression.{SetExpression}
 use Rattle.cp_slots.specs.Systems.{IsOf, parameter_count}
@@ -131,7 +131,7 @@ CanReadSet m pid e = store.CanReadSet (memory_at m pid) (frame_at m pid) e
 abbrev pub CanReach : Machine → (pid : ℕ) → Place → (cells : ℕ) → Type 0
 CanReach m pid place cells = store.CanReach (memory_at m pid) (frame_at m pid) place cells
 
-abbrev pub CanName : Machine → (pid : ℕ) → Origin → (cells : ℕ) → Type 0
+abbrev pub CanName : Machine → (pid : ℕ) → PlaceOrigin → (cells : ℕ) → Type 0
 CanName m pid variable cells = (r : RoutineView) × store.Covers (memory_at m pid) r (frame_at m pid) × IsTrue (has cells (room_from r variable))
 
 abbrev pub HasCells : Machine → (pid : ℕ) → Address → (cells : ℕ) → Type 0

@@ -4,12 +4,12 @@ use Rattle.std.specs.List.{list_any}
 use Rattle.std.specs.Ordering.{int_eq}
 use Rattle.cp_slots.specs.declared.item.Action.{Action}
 use Rattle.cp_slots.specs.declared.item.Action.TheVariants.{For}
-use Rattle.cp_slots.specs.declared.item.Arm.{Arm}
+use Rattle.cp_slots.specs.declared.item.ResolvedArm.{ResolvedArm}
 use Rattle.cp_slots.specs.declared.item.Item.{Item}
 use Rattle.cp_slots.specs.declared.item.ShownKind.{ShownKind}
 use Rattle.cp_slots.specs.declared.item.ShownKind.TheVariants as kind
 use Rattle.cp_slots.specs.declared.place.Expression.{Expression}
-use Rattle.cp_slots.specs.declared.place.Origin.{Origin}
+use Rattle.cp_slots.specs.declared.place.PlaceOrigin.{PlaceOrigin}
 use Rattle.cp_slots.specs.declared.place.Place.{Place}
 use Rattle.cp_slots.specs.declared.place.SetExpression.{SetExpression}
 use Rattle.cp_store.specs.declared.error.ErrorName.{ErrorName}
@@ -87,11 +87,11 @@ abbrev pub has_label : ℤ → List ℤ → Bool
 has_label z labels = list_any (λ label. int_eq label z) labels
 
 -- the list of the first arm that has the value as a label
-abbrev pub arm_for : ℤ → List Arm → Result (Option ℕ) ErrorName
+abbrev pub arm_for : ℤ → List ResolvedArm → Result (Option ℕ) ErrorName
 arm_for z [] = Err NoCase
 arm_for z (a ∷ as') = if has_label z a.labels.items then Ok a.body else arm_for z as'
 
-abbrev pub case_of : Machine → (pid line : ℕ) → Expression → List Arm → List Entry → Stepped
+abbrev pub case_of : Machine → (pid line : ℕ) → Expression → List ResolvedArm → List Entry → Stepped
 case_of m pid line selector arms rest =
     with_value (value_of m pid selector) (fault m pid line)
     (λ v. with_value (arm_for v arms) (fault m pid line) (λ list. local (with_stack m pid (rest_of list rest))))
@@ -111,7 +111,7 @@ until m pid line test list again next es =
     (λ v. local (with_stack m pid (if is_true v then rest_of next es else rest_of list (Rest again ∷ es))))
 
 -- the variable becomes a value; then come the list, and the successor of the value
-abbrev pub gone_on : Machine → (pid at : ℕ) → Origin → (list : Option ℕ) → List Entry → (last z : ℤ) → Machine
+abbrev pub gone_on : Machine → (pid at : ℕ) → PlaceOrigin → (list : Option ℕ) → List Entry → (last z : ℤ) → Machine
 gone_on m pid at variable list es last z = number_put (with_stack m pid (rest_of list (Successor at z last ∷ es))) pid (origin_of m pid variable) z
 
 -- whether the first value is beyond the last
@@ -123,18 +123,18 @@ abbrev pub next_value : Bool → (low high z : ℤ) → Result ℤ ErrorName
 next_value down low high z = if down then predecessor low z else successor high z
 
 -- both bounds are evaluated
-abbrev pub for_from : Machine → (pid line at : ℕ) → Origin → (low high : ℤ) → Bool → (list next : Option ℕ) → List Entry → (first last : ℤ) → Stepped
+abbrev pub for_from : Machine → (pid line at : ℕ) → PlaceOrigin → (low high : ℤ) → Bool → (list next : Option ℕ) → List Entry → (first last : ℤ) → Stepped
 for_from m pid line at variable low high down list next es first last =
     if is_beyond down first last then local (with_stack m pid (rest_of next es))
     else with_value (ranged low high first) (fault m pid line) (λ v. local (gone_on m pid at variable list es last v))
 
-abbrev pub for_do : Machine → (pid line at : ℕ) → Origin → (low high : ℤ) → (first last : Expression) → Bool → (list next : Option ℕ) → List Entry → Stepped
+abbrev pub for_do : Machine → (pid line at : ℕ) → PlaceOrigin → (low high : ℤ) → (first last : Expression) → Bool → (list next : Option ℕ) → List Entry → Stepped
 for_do m pid line at variable low high first last down list next es =
     with_value (value_of m pid first) (fault m pid line)
     (λ a. with_value (value_of m pid last) (fault m pid line) (for_from m pid line at variable low high down list next es a))
 
 -- the successor of a value: after the last one the loop is removed
-abbrev pub next_turn : Machine → (pid line at : ℕ) → Origin → (low high : ℤ) → Bool → (list next : Option ℕ) → List Entry → (z last : ℤ) → Stepped
+abbrev pub next_turn : Machine → (pid line at : ℕ) → PlaceOrigin → (low high : ℤ) → Bool → (list next : Option ℕ) → List Entry → (z last : ℤ) → Stepped
 next_turn m pid line at variable low high down list next es z last =
     if int_eq z last then local (with_stack m pid (rest_of next es))
     else with_value (next_value down low high z) (fault m pid line) (λ v. local (gone_on m pid at variable list es last v))

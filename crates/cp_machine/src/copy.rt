@@ -7,7 +7,7 @@ ghost use Rattle.cp_machine.specs.Bodies.{body_at, body_of, has_moved, KeepBodie
 ghost use Rattle.cp_machine.specs.Machine.{machine_of, monitor_of, thread_at, thread_of};
 
 use crate::moved::{Moved, Unwatched, Watch};
-use crate::process::Process;
+use crate::process::ProcessState;
 use crate::shown::Shown;
 use crate::state::{Gate, Phase, State};
 use arrayvec::ArrayVec;
@@ -119,7 +119,10 @@ fn copies_of_cells(
 }
 
 // The processes, and the monitors that they go into.
-fn copies_of_parties(alloc: Global, from: &State) -> Result<(Vec<Process>, Vec<Gate>), AllocError>
+fn copies_of_parties(
+    alloc: Global,
+    from: &State,
+) -> Result<(Vec<ProcessState>, Vec<Gate>), AllocError>
     ensures threads { IfOk result (λ t. map thread_of t.0.items ≡ map thread_of from.now.processes.items) }
     ensures stacks { IfOk result (λ t. (depth : ℕ) → HaveStacks depth from.now.processes.items → HaveStacks depth t.0.items) }
     ensures cells { IfOk result (λ t. (cells : ℕ) → HaveCells cells from.now.processes.items → HaveCells cells t.0.items) }
@@ -143,7 +146,10 @@ fn copies_of_lists(alloc: Global, from: &State) -> Result<(Vec<Shown>, Vec<Bound
     Ok((output, bounds))
 }
 
-fn copies_of_processes(alloc: Global, from: &[Process]) -> Result<Vec<Process>, AllocError>
+fn copies_of_processes(
+    alloc: Global,
+    from: &[ProcessState],
+) -> Result<Vec<ProcessState>, AllocError>
     ensures same { IfOk result (λ ps. map thread_of ps.items ≡ map thread_of from.now) }
     ensures stacks { IfOk result (λ ps. (depth : ℕ) → HaveStacks depth from.now → HaveStacks depth ps.items) }
     ensures cells { IfOk result (λ ps. (cells : ℕ) → HaveCells cells from.now → HaveCells cells ps.items) }
@@ -156,7 +162,7 @@ fn copies_of_processes(alloc: Global, from: &[Process]) -> Result<Vec<Process>, 
     Ok(processes)
 }
 
-fn copy_of_process(alloc: Global, from: &Process) -> Result<Process, AllocError>
+fn copy_of_process(alloc: Global, from: &ProcessState) -> Result<ProcessState, AllocError>
     ensures same { IfOk result (λ p. thread_of p ≡ thread_of from.now) }
     ensures stack { IfOk result (λ p. vec_capacity from.now.stack ≤ vec_capacity p.stack) }
     ensures cells { IfOk result (λ p. vec_capacity from.now.room.cells ≤ vec_capacity p.room.cells) }
@@ -164,7 +170,7 @@ fn copy_of_process(alloc: Global, from: &Process) -> Result<Process, AllocError>
 {
     let stack = copy_of_list(alloc, &from.stack, from.stack.capacity())?;
     let room = copy_of_room(alloc, &from.room)?;
-    Ok(Process {
+    Ok(ProcessState {
         status: from.status,
         frame: from.frame,
         stack,
@@ -207,7 +213,7 @@ fn copy_of_guard(from: &Gate) -> Gate
 }
 
 #[inline(always)]
-fn take_processes<W: Watch>(mine: &mut [Process], theirs: &[Process], watch: &W)
+fn take_processes<W: Watch>(mine: &mut [ProcessState], theirs: &[ProcessState], watch: &W)
     requires length { length mine.old ≡ length theirs.now }
     requires room { HaveRoom mine.old theirs.now }
     requires kept { (pid : ℕ) → W.moved watch.now pid ≡ false → body_of (thread_at (map thread_of mine.old) pid) ≡ body_of (thread_at (map thread_of theirs.now) pid) }
@@ -226,7 +232,7 @@ fn take_processes<W: Watch>(mine: &mut [Process], theirs: &[Process], watch: &W)
 }
 
 #[inline(always)]
-fn take_process(to: &mut Process, from: &Process)
+fn take_process(to: &mut ProcessState, from: &ProcessState)
     requires stack { vec_len from.now.stack ≤ vec_capacity to.old.stack }
     requires cells { vec_len from.now.room.cells ≤ vec_capacity to.old.room.cells }
     requires references { vec_len from.now.room.references ≤ vec_capacity to.old.room.references }

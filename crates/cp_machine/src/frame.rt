@@ -10,7 +10,7 @@ ghost use Rattle.cp_machine.specs.Results.{HasResult};
 ghost use Rattle.cp_machine.specs.Stack.{rest_of};
 
 use crate::memory::frame_of;
-use crate::process::{Entry, Process};
+use crate::process::{Entry, ProcessState};
 use crate::stack::go_into;
 use crate::state::State;
 use cp_slots::Resolved;
@@ -63,7 +63,7 @@ fn close_with_result(room: &mut Room, frame: Frame, from: usize, to: usize)
 }
 
 // The innermost frame of a process is given up with the end of its call.
-fn give_up(process: &mut Process, caller: Frame, from: usize, slot: Option<usize>)
+fn give_up(process: &mut ProcessState, caller: Frame, from: usize, slot: Option<usize>)
     requires result { HasResult (thread_of process.old) caller from slot }
     ensures after { thread_of process.new ≡ spec.given_up_from (thread_of process.old) caller from slot (drop 1 (thread_of process.old).stack) }
     ensures stack { vec_capacity process.old.stack ≤ vec_capacity process.new.stack }

@@ -8,7 +8,7 @@ ghost use Rattle.cp_machine.specs.Machine.{is_delayed_at, machine_of, monitor_at
 
 use crate::gates::Gates;
 use crate::memory::set_status;
-use crate::process::{Process, Status};
+use crate::process::{ProcessState, Status};
 use crate::state::{Gate, State};
 
 /// Lets the line of a monitor in, which nobody is inside any more.
@@ -138,7 +138,7 @@ fn waiter_of(state: &State, cell: usize) -> Option<u8>
     }
 }
 
-fn place_in_queue(processes: &[Process], cell: usize) -> Option<usize>
+fn place_in_queue(processes: &[ProcessState], cell: usize) -> Option<usize>
     ensures place { result ≡ position (λ p. is_delayed_at cell p.status) processes.now }
     ensures within { IfSome result (λ place. place < length processes.now) }
 {

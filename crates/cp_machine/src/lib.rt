@@ -31,7 +31,7 @@ pub use event::{ErrorName, Event, Kernel, RunError};
 pub use gates::Gates;
 pub use local::local_step;
 pub use moved::{Moved, Unwatched, Watch};
-pub use process::{Entry, Process, Status};
+pub use process::{Entry, ProcessState, Status};
 pub use shown::Shown;
 pub use state::{Gate, MOST_SHOWN, Phase, Readiness, State};
 pub use stepper::step;

@@ -14,8 +14,8 @@ use crate::memory::{origin_of, put_number, value_of};
 use crate::process::Entry;
 use crate::stack::{replace, replace_by};
 use crate::state::State;
-use cp_slots::{Expression, Item, Origin};
-use cp_store::arithmetic::{self, is_true, ranged};
+use cp_slots::{Expression, Item, PlaceOrigin};
+use cp_store::arithmetic::{self, check_range, is_true};
 
 /// `while`: true: becomes its list and itself; false: removed.
 #[inline(always)]
@@ -74,7 +74,7 @@ pub fn until(
 pub struct Course {
     /// The number of the item.
     pub at: usize,
-    pub variable: Origin,
+    pub variable: PlaceOrigin,
     /// The bounds of the variable's type.
     pub low: i16,
     pub high: i16,
@@ -136,7 +136,7 @@ fn for_from(
     if is_beyond(course.down, first, last) {
         replace(state, pid, None, item.next);
     } else {
-        let value = ranged(first, course.low, course.high)?;
+        let value = check_range(first, course.low, course.high)?;
         go_on(state, pid, course, last, value);
     }
     Ok(Event::Local)

@@ -14,7 +14,7 @@ ghost use Rattle.cp_machine.specs.Reach.{CanFind, CanGive, CanName, CanReach, Ca
 use crate::event::ErrorName;
 use crate::process::Status;
 use crate::state::State;
-use cp_slots::{Argument, ComponentPlace, Expression, Origin, Place, SetExpression};
+use cp_slots::{Argument, ComponentPlace, Expression, Place, PlaceOrigin, SetExpression};
 use cp_store::set::SetValue;
 use cp_store::{
     Address, Frame, address, bind_component, bind_frame, component, copy_cells, evaluate,
@@ -84,7 +84,7 @@ pub fn address_of(state: &State, pid: u8, place: &Place) -> Result<Address, Erro
 
 /// Where a variable lies.
 #[inline(always)]
-pub fn origin_of(state: &State, pid: u8, variable: Origin) -> Address
+pub fn origin_of(state: &State, pid: u8, variable: PlaceOrigin) -> Address
     requires pid { pid < length state.now.processes.items }
     requires name { (cells : ℕ) × CanName (machine_of state.now) pid variable cells }
     ensures value { result ≡ spec.origin_of (machine_of state.now) pid variable }

@@ -27,7 +27,7 @@ pub enum Entry {
 }
 
 #[derive(Drop)]
-pub struct Process {
+pub struct ProcessState {
     pub status: Status,
     /// The innermost call.
     pub frame: Frame,

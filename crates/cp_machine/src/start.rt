@@ -13,7 +13,7 @@ ghost use Rattle.cp_machine.specs.declared.state.Phase.TheVariants.{Uninitialise
 use crate::copy::copy_of_list;
 use crate::gates::Gates;
 use crate::memory::set_status;
-use crate::process::{Entry, Process, Status};
+use crate::process::{Entry, ProcessState, Status};
 use crate::shown::Shown;
 use crate::state::{Gate, MOST_SHOWN, Phase, State};
 use arrayvec::ArrayVec;
@@ -71,7 +71,10 @@ fn still_cells(
 }
 
 // The processes, and the monitors that they go into.
-fn still_parties(alloc: Global, program: &Resolved) -> Result<(Vec<Process>, Vec<Gate>), AllocError>
+fn still_parties(
+    alloc: Global,
+    program: &Resolved,
+) -> Result<(Vec<ProcessState>, Vec<Gate>), AllocError>
     ensures threads { IfOk result (λ t. map thread_of t.0.items ≡ map (unstarted_thread program.now) program.now.processes) }
     ensures stacks { IfOk result (λ t. HaveStacks program.now.depth t.0.items) }
     ensures cells { IfOk result (λ t. HaveCells program.now.cells t.0.items) }
@@ -109,7 +112,7 @@ fn free_guards(alloc: Global, count: usize) -> Result<Vec<Gate>, AllocError>
     Ok(guards)
 }
 
-fn start_processes(alloc: Global, program: &Resolved) -> Result<Vec<Process>, AllocError>
+fn start_processes(alloc: Global, program: &Resolved) -> Result<Vec<ProcessState>, AllocError>
     ensures threads { IfOk result (λ ps. map thread_of ps.items ≡ map (unstarted_thread program.now) program.now.processes) }
     ensures stacks { IfOk result (λ ps. HaveStacks program.now.depth ps.items) }
     ensures cells { IfOk result (λ ps. HaveCells program.now.cells ps.items) }
@@ -124,7 +127,7 @@ fn start_processes(alloc: Global, program: &Resolved) -> Result<Vec<Process>, Al
     Ok(processes)
 }
 
-fn start_process(alloc: Global, program: &Resolved, number: u8) -> Result<Process, AllocError>
+fn start_process(alloc: Global, program: &Resolved, number: u8) -> Result<ProcessState, AllocError>
     requires { number < length program.now.processes }
     ensures thread { IfOk result (λ p. thread_of p ≡ unstarted_thread program.now (process_at program.now number)) }
     ensures stack { IfOk result (λ p. program.now.depth ≤ vec_capacity p.stack) }
@@ -136,7 +139,7 @@ fn start_process(alloc: Global, program: &Resolved, number: u8) -> Result<Proces
     let stack = start_stack(alloc, program, routine.body)?;
     let mut room = empty_room(alloc, program)?;
     open_frame(&mut room, &routine.image, routine.references);
-    Ok(Process {
+    Ok(ProcessState {
         status: Status::Unstarted,
         frame: Frame {
             routine: process.routine,

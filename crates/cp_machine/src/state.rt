@@ -4,7 +4,7 @@ ghost use Rattle.std.specs.Prelude.{◌≤◌, length};
 
 use crate::admit::admit_process;
 use crate::gates::Gates;
-use crate::process::Process;
+use crate::process::ProcessState;
 use crate::reading::any_waits;
 use crate::shown::Shown;
 use arrayvec::ArrayVec;
@@ -60,7 +60,7 @@ pub struct State {
     /// The components that parameters are bound to, by the permanent cells of these.
     pub bindings: Vec<usize>,
     pub phases: Vec<Phase>,
-    pub processes: Vec<Process>,
+    pub processes: Vec<ProcessState>,
     pub guards: Vec<Gate>,
     pub pending: Option<u8>,
     pub gates: Gates,

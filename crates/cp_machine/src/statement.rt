@@ -14,8 +14,8 @@ use crate::memory::{address_of, put_cells, put_number, put_set, set_of, value_he
 use crate::shown::Shown;
 use crate::stack::replace;
 use crate::state::{MOST_SHOWN, State};
-use cp_slots::{Arm, Expression, Item, Place, SetExpression, ShownKind};
-use cp_store::arithmetic::{is_true, ranged};
+use cp_slots::{Expression, Item, Place, ResolvedArm, SetExpression, ShownKind};
+use cp_store::arithmetic::{check_range, is_true};
 use cp_store::set;
 
 /// An assignment: the right side first, then the place, and the range last.
@@ -38,7 +38,7 @@ pub fn assign(
 {
     let right = value_here(state, pid, value)?;
     let left = address_of(state, pid, target)?;
-    let value = ranged(right, *low, *high)?;
+    let value = check_range(right, *low, *high)?;
     replace(state, pid, None, item.next);
     put_number(state, pid, left, value);
     Ok(Event::Local)
@@ -64,7 +64,7 @@ pub fn assign_set(
 {
     let value = set_of(state, pid, value)?;
     let at = address_of(state, pid, target)?;
-    let value = set::ranged(value, low, high)?;
+    let value = set::check_members(value, low, high)?;
     replace(state, pid, None, item.next);
     put_set(state, pid, at, value);
     Ok(Event::Local)
@@ -129,7 +129,7 @@ fn has_label(labels: &[i16], value: i16) -> bool
 }
 
 // The list of the first arm that has a value as a label.
-fn arm_for(arms: &[Arm], value: i16) -> Result<Option<usize>, ErrorName>
+fn arm_for(arms: &[ResolvedArm], value: i16) -> Result<Option<usize>, ErrorName>
     ensures { spec.arm_for value arms.now ≡ result }
 {
     for arm in arms {
@@ -147,12 +147,12 @@ pub fn case_of(
     pid: u8,
     item: &Item,
     selector: &Expression,
-    arms: &[Arm],
+    arms: &[ResolvedArm],
 ) -> Result<Event, ErrorName>
     requires pid { pid < length state.old.processes.items }
     requires busy { IsBusy state.old pid }
     requires reads { CanRead (machine_of state.old) pid selector.now }
-    requires room { (k : ℕ) (d : Arm) → k < length arms.now → HasRoom state.old pid (slice_index_or arms.now k d).body }
+    requires room { (k : ℕ) (d : ResolvedArm) → k < length arms.now → HasRoom state.old pid (slice_index_or arms.now k d).body }
     ensures after { spec.case_of (machine_of state.old) pid item.now.line selector.now arms.now (rest_of item.now.next (under (machine_of state.old) pid)) ≡ spec.outcome result (machine_of state.new) pid item.now.line }
     ensures reserved { (r : Tables) → IsReserved r state.old → IsReserved r state.new }
 {

@@ -15,7 +15,7 @@ use crate::stack::replace;
 use crate::state::State;
 use cp_slots::{Action, Item, Resolved};
 
-fn failed(pid: u8, item: &Item, name: ErrorName) -> Event
+fn fault_event(pid: u8, item: &Item, name: ErrorName) -> Event
     ensures { result ≡ Event.Fault (record { name = name; process = pid; line = item.now.line }) }
 {
     Event::Fault(RunError {
@@ -39,7 +39,7 @@ pub fn take_item(program: &Resolved, state: &mut State, pid: u8, at: usize) -> E
     let item = program.item(at);
     match perform(program, state, pid, at, item) {
         Ok(event) => event,
-        Err(name) => failed(pid, item, name),
+        Err(name) => fault_event(pid, item, name),
     }
 }
 
@@ -104,6 +104,6 @@ pub fn take_successor(
     let item = program.item(at);
     match perform_successor(state, pid, at, item, value, last) {
         Ok(event) => event,
-        Err(name) => failed(pid, item, name),
+        Err(name) => fault_event(pid, item, name),
     }
 }

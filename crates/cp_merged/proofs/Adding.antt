@@ -14,7 +14,7 @@ use Rattle.cp_merged.specs.Layers.{up_to, lesser, Lead, with_lead, with_tally}
 use Rattle.cp_merged.specs.Code.{keyed, end_of}
 use Rattle.cp_merged.specs.declared.end_key.EndKey.{EndKey}
 use Rattle.cp_merged.specs.declared.prefixes.Prefixes as code
-use Rattle.cp_states.specs.declared.row.Row.{Row}
+use Rattle.cp_states.specs.declared.row.StateRow.{StateRow}
 
 -- the order of words by slices
 pub is_less : (w v : List ℕ) → is_lt (slice_cmp nat_cmp w v) ≡ not (up_to v w)
@@ -68,7 +68,7 @@ none_first : (z now x v : code.Prefixes) → IsNone z x → now ≡ z → Adds n
 none_first z now x v n e a =
     (let c = ap (λ (y : code.Prefixes). y.count) e in let f = a.0 in let g = n.0 in omega (arith, c, f, g), a.1 ∙ ap (λ w. lesser w x.first.items) (ap (λ (y : code.Prefixes). y.first.items) e ∙ n.1) ∙ lesser_self x.first.items)
 
-pub added_state : (es new : List (Row × code.Prefixes)) (k : Row) (z now x v : code.Prefixes) → new ≡ insert_entry (λ a b. pointwise nat_eq a.numbers b.numbers) es k v → now ≡ unwrap_or (lookup (λ j. pointwise nat_eq k.numbers j.numbers) es) z → IsNone z x → Adds now x v → map keyed new ≡ with_lead (pointwise nat_eq) (map keyed es) (keyed (k, x))
+pub added_state : (es new : List (StateRow × code.Prefixes)) (k : StateRow) (z now x v : code.Prefixes) → new ≡ insert_entry (λ a b. pointwise nat_eq a.numbers b.numbers) es k v → now ≡ unwrap_or (lookup (λ j. pointwise nat_eq k.numbers j.numbers) es) z → IsNone z x → Adds now x v → map keyed new ≡ with_lead (pointwise nat_eq) (map keyed es) (keyed (k, x))
 added_state [] new k z now x v put is none adds =
     let f = none_first z now x v none is adds in
     ap (map keyed) put ∙ ap (λ c. scored k.numbers c v.first.items ∷ []) f.0 ∙ ap (λ w. scored k.numbers x.count w ∷ []) f.1
@@ -87,30 +87,8 @@ added_state (e ∷ es) new k z now x v put is none adds = ap (map keyed) put ∙
         let flip : pointwise nat_eq e.0.numbers at ≡ false = nat_list_eq_equiv.symm e.0.numbers at ∙ q in
         simp (q, flip) (ap (λ l. keyed e ∷ l) (on i))
 
--- the state was known
-pub known_state : (es : List (Row × code.Prefixes)) (k : Row) (now x v : code.Prefixes) → lookup (λ j. pointwise nat_eq k.numbers j.numbers) es ≡ Some now → Adds now x v → map keyed (set_value (λ j. pointwise nat_eq k.numbers j.numbers) es v) ≡ with_lead (pointwise nat_eq) (map keyed es) (keyed (k, x))
-known_state [] k now x v is adds = absurd (cc)
-known_state (e ∷ es) k now x v is adds = by (pointwise nat_eq k.numbers e.0.numbers) refl is (λ i. known_state es k now x v i adds)
-  where
-    at : List ℕ
-    at = k.numbers
-
-    others : List (Row × code.Prefixes)
-    others = set_value (λ j. pointwise nat_eq at j.numbers) es v
-
-    by : (b : Bool) → pointwise nat_eq at e.0.numbers ≡ b → cond b (Some e.1) (lookup (λ j. pointwise nat_eq at j.numbers) es) ≡ Some now → (lookup (λ j. pointwise nat_eq at j.numbers) es ≡ Some now → map keyed others ≡ with_lead (pointwise nat_eq) (map keyed es) (keyed (k, x))) → map keyed (cond b ((e.0, v) ∷ es) (e ∷ others)) ≡ with_lead (pointwise nat_eq) (map keyed (e ∷ es)) (keyed (k, x))
-    by true q i on =
-        let flip : pointwise nat_eq e.0.numbers at ≡ true = nat_list_eq_equiv.symm e.0.numbers at ∙ q in
-        let same : e.1 ≡ now = ap (λ o. unwrap_or o e.1) i in
-        let count : v.count ≡ e.1.count + x.count = adds.0 ∙ ap (λ (y : code.Prefixes). y.count + x.count) (sym same) in
-        let first : v.first.items ≡ lesser e.1.first.items x.first.items = adds.1 ∙ ap (λ (y : code.Prefixes). lesser y.first.items x.first.items) (sym same) in
-        simp flip (ap (λ c. scored e.0.numbers c v.first.items ∷ map keyed es) count ∙ ap (λ w. scored e.0.numbers (e.1.count + x.count) w ∷ map keyed es) first)
-    by false q i on =
-        let flip : pointwise nat_eq e.0.numbers at ≡ false = nat_list_eq_equiv.symm e.0.numbers at ∙ q in
-        simp flip (ap (λ l. keyed e ∷ l) (on i))
-
 -- the state is new
-pub new_state : (es new : List (Row × code.Prefixes)) (k : Row) (x : code.Prefixes) → new ≡ insert_entry (λ a b. pointwise nat_eq a.numbers b.numbers) es k x → lookup (λ j. pointwise nat_eq k.numbers j.numbers) es ≡ None → map keyed new ≡ with_lead (pointwise nat_eq) (map keyed es) (keyed (k, x))
+pub new_state : (es new : List (StateRow × code.Prefixes)) (k : StateRow) (x : code.Prefixes) → new ≡ insert_entry (λ a b. pointwise nat_eq a.numbers b.numbers) es k x → lookup (λ j. pointwise nat_eq k.numbers j.numbers) es ≡ None → map keyed new ≡ with_lead (pointwise nat_eq) (map keyed es) (keyed (k, x))
 new_state es new k x put none =
     let z : code.Prefixes = record { count = 0; first = x.first } in
     let now : z ≡ unwrap_or (lookup (λ j. pointwise nat_eq k.numbers j.numbers) es) z = sym (ap (λ o. unwrap_or o z) none) in

@@ -29,7 +29,7 @@ use Rattle.cp_merged.specs.Code.{keyed, end_of}
 use Rattle.cp_merged.specs.Holds.{same_key, IsLeadTo, AreLeadsTo, AreLeads, AreEnds, Holds, words_of, counts, total}
 use Rattle.cp_merged.specs.declared.end_key.EndKey.{EndKey}
 use Rattle.cp_merged.specs.declared.prefixes.Prefixes as code
-use Rattle.cp_states.specs.declared.row.Row.{Row}
+use Rattle.cp_states.specs.declared.row.StateRow.{StateRow}
 use Rattle.cp_merged.proofs.Exact.{one_list}
 use Rattle.std.proofs.lemmas.Cmp.{nat_list_eq_equiv}
 
@@ -96,7 +96,7 @@ leads_words r store [] (x ∷ xs) h = absurd h
 leads_words r store (y ∷ ys) [] h = absurd h
 leads_words r store (y ∷ ys) (x ∷ xs) h = let rest = leads_words r store ys xs h.1 in let here = h.0.count in omega (arith, rest, here)
 
-known_state : (es : List (Row × code.Prefixes)) (p : Row → Bool) (n bound : ℕ) → words_of (map keyed es) + n < bound → IfSome (lookup p es) (λ y. y.count + n < bound)
+known_state : (es : List (StateRow × code.Prefixes)) (p : StateRow → Bool) (n bound : ℕ) → words_of (map keyed es) + n < bound → IfSome (lookup p es) (λ y. y.count + n < bound)
 known_state [] p n bound l = tt
 known_state (e ∷ es) p n bound l = by (p e.0) (known_state es p n bound (omega (arith, l)))
   where
@@ -104,7 +104,7 @@ known_state (e ∷ es) p n bound l = by (p e.0) (known_state es p n bound (omega
     by true h = omega (arith, l)
     by false h = h
 
-pub room_for_state : (r : Tables) (store : Store) (es : List (Row × code.Prefixes)) (xs : List (Lead Machine)) (p : Row → Bool) (n bound : ℕ) → AreLeads r store es xs → words_of xs + n < bound → IfSome (lookup p es) (λ y. y.count + n < bound)
+pub room_for_state : (r : Tables) (store : Store) (es : List (StateRow × code.Prefixes)) (xs : List (Lead Machine)) (p : StateRow → Bool) (n bound : ℕ) → AreLeads r store es xs → words_of xs + n < bound → IfSome (lookup p es) (λ y. y.count + n < bound)
 room_for_state r store es xs p n bound h l = known_state es p n bound (let w = leads_words r store (map keyed es) xs h in omega (arith, l, w))
 
 both_true : (a b : Bool) → (a ≡ true → b ≡ true) → (b ≡ true → a ≡ true) → a ≡ b
@@ -159,7 +159,7 @@ leads_on r s t [] (x ∷ xs) kept h = absurd h
 leads_on r s t (y ∷ ys) [] kept h = absurd h
 leads_on r s t (y ∷ ys) (x ∷ xs) kept h = (record { row = row_on s t y.state x.state kept h.0.row; first = h.0.first; count = h.0.count; own = h.0.own }, leads_on r s t ys xs kept h.1)
 
-pub leads_more : (r : Tables) (s t : Store) (es new : List (Row × code.Prefixes)) (xs : List (Lead Machine)) (row : List ℕ) (state : State) (x : code.Prefixes) → KeepParts s t → IsRowOf t row (machine_of state) → map keyed new ≡ with_lead (pointwise nat_eq) (map keyed es) (record { state = row; first = x.first.items; count = x.count }) → IsStateOf r state → AreLeads r s es xs → AreLeads r t new (with_lead same_key xs (record { state = machine_of state; first = x.first.items; count = x.count }))
+pub leads_more : (r : Tables) (s t : Store) (es new : List (StateRow × code.Prefixes)) (xs : List (Lead Machine)) (row : List ℕ) (state : State) (x : code.Prefixes) → KeepParts s t → IsRowOf t row (machine_of state) → map keyed new ≡ with_lead (pointwise nat_eq) (map keyed es) (record { state = row; first = x.first.items; count = x.count }) → IsStateOf r state → AreLeads r s es xs → AreLeads r t new (with_lead same_key xs (record { state = machine_of state; first = x.first.items; count = x.count }))
 leads_more r s t es new xs row state x kept is put own h =
     subst (λ ys. AreLeadsTo r t ys (with_lead same_key xs (record { state = machine_of state; first = x.first.items; count = x.count }))) (sym put) (with_row r t (map keyed es) xs row (machine_of state) x.first.items x.count is (machine_own r state own) (leads_on r s t (map keyed es) xs kept h))
 
@@ -171,20 +171,20 @@ counts_small f n l = omega (arith, l)
 pub words_small : (f : Front Machine) (n : ℕ) → total f + n < 10 ^ 126 → words_of f.layer + n < 10 ^ 126
 words_small f n l = omega (arith, l)
 
-pub ended_holds : {A E : Type 0} (q : Result A E) (s new_s : Store) (es new_es : List (EndKey × code.Prefixes)) (ss new_ss : List (Row × code.Prefixes)) (kind : OutcomeKind) (x : code.Prefixes) (state : State) (halt : Halt) → halt ≡ HasEnded kind → new_s ≡ s → new_ss ≡ ss → IfOk q (λ _. (ts : List Tally) → AreEnds es ts → AreEnds new_es (with_tally same_outcome ts (record { first = record { word = x.first.items; outcome = record { kind = kind; output = output_of (machine_of state) } }; count = x.count }))) → IfOk q (λ _. (r : Tables) (gates : Gates) (f : Front Machine) → IsStateOf r state → Holds r s es ss f → Holds r new_s new_es new_ss (arrived (slots r gates) same_outcome same_key x.first.items x.count (node_of halt (machine_of state)) f))
+pub ended_holds : {A E : Type 0} (q : Result A E) (s new_s : Store) (es new_es : List (EndKey × code.Prefixes)) (ss new_ss : List (StateRow × code.Prefixes)) (kind : OutcomeKind) (x : code.Prefixes) (state : State) (halt : Halt) → halt ≡ HasEnded kind → new_s ≡ s → new_ss ≡ ss → IfOk q (λ _. (ts : List Tally) → AreEnds es ts → AreEnds new_es (with_tally same_outcome ts (record { first = record { word = x.first.items; outcome = record { kind = kind; output = output_of (machine_of state) } }; count = x.count }))) → IfOk q (λ _. (r : Tables) (gates : Gates) (f : Front Machine) → IsStateOf r state → Holds r s es ss f → Holds r new_s new_es new_ss (arrived (slots r gates) same_outcome same_key x.first.items x.count (node_of halt (machine_of state)) f))
 ended_holds (Err e) s new_s es new_es ss new_ss kind x state halt is store same go = tt
 ended_holds (Ok u) s new_s es new_es ss new_ss kind x state halt is store same go = λ r gates f own h.
     subst (λ (y : Halt). Holds r new_s new_es new_ss (arrived (slots r gates) same_outcome same_key x.first.items x.count (node_of y (machine_of state)) f)) (sym is)
-    (record { ended = go f.ended h.ended; layer = subst (λ (t : Store). AreLeads r t new_ss f.layer) (sym store) (subst (λ (l : List (Row × code.Prefixes)). AreLeads r s l f.layer) (sym same) h.layer) })
+    (record { ended = go f.ended h.ended; layer = subst (λ (t : Store). AreLeads r t new_ss f.layer) (sym store) (subst (λ (l : List (StateRow × code.Prefixes)). AreLeads r s l f.layer) (sym same) h.layer) })
 
-pub waits_holds : {A E : Type 0} (q : Result A E) (s new_s : Store) (es new_es : List (EndKey × code.Prefixes)) (ss new_ss : List (Row × code.Prefixes)) (x : code.Prefixes) (state : State) (halt : Halt) → halt ≡ Choice → new_es ≡ es → IfOk q (λ _. (r : Tables) (xs : List (Lead Machine)) → IsStateOf r state → AreLeads r s ss xs → AreLeads r new_s new_ss (with_lead same_key xs (record { state = machine_of state; first = x.first.items; count = x.count }))) → IfOk q (λ _. (r : Tables) (gates : Gates) (f : Front Machine) → IsStateOf r state → Holds r s es ss f → Holds r new_s new_es new_ss (arrived (slots r gates) same_outcome same_key x.first.items x.count (node_of halt (machine_of state)) f))
+pub waits_holds : {A E : Type 0} (q : Result A E) (s new_s : Store) (es new_es : List (EndKey × code.Prefixes)) (ss new_ss : List (StateRow × code.Prefixes)) (x : code.Prefixes) (state : State) (halt : Halt) → halt ≡ Choice → new_es ≡ es → IfOk q (λ _. (r : Tables) (xs : List (Lead Machine)) → IsStateOf r state → AreLeads r s ss xs → AreLeads r new_s new_ss (with_lead same_key xs (record { state = machine_of state; first = x.first.items; count = x.count }))) → IfOk q (λ _. (r : Tables) (gates : Gates) (f : Front Machine) → IsStateOf r state → Holds r s es ss f → Holds r new_s new_es new_ss (arrived (slots r gates) same_outcome same_key x.first.items x.count (node_of halt (machine_of state)) f))
 waits_holds (Err e) s new_s es new_es ss new_ss x state halt is same go = tt
 waits_holds (Ok u) s new_s es new_es ss new_ss x state halt is same go = λ r gates f own h.
     subst (λ (y : Halt). Holds r new_s new_es new_ss (arrived (slots r gates) same_outcome same_key x.first.items x.count (node_of y (machine_of state)) f)) (sym is)
     (record { ended = subst (λ (l : List (EndKey × code.Prefixes)). AreEnds l f.ended) (sym same) h.ended; layer = go r f.layer own h.layer })
 
 -- words go one choice on
-pub choice_holds : {A E : Type 0} (q : Result A E) (r : Tables) (gates : Gates) (steps : ℕ) (s new_s : Store) (es new_es : List (EndKey × code.Prefixes)) (ss new_ss : List (Row × code.Prefixes)) (m : Machine) (word longer : List ℕ) (count p : ℕ) (node : Node Machine) → may (slots r gates) m p ≡ true → chosen (slots r gates) steps m p ≡ node → longer ≡ word ++ p ∷ [] → IfOk q (λ _. (f : Front Machine) → Holds r s es ss f → Holds r new_s new_es new_ss (arrived (slots r gates) same_outcome same_key longer count node f)) → IfOk q (λ _. (f : Front Machine) → Holds r s es ss f → Holds r new_s new_es new_ss (after_choice (slots r gates) same_outcome same_key steps (record { state = m; first = word; count = count }) p f))
+pub choice_holds : {A E : Type 0} (q : Result A E) (r : Tables) (gates : Gates) (steps : ℕ) (s new_s : Store) (es new_es : List (EndKey × code.Prefixes)) (ss new_ss : List (StateRow × code.Prefixes)) (m : Machine) (word longer : List ℕ) (count p : ℕ) (node : Node Machine) → may (slots r gates) m p ≡ true → chosen (slots r gates) steps m p ≡ node → longer ≡ word ++ p ∷ [] → IfOk q (λ _. (f : Front Machine) → Holds r s es ss f → Holds r new_s new_es new_ss (arrived (slots r gates) same_outcome same_key longer count node f)) → IfOk q (λ _. (f : Front Machine) → Holds r s es ss f → Holds r new_s new_es new_ss (after_choice (slots r gates) same_outcome same_key steps (record { state = m; first = word; count = count }) p f))
 choice_holds (Err e) r gates steps s new_s es new_es ss new_ss m word longer count p node is to long go = tt
 choice_holds (Ok u) r gates steps s new_s es new_es ss new_ss m word longer count p node is to long go = λ f h.
     subst (λ (b : Bool). Holds r new_s new_es new_ss (if b then arrived (slots r gates) same_outcome same_key (word ++ p ∷ []) count (chosen (slots r gates) steps m p) f else f)) (sym is)

@@ -20,7 +20,7 @@ use Rattle.cp_merged.specs.Holds.{same_key, AreLeadsTo, AreLeads, AreEnds, Holds
 use Rattle.cp_merged.specs.TooMany.{HasTooManyStates}
 use Rattle.cp_merged.specs.declared.end_key.EndKey.{EndKey}
 use Rattle.cp_merged.specs.declared.prefixes.Prefixes as code
-use Rattle.cp_states.specs.declared.row.Row.{Row}
+use Rattle.cp_states.specs.declared.row.StateRow.{StateRow}
 use Rattle.cp_merged.proofs.Arriving.{key_sound, key_own, leads_on}
 use Rattle.cp_merged.proofs.Exact.{exact_outcomes}
 use Rattle.cp_merged.proofs.Fronts.{IsLead, IsFrontOf, OneEach, is_front, ends_later, front_choices, once_choices}
@@ -29,7 +29,7 @@ use Rattle.cp_merged.proofs.Totals.{total_at, total_choices, counts_with}
 
 -- ---- the next of some leads
 
-pub record IsNext (r : Tables) (store : Store) (e : Row × code.Prefixes) (es : List (Row × code.Prefixes)) (xs : List (Lead Machine)) : Type 0 where
+pub record IsNext (r : Tables) (store : Store) (e : StateRow × code.Prefixes) (es : List (StateRow × code.Prefixes)) (xs : List (Lead Machine)) : Type 0 where
   pub lead : Lead Machine
   pub rest : List (Lead Machine)
   pub is : xs ≡ lead ∷ rest
@@ -39,7 +39,7 @@ pub record IsNext (r : Tables) (store : Store) (e : Row × code.Prefixes) (es : 
   pub own : IsMachineOf r lead.state
   pub left : AreLeads r store es rest
 
-pub next_lead : (r : Tables) (store : Store) (e : Row × code.Prefixes) (es : List (Row × code.Prefixes)) (xs : List (Lead Machine)) → AreLeads r store (e ∷ es) xs → IsNext r store e es xs
+pub next_lead : (r : Tables) (store : Store) (e : StateRow × code.Prefixes) (es : List (StateRow × code.Prefixes)) (xs : List (Lead Machine)) → AreLeads r store (e ∷ es) xs → IsNext r store e es xs
 next_lead r store e es [] h = absurd h
 next_lead r store e es (x ∷ xs) h = record { lead = x; rest = xs; is = refl; row = h.0.row; first = h.0.first; count = h.0.count; own = h.0.own; left = h.1 }
 
@@ -53,7 +53,7 @@ rows_length r store [] (x ∷ xs) h = absurd h
 rows_length r store (y ∷ ys) [] h = absurd h
 rows_length r store (y ∷ ys) (x ∷ xs) h = ap suc (rows_length r store ys xs h.1)
 
-pub leads_length : (r : Tables) (store : Store) (es : List (Row × code.Prefixes)) (xs : List (Lead Machine)) → AreLeads r store es xs → length es ≡ length xs
+pub leads_length : (r : Tables) (store : Store) (es : List (StateRow × code.Prefixes)) (xs : List (Lead Machine)) → AreLeads r store es xs → length es ≡ length xs
 leads_length r store es xs h = let a = length-map es keyed in let c = rows_length r store (map keyed es) xs h in omega (arith, a, c)
 
 -- ---- numbers of words
@@ -76,7 +76,7 @@ module _ (r : Tables) (gates : Gates) (steps : ℕ) where
   made d = front_at (slots r gates) same_outcome same_key steps d
 
   -- while layer d + 1 is made
-  pub record Making (d : ℕ) (store : Store) (ends : List (EndKey × code.Prefixes)) (states rest : List (Row × code.Prefixes)) : Type 0 where
+  pub record Making (d : ℕ) (store : Store) (ends : List (EndKey × code.Prefixes)) (states rest : List (StateRow × code.Prefixes)) : Type 0 where
     pub front : Front Machine
     pub leads : List (Lead Machine)
     pub holds : Holds r store ends states front
@@ -104,7 +104,7 @@ module _ (r : Tables) (gates : Gates) (steps : ℕ) where
       let b = below in
       omega (arith, t, p, e, b)
 
-  pub making_start : (d : ℕ) (store : Store) (ends : List (EndKey × code.Prefixes)) (states es : List (Row × code.Prefixes)) → processes_of r ≤ 16 → d < 100 → AreLeads r store es (made d).layer → Holds r store ends states (record { ended = (made d).ended; layer = [] }) → Making d store ends states es
+  pub making_start : (d : ℕ) (store : Store) (ends : List (EndKey × code.Prefixes)) (states es : List (StateRow × code.Prefixes)) → processes_of r ≤ 16 → d < 100 → AreLeads r store es (made d).layer → Holds r store ends states (record { ended = (made d).ended; layer = [] }) → Making d store ends states es
   unfolding front_at
   making_start d store ends states es few l left holds =
       let sound = is_front (slots r gates) same_outcome exact_outcomes same_key key_sound steps d in
@@ -123,10 +123,10 @@ module _ (r : Tables) (gates : Gates) (steps : ℕ) where
       next : (n : ℕ) → suc n ≡ n + 1
       next n = omega arith
 
-  pub making_next : (d : ℕ) (store : Store) (ends : List (EndKey × code.Prefixes)) (states es : List (Row × code.Prefixes)) (e : Row × code.Prefixes) (m : Making d store ends states (e ∷ es)) → IsNext r store e es m.leads
+  pub making_next : (d : ℕ) (store : Store) (ends : List (EndKey × code.Prefixes)) (states es : List (StateRow × code.Prefixes)) (e : StateRow × code.Prefixes) (m : Making d store ends states (e ∷ es)) → IsNext r store e es m.leads
   making_next d store ends states es e m = next_lead r store e es m.leads m.left
 
-  pub making_more : (d : ℕ) (store new_store : Store) (ends new_ends : List (EndKey × code.Prefixes)) (states new_states es : List (Row × code.Prefixes)) (e : Row × code.Prefixes) (m : Making d store ends states (e ∷ es)) (t : Machine) → processes_of r ≤ 16 → KeepParts store new_store → t ≡ (making_next d store ends states es e m).lead.state → ((f : Front Machine) → Holds r store ends states f → Holds r new_store new_ends new_states (after_choices (slots r gates) same_outcome same_key steps (record { state = t; first = e.1.first.items; count = e.1.count }) (processes_of r) f)) → Making d new_store new_ends new_states es
+  pub making_more : (d : ℕ) (store new_store : Store) (ends new_ends : List (EndKey × code.Prefixes)) (states new_states es : List (StateRow × code.Prefixes)) (e : StateRow × code.Prefixes) (m : Making d store ends states (e ∷ es)) (t : Machine) → processes_of r ≤ 16 → KeepParts store new_store → t ≡ (making_next d store ends states es e m).lead.state → ((f : Front Machine) → Holds r store ends states f → Holds r new_store new_ends new_states (after_choices (slots r gates) same_outcome same_key steps (record { state = t; first = e.1.first.items; count = e.1.count }) (processes_of r) f)) → Making d new_store new_ends new_states es
   unfolding making_next
   making_more d store new_store ends new_ends states new_states es e m t few kept at go =
       let n = next_lead r store e es m.leads m.left in
@@ -147,10 +147,10 @@ module _ (r : Tables) (gates : Gates) (steps : ℕ) where
         once = once_choices (slots r gates) same_outcome exact_outcomes same_key key_sound steps n.lead (processes_of r) m.front m.once;
       }
 
-  pub making_done : (d : ℕ) (store : Store) (ends : List (EndKey × code.Prefixes)) (states : List (Row × code.Prefixes)) → Making d store ends states [] → Holds r store ends states (made (d + 1))
+  pub making_done : (d : ℕ) (store : Store) (ends : List (EndKey × code.Prefixes)) (states : List (StateRow × code.Prefixes)) → Making d store ends states [] → Holds r store ends states (made (d + 1))
   making_done d store ends states m = subst (Holds r store ends states) (ap (λ xs. after_layer (slots r gates) same_outcome same_key steps xs m.front) (sym (no_lead r store m.leads m.left)) ∙ m.comes) m.holds
 
-  pub making_many : (d most : ℕ) (store : Store) (ends : List (EndKey × code.Prefixes)) (states left : List (Row × code.Prefixes)) → most < length states → Making d store ends states left → HasTooManyStates (slots r gates) steps most (d + 1)
+  pub making_many : (d most : ℕ) (store : Store) (ends : List (EndKey × code.Prefixes)) (states left : List (StateRow × code.Prefixes)) → most < length states → Making d store ends states left → HasTooManyStates (slots r gates) steps most (d + 1)
   making_many d most store ends states left l m =
       let n = leads_length r store states m.front.layer m.holds.layer in
       subst (HasTooManyStates (slots r gates) steps most) (next d) (states_many (slots r gates) same_outcome exact_outcomes same_key key_sound key_own steps most (suc d) m.front.layer (omega (arith, l, n)) m.sound.1 m.once)
@@ -158,7 +158,7 @@ module _ (r : Tables) (gates : Gates) (steps : ℕ) where
       next : (n : ℕ) → suc n ≡ n + 1
       next n = omega arith
 
-  pub making_room : (d : ℕ) (store : Store) (ends : List (EndKey × code.Prefixes)) (states es : List (Row × code.Prefixes)) (e : Row × code.Prefixes) → d < 100 → Making d store ends states (e ∷ es) → length e.1.first.items < 100
+  pub making_room : (d : ℕ) (store : Store) (ends : List (EndKey × code.Prefixes)) (states es : List (StateRow × code.Prefixes)) (e : StateRow × code.Prefixes) → d < 100 → Making d store ends states (e ∷ es) → length e.1.first.items < 100
   making_room d store ends states es e l m =
       let n = next_lead r store e es m.leads m.left in
       let here = subst (Each (IsLead (slots r gates) same_outcome exact_outcomes same_key key_sound steps d)) n.is m.lead in
@@ -166,7 +166,7 @@ module _ (r : Tables) (gates : Gates) (steps : ℕ) where
       let same = ap length n.first in
       omega (arith, l, size, same)
 
-  pub making_small : (d : ℕ) (store : Store) (ends : List (EndKey × code.Prefixes)) (states es : List (Row × code.Prefixes)) (e : Row × code.Prefixes) → Making d store ends states (e ∷ es) → (f : Front Machine) × Holds r store ends states f × (total f + 16 * e.1.count < 10 ^ 126)
+  pub making_small : (d : ℕ) (store : Store) (ends : List (EndKey × code.Prefixes)) (states es : List (StateRow × code.Prefixes)) (e : StateRow × code.Prefixes) → Making d store ends states (e ∷ es) → (f : Front Machine) × Holds r store ends states f × (total f + 16 * e.1.count < 10 ^ 126)
   making_small d store ends states es e m =
       let n = next_lead r store e es m.leads m.left in
       let words = ap words_of n.is in
@@ -176,7 +176,7 @@ module _ (r : Tables) (gates : Gates) (steps : ℕ) where
 
   -- ---- the last layer
 
-  pub record Ending (choices : ℕ) (store : Store) (ends : List (EndKey × code.Prefixes)) (rest : List (Row × code.Prefixes)) : Type 0 where
+  pub record Ending (choices : ℕ) (store : Store) (ends : List (EndKey × code.Prefixes)) (rest : List (StateRow × code.Prefixes)) : Type 0 where
     pub tallies : List Tally
     pub leads : List (Lead Machine)
     pub ended : AreEnds ends tallies
@@ -185,7 +185,7 @@ module _ (r : Tables) (gates : Gates) (steps : ℕ) where
     pub small : counts tallies + words_of leads < 10 ^ 126
     pub lead : Each (IsLead (slots r gates) same_outcome exact_outcomes same_key key_sound steps choices) leads
 
-  pub ending_start : (choices : ℕ) (store : Store) (ends : List (EndKey × code.Prefixes)) (es : List (Row × code.Prefixes)) → processes_of r ≤ 16 → choices ≤ 100 → AreLeads r store es (made choices).layer → AreEnds ends (made choices).ended → Ending choices store ends es
+  pub ending_start : (choices : ℕ) (store : Store) (ends : List (EndKey × code.Prefixes)) (es : List (StateRow × code.Prefixes)) → processes_of r ≤ 16 → choices ≤ 100 → AreLeads r store es (made choices).layer → AreEnds ends (made choices).ended → Ending choices store ends es
   unfolding by_layers
   ending_start choices store ends es few l left ended =
       let t = total_at (slots r gates) same_outcome same_key steps few choices in
@@ -201,10 +201,10 @@ module _ (r : Tables) (gates : Gates) (steps : ℕ) where
         lead = (is_front (slots r gates) same_outcome exact_outcomes same_key key_sound steps choices).1;
       }
 
-  pub ending_next : (choices : ℕ) (store : Store) (ends : List (EndKey × code.Prefixes)) (es : List (Row × code.Prefixes)) (e : Row × code.Prefixes) (m : Ending choices store ends (e ∷ es)) → IsNext r store e es m.leads
+  pub ending_next : (choices : ℕ) (store : Store) (ends : List (EndKey × code.Prefixes)) (es : List (StateRow × code.Prefixes)) (e : StateRow × code.Prefixes) (m : Ending choices store ends (e ∷ es)) → IsNext r store e es m.leads
   ending_next choices store ends es e m = next_lead r store e es m.leads m.left
 
-  pub ending_more : (choices : ℕ) (store new_store : Store) (ends new_ends : List (EndKey × code.Prefixes)) (es : List (Row × code.Prefixes)) (e : Row × code.Prefixes) (m : Ending choices store ends (e ∷ es)) (o : List Shown) (w : List ℕ) → new_store ≡ store → o ≡ output_of (ending_next choices store ends es e m).lead.state → w ≡ e.1.first.items → ((ts : List Tally) → AreEnds ends ts → AreEnds new_ends (with_tally same_outcome ts (limited w o e.1.count))) → Ending choices new_store new_ends es
+  pub ending_more : (choices : ℕ) (store new_store : Store) (ends new_ends : List (EndKey × code.Prefixes)) (es : List (StateRow × code.Prefixes)) (e : StateRow × code.Prefixes) (m : Ending choices store ends (e ∷ es)) (o : List Shown) (w : List ℕ) → new_store ≡ store → o ≡ output_of (ending_next choices store ends es e m).lead.state → w ≡ e.1.first.items → ((ts : List Tally) → AreEnds ends ts → AreEnds new_ends (with_tally same_outcome ts (limited w o e.1.count))) → Ending choices new_store new_ends es
   unfolding ending_next
   ending_more choices store new_store ends new_ends es e m o w same at word go =
       let n = next_lead r store e es m.leads m.left in
@@ -226,7 +226,7 @@ module _ (r : Tables) (gates : Gates) (steps : ℕ) where
   pub ending_done : (choices : ℕ) (store : Store) (ends : List (EndKey × code.Prefixes)) → Ending choices store ends [] → AreEnds ends (by_layers (slots r gates) same_outcome same_key choices steps)
   ending_done choices store ends m = subst (AreEnds ends) (ap (λ xs. at_limit (slots r gates) same_outcome xs m.tallies) (sym (no_lead r store m.leads m.left)) ∙ m.comes) m.ended
 
-  pub ending_small : (choices : ℕ) (store : Store) (ends : List (EndKey × code.Prefixes)) (es : List (Row × code.Prefixes)) (e : Row × code.Prefixes) → Ending choices store ends (e ∷ es) → (ts : List Tally) × AreEnds ends ts × (counts ts + e.1.count < 10 ^ 126)
+  pub ending_small : (choices : ℕ) (store : Store) (ends : List (EndKey × code.Prefixes)) (es : List (StateRow × code.Prefixes)) (e : StateRow × code.Prefixes) → Ending choices store ends (e ∷ es) → (ts : List Tally) × AreEnds ends ts × (counts ts + e.1.count < 10 ^ 126)
   ending_small choices store ends es e m =
       let n = next_lead r store e es m.leads m.left in
       let words = ap words_of n.is in
@@ -234,7 +234,7 @@ module _ (r : Tables) (gates : Gates) (steps : ℕ) where
       let old = m.small in
       (m.tallies, m.ended, omega (arith, words, same, old))
 
-  pub ending_room : (choices : ℕ) (store : Store) (ends : List (EndKey × code.Prefixes)) (es : List (Row × code.Prefixes)) (e : Row × code.Prefixes) → choices ≤ 100 → Ending choices store ends (e ∷ es) → length e.1.first.items ≤ 100
+  pub ending_room : (choices : ℕ) (store : Store) (ends : List (EndKey × code.Prefixes)) (es : List (StateRow × code.Prefixes)) (e : StateRow × code.Prefixes) → choices ≤ 100 → Ending choices store ends (e ∷ es) → length e.1.first.items ≤ 100
   ending_room choices store ends es e l m =
       let n = next_lead r store e es m.leads m.left in
       let here = subst (Each (IsLead (slots r gates) same_outcome exact_outcomes same_key key_sound steps choices)) n.is m.lead in

@@ -14,7 +14,7 @@ use Rattle.cp_merged.specs.declared.end_key.EndKey.{EndKey}
 use Rattle.cp_merged.specs.declared.fault.MergeFault.{MergeFault}
 use Rattle.cp_merged.specs.declared.fault.MergeFault.TheVariants.{Memory, TooManyStates, TooManyOutcomes}
 use Rattle.cp_merged.specs.declared.prefixes.Prefixes as code
-use Rattle.cp_states.specs.declared.row.Row.{Row}
+use Rattle.cp_states.specs.declared.row.StateRow.{StateRow}
 
 -- whether two machines have one key
 unfoldable pub same_key : Machine → Machine → Bool
@@ -35,7 +35,7 @@ AreLeadsTo r store (y ∷ ys) [] = ⊥
 AreLeadsTo r store (y ∷ ys) (x ∷ xs) = IsLeadTo r store y x × AreLeadsTo r store ys xs
 
 -- the entries of a layer are leads to machines of a program
-abbrev pub AreLeads : Tables → Store → List (Row × code.Prefixes) → List (Lead Machine) → Type 0
+abbrev pub AreLeads : Tables → Store → List (StateRow × code.Prefixes) → List (Lead Machine) → Type 0
 AreLeads r store entries leads = AreLeadsTo r store (map keyed entries) leads
 
 -- the entries are tallies, or there are too many of both
@@ -43,7 +43,7 @@ abbrev pub AreEnds : List (EndKey × code.Prefixes) → List Tally → Type 0
 AreEnds entries tallies = (map end_of entries ≡ tallies) ⊎ ((50000 < length entries) × (50000 < length tallies))
 
 -- the entries are a front
-pub record Holds (r : Tables) (store : Store) (ends : List (EndKey × code.Prefixes)) (states : List (Row × code.Prefixes)) (f : Front Machine) : Type 0 where
+pub record Holds (r : Tables) (store : Store) (ends : List (EndKey × code.Prefixes)) (states : List (StateRow × code.Prefixes)) (f : Front Machine) : Type 0 where
   pub ended : AreEnds ends f.ended
   pub layer : AreLeads r store states f.layer
 

@@ -10,10 +10,10 @@ use Rattle.cp_merged.specs.Holds.{same_key, Holds}
 use Rattle.cp_merged.specs.TooMany.{FitsBefore}
 use Rattle.cp_merged.specs.declared.end_key.EndKey.{EndKey}
 use Rattle.cp_merged.specs.declared.prefixes.Prefixes as code
-use Rattle.cp_states.specs.declared.row.Row.{Row}
+use Rattle.cp_states.specs.declared.row.StateRow.{StateRow}
 
 -- layer d is made, and all that came before fits
-pub record Reached (r : Tables) (gates : Gates) (choices steps most d : ℕ) (store : Store) (ends : List (EndKey × code.Prefixes)) (states : List (Row × code.Prefixes)) : Type 0 where
+pub record Reached (r : Tables) (gates : Gates) (choices steps most d : ℕ) (store : Store) (ends : List (EndKey × code.Prefixes)) (states : List (StateRow × code.Prefixes)) : Type 0 where
   pub holds : Holds r store ends states (front_at (slots r gates) same_outcome same_key steps d)
   pub few : length states ≤ most
   pub fits : FitsBefore (slots r gates) choices steps most d

@@ -17,7 +17,7 @@ ghost use Rattle.cp_merged.specs.TooMany.{FitsBefore, IsDueFault};
 use crate::fault::MergeFault;
 use crate::frontier::{Ends, Frontier, MOST_OUTCOMES};
 use crate::layering::{end_layer, next_layer};
-use crate::ordered::sorted;
+use crate::ordered::sort_tallies;
 use crate::prefixes::Prefixes;
 use crate::tallies::Tallies;
 use crate::word::Word;
@@ -26,7 +26,7 @@ use cp_natural::Natural;
 use cp_progress::{ObserveLayers, Progress, Unobserved};
 use cp_run::{Limits, open};
 use cp_slots::Resolved;
-use cp_states::Row;
+use cp_states::StateRow;
 use cp_walk::Job;
 use std::alloc::Global;
 use std::marker::Brand;
@@ -61,7 +61,7 @@ pub fn explore_merged_with<O: ObserveLayers>(
         Blank::new(1),
         Blank::new(1),
     )?;
-    match sorted(alloc, ends) {
+    match sort_tallies(alloc, ends) {
         Ok(tallies) => Ok(tallies),
         Err(_) => Err(MergeFault::Memory),
     }
@@ -136,7 +136,7 @@ fn first_layer<S: Ledger, C: Ledger>(
     frontier: &mut Frontier,
     steps: &mut Ticks<S>,
     calls: &mut Ticks<C>,
-) -> Result<(State, Row), MergeFault>
+) -> Result<(State, StateRow), MergeFault>
     requires ended { frontier.old.ended.entries ≡ [] }
     requires layer { frontier.old.layer.entries ≡ [] }
     ensures own { IfOk result (λ found. IsStateOf program.now found.0) }
@@ -172,7 +172,7 @@ fn one_layer<S: Ledger, C: Ledger>(
     most: usize,
     depth: u8,
     state: &mut State,
-    row: &mut Row,
+    row: &mut StateRow,
     next: &mut State,
     frontier: &mut Frontier,
     steps: &mut Ticks<S>,

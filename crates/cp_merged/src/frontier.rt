@@ -22,8 +22,9 @@ use crate::prefixes::Prefixes;
 use crate::word::word_of;
 use cp_machine::{Moved, State};
 use cp_run::{Halt, OutcomeKind, outcome_at};
-use cp_states::{Row, Store};
+use cp_states::{StateRow, Store};
 use indexmap::IndexMap;
+use indexmap::map::Entry;
 use std::alloc::{AllocError, Global};
 use std::mem;
 
@@ -31,20 +32,20 @@ use std::mem;
 pub const MOST_OUTCOMES: usize = 50_000;
 
 /// The states of a layer.
-pub type Layer = IndexMap<Row, Prefixes>;
+pub type Layer = IndexMap<StateRow, Prefixes>;
 
 /// The outcomes of the words that have ended.
 pub type Ends = IndexMap<EndKey, Prefixes>;
 
 // A state that is known takes no memory.
-fn add_row(layer: &mut Layer, key: Row, prefixes: &Prefixes) -> Result<(), AllocError>
+fn add_row(layer: &mut Layer, key: StateRow, prefixes: &Prefixes) -> Result<(), AllocError>
     requires { IfSome (lookup (λ k. pointwise nat_eq key.numbers k.numbers) layer.old.entries) (λ y. y.count + prefixes.now.count < 10 ^ 126) }
     ensures { IfOk result (λ _. map keyed layer.new.entries ≡ with_lead (pointwise nat_eq) (map keyed layer.old.entries) (keyed (key, prefixes.now))) }
 {
-    match layer.get_mut(&key) {
-        Some(known) => known.merge(prefixes),
-        None => {
-            layer.insert(key, copy_of(prefixes))?;
+    match layer.entry(key)? {
+        Entry::Occupied(mut known) => known.get_mut().merge(prefixes),
+        Entry::Vacant(place) => {
+            place.insert(copy_of(prefixes));
         }
     }
     Ok(())
@@ -139,7 +140,7 @@ impl Frontier {
         alloc: Global,
         state: &State,
         before: &State,
-        known: &Row,
+        known: &StateRow,
         moved: &Moved,
         prefixes: &Prefixes,
     ) -> Result<(), AllocError>
@@ -161,7 +162,7 @@ impl Frontier {
         state: &State,
         halt: Halt,
         before: &State,
-        known: &Row,
+        known: &StateRow,
         moved: &Moved,
         prefixes: &Prefixes,
     ) -> Result<(), AllocError>

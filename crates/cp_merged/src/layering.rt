@@ -17,9 +17,9 @@ use crate::frontier::{Frontier, Layer};
 use crate::prefixes::Prefixes;
 use crate::word::longer;
 use cp_machine::{Moved, State, Ticks};
-use cp_run::{Limits, OutcomeKind, choose, wanted};
+use cp_run::{Limits, OutcomeKind, candidates, choose};
 use cp_slots::Resolved;
-use cp_states::Row;
+use cp_states::StateRow;
 use std::alloc::{AllocError, Global};
 use std::sync::ledger::Ledger;
 
@@ -32,7 +32,7 @@ fn take_choice<S: Ledger, C: Ledger>(
     prefixes: &Prefixes,
     process: u8,
     before: &State,
-    known: &Row,
+    known: &StateRow,
     moved: &mut Moved,
     frontier: &mut Frontier,
     steps: &mut Ticks<S>,
@@ -66,7 +66,7 @@ fn take_choices<S: Ledger, C: Ledger>(
     state: &State,
     prefixes: &Prefixes,
     next: &mut State,
-    known: &Row,
+    known: &StateRow,
     moved: &mut Moved,
     frontier: &mut Frontier,
     steps: &mut Ticks<S>,
@@ -83,7 +83,7 @@ fn take_choices<S: Ledger, C: Ledger>(
     ensures kept { IfOk result (λ _. KeepParts frontier.old.store frontier.new.store) }
     ensures front { IfOk result (λ _. (f : layers.Front Machine) → Holds program.now frontier.old.store frontier.old.ended.entries frontier.old.layer.entries f → Holds program.now frontier.new.store frontier.new.ended.entries frontier.new.layer.entries (layers.after_choices (slots program.now limits.gates) same_outcome same_key limits.steps (record { state = machine_of state.now; first = prefixes.now.first.items; count = prefixes.now.count }) (processes_of program.now) f)) }
 {
-    let numbers = wanted(program, limits, state);
+    let numbers = candidates(program, limits, state);
     for process in numbers.as_slice() {
         next.take_moved(state, moved);
         *moved = Moved::nobody();
@@ -104,7 +104,7 @@ pub fn next_layer<S: Ledger, C: Ledger>(
     depth: u8,
     layer: &Layer,
     state: &mut State,
-    row: &mut Row,
+    row: &mut StateRow,
     next: &mut State,
     frontier: &mut Frontier,
     steps: &mut Ticks<S>,

@@ -11,7 +11,7 @@ use crate::tally::Tally;
 use std::alloc::{AllocError, Global};
 
 /// The outcomes as they were found.
-fn found(alloc: Global, ends: Ends) -> Result<Vec<Tally>, AllocError>
+fn tallies_of(alloc: Global, ends: Ends) -> Result<Vec<Tally>, AllocError>
     ensures { IfOk result (λ v. map tally_of v.items ≡ map end_of ends.entries) }
 {
     let mut tallies = Vec::new(alloc);
@@ -33,12 +33,12 @@ fn sort(tallies: &mut Vec<Tally>)
 }
 
 /// The outcomes in the order of their first words.
-pub fn sorted(alloc: Global, ends: Ends) -> Result<Tallies, AllocError>
+pub fn sort_tallies(alloc: Global, ends: Ends) -> Result<Tallies, AllocError>
     requires { rows_in (map end_of ends.entries) < 10 ^ 126 }
     ensures permutation { IfOk result (λ v. IsPermutation (map end_of ends.entries) (map tally_of v)) }
     ensures sorted { IfOk result (λ v. IsSortedBy by_word v) }
 {
-    let mut tallies = found(alloc, ends)?;
+    let mut tallies = tallies_of(alloc, ends)?;
     sort(&mut tallies);
     Ok(Tallies::new(tallies))
 }

@@ -48,7 +48,7 @@ fn push_tallies(text: &mut String, program: &Resolved, tallies: &[Tally]) -> Res
     Ok(())
 }
 
-fn told(alloc: Global, program: &Resolved, tallies: &Tallies) -> Result<Report, AllocError>
+fn report_of(alloc: Global, program: &Resolved, tallies: &Tallies) -> Result<Report, AllocError>
     ensures { IfOk result (λ r. r.text ≡ told_text program.now.names (map tally_of tallies.now)) }
 {
     let all = tallies.as_slice();
@@ -74,6 +74,6 @@ pub fn merged_report(
     ensures told { IfOk result (λ r. r.text ≡ told_text program.now.names (map tally_of tallies.now)) }
     ensures report { IfOk result (λ r. (lines : List Line) → map tally_of tallies.now ≡ tally same_outcome lines → r.text ≡ report_text program.now.names lines false) }
 {
-    let report = told(alloc, program, tallies)?;
+    let report = report_of(alloc, program, tallies)?;
     Ok(report)
 }

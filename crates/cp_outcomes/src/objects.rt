@@ -11,7 +11,7 @@ use cp_machine::Ticks;
 use cp_merged::{Tallies, Tally};
 use cp_natural::{Natural, push_natural};
 use cp_run::OutcomeKind;
-use cp_simplest::Simple;
+use cp_simplest::SimplestSchedule;
 use cp_story::objects::{Object, monitors, numbers, processes, put_kind, waits};
 use cp_story::{kind_words, output_words};
 use serde_json::Value;
@@ -87,7 +87,7 @@ fn tally_object<L: Ledger>(
     subject: Subject<'_>,
     number: usize,
     tally: &Tally,
-    simple: Option<&Simple>,
+    simple: Option<&SimplestSchedule>,
     whole: &Natural,
     ticks: &mut Ticks<L>,
 ) -> Result<Value, AllocError>

@@ -6,7 +6,7 @@ ghost use Rattle.cp_simplest.specs.Simple.{IsScheduleOf};
 
 use cp_machine::Ticks;
 use cp_merged::{Tallies, Tally};
-use cp_simplest::{Searched, Simple, is_schedule_of, simplest};
+use cp_simplest::{Searched, SimplestSchedule, is_schedule_of, simplest};
 use cp_walk::Job;
 use std::alloc::{AllocError, Global};
 use std::sync::ledger::Ledger;
@@ -14,7 +14,7 @@ use std::sync::ledger::Ledger;
 /// The simplest schedule of each outcome, or none of any where there are too many states to search through.
 #[derive(Drop)]
 pub struct Simples {
-    words: Option<Vec<Option<Simple>>>,
+    words: Option<Vec<Option<SimplestSchedule>>>,
 }
 
 impl Simples {
@@ -44,7 +44,7 @@ impl Simples {
     }
 
     /// That of the outcome at a place.
-    pub fn at(&self, place: usize) -> Option<&Simple> {
+    pub fn at(&self, place: usize) -> Option<&SimplestSchedule> {
         match &self.words {
             Some(words) => match words.get(place) {
                 Some(Some(simple)) => Some(simple),
@@ -59,10 +59,10 @@ impl Simples {
 fn confirm_words<L: Ledger>(
     alloc: Global,
     job: Job,
-    found: Vec<Option<Simple>>,
+    found: Vec<Option<SimplestSchedule>>,
     tallies: &[Tally],
     ticks: &mut Ticks<L>,
-) -> Result<Vec<Option<Simple>>, AllocError> {
+) -> Result<Vec<Option<SimplestSchedule>>, AllocError> {
     let mut words = Vec::new(alloc);
     for (simple, tally) in found.into_iter().zip(tallies) {
         words.push(confirm_word(alloc, job, simple, tally, ticks)?)?;
@@ -74,10 +74,10 @@ fn confirm_words<L: Ledger>(
 fn confirm_word<L: Ledger>(
     alloc: Global,
     job: Job,
-    simple: Option<Simple>,
+    simple: Option<SimplestSchedule>,
     tally: &Tally,
     ticks: &mut Ticks<L>,
-) -> Result<Option<Simple>, AllocError>
+) -> Result<Option<SimplestSchedule>, AllocError>
     ensures { IfOk result (λ found. IfSome found (λ s. IsScheduleOf (slots job.entry.program.now job.entry.limits.gates) job.entry.limits.choices job.entry.limits.steps s.word.items tally.now.outcome)) }
 {
     let Some(simple) = simple else {

@@ -12,7 +12,7 @@ use cp_machine::Ticks;
 use cp_merged::{Tallies, Tally};
 use cp_natural::{Natural, push_natural};
 use cp_run::{Limits, MOST_CHOICES, MOST_STEPS, OutcomeKind};
-use cp_simplest::Simple;
+use cp_simplest::SimplestSchedule;
 use cp_story::{Wait, kind_words, tell, wait_words};
 use cp_walk::text::{push_outcome, push_word};
 use std::alloc::{AllocError, Global};
@@ -113,7 +113,7 @@ fn push_words(
     text: &mut String,
     width: usize,
     tally: &Tally,
-    simple: Option<&Simple>,
+    simple: Option<&SimplestSchedule>,
 ) -> Result<(), AllocError> {
     push_outcome(text, subject.program, &tally.outcome)?;
     text.push('\n')?;
@@ -127,7 +127,11 @@ fn push_words(
     text.push('\n')
 }
 
-fn push_simple(text: &mut String, tally: &Tally, simple: &Simple) -> Result<(), AllocError> {
+fn push_simple(
+    text: &mut String,
+    tally: &Tally,
+    simple: &SimplestSchedule,
+) -> Result<(), AllocError> {
     let word = simple.word.as_slice();
     if word == tally.first.as_slice() {
         return Ok(());

@@ -4,7 +4,7 @@ ghost use Rattle.std.specs.Prelude.{◌≡◌, All, IfOk};
 ghost use Rattle.cp_machine.specs.System.{IsStateOf};
 
 use crate::endless::endless_of;
-use crate::graph::Graph;
+use crate::graph::PageGraph;
 use crate::json::Json;
 use crate::keys::Merging;
 use crate::outcomes::{MOST_OUTCOMES, first_words, has_output_limit, outcome_rows, survey};
@@ -151,7 +151,7 @@ fn put_graph(
     words: &[Vec<u8>],
 ) -> Result<(), AllocError> {
     let teller = first_teller(alloc, subject.legend)?;
-    let mut graph = Graph::new(alloc, teller, merging, subject.length);
+    let mut graph = PageGraph::new(alloc, teller, merging, subject.length);
     put_variables(alloc, json, subject, &mut graph.teller)?;
     put_states(alloc, json, subject, words, &mut graph)
 }
@@ -187,7 +187,7 @@ fn put_states(
     json: &mut Json,
     subject: PageSubject<'_>,
     words: &[Vec<u8>],
-    graph: &mut Graph<'_>,
+    graph: &mut PageGraph<'_>,
 ) -> Result<(), AllocError> {
     let views = first_views(alloc, subject, &mut graph.teller.register)?;
     let start = explore_graph::<Brand>(alloc, subject, graph, words, Blank::new(1))?;
@@ -229,7 +229,7 @@ fn first_views(
 fn explore_graph<S: Ledger>(
     alloc: Global,
     subject: PageSubject<'_>,
-    graph: &mut Graph<'_>,
+    graph: &mut PageGraph<'_>,
     words: &[Vec<u8>],
     blank: Blank,
 ) -> Result<usize, AllocError>
@@ -275,7 +275,7 @@ fn lay_words<S: Ledger>(
     alloc: Global,
     program: &Resolved,
     limits: Limits,
-    graph: &mut Graph<'_>,
+    graph: &mut PageGraph<'_>,
     words: &[Vec<u8>],
     states: &mut Vec<State>,
     most: usize,
@@ -298,7 +298,7 @@ fn lay_word<S: Ledger>(
     alloc: Global,
     program: &Resolved,
     limits: Limits,
-    graph: &mut Graph<'_>,
+    graph: &mut PageGraph<'_>,
     word: &[u8],
     states: &mut Vec<State>,
     left: usize,

@@ -3,7 +3,7 @@
 use crate::json::Json;
 use crate::register::Register;
 use cp_legend::Value;
-use cp_story::{Event, Happening, OpenCall, Queue, push_shown};
+use cp_story::{Happening, OpenCall, Queue, StoryEvent, push_shown};
 use std::alloc::AllocError;
 
 /// The line, the places and the words of an event that the story does not have.
@@ -30,7 +30,11 @@ struct Happened {
 impl<'a> Register<'a> {
     /// The place of an event: `[letter, process, line, monitor or process, text or view, [woken, ..], [let in, ..], [variable, value, ..], view]`.
     /// The line of a return belongs to the way and is left out: ways with different calls may meet in one state.
-    pub fn place_event(&mut self, event: &Event, beside: &Beside) -> Result<usize, AllocError> {
+    pub fn place_event(
+        &mut self,
+        event: &StoryEvent,
+        beside: &Beside,
+    ) -> Result<usize, AllocError> {
         let told = self.told(event, beside)?;
         let line = match event.happening {
             Happening::Leave(_) => 0,
@@ -51,7 +55,7 @@ impl<'a> Register<'a> {
         Ok(self.events.place(&row))
     }
 
-    fn told(&mut self, event: &Event, beside: &Beside) -> Result<Happened, AllocError> {
+    fn told(&mut self, event: &StoryEvent, beside: &Beside) -> Result<Happened, AllocError> {
         match &event.happening {
             Happening::Enter {
                 call,

@@ -15,7 +15,7 @@ use arrayvec::ArrayVec;
 use cp_ends::end::Arrival;
 use cp_machine::{State, Ticks};
 use cp_merged::state_key::StateKey;
-use cp_run::{Limits, may, wanted};
+use cp_run::{Limits, candidates, may};
 use cp_slots::Resolved;
 use cp_story::{Observer, OpenCall};
 use indexmap::IndexMap;
@@ -38,7 +38,7 @@ struct Node {
 
 /// The states that were found, and the edges between them.
 #[derive(Drop)]
-pub struct Graph<'a> {
+pub struct PageGraph<'a> {
     pub teller: Teller<'a>,
     merging: Merging,
     length: Length,
@@ -74,10 +74,15 @@ fn push_state(program: &Resolved, states: &mut Vec<State>, state: State) -> Resu
     Ok(())
 }
 
-impl<'a> Graph<'a> {
+impl<'a> PageGraph<'a> {
     /// A graph without states.
-    pub fn new(alloc: Global, teller: Teller<'a>, merging: Merging, length: Length) -> Graph<'a> {
-        Graph {
+    pub fn new(
+        alloc: Global,
+        teller: Teller<'a>,
+        merging: Merging,
+        length: Length,
+    ) -> PageGraph<'a> {
+        PageGraph {
             teller,
             merging,
             length,
@@ -302,7 +307,7 @@ impl<'a> Graph<'a> {
         self.nodes.push(Node {
             calls: copy_of(alloc, &observer.calls)?,
             gate: state.pending(),
-            options: wanted(program, limits, state),
+            options: candidates(program, limits, state),
             edges: Vec::new(alloc),
             depth,
         })?;

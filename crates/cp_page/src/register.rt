@@ -1,7 +1,7 @@
 //! The tables of a page, on which its graph stands.
 
 use crate::json::Json;
-use crate::table::Rows;
+use crate::table::PageRows;
 use cp_legend::Legend;
 use std::alloc::Global;
 
@@ -10,12 +10,12 @@ use std::alloc::Global;
 pub struct Register<'a> {
     pub alloc: Global,
     pub legend: &'a Legend,
-    pub strings: Rows,
-    pub frames: Rows,
-    pub views: Rows,
-    pub events: Rows,
-    pub edges: Rows,
-    pub ends: Rows,
+    pub strings: PageRows,
+    pub frames: PageRows,
+    pub views: PageRows,
+    pub events: PageRows,
+    pub edges: PageRows,
+    pub ends: PageRows,
 }
 
 impl<'a> Register<'a> {
@@ -24,12 +24,12 @@ impl<'a> Register<'a> {
         Register {
             alloc,
             legend,
-            strings: Rows::new(alloc),
-            frames: Rows::new(alloc),
-            views: Rows::new(alloc),
-            events: Rows::new(alloc),
-            edges: Rows::new(alloc),
-            ends: Rows::new(alloc),
+            strings: PageRows::new(alloc),
+            frames: PageRows::new(alloc),
+            views: PageRows::new(alloc),
+            events: PageRows::new(alloc),
+            edges: PageRows::new(alloc),
+            ends: PageRows::new(alloc),
         }
     }
 

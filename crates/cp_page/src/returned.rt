@@ -1,7 +1,7 @@
 //! What a call gives back when it ends.
 
 use cp_legend::{Legend, Parameter, Passing, Routine, Value};
-use cp_machine::{Entry, Process, State};
+use cp_machine::{Entry, ProcessState, State};
 use cp_store::Address;
 use cp_story::arguments;
 use std::alloc::{AllocError, Global};
@@ -38,7 +38,7 @@ pub fn values_returned(
 fn push_result(
     alloc: Global,
     legend: &Legend,
-    process: &Process,
+    process: &ProcessState,
     routine: &Routine,
     text: &mut String,
 ) -> Result<(), AllocError> {
@@ -57,7 +57,7 @@ fn push_place(
     alloc: Global,
     legend: &Legend,
     state: &State,
-    process: &Process,
+    process: &ProcessState,
     parameter: Parameter,
     name: &Value,
     text: &mut String,

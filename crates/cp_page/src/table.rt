@@ -6,18 +6,18 @@ use std::alloc::{AllocError, Global};
 
 /// Different rows in the order in which they came, each named by its place.
 #[derive(Drop)]
-pub struct Rows {
+pub struct PageRows {
     alloc: Global,
     rows: Json,
     places: IndexMap<String, usize>,
 }
 
-impl Rows {
+impl PageRows {
     /// A table without rows.
-    pub fn new(alloc: Global) -> Rows {
+    pub fn new(alloc: Global) -> PageRows {
         let mut rows = Json::new(alloc);
         rows.open();
-        Rows {
+        PageRows {
             alloc,
             rows,
             places: IndexMap::new(alloc),

@@ -9,12 +9,12 @@ ghost use Rattle.cp_run.specs.Code.{node_of};
 use crate::events::Beside;
 use crate::register::Register;
 use crate::returned::values_returned;
-use crate::variables::Kept;
+use crate::variables::KeptVariables;
 use cp_machine::{Event as Step, State, Ticks, step};
 use cp_run::turn::{settled_turn, turn_at, turn_of};
 use cp_run::{Halt, Holders, Limits, OutcomeKind, TraceEvent, TraceLine, Turn};
 use cp_slots::Resolved;
-use cp_story::{Aim, Event, Happening, NONE, Observer, aim_of};
+use cp_story::{Aim, Happening, NONE, Observer, StoryEvent, aim_of};
 use std::alloc::{AllocError, Global};
 use std::sync::ledger::Ledger;
 
@@ -22,7 +22,7 @@ use std::sync::ledger::Ledger;
 #[derive(Drop)]
 pub struct Teller<'a> {
     pub register: Register<'a>,
-    pub kept: Vec<Kept>,
+    pub kept: Vec<KeptVariables>,
     pub told: Vec<usize>,
     /// The process that made the last step.
     pub going: u8,

@@ -15,7 +15,7 @@ pub enum Owner {
 
 /// A variable that stays, by its cells among those of all components.
 #[derive(Drop)]
-pub struct Kept {
+pub struct KeptVariables {
     pub owner: Owner,
     /// Its name in what it belongs to.
     pub name: String,
@@ -25,7 +25,7 @@ pub struct Kept {
 }
 
 /// The variables that stay, those of a component after another.
-pub fn kept_variables(alloc: Global, legend: &Legend) -> Result<Vec<Kept>, AllocError> {
+pub fn kept_variables(alloc: Global, legend: &Legend) -> Result<Vec<KeptVariables>, AllocError> {
     let mut kept = Vec::new(alloc);
     let mut process = 0;
     for component in &legend.components {
@@ -61,13 +61,13 @@ fn push_kept(
     legend: &Legend,
     component: &Component,
     owner: Owner,
-    kept: &mut Vec<Kept>,
+    kept: &mut Vec<KeptVariables>,
 ) -> Result<(), AllocError> {
     for variable in legend.variables_of(component) {
         let cells = legend.shapes.cells_of(variable.shape);
         if cells > 0 {
             let at = component.base.saturating_add(variable.slot);
-            kept.push(Kept {
+            kept.push(KeptVariables {
                 owner,
                 name: name_of(alloc, legend, component, owner, variable.name.as_str())?,
                 shape: variable.shape,
@@ -120,7 +120,7 @@ impl<'a> Register<'a> {
     }
 
     /// The variables that stay, with their values: `[0, monitor, name, value]` or `[1, process, name, value]`; of queues the value is -1.
-    pub fn variables(&mut self, kept: &[Kept], cells: &[i16]) -> Json {
+    pub fn variables(&mut self, kept: &[KeptVariables], cells: &[i16]) -> Json {
         let mut rows = Json::new(self.alloc);
         rows.open();
         for variable in kept {
@@ -130,7 +130,7 @@ impl<'a> Register<'a> {
         rows
     }
 
-    fn put_variable(&mut self, rows: &mut Json, variable: &Kept, cells: &[i16]) {
+    fn put_variable(&mut self, rows: &mut Json, variable: &KeptVariables, cells: &[i16]) {
         let (kind, owner) = match variable.owner {
             Owner::Monitor(monitor) => (0, monitor),
             Owner::Process(process) => (1, process),
@@ -150,7 +150,7 @@ impl<'a> Register<'a> {
     /// The variables that stay and have other values than before, each with its value now.
     pub fn changes(
         &mut self,
-        kept: &[Kept],
+        kept: &[KeptVariables],
         before: &[i16],
         now: &[i16],
     ) -> Result<Vec<usize>, AllocError> {

@@ -4,7 +4,7 @@ ghost use Rattle.cp_machine.specs.System.{IsStateOf};
 
 use crate::json::Json;
 use crate::register::Register;
-use cp_machine::{Entry, Process, State};
+use cp_machine::{Entry, ProcessState, State};
 use cp_slots::Resolved;
 use cp_store::Frame;
 use cp_story::aim_of;
@@ -38,7 +38,7 @@ impl<'a> Register<'a> {
     }
 
     // The place of a frame: `[name, variable, value, variable, value, ..]`.
-    fn place_frame(&mut self, process: &Process, frame: Frame) -> usize {
+    fn place_frame(&mut self, process: &ProcessState, frame: Frame) -> usize {
         let mut row = Json::new(self.alloc);
         row.open();
         row.place(self.place_frame_name(frame));

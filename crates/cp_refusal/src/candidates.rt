@@ -183,7 +183,7 @@ fn push_word(text: &mut Prose, word: Word) {
 
 /// What may stand at a place of some tokens, as a choice: `a`, `a or b`, `a, b or c`.
 #[derive(Drop)]
-struct Choice<'a> {
+struct CandidateChoice<'a> {
     alloc: Global,
     tokens: &'a Tokens,
     at: usize,
@@ -194,7 +194,7 @@ struct Choice<'a> {
     newest: Option<Word>,
 }
 
-impl<'a> Choice<'a> {
+impl<'a> CandidateChoice<'a> {
     fn takes(&mut self, candidate: Candidate) -> bool {
         match may_stand(self.alloc, self.tokens, self.at, candidate) {
             Ok(takes) => takes,
@@ -286,7 +286,7 @@ impl<'a> Choice<'a> {
 
 /// Appends what could stand in the place of the token of this number.
 pub fn push_wanted(alloc: Global, text: &mut Prose, tokens: &Tokens, at: usize) {
-    let mut choice = Choice {
+    let mut choice = CandidateChoice {
         alloc,
         tokens,
         at,

@@ -75,32 +75,32 @@ fn operation(
 
 /// A level of an expression: its operands are factors, or else terms.
 #[derive(Clone, Copy, PartialEq, Eq)]
-enum Level {
+enum OperandLevel {
     Term,
     Sum,
 }
 
-impl Level {
+impl OperandLevel {
     fn is_operator(self, tokens: &Tokens, at: usize) -> bool {
         let mark = mark_at(tokens, at);
         match self {
-            Level::Term => is_multiplying(mark),
-            Level::Sum => is_adding(mark),
+            OperandLevel::Term => is_multiplying(mark),
+            OperandLevel::Sum => is_adding(mark),
         }
     }
 
     fn after_operand(self, tokens: &Tokens, at: usize) -> usize {
         match self {
-            Level::Term => after_factor(tokens, at),
-            Level::Sum => after_term(tokens, at),
+            OperandLevel::Term => after_factor(tokens, at),
+            OperandLevel::Sum => after_term(tokens, at),
         }
     }
 
     /// The first operand of a sum may have a sign.
     fn after_first(self, tokens: &Tokens, at: usize) -> usize {
         match self {
-            Level::Term => after_factor(tokens, at),
-            Level::Sum => after_term(tokens, after_sign(tokens, at)),
+            OperandLevel::Term => after_factor(tokens, at),
+            OperandLevel::Sum => after_term(tokens, after_sign(tokens, at)),
         }
     }
 
@@ -130,7 +130,7 @@ impl Level {
 }
 
 /// How many operators may be applied from a token on without a fault, by halving: what stands before a fault has a sort.
-fn sound_operators(asker: &Asker, text: &mut Prose, at: usize, level: Level) -> usize {
+fn sound_operators(asker: &Asker, text: &mut Prose, at: usize, level: OperandLevel) -> usize {
     let mut low: usize = 0;
     let mut high = level.count(asker.tokens, at);
     for _ in 0..20 {
@@ -150,7 +150,7 @@ fn sound_operators(asker: &Asker, text: &mut Prose, at: usize, level: Level) -> 
 }
 
 /// The first operation of a level whose operands do not agree.
-fn first_operation(asker: &Asker, text: &mut Prose, at: usize, level: Level) -> bool {
+fn first_operation(asker: &Asker, text: &mut Prose, at: usize, level: OperandLevel) -> bool {
     let tokens = asker.tokens;
     let number = sound_operators(asker, text, at, level);
     let operator = level.after_operators(tokens, at, number);
@@ -180,7 +180,7 @@ fn sum(asker: &Asker, text: &mut Prose, at: usize) -> bool {
             return true;
         }
     }
-    first_operation(asker, text, at, Level::Sum)
+    first_operation(asker, text, at, OperandLevel::Sum)
 }
 
 /// The comparison that begins at a token, where there is one.
@@ -316,12 +316,12 @@ fn assignment(asker: &Asker, text: &mut Prose, target: Extent, value: Extent) ->
 
 /// What is said before the sorts of some values: tokens, where there are any, and words.
 #[derive(Clone, Copy)]
-struct Beginning {
+struct SentenceBeginning {
     named: Option<Extent>,
     words: &'static str,
 }
 
-fn push_beginning(asker: &Asker, text: &mut Prose, beginning: Beginning) {
+fn push_beginning(asker: &Asker, text: &mut Prose, beginning: SentenceBeginning) {
     if let Some(named) = beginning.named {
         push_tokens(text, asker.source, named);
     }
@@ -329,7 +329,12 @@ fn push_beginning(asker: &Asker, text: &mut Prose, beginning: Beginning) {
 }
 
 /// Says of which sorts some values are, that commas part. Nothing is said where none has a sort.
-fn push_values(asker: &Asker, text: &mut Prose, beginning: Beginning, values: Extent) -> bool {
+fn push_values(
+    asker: &Asker,
+    text: &mut Prose,
+    beginning: SentenceBeginning,
+    values: Extent,
+) -> bool {
     let mut from = values.from;
     let mut is_first = true;
     for _ in 0..asker.tokens.count() {
@@ -376,7 +381,7 @@ fn call(asker: &Asker, text: &mut Prose, at: usize) -> bool {
             return true;
         }
     }
-    let beginning = Beginning {
+    let beginning = SentenceBeginning {
         named: Some(Extent { from: at, to: open }),
         words: " has a parameter of another type than its argument: ",
     };
@@ -427,7 +432,7 @@ fn expression(asker: &Asker, text: &mut Prose, at: usize) -> bool {
             return call(asker, text, at);
         }
     }
-    first_operation(asker, text, at, Level::Term)
+    first_operation(asker, text, at, OperandLevel::Term)
         || sum(asker, text, at)
         || comparison(asker, text, at)
 }
@@ -460,7 +465,7 @@ fn elements(asker: &Asker, text: &mut Prose, at: usize) -> bool {
         from: at.saturating_add(1),
         to: after_bracket(asker.tokens, at).saturating_sub(1),
     };
-    let beginning = Beginning {
+    let beginning = SentenceBeginning {
         named: None,
         words: "the elements of a set have to be ordinal and of one type, but ",
     };

@@ -9,7 +9,7 @@ use crate::further_up::{Missing, what_is_missing};
 use crate::hints::hints;
 use crate::page::{line_number, push_tokens};
 use crate::place::{ByteRange, Sought, find, is_coded};
-use crate::report::{Explanation, Refusal};
+use crate::report::{ExplainedRefusal, Explanation};
 use crate::rules::{Broken, code, mark_at, sentence};
 use cp_check::{CheckFault, check};
 use cp_drops::{drop_checked, drop_tree};
@@ -110,7 +110,7 @@ fn scan_refused(alloc: Global, source: &[u8], fault: ScanFault) -> Result<Explan
         Some(found) => fault_text(source, fault.cause, found),
         None => &[],
     };
-    Ok(Explanation::Refused(Refusal {
+    Ok(Explanation::Refused(ExplainedRefusal {
         kind: "scan",
         sentence: String::from_str(alloc, scan_sentence(fault.cause, text))?,
         more: "see \"Lexemes\" in docs/LANGUAGE.md",
@@ -134,7 +134,7 @@ fn rule_broken(
     tokens: &Tokens,
     broken: Broken,
 ) -> Result<Explanation, AllocError> {
-    Ok(Explanation::Refused(Refusal {
+    Ok(Explanation::Refused(ExplainedRefusal {
         kind: code(broken.rule),
         sentence: sentence(alloc, source, tokens, broken)?,
         more: "see the rule in docs/RULES.md",
@@ -261,7 +261,7 @@ fn parse_refused(
         }
         ParseFault::Memory => return Err(AllocError),
     };
-    Ok(Explanation::Refused(Refusal {
+    Ok(Explanation::Refused(ExplainedRefusal {
         kind: "parse",
         sentence: text.finish()?,
         more: "see \"Grammar\" in docs/LANGUAGE.md",

@@ -29,4 +29,4 @@ mod wanted;
 
 pub use explain::refusal;
 pub use place::ByteRange;
-pub use report::{Explanation, Hint, Hints, Position, Refusal, position_of, text};
+pub use report::{ExplainedRefusal, Explanation, Hint, Hints, Position, position_of, text};

@@ -7,7 +7,7 @@ use std::alloc::{AllocError, Global};
 
 /// Why a source is refused.
 #[derive(Drop)]
-pub struct Refusal {
+pub struct ExplainedRefusal {
     /// The rule that is broken, as `C5`; for a source that can't be read to its end `scan` or `parse`.
     pub kind: &'static str,
     pub sentence: String,
@@ -38,7 +38,7 @@ pub struct Hints {
 pub enum Explanation {
     /// It is a program.
     Accepted(Hints),
-    Refused(Refusal),
+    Refused(ExplainedRefusal),
 }
 
 /// A place of a source, as an editor counts: lines, columns and characters from 1.
@@ -82,7 +82,7 @@ fn push_position(text: &mut Prose, source: &[u8], span: ByteRange, file: Option<
     }
 }
 
-fn push_refusal(text: &mut Prose, source: &[u8], refusal: &Refusal, file: Option<&str>) {
+fn push_refusal(text: &mut Prose, source: &[u8], refusal: &ExplainedRefusal, file: Option<&str>) {
     if let Some(span) = refusal.span {
         push_position(text, source, span, file);
     }

@@ -263,7 +263,7 @@ fn push_declared(asker: &Asker, text: &mut Prose, at: usize) {
 
 /// How a name is used.
 #[derive(Clone, Copy, PartialEq, Eq)]
-enum Use {
+enum RuleUse {
     /// As a statement that calls it.
     Statement,
     /// As what is assigned.
@@ -274,24 +274,25 @@ enum Use {
     Value,
 }
 
-fn use_of(asker: &Asker, at: usize) -> Use {
+fn use_of(asker: &Asker, at: usize) -> RuleUse {
     let after = mark_at(asker.tokens, after_designator(asker.tokens, at));
     match after {
-        Some(Mark::Becomes) if at == asker.place => Use::Target,
-        _ if at == asker.place => Use::Statement,
-        Some(Mark::OpenParenthesis) => Use::Call,
-        _ => Use::Value,
+        Some(Mark::Becomes) if at == asker.place => RuleUse::Target,
+        _ if at == asker.place => RuleUse::Statement,
+        Some(Mark::OpenParenthesis) => RuleUse::Call,
+        _ => RuleUse::Value,
     }
 }
 
-fn misuse(what: Declared, used: Use, has_arguments: bool) -> &'static str {
+fn misuse(what: Declared, used: RuleUse, has_arguments: bool) -> &'static str {
     match (what, used) {
-        (Declared::Function, Use::Statement) => {
+        (Declared::Function, RuleUse::Statement) => {
             " is a function: a statement calls a procedure, and a function's value has to be used"
         }
-        (Declared::Procedure, Use::Call | Use::Value) => " is a procedure, and has no value",
-        (Declared::Procedure, Use::Target) => " is a procedure, and can't be assigned",
-        (Declared::Type, Use::Value) => " is a type, and has no value",
+        (Declared::Procedure, RuleUse::Call | RuleUse::Value) =>
+            " is a procedure, and has no value",
+        (Declared::Procedure, RuleUse::Target) => " is a procedure, and can't be assigned",
+        (Declared::Type, RuleUse::Value) => " is a type, and has no value",
         (Declared::Type, _) => " is a type, and can't be called",
         (Declared::Constant, _) if has_arguments => " is a constant, and can't be called",
         (Declared::Variable | Declared::Parameter | Declared::VarParameter, _) if has_arguments => {

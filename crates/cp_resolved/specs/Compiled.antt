@@ -9,7 +9,7 @@ use Rattle.cp_tree.specs.declared.expression.Addition.TheVariants.{Plus, Minus, 
 use Rattle.cp_tree.specs.declared.expression.Multiplication.{Multiplication}
 use Rattle.cp_tree.specs.declared.expression.Multiplication.TheVariants.{Times, Div, Mod, And}
 use Rattle.cp_tree.specs.Syntax.{Expression, alone, related, Sum, sum, Terms, no_terms, more_terms, Term, term, Factors, no_factors, more_factors, Factor, number, character, named, group, negated, set_of, Expressions, no_expressions, more_expressions, Designator, designator, Selectors, no_selectors, more_selectors, Selector, field, index}
-use Rattle.cp_slots.specs.declared.place.Origin.TheVariants.{Permanent}
+use Rattle.cp_slots.specs.declared.place.PlaceOrigin.TheVariants.{Permanent}
 use Rattle.cp_slots.specs.declared.place.Arithmetic.TheVariants as arithmetic
 use Rattle.cp_slots.specs.declared.place.Comparison.TheVariants as comparison
 use Rattle.cp_slots.specs.declared.place.Logic.TheVariants as logic

@@ -1,11 +1,11 @@
 -- The forms that the parts of accepted statements have on slots, and what is laid out of the headings of the routines that they call.
 use Rattle.std.specs.Prelude.{◌≡◌, ◌≤◌, ℕ, suc, ℤ, pos, negsuc, Bool, true, false, List, [], ◌∷◌, Option, Some, None, slice_get}
 use Rattle.cp_tree.specs.Syntax.{Expression, Expressions, no_expressions, more_expressions, Designator}
-use Rattle.cp_slots.specs.declared.place.Origin.TheVariants.{Local}
-use Rattle.cp_layout.specs.declared.kinds.ValueType.{ValueType}
+use Rattle.cp_slots.specs.declared.place.PlaceOrigin.TheVariants.{Local}
+use Rattle.cp_layout.specs.declared.kinds.CellType.{CellType}
 use Rattle.cp_layout.specs.declared.layer.Passing.{Passing}
 use Rattle.cp_layout.specs.declared.layer.Passing.TheVariants as passing
-use Rattle.cp_layout.specs.declared.layer.Parameter as code_parameter
+use Rattle.cp_layout.specs.declared.layer.ParameterLayout as code_parameter
 use Rattle.cp_layout.specs.declared.names.Meaning.TheVariants as meaning
 use Rattle.cp_slots.specs.Code as code
 use Rattle.cp_layout.specs.Kinds.{Compounds, most}
@@ -70,16 +70,16 @@ AreReady h n (i ∷ is) = ⊥
 abbrev pub PassedBy : Numbering → Compounds → Bool → Ty → Passing → Type 0
 PassedBy k ts true t p = p ≡ passing.Reference
 PassedBy k ts false (component_of n) p = p ≡ passing.Component
-PassedBy k ts false t p = (v : ValueType) × (p ≡ passing.Constant v) × TypeIs k ts t v
+PassedBy k ts false t p = (v : CellType) × (p ≡ passing.Constant v) × TypeIs k ts t v
 
 -- the parameters in their order, each with its slot
-abbrev pub ParametersAre : Numbering → Compounds → (Name → ℕ) → List Parameter → List code_parameter.Parameter → Type 0
+abbrev pub ParametersAre : Numbering → Compounds → (Name → ℕ) → List Parameter → List code_parameter.ParameterLayout → Type 0
 ParametersAre k ts slots [] [] = Unit {0}
 ParametersAre k ts slots (q ∷ qs) (p ∷ ps) = (p.slot ≡ slots q.name) × PassedBy k ts q.is_var q.ty p.passing × ParametersAre k ts slots qs ps
 ParametersAre k ts slots [] (p ∷ ps) = ⊥
 ParametersAre k ts slots (q ∷ qs) [] = ⊥
 
-abbrev pub parameters_in : Option Heading → List code_parameter.Parameter
+abbrev pub parameters_in : Option Heading → List code_parameter.ParameterLayout
 parameters_in None = []
 parameters_in (Some h) = h.parameters
 

@@ -2,8 +2,8 @@
 use Rattle.std.specs.Prelude.{◌≡◌, ℕ, true, Option, Some, None, slice_get}
 use Rattle.cp_tree.specs.declared.constant.Identifier.{Identifier}
 use Rattle.cp_tree.specs.Syntax.{Expression, Expressions, Designator, designator, no_selectors, Start, Routine, Statement, empty, assign, invoke, block, if_then, if_else, case_of, while_do, repeat_until, for_do, cycle, init, Statements, no_statements, more_statements, Arms, no_arms, more_arms, Arm, arm}
-use Rattle.cp_slots.specs.declared.place.Origin.{Origin}
-use Rattle.cp_slots.specs.declared.place.Origin.TheVariants.{Local}
+use Rattle.cp_slots.specs.declared.place.PlaceOrigin.{PlaceOrigin}
+use Rattle.cp_slots.specs.declared.place.PlaceOrigin.TheVariants.{Local}
 use Rattle.cp_layout.specs.declared.layer.FunctionResult.{FunctionResult}
 use Rattle.cp_layout.specs.declared.names.Meaning.TheVariants as meaning
 use Rattle.cp_slots.specs.Code as code
@@ -112,7 +112,7 @@ IsNotRoutine (Some (routine_meaning r)) = ⊥
 IsNotRoutine m = Unit {0}
 
 pub record ForFormed (h : Here) (i : Identifier) (e f : Expression) : Type 0 where
-  pub origin : Origin
+  pub origin : PlaceOrigin
   pub range : Range
   pub variable : begun_form h i.name (find i.name h.scope) ≡ Some (a_variable (code.place origin 0 code.no_indices) (ordinal range))
   pub named : IsTarget h (find i.name h.scope) (designator i no_selectors)

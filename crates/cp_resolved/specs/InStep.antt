@@ -1,12 +1,12 @@
 -- The names of the tables in step with a scope of the program: the same names in the same order, with meanings that belong together.
 use Rattle.std.specs.Prelude.{◌≡◌, ℕ, ◌-◌, ◌<◌, ◌≤◌, ◌⊎◌, ℤ, pos, negsuc, true, false, List, [], ◌∷◌, length, Option, Some, None, slice_get}
-use Rattle.cp_slots.specs.declared.place.Origin.{Origin}
-use Rattle.cp_slots.specs.declared.place.Origin.TheVariants as origin
-use Rattle.cp_layout.specs.declared.kinds.Base.{Base}
-use Rattle.cp_layout.specs.declared.kinds.Base.TheVariants as base
-use Rattle.cp_layout.specs.declared.kinds.Range.{Range}
-use Rattle.cp_layout.specs.declared.kinds.ValueType.{ValueType}
-use Rattle.cp_layout.specs.declared.kinds.ValueType.TheVariants as types
+use Rattle.cp_slots.specs.declared.place.PlaceOrigin.{PlaceOrigin}
+use Rattle.cp_slots.specs.declared.place.PlaceOrigin.TheVariants as origin
+use Rattle.cp_layout.specs.declared.kinds.CellBase.{CellBase}
+use Rattle.cp_layout.specs.declared.kinds.CellBase.TheVariants as base
+use Rattle.cp_layout.specs.declared.kinds.CellRange.{CellRange}
+use Rattle.cp_layout.specs.declared.kinds.CellType.{CellType}
+use Rattle.cp_layout.specs.declared.kinds.CellType.TheVariants as types
 use Rattle.cp_layout.specs.declared.names.Meaning.{Meaning}
 use Rattle.cp_layout.specs.declared.names.Meaning.TheVariants as meaning
 use Rattle.cp_layout.specs.declared.names.Predeclared.{Predeclared}
@@ -25,23 +25,23 @@ pub record Numbering : Type 0 where
   pub routines : ℕ → RoutineMeaning
 
 -- an enumeration goes by the number of its first constant
-abbrev pub base_of : Numbering → named.Base → Base
+abbrev pub base_of : Numbering → named.Base → CellBase
 base_of k named.integers = base.Integer
 base_of k named.booleans = base.Boolean
 base_of k named.characters = base.Char
 base_of k (named.enumerated at xs) = base.Enumeration (k.firsts at) (pos (length xs - 1))
 
-abbrev pub range_on : Numbering → named.Range → Range
+abbrev pub range_on : Numbering → named.Range → CellRange
 range_on k s = record { base = base_of k s.base; low = s.low; high = s.high }
 
-pub record ArrayIs (Element : ValueType → Type 0) (k : Numbering) (ts : Compounds) (s : named.Range) (v : ValueType) : Type 0 where
+pub record ArrayIs (Element : CellType → Type 0) (k : Numbering) (ts : Compounds) (s : named.Range) (v : CellType) : Type 0 where
   pub number : ℕ
   pub is : v ≡ types.Array number
-  pub element : ValueType
+  pub element : CellType
   pub there : slice_get ts number ≡ Some (array (array_type ts (range_on k s) element))
   pub belongs : Element element
 
-pub record RecordIs (Fields : List Field → ℕ → ℕ → Type 0) (ts : Compounds) (v : ValueType) : Type 0 where
+pub record RecordIs (Fields : List Field → ℕ → ℕ → Type 0) (ts : Compounds) (v : CellType) : Type 0 where
   pub number : ℕ
   pub is : v ≡ types.Record number
   pub fields : List Field
@@ -50,15 +50,15 @@ pub record RecordIs (Fields : List Field → ℕ → ℕ → Type 0) (ts : Compo
   pub each : Fields fields 0 cells
 
 -- a field that takes the cells from an offset on, before others
-pub record FieldIs (Is : ValueType → Type 0) (Rest : List Field → ℕ → Type 0) (ts : Compounds) (x : List ℕ) (fs : List Field) (offset : ℕ) : Type 0 where
-  pub value_type : ValueType
+pub record FieldIs (Is : CellType → Type 0) (Rest : List Field → ℕ → Type 0) (ts : Compounds) (x : List ℕ) (fs : List Field) (offset : ℕ) : Type 0 where
+  pub value_type : CellType
   pub rest : List Field
   pub first : fs ≡ (let f : Field = record { name = x; value_type = value_type; offset = offset } in f) ∷ rest
   pub belongs : Is value_type
   pub others : Rest rest (plus offset (cells_of ts value_type))
 
 abbrev mutual
-  pub TypeIs : Numbering → Compounds → Ty → ValueType → Type 0
+  pub TypeIs : Numbering → Compounds → Ty → CellType → Type 0
   TypeIs k ts (named.ordinal s) v = v ≡ types.Ordinal (range_on k s)
   TypeIs k ts named.queue_type v = v ≡ types.Queue
   TypeIs k ts (named.set_over s) v = v ≡ types.Set (range_on k s)
@@ -87,14 +87,14 @@ abbrev pub IsSmall : ℤ → Type 0
 IsSmall (pos n) = n ≤ 32767
 IsSmall (negsuc n) = n < 32767
 
-abbrev pub IsInFrame : Origin → Type 0
+abbrev pub IsInFrame : PlaceOrigin → Type 0
 IsInFrame (origin.Local n) = Unit {0}
 IsInFrame (origin.Reference n) = Unit {0}
 IsInFrame (origin.Permanent n) = ⊥
 
 pub record VariableIs (k : Numbering) (ts : Compounds) (t : Ty) (m : Meaning) : Type 0 where
-  pub origin : Origin
-  pub value_type : ValueType
+  pub origin : PlaceOrigin
+  pub value_type : CellType
   pub is : m ≡ meaning.Variable origin value_type
   pub in_frame : IsInFrame origin
   pub belongs : TypeIs k ts t value_type
@@ -102,7 +102,7 @@ pub record VariableIs (k : Numbering) (ts : Compounds) (t : Ty) (m : Meaning) : 
 -- a variable with permanent cells
 pub record CellsAre (k : Numbering) (ts : Compounds) (t : Ty) (m : Meaning) : Type 0 where
   pub slot : ℕ
-  pub value_type : ValueType
+  pub value_type : CellType
   pub is : m ≡ meaning.Variable (origin.Permanent slot) value_type
   pub belongs : TypeIs k ts t value_type
   pub without : has_components t ≡ false
@@ -110,7 +110,7 @@ pub record CellsAre (k : Numbering) (ts : Compounds) (t : Ty) (m : Meaning) : Ty
 -- a component, or an array of components
 pub record PartsAre (k : Numbering) (ts : Compounds) (t : Ty) (m : Meaning) : Type 0 where
   pub first : ℕ
-  pub value_type : ValueType
+  pub value_type : CellType
   pub is : m ≡ meaning.Contained first value_type
   pub belongs : TypeIs k ts t value_type
   pub has : has_components t ≡ true
@@ -125,7 +125,7 @@ pub record BoundIs (t : Ty) (m : Meaning) : Type 0 where
 -- The scope is that in which the name is the latest.
 abbrev pub MeaningIs : Numbering → Compounds → Meaning → scopes.Meaning → Scope → Type 0
 MeaningIs k ts m (scopes.constant_meaning b z) s = (m ≡ meaning.Constant (base_of k b) z) × IsSmall z
-MeaningIs k ts m (scopes.type_meaning t) s = (v : ValueType) × (m ≡ meaning.Kind v) × TypeIs k ts t v
+MeaningIs k ts m (scopes.type_meaning t) s = (v : CellType) × (m ≡ meaning.Kind v) × TypeIs k ts t v
 MeaningIs k ts m (scopes.local_variable t) s = VariableIs k ts t m
 MeaningIs k ts m (scopes.permanent_variable t) s = CellsAre k ts t m ⊎ (PartsAre k ts t m ⊎ BoundIs t m)
 MeaningIs k ts m (scopes.routine_meaning r) s = (n : ℕ) × (m ≡ meaning.Routine n) × (k.routines n ≡ routine_in s r)

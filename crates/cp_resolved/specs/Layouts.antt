@@ -1,7 +1,7 @@
 -- Where the variables of a program lie: cells of types, and what names have in place of them.
 use Rattle.std.specs.Prelude.{ℕ, ◌+◌, ◌*◌, Bool, false, ◌||◌, if◌then◌else◌, List, [], ◌∷◌, Option, Some, None}
-use Rattle.cp_slots.specs.declared.place.Origin.{Origin}
-use Rattle.cp_slots.specs.declared.place.Origin.TheVariants.{Permanent, Local, Reference}
+use Rattle.cp_slots.specs.declared.place.PlaceOrigin.{PlaceOrigin}
+use Rattle.cp_slots.specs.declared.place.PlaceOrigin.TheVariants.{Permanent, Local, Reference}
 use Rattle.cp_tree.specs.Syntax.{Program}
 use Rattle.cp_meaning.specs.Names.{Name, same_name}
 use Rattle.cp_meaning.specs.Types.{Ty, ordinal, queue_type, set_over, array_over, record_with, component_of, FieldTypes, no_field_types, more_field_types, length_of_range}
@@ -29,7 +29,7 @@ abbrev mutual
 -- Of a routine or an initial statement: where the variables lie that an open call of it has by name. These are its value parameters
 -- and variables, a function's result, and the temporary name of each function call in it; and apart from them its `var` parameters.
 pub record FrameLayout : Type 0 where
-  pub origins : Name → Origin
+  pub origins : Name → PlaceOrigin
   pub variables : List Variable
   pub references : List Variable
 
@@ -79,7 +79,7 @@ abbrev pub is_own : Here → Name → Bool
 is_own h x = is_named x (h.layouts.names h.routine)
 
 -- the number in an origin
-abbrev pub slot_of : Origin → ℕ
+abbrev pub slot_of : PlaceOrigin → ℕ
 slot_of (Permanent n) = n
 slot_of (Local n) = n
 slot_of (Reference n) = n

@@ -3,7 +3,7 @@
 use Rattle.std.specs.Prelude.{◌≡◌, ℕ, Bool, List, [], ◌∷◌, Option, Some}
 use Rattle.cp_tree.specs.declared.constant.Identifier.{Identifier}
 use Rattle.cp_tree.specs.Syntax.{Expression, Expressions, Designator}
-use Rattle.cp_slots.specs.declared.place.Origin.{Origin}
+use Rattle.cp_slots.specs.declared.place.PlaceOrigin.{PlaceOrigin}
 use Rattle.cp_slots.specs.Code as code
 use Rattle.cp_meaning.specs.Names.{Name, temporary}
 use Rattle.cp_meaning.specs.Types.{Range, Ty, ordinal, queue_type}
@@ -35,7 +35,7 @@ pub record IsQueue (h : Here) (p : code.Place) : Type 0 where
   pub held : AreHeld h (expression_calls h.scope expression)
 
 -- the variable of a `for`
-pub record IsCounter (h : Here) (o : Origin) : Type 0 where
+pub record IsCounter (h : Here) (o : PlaceOrigin) : Type 0 where
   pub name : Identifier
   pub range : Range
   pub variable : begun_form h name.name (find name.name h.scope) ≡ Some (a_variable (code.place o 0 code.no_indices) (ordinal range))

@@ -8,7 +8,7 @@ use Rattle.cp_tree.specs.declared.statement.Direction.TheVariants.{To, Downto}
 use Rattle.cp_tree.specs.Syntax.{Expression, Expressions, no_expressions, more_expressions, Designator, designator, Selectors, Start, Statement, empty, assign, invoke, block, if_then, if_else, case_of, while_do, repeat_until, for_do, cycle, init, Statements, no_statements, more_statements, Arms, no_arms, more_arms, Arm, arm}
 use Rattle.cp_slots.specs.declared.item.ShownKind.{ShownKind}
 use Rattle.cp_slots.specs.declared.item.ShownKind.TheVariants as kind
-use Rattle.cp_slots.specs.declared.place.Origin.{Origin}
+use Rattle.cp_slots.specs.declared.place.PlaceOrigin.{PlaceOrigin}
 use Rattle.cp_slots.specs.Tables.{Tables, item_at}
 use Rattle.cp_meaning.specs.Names.{Name, temporary}
 use Rattle.cp_meaning.specs.Types.{Base, integers, booleans, characters, enumerated, Range, Ty, ordinal, queue_type, set_over, array_over, record_with, component_of, natural_of}
@@ -257,7 +257,7 @@ is_down To = false
 is_down Downto = true
 
 pub record ForItem (g : Ground) (h : Here) (IsBody : Option ℕ → Type 0) (n at : ℕ) (i : Identifier) (e : Expression) (d : Direction) (f : Expression) (next : Option ℕ) : Type 0 where
-  pub origin : Origin
+  pub origin : PlaceOrigin
   pub range : Range
   pub from_ty : Ty
   pub to_ty : Ty

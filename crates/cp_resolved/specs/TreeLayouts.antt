@@ -1,8 +1,8 @@
 -- The layouts of a tree, by what is laid out of it: each name lies where it lies in the state in which the statements begin.
 use Rattle.std.specs.Prelude.{ℕ, ◌+◌, ◌-◌, Bool, true, false, if◌then◌else◌, List, [], ◌∷◌, ◌++◌, length, Option, Some, None, slice_get}
 use Rattle.cp_tree.specs.Syntax.{Definition, type_definition, system_definition, SystemDefinition, ProgramPart, program_constants, program_types, program_variables, Program, Tree}
-use Rattle.cp_slots.specs.declared.place.Origin.{Origin}
-use Rattle.cp_slots.specs.declared.place.Origin.TheVariants.{Permanent, Local}
+use Rattle.cp_slots.specs.declared.place.PlaceOrigin.{PlaceOrigin}
+use Rattle.cp_slots.specs.declared.place.PlaceOrigin.TheVariants.{Permanent, Local}
 use Rattle.cp_layout.specs.declared.names.Meaning.{Meaning}
 use Rattle.cp_layout.specs.declared.names.Meaning.TheVariants as meaning
 use Rattle.cp_layout.specs.Layers as layers
@@ -62,12 +62,12 @@ whole_laid t = laid.program (nothing_laid t.lines) t.program
 
 -- ---- frames
 
-abbrev pub origin_in : Origin → Option Meaning → Origin
+abbrev pub origin_in : PlaceOrigin → Option Meaning → PlaceOrigin
 origin_in other (Some (meaning.Variable o v)) = o
 origin_in other m = other
 
 -- of a temporary name the cell of its call, and else that of the result
-abbrev pub hidden_origin : Layer → List Item → Name → Origin
+abbrev pub hidden_origin : Layer → List Item → Name → PlaceOrigin
 hidden_origin l is (c ∷ at ∷ xs) = Local (length l.frame.image + calls_before at is)
 hidden_origin l is x = Local (own_result l)
 

@@ -1,6 +1,6 @@
 -- When a value with slots is the form of an expression, and when a name with selectors is.
 use Rattle.std.specs.Prelude.{◌≡◌, ◌+◌, ◌≤◌, ℕ}
-use Rattle.cp_layout.specs.declared.kinds.ValueType.{ValueType}
+use Rattle.cp_layout.specs.declared.kinds.CellType.{CellType}
 use Rattle.cp_layout.specs.Kinds.{Compounds, most}
 use Rattle.cp_slots.specs.Code as code
 use Rattle.cp_layout.specs.Values as values
@@ -13,7 +13,7 @@ use Rattle.cp_resolved.specs.InStep.{Numbering, base_of, TypeIs}
 abbrev pub FormIs : Numbering → Compounds → Ty → Form → Value → Type 0
 FormIs k ts t (as_ordinal e) v = (r : Range) × (t ≡ ordinal r) × (v ≡ ordinal_value e (base_of k r.base))
 FormIs k ts t (as_set e) v = v ≡ set_value e
-FormIs k ts t (as_place p) v = (w : ValueType) × (v ≡ whole_value p w) × TypeIs k ts t w
+FormIs k ts t (as_place p) v = (w : CellType) × (v ≡ whole_value p w) × TypeIs k ts t w
 FormIs k ts t (as_component c) v = v ≡ component_value c
 
 abbrev pub ValueIs : Numbering → Compounds → Formed → Value → Type 0
@@ -40,14 +40,14 @@ abbrev pub Ends : code.Place → Ty → Type 0
 Ends (code.place o n is) t = n + cells_of t ≤ most
 
 pub record PlaceIs (k : Numbering) (ts : Compounds) (p : code.Place) (t : Ty) (d : values.Designated) : Type 0 where
-  pub value_type : ValueType
+  pub value_type : CellType
   pub is : d ≡ values.a_variable p value_type
   pub belongs : TypeIs k ts t value_type
   pub ends : Ends p t
   pub full : IsFull t
 
 pub record ComponentsAre (k : Numbering) (ts : Compounds) (first : ℕ) (r : Range) (n : ℕ) (d : values.Designated) : Type 0 where
-  pub value_type : ValueType
+  pub value_type : CellType
   pub is : d ≡ values.a_contained first value_type
   pub belongs : TypeIs k ts (array_over r (component_of n)) value_type
 

@@ -17,7 +17,7 @@ use cp_slots::Resolved;
 use std::sync::ledger::Ledger;
 
 /// The numbers that a due choice may take, in rising order: the line of the pending monitor, or the ready processes.
-pub fn wanted(program: &Resolved, limits: Limits, state: &State) -> ArrayVec<u8, 16>
+pub fn candidates(program: &Resolved, limits: Limits, state: &State) -> ArrayVec<u8, 16>
     requires own { IsStateOf program.now state.now }
     ensures { result.items ≡ those_below (processes_of program.now) (may (slots program.now limits.gates) (machine_of state.now)) }
 {
@@ -32,7 +32,7 @@ pub fn may(program: &Resolved, limits: Limits, state: &State, process: u8) -> bo
     requires own { IsStateOf program.now state.now }
     ensures { result ≡ may (slots program.now limits.gates) (machine_of state.now) process }
 {
-    wanted(program, limits, state).contains(&process)
+    candidates(program, limits, state).contains(&process)
 }
 
 /// Takes a due choice: lets the process in at the pending monitor, or goes on with it. `watch` is told of the processes that move.

@@ -11,7 +11,7 @@ pub mod stretches;
 pub mod traces;
 pub mod turn;
 
-pub use choice::{choose, may, open, wanted};
+pub use choice::{candidates, choose, may, open};
 pub use law::law_prefix_free;
 pub use limits::{Limits, MOST_CHOICES, MOST_STEPS};
 pub use line::{Holders, TraceEvent, TraceLine};

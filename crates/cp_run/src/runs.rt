@@ -6,7 +6,7 @@ ghost use Rattle.cp_run.specs.Run.{run, run_from};
 ghost use Rattle.cp_run.specs.Slots.{slots};
 ghost use Rattle.cp_run.specs.Code.{answer_of, node_of, further};
 
-use crate::choice::{choose, may, open, wanted};
+use crate::choice::{candidates, choose, may, open};
 use crate::limits::Limits;
 use crate::outcome::{Halt, Outcome, OutcomeKind, Output, RunEnd};
 use cp_machine::{State, Ticks, Unwatched};
@@ -116,7 +116,7 @@ pub fn end_of_word(
                 })
             } else {
                 Ok(RunEnd::Wants {
-                    ready: wanted(program, limits, state),
+                    ready: candidates(program, limits, state),
                 })
             }
         }

@@ -6,7 +6,7 @@ ghost use Rattle.cp_simplest.specs.Simple as spec;
 
 use crate::keys::outcome_key;
 use crate::levels::Word;
-use crate::search::Search;
+use crate::search::SimplestSearch;
 use cp_machine::Ticks;
 use cp_run::{Limits, Outcome, OutcomeKind, RunEnd, run};
 use cp_slots::Resolved;
@@ -19,7 +19,7 @@ use std::sync::ledger::{Blank, Ledger};
 
 /// A schedule, and how many switches it has.
 #[derive(Drop)]
-pub struct Simple {
+pub struct SimplestSchedule {
     pub word: Word,
     pub switches: u8,
 }
@@ -28,7 +28,7 @@ pub struct Simple {
 #[derive(Drop)]
 pub enum Searched {
     /// One for each outcome, if there is one.
-    Found(Vec<Option<Simple>>),
+    Found(Vec<Option<SimplestSchedule>>),
     /// There are more states than may be kept.
     TooMany,
 }
@@ -68,7 +68,7 @@ fn search_counted<S: Ledger, C: Ledger>(
         let key = outcome_key(alloc, outcome.kind, outcome.output.as_slice())?;
         ends.insert(key, place)?;
     }
-    let mut search = Search::new(alloc, limits, ends, has_limit(outcomes), most)?;
+    let mut search = SimplestSearch::new(alloc, limits, ends, has_limit(outcomes), most)?;
     let mut states = Vec::new(alloc);
     search.begin(alloc, program, limits, &mut states, &mut steps, &mut calls)?;
     search.explore(alloc, program, limits, &mut states, &mut steps, &mut calls)?;

@@ -9,7 +9,7 @@ pub type Word = ArrayVec<u8, 100>;
 
 /// Where a word leads to.
 #[derive(Clone, Copy)]
-pub enum Target {
+pub enum LevelTarget {
     /// A state at a due choice, by its place, and the process that made the last step.
     State(usize, u8),
     /// The outcome of this place.
@@ -18,15 +18,15 @@ pub enum Target {
 
 /// A word, and where it leads to.
 #[derive(Drop)]
-pub struct Label {
+pub struct LevelLabel {
     pub word: Word,
-    pub target: Target,
+    pub target: LevelTarget,
 }
 
 /// Words of one number of switches, by their lengths.
 #[derive(Drop)]
 pub struct Level {
-    lists: Vec<Vec<Label>>,
+    lists: Vec<Vec<LevelLabel>>,
 }
 
 impl Level {
@@ -41,7 +41,7 @@ impl Level {
     }
 
     /// Adds a word after those of its length.
-    pub fn push(&mut self, label: Label) -> Result<(), AllocError> {
+    pub fn push(&mut self, label: LevelLabel) -> Result<(), AllocError> {
         if let Some(list) = self.lists.get_mut(label.word.len()) {
             list.push(label)?;
         }
@@ -49,7 +49,7 @@ impl Level {
     }
 
     /// Takes the words of a length.
-    pub fn take(&mut self, alloc: Global, length: usize) -> Vec<Label> {
+    pub fn take(&mut self, alloc: Global, length: usize) -> Vec<LevelLabel> {
         match self.lists.get_mut(length) {
             Some(list) => mem::replace(list, Vec::new(alloc)),
             None => Vec::new(alloc),
@@ -88,9 +88,9 @@ fn is_before(word: &[u8], other: &[u8]) -> bool {
 /// The words of two lists in dictionary order, as one list in that order.
 pub fn merge_labels(
     alloc: Global,
-    ones: Vec<Label>,
-    twos: Vec<Label>,
-) -> Result<Vec<Label>, AllocError> {
+    ones: Vec<LevelLabel>,
+    twos: Vec<LevelLabel>,
+) -> Result<Vec<LevelLabel>, AllocError> {
     let total = ones.len().saturating_add(twos.len());
     let mut all = Vec::new(alloc);
     let mut ones = ones.into_iter();
@@ -110,7 +110,7 @@ pub fn merge_labels(
     Ok(all)
 }
 
-fn comes_first(one: &Option<Label>, two: &Option<Label>) -> bool {
+fn comes_first(one: &Option<LevelLabel>, two: &Option<LevelLabel>) -> bool {
     match (one, two) {
         (Some(one), Some(two)) => !is_before(two.word.as_slice(), one.word.as_slice()),
         (one, _) => one.is_some(),

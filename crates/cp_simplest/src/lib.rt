@@ -7,4 +7,4 @@ mod levels;
 mod search;
 mod watching;
 
-pub use finding::{Searched, Simple, is_schedule_of, simplest};
+pub use finding::{Searched, SimplestSchedule, is_schedule_of, simplest};

@@ -5,14 +5,14 @@ ghost use Rattle.cp_machine.specs.System.{machine_of, IsStateOf};
 ghost use Rattle.cp_run.specs.Run.{may};
 ghost use Rattle.cp_run.specs.Slots.{slots};
 
-use crate::finding::Simple;
+use crate::finding::SimplestSchedule;
 use crate::keys::{Key, outcome_key, state_key};
-use crate::levels::{Label, Level, Target, Word, extend_word, merge_labels};
+use crate::levels::{Level, LevelLabel, LevelTarget, Word, extend_word, merge_labels};
 use crate::watching::LastMoved;
 use arrayvec::ArrayVec;
 use cp_machine::{State, Ticks};
 use cp_run::choice::{choose, open};
-use cp_run::{Halt, Limits, OutcomeKind, may, wanted};
+use cp_run::{Halt, Limits, OutcomeKind, candidates, may};
 use cp_slots::Resolved;
 use indexmap::IndexMap;
 use std::alloc::{AllocError, Global};
@@ -24,7 +24,7 @@ const NEVER: u8 = 255;
 
 /// What was found so far.
 #[derive(Drop)]
-pub struct Search {
+pub struct SimplestSearch {
     /// The places of the states that were found.
     known: IndexMap<Key, usize>,
     /// For each state the words that led to it.
@@ -33,7 +33,7 @@ pub struct Search {
     by_length: bool,
     /// The outcomes for which a word is looked for, by their places.
     ends: IndexMap<Key, usize>,
-    pub found: Vec<Option<Simple>>,
+    pub found: Vec<Option<SimplestSchedule>>,
     /// How many outcomes have no word yet.
     missing: usize,
     /// Words with as many switches as those that are gone on from; those that came by one switch more from fewer; those with one more.
@@ -114,7 +114,7 @@ fn push_state(program: &Resolved, states: &mut Vec<State>, state: State) -> Resu
     Ok(())
 }
 
-impl Search {
+impl SimplestSearch {
     /// A search for words of these outcomes, through so many states at most.
     pub fn new(
         alloc: Global,
@@ -122,13 +122,13 @@ impl Search {
         ends: IndexMap<Key, usize>,
         by_length: bool,
         most: usize,
-    ) -> Result<Search, AllocError> {
+    ) -> Result<SimplestSearch, AllocError> {
         let mut found = Vec::new(alloc);
         for _ in 0..ends.len() {
             found.push(None)?;
         }
         let missing = found.len();
-        Ok(Search {
+        Ok(SimplestSearch {
             known: IndexMap::new(alloc),
             reached: Vec::new(alloc),
             by_length,
@@ -232,7 +232,7 @@ impl Search {
         limits: Limits,
         states: &mut Vec<State>,
         switches: u8,
-        labels: &[Label],
+        labels: &[LevelLabel],
         steps: &mut Ticks<S>,
         calls: &mut Ticks<C>,
     ) -> Result<(), AllocError>
@@ -254,7 +254,7 @@ impl Search {
         limits: Limits,
         states: &mut Vec<State>,
         switches: u8,
-        label: &Label,
+        label: &LevelLabel,
         steps: &mut Ticks<S>,
         calls: &mut Ticks<C>,
     ) -> Result<(), AllocError>
@@ -265,11 +265,11 @@ impl Search {
             return Ok(());
         }
         match label.target {
-            Target::End(place) => {
+            LevelTarget::End(place) => {
                 self.end(place, &label.word, switches);
                 Ok(())
             }
-            Target::State(place, last) => {
+            LevelTarget::State(place, last) => {
                 if !self.is_first(place, last, label.word.len()) {
                     return Ok(());
                 }
@@ -294,7 +294,7 @@ impl Search {
             if found.is_none() {
                 let mut copy = ArrayVec::new();
                 let _ = copy.try_extend_from_slice(word.as_slice());
-                *found = Some(Simple {
+                *found = Some(SimplestSchedule {
                     word: copy,
                     switches,
                 });
@@ -401,12 +401,12 @@ impl Search {
     {
         let length = word.len();
         match self.target_of(alloc, program, limits, states, halt, state, length, last)? {
-            Some(target) => self.add_label(Label { word, target }, is_switch),
+            Some(target) => self.add_label(LevelLabel { word, target }, is_switch),
             None => Ok(()),
         }
     }
 
-    fn add_label(&mut self, label: Label, is_switch: bool) -> Result<(), AllocError> {
+    fn add_label(&mut self, label: LevelLabel, is_switch: bool) -> Result<(), AllocError> {
         if is_switch {
             self.next.push(label)
         } else {
@@ -425,7 +425,7 @@ impl Search {
         state: State,
         length: usize,
         last: u8,
-    ) -> Result<Option<Target>, AllocError>
+    ) -> Result<Option<LevelTarget>, AllocError>
         requires own { IsStateOf program.now state }
         requires all { All (λ s. IsStateOf program.now s) states.old.items }
         ensures { IfOk result (λ _. All (λ s. IsStateOf program.now s) states.new.items) }
@@ -445,10 +445,10 @@ impl Search {
         alloc: Global,
         kind: OutcomeKind,
         state: &State,
-    ) -> Result<Option<Target>, AllocError> {
+    ) -> Result<Option<LevelTarget>, AllocError> {
         let key = outcome_key(alloc, kind, state.output())?;
         match self.ends.get(&key) {
-            Some(place) => Ok(Some(Target::End(*place))),
+            Some(place) => Ok(Some(LevelTarget::End(*place))),
             None => Ok(None),
         }
     }
@@ -461,14 +461,14 @@ impl Search {
         states: &mut Vec<State>,
         state: State,
         last: u8,
-    ) -> Result<Option<Target>, AllocError>
+    ) -> Result<Option<LevelTarget>, AllocError>
         requires own { IsStateOf program.now state }
         requires all { All (λ s. IsStateOf program.now s) states.old.items }
         ensures { IfOk result (λ _. All (λ s. IsStateOf program.now s) states.new.items) }
     {
         let key = state_key(alloc, &state)?;
         if let Some(place) = self.known.get(&key) {
-            return Ok(Some(Target::State(*place, last)));
+            return Ok(Some(LevelTarget::State(*place, last)));
         }
         let place = self.reached.len();
         if place >= self.most {
@@ -478,7 +478,7 @@ impl Search {
         self.known.insert(key, place)?;
         self.reached.push(UNREACHED)?;
         push_state(program, states, state)?;
-        Ok(Some(Target::State(place, last)))
+        Ok(Some(LevelTarget::State(place, last)))
     }
 }
 
@@ -486,5 +486,7 @@ impl Search {
 fn switches_to(program: &Resolved, limits: Limits, state: &State, last: u8, process: u8) -> bool
     requires { IsStateOf program.now state.now }
 {
-    state.pending().is_none() && process != last && wanted(program, limits, state).contains(&last)
+    state.pending().is_none()
+        && process != last
+        && candidates(program, limits, state).contains(&last)
 }

@@ -1,6 +1,6 @@
 -- Items as plain data: places, expressions and actions, without where they lie in memory.
 use Rattle.std.specs.Prelude.{ℕ, ℤ, Bool, List, [], ◌∷◌, map, Option}
-use Rattle.cp_slots.specs.declared.place.Origin.{Origin}
+use Rattle.cp_slots.specs.declared.place.PlaceOrigin.{PlaceOrigin}
 use Rattle.cp_slots.specs.declared.place.Arithmetic.{Arithmetic}
 use Rattle.cp_slots.specs.declared.place.Logic.{Logic}
 use Rattle.cp_slots.specs.declared.place.Comparison.{Comparison}
@@ -16,7 +16,7 @@ use Rattle.cp_slots.specs.declared.place.ArgumentValue as code_value
 use Rattle.cp_slots.specs.declared.place.ArgumentValue.TheVariants as value
 use Rattle.cp_slots.specs.declared.place.Argument as code_argument
 use Rattle.cp_slots.specs.declared.item.ShownKind.{ShownKind}
-use Rattle.cp_slots.specs.declared.item.Arm as code_arm
+use Rattle.cp_slots.specs.declared.item.ResolvedArm as code_arm
 use Rattle.cp_slots.specs.declared.item.Action as code_action
 use Rattle.cp_slots.specs.declared.item.Action.TheVariants as action
 use Rattle.cp_slots.specs.declared.item.Item as code_item
@@ -26,7 +26,7 @@ use Rattle.cp_slots.specs.declared.item.Item as code_item
 mutual
   pub data Place : Type 0 where
     -- origin, cells that fields add, indices
-    place : Origin → ℕ → Indices → Place
+    place : PlaceOrigin → ℕ → Indices → Place
 
   pub data Indices : Type 0 where
     no_indices : Indices
@@ -148,7 +148,7 @@ pub record Arm : Type 0 where
   pub labels : List ℤ
   pub body : Option ℕ
 
-abbrev pub arm_seen : code_arm.Arm → Arm
+abbrev pub arm_seen : code_arm.ResolvedArm → Arm
 arm_seen a = record { labels = a.labels.items; body = a.body }
 
 pub data Action : Type 0 where
@@ -163,7 +163,7 @@ pub data Action : Type 0 where
   while_do : Expression → Option ℕ → ℕ → Action
   until : Expression → Option ℕ → ℕ → Action
   -- variable, least, last, from, to, downwards, list
-  for_do : Origin → ℤ → ℤ → Expression → Expression → Bool → Option ℕ → Action
+  for_do : PlaceOrigin → ℤ → ℤ → Expression → Expression → Bool → Option ℕ → Action
   cycle : Option ℕ → Action
   -- routine, component, by a component, arguments, result
   call : ℕ → ComponentPlace → Bool → List Argument → Option ℕ → Action

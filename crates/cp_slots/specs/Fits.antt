@@ -3,7 +3,7 @@ use Rattle.std.specs.Prelude.{IsTrue, ◌≡◌, ℕ, ◌+◌, ◌<◌, ◌≤�
 use Rattle.cp_slots.specs.declared.place.Argument.{Argument}
 use Rattle.cp_slots.specs.declared.item.Action.{Action}
 use Rattle.cp_slots.specs.declared.item.Action.TheVariants.{Empty, Assign, AssignSet, Copy, Block, If, Case, While, Until, For, Cycle, Call, Start, Delay, Continue, Display}
-use Rattle.cp_slots.specs.declared.item.Arm.{Arm}
+use Rattle.cp_slots.specs.declared.item.ResolvedArm.{ResolvedArm}
 use Rattle.cp_slots.specs.declared.item.Item.{Item}
 use Rattle.cp_slots.specs.declared.tables.ComponentKind.{ComponentKind}
 use Rattle.cp_slots.specs.declared.tables.ComponentKind.TheVariants as kind
@@ -29,8 +29,8 @@ InnerFits t routine need None = Unit {0}
 InnerFits t routine need (Some at) = (1 ≤ need) × Nests t routine (need - 1) at
 
 -- the list of each arm
-abbrev pub ArmsFit : Tables → (routine need : ℕ) → List Arm → Type 0
-ArmsFit t routine need arms = (k : ℕ) (d : Arm) → k < length arms → InnerFits t routine need (slice_index_or arms k d).body
+abbrev pub ArmsFit : Tables → (routine need : ℕ) → List ResolvedArm → Type 0
+ArmsFit t routine need arms = (k : ℕ) (d : ResolvedArm) → k < length arms → InnerFits t routine need (slice_index_or arms k d).body
 
 -- A call, or a start of whatever kind of component: the callee's statements stand above its end, which stands above the items after the call;
 -- and its frame follows that of the caller.

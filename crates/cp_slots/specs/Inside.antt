@@ -7,8 +7,8 @@ use Rattle.cp_slots.specs.declared.place.ArgumentValue.{ArgumentValue}
 use Rattle.cp_slots.specs.declared.place.ArgumentValue.TheVariants as value
 use Rattle.cp_slots.specs.declared.place.ComponentPlace.{ComponentPlace}
 use Rattle.cp_slots.specs.declared.place.ComponentPlace.TheVariants.{Element}
-use Rattle.cp_slots.specs.declared.place.Origin.{Origin}
-use Rattle.cp_slots.specs.declared.place.Origin.TheVariants as origin
+use Rattle.cp_slots.specs.declared.place.PlaceOrigin.{PlaceOrigin}
+use Rattle.cp_slots.specs.declared.place.PlaceOrigin.TheVariants as origin
 use Rattle.cp_slots.specs.declared.place.Place as code_place
 use Rattle.cp_slots.specs.declared.place.Index as code_index
 use Rattle.cp_slots.specs.declared.place.Expression as code_expression
@@ -44,7 +44,7 @@ abbrev pub extent_at : List ℕ → ℕ → Option ℕ
 extent_at extents number = if nat_lt number (length extents) then Some (slice_index_or extents number 0) else None
 
 -- the cells from the beginning of a variable on
-abbrev pub room_from : RoutineView → Origin → Option ℕ
+abbrev pub room_from : RoutineView → PlaceOrigin → Option ℕ
 room_from r (origin.Permanent slot) = behind slot r.own
 room_from r (origin.Local slot) = behind slot (length r.image)
 room_from r (origin.Reference number) = extent_at r.extents number

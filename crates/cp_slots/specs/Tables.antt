@@ -3,7 +3,7 @@ use Rattle.std.specs.Prelude.{ℕ, ℤ, List, [], Option, None, map, slice_index
 use Rattle.std.specs.String.{string_bytes}
 use Rattle.cp_slots.specs.declared.item.Item.{Item}
 use Rattle.cp_slots.specs.declared.item.Action.TheVariants.{Empty}
-use Rattle.cp_slots.specs.declared.tables.Routine.{Routine}
+use Rattle.cp_slots.specs.declared.tables.ResolvedRoutine.{ResolvedRoutine}
 use Rattle.cp_slots.specs.declared.tables.ComponentKind.TheVariants.{Class}
 use Rattle.cp_slots.specs.declared.tables.Component.{Component}
 use Rattle.cp_slots.specs.declared.tables.ComponentParameter.{ComponentParameter}
@@ -25,7 +25,7 @@ pub record RoutineView : Type 0 where
   -- the system type of its component
   pub system : ℕ
 
-abbrev pub routine_view : Routine → RoutineView
+abbrev pub routine_view : ResolvedRoutine → RoutineView
 routine_view r =
     record {
       body = r.body;

@@ -1,6 +1,6 @@
 //! The items of the lists of statements.
 
-use crate::place::{Argument, ComponentPlace, Expression, Origin, Place, SetExpression};
+use crate::place::{Argument, ComponentPlace, Expression, Place, PlaceOrigin, SetExpression};
 
 /// How a value is shown.
 #[derive(Clone, Copy, Drop)]
@@ -14,7 +14,7 @@ pub enum ShownKind {
 
 /// An arm of a `case`.
 #[derive(Drop)]
-pub struct Arm {
+pub struct ResolvedArm {
     pub labels: Vec<i16>,
     pub body: Option<usize>,
 }
@@ -52,7 +52,7 @@ pub enum Action {
     },
     Case {
         selector: Expression,
-        arms: Vec<Arm>,
+        arms: Vec<ResolvedArm>,
     },
     While {
         test: Expression,
@@ -65,7 +65,7 @@ pub enum Action {
         again: usize,
     },
     For {
-        variable: Origin,
+        variable: PlaceOrigin,
         /// The bounds of the variable's type.
         low: i16,
         high: i16,

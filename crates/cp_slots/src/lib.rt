@@ -6,12 +6,12 @@ pub mod place;
 pub mod resolved;
 pub mod tables;
 
-pub use item::{Action, Arm, Item, ShownKind};
+pub use item::{Action, Item, ResolvedArm, ShownKind};
 pub use place::{
     Argument, ArgumentValue, Arithmetic, Comparison, ComponentPlace, Expression, Index, Logic,
-    Origin, Place, SetExpression, SetOperation,
+    Place, PlaceOrigin, SetExpression, SetOperation,
 };
 pub use resolved::Resolved;
 pub use tables::{
-    Component, ComponentKind, ComponentParameter, Layout, Process, Routine, SystemType,
+    Component, ComponentKind, ComponentParameter, Layout, Process, ResolvedRoutine, SystemType,
 };

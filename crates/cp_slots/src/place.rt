@@ -2,7 +2,7 @@
 
 /// Where a variable lies.
 #[derive(Clone, Copy, Drop)]
-pub enum Origin {
+pub enum PlaceOrigin {
     /// A permanent cell of the component that is executed.
     Permanent(usize),
     /// A cell of the frame: a parameter, a local variable, the result, or the result of a call.
@@ -15,7 +15,7 @@ pub enum Origin {
 #[cycle(place)]
 #[derive(Drop)]
 pub struct Place {
-    pub origin: Origin,
+    pub origin: PlaceOrigin,
     /// The cells that fields add.
     pub offset: usize,
     /// From the left to the right as they are written.

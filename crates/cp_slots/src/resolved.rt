@@ -5,7 +5,7 @@ ghost use Rattle.cp_slots.specs.Fits.{IsSound};
 ghost use Rattle.cp_slots.specs.Tables.{component_at, item_at, name_at, process_at, routine_at, routine_view, tables_of};
 
 use crate::item::Item;
-use crate::tables::{Component, Layout, Process, Routine};
+use crate::tables::{Component, Layout, Process, ResolvedRoutine};
 use std::marker::Model;
 
 /// A program whose names are slots. Its numbers are sound.
@@ -85,7 +85,7 @@ impl Resolved {
     }
 
     /// A routine.
-    pub fn routine(&self, number: usize) -> &Routine
+    pub fn routine(&self, number: usize) -> &ResolvedRoutine
         requires { number < length self.now.routines }
         ensures { routine_view result.now ≡ routine_at self.now number }
     {

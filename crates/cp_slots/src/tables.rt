@@ -4,7 +4,7 @@ use crate::item::Item;
 
 /// A routine, or an initial statement.
 #[derive(Drop)]
-pub struct Routine {
+pub struct ResolvedRoutine {
     /// The first item.
     pub body: Option<usize>,
     /// The cells of its frame as a call begins: parameters, local variables, result, results of calls.
@@ -71,7 +71,7 @@ pub struct Process {
 #[derive(Drop)]
 pub struct Layout {
     pub items: Vec<Item>,
-    pub routines: Vec<Routine>,
+    pub routines: Vec<ResolvedRoutine>,
     pub systems: Vec<SystemType>,
     pub components: Vec<Component>,
     pub processes: Vec<Process>,

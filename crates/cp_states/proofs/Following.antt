@@ -4,7 +4,7 @@ use Rattle.std.specs.Prelude.{ℤ, slice_set}
 use Rattle.std.proofs.lemmas.List.{get_or-set_other, get_or-set_same, length-map, length-set}
 use Rattle.cp_machine.specs.declared.shown.Shown.{Shown}
 use Rattle.cp_machine.specs.declared.state.Phase.{Phase}
-use Rattle.cp_machine.specs.declared.process.Process.{Process}
+use Rattle.cp_machine.specs.declared.process.ProcessState.{ProcessState}
 use Rattle.cp_machine.specs.Machine.{Machine, no_thread, thread_at, thread_of}
 use Rattle.cp_states.specs.declared.store.Store.{Store}
 use Rattle.cp_states.specs.Admitted.{admitted_by}
@@ -157,7 +157,7 @@ module _ (s : Store) (row new : List ℕ) (m : Machine) (n : ℕ) where
 
 -- ---- the numbers of all processes are replaced
 
-pub processes_row : (s t : Store) (row new : List ℕ) (m : Machine) (ps : List Process) → KeepParts s t → ((pid : ℕ) → pid < length ps → IsAmong no_thread (map thread_of t.threads.all.items) (number_at new (5 + pid)) (thread_at (map thread_of ps) pid)) → ((k : ℕ) → k < 5 → number_at new k ≡ number_at row k) → ((k : ℕ) → 5 + length ps ≤ k → number_at new k ≡ number_at row k) → length new ≡ length row → length m.threads ≤ length ps → IsRowOf s row m → IsRowOf t new (record m { threads = map thread_of ps })
+pub processes_row : (s t : Store) (row new : List ℕ) (m : Machine) (ps : List ProcessState) → KeepParts s t → ((pid : ℕ) → pid < length ps → IsAmong no_thread (map thread_of t.threads.all.items) (number_at new (5 + pid)) (thread_at (map thread_of ps) pid)) → ((k : ℕ) → k < 5 → number_at new k ≡ number_at row k) → ((k : ℕ) → 5 + length ps ≤ k → number_at new k ≡ number_at row k) → length new ≡ length row → length m.threads ≤ length ps → IsRowOf s row m → IsRowOf t new (record m { threads = map thread_of ps })
 processes_row s t row new m ps kept these first rest long few is =
     let on = row_on s t row m kept is in
     let count = length-map ps thread_of in

@@ -3,7 +3,7 @@ use Rattle.std.proofs.Common.{◌≡◌, ◌∙◌, ◌+◌, ◌<◌, ◌≤◌,
 use Rattle.std.specs.Prelude.{slice_index_or, slice_set, vec_capacity}
 use Rattle.std.proofs.lemmas.Bool.{cases_lt}
 use Rattle.std.proofs.lemmas.List.{ext_get_or, get_or-map, get_or-set_other, get_or_past, get_or_read, length-map, length-reverse, length-set}
-use Rattle.cp_machine.specs.declared.process.Process.{Process}
+use Rattle.cp_machine.specs.declared.process.ProcessState.{ProcessState}
 use Rattle.cp_machine.specs.Bodies.{body_of, KeepBodies}
 use Rattle.cp_machine.specs.Fits.{HaveCells, HaveReferences, HaveStacks}
 use Rattle.cp_machine.specs.Machine.{Machine, Thread, no_thread, thread_at, thread_of}
@@ -17,11 +17,11 @@ use Rattle.cp_states.specs.Taking.{AreTaken, HasRoomFor, HasRoomOf}
 use Rattle.cp_states.proofs.Alone.{from_parts}
 
 -- the process at a place is a thread
-pub process_at : (ps : List Process) (n : ℕ) (p : Process) → n < length ps → p ≡ slice_index_or ps n p → thread_at (map thread_of ps) n ≡ thread_of p
+pub process_at : (ps : List ProcessState) (n : ℕ) (p : ProcessState) → n < length ps → p ≡ slice_index_or ps n p → thread_at (map thread_of ps) n ≡ thread_of p
 process_at ps n p lt read = get_or-map thread_of ps n p no_thread lt ∙ ap thread_of (sym read)
 
 -- room for a thread is room for a process that is it
-pub room_for : (old p : Process) (t : Thread) → t ≡ thread_of p → HasRoomFor old t → (length p.stack.items ≤ vec_capacity old.stack) × (length p.room.cells.items ≤ vec_capacity old.room.cells) × (length p.room.references.items ≤ vec_capacity old.room.references)
+pub room_for : (old p : ProcessState) (t : Thread) → t ≡ thread_of p → HasRoomFor old t → (length p.stack.items ≤ vec_capacity old.stack) × (length p.room.cells.items ≤ vec_capacity old.room.cells) × (length p.room.references.items ≤ vec_capacity old.room.references)
 room_for old p t is room =
     let here = subst (HasRoomFor old) is room in
     let stack = here.stack in
@@ -30,7 +30,7 @@ room_for old p t is room =
     let turned : length (reverse p.stack.items) ≡ length p.stack.items = length-reverse p.stack.items in
     (omega (arith, stack, turned), omega (arith, cells), omega (arith, references))
 
-pub taken_none : (threads : ℕ → Thread) (old : List Process) (moved : ℕ → Bool) → AreTaken threads old old moved moved 0
+pub taken_none : (threads : ℕ → Thread) (old : List ProcessState) (moved : ℕ → Bool) → AreTaken threads old old moved moved 0
 taken_none threads old moved =
     record {
       count = refl;
@@ -41,7 +41,7 @@ taken_none threads old moved =
       kept = λ pid d e. refl;
     }
 
-pub taken_next : (threads : ℕ → Thread) (old mine : List Process) (before so_far after : ℕ → Bool) (at : ℕ) (x was : Process) → at < length mine → was ≡ slice_index_or mine at was → thread_of x ≡ threads at → HasRoomOf x was → ((q : ℕ) → after q ≡ false → so_far q ≡ false) → (after at ≡ false → thread_of x ≡ thread_of was) → AreTaken threads old mine before so_far at → AreTaken threads old (slice_set mine at x) before after (at + 1)
+pub taken_next : (threads : ℕ → Thread) (old mine : List ProcessState) (before so_far after : ℕ → Bool) (at : ℕ) (x was : ProcessState) → at < length mine → was ≡ slice_index_or mine at was → thread_of x ≡ threads at → HasRoomOf x was → ((q : ℕ) → after q ≡ false → so_far q ≡ false) → (after at ≡ false → thread_of x ≡ thread_of was) → AreTaken threads old mine before so_far at → AreTaken threads old (slice_set mine at x) before after (at + 1)
 taken_next threads old mine before so_far after at x was lm read same room on keep h =
     record {
       count = length-set mine at x ∙ h.count;
@@ -52,21 +52,21 @@ taken_next threads old mine before so_far after at x was lm read same room on ke
       kept = λ q d e. set_each (λ k z p. after k ≡ false → thread_of p ≡ thread_of (slice_index_or old k z)) mine at x lm (λ z f. keep f ∙ ap thread_of (was_old z)) (q + 1) (λ k z l ne f. h.kept k z (on k f)) q d (omega arith) e;
     }
   where
-    was_old : (d : Process) → was ≡ slice_index_or old at d
+    was_old : (d : ProcessState) → was ≡ slice_index_or old at d
     was_old d = get_or_read mine at was lm read d ∙ h.rest at d (omega arith)
 
 -- a process at a place that has not become another one yet
-pub still_old : (threads : ℕ → Thread) (old mine : List Process) (before so_far : ℕ → Bool) (at : ℕ) (was : Process) → at < length mine → was ≡ slice_index_or mine at was → AreTaken threads old mine before so_far at → was ≡ slice_index_or old at was
+pub still_old : (threads : ℕ → Thread) (old mine : List ProcessState) (before so_far : ℕ → Bool) (at : ℕ) (was : ProcessState) → at < length mine → was ≡ slice_index_or mine at was → AreTaken threads old mine before so_far at → was ≡ slice_index_or old at was
 still_old threads old mine before so_far at was lm read h = get_or_read mine at was lm read was ∙ h.rest at was (omega arith)
 
 -- ---- all of them
 
-some_process : (ps : List Process) (n : ℕ) → n < length ps → Process
+some_process : (ps : List ProcessState) (n : ℕ) → n < length ps → ProcessState
 some_process [] n lt = absurd (omega (arith, lt))
 some_process (p ∷ ps) n lt = p
 
 -- a process that did not move is what it was
-pub thread_kept : (threads : ℕ → Thread) (old new : List Process) (before after : ℕ → Bool) (n : ℕ) → AreTaken threads old new before after n → (pid : ℕ) → after pid ≡ false → thread_at (map thread_of new) pid ≡ thread_at (map thread_of old) pid
+pub thread_kept : (threads : ℕ → Thread) (old new : List ProcessState) (before after : ℕ → Bool) (n : ℕ) → AreTaken threads old new before after n → (pid : ℕ) → after pid ≡ false → thread_at (map thread_of new) pid ≡ thread_at (map thread_of old) pid
 thread_kept threads old new before after n h pid e = ⊎_elim (λ (lt : pid < length new). within lt) (λ (le : length new ≤ pid). past le) (cases_lt pid (length new))
   where
     within : pid < length new → thread_at (map thread_of new) pid ≡ thread_at (map thread_of old) pid
@@ -79,7 +79,7 @@ thread_kept threads old new before after n h pid e = ⊎_elim (λ (lt : pid < le
     past le = get_or_past (map thread_of new) pid no_thread (omega (arith, le, length-map new thread_of)) ∙ sym (get_or_past (map thread_of old) pid no_thread (omega (arith, le, h.count, length-map old thread_of)))
 
 -- processes that are threads one by one are all of them
-pub threads_taken : (threads : ℕ → Thread) (old new : List Process) (before after : ℕ → Bool) (ts : List Thread) → length ts ≡ length old → ((pid : ℕ) → pid < length ts → threads pid ≡ thread_at ts pid) → AreTaken threads old new before after (length old) → map thread_of new ≡ ts
+pub threads_taken : (threads : ℕ → Thread) (old new : List ProcessState) (before after : ℕ → Bool) (ts : List Thread) → length ts ≡ length old → ((pid : ℕ) → pid < length ts → threads pid ≡ thread_at ts pid) → AreTaken threads old new before after (length old) → map thread_of new ≡ ts
 threads_taken threads old new before after ts count are h =
     ext_get_or no_thread (map thread_of new) ts (length-map new thread_of ∙ h.count ∙ sym count)
     (λ pid lt.
@@ -93,7 +93,7 @@ pub became : (s : Store) (row : List ℕ) (m n : Machine) → IsRowOf s row m �
 became s row m n is output permanents bindings phases gates threads = from_parts n m (output ∙ is.output.is) (permanents ∙ is.permanents.is) (bindings ∙ is.bindings.is) (phases ∙ is.phases.is) (gates ∙ is.admission.is) threads
 
 -- what holds of the processes that did not move still does
-pub bodies_kept : (threads : ℕ → Thread) (old new : List Process) (before after : ℕ → Bool) (n : ℕ) (m k other : Machine) → m.threads ≡ map thread_of old → k.threads ≡ map thread_of new → AreTaken threads old new before after n → KeepBodies before m other → KeepBodies after k other
+pub bodies_kept : (threads : ℕ → Thread) (old new : List ProcessState) (before after : ℕ → Bool) (n : ℕ) (m k other : Machine) → m.threads ≡ map thread_of old → k.threads ≡ map thread_of new → AreTaken threads old new before after n → KeepBodies before m other → KeepBodies after k other
 bodies_kept threads old new before after n m k other mine its h kept =
     record {
       count = kept.count ∙ ap length mine ∙ length-map old thread_of ∙ sym h.count ∙ sym (length-map new thread_of) ∙ sym (ap length its);
@@ -101,11 +101,11 @@ bodies_kept threads old new before after n m k other mine its h kept =
     }
 
 -- the room of the processes is as great as it was
-pub stacks_kept : (threads : ℕ → Thread) (old new : List Process) (before after : ℕ → Bool) (n depth : ℕ) → AreTaken threads old new before after n → HaveStacks depth old → HaveStacks depth new
+pub stacks_kept : (threads : ℕ → Thread) (old new : List ProcessState) (before after : ℕ → Bool) (n depth : ℕ) → AreTaken threads old new before after n → HaveStacks depth old → HaveStacks depth new
 stacks_kept threads old new before after n depth h few q d lt = let there : q < length old = omega (arith, lt, h.count) in let a = few q d there in let b = (h.room q d there).stack in omega (arith, a, b)
 
-pub cells_kept : (threads : ℕ → Thread) (old new : List Process) (before after : ℕ → Bool) (n cells : ℕ) → AreTaken threads old new before after n → HaveCells cells old → HaveCells cells new
+pub cells_kept : (threads : ℕ → Thread) (old new : List ProcessState) (before after : ℕ → Bool) (n cells : ℕ) → AreTaken threads old new before after n → HaveCells cells old → HaveCells cells new
 cells_kept threads old new before after n cells h few q d lt = let there : q < length old = omega (arith, lt, h.count) in let a = few q d there in let b = (h.room q d there).cells in omega (arith, a, b)
 
-pub references_kept : (threads : ℕ → Thread) (old new : List Process) (before after : ℕ → Bool) (n references : ℕ) → AreTaken threads old new before after n → HaveReferences references old → HaveReferences references new
+pub references_kept : (threads : ℕ → Thread) (old new : List ProcessState) (before after : ℕ → Bool) (n references : ℕ) → AreTaken threads old new before after n → HaveReferences references old → HaveReferences references new
 references_kept threads old new before after n references h few q d lt = let there : q < length old = omega (arith, lt, h.count) in let a = few q d there in let b = (h.room q d there).references in omega (arith, a, b)

@@ -1,5 +1,5 @@
 -- The hash of a list.
-use Rattle.std.specs.Prelude.{ℕ, ◌*◌, ◌/◌, ◌%◌, ◌^◌, List, [], ◌∷◌, length, bit_xor}
+use Rattle.std.specs.Prelude.{ℕ, ◌*◌, ◌/◌, ◌%◌, ◌^◌, List, [], ◌∷◌, length, bit_xor, zero, suc, ◌+◌, slice_index_or}
 
 -- a hash with one number more
 unfoldable pub mixed : ℕ → ℕ → ℕ
@@ -16,3 +16,8 @@ hash_with code hash (x ∷ xs) = hash_with code (mixed hash (code x)) xs
 
 abbrev pub hash_of : {A : Type 0} → (A → ℕ) → List A → ℕ
 hash_of code list = settled (hash_with code (length list) list)
+
+-- a hash of numbers, the first pairs after one another and then what stands behind them
+abbrev pub hash_of_pairs : List ℕ → ℕ → ℕ
+hash_of_pairs numbers zero = slice_index_or numbers 20 0
+hash_of_pairs numbers (suc k) = mixed (hash_of_pairs numbers k) (slice_index_or numbers (2 * k) 0 + slice_index_or numbers (2 * k + 1) 0 * 4294967296)

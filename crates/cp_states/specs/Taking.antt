@@ -1,25 +1,25 @@
 -- Processes that become others, without memory.
 use Rattle.std.specs.Prelude.{◌≡◌, ◌<◌, ◌≤◌, ℕ, Bool, List, false, length, slice_index_or, vec_capacity}
-use Rattle.cp_machine.specs.declared.process.Process.{Process}
+use Rattle.cp_machine.specs.declared.process.ProcessState.{ProcessState}
 use Rattle.cp_machine.specs.Machine.{Thread, thread_of}
 
 -- a process has room for a thread
-pub record HasRoomFor (p : Process) (t : Thread) : Type 0 where
+pub record HasRoomFor (p : ProcessState) (t : Thread) : Type 0 where
   pub stack : length t.stack ≤ vec_capacity p.stack
   pub cells : length t.cells ≤ vec_capacity p.room.cells
   pub references : length t.references ≤ vec_capacity p.room.references
 
 -- a process has as much room as another one
-pub record HasRoomOf (p old : Process) : Type 0 where
+pub record HasRoomOf (p old : ProcessState) : Type 0 where
   pub stack : vec_capacity old.stack ≤ vec_capacity p.stack
   pub cells : vec_capacity old.room.cells ≤ vec_capacity p.room.cells
   pub references : vec_capacity old.room.references ≤ vec_capacity p.room.references
 
 -- the processes before a place have become these threads, and the others are still the old ones; those that did not move are what they were
-pub record AreTaken (threads : ℕ → Thread) (old new : List Process) (moved_before moved_after : ℕ → Bool) (at : ℕ) : Type 0 where
+pub record AreTaken (threads : ℕ → Thread) (old new : List ProcessState) (moved_before moved_after : ℕ → Bool) (at : ℕ) : Type 0 where
   pub count : length new ≡ length old
-  pub taken : (pid : ℕ) (d : Process) → pid < at → thread_of (slice_index_or new pid d) ≡ threads pid
-  pub rest : (pid : ℕ) (d : Process) → at ≤ pid → slice_index_or new pid d ≡ slice_index_or old pid d
-  pub room : (pid : ℕ) (d : Process) → pid < length old → HasRoomOf (slice_index_or new pid d) (slice_index_or old pid d)
+  pub taken : (pid : ℕ) (d : ProcessState) → pid < at → thread_of (slice_index_or new pid d) ≡ threads pid
+  pub rest : (pid : ℕ) (d : ProcessState) → at ≤ pid → slice_index_or new pid d ≡ slice_index_or old pid d
+  pub room : (pid : ℕ) (d : ProcessState) → pid < length old → HasRoomOf (slice_index_or new pid d) (slice_index_or old pid d)
   pub moved : (pid : ℕ) → moved_after pid ≡ false → moved_before pid ≡ false
-  pub kept : (pid : ℕ) (d : Process) → moved_after pid ≡ false → thread_of (slice_index_or new pid d) ≡ thread_of (slice_index_or old pid d)
+  pub kept : (pid : ℕ) (d : ProcessState) → moved_after pid ≡ false → thread_of (slice_index_or new pid d) ≡ thread_of (slice_index_or old pid d)

@@ -8,7 +8,7 @@ ghost use Rattle.cp_states.specs.Kept.{AreKept};
 
 use crate::admission::Admission;
 use crate::guards::{are_guards, copies_of_guards, hash_of_guards, take_guards};
-use crate::index::{Index, MOST};
+use crate::index::{HashIndex, MOST};
 use cp_machine::{Gate, Gates};
 use std::alloc::{AllocError, Global};
 
@@ -16,7 +16,7 @@ use std::alloc::{AllocError, Global};
 #[derive(Drop)]
 pub struct Admissions {
     pub all: Vec<Admission>,
-    pub index: Index,
+    pub index: HashIndex,
     pub ghost kept: { AreKept gated_hash none_gated (map admitted_by all.items) (hashes index) },
 }
 
@@ -30,7 +30,7 @@ impl Admissions {
     pub fn new(alloc: Global) -> Admissions {
         Admissions {
             all: Vec::new(alloc),
-            index: Index::new(alloc),
+            index: HashIndex::new(alloc),
         }
     }
 

@@ -5,7 +5,7 @@ ghost use Rattle.cp_machine.specs.Machine.{monitor_of};
 ghost use Rattle.cp_states.specs.Codes.{gates_code, monitor_with, monitors_with, option_code};
 ghost use Rattle.cp_states.specs.Gated.{gated_by, gated_hash};
 
-use crate::hashing::{Compared, hash_with, mixed, settled};
+use crate::hashing::{Compared, finish_hash, hash_with, mix};
 use arrayvec::ArrayVec;
 use cp_machine::{Gate, Gates};
 use std::alloc::{AllocError, Global};
@@ -34,7 +34,7 @@ fn gates_number(gates: Gates) -> u64
 fn hash_with_guard(hash: u64, guard: &Gate) -> u64
     ensures { result ≡ monitor_with hash (monitor_of guard.now) }
 {
-    let holder = mixed(hash, option_number(guard.holder));
+    let holder = mix(hash, option_number(guard.holder));
     hash_with(holder, guard.line.as_slice())
 }
 
@@ -55,8 +55,8 @@ fn hash_with_guards(hash: u64, guards: &[Gate]) -> u64
 pub fn hash_of_guards(guards: &[Gate], pending: Option<u8>, gates: Gates) -> u32
     ensures { result ≡ gated_hash (gated_by guards.now pending gates) }
 {
-    let hash = mixed(option_number(pending), gates_number(gates));
-    settled(hash_with_guards(hash, guards))
+    let hash = mix(option_number(pending), gates_number(gates));
+    finish_hash(hash_with_guards(hash, guards))
 }
 
 // Whether two monitors are one.

@@ -114,7 +114,7 @@ impl Compared for i16 {
 /// A hash with one number more.
 #[inline(always)]
 #[tactic(auto, unfolding(crate::specs::Hashing::mixed))]
-pub fn mixed(hash: u64, number: u64) -> u64
+pub fn mix(hash: u64, number: u64) -> u64
     ensures { result ≡ mixed_to hash number }
 {
     (hash ^ number).wrapping_mul(0x9e37_79b9_7f4a_7c15)
@@ -123,7 +123,7 @@ pub fn mixed(hash: u64, number: u64) -> u64
 /// A hash after the last number.
 #[inline(always)]
 #[tactic(auto, unfolding(crate::specs::Hashing::settled))]
-pub fn settled(hash: u64) -> u32
+pub fn finish_hash(hash: u64) -> u32
     ensures { result ≡ settled_to hash }
 {
     let high = (hash ^ (hash >> 32)).wrapping_mul(0x9e37_79b9_7f4a_7c15);
@@ -137,7 +137,7 @@ pub fn hash_with<T: Hashed>(hash: u64, list: &[T]) -> u64
 {
     let mut hash = hash;
     for x in list {
-        hash = mixed(hash, x.number());
+        hash = mix(hash, x.number());
     }
     hash
 }
@@ -147,7 +147,7 @@ pub fn hash_with<T: Hashed>(hash: u64, list: &[T]) -> u64
 pub fn hash_of<T: Hashed>(list: &[T]) -> u32
     ensures { result ≡ hash_in T.code list.now }
 {
-    settled(hash_with(list.len() as u64, list))
+    finish_hash(hash_with(list.len() as u64, list))
 }
 
 /// Whether two lists are one, element by element.

@@ -13,7 +13,7 @@ const FIRST_CHAINS: usize = 16;
 
 /// From a hash to the numbers of the entries that have it. It sees no entry.
 #[derive(Drop)]
-pub struct Index {
+pub struct HashIndex {
     // The last entry of each chain, plus one.
     pub heads: Vec<u32>,
     pub links: Vec<Link>,
@@ -21,15 +21,15 @@ pub struct Index {
     pub ghost few: { length links.items ≤ 2000000000 },
 }
 
-impl Index {
+impl HashIndex {
     ghost use Rattle.std.specs.Prelude.{◌≡◌, ◌<◌, ◌≤◌, ◌++◌, ◌∷◌, [], ℕ, length, IfNone, IfOk, IfSome, OnErr, false, true, vec_capacity, vec_len};
     ghost use Rattle.cp_states.specs.Hashes.{hash_at, hashes};
 
     /// There is no entry.
-    pub fn new(alloc: Global) -> Index
+    pub fn new(alloc: Global) -> HashIndex
         ensures { hashes result ≡ [] }
     {
-        Index {
+        HashIndex {
             heads: Vec::new(alloc),
             links: Vec::new(alloc),
         }

@@ -15,8 +15,8 @@ pub mod row;
 pub mod store;
 pub mod threads;
 
-pub use index::Index;
+pub use index::HashIndex;
 pub use law::law_row;
-pub use lists::Lists;
-pub use row::Row;
+pub use lists::ListStore;
+pub use row::StateRow;
 pub use store::Store;

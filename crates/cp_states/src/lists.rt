@@ -1,40 +1,40 @@
-//! Lists by numbers.
+//! ListStore by numbers.
 
 ghost use Rattle.std.specs.Prelude.{length};
 ghost use Rattle.cp_states.specs.Pieces.{AreDifferent, AreHashed, AreInside};
 ghost use Rattle.cp_states.specs.Hashes.{hashes};
 
 use crate::hashing::{Compared, Hashed, hash_of};
-use crate::index::{Index, MOST};
+use crate::index::{HashIndex, MOST};
 use crate::processes::take_list;
 use std::alloc::{AllocError, Global};
 
 /// Different lists, each with a number.
 #[derive(Drop)]
-pub struct Lists<T: Hashed> {
+pub struct ListStore<T: Hashed> {
     // One list after another.
     pub items: Vec<T>,
     // Where each ends.
     pub ends: Vec<usize>,
-    pub index: Index,
+    pub index: HashIndex,
     pub ghost inside: { AreInside ends.items (length items.items) },
     pub ghost hashed: { AreHashed T.code items.items ends.items (hashes index) },
     pub ghost different: { AreDifferent items.items ends.items },
 }
 
-impl<T: Hashed + Compared> Lists<T> {
+impl<T: Hashed + Compared> ListStore<T> {
     ghost use Rattle.std.specs.Prelude.{◌≡◌, ◌+◌, ◌<◌, ◌≤◌, ◌++◌, ◌∷◌, [], ℕ, length, true, vec_capacity, IfNone, IfOk, IfSome};
     ghost use Rattle.cp_states.specs.Hashing.{hash_of as hash_in};
     ghost use Rattle.cp_states.specs.Pieces.{IsPiece, piece_at, KeepPieces};
 
     /// There is no list.
-    pub fn new(alloc: Global) -> Lists<T>
+    pub fn new(alloc: Global) -> ListStore<T>
         ensures { length result.ends.items ≡ 0 }
     {
-        Lists {
+        ListStore {
             items: Vec::new(alloc),
             ends: Vec::new(alloc),
-            index: Index::new(alloc),
+            index: HashIndex::new(alloc),
         }
     }
 

@@ -4,8 +4,8 @@ ghost use Rattle.std.specs.Prelude.{◌≡◌, ◌≤◌, length, true, IfOk, ve
 ghost use Rattle.cp_machine.specs.Machine.{thread_of};
 ghost use Rattle.cp_states.specs.Codes.{status_code, thread_hash};
 
-use crate::hashing::{Compared, hash_with, mixed, settled};
-use cp_machine::{Process, Status};
+use crate::hashing::{Compared, finish_hash, hash_with, mix};
+use cp_machine::{ProcessState, Status};
 use cp_store::Room;
 use std::alloc::{AllocError, Global};
 
@@ -24,21 +24,21 @@ fn status_number(status: Status) -> u64
 
 /// The hash of a process.
 #[inline(always)]
-pub fn hash_of_process(process: &Process) -> u32
+pub fn hash_of_process(process: &ProcessState) -> u32
     ensures { result ≡ thread_hash (thread_of process.now) }
 {
     let status = status_number(process.status);
-    let routine = mixed(status, process.frame.routine as u64);
-    let frame = mixed(routine, process.frame.component as u64);
+    let routine = mix(status, process.frame.routine as u64);
+    let frame = mix(routine, process.frame.component as u64);
     let stack = hash_with(frame, &process.stack);
     let cells = hash_with(stack, &process.room.cells);
-    settled(hash_with(cells, &process.room.references))
+    finish_hash(hash_with(cells, &process.room.references))
 }
 
 /// Whether two processes are one.
 #[inline(always)]
 #[tactic(auto, using(crate::proofs::Same::same_status, crate::proofs::Same::same_frame, crate::proofs::Same::same_stack, crate::proofs::Same::same_cells, crate::proofs::Same::same_references))]
-pub fn is_process(process: &Process, other: &Process) -> bool
+pub fn is_process(process: &ProcessState, other: &ProcessState) -> bool
     ensures one { result ≡ true → thread_of process.now ≡ thread_of other.now }
     ensures same { thread_of process.now ≡ thread_of other.now → result ≡ true }
 {
@@ -55,13 +55,13 @@ pub fn is_process(process: &Process, other: &Process) -> bool
 }
 
 /// A process once more.
-pub fn copy_of(alloc: Global, process: &Process) -> Result<Process, AllocError>
+pub fn copy_of(alloc: Global, process: &ProcessState) -> Result<ProcessState, AllocError>
     ensures { IfOk result (λ p. thread_of p ≡ thread_of process.now) }
 {
     let stack = Vec::from_slice(alloc, &process.stack)?;
     let cells = Vec::from_slice(alloc, &process.room.cells)?;
     let references = Vec::from_slice(alloc, &process.room.references)?;
-    Ok(Process {
+    Ok(ProcessState {
         status: process.status,
         frame: process.frame,
         stack,
@@ -84,7 +84,7 @@ pub fn take_list<T: Copy>(to: &mut Vec<T>, from: &[T])
 
 /// A process becomes another one, for which there is room.
 #[inline(always)]
-pub fn take_process(to: &mut Process, from: &Process)
+pub fn take_process(to: &mut ProcessState, from: &ProcessState)
     requires stack { length from.now.stack.items ≤ vec_capacity to.old.stack }
     requires cells { length from.now.room.cells.items ≤ vec_capacity to.old.room.cells }
     requires references { length from.now.room.references.items ≤ vec_capacity to.old.room.references }

@@ -7,11 +7,11 @@ ghost use Rattle.cp_states.specs.Gated.{gated};
 use crate::admissions::Admissions;
 use crate::guards::are_guards;
 use crate::hashing::Compared;
-use crate::lists::Lists;
+use crate::lists::ListStore;
 use crate::processes::take_list;
-use crate::row::{ADMISSION, BINDINGS, OUTPUT, PERMANENTS, PHASES, Row, THREADS};
+use crate::row::{ADMISSION, BINDINGS, OUTPUT, PERMANENTS, PHASES, StateRow, THREADS};
 use crate::threads::Threads;
-use cp_machine::{Moved, Phase, Process, Shown, State, Watch};
+use cp_machine::{Moved, Phase, ProcessState, Shown, State, Watch};
 use std::alloc::{AllocError, Global};
 
 // Whether the monitors of two states have the same.
@@ -27,10 +27,10 @@ fn has_same_monitors(state: &State, other: &State) -> bool
 /// The different parts of states, each with a number.
 #[derive(Drop)]
 pub struct Store {
-    pub outputs: Lists<Shown>,
-    pub permanents: Lists<i16>,
-    pub bindings: Lists<usize>,
-    pub phases: Lists<Phase>,
+    pub outputs: ListStore<Shown>,
+    pub permanents: ListStore<i16>,
+    pub bindings: ListStore<usize>,
+    pub phases: ListStore<Phase>,
     pub admissions: Admissions,
     pub threads: Threads,
 }
@@ -48,10 +48,10 @@ impl Store {
     /// There is no part.
     pub fn new(alloc: Global) -> Store {
         Store {
-            outputs: Lists::new(alloc),
-            permanents: Lists::new(alloc),
-            bindings: Lists::new(alloc),
-            phases: Lists::new(alloc),
+            outputs: ListStore::new(alloc),
+            permanents: ListStore::new(alloc),
+            bindings: ListStore::new(alloc),
+            phases: ListStore::new(alloc),
             admissions: Admissions::new(alloc),
             threads: Threads::new(alloc),
         }
@@ -64,7 +64,7 @@ impl Store {
         alloc: Global,
         state: &State,
         before: &State,
-        row: &mut Row,
+        row: &mut StateRow,
     ) -> Result<(), AllocError>
         ensures row { IfOk result (λ _. (m : Machine) → IsRowOf self.old row.old.numbers m → m.output ≡ (machine_of before.now).output → IsRowOf self.new row.new.numbers (record m { output = (machine_of state.now).output })) }
         ensures kept { KeepParts self.old self.new }
@@ -85,7 +85,7 @@ impl Store {
         alloc: Global,
         state: &State,
         before: &State,
-        row: &mut Row,
+        row: &mut StateRow,
     ) -> Result<(), AllocError>
         ensures row { IfOk result (λ _. (m : Machine) → IsRowOf self.old row.old.numbers m → m.permanents ≡ (machine_of before.now).permanents → IsRowOf self.new row.new.numbers (record m { permanents = (machine_of state.now).permanents })) }
         ensures kept { KeepParts self.old self.new }
@@ -106,7 +106,7 @@ impl Store {
         alloc: Global,
         state: &State,
         before: &State,
-        row: &mut Row,
+        row: &mut StateRow,
     ) -> Result<(), AllocError>
         ensures row { IfOk result (λ _. (m : Machine) → IsRowOf self.old row.old.numbers m → m.bindings ≡ (machine_of before.now).bindings → IsRowOf self.new row.new.numbers (record m { bindings = (machine_of state.now).bindings })) }
         ensures kept { KeepParts self.old self.new }
@@ -127,7 +127,7 @@ impl Store {
         alloc: Global,
         state: &State,
         before: &State,
-        row: &mut Row,
+        row: &mut StateRow,
     ) -> Result<(), AllocError>
         ensures row { IfOk result (λ _. (m : Machine) → IsRowOf self.old row.old.numbers m → m.phases ≡ (machine_of before.now).phases → IsRowOf self.new row.new.numbers (record m { phases = (machine_of state.now).phases })) }
         ensures kept { KeepParts self.old self.new }
@@ -148,7 +148,7 @@ impl Store {
         alloc: Global,
         state: &State,
         before: &State,
-        row: &mut Row,
+        row: &mut StateRow,
     ) -> Result<(), AllocError>
         ensures row { IfOk result (λ _. (m : Machine) → IsRowOf self.old row.old.numbers m → gated m ≡ gated (machine_of before.now) → IsRowOf self.new row.new.numbers (record m { monitors = (machine_of state.now).monitors; pending = (machine_of state.now).pending; gates = (machine_of state.now).gates })) }
         ensures kept { KeepParts self.old self.new }
@@ -168,11 +168,11 @@ impl Store {
     fn follow_process(
         &mut self,
         alloc: Global,
-        process: &Process,
-        before: &Process,
+        process: &ProcessState,
+        before: &ProcessState,
         is_moved: bool,
         at: usize,
-        row: &mut Row,
+        row: &mut StateRow,
     ) -> Result<(), AllocError>
         requires at { 5 + at < 21 }
         requires known { IsAmong no_thread (map thread_of self.old.threads.all.items) (number_at row.old.numbers (5 + at)) (thread_of before.now) }
@@ -196,7 +196,7 @@ impl Store {
         state: &State,
         before: &State,
         moved: &Moved,
-        row: &mut Row,
+        row: &mut StateRow,
     ) -> Result<(), AllocError>
         requires kept { KeepBodies (has_moved moved.now) (machine_of before.now) (machine_of state.now) }
         requires known { (pid : ℕ) → pid < length (machine_of before.now).threads → IsAmong no_thread (map thread_of self.old.threads.all.items) (number_at row.old.numbers (5 + pid)) (thread_at (machine_of before.now).threads pid) }
@@ -217,9 +217,9 @@ impl Store {
     fn add_process(
         &mut self,
         alloc: Global,
-        process: &Process,
+        process: &ProcessState,
         at: usize,
-        row: &mut Row,
+        row: &mut StateRow,
     ) -> Result<(), AllocError>
         requires at { 5 + at < 21 }
         ensures this { IfOk result (λ _. IsAmong no_thread (map thread_of self.new.threads.all.items) (number_at row.new.numbers (5 + at)) (thread_of process.now)) }
@@ -236,7 +236,7 @@ impl Store {
         &mut self,
         alloc: Global,
         state: &State,
-        row: &mut Row,
+        row: &mut StateRow,
     ) -> Result<(), AllocError>
         ensures row { IfOk result (λ _. (m : Machine) → IsRowOf self.old row.old.numbers m → length m.threads ≤ length (machine_of state.now).threads → IsRowOf self.new row.new.numbers (record m { threads = (machine_of state.now).threads })) }
         ensures kept { KeepParts self.old self.new }
@@ -249,7 +249,7 @@ impl Store {
     }
 
     /// The row of a state.
-    pub fn row_anew(&mut self, alloc: Global, state: &State) -> Result<Row, AllocError>
+    pub fn row_anew(&mut self, alloc: Global, state: &State) -> Result<StateRow, AllocError>
         ensures row { IfOk result (λ row. IsRowOf self.new row.numbers (machine_of state.now)) }
         ensures kept { KeepParts self.old self.new }
     {
@@ -259,7 +259,7 @@ impl Store {
     }
 
     // The row of a state without its processes.
-    fn first_numbers(&mut self, alloc: Global, state: &State) -> Result<Row, AllocError>
+    fn first_numbers(&mut self, alloc: Global, state: &State) -> Result<StateRow, AllocError>
         ensures row { IfOk result (λ row. IsRowOf self.new row.numbers (record (machine_of state.now) { threads = [] })) }
         ensures kept { KeepParts self.old self.new }
     {
@@ -270,7 +270,7 @@ impl Store {
         let admission = self
             .admissions
             .number_of(alloc, &state.guards, state.pending, state.gates)?;
-        Ok(Row {
+        Ok(StateRow {
             numbers: [
                 output, permanents, bindings, phases, admission, 0, 0, 0, 0, 0, 0, 0, 0, 0, 0, 0,
                 0, 0, 0, 0, 0,
@@ -279,7 +279,7 @@ impl Store {
     }
 
     // The row of a state without its processes, if the store has its parts.
-    fn first_numbers_of(&self, state: &State) -> Option<Row>
+    fn first_numbers_of(&self, state: &State) -> Option<StateRow>
         ensures found { IfSome result (λ row. IsRowOf self.now row.numbers (record (machine_of state.now) { threads = [] })) }
         ensures absent { IfNone result ((row : List ℕ) → IsRowOf self.now row (machine_of state.now) → ⊥) }
     {
@@ -290,7 +290,7 @@ impl Store {
         let admission = self
             .admissions
             .number(&state.guards, state.pending, state.gates)?;
-        Some(Row {
+        Some(StateRow {
             numbers: [
                 output, permanents, bindings, phases, admission, 0, 0, 0, 0, 0, 0, 0, 0, 0, 0, 0,
                 0, 0, 0, 0, 0,
@@ -299,7 +299,7 @@ impl Store {
     }
 
     // The number of a process goes into a row, if the store has the process.
-    fn number_process(&self, process: &Process, at: usize, row: &mut Row) -> bool
+    fn number_process(&self, process: &ProcessState, at: usize, row: &mut StateRow) -> bool
         requires at { 5 + at < 21 }
         ensures this { result ≡ true → IsAmong no_thread (map thread_of self.now.threads.all.items) (number_at row.new.numbers (5 + at)) (thread_of process.now) }
         ensures absent { result ≡ false → (n : ℕ) → IsAmong no_thread (map thread_of self.now.threads.all.items) n (thread_of process.now) → ⊥ }
@@ -316,7 +316,7 @@ impl Store {
     }
 
     // The numbers of the processes go into a row, which has none of them, if the store has the processes.
-    fn number_processes(&self, state: &State, row: &mut Row) -> bool
+    fn number_processes(&self, state: &State, row: &mut StateRow) -> bool
         ensures row { result ≡ true → IsRowOf self.now row.old.numbers (record (machine_of state.now) { threads = [] }) → IsRowOf self.now row.new.numbers (machine_of state.now) }
         ensures absent { result ≡ false → (row : List ℕ) → IsRowOf self.now row (machine_of state.now) → ⊥ }
     {
@@ -330,7 +330,7 @@ impl Store {
     }
 
     /// The row of a state, if the store has its parts.
-    pub fn row_of(&self, state: &State) -> Option<Row>
+    pub fn row_of(&self, state: &State) -> Option<StateRow>
         ensures found { IfSome result (λ row. IsRowOf self.now row.numbers (machine_of state.now)) }
         ensures absent { IfNone result ((row : List ℕ) → IsRowOf self.now row (machine_of state.now) → ⊥) }
     {
@@ -349,9 +349,9 @@ impl Store {
         alloc: Global,
         state: &State,
         before: &State,
-        known: &Row,
+        known: &StateRow,
         moved: &Moved,
-    ) -> Result<Row, AllocError>
+    ) -> Result<StateRow, AllocError>
         requires known { IsRowOf self.old known.now.numbers (machine_of before.now) }
         requires kept { KeepBodies (has_moved moved.now) (machine_of before.now) (machine_of state.now) }
         ensures row { IfOk result (λ row. IsRowOf self.new row.numbers (machine_of state.now)) }
@@ -369,7 +369,7 @@ impl Store {
 
     /// A state becomes the one of the same program that has a row. It takes no memory. What is known to be the same stays as it is, and
     /// the processes that do not are added to those that moved.
-    pub fn take(&self, row: &Row, known: &Row, state: &mut State, moved: &mut Moved)
+    pub fn take(&self, row: &StateRow, known: &StateRow, state: &mut State, moved: &mut Moved)
         requires row { (r : Tables) × (m : Machine) × IsStateOf r state.old × IsMachineOf r m × IsRowOf self.now row.now.numbers m }
         requires known { IsRowOf self.now known.now.numbers (machine_of state.old) }
         ensures same { (r : Tables) (m : Machine) → IsStateOf r state.old → IsMachineOf r m → IsRowOf self.now row.now.numbers m → machine_of state.new ≡ m }
@@ -408,7 +408,7 @@ impl Store {
     }
 
     /// A state becomes the one of the same program that has a row, whatever it was. It takes no memory.
-    pub fn take_anew(&self, row: &Row, state: &mut State)
+    pub fn take_anew(&self, row: &StateRow, state: &mut State)
         requires { (r : Tables) × (m : Machine) × IsStateOf r state.old × IsMachineOf r m × IsRowOf self.now row.now.numbers m }
         ensures same { (r : Tables) (m : Machine) → IsStateOf r state.old → IsMachineOf r m → IsRowOf self.now row.now.numbers m → machine_of state.new ≡ m }
         ensures own { (r : Tables) (m : Machine) → IsStateOf r state.old → IsMachineOf r m → IsRowOf self.now row.now.numbers m → IsStateOf r state.new }
@@ -431,7 +431,7 @@ impl Store {
     }
 
     /// The output of a state becomes that of the one that has a row, and the rest stays as it is. It takes no memory.
-    pub fn take_output(&self, row: &Row, state: &mut State)
+    pub fn take_output(&self, row: &StateRow, state: &mut State)
         requires { (m : Machine) × (length m.output ≤ vec_capacity state.old.output) × IsRowOf self.now row.now.numbers m }
         ensures output { (m : Machine) → IsRowOf self.now row.now.numbers m → output_of (machine_of state.new) ≡ m.output }
         ensures room { vec_capacity state.old.output ≤ vec_capacity state.new.output }

@@ -6,17 +6,17 @@ ghost use Rattle.cp_states.specs.Codes.{thread_hash};
 ghost use Rattle.cp_states.specs.Hashes.{hashes};
 ghost use Rattle.cp_states.specs.Kept.{AreKept};
 
-use crate::index::{Index, MOST};
+use crate::index::{HashIndex, MOST};
 use crate::processes::{copy_of, hash_of_process, is_process, take_process};
-use crate::row::{Row, THREADS};
-use cp_machine::{Moved, Process, Watch};
+use crate::row::{StateRow, THREADS};
+use cp_machine::{Moved, ProcessState, Watch};
 use std::alloc::{AllocError, Global};
 
 /// Different processes, each with a number.
 #[derive(Drop)]
 pub struct Threads {
-    pub all: Vec<Process>,
-    pub index: Index,
+    pub all: Vec<ProcessState>,
+    pub index: HashIndex,
     pub ghost kept: { AreKept thread_hash no_thread (map thread_of all.items) (hashes index) },
 }
 
@@ -32,13 +32,13 @@ impl Threads {
     pub fn new(alloc: Global) -> Threads {
         Threads {
             all: Vec::new(alloc),
-            index: Index::new(alloc),
+            index: HashIndex::new(alloc),
         }
     }
 
     // Whether this is the number of a process.
     #[inline(always)]
-    fn is_at(&self, at: usize, process: &Process) -> bool
+    fn is_at(&self, at: usize, process: &ProcessState) -> bool
         ensures one { result ≡ true → IsAmong no_thread (map thread_of self.now.all.items) at (thread_of process.now) }
         ensures same { IsAmong no_thread (map thread_of self.now.all.items) at (thread_of process.now) → result ≡ true }
     {
@@ -46,7 +46,7 @@ impl Threads {
     }
 
     #[inline(always)]
-    fn find(&self, hash: u32, process: &Process) -> Option<u32>
+    fn find(&self, hash: u32, process: &ProcessState) -> Option<u32>
         requires { hash ≡ thread_hash (thread_of process.now) }
         ensures found { IfSome result (λ n. IsAmong no_thread (map thread_of self.now.all.items) n (thread_of process.now)) }
         ensures absent { IfNone result ((n : ℕ) → IsAmong no_thread (map thread_of self.now.all.items) n (thread_of process.now) → ⊥) }
@@ -61,7 +61,7 @@ impl Threads {
     }
 
     /// The number of a process, if it is there.
-    pub fn number(&self, process: &Process) -> Option<u32>
+    pub fn number(&self, process: &ProcessState) -> Option<u32>
         ensures found { IfSome result (λ n. IsAmong no_thread (map thread_of self.now.all.items) n (thread_of process.now)) }
         ensures absent { IfNone result ((n : ℕ) → IsAmong no_thread (map thread_of self.now.all.items) n (thread_of process.now) → ⊥) }
     {
@@ -70,7 +70,7 @@ impl Threads {
 
     /// The number of a process, which is new where the process is.
     #[inline(always)]
-    pub fn number_of(&mut self, alloc: Global, process: &Process) -> Result<u32, AllocError>
+    pub fn number_of(&mut self, alloc: Global, process: &ProcessState) -> Result<u32, AllocError>
         ensures number { IfOk result (λ n. IsAmong no_thread (map thread_of self.new.all.items) n (thread_of process.now)) }
         ensures kept { KeepItems no_thread (map thread_of self.old.all.items) (map thread_of self.new.all.items) }
     {
@@ -83,7 +83,7 @@ impl Threads {
 
     // One process more, which is new.
     #[inline(never)]
-    fn add(&mut self, alloc: Global, hash: u32, process: &Process) -> Result<u32, AllocError>
+    fn add(&mut self, alloc: Global, hash: u32, process: &ProcessState) -> Result<u32, AllocError>
         requires hash { hash ≡ thread_hash (thread_of process.now) }
         requires new { (n : ℕ) → IsAmong no_thread (map thread_of self.old.all.items) n (thread_of process.now) → ⊥ }
         ensures number { IfOk result (λ n. IsAmong no_thread (map thread_of self.new.all.items) n (thread_of process.now)) }
@@ -102,7 +102,14 @@ impl Threads {
 
     // A process becomes the one with a number, which perhaps is the one that it was; if not, it has moved.
     #[inline(always)]
-    fn take(&self, number: u32, known: u32, pid: usize, process: &mut Process, moved: &mut Moved)
+    fn take(
+        &self,
+        number: u32,
+        known: u32,
+        pid: usize,
+        process: &mut ProcessState,
+        moved: &mut Moved,
+    )
         requires pid { pid < 16 }
         requires number { number < length self.now.all.items }
         requires known { IsAmong no_thread (map thread_of self.now.all.items) known (thread_of process.old) }
@@ -123,7 +130,7 @@ impl Threads {
 
     // A process becomes the one with a number.
     #[inline(always)]
-    fn take_anew(&self, number: u32, process: &mut Process)
+    fn take_anew(&self, number: u32, process: &mut ProcessState)
         requires number { number < length self.now.all.items }
         requires room { HasRoomFor process.old (thread_at (map thread_of self.now.all.items) number) }
         ensures same { thread_of process.new ≡ thread_at (map thread_of self.now.all.items) number }
@@ -135,10 +142,10 @@ impl Threads {
     }
 
     /// Processes become those that have the numbers of a row.
-    pub fn take_each(&self, row: &Row, processes: &mut [Process])
+    pub fn take_each(&self, row: &StateRow, processes: &mut [ProcessState])
         requires few { length processes.old ≤ 16 }
         requires numbers { (pid : ℕ) → pid < length processes.old → number_at row.now.numbers (5 + pid) < length self.now.all.items }
-        requires room { (pid : ℕ) (d : Process) → pid < length processes.old → HasRoomFor (slice_index_or processes.old pid d) (thread_at (map thread_of self.now.all.items) (number_at row.now.numbers (5 + pid))) }
+        requires room { (pid : ℕ) (d : ProcessState) → pid < length processes.old → HasRoomFor (slice_index_or processes.old pid d) (thread_at (map thread_of self.now.all.items) (number_at row.now.numbers (5 + pid))) }
         ensures taken { AreTaken (λ pid. thread_at (map thread_of self.now.all.items) (number_at row.now.numbers (5 + pid))) processes.old processes.new (λ _. true) (λ _. true) (length processes.old) }
     {
         for at in 0..processes.len() {
@@ -148,11 +155,17 @@ impl Threads {
 
     /// Processes become those that have the numbers of a row. Those that are not what they were have moved.
     #[inline(always)]
-    pub fn take_all(&self, row: &Row, known: &Row, processes: &mut [Process], moved: &mut Moved)
+    pub fn take_all(
+        &self,
+        row: &StateRow,
+        known: &StateRow,
+        processes: &mut [ProcessState],
+        moved: &mut Moved,
+    )
         requires few { length processes.old ≤ 16 }
         requires numbers { (pid : ℕ) → pid < length processes.old → number_at row.now.numbers (5 + pid) < length self.now.all.items }
         requires known { (pid : ℕ) → pid < length processes.old → IsAmong no_thread (map thread_of self.now.all.items) (number_at known.now.numbers (5 + pid)) (thread_at (map thread_of processes.old) pid) }
-        requires room { (pid : ℕ) (d : Process) → pid < length processes.old → HasRoomFor (slice_index_or processes.old pid d) (thread_at (map thread_of self.now.all.items) (number_at row.now.numbers (5 + pid))) }
+        requires room { (pid : ℕ) (d : ProcessState) → pid < length processes.old → HasRoomFor (slice_index_or processes.old pid d) (thread_at (map thread_of self.now.all.items) (number_at row.now.numbers (5 + pid))) }
         ensures taken { AreTaken (λ pid. thread_at (map thread_of self.now.all.items) (number_at row.now.numbers (5 + pid))) processes.old processes.new (has_moved moved.old) (has_moved moved.new) (length processes.old) }
     {
         for at in 0..processes.len() {

@@ -7,8 +7,8 @@ use Rattle.std.proofs.Math.Nat.{mul-le-mul_right}
 use Rattle.std.proofs.Math.Seq.{drop-cons}
 use Rattle.cp_slots.specs.declared.place.Index.{Index, out-Index}
 use Rattle.cp_slots.specs.declared.place.Place.{Place, out-Place}
-use Rattle.cp_slots.specs.declared.place.Origin.{Origin}
-use Rattle.cp_slots.specs.declared.place.Origin.TheVariants as origin
+use Rattle.cp_slots.specs.declared.place.PlaceOrigin.{PlaceOrigin}
+use Rattle.cp_slots.specs.declared.place.PlaceOrigin.TheVariants as origin
 use Rattle.cp_slots.specs.declared.place.Expression.TheFolds.{fold_out-Index, fold_out-Place}
 use Rattle.cp_slots.specs.Inside as inside
 use Rattle.cp_slots.specs.Inside.{ToInside, ToRoom, ToRoomBehind, behind, has, then_some, room_from, expression_inside, index_room, indices_room, place_room}
@@ -147,7 +147,7 @@ module _ (m : Memory) (r : RoutineView) (f : Frame) (covers : Covers m r f) wher
       go rest (Some inner) (Err e) has found room reached = absurd (cc)
       go rest None e has found room reached = absurd (cc)
 
-  begun_inside : (o : Origin) (cells : ℕ) → room_from r o ≡ Some cells → HasCells m (origin_address m.references f o) cells
+  begun_inside : (o : PlaceOrigin) (cells : ℕ) → room_from r o ≡ Some cells → HasCells m (origin_address m.references f o) cells
   begun_inside (origin.Permanent slot) cells room = let is = behind_is slot r.own cells room in omega (arith, is, covers.own, covers.permanents_few)
   begun_inside (origin.Local slot) cells room = let is = behind_is slot (length r.image) cells room in omega (arith, is, covers.cells, covers.cells_few)
   begun_inside (origin.Reference number) cells room = go (nat_lt number (length r.extents)) refl room
@@ -159,7 +159,7 @@ module _ (m : Memory) (r : RoutineView) (f : Frame) (covers : Covers m r f) wher
           subst (λ k. HasCells m (slice_index_or m.references k nowhere) cells) (sym exact) (subst (HasCells m _) (some_is is) (covers.behind number there))
       go false lt is = absurd (cc)
 
-origin_begins : (m : Memory) (r : RoutineView) (f : Frame) → Covers m r f → (o : Origin) (cells : ℕ) → room_from r o ≡ Some cells → Begins m.references f o
+origin_begins : (m : Memory) (r : RoutineView) (f : Frame) → Covers m r f → (o : PlaceOrigin) (cells : ℕ) → room_from r o ≡ Some cells → Begins m.references f o
 origin_begins m r f covers (origin.Permanent slot) cells room = let is = behind_is slot r.own cells room in omega (arith, is, covers.own, covers.permanents_few)
 origin_begins m r f covers (origin.Local slot) cells room = let is = behind_is slot (length r.image) cells room in omega (arith, is, covers.cells, covers.cells_few)
 origin_begins m r f covers (origin.Reference number) cells room = go (nat_lt number (length r.extents)) refl room

@@ -1,12 +1,12 @@
 -- What an expression gives: its value or a run error, as one of a few cases.
 use Rattle.std.specs.Prelude.{Result, Ok, Err, ℤ}
-use Rattle.cp_store.specs.declared.answer.Answer.{Answer}
-use Rattle.cp_store.specs.declared.answer.Answer.TheVariants as answer
+use Rattle.cp_store.specs.declared.answer.Evaluation.{Evaluation}
+use Rattle.cp_store.specs.declared.answer.Evaluation.TheVariants as answer
 use Rattle.cp_store.specs.declared.error.ErrorName.{ErrorName}
 use Rattle.cp_store.specs.declared.error.ErrorName.TheVariants as error
 
 -- what an answer stands for
-abbrev pub answered : Answer → Result ℤ ErrorName
+abbrev pub answered : Evaluation → Result ℤ ErrorName
 answered (answer.Value value) = Ok value
 answered answer.Overflow = Err error.Overflow
 answered answer.ZeroDivisor = Err error.ZeroDivisor

@@ -8,8 +8,8 @@ use Rattle.cp_slots.specs.declared.place.ComponentPlace.{ComponentPlace}
 use Rattle.cp_slots.specs.declared.place.ComponentPlace.TheVariants.{Own, Contained, Element, Parameter}
 use Rattle.cp_slots.specs.declared.place.Expression.{Expression}
 use Rattle.cp_slots.specs.declared.place.Index.{Index}
-use Rattle.cp_slots.specs.declared.place.Origin.{Origin}
-use Rattle.cp_slots.specs.declared.place.Origin.TheVariants as origin
+use Rattle.cp_slots.specs.declared.place.PlaceOrigin.{PlaceOrigin}
+use Rattle.cp_slots.specs.declared.place.PlaceOrigin.TheVariants as origin
 use Rattle.cp_slots.specs.declared.place.Place.{Place}
 use Rattle.cp_slots.specs.declared.place.SetExpression.{SetExpression}
 use Rattle.cp_slots.specs.Inside.{SET_CELLS, arguments_inside, binds_from, expression_inside, has, indices_room, place_room, room_from, set_inside}
@@ -64,7 +64,7 @@ MovesBy (Permanent number) cells = number + cells < 2 ^ 64
 MovesBy (Local number) cells = number + cells < 2 ^ 64
 
 -- a variable begins at an address that a machine word numbers, or at one that is there
-abbrev pub Begins : (references : List Address) → Frame → Origin → Type 0
+abbrev pub Begins : (references : List Address) → Frame → PlaceOrigin → Type 0
 Begins references f (origin.Permanent slot) = f.own + slot < 2 ^ 64
 Begins references f (origin.Local slot) = f.base + slot < 2 ^ 64
 Begins references f (origin.Reference number) = f.references + number < length references
@@ -147,7 +147,7 @@ PlacesHaveTheirCells =
 -- where there are this many cells from the beginning of a variable on, it begins at an address that has these
 abbrev pub VariablesHaveTheirCells : Type 0
 VariablesHaveTheirCells =
-    (m : Memory) (r : RoutineView) (f : Frame) (o : Origin) (cells : ℕ) →
+    (m : Memory) (r : RoutineView) (f : Frame) (o : PlaceOrigin) (cells : ℕ) →
     Covers m r f → IsTrue (has cells (room_from r o)) → Begins m.references f o × HasCells m (origin_address m.references f o) cells
 
 -- what is written leaves all that a frame covers

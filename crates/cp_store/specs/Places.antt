@@ -1,8 +1,8 @@
 -- Addresses of places, and values of expressions and sets: functions of the memory and of the frame that is executed.
 -- Parts are evaluated from left to right, and the first run error counts.
 use Rattle.std.specs.Prelude.{ℕ, Bool, true, false, not, List, [], ◌∷◌, map, Result, Ok, ℤ, pos, ◌-ℤ◌, slice_index_or, unsigned_abs}
-use Rattle.cp_slots.specs.declared.place.Origin.{Origin}
-use Rattle.cp_slots.specs.declared.place.Origin.TheVariants as origin
+use Rattle.cp_slots.specs.declared.place.PlaceOrigin.{PlaceOrigin}
+use Rattle.cp_slots.specs.declared.place.PlaceOrigin.TheVariants as origin
 use Rattle.cp_slots.specs.declared.place.Place as code_place
 use Rattle.cp_slots.specs.declared.place.Index as code_index
 use Rattle.cp_slots.specs.declared.place.Expression as code_expression
@@ -38,7 +38,7 @@ abbrev pub referred : List Address → ℕ → Address
 referred references number = slice_index_or references number nowhere
 
 -- where a variable begins
-abbrev pub origin_address : List Address → Frame → Origin → Address
+abbrev pub origin_address : List Address → Frame → PlaceOrigin → Address
 origin_address references frame (origin.Permanent slot) = Permanent (onward frame.own slot)
 origin_address references frame (origin.Local slot) = Local (onward frame.base slot)
 origin_address references frame (origin.Reference number) = referred references (onward frame.references number)

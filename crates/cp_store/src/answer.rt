@@ -7,7 +7,7 @@ use crate::error::ErrorName;
 
 /// The value of an expression, or the run error that it meets.
 #[derive(Clone, Copy)]
-pub enum Answer {
+pub enum Evaluation {
     Value(i16),
     Overflow,
     ZeroDivisor,
@@ -18,30 +18,30 @@ pub enum Answer {
     InitTwice,
 }
 
-impl Answer {
+impl Evaluation {
     /// The answer that stands for a result.
     #[inline(always)]
-    pub fn of(outcome: Result<i16, ErrorName>) -> Answer
+    pub fn of(outcome: Result<i16, ErrorName>) -> Evaluation
         ensures { spec.answered result ≡ outcome }
     {
         match outcome {
-            Ok(value) => Answer::Value(value),
-            Err(name) => Answer::failed(name),
+            Ok(value) => Evaluation::Value(value),
+            Err(name) => Evaluation::failed(name),
         }
     }
 
     /// The answer that stands for a run error.
-    pub fn failed(name: ErrorName) -> Answer
+    pub fn failed(name: ErrorName) -> Evaluation
         ensures { spec.answered result ≡ Err name }
     {
         match name {
-            ErrorName::Overflow => Answer::Overflow,
-            ErrorName::ZeroDivisor => Answer::ZeroDivisor,
-            ErrorName::Range => Answer::Range,
-            ErrorName::NoCase => Answer::NoCase,
-            ErrorName::QueueInUse => Answer::QueueInUse,
-            ErrorName::NotInit => Answer::NotInit,
-            ErrorName::InitTwice => Answer::InitTwice,
+            ErrorName::Overflow => Evaluation::Overflow,
+            ErrorName::ZeroDivisor => Evaluation::ZeroDivisor,
+            ErrorName::Range => Evaluation::Range,
+            ErrorName::NoCase => Evaluation::NoCase,
+            ErrorName::QueueInUse => Evaluation::QueueInUse,
+            ErrorName::NotInit => Evaluation::NotInit,
+            ErrorName::InitTwice => Evaluation::InitTwice,
         }
     }
 
@@ -51,14 +51,14 @@ impl Answer {
         ensures { result ≡ spec.answered self }
     {
         match self {
-            Answer::Value(value) => Ok(value),
-            Answer::Overflow
-            | Answer::ZeroDivisor
-            | Answer::Range
-            | Answer::NoCase
-            | Answer::QueueInUse
-            | Answer::NotInit
-            | Answer::InitTwice => Err(self.name()),
+            Evaluation::Value(value) => Ok(value),
+            Evaluation::Overflow
+            | Evaluation::ZeroDivisor
+            | Evaluation::Range
+            | Evaluation::NoCase
+            | Evaluation::QueueInUse
+            | Evaluation::NotInit
+            | Evaluation::InitTwice => Err(self.name()),
         }
     }
 
@@ -69,14 +69,14 @@ impl Answer {
         ensures { spec.answered self ≡ Err result }
     {
         match self {
-            Answer::Value(_) => unreachable!(),
-            Answer::Overflow => ErrorName::Overflow,
-            Answer::ZeroDivisor => ErrorName::ZeroDivisor,
-            Answer::Range => ErrorName::Range,
-            Answer::NoCase => ErrorName::NoCase,
-            Answer::QueueInUse => ErrorName::QueueInUse,
-            Answer::NotInit => ErrorName::NotInit,
-            Answer::InitTwice => ErrorName::InitTwice,
+            Evaluation::Value(_) => unreachable!(),
+            Evaluation::Overflow => ErrorName::Overflow,
+            Evaluation::ZeroDivisor => ErrorName::ZeroDivisor,
+            Evaluation::Range => ErrorName::Range,
+            Evaluation::NoCase => ErrorName::NoCase,
+            Evaluation::QueueInUse => ErrorName::QueueInUse,
+            Evaluation::NotInit => ErrorName::NotInit,
+            Evaluation::InitTwice => ErrorName::InitTwice,
         }
     }
 }

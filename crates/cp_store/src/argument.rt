@@ -5,7 +5,7 @@ ghost use Rattle.cp_store.specs.Arguments as spec;
 ghost use Rattle.cp_store.specs.Inside.{CanGive, CanGiveAll};
 ghost use Rattle.cp_store.specs.Memory.{memory_of};
 
-use crate::arithmetic::ranged;
+use crate::arithmetic::check_range;
 use crate::component::component_of;
 use crate::error::ErrorName;
 use crate::evaluation::{address, evaluate, evaluate_set};
@@ -40,11 +40,11 @@ pub fn evaluate_argument(
     match value {
         ArgumentValue::Scalar { value, low, high } => {
             let value = evaluate(value, permanents, room, &frame)?;
-            Ok(Bound::Scalar(ranged(value, *low, *high)?))
+            Ok(Bound::Scalar(check_range(value, *low, *high)?))
         }
         ArgumentValue::Set { value, low, high } => {
             let value = evaluate_set(value, permanents, room, &frame)?;
-            Ok(Bound::Set(set::ranged(value, *low, *high)?))
+            Ok(Bound::Set(set::check_members(value, *low, *high)?))
         }
         ArgumentValue::Copy { source, size } => {
             let source = address(source, permanents, room, &frame)?;

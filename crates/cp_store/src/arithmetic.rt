@@ -7,7 +7,7 @@ use crate::error::ErrorName;
 use cp_slots::{Arithmetic, Comparison, Logic};
 
 /// A value that is to be an integer of the language; else overflow.
-pub fn narrowed(value: i32) -> Result<i16, ErrorName>
+pub fn narrow(value: i32) -> Result<i16, ErrorName>
     ensures { result ≡ spec.narrowed value }
 {
     if value < -32768 || value > 32767 {
@@ -25,7 +25,7 @@ pub fn is_within(value: i16, low: i16, high: i16) -> bool
 }
 
 /// A value that is to lie within bounds; else range.
-pub fn ranged(value: i16, low: i16, high: i16) -> Result<i16, ErrorName>
+pub fn check_range(value: i16, low: i16, high: i16) -> Result<i16, ErrorName>
     ensures { result ≡ spec.ranged low high value }
 {
     if is_within(value, low, high) {
@@ -50,17 +50,17 @@ pub fn is_true(value: i16) -> bool
 }
 
 /// A sign before an integer.
-pub fn negated(value: i16) -> Result<i16, ErrorName>
+pub fn negate(value: i16) -> Result<i16, ErrorName>
     ensures { result ≡ spec.negated value }
 {
-    narrowed(-(value as i32))
+    narrow(-(value as i32))
 }
 
 /// `abs` of an integer.
 pub fn absolute(value: i16) -> Result<i16, ErrorName>
     ensures { result ≡ spec.absolute value }
 {
-    narrowed(value.unsigned_abs() as i32)
+    narrow(value.unsigned_abs() as i32)
 }
 
 /// `succ` of an ordinal; range at the last value of its type.
@@ -92,7 +92,7 @@ pub fn quotient(left: i16, right: i16) -> Result<i16, ErrorName>
     if right == 0 {
         Err(ErrorName::ZeroDivisor)
     } else {
-        narrowed(left as i32 / right as i32)
+        narrow(left as i32 / right as i32)
     }
 }
 
@@ -111,17 +111,17 @@ pub fn remainder(left: i16, right: i16) -> Result<i16, ErrorName>
 pub fn product(left: i16, right: i16) -> Result<i16, ErrorName>
     ensures { result ≡ spec.product left right }
 {
-    narrowed(left as i32 * right as i32)
+    narrow(left as i32 * right as i32)
 }
 
 /// An operation on two integers.
 #[inline(always)]
-pub fn calculated(operator: Arithmetic, left: i16, right: i16) -> Result<i16, ErrorName>
+pub fn calculate(operator: Arithmetic, left: i16, right: i16) -> Result<i16, ErrorName>
     ensures { result ≡ spec.calculated operator left right }
 {
     match operator {
-        Arithmetic::Add => narrowed(left as i32 + right as i32),
-        Arithmetic::Subtract => narrowed(left as i32 - right as i32),
+        Arithmetic::Add => narrow(left as i32 + right as i32),
+        Arithmetic::Subtract => narrow(left as i32 - right as i32),
         Arithmetic::Multiply => product(left, right),
         Arithmetic::Divide => quotient(left, right),
         Arithmetic::Modulo => remainder(left, right),
@@ -129,7 +129,7 @@ pub fn calculated(operator: Arithmetic, left: i16, right: i16) -> Result<i16, Er
 }
 
 /// `and` or `or` of two truth values.
-pub fn combined(operator: Logic, left: i16, right: i16) -> i16
+pub fn apply_logic(operator: Logic, left: i16, right: i16) -> i16
     ensures { result ≡ spec.combined operator left right }
 {
     match operator {
@@ -139,7 +139,7 @@ pub fn combined(operator: Logic, left: i16, right: i16) -> i16
 }
 
 /// The truth value of a relation between two ordinals.
-pub fn compared(relation: Comparison, left: i16, right: i16) -> i16
+pub fn compare(relation: Comparison, left: i16, right: i16) -> i16
     ensures { result ≡ spec.compared relation left right }
 {
     match relation {

@@ -6,27 +6,27 @@ ghost use Rattle.cp_store.specs.Inside.{Begins, CanGoThrough, CanReach, CanRead,
 ghost use Rattle.cp_store.specs.Memory.{memory_of};
 ghost use Rattle.cp_store.specs.Places as spec;
 
-use crate::answer::Answer;
+use crate::answer::Evaluation;
 use crate::arithmetic::{
-    absolute, calculated, combined, compared, is_true, negated, predecessor, ranged, successor,
-    truth,
+    absolute, apply_logic, calculate, check_range, compare, is_true, negate, predecessor,
+    successor, truth,
 };
 use crate::error::ErrorName;
 use crate::memory::{Address, Frame, Room, cell};
 use crate::set::{self, SetValue};
-use cp_slots::{Expression, Index, Origin, Place, SetExpression};
+use cp_slots::{Expression, Index, Place, PlaceOrigin, SetExpression};
 
 /// Where a variable begins.
 #[inline(always)]
 #[tactic(auto, using(crate::proofs::Reaches::onward_exact))]
-pub fn origin_address(origin: Origin, room: &Room, frame: &Frame) -> Address
+pub fn origin_address(origin: PlaceOrigin, room: &Room, frame: &Frame) -> Address
     requires { Begins room.now.references.items frame.now origin }
     ensures { result ≡ spec.origin_address room.now.references.items frame.now origin }
 {
     match origin {
-        Origin::Permanent(slot) => Address::Permanent(frame.own + slot),
-        Origin::Local(slot) => Address::Local(frame.base + slot),
-        Origin::Reference(number) => room.references[frame.references + number],
+        PlaceOrigin::Permanent(slot) => Address::Permanent(frame.own + slot),
+        PlaceOrigin::Local(slot) => Address::Local(frame.base + slot),
+        PlaceOrigin::Reference(number) => room.references[frame.references + number],
     }
 }
 
@@ -36,7 +36,7 @@ pub fn element_offset(index: i16, low: i16, high: i16, size: usize) -> Result<us
     requires { unsigned_abs (high -ℤ low) * size < 2 ^ 64 }
     ensures { result ≡ spec.element_offset low high size index }
 {
-    let index = ranged(index, low, high)?;
+    let index = check_range(index, low, high)?;
     let elements = index.abs_diff(low) as usize;
     Ok(elements * size)
 }
@@ -114,10 +114,10 @@ pub fn evaluate(
 {
     match expression {
         Expression::Number(value) => Ok(*value),
-        Expression::Load(place) => loaded(place, permanents, room, frame),
+        Expression::Load(place) => load_value(place, permanents, room, frame),
         _ => answer(
             expression,
-            &View {
+            &EvaluationView {
                 permanents,
                 room,
                 frame,
@@ -139,17 +139,17 @@ pub fn evaluate_here(
     requires { CanRead (memory_of permanents.now room.now) frame.now expression.now }
     ensures { result ≡ spec.value_at (memory_of permanents.now room.now) frame.now expression.now }
 {
-    let view = View {
+    let view = EvaluationView {
         permanents,
         room,
         frame,
     };
-    computed(expression, &view)
+    compute_value(expression, &view)
 }
 
 // What an expression is read in. The functions of its parts share one, so that each takes two arguments and not four.
 #[derive(Clone, Copy)]
-struct View<'a> {
+struct EvaluationView<'a> {
     permanents: &'a [i16],
     room: &'a Room,
     frame: &'a Frame,
@@ -158,13 +158,13 @@ struct View<'a> {
 // The value of a part.
 #[cycle(evaluate)]
 #[inline(always)]
-fn operand_value(expression: &Expression, view: &View) -> Result<i16, ErrorName>
+fn operand_value(expression: &Expression, view: &EvaluationView) -> Result<i16, ErrorName>
     requires { CanRead (memory_of view.now.permanents.now view.now.room.now) view.now.frame.now expression.now }
     ensures { result ≡ spec.value_at (memory_of view.now.permanents.now view.now.room.now) view.now.frame.now expression.now }
 {
     match expression {
         Expression::Number(value) => Ok(*value),
-        Expression::Load(place) => loaded(place, view.permanents, view.room, view.frame),
+        Expression::Load(place) => load_value(place, view.permanents, view.room, view.frame),
         _ => answer(expression, view).result(),
     }
 }
@@ -172,14 +172,14 @@ fn operand_value(expression: &Expression, view: &View) -> Result<i16, ErrorName>
 // The value of the left side of an operation, which often is one itself: that is computed where it stands.
 #[cycle(evaluate)]
 #[inline(always)]
-fn left_part(expression: &Expression, view: &View) -> Result<i16, ErrorName>
+fn left_part(expression: &Expression, view: &EvaluationView) -> Result<i16, ErrorName>
     requires { CanRead (memory_of view.now.permanents.now view.now.room.now) view.now.frame.now expression.now }
     ensures { result ≡ spec.value_at (memory_of view.now.permanents.now view.now.room.now) view.now.frame.now expression.now }
 {
     if let Expression::Arithmetic(operator, left, right) = expression {
         let left = operand_value(left, view)?;
         let right = operand_value(right, view)?;
-        return calculated(*operator, left, right);
+        return calculate(*operator, left, right);
     }
     operand_value(expression, view)
 }
@@ -187,17 +187,17 @@ fn left_part(expression: &Expression, view: &View) -> Result<i16, ErrorName>
 // The value of an expression, handed over in a register.
 #[cycle(evaluate)]
 #[inline(never)]
-fn answer(expression: &Expression, view: &View) -> Answer
+fn answer(expression: &Expression, view: &EvaluationView) -> Evaluation
     requires { CanRead (memory_of view.now.permanents.now view.now.room.now) view.now.frame.now expression.now }
     ensures { answered result ≡ spec.value_at (memory_of view.now.permanents.now view.now.room.now) view.now.frame.now expression.now }
 {
-    Answer::of(computed(expression, view))
+    Evaluation::of(compute_value(expression, view))
 }
 
 // The value of an expression by its parts.
 #[cycle(evaluate)]
 #[inline(always)]
-fn computed(expression: &Expression, view: &View) -> Result<i16, ErrorName>
+fn compute_value(expression: &Expression, view: &EvaluationView) -> Result<i16, ErrorName>
     requires { CanRead (memory_of view.now.permanents.now view.now.room.now) view.now.frame.now expression.now }
     ensures { result ≡ spec.value_at (memory_of view.now.permanents.now view.now.room.now) view.now.frame.now expression.now }
 {
@@ -205,21 +205,21 @@ fn computed(expression: &Expression, view: &View) -> Result<i16, ErrorName>
     if let Expression::Arithmetic(operator, left, right) = expression {
         let left = left_part(left, view)?;
         let right = operand_value(right, view)?;
-        return calculated(*operator, left, right);
+        return calculate(*operator, left, right);
     }
     match expression {
         Expression::Number(value) => Ok(*value),
-        Expression::Load(place) => loaded(place, view.permanents, view.room, view.frame),
+        Expression::Load(place) => load_value(place, view.permanents, view.room, view.frame),
         Expression::Arithmetic(_, _, _) => unreachable!(),
         Expression::Compare(relation, left, right) => {
             let left = operand_value(left, view)?;
             let right = operand_value(right, view)?;
-            Ok(compared(*relation, left, right))
+            Ok(compare(*relation, left, right))
         }
         Expression::Logic(operator, left, right) => {
             let left = operand_value(left, view)?;
             let right = operand_value(right, view)?;
-            Ok(combined(*operator, left, right))
+            Ok(apply_logic(*operator, left, right))
         }
         Expression::Not(operand) => {
             let value = operand_value(operand, view)?;
@@ -240,22 +240,22 @@ fn computed(expression: &Expression, view: &View) -> Result<i16, ErrorName>
 // The value of a rarer form: apart, so that the frequent ones save fewer registers.
 #[cycle(evaluate)]
 #[inline(never)]
-fn rare(expression: &Expression, view: &View) -> Answer
+fn rare(expression: &Expression, view: &EvaluationView) -> Evaluation
     requires form { IsTrue (spec.is_rare expression.now) }
     requires reads { CanRead (memory_of view.now.permanents.now view.now.room.now) view.now.frame.now expression.now }
     ensures { answered result ≡ spec.value_at (memory_of view.now.permanents.now view.now.room.now) view.now.frame.now expression.now }
 {
-    Answer::of(rare_value(expression, view))
+    Evaluation::of(rare_value(expression, view))
 }
 
 #[cycle(evaluate)]
-fn rare_value(expression: &Expression, view: &View) -> Result<i16, ErrorName>
+fn rare_value(expression: &Expression, view: &EvaluationView) -> Result<i16, ErrorName>
     requires form { IsTrue (spec.is_rare expression.now) }
     requires reads { CanRead (memory_of view.now.permanents.now view.now.room.now) view.now.frame.now expression.now }
     ensures { result ≡ spec.value_at (memory_of view.now.permanents.now view.now.room.now) view.now.frame.now expression.now }
 {
     match expression {
-        Expression::Negate(operand) => negated(operand_value(operand, view)?),
+        Expression::Negate(operand) => negate(operand_value(operand, view)?),
         Expression::Absolute(operand) => absolute(operand_value(operand, view)?),
         Expression::Successor(operand, last) => successor(operand_value(operand, view)?, *last),
         Expression::Predecessor(operand, first) => predecessor(
@@ -264,10 +264,10 @@ fn rare_value(expression: &Expression, view: &View) -> Result<i16, ErrorName>
         ),
         Expression::Character(operand) => {
             let number = operand_value(operand, view)?;
-            ranged(number, 0, 127)
+            check_range(number, 0, 127)
         }
         Expression::IsEmpty(queue) => {
-            let waits = loaded(queue, view.permanents, view.room, view.frame)?;
+            let waits = load_value(queue, view.permanents, view.room, view.frame)?;
             Ok(truth(!is_true(waits)))
         }
         Expression::Number(_)
@@ -284,16 +284,16 @@ fn rare_value(expression: &Expression, view: &View) -> Result<i16, ErrorName>
 // Whether two sets are the same, or an element belongs to a set: apart, since sets go through memory.
 #[cycle(evaluate)]
 #[inline(never)]
-fn set_test(expression: &Expression, view: &View) -> Answer
+fn set_test(expression: &Expression, view: &EvaluationView) -> Evaluation
     requires test { IsTrue (spec.is_set_test expression.now) }
     requires reads { CanRead (memory_of view.now.permanents.now view.now.room.now) view.now.frame.now expression.now }
     ensures { answered result ≡ spec.value_at (memory_of view.now.permanents.now view.now.room.now) view.now.frame.now expression.now }
 {
-    Answer::of(tested(expression, view))
+    Evaluation::of(test_sets(expression, view))
 }
 
 #[cycle(evaluate)]
-fn tested(expression: &Expression, view: &View) -> Result<i16, ErrorName>
+fn test_sets(expression: &Expression, view: &EvaluationView) -> Result<i16, ErrorName>
     requires test { IsTrue (spec.is_set_test expression.now) }
     requires reads { CanRead (memory_of view.now.permanents.now view.now.room.now) view.now.frame.now expression.now }
     ensures { result ≡ spec.value_at (memory_of view.now.permanents.now view.now.room.now) view.now.frame.now expression.now }
@@ -302,7 +302,7 @@ fn tested(expression: &Expression, view: &View) -> Result<i16, ErrorName>
         Expression::SameSet(wanted, left, right) => {
             let left = evaluate_set(left, view.permanents, view.room, view.frame)?;
             let right = evaluate_set(right, view.permanents, view.room, view.frame)?;
-            Ok(set::compared(*wanted, left, right))
+            Ok(set::compare_sets(*wanted, left, right))
         }
         Expression::Member(element, whole) => {
             let element = operand_value(element, view)?;
@@ -328,7 +328,12 @@ fn tested(expression: &Expression, view: &View) -> Result<i16, ErrorName>
 #[cycle(evaluate)]
 #[tactic(auto, using(crate::proofs::Reaches::begins, crate::proofs::Reaches::moves, crate::proofs::Reaches::reached))]
 #[inline(always)]
-fn loaded(place: &Place, permanents: &[i16], room: &Room, frame: &Frame) -> Result<i16, ErrorName>
+fn load_value(
+    place: &Place,
+    permanents: &[i16],
+    room: &Room,
+    frame: &Frame,
+) -> Result<i16, ErrorName>
     requires { CanReach (memory_of permanents.now room.now) frame.now place.now 1 }
     ensures { result ≡ spec.loaded (memory_of permanents.now room.now) (spec.address_at (memory_of permanents.now room.now) frame.now place.now) }
 {
@@ -345,14 +350,14 @@ fn loaded(place: &Place, permanents: &[i16], room: &Room, frame: &Frame) -> Resu
 #[cycle(evaluate)]
 #[tactic(auto, using(crate::proofs::Reaches::begins, crate::proofs::Reaches::moves))]
 #[inline(never)]
-fn element(place: &Place, permanents: &[i16], room: &Room, frame: &Frame) -> Answer
+fn element(place: &Place, permanents: &[i16], room: &Room, frame: &Frame) -> Evaluation
     requires { CanReach (memory_of permanents.now room.now) frame.now place.now 1 }
     ensures { answered result ≡ spec.loaded (memory_of permanents.now room.now) (spec.address_at (memory_of permanents.now room.now) frame.now place.now) }
 {
     let start = origin_address(place.origin, room, frame).moved(place.offset);
     match through(start, place.indices.as_slice(), permanents, room, frame) {
-        Ok(at) => Answer::Value(cell(permanents, room, at)),
-        Err(name) => Answer::failed(name),
+        Ok(at) => Evaluation::Value(cell(permanents, room, at)),
+        Err(name) => Evaluation::failed(name),
     }
 }
 
@@ -370,7 +375,7 @@ pub fn evaluate_set(
     match expression {
         SetExpression::Load(place) => {
             let at = address(place, permanents, room, frame)?;
-            Ok(set::stored(permanents, room, at))
+            Ok(set::load_set(permanents, room, at))
         }
         SetExpression::Empty => Ok(set::empty()),
         SetExpression::With(whole, element) => {
@@ -381,7 +386,7 @@ pub fn evaluate_set(
         SetExpression::Combine(operation, left, right) => {
             let left = evaluate_set(left, permanents, room, frame)?;
             let right = evaluate_set(right, permanents, room, frame)?;
-            Ok(set::combined(*operation, left, right))
+            Ok(set::combine_sets(*operation, left, right))
         }
     }
 }

@@ -46,7 +46,7 @@ pub fn with(set: SetValue, ordinal: i16) -> Result<SetValue, ErrorName>
 }
 
 /// The union, the difference or the intersection of two sets.
-pub fn combined(operation: SetOperation, left: SetValue, right: SetValue) -> SetValue
+pub fn combine_sets(operation: SetOperation, left: SetValue, right: SetValue) -> SetValue
     ensures { result ≡ spec.combined operation left right }
 {
     let members = match operation {
@@ -58,7 +58,7 @@ pub fn combined(operation: SetOperation, left: SetValue, right: SetValue) -> Set
 }
 
 /// The truth value of: the two sets are equal, or, where that is not wanted, they differ.
-pub fn compared(wanted: bool, left: SetValue, right: SetValue) -> i16
+pub fn compare_sets(wanted: bool, left: SetValue, right: SetValue) -> i16
     ensures { result ≡ spec.compared wanted left right }
 {
     if wanted {
@@ -85,7 +85,7 @@ fn are_within(members: u128, low: u8, high: u8, count: u8) -> bool
 }
 
 /// A set whose members are to lie within bounds.
-pub fn ranged(set: SetValue, low: u8, high: u8) -> Result<SetValue, ErrorName>
+pub fn check_members(set: SetValue, low: u8, high: u8) -> Result<SetValue, ErrorName>
     ensures { result ≡ spec.ranged low high set }
 {
     if are_within(set.members, low, high, 128) {
@@ -124,7 +124,7 @@ fn quad(permanents: &[i16], room: &Room, at: Address) -> u64
 }
 
 /// The set that the eight cells from an address on hold.
-pub fn stored(permanents: &[i16], room: &Room, at: Address) -> SetValue
+pub fn load_set(permanents: &[i16], room: &Room, at: Address) -> SetValue
     requires { HasCells (memory_of permanents.now room.now) at SET_CELLS }
     ensures { result ≡ spec.stored_at (memory_of permanents.now room.now) at }
 {

@@ -73,7 +73,7 @@ pub struct Returned {
 
 /// A kernel call, a process end or an admission.
 #[derive(Drop)]
-pub struct Event {
+pub struct StoryEvent {
     /// As the trace has it.
     pub plain: TraceLine,
     /// The choice that came before it.
@@ -93,7 +93,7 @@ pub struct Event {
     pub changes: Vec<Change>,
 }
 
-impl Event {
+impl StoryEvent {
     /// Whether it continues a queue in which nobody waits.
     pub fn wakes_nobody(&self) -> bool {
         matches!(self.happening, Happening::Continue(..)) && self.woken.is_empty()

@@ -1,7 +1,7 @@
 //! What the call was that a process is in, and what it is given.
 
 use cp_legend::{Legend, Parameter, Passing, Value};
-use cp_machine::{Entry, Process, State};
+use cp_machine::{Entry, ProcessState, State};
 use cp_store::{Address, Frame};
 use std::alloc::{AllocError, Global};
 
@@ -28,7 +28,7 @@ pub fn arguments(
 fn argument(
     alloc: Global,
     legend: &Legend,
-    process: &Process,
+    process: &ProcessState,
     parameter: Parameter,
 ) -> Result<Value, AllocError> {
     match parameter.passing {
@@ -53,7 +53,7 @@ fn argument(
 pub fn local_name(
     alloc: Global,
     legend: &Legend,
-    process: &Process,
+    process: &ProcessState,
     cell: usize,
     cells: usize,
 ) -> Result<String, AllocError> {

@@ -15,7 +15,7 @@ mod texts;
 mod words;
 
 pub use aim::{Aim, NONE, aim_of};
-pub use event::{Change, Choice, Event, Happening, OpenCall, Queue, Returned};
+pub use event::{Change, Choice, Happening, OpenCall, Queue, Returned, StoryEvent};
 pub use happening::arguments;
 pub use objects::json;
 pub use observer::Observer;

@@ -1,6 +1,6 @@
 //! A story as JSON.
 
-use crate::event::{Change, Choice, Event, Happening, OpenCall, Returned};
+use crate::event::{Change, Choice, Happening, OpenCall, Returned, StoryEvent};
 use crate::story::{Story, Wait};
 use crate::words::{error_words, kind_words, output_words, push_shown};
 use cp_legend::{Legend, Member, Value as Written};
@@ -139,7 +139,7 @@ pub fn monitors(alloc: Global, legend: &Legend) -> Result<Value, AllocError> {
     Ok(Value::Array(items))
 }
 
-fn events(alloc: Global, legend: &Legend, events: &[Event]) -> Result<Value, AllocError> {
+fn events(alloc: Global, legend: &Legend, events: &[StoryEvent]) -> Result<Value, AllocError> {
     let mut items = Vec::new(alloc);
     for event in events {
         items.push(event_object(alloc, legend, event)?)?;
@@ -147,7 +147,7 @@ fn events(alloc: Global, legend: &Legend, events: &[Event]) -> Result<Value, All
     Ok(Value::Array(items))
 }
 
-fn event_object(alloc: Global, legend: &Legend, event: &Event) -> Result<Value, AllocError> {
+fn event_object(alloc: Global, legend: &Legend, event: &StoryEvent) -> Result<Value, AllocError> {
     let mut object = Object::new(alloc);
     put_cause(alloc, &mut object, event)?;
     put_happening(alloc, legend, &mut object, &event.happening)?;
@@ -159,7 +159,7 @@ fn event_object(alloc: Global, legend: &Legend, event: &Event) -> Result<Value, 
 }
 
 // Whose event it is, on which line, and after which choice.
-fn put_cause(alloc: Global, object: &mut Object, event: &Event) -> Result<(), AllocError> {
+fn put_cause(alloc: Global, object: &mut Object, event: &StoryEvent) -> Result<(), AllocError> {
     object.number("process", u64::from(event.plain.process))?;
     if let Some(line) = event.line {
         object.number("line", u64::from(line))?;
@@ -175,7 +175,7 @@ fn put_effects(
     alloc: Global,
     legend: &Legend,
     object: &mut Object,
-    event: &Event,
+    event: &StoryEvent,
 ) -> Result<(), AllocError> {
     object.put("woken", numbers(alloc, event.woken.as_slice())?)?;
     object.put("let_in", numbers(alloc, event.let_in.as_slice())?)?;

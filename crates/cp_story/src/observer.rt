@@ -4,7 +4,7 @@ ghost use Rattle.std.specs.Prelude.{◌≡◌, IfOk};
 
 use crate::aim::Aim;
 use crate::changes::changes;
-use crate::event::{Choice, Event, Happening, OpenCall, Queue, Returned};
+use crate::event::{Choice, Happening, OpenCall, Queue, Returned, StoryEvent};
 use crate::happening::arguments;
 use crate::returned::values_returned;
 use arrayvec::ArrayVec;
@@ -110,7 +110,7 @@ impl<'a> Observer<'a> {
         state: &State,
         plain: TraceLine,
         aim: Aim,
-    ) -> Result<Event, AllocError>
+    ) -> Result<StoryEvent, AllocError>
         ensures { IfOk result (λ e. e.plain ≡ plain) }
     {
         let process = plain.process;
@@ -122,7 +122,7 @@ impl<'a> Observer<'a> {
         let choice = self.choice.take();
         let returned = mem::replace(&mut self.returned, Vec::new(alloc));
         self.remember(alloc, state)?;
-        Ok(Event {
+        Ok(StoryEvent {
             plain,
             choice,
             line,

@@ -3,7 +3,7 @@
 use crate::event::Returned;
 use crate::happening::local_name;
 use cp_legend::{Legend, Parameter, Passing, Routine, Value};
-use cp_machine::{Process, State};
+use cp_machine::{ProcessState, State};
 use cp_store::Address;
 use std::alloc::{AllocError, Global};
 
@@ -36,7 +36,7 @@ pub fn values_returned(
 fn result_of(
     alloc: Global,
     legend: &Legend,
-    process: &Process,
+    process: &ProcessState,
     routine: &Routine,
 ) -> Result<Option<Returned>, AllocError> {
     let Some(place) = routine.result else {
@@ -57,7 +57,7 @@ fn place_of(
     alloc: Global,
     legend: &Legend,
     state: &State,
-    process: &Process,
+    process: &ProcessState,
     parameter: Parameter,
 ) -> Result<Returned, AllocError> {
     let place = process.frame.references.saturating_add(parameter.slot);

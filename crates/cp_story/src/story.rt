@@ -9,7 +9,7 @@ ghost use Rattle.cp_run.specs.Trace.{holders_in, step_lines, stretch_lines, open
 ghost use Rattle.cp_story.specs.Told.{lines_of};
 
 use crate::aim::{Aim, NONE, aim_of};
-use crate::event::{Choice, Event, OpenCall};
+use crate::event::{Choice, OpenCall, StoryEvent};
 use crate::observer::{Observer, statuses_of};
 use crate::stopping::{AbruptEnd, abrupt_end};
 use cp_legend::Legend;
@@ -17,7 +17,8 @@ use cp_machine::{Event as Step, State, Status, Ticks, step};
 use cp_run::runs::end_of_word;
 use cp_run::turn::{settled_turn, turn_at, turn_of};
 use cp_run::{
-    Halt, Holders, Limits, OutcomeKind, RunEnd, TraceEvent, TraceLine, Turn, is_over, may, wanted,
+    Halt, Holders, Limits, OutcomeKind, RunEnd, TraceEvent, TraceLine, Turn, candidates, is_over,
+    may,
 };
 use cp_slots::Resolved;
 use std::alloc::{AllocError, Global};
@@ -40,7 +41,7 @@ pub struct Wait {
 /// The events of one schedule, and how it stops.
 #[derive(Drop)]
 pub struct Story {
-    pub events: Vec<Event>,
+    pub events: Vec<StoryEvent>,
     /// The last choice, where no event came after it.
     pub last_choice: Option<Choice>,
     pub waits: Vec<Wait>,
@@ -77,7 +78,7 @@ fn push_event(
     event: TraceEvent,
     aim: Aim,
     observer: &mut Observer<'_>,
-    events: &mut Vec<Event>,
+    events: &mut Vec<StoryEvent>,
 ) -> Result<(), AllocError>
     requires { IsStateOf program.now state.now }
     ensures { IfOk result (λ _. lines_of events.new.items ≡ lines_of events.old.items ++ record { process = process; event = event; holders = holders_in (slots program.now limits.gates) (machine_of state.now) } ∷ []) }
@@ -103,7 +104,7 @@ fn push_step(
     event: Step,
     aim: Aim,
     observer: &mut Observer<'_>,
-    events: &mut Vec<Event>,
+    events: &mut Vec<StoryEvent>,
 ) -> Result<(), AllocError>
     requires { IsStateOf program.now state.now }
     ensures { IfOk result (λ _. lines_of events.new.items ≡ lines_of events.old.items ++ step_lines (slots program.now limits.gates) (machine_of state.now) process event) }
@@ -127,7 +128,7 @@ fn tell_stretch<S: Ledger>(
     pid: u8,
     steps: &mut Ticks<S>,
     observer: &mut Observer<'_>,
-    events: &mut Vec<Event>,
+    events: &mut Vec<StoryEvent>,
 ) -> Result<Halt, AllocError>
     requires own { IsStateOf program.now state.old }
     requires ready { is_ready (machine_of state.old) pid ≡ true }
@@ -163,7 +164,7 @@ fn tell_choice<S: Ledger>(
     process: u8,
     steps: &mut Ticks<S>,
     observer: &mut Observer<'_>,
-    events: &mut Vec<Event>,
+    events: &mut Vec<StoryEvent>,
 ) -> Result<Halt, AllocError>
     requires own { IsStateOf program.now state.old }
     requires may { may (slots program.now limits.gates) (machine_of state.old) process ≡ true }
@@ -206,7 +207,7 @@ fn tell_opening<S: Ledger>(
     state: &mut State,
     steps: &mut Ticks<S>,
     observer: &mut Observer<'_>,
-    events: &mut Vec<Event>,
+    events: &mut Vec<StoryEvent>,
 ) -> Result<Halt, AllocError>
     requires own { IsStateOf program.now state.old }
     requires start { machine_of state.old ≡ opening program.now limits.gates }
@@ -231,7 +232,7 @@ fn choice_of(program: &Resolved, limits: Limits, state: &State, number: u8) -> C
     requires { IsStateOf program.now state.now }
 {
     Choice {
-        options: wanted(program, limits, state),
+        options: candidates(program, limits, state),
         number,
         at_gate: state.pending().is_some(),
     }
@@ -288,7 +289,7 @@ fn tell_word<L: Ledger>(
     ticks: &mut Ticks<L>,
     state: &mut State,
     observer: &mut Observer<'_>,
-    events: &mut Vec<Event>,
+    events: &mut Vec<StoryEvent>,
 ) -> Result<RunEnd, AllocError>
     requires word { length word.now ≤ 100 }
     requires own { IsStateOf program.now state.old }
@@ -355,7 +356,7 @@ fn finish_story(
     legend: &Legend,
     state: &State,
     observer: Observer<'_>,
-    events: Vec<Event>,
+    events: Vec<StoryEvent>,
     end: RunEnd,
 ) -> Result<Story, AllocError>
     requires { IsStateOf program.now state.now }

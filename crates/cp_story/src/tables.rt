@@ -4,18 +4,18 @@ use std::alloc::{AllocError, Global};
 
 /// A line of a table.
 #[derive(Drop)]
-pub struct Row {
+pub struct TableRow {
     cells: Vec<String>,
 }
 
-impl Row {
-    pub fn new(cells: Vec<String>) -> Row {
-        Row { cells }
+impl TableRow {
+    pub fn new(cells: Vec<String>) -> TableRow {
+        TableRow { cells }
     }
 }
 
 /// Appends the rows, each column as wide as its widest cell, two spaces apart. No line ends with a space.
-pub fn push_rows(alloc: Global, text: &mut String, rows: &[Row]) -> Result<(), AllocError> {
+pub fn push_rows(alloc: Global, text: &mut String, rows: &[TableRow]) -> Result<(), AllocError> {
     let widths = widths(alloc, rows)?;
     for row in rows {
         let mut pending = 0usize;
@@ -41,7 +41,7 @@ fn push_spaces(text: &mut String, count: usize) -> Result<(), AllocError> {
     Ok(())
 }
 
-fn widths(alloc: Global, rows: &[Row]) -> Result<Vec<usize>, AllocError> {
+fn widths(alloc: Global, rows: &[TableRow]) -> Result<Vec<usize>, AllocError> {
     let mut widths: Vec<usize> = Vec::new(alloc);
     for row in rows {
         for (column, cell) in row.cells.iter().enumerate() {

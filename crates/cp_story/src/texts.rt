@@ -1,9 +1,9 @@
 //! A story as lines of text.
 
-use crate::event::{Change, Choice, Event};
+use crate::event::{Change, Choice, StoryEvent};
 use crate::stopping::AbruptEnd;
 use crate::story::Story;
-use crate::tables::{Row, push_rows};
+use crate::tables::{TableRow, push_rows};
 use crate::words::{happening_words, push_process, refused_words, wait_words};
 use cp_legend::Legend;
 use cp_run::RunEnd;
@@ -44,14 +44,14 @@ fn push_refused(alloc: Global, text: &mut String, story: &Story) -> Result<(), A
     Ok(())
 }
 
-fn event_row(alloc: Global, legend: &Legend, event: &Event) -> Result<Row, AllocError> {
+fn event_row(alloc: Global, legend: &Legend, event: &StoryEvent) -> Result<TableRow, AllocError> {
     let mut cells = Vec::new(alloc);
     cells.push(choice_text(alloc, &event.choice)?)?;
     cells.push(process_text(alloc, legend, Some(event.plain.process))?)?;
     cells.push(line_text(alloc, event.line)?)?;
     cells.push(happening_words(alloc, legend, event)?)?;
     cells.push(changes_text(alloc, legend, &event.changes)?)?;
-    Ok(Row::new(cells))
+    Ok(TableRow::new(cells))
 }
 
 fn stop_row(
@@ -59,13 +59,13 @@ fn stop_row(
     legend: &Legend,
     story: &Story,
     stop: &AbruptEnd,
-) -> Result<Row, AllocError> {
+) -> Result<TableRow, AllocError> {
     let mut cells = Vec::new(alloc);
     cells.push(choice_text(alloc, &story.last_choice)?)?;
     cells.push(process_text(alloc, legend, Some(stop.process))?)?;
     cells.push(line_text(alloc, stop.line)?)?;
     cells.push(stop.words.clone()?)?;
-    Ok(Row::new(cells))
+    Ok(TableRow::new(cells))
 }
 
 /// A choice as `0 of 01`: the number taken, and the numbers that could be.

@@ -1,6 +1,6 @@
 //! What happened, in words.
 
-use crate::event::{Choice, Event, Happening, OpenCall, Queue, Returned};
+use crate::event::{Choice, Happening, OpenCall, Queue, Returned, StoryEvent};
 use crate::story::{Story, Wait};
 use cp_legend::{Legend, Value};
 use cp_machine::{ErrorName, Shown, Status};
@@ -101,7 +101,7 @@ pub fn push_shown(legend: &Legend, text: &mut String, value: Shown) -> Result<()
 pub fn happening_words(
     alloc: Global,
     legend: &Legend,
-    event: &Event,
+    event: &StoryEvent,
 ) -> Result<String, AllocError> {
     let mut text = String::new(alloc);
     push_happening(legend, &mut text, &event.happening)?;

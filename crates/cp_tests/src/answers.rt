@@ -2,43 +2,43 @@
 
 /// How an answer compares with that of ample memory.
 #[derive(Clone, Copy)]
-pub enum Answer {
+pub enum CallAnswer {
     Ample,
     Memory,
     Other,
 }
 
 /// The answer of a call that was not refused memory.
-pub fn unrefused(is_wanted: bool) -> Answer {
+pub fn unrefused(is_wanted: bool) -> CallAnswer {
     if is_wanted {
-        Answer::Ample
+        CallAnswer::Ample
     } else {
-        Answer::Other
+        CallAnswer::Other
     }
 }
 
 /// The answer of a call that was refused memory.
-pub fn refused(stands: bool) -> Answer {
+pub fn refused(stands: bool) -> CallAnswer {
     if stands {
-        Answer::Memory
+        CallAnswer::Memory
     } else {
-        Answer::Other
+        CallAnswer::Other
     }
 }
 
 /// Whether one answer at most is Memory, and each other one that of ample memory.
-pub fn are_right(answers: &[Answer]) -> bool {
+pub fn are_right(answers: &[CallAnswer]) -> bool {
     let mut is_refused = false;
     for answer in answers {
         match *answer {
-            Answer::Ample => {}
-            Answer::Memory => {
+            CallAnswer::Ample => {}
+            CallAnswer::Memory => {
                 if is_refused {
                     return false;
                 }
                 is_refused = true;
             }
-            Answer::Other => return false,
+            CallAnswer::Other => return false,
         }
     }
     true

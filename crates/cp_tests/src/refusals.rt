@@ -3,7 +3,7 @@
 
 ghost use Rattle.std.specs.Prelude.{◌≡◌, ◌≤◌};
 
-use crate::answers::{Answer, are_right, refused, unrefused};
+use crate::answers::{CallAnswer, are_right, refused, unrefused};
 use crate::cuttings::{MEMBERS, are_members, are_same, cut_pieces};
 use crate::programs::{BUFFER, TWO_DISPLAYS, fault_of, has_ended, limits_of};
 use crate::steps::{LAST_STEPS, stepped};
@@ -64,25 +64,25 @@ fn program_at_last(alloc: Global, source: &str) -> Result<Resolved, Fail> {
 }
 
 /// A table as a report of `TWO_DISPLAYS`.
-fn reported(alloc: Global, program: &Resolved, table: &Table) -> Answer {
+fn reported(alloc: Global, program: &Resolved, table: &Table) -> CallAnswer {
     match report(alloc, program, table, false) {
         Ok(told) => unrefused(told.text.as_str() == REPORT),
-        Err(_) => Answer::Memory,
+        Err(_) => CallAnswer::Memory,
     }
 }
 
 /// The table by one walk.
-fn explored<L: Ledger>(alloc: Global, job: Job, calls: &mut Ticks<L>) -> Answer
+fn explored<L: Ledger>(alloc: Global, job: Job, calls: &mut Ticks<L>) -> CallAnswer
     requires { job.limits.choices ≤ 20 }
 {
     match explore_one(alloc, job, calls) {
         Ok(table) => reported(alloc, job.program, &table),
-        Err(ExploreFault::Memory) => Answer::Memory,
-        Err(ExploreFault::TooManyRows) => Answer::Other,
+        Err(ExploreFault::Memory) => CallAnswer::Memory,
+        Err(ExploreFault::TooManyRows) => CallAnswer::Other,
     }
 }
 
-fn explored_twice<L: Ledger>(alloc: Global, job: Job, blank: Blank) -> [Answer; 2]
+fn explored_twice<L: Ledger>(alloc: Global, job: Job, blank: Blank) -> [CallAnswer; 2]
     requires name { blank.name ≡ L.name }
     requires parts { blank.parts ≡ L.parts }
     requires one { L.parts ≡ 1 }
@@ -110,18 +110,18 @@ fn refused_growth_of_a_walk(rt: HostRuntime) -> Result<(), Fail> {
 }
 
 /// The pieces of a table, put together.
-fn gathered(alloc: Global, table: &Table) -> Answer {
+fn gathered(alloc: Global, table: &Table) -> CallAnswer {
     let Ok(pieces) = cut_pieces(alloc, table, &[3, 0, 4, 2, 1]) else {
-        return Answer::Memory;
+        return CallAnswer::Memory;
     };
     match gather(alloc, 5, pieces) {
         Ok(all) => unrefused(are_same(all.rows.as_slice(), table.rows.as_slice())),
-        Err(GatherFault::Memory) => Answer::Memory,
-        Err(_) => Answer::Other,
+        Err(GatherFault::Memory) => CallAnswer::Memory,
+        Err(_) => CallAnswer::Other,
     }
 }
 
-fn explored_and_gathered<L: Ledger>(alloc: Global, job: Job, blank: Blank) -> [Answer; 2]
+fn explored_and_gathered<L: Ledger>(alloc: Global, job: Job, blank: Blank) -> [CallAnswer; 2]
     requires name { blank.name ≡ L.name }
     requires parts { blank.parts ≡ L.parts }
     requires one { L.parts ≡ 1 }
@@ -133,7 +133,7 @@ fn explored_and_gathered<L: Ledger>(alloc: Global, job: Job, blank: Blank) -> [A
             return [gathered(alloc, &table), gathered(alloc, &table)];
         }
     }
-    [Answer::Other, Answer::Other]
+    [CallAnswer::Other, CallAnswer::Other]
 }
 
 #[test]
@@ -163,13 +163,13 @@ fn run_to_its_end<L: Ledger>(
     limits: Limits,
     word: &[u8],
     ticks: &mut Ticks<L>,
-) -> Answer {
+) -> CallAnswer {
     if word.len() > 20 {
-        return Answer::Other;
+        return CallAnswer::Other;
     }
     match run(alloc, program, limits, word, ticks) {
         Ok(end) => unrefused(is_end(&end)),
-        Err(_) => Answer::Memory,
+        Err(_) => CallAnswer::Memory,
     }
 }
 
@@ -180,13 +180,13 @@ fn traced<L: Ledger>(
     limits: Limits,
     word: &[u8],
     ticks: &mut Ticks<L>,
-) -> Answer {
+) -> CallAnswer {
     if word.len() > 20 {
-        return Answer::Other;
+        return CallAnswer::Other;
     }
     match trace(alloc, program, limits, word, ticks) {
         Ok((lines, end)) => unrefused(is_first_trace(&lines) && is_end(&end)),
-        Err(_) => Answer::Memory,
+        Err(_) => CallAnswer::Memory,
     }
 }
 
@@ -195,7 +195,7 @@ fn run_and_traced<L: Ledger>(
     program: &Resolved,
     limits: Limits,
     blank: Blank,
-) -> [Answer; 4]
+) -> [CallAnswer; 4]
     requires name { blank.name ≡ L.name }
     requires parts { blank.parts ≡ L.parts }
     requires one { L.parts ≡ 1 }
@@ -230,14 +230,19 @@ fn whole_at_last<'a>(alloc: Global, job: Job<'a>) -> Result<Cutting<'a>, Fail>
 }
 
 /// The first member is split. Where memory is refused, the members are as before.
-fn split_first(alloc: Global, cutting: &mut Cutting, before: &[&[u8]], after: &[&[u8]]) -> Answer {
+fn split_first(
+    alloc: Global,
+    cutting: &mut Cutting,
+    before: &[&[u8]],
+    after: &[&[u8]],
+) -> CallAnswer {
     if cutting.members().is_empty() {
-        return Answer::Other;
+        return CallAnswer::Other;
     }
     match cutting.split(alloc, 0) {
         Ok(()) => unrefused(are_members(cutting, after)),
         Err(SplitFault::Memory) => refused(are_members(cutting, before)),
-        Err(_) => Answer::Other,
+        Err(_) => CallAnswer::Other,
     }
 }
 
@@ -247,17 +252,17 @@ fn split_at_last(
     cutting: &mut Cutting,
     before: &[&[u8]],
     after: &[&[u8]],
-) -> Answer {
+) -> CallAnswer {
     match split_first(alloc, cutting, before, after) {
-        Answer::Memory => match split_first(alloc, cutting, before, after) {
-            Answer::Ample => Answer::Memory,
-            _ => Answer::Other,
+        CallAnswer::Memory => match split_first(alloc, cutting, before, after) {
+            CallAnswer::Ample => CallAnswer::Memory,
+            _ => CallAnswer::Other,
         },
         other => other,
     }
 }
 
-fn split_twice(alloc: Global, job: Job) -> Result<[Answer; 2], Fail>
+fn split_twice(alloc: Global, job: Job) -> Result<[CallAnswer; 2], Fail>
     requires { job.limits.choices ≤ 20 }
 {
     let mut cutting = whole_at_last(alloc, job)?;
@@ -284,19 +289,19 @@ fn refused_growth_of_a_split(rt: HostRuntime) -> Result<(), Fail> {
 }
 
 /// A cutting's members are split to a depth.
-fn deepened(alloc: Global, cutting: &mut Cutting) -> Answer {
+fn deepened(alloc: Global, cutting: &mut Cutting) -> CallAnswer {
     match cutting.to_depth(alloc, 2) {
         Ok(()) => unrefused(are_members(cutting, &MEMBERS)),
-        Err(_) => Answer::Memory,
+        Err(_) => CallAnswer::Memory,
     }
 }
 
 /// The table of a cutting, by two workers.
-fn explored_by_two<X: Threads + Sync>(rt: &X, alloc: Global, cutting: &Cutting) -> Answer {
+fn explored_by_two<X: Threads + Sync>(rt: &X, alloc: Global, cutting: &Cutting) -> CallAnswer {
     match explore(rt, alloc, cutting, 2, &NoGate) {
         Ok(table) => reported(alloc, cutting.job.program, &table),
-        Err(ExploreFault::Memory) => Answer::Memory,
-        Err(ExploreFault::TooManyRows) => Answer::Other,
+        Err(ExploreFault::Memory) => CallAnswer::Memory,
+        Err(ExploreFault::TooManyRows) => CallAnswer::Other,
     }
 }
 
@@ -304,7 +309,7 @@ fn deepened_and_explored<X: Threads + Sync>(
     rt: &X,
     alloc: Global,
     job: Job,
-) -> Result<[Answer; 4], Fail>
+) -> Result<[CallAnswer; 4], Fail>
     requires { job.limits.choices ≤ 20 }
 {
     let mut cutting = whole_at_last(alloc, job)?;
@@ -332,7 +337,7 @@ fn refused_growth_of_a_cutting(rt: HostRuntime) -> Result<(), Fail> {
 }
 
 /// A tree is checked. Where memory is refused, it comes back, and is checked again.
-fn checked(alloc: Global, tree: Tree, wanted: Option<CheckFault>) -> Answer {
+fn checked(alloc: Global, tree: Tree, wanted: Option<CheckFault>) -> CallAnswer {
     match check(alloc, tree) {
         Err((CheckFault::Memory, back)) => refused(fault_of(check(alloc, back)) == wanted),
         other => unrefused(fault_of(other) == wanted),
@@ -358,17 +363,17 @@ fn refused_growth_of_a_check(rt: HostRuntime) -> Result<(), Fail> {
 }
 
 /// A process goes its steps, though the copy of its state before one of them is refused.
-fn stepped_beside_copies(alloc: Global, program: &Resolved, limits: Limits) -> Answer {
+fn stepped_beside_copies(alloc: Global, program: &Resolved, limits: Limits) -> CallAnswer {
     match stepped::<Brand>(alloc, program, limits, Blank::new(1)) {
         Ok(alone) => {
             let is_told = LAST_STEPS.tells_of(&alone);
             match alone.refused_copies() {
                 0 => unrefused(is_told),
                 1 => refused(is_told),
-                _ => Answer::Other,
+                _ => CallAnswer::Other,
             }
         }
-        Err(_) => Answer::Memory,
+        Err(_) => CallAnswer::Memory,
     }
 }
 

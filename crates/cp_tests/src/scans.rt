@@ -9,7 +9,7 @@ fn tokens(alloc: Global, source: &[u8]) -> Result<Tokens, Fail> {
 }
 
 /// A token that is wanted.
-enum Wanted {
+enum WantedToken {
     Number(u16),
     Character(u8),
     Name(&'static str),
@@ -19,7 +19,7 @@ enum Wanted {
 /// A source, and the tokens that it is read as, each with its line.
 struct Sample {
     source: &'static [u8],
-    wanted: &'static [(Wanted, u32)],
+    wanted: &'static [(WantedToken, u32)],
     last_line: u32,
 }
 
@@ -27,71 +27,77 @@ static SAMPLES: [Sample; 11] = [
     Sample {
         source: b"x<=Y_1",
         wanted: &[
-            (Wanted::Name("x"), 1),
-            (Wanted::Mark(Mark::AtMost), 1),
-            (Wanted::Name("y_1"), 1),
+            (WantedToken::Name("x"), 1),
+            (WantedToken::Mark(Mark::AtMost), 1),
+            (WantedToken::Name("y_1"), 1),
         ],
         last_line: 1,
     },
     Sample {
         source: b"1..2",
         wanted: &[
-            (Wanted::Number(1), 1),
-            (Wanted::Mark(Mark::DoublePeriod), 1),
-            (Wanted::Number(2), 1),
+            (WantedToken::Number(1), 1),
+            (WantedToken::Mark(Mark::DoublePeriod), 1),
+            (WantedToken::Number(2), 1),
         ],
         last_line: 1,
     },
     Sample {
         source: b"2END",
-        wanted: &[(Wanted::Number(2), 1), (Wanted::Mark(Mark::End), 1)],
+        wanted: &[
+            (WantedToken::Number(2), 1),
+            (WantedToken::Mark(Mark::End), 1),
+        ],
         last_line: 1,
     },
     Sample {
         source: b"1.)",
         wanted: &[
-            (Wanted::Number(1), 1),
-            (Wanted::Mark(Mark::CloseBracket), 1),
+            (WantedToken::Number(1), 1),
+            (WantedToken::Mark(Mark::CloseBracket), 1),
         ],
         last_line: 1,
     },
     Sample {
         source: b"(.[",
         wanted: &[
-            (Wanted::Mark(Mark::OpenBracket), 1),
-            (Wanted::Mark(Mark::OpenBracket), 1),
+            (WantedToken::Mark(Mark::OpenBracket), 1),
+            (WantedToken::Mark(Mark::OpenBracket), 1),
         ],
         last_line: 1,
     },
     Sample {
         source: b"(..",
         wanted: &[
-            (Wanted::Mark(Mark::OpenBracket), 1),
-            (Wanted::Mark(Mark::Period), 1),
+            (WantedToken::Mark(Mark::OpenBracket), 1),
+            (WantedToken::Mark(Mark::Period), 1),
         ],
         last_line: 1,
     },
     Sample {
         source: b"..)",
         wanted: &[
-            (Wanted::Mark(Mark::DoublePeriod), 1),
-            (Wanted::Mark(Mark::CloseParenthesis), 1),
+            (WantedToken::Mark(Mark::DoublePeriod), 1),
+            (WantedToken::Mark(Mark::CloseParenthesis), 1),
         ],
         last_line: 1,
     },
     Sample {
         source: b"& and",
-        wanted: &[(Wanted::Mark(Mark::And), 1), (Wanted::Mark(Mark::And), 1)],
+        wanted: &[
+            (WantedToken::Mark(Mark::And), 1),
+            (WantedToken::Mark(Mark::And), 1),
+        ],
         last_line: 1,
     },
     Sample {
         source: b"'(:0065:)' \"\n\" ' '\n000000001 32767 '(:127:)'",
         wanted: &[
-            (Wanted::Character(65), 1),
-            (Wanted::Character(32), 2),
-            (Wanted::Number(1), 3),
-            (Wanted::Number(32767), 3),
-            (Wanted::Character(127), 3),
+            (WantedToken::Character(65), 1),
+            (WantedToken::Character(32), 2),
+            (WantedToken::Number(1), 3),
+            (WantedToken::Number(32767), 3),
+            (WantedToken::Character(127), 3),
         ],
         last_line: 3,
     },
@@ -102,17 +108,20 @@ static SAMPLES: [Sample; 11] = [
     },
     Sample {
         source: b"aaaaaaaaaaaaaaaaaaaaaaaaaaaaaaaaaaaaaaaa",
-        wanted: &[(Wanted::Name("aaaaaaaaaaaaaaaaaaaaaaaaaaaaaaaaaaaaaaaa"), 1)],
+        wanted: &[(
+            WantedToken::Name("aaaaaaaaaaaaaaaaaaaaaaaaaaaaaaaaaaaaaaaa"),
+            1,
+        )],
         last_line: 1,
     },
 ];
 
-fn is_wanted(kind: Option<&Kind>, wanted: &Wanted) -> bool {
+fn is_wanted(kind: Option<&Kind>, wanted: &WantedToken) -> bool {
     match (kind, wanted) {
-        (Some(Kind::Number(number)), Wanted::Number(other)) => *number == *other,
-        (Some(Kind::Character(code)), Wanted::Character(other)) => *code == *other,
-        (Some(Kind::Name(name)), Wanted::Name(other)) => name.as_str() == *other,
-        (Some(Kind::Mark(mark)), Wanted::Mark(other)) => *mark == *other,
+        (Some(Kind::Number(number)), WantedToken::Number(other)) => *number == *other,
+        (Some(Kind::Character(code)), WantedToken::Character(other)) => *code == *other,
+        (Some(Kind::Name(name)), WantedToken::Name(other)) => name.as_str() == *other,
+        (Some(Kind::Mark(mark)), WantedToken::Mark(other)) => *mark == *other,
         _ => false,
     }
 }

@@ -121,7 +121,7 @@ fn stepped_alone(alloc: Global, source: &str) -> Result<Alone, Fail> {
 pub struct StepRow {
     pub source: &'static str,
     steps: u32,
-    last: Last,
+    last: LastStep,
     output: &'static [Shown],
 }
 
@@ -134,16 +134,16 @@ impl StepRow {
 }
 
 /// The last event of process 0: this one, or its run error on this line.
-pub enum Last {
+pub enum LastStep {
     Event(Event),
     Error(ErrorName, u32),
 }
 
-impl Last {
+impl LastStep {
     fn event(&self) -> Event {
         match self {
-            Last::Event(event) => *event,
-            Last::Error(name, line) => Event::Fault(RunError {
+            LastStep::Event(event) => *event,
+            LastStep::Error(name, line) => Event::Fault(RunError {
                 name: *name,
                 process: 0,
                 line: *line,
@@ -156,37 +156,37 @@ static STEPS: [StepRow; 19] = [
     StepRow {
         source: "begin end.",
         steps: 2,
-        last: Last::Event(Event::Ended),
+        last: LastStep::Event(Event::Ended),
         output: &[],
     },
     StepRow {
         source: "var x: integer; begin x := 1; display(x) end.",
         steps: 3,
-        last: Last::Event(Event::Ended),
+        last: LastStep::Event(Event::Ended),
         output: &[Shown::Integer(1)],
     },
     StepRow {
         source: "var i, x: integer; begin for i := 1 to 2 do x := i end.",
         steps: 6,
-        last: Last::Event(Event::Ended),
+        last: LastStep::Event(Event::Ended),
         output: &[],
     },
     StepRow {
         source: "procedure f; begin end; begin f end.",
         steps: 4,
-        last: Last::Event(Event::Ended),
+        last: LastStep::Event(Event::Ended),
         output: &[],
     },
     StepRow {
         source: "var a, b: boolean; x: integer; begin a := true; if a then if b then x := 1 else x := 2; display(x) end.",
         steps: 6,
-        last: Last::Event(Event::Ended),
+        last: LastStep::Event(Event::Ended),
         output: &[Shown::Integer(2)],
     },
     StepRow {
         source: "type t = (red, green); var e: t; begin e := succ(red); display(chr(65)); display(e); display(true); display(-7 div 2); display(-7 mod 2); display('(:10:)') end.",
         steps: 8,
-        last: Last::Event(Event::Ended),
+        last: LastStep::Event(Event::Ended),
         output: &[
             Shown::Char(65),
             Shown::Constant(1),
@@ -199,79 +199,79 @@ static STEPS: [StepRow; 19] = [
     StepRow {
         source: "var n: integer; function f: integer; begin n := n + 1; f := n end; begin display(n + f) end.",
         steps: 6,
-        last: Last::Event(Event::Ended),
+        last: LastStep::Event(Event::Ended),
         output: &[Shown::Integer(2)],
     },
     StepRow {
         source: "var i: 1..3; begin for i := 1 to 3 do display(i) end.",
         steps: 8,
-        last: Last::Event(Event::Ended),
+        last: LastStep::Event(Event::Ended),
         output: &[Shown::Integer(1), Shown::Integer(2), Shown::Integer(3)],
     },
     StepRow {
         source: "begin display(1 div 0) end.",
         steps: 0,
-        last: Last::Error(ErrorName::ZeroDivisor, 1),
+        last: LastStep::Error(ErrorName::ZeroDivisor, 1),
         output: &[],
     },
     StepRow {
         source: "begin display(32767 + 1) end.",
         steps: 0,
-        last: Last::Error(ErrorName::Overflow, 1),
+        last: LastStep::Error(ErrorName::Overflow, 1),
         output: &[],
     },
     StepRow {
         source: "var i: integer; a: array [1..2] of integer; begin a[i] := 1 div 0 end.",
         steps: 0,
-        last: Last::Error(ErrorName::ZeroDivisor, 1),
+        last: LastStep::Error(ErrorName::ZeroDivisor, 1),
         output: &[],
     },
     StepRow {
         source: "type c = class; begin end; var k: c; begin init k, k end.",
         steps: 3,
-        last: Last::Error(ErrorName::InitTwice, 1),
+        last: LastStep::Error(ErrorName::InitTwice, 1),
         output: &[],
     },
     StepRow {
         source: "var a: set of 0..9;\nbegin\n;\na := [10]\nend.",
         steps: 1,
-        last: Last::Error(ErrorName::Range, 4),
+        last: LastStep::Error(ErrorName::Range, 4),
         output: &[],
     },
     StepRow {
         source: "var a: set of 0..9; begin a := [10, 1 div 0] end.",
         steps: 0,
-        last: Last::Error(ErrorName::ZeroDivisor, 1),
+        last: LastStep::Error(ErrorName::ZeroDivisor, 1),
         output: &[],
     },
     StepRow {
         source: "var x: integer;\nbegin x := 2;\ncase x of\n1: end end.",
         steps: 1,
-        last: Last::Error(ErrorName::NoCase, 3),
+        last: LastStep::Error(ErrorName::NoCase, 3),
         output: &[],
     },
     StepRow {
         source: "type m = monitor; procedure entry e; begin end; begin end;\nvar x: m;\nbegin x.e end.",
         steps: 0,
-        last: Last::Error(ErrorName::NotInit, 3),
+        last: LastStep::Error(ErrorName::NotInit, 3),
         output: &[],
     },
     StepRow {
         source: "var x: integer;\nbegin\nrepeat\nx := x + 1\nuntil\n1 div (x - 1) = 0 end.",
         steps: 2,
-        last: Last::Error(ErrorName::ZeroDivisor, 6),
+        last: LastStep::Error(ErrorName::ZeroDivisor, 6),
         output: &[],
     },
     StepRow {
         source: "var i: 1..3;\nbegin\nfor i := 2 to\n4 do\ndisplay(i) end.",
         steps: 4,
-        last: Last::Error(ErrorName::Range, 3),
+        last: LastStep::Error(ErrorName::Range, 3),
         output: &[Shown::Integer(2), Shown::Integer(3)],
     },
     StepRow {
         source: "begin cycle end end.",
         steps: 1000,
-        last: Last::Event(Event::Local),
+        last: LastStep::Event(Event::Local),
         output: &[],
     },
 ];
@@ -280,7 +280,7 @@ static STEPS: [StepRow; 19] = [
 pub static LAST_STEPS: StepRow = StepRow {
     source: "type c = class; procedure entry e; begin end; begin end; var k: c; x, i: integer; a, b: array [1..2] of integer; s: set of 0..9; procedure f; begin end; begin ; x := 1; b := a; s := [1]; begin x := 2 end; if x = 2 then x := 3 else x := 4; case x of 3: x := 5; 4: end; while x > 4 do x := x - 1; repeat x := x + 1 until x = 5; for i := 1 to 2 do x := i; f; init k; k.e; display(x) end.",
     steps: 32,
-    last: Last::Event(Event::Ended),
+    last: LastStep::Event(Event::Ended),
     output: &[Shown::Integer(2)],
 };
 

@@ -5,10 +5,10 @@ ghost use Rattle.cp_slots.specs.Inside.{expression_inside, has, place_room};
 ghost use Rattle.cp_slots.specs.Tables.{RoutineView};
 
 use cp_slots::{
-    Argument, ArgumentValue, Arithmetic, ComponentPlace, Expression, Index, Origin, Place,
+    Argument, ArgumentValue, Arithmetic, ComponentPlace, Expression, Index, Place, PlaceOrigin,
     SetOperation,
 };
-use cp_store::arithmetic::calculated;
+use cp_store::arithmetic::calculate;
 use cp_store::component::component_of;
 use cp_store::set::{self, SetValue};
 use cp_store::{
@@ -51,8 +51,8 @@ fn two_sets(rt: &HostRuntime) -> Result<(SetValue, SetValue), Fail> {
     let right = set_of(&[3, 4, 127]);
     write_set(&mut cells, &mut room, Address::Permanent(0), left);
     write_set(&mut cells, &mut room, Address::Permanent(8), right);
-    let left = set::stored(&cells, &room, Address::Permanent(0));
-    let right = set::stored(&cells, &room, Address::Permanent(8));
+    let left = set::load_set(&cells, &room, Address::Permanent(0));
+    let right = set::load_set(&cells, &room, Address::Permanent(8));
     Ok((left, right))
 }
 
@@ -69,7 +69,7 @@ fn set_operations(rt: HostRuntime) -> Result<(), Fail> {
         (SetOperation::Union, 200, false),
         (SetOperation::Union, -1, false),
     ] {
-        let whole = set::combined(operation, left, right);
+        let whole = set::combine_sets(operation, left, right);
         assert!(rt; set::is_member(whole, member) == expected, "{member}");
     }
     Ok(())
@@ -78,11 +78,11 @@ fn set_operations(rt: HostRuntime) -> Result<(), Fail> {
 #[test]
 fn set_comparisons(rt: HostRuntime) -> Result<(), Fail> {
     let (left, right) = two_sets(&rt)?;
-    let union = set::combined(SetOperation::Union, left, right);
+    let union = set::combine_sets(SetOperation::Union, left, right);
     let whole = set_of(&[1, 3, 4, 5, 127]);
     let (equal, unequal) = (
-        set::compared(true, union, whole),
-        set::compared(false, union, whole),
+        set::compare_sets(true, union, whole),
+        set::compare_sets(false, union, whole),
     );
     assert!(rt; equal == 1 && unequal == 0);
     Ok(())
@@ -102,7 +102,7 @@ fn integers(rt: HostRuntime) -> Result<(), Fail> {
         (Arithmetic::Add, 32767, 1, Err(ErrorName::Overflow)),
         (Arithmetic::Subtract, -32768, 1, Err(ErrorName::Overflow)),
     ] {
-        assert!(rt; calculated(operator, left, right) == expected);
+        assert!(rt; calculate(operator, left, right) == expected);
     }
     Ok(())
 }
@@ -119,7 +119,7 @@ fn row(rt: &HostRuntime, index: i16) -> Result<Place, Fail>
         size: 2,
     })?;
     Ok(Place {
-        origin: Origin::Permanent(0),
+        origin: PlaceOrigin::Permanent(0),
         offset: 1,
         indices,
     })
@@ -166,7 +166,7 @@ fn variable(rt: &HostRuntime) -> Place
     ensures { (r : RoutineView) → 1 ≤ r.own → IsTrue (has 1 (place_room r result)) }
 {
     Place {
-        origin: Origin::Permanent(0),
+        origin: PlaceOrigin::Permanent(0),
         offset: 0,
         indices: Vec::new(rt.alloc()),
     }

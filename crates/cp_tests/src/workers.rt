@@ -121,13 +121,13 @@ fn five_workers_meet(rt: HostRuntime) -> Result<(), Fail> {
 
 /// One task waits until the four others have passed.
 #[derive(Drop)]
-struct Last {
+struct LastTask {
     task: u32,
     passed: AtomicU64,
     late: AtomicU64,
 }
 
-impl Gate for Last {
+impl Gate for LastTask {
     fn pass(&self, task: u32) {
         if task != self.task {
             self.passed.fetch_add(1, Ordering::SeqCst);
@@ -146,7 +146,7 @@ impl Gate for Last {
 #[test]
 fn one_task_waits(rt: HostRuntime) -> Result<(), Fail> {
     for task in 0..5 {
-        let gate = Last {
+        let gate = LastTask {
             task,
             passed: AtomicU64::new(0),
             late: AtomicU64::new(0),

@@ -11,7 +11,7 @@ ghost use Rattle.cp_text.specs.Lexemes.{Reads};
 use crate::fault::ScanCause;
 use crate::piece::{Piece, Shape, first_piece};
 use crate::token::{Kind, Name};
-use crate::word::reserved;
+use crate::word::reserved_mark;
 use std::alloc::{AllocError, Global};
 
 const MOST_NUMBER: u32 = 32767;
@@ -92,7 +92,7 @@ fn word(alloc: Global, text: &[u8]) -> Result<Kind, ScanCause>
         return Err(ScanCause::NameTooLong);
     }
     let spelling = lower_case(alloc, text)?;
-    match reserved(spelling.as_str()) {
+    match reserved_mark(spelling.as_str()) {
         Some(mark) => Ok(Kind::Mark(mark)),
         None => Ok(Kind::Name(Name::new(spelling))),
     }

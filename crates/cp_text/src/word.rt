@@ -47,7 +47,7 @@ const RESERVED: [(&str, Mark); 37] = [
 
 /// The mark of a reserved word in lower case.
 #[tactic(auto, unfolding(crate::specs::Words::reserved))]
-pub fn reserved(word: &str) -> Option<Mark>
+pub fn reserved_mark(word: &str) -> Option<Mark>
     ensures { result ≡ spec.reserved word.now }
 {
     lookup(&RESERVED, word)

@@ -147,16 +147,16 @@ fn answer_to<X: Threads + Sync>(
     match load(alloc, source) {
         Ok(loaded) => {
             let program = loaded.into_program();
-            let answer = explored(rt, alloc, options, &program);
+            let answer = answer_program(rt, alloc, options, &program);
             drop_program(program);
             answer
         }
-        Err(refusal) => refused(alloc, refusal),
+        Err(refusal) => answer_refusal(alloc, refusal),
     }
 }
 
 /// The refusal in a line.
-pub fn refused(alloc: Global, refusal: Refusal) -> Result<Answer, AllocError>
+pub fn answer_refusal(alloc: Global, refusal: Refusal) -> Result<Answer, AllocError>
     ensures { IfOk result (λ a. (a.verdict ≡ Refused) × IsLineOf refusal a.text) }
 {
     let written = refusal_line(alloc, &refusal);
@@ -169,7 +169,7 @@ pub fn refused(alloc: Global, refusal: Refusal) -> Result<Answer, AllocError>
 }
 
 /// The trace of the schedule that the options name, or the report of all schedules.
-fn explored<X: Threads + Sync>(
+fn answer_program<X: Threads + Sync>(
     rt: &X,
     alloc: Global,
     options: &Options,
@@ -178,18 +178,24 @@ fn explored<X: Threads + Sync>(
     ensures { IfOk result (λ a. on_slots.IsExploredOn options.now program.now a.verdict a.text) }
 {
     match &options.schedule {
-        Some(word) => traced::<Brand>(alloc, options, program, word.as_slice(), Blank::new(1)),
+        Some(word) => trace_schedule::<Brand>(
+            alloc,
+            options,
+            program,
+            word.as_slice(),
+            Blank::new(1),
+        ),
         None => {
             if options.merge {
-                merged(alloc, options, program)
+                report_merged(alloc, options, program)
             } else {
-                counted(rt, alloc, options, program)
+                report_table(rt, alloc, options, program)
             }
         }
     }
 }
 
-fn traced<L: Ledger>(
+fn trace_schedule<L: Ledger>(
     alloc: Global,
     options: &Options,
     program: &Resolved,
@@ -215,7 +221,7 @@ fn traced<L: Ledger>(
 }
 
 /// The report of a program's table by its outcomes alone, or what there are too many of.
-fn merged(alloc: Global, options: &Options, program: &Resolved) -> Result<Answer, AllocError>
+fn report_merged(alloc: Global, options: &Options, program: &Resolved) -> Result<Answer, AllocError>
     ensures { IfOk result (λ a. merging.IsMerged options.now (on_slots.machine options.now program.now) program.now.names (on_slots.machine_rows options.now program.now) a.verdict a.text) }
 {
     let Some(limits) = Limits::new(options.choices, options.steps, options.gates) else {
@@ -239,7 +245,7 @@ fn merged(alloc: Global, options: &Options, program: &Resolved) -> Result<Answer
 }
 
 /// The report of a program's table, or that it has too many rows.
-fn counted<X: Threads + Sync>(
+fn report_table<X: Threads + Sync>(
     rt: &X,
     alloc: Global,
     options: &Options,
@@ -251,7 +257,7 @@ fn counted<X: Threads + Sync>(
     let Some(limits) = Limits::new(options.choices, options.steps, options.gates) else {
         unreachable!()
     };
-    match tabulated(rt, alloc, options, program, limits) {
+    match tabulate(rt, alloc, options, program, limits) {
         Ok(table) => Ok(Answer {
             verdict: Verdict::Reported,
             text: report(alloc, program, &table, options.rows)?.text,
@@ -265,7 +271,7 @@ fn counted<X: Threads + Sync>(
 }
 
 /// The table of a program. The threads draw the members of a cutting.
-fn tabulated<X: Threads + Sync>(
+fn tabulate<X: Threads + Sync>(
     rt: &X,
     alloc: Global,
     options: &Options,
@@ -283,12 +289,12 @@ fn tabulated<X: Threads + Sync>(
     let Ok(()) = deal(alloc, &mut cutting, options) else {
         return Err(ExploreFault::Memory);
     };
-    let workers = needed(options.workers, cutting.members().len());
+    let workers = workers_needed(options.workers, cutting.members().len());
     explore(rt, alloc, &cutting, workers, &NoGate)
 }
 
 /// No more workers than there are members to draw: starting a thread costs more than a small exploration.
-fn needed(workers: u8, members: usize) -> u8
+fn workers_needed(workers: u8, members: usize) -> u8
     requires { 0 < workers }
     ensures { result ≡ min workers (max 1 members) }
 {

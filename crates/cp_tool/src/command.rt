@@ -18,7 +18,7 @@ const NOTES: &str =
 pub fn command<'a>(alloc: Global) -> Result<Command<'a>, AllocError>
     ensures { IfOk result (λ c. app_of c ≡ cpx) }
 {
-    let command = described(alloc).arg(option(
+    let command = describe_command(alloc).arg(option(
         alloc,
         "choices",
         "K",
@@ -88,7 +88,7 @@ pub fn command<'a>(alloc: Global) -> Result<Command<'a>, AllocError>
     Ok(command)
 }
 
-fn described<'a>(alloc: Global) -> Command<'a>
+fn describe_command<'a>(alloc: Global) -> Command<'a>
     ensures { app_of result ≡ new_app (codes "cpx") }
 {
     Command::new(alloc, "cpx")

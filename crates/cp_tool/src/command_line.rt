@@ -6,7 +6,7 @@ ghost use Rattle.cp_tool.specs.Options.{Gives, HasOptions, HasRefusedValue, IsSc
 ghost use Rattle.cp_tool.specs.Words.{default_choices, most_choices};
 
 use crate::command::command;
-use crate::numbers::chosen;
+use crate::numbers::parse_number;
 use crate::options::{OptionFault, Options};
 use crate::schedule::word_of;
 use arrayvec::ArrayVec;
@@ -122,16 +122,16 @@ fn options_with(
     let usual = default_choices(kind.ends);
     let most = u32::from(most_choices(kind.merge));
     Some(Options {
-        choices: chosen(matches.get_str("choices"), usual, 0, most)? as u8,
-        steps: chosen(matches.get_str("steps"), 1_000, 1, 100_000)?,
-        workers: chosen(matches.get_str("workers"), 2, 1, 16)? as u8,
-        cut: chosen(matches.get_str("cut"), 2, 0, 20)? as u8,
+        choices: parse_number(matches.get_str("choices"), usual, 0, most)? as u8,
+        steps: parse_number(matches.get_str("steps"), 1_000, 1, 100_000)?,
+        workers: parse_number(matches.get_str("workers"), 2, 1, 16)? as u8,
+        cut: parse_number(matches.get_str("cut"), 2, 0, 20)? as u8,
         rows,
         merge: kind.merge,
         ends: kind.ends,
         waits: kind.waits,
         at_once: kind.at_once,
-        states: chosen(matches.get_str("states"), 200_000, 1, 10_000_000)?,
+        states: parse_number(matches.get_str("states"), 200_000, 1, 10_000_000)?,
         schedule: schedule?,
         gates: gates_for(kind.waits | kind.at_once, matches.get_str("gates"))?,
         cut_is_given: is_given(matches.get_str("cut")),

@@ -1,7 +1,7 @@
 //! Why words are refused, in a line for people.
 
 use crate::command::command;
-use crate::numbers::chosen;
+use crate::numbers::parse_number;
 use crate::schedule::word_of;
 use clap::ArgMatches;
 use clap::error::ErrorKind;
@@ -171,7 +171,7 @@ fn choices_reason(alloc: Global, matches: &ArgMatches<'_>) -> Result<String, All
     let Some(text) = given else {
         return Ok(said);
     };
-    let is_merged = chosen(Some(text), 0, 0, 100).is_some();
+    let is_merged = parse_number(Some(text), 0, 0, 100).is_some();
     if !said.is_empty() && !merges && is_merged {
         return format!(in alloc; "--choices {text}: at most 20 without --merge");
     }
@@ -187,7 +187,7 @@ fn number_reason(
     let Some(text) = text else {
         return Ok(String::new(alloc));
     };
-    let is_number = chosen(Some(text), 0, 0, u32::MAX);
+    let is_number = parse_number(Some(text), 0, 0, u32::MAX);
     let OptionRange { name, low, high } = range;
     match is_number {
         Some(number) if number < low => format!(in alloc; "--{name} {text}: at least {low}"),

@@ -54,7 +54,7 @@ impl Read for EndlessReader {
 
 /// What a writer does at the call of its choice.
 #[derive(Clone, Copy, PartialEq, Eq)]
-pub enum Refusal {
+pub enum FakeRefusal {
     Fails,
     TakesNothing,
 }
@@ -65,11 +65,11 @@ pub struct OneByteWriter {
     pub taken: Vec<u8>,
     calls: u32,
     refuses_at: u32,
-    refusal: Refusal,
+    refusal: FakeRefusal,
 }
 
 impl OneByteWriter {
-    pub fn new(alloc: Global, refuses_at: u32, refusal: Refusal) -> OneByteWriter {
+    pub fn new(alloc: Global, refuses_at: u32, refusal: FakeRefusal) -> OneByteWriter {
         OneByteWriter {
             taken: Vec::new(alloc),
             calls: 0,
@@ -84,8 +84,8 @@ impl Write for OneByteWriter {
         self.calls = self.calls.saturating_add(1);
         if self.calls == self.refuses_at {
             return match self.refusal {
-                Refusal::Fails => Err(Error::from(ErrorKind::Other)),
-                Refusal::TakesNothing => Ok(0),
+                FakeRefusal::Fails => Err(Error::from(ErrorKind::Other)),
+                FakeRefusal::TakesNothing => Ok(0),
             };
         }
         match bytes.first() {

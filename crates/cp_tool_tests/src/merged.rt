@@ -142,12 +142,12 @@ fn a_refused_growth_is_told_alone(rt: HostRuntime) -> Result<(), Fail> {
     let mut is_refused = false;
     for row in ROWS.iter().take(4) {
         match compared(&rt, rt.alloc(), row) {
-            Answer::Ample => {}
-            Answer::Memory => {
+            RowAnswer::Ample => {}
+            RowAnswer::Memory => {
                 assert!(rt; !is_refused);
                 is_refused = true;
             }
-            Answer::Other => panic!(rt; "another answer"),
+            RowAnswer::Other => panic!(rt; "another answer"),
         }
     }
     Ok(())
@@ -155,27 +155,27 @@ fn a_refused_growth_is_told_alone(rt: HostRuntime) -> Result<(), Fail> {
 
 /// How an answer compares with that of ample memory.
 #[derive(Clone, Copy)]
-enum Answer {
+enum RowAnswer {
     Ample,
     Memory,
     Other,
 }
 
-fn compared<X: Threads + Sync>(rt: &X, alloc: Global, row: &Row) -> Answer {
+fn compared<X: Threads + Sync>(rt: &X, alloc: Global, row: &Row) -> RowAnswer {
     let options = match read_options(alloc, row.words) {
         Ok(options) => options,
-        Err(OptionFault::Memory) => return Answer::Memory,
-        Err(_fault) => return Answer::Other,
+        Err(OptionFault::Memory) => return RowAnswer::Memory,
+        Err(_fault) => return RowAnswer::Other,
     };
     let told = answer_by(rt, alloc, &options, row.source.as_bytes(), NEVER);
     let wanted = row.text.as_bytes();
     // The test's own writer takes memory too: where that is refused, a write failed.
     let is_cut_short = told.status.code == 4 && wanted.starts_with(&told.text);
     if told.status.code == row.code && told.text.as_slice() == wanted {
-        Answer::Ample
+        RowAnswer::Ample
     } else if is_cut_short || (told.status.code == 3 && told.text.is_empty()) {
-        Answer::Memory
+        RowAnswer::Memory
     } else {
-        Answer::Other
+        RowAnswer::Other
     }
 }

@@ -1,5 +1,5 @@
 //! The worked rows.
-use crate::fakes::Refusal;
+use crate::fakes::FakeRefusal;
 use crate::streams::{NEVER, Refusals, answer_to, answer_to_endless};
 use cp_tool::read_options;
 use std::test::Fail;
@@ -168,7 +168,7 @@ fn failing_reader(rt: HostRuntime) -> Result<(), Fail> {
         let refusals = Refusals {
             read,
             write: 0,
-            refusal: Refusal::Fails,
+            refusal: FakeRefusal::Fails,
         };
         let bad = answer_to(
             &rt,
@@ -198,7 +198,7 @@ fn failing_writer(rt: HostRuntime) -> Result<(), Fail> {
         TWO_DISPLAYS.as_bytes(),
         NEVER,
     )?;
-    for refusal in [Refusal::Fails, Refusal::TakesNothing] {
+    for refusal in [FakeRefusal::Fails, FakeRefusal::TakesNothing] {
         for write in 1..200 {
             let refusals = Refusals {
                 read: 0,

@@ -1,7 +1,7 @@
 //! The program over memory: what it answers to words and a source.
 ghost use Rattle.std.specs.Prelude.{◌≡◌};
 
-use crate::fakes::{EndlessReader, OneByteReader, OneByteWriter, Refusal};
+use crate::fakes::{EndlessReader, FakeRefusal, OneByteReader, OneByteWriter};
 use cp_tool::{ExitStatus, Options, Wrapped, explore_stream, read_options};
 use std::alloc::Global;
 use std::io::Read;
@@ -15,14 +15,14 @@ use std::thread::Threads;
 pub struct Refusals {
     pub read: u32,
     pub write: u32,
-    pub refusal: Refusal,
+    pub refusal: FakeRefusal,
 }
 
 /// No call is refused.
 pub const NEVER: Refusals = Refusals {
     read: 0,
     write: 0,
-    refusal: Refusal::Fails,
+    refusal: FakeRefusal::Fails,
 };
 
 /// What was written, and with which status.

@@ -1,5 +1,5 @@
 use cp_machine::Gates;
-use cp_tests::answers::{Answer, are_right, unrefused};
+use cp_tests::answers::{CallAnswer, are_right, unrefused};
 use cp_tool::{OptionFault, Options, read_options};
 use std::alloc::Global;
 use std::test::Fail;
@@ -230,28 +230,29 @@ fn refused_growth_of_reading_options(rt: HostRuntime) -> Result<(), Fail> {
     Ok(())
 }
 
-fn all_or_memory(alloc: Global) -> Answer {
+fn all_or_memory(alloc: Global) -> CallAnswer {
     let options = match read_options(alloc, ALL.as_slice()) {
         Ok(options) => options,
-        Err(OptionFault::Memory) => return Answer::Memory,
-        Err(_fault) => return Answer::Other,
+        Err(OptionFault::Memory) => return CallAnswer::Memory,
+        Err(_fault) => return CallAnswer::Other,
     };
     unrefused(has_values_of_all(&options))
 }
 
-fn refusal_or_memory(alloc: Global) -> Answer {
+fn refusal_or_memory(alloc: Global) -> CallAnswer {
     match read_options(alloc, ["cpx", "--schedule", "0.1.02"].as_slice()) {
-        Err(OptionFault::Refused) => Answer::Ample,
-        Err(OptionFault::Memory) => Answer::Memory,
-        _ => Answer::Other,
+        Err(OptionFault::Refused) => CallAnswer::Ample,
+        Err(OptionFault::Memory) => CallAnswer::Memory,
+        _ => CallAnswer::Other,
     }
 }
 
-fn help_or_memory(alloc: Global) -> Answer {
+fn help_or_memory(alloc: Global) -> CallAnswer {
     match read_options(alloc, ["cpx", "--help"].as_slice()) {
-        Err(OptionFault::Help(text)) if text.as_str().contains("5 too many rows") => Answer::Ample,
-        Err(OptionFault::Memory) => Answer::Memory,
-        _ => Answer::Other,
+        Err(OptionFault::Help(text)) if text.as_str().contains("5 too many rows") =>
+            CallAnswer::Ample,
+        Err(OptionFault::Memory) => CallAnswer::Memory,
+        _ => CallAnswer::Other,
     }
 }
 

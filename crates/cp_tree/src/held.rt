@@ -33,7 +33,7 @@ pub fn value_with<T: Drop, U>(value: T, more: Result<U, ParseFault>) -> Result<(
 }
 
 /// The value, in a box.
-pub fn boxed<T: Drop>(alloc: Global, value: T) -> Result<Box<T>, ParseFault>
+pub fn in_box<T: Drop>(alloc: Global, value: T) -> Result<Box<T>, ParseFault>
     ensures value { IfOk result (λ b. b.value ≡ value) }
     ensures memory { IfErr result (λ e. e ≡ fault.Memory) }
 {

@@ -12,7 +12,7 @@ use crate::expression::{
     Term,
 };
 use crate::fault::ParseFault;
-use crate::held::{boxed, value_before, value_with};
+use crate::held::{in_box, value_before, value_with};
 use crate::read_constant::{identifier, sign};
 use cp_text::{Kind, Mark};
 use std::alloc::Global;
@@ -248,7 +248,7 @@ fn expression_inside(
 {
     let inner = expression(alloc, cursor, budget)?;
     let inner = value_before(cursor, inner, Mark::CloseParenthesis)?;
-    boxed(alloc, inner)
+    in_box(alloc, inner)
 }
 
 // The factor after `not`.
@@ -261,7 +261,7 @@ fn factor_after_not(
     ensures { Reads (λ f. factor_view f.value) (spec.deeper budget cursor.old) result cursor.new }
 {
     let inner = deeper_factor(alloc, cursor, budget)?;
-    boxed(alloc, inner)
+    in_box(alloc, inner)
 }
 
 // A factor after `not`.

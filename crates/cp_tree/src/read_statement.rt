@@ -10,7 +10,7 @@ ghost use Rattle.cp_text.specs.declared.token.Mark.TheVariants as mark;
 use crate::constant::Constant;
 use crate::cursor::Cursor;
 use crate::fault::ParseFault;
-use crate::held::{boxed, value_before, value_with};
+use crate::held::{in_box, value_before, value_with};
 use crate::read_constant::{constant, identifier};
 use crate::read_expression::{arguments, designator, expression};
 use crate::statement::{Arm, Direction, Start, Statement, StatementKind};
@@ -172,7 +172,7 @@ fn statement_after(
 {
     cursor.expect(word)?;
     let inner = statement(alloc, cursor, budget)?;
-    boxed(alloc, inner)
+    in_box(alloc, inner)
 }
 
 // `if .. then .. else`, whose word comes next.

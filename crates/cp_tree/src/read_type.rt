@@ -9,7 +9,7 @@ ghost use Rattle.cp_tree.specs.View.{simple_view, type_view, field_group_view, f
 use crate::constant::{Constant, ConstantKind};
 use crate::cursor::Cursor;
 use crate::fault::ParseFault;
-use crate::held::{boxed, value_before, value_with};
+use crate::held::{in_box, value_before, value_with};
 use crate::read_constant::{constant, identifiers};
 use crate::types::{FieldGroup, Simple, SimpleKind, Type, TypeKind};
 use cp_text::Mark;
@@ -127,7 +127,7 @@ fn array(
     let index = value_before(cursor, index, Mark::CloseBracket)?;
     let index = value_before(cursor, index, Mark::Of)?;
     let (index, element) = value_with(index, type_term(alloc, cursor, budget))?;
-    let (index, element) = value_with(index, boxed(alloc, element))?;
+    let (index, element) = value_with(index, in_box(alloc, element))?;
     Ok(Type {
         at,
         kind: TypeKind::Array(index, element),

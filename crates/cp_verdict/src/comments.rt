@@ -26,7 +26,7 @@ fn after(within: Within, byte: u8) -> Within {
 }
 
 /// A byte of a comment, with a blank for what separates words.
-fn separated(byte: u8) -> u8 {
+fn as_separator(byte: u8) -> u8 {
     match byte {
         b'\t' | b'\r' | b'\n' => b' ',
         _ => byte,
@@ -40,7 +40,7 @@ fn comments(alloc: Global, source: &[u8]) -> Result<Vec<u8>, AllocError> {
     for byte in source {
         let next = after(within, *byte);
         match (within, next) {
-            (Within::Comment, Within::Comment) => text.push(separated(*byte))?,
+            (Within::Comment, Within::Comment) => text.push(as_separator(*byte))?,
             (Within::Comment, _) => text.push(b'\n')?,
             _ => {}
         }

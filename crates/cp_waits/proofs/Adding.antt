@@ -20,7 +20,7 @@ use Rattle.cp_waits.specs.Walks.{first_edge, end_edge}
 use Rattle.cp_waits.specs.declared.graph.Edge.{Edge}
 use Rattle.cp_waits.specs.declared.graph.Graph.{Graph}
 use Rattle.cp_waits.specs.declared.graph.Standstill.{Standstill}
-use Rattle.cp_waits.specs.declared.passing.Passing.{Passing}
+use Rattle.cp_waits.specs.declared.passing.PassingSets.{PassingSets}
 use Rattle.cp_waits.specs.declared.watching.Came.{Came}
 use Rattle.cp_waits.proofs.Graphs.{may_below, may_be_those}
 
@@ -94,7 +94,7 @@ module _ {S : Type 0} (sys : System S) (inside waiting : S → ℕ → Bool) (st
             (Contains-append_cases ps qs p at);
       }
 
-  pub adds_one_choice : (i : ℕ) (x : S × List ℕ) (p : ℕ) (to : Option ℕ) (passing : Passing) (came : Came) (last : S) (a b c : Graph) → slice_get states i ≡ Some x → may sys x.0 p ≡ true → IsNumber states (chosen sys steps x.0 p) to → ComesTo sys inside waiting steps (choice_leg sys steps x.0 p) (x.0 ∷ []) passing came last → AddsStill sys inside waiting steps (choice_leg sys steps x.0 p) (Choice i p) a b → b.processes ≡ a.processes → b.ends.items ≡ a.ends.items → b.edges.items ≡ a.edges.items → c.processes ≡ b.processes → c.ends.items ≡ b.ends.items → c.standstills.items ≡ b.standstills.items → c.edges.items ≡ b.edges.items ++ record { number = p; to = to; passing = passing } ∷ [] → AddsChoices sys inside waiting steps states i x.0 (p ∷ []) a c
+  pub adds_one_choice : (i : ℕ) (x : S × List ℕ) (p : ℕ) (to : Option ℕ) (passing : PassingSets) (came : Came) (last : S) (a b c : Graph) → slice_get states i ≡ Some x → may sys x.0 p ≡ true → IsNumber states (chosen sys steps x.0 p) to → ComesTo sys inside waiting steps (choice_leg sys steps x.0 p) (x.0 ∷ []) passing came last → AddsStill sys inside waiting steps (choice_leg sys steps x.0 p) (Choice i p) a b → b.processes ≡ a.processes → b.ends.items ≡ a.ends.items → b.edges.items ≡ a.edges.items → c.processes ≡ b.processes → c.ends.items ≡ b.ends.items → c.standstills.items ≡ b.standstills.items → c.edges.items ≡ b.edges.items ++ record { number = p; to = to; passing = passing } ∷ [] → AddsChoices sys inside waiting steps states i x.0 (p ∷ []) a c
   adds_one_choice i x p to passing came last a b c at m leads seen still processes ends edges processes_more ends_more stills_more edges_more =
       record {
         processes = processes_more ∙ processes;

@@ -17,7 +17,7 @@ use Rattle.cp_waits.specs.declared.graph.Edge.{Edge}
 use Rattle.cp_waits.specs.declared.graph.Graph.{Graph}
 use Rattle.cp_waits.specs.declared.passing.Keeping.{Keeping}
 use Rattle.cp_waits.specs.declared.passing.Keeping.TheVariants.{Waiting, Inside}
-use Rattle.cp_waits.specs.declared.passing.Passing.{Passing}
+use Rattle.cp_waits.specs.declared.passing.PassingSets.{PassingSets}
 use Rattle.cp_waits.specs.Graphs.{IsChoice, IsNumber}
 use Rattle.cp_waits.specs.Keeps.{keeps}
 use Rattle.cp_waits.specs.Lines.{HasRanks}
@@ -108,7 +108,7 @@ module _ {S : Type 0} (sys : System S) (inside waiting : S → ℕ → Bool) (st
         seen = subst (λ n. Seen sys inside waiting (s ∷ []) (moments sys steps s n) e.passing) c.2 o.seen;
       }
 
-  pub keeps_on : (keeping : Keeping) → keeper keeping < sys.processes → (s : S) (p : ℕ) (passing : Passing) → Seen sys inside waiting (s ∷ []) (moments sys steps s p) passing →
+  pub keeps_on : (keeping : Keeping) → keeper keeping < sys.processes → (s : S) (p : ℕ) (passing : PassingSets) → Seen sys inside waiting (s ∷ []) (moments sys steps s p) passing →
       WaitsIn sys (doing inside waiting keeping) (keeper keeping) steps s p → keeps keeping passing ≡ true
   keeps_on (Waiting q) less s p passing seen w = (seen.wait q less).1 ((w.0, tt), w.1)
   keeps_on (Inside q) less s p passing seen w = (seen.stay q less).1 ((w.0, tt), w.1)
@@ -130,7 +130,7 @@ module _ {S : Type 0} (sys : System S) (inside waiting : S → ℕ → Bool) (st
     falling s t p go = (ranked s t p go).1
 
     -- whom the rank passes over is not served
-    not_served : (s : S) (p r : ℕ) (passing : Passing) → Seen sys inside waiting (s ∷ []) (moments sys steps s p) passing → r < g.processes → has passing.served r ≡ false →
+    not_served : (s : S) (p r : ℕ) (passing : PassingSets) → Seen sys inside waiting (s ∷ []) (moments sys steps s p) passing → r < g.processes → has passing.served r ≡ false →
         IsServed sys (who sys.processes (Some r)) (moments sys steps s p) → ⊥
     not_served s p r passing seen below none served =
         let small = subst (λ (n : ℕ). r < n) processes below in
@@ -150,7 +150,7 @@ module _ {S : Type 0} (sys : System S) (inside waiting : S → ℕ → Bool) (st
           stays = λ s t p go e served. (let r = ranked (Waiting q) less ranks s t p go in by s p r.0.edge.passing r.0.seen (ranks.1 (ranks.0 (index s))) (r.2 e) served);
         }
       where
-        by : (s : S) (p : ℕ) (passing : Passing) → Seen sys inside waiting (s ∷ []) (moments sys steps s p) passing → (o : Option ℕ) → IsPassedOver g.processes (Waiting q) o passing → IsServed sys (who sys.processes o) (moments sys steps s p) → ⊥
+        by : (s : S) (p : ℕ) (passing : PassingSets) → Seen sys inside waiting (s ∷ []) (moments sys steps s p) passing → (o : Option ℕ) → IsPassedOver g.processes (Waiting q) o passing → IsServed sys (who sys.processes o) (moments sys steps s p) → ⊥
         by s p passing seen None over served = over
         by s p passing seen (Some r) over served = not_served (Waiting q) less ranks s p r passing seen over.0 over.1 served
 
@@ -167,7 +167,7 @@ module _ {S : Type 0} (sys : System S) (inside waiting : S → ℕ → Bool) (st
           stays = λ s t p go e h. (let r = ranked (Inside q) less ranks s t p go in by s p r.0.edge.passing r.0.seen (ranks.1 (ranks.0 (index s))) (r.2 e) h);
         }
       where
-        by : (s : S) (p : ℕ) (passing : Passing) → Seen sys inside waiting (s ∷ []) (moments sys steps s p) passing → (o : Option ℕ) → IsPassedOver g.processes (Inside q) o passing →
+        by : (s : S) (p : ℕ) (passing : PassingSets) → Seen sys inside waiting (s ∷ []) (moments sys steps s p) passing → (o : Option ℕ) → IsPassedOver g.processes (Inside q) o passing →
             WaitsOrIsServed sys waiting q steps (who sys.processes o) (nobody o) s p → ⊥
         by s p passing seen (Some r) over served = not_served (Inside q) less ranks s p r passing seen over.0 over.1 served
         by s p passing seen None over waits =

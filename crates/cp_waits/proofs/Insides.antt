@@ -8,7 +8,7 @@ use Rattle.std.proofs.lemmas.List.Folds.{list_any-append}
 use Rattle.cp_machine.specs.Machine.{thread_of, thread_at}
 use Rattle.cp_machine.specs.declared.process.Entry.{Entry}
 use Rattle.cp_machine.specs.declared.process.Entry.TheVariants.{Rest, Successor, Return, InitEnd}
-use Rattle.cp_machine.specs.declared.process.Process.{Process}
+use Rattle.cp_machine.specs.declared.process.ProcessState.{ProcessState}
 use Rattle.cp_slots.specs.Tables.{Tables}
 use Rattle.cp_machine.specs.System.{IsStateOf}
 use Rattle.cp_machine.specs.declared.state.State.{State}
@@ -39,7 +39,7 @@ backwards (x ∷ xs) = ap (list_any leaves) (reverse-append (x ∷ []) xs) ∙ l
     by false true = refl
     by false false = refl
 
-pub inside_read : (ps : List Process) (i : ℕ) (p : Process) → i < length ps → p ≡ slice_index_or ps i p → has_monitor_return (thread_at (map thread_of ps) i).stack ≡ list_any leaves p.stack.items
+pub inside_read : (ps : List ProcessState) (i : ℕ) (p : ProcessState) → i < length ps → p ≡ slice_index_or ps i p → has_monitor_return (thread_at (map thread_of ps) i).stack ≡ list_any leaves p.stack.items
 inside_read ps i p lt e = ap (λ t. has_monitor_return t.stack) (thread_read ps i p lt e) ∙ inside_any (reverse p.stack.items) ∙ backwards p.stack.items
 
 -- one process more was looked at

@@ -15,7 +15,7 @@ use Rattle.cp_ends.proofs.words.Returns.{cut_there}
 use Rattle.cp_ends.proofs.words.Edges.{some_same}
 use Rattle.cp_waits.specs.Legs.{Leg, stretch_leg, first_leg, choice_leg, IsHalted, Ends, GoesRound, ComesTo}
 use Rattle.cp_waits.specs.Passings.{Seen}
-use Rattle.cp_waits.specs.declared.passing.Passing.{Passing}
+use Rattle.cp_waits.specs.declared.passing.PassingSets.{PassingSets}
 use Rattle.cp_waits.specs.declared.watching.Came.{Came}
 use Rattle.cp_waits.specs.declared.watching.Came.TheVariants as came
 
@@ -62,11 +62,11 @@ module _ {S : Type 0} (sys : System S) where
   first_at steps s turn e h = first_by steps ∙ ap (λ x. leg_by steps x (turn_at sys x false 0)) (sym e) ∙ ap (leg_by steps s) (sym h)
 
   -- a leg is told as another that is the same
-  pub comes_same : (inside waiting : S → ℕ → Bool) (steps : ℕ) (leg other : Leg S) (due : List S) (p : Passing) (came : Came) (s : S) → leg ≡ other → ComesTo sys inside waiting steps other due p came s → ComesTo sys inside waiting steps leg due p came s
+  pub comes_same : (inside waiting : S → ℕ → Bool) (steps : ℕ) (leg other : Leg S) (due : List S) (p : PassingSets) (came : Came) (s : S) → leg ≡ other → ComesTo sys inside waiting steps other due p came s → ComesTo sys inside waiting steps leg due p came s
   comes_same inside waiting steps leg other due p came s e h = subst (λ x. ComesTo sys inside waiting steps x due p came s) (sym e) h
 
   -- the run is over before a step is made
-  pub over_at_once : (inside waiting : S → ℕ → Bool) (steps : ℕ) (t : S) (kind : OutcomeKind) (due : List S) (p : Passing) (m : S) → Seen sys inside waiting due [] p → ComesTo sys inside waiting steps (leg_by steps t (Over kind)) due p came.End m
+  pub over_at_once : (inside waiting : S → ℕ → Bool) (steps : ℕ) (t : S) (kind : OutcomeKind) (due : List S) (p : PassingSets) (m : S) → Seen sys inside waiting due [] p → ComesTo sys inside waiting steps (leg_by steps t (Over kind)) due p came.End m
   over_at_once inside waiting steps t kind due p m seen = (record { halted = tt; never = λ s q e x. none_some (s, q) e }, seen)
 
   -- ---- the round of a stretch that was cut
@@ -100,7 +100,7 @@ module _ {S : Type 0} (sys : System S) where
 
   -- ---- a stretch
 
-  module _ (inside waiting : S → ℕ → Bool) (steps : ℕ) (s : S) (p : ℕ) (due : List S) (new : Passing) where
+  module _ (inside waiting : S → ℕ → Bool) (steps : ℕ) (s : S) (p : ℕ) (due : List S) (new : PassingSets) where
     -- a choice is due after the next step
     pub due_there : (n : ℕ) (t u : S) (q : ℕ) → n < steps → spot_after sys n s p ≡ Some (t, q) → u ≡ sys.step t q → Due ≡ turn_after sys u q (sys.event t q) → Seen sys inside waiting due (stretch_moments sys (n + 1) s p) new → ComesTo sys inside waiting steps (stretch_leg sys steps s p) due new came.Choice u
     due_there n t u q lt spot e h seen =
@@ -131,7 +131,7 @@ module _ {S : Type 0} (sys : System S) where
         )
 
     -- all steps are made, and it comes again
-    pub comes_again : (n : ℕ) (t m : S) (q k : ℕ) (again : Passing) → n ≡ steps → spot_after sys n s p ≡ Some (t, q) → k < steps → spot_after sys (suc k) t q ≡ Some (t, q) → Seen sys inside waiting [] (stretch_moments sys (suc k) t q) again → Seen sys inside waiting due (stretch_moments sys n s p ++ stretch_moments sys (suc k) t q) new → ComesTo sys inside waiting steps (stretch_leg sys steps s p) due new (came.Repeats again) m
+    pub comes_again : (n : ℕ) (t m : S) (q k : ℕ) (again : PassingSets) → n ≡ steps → spot_after sys n s p ≡ Some (t, q) → k < steps → spot_after sys (suc k) t q ≡ Some (t, q) → Seen sys inside waiting [] (stretch_moments sys (suc k) t q) again → Seen sys inside waiting due (stretch_moments sys n s p ++ stretch_moments sys (suc k) t q) new → ComesTo sys inside waiting steps (stretch_leg sys steps s p) due new (came.Repeats again) m
     comes_again n t m q k again all spot soon back round seen =
         let here = ap (λ i. spot_after sys i s p) (sym all) ∙ spot in (
           record {
@@ -148,14 +148,14 @@ module _ {S : Type 0} (sys : System S) where
 -- ---- what was seen of the first steps
 
 module _ {S : Type 0} (sys : System S) (inside waiting : S → ℕ → Bool) (due : List S) where
-  pub seen_before : (s : S) (p : ℕ) (new : Passing) → Seen sys inside waiting due [] new → Seen sys inside waiting due (stretch_moments sys 0 s p) new
+  pub seen_before : (s : S) (p : ℕ) (new : PassingSets) → Seen sys inside waiting due [] new → Seen sys inside waiting due (stretch_moments sys 0 s p) new
   unfolding stretch_moments
   seen_before s p new h = h
 
-  pub seen_after : (n : ℕ) (s : S) (p : ℕ) (t : S) (q : ℕ) (new : Passing) → spot_after sys n s p ≡ Some (t, q) → Seen sys inside waiting due (stretch_moments sys n s p ++ record { state = t; mover = q } ∷ []) new → Seen sys inside waiting due (stretch_moments sys (n + 1) s p) new
+  pub seen_after : (n : ℕ) (s : S) (p : ℕ) (t : S) (q : ℕ) (new : PassingSets) → spot_after sys n s p ≡ Some (t, q) → Seen sys inside waiting due (stretch_moments sys n s p ++ record { state = t; mover = q } ∷ []) new → Seen sys inside waiting due (stretch_moments sys (n + 1) s p) new
   seen_after n s p t q new spot h = subst (λ ms. Seen sys inside waiting due ms new) (sym (moments_next sys n s p t q spot)) h
 
-  pub seen_once : (n : ℕ) (s : S) (p : ℕ) (new : Passing) → Seen sys inside waiting due (stretch_moments sys (n + 1) s p) new → Seen sys inside waiting due (stretch_moments sys (suc n) s p) new
+  pub seen_once : (n : ℕ) (s : S) (p : ℕ) (new : PassingSets) → Seen sys inside waiting due (stretch_moments sys (n + 1) s p) new → Seen sys inside waiting due (stretch_moments sys (suc n) s p) new
   seen_once n s p new h = subst (λ i. Seen sys inside waiting due (stretch_moments sys i s p) new) (plus n) h
     where
       plus : (n : ℕ) → n + 1 ≡ suc n

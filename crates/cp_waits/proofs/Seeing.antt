@@ -7,7 +7,7 @@ use Rattle.cp_run.specs.System.{System}
 use Rattle.cp_endless.specs.Moments.{Moment, AnyOf}
 use Rattle.cp_waits.specs.Passings.{AreThose, Seen}
 use Rattle.cp_waits.specs.Sets.{has}
-use Rattle.cp_waits.specs.declared.passing.Passing.{Passing}
+use Rattle.cp_waits.specs.declared.passing.PassingSets.{PassingSets}
 use Rattle.cp_waits.specs.declared.set.Set.{Set}
 
 differ : false ≡ true → ⊥
@@ -96,7 +96,7 @@ is_served true q p = (λ h. inl (sym (eqb-true q p h)), back)
 
 module _ {S : Type 0} (sys : System S) (inside waiting : S → ℕ → Bool) where
   -- nothing was seen
-  pub seen_nothing : (p : Passing) → AreThose sys.processes p.wait (λ q. ⊤) → AreThose sys.processes p.wait_once (λ q. ⊥) → AreThose sys.processes p.stay (λ q. ⊤) → AreThose sys.processes p.step (λ q. ⊥) → AreThose sys.processes p.served (λ q. ⊥) → Seen sys inside waiting [] [] p
+  pub seen_nothing : (p : PassingSets) → AreThose sys.processes p.wait (λ q. ⊤) → AreThose sys.processes p.wait_once (λ q. ⊥) → AreThose sys.processes p.stay (λ q. ⊤) → AreThose sys.processes p.step (λ q. ⊥) → AreThose sys.processes p.served (λ q. ⊥) → Seen sys inside waiting [] [] p
   seen_nothing p wait wait_once stay step served =
       record {
         wait = λ q lt. let h = wait q lt in (λ t. (tt, tt), λ z. h.1 tt);
@@ -107,7 +107,7 @@ module _ {S : Type 0} (sys : System S) (inside waiting : S → ℕ → Bool) whe
       }
 
   -- a due choice is seen
-  pub seen_due : (s : S) (p new : Passing) → Seen sys inside waiting [] [] p → ((q : ℕ) → q < sys.processes → has new.wait q ≡ (has p.wait q && waiting s q)) → ((q : ℕ) → q < sys.processes → has new.wait_once q ≡ (has p.wait_once q || waiting s q)) → ((q : ℕ) → q < sys.processes → has new.stay q ≡ (has p.stay q && inside s q)) → new.step ≡ p.step → new.served ≡ p.served →
+  pub seen_due : (s : S) (p new : PassingSets) → Seen sys inside waiting [] [] p → ((q : ℕ) → q < sys.processes → has new.wait q ≡ (has p.wait q && waiting s q)) → ((q : ℕ) → q < sys.processes → has new.wait_once q ≡ (has p.wait_once q || waiting s q)) → ((q : ℕ) → q < sys.processes → has new.stay q ≡ (has p.stay q && inside s q)) → new.step ≡ p.step → new.served ≡ p.served →
       Seen sys inside waiting (s ∷ []) [] new
   seen_due s p new h wait wait_once stay step served =
       record {
@@ -129,7 +129,7 @@ module _ {S : Type 0} (sys : System S) (inside waiting : S → ℕ → Bool) whe
       back q (inr k) = absurd k
 
   -- one moment more
-  pub seen_next : (due : List S) (ms : List (Moment S)) (m : Moment S) (p new : Passing) → Seen sys inside waiting due ms p → ((q : ℕ) → q < sys.processes → has new.wait q ≡ (has p.wait q && waiting m.state q)) → ((q : ℕ) → q < sys.processes → has new.wait_once q ≡ (has p.wait_once q || waiting m.state q)) → ((q : ℕ) → q < sys.processes → has new.stay q ≡ (has p.stay q && inside m.state q)) → ((q : ℕ) → q < sys.processes → has new.step q ≡ (has p.step q || nat_eq q m.mover)) → ((q : ℕ) → q < sys.processes → has new.served q ≡ (has p.served q || (not (sys.is_ready m.state q) || nat_eq q m.mover))) →
+  pub seen_next : (due : List S) (ms : List (Moment S)) (m : Moment S) (p new : PassingSets) → Seen sys inside waiting due ms p → ((q : ℕ) → q < sys.processes → has new.wait q ≡ (has p.wait q && waiting m.state q)) → ((q : ℕ) → q < sys.processes → has new.wait_once q ≡ (has p.wait_once q || waiting m.state q)) → ((q : ℕ) → q < sys.processes → has new.stay q ≡ (has p.stay q && inside m.state q)) → ((q : ℕ) → q < sys.processes → has new.step q ≡ (has p.step q || nat_eq q m.mover)) → ((q : ℕ) → q < sys.processes → has new.served q ≡ (has p.served q || (not (sys.is_ready m.state q) || nat_eq q m.mover))) →
       Seen sys inside waiting due (ms ++ m ∷ []) new
   seen_next due ms m p new h wait wait_once stay step served =
       record {
@@ -141,7 +141,7 @@ module _ {S : Type 0} (sys : System S) (inside waiting : S → ℕ → Bool) whe
       }
 
   -- those of another passing come after these
-  pub seen_then : (due : List S) (ms ns : List (Moment S)) (p more new : Passing) → Seen sys inside waiting due ms p → Seen sys inside waiting [] ns more → ((q : ℕ) → has new.wait q ≡ (has p.wait q && has more.wait q)) → ((q : ℕ) → has new.wait_once q ≡ (has p.wait_once q || has more.wait_once q)) → ((q : ℕ) → has new.stay q ≡ (has p.stay q && has more.stay q)) → ((q : ℕ) → has new.step q ≡ (has p.step q || has more.step q)) → ((q : ℕ) → has new.served q ≡ (has p.served q || has more.served q)) →
+  pub seen_then : (due : List S) (ms ns : List (Moment S)) (p more new : PassingSets) → Seen sys inside waiting due ms p → Seen sys inside waiting [] ns more → ((q : ℕ) → has new.wait q ≡ (has p.wait q && has more.wait q)) → ((q : ℕ) → has new.wait_once q ≡ (has p.wait_once q || has more.wait_once q)) → ((q : ℕ) → has new.stay q ≡ (has p.stay q && has more.stay q)) → ((q : ℕ) → has new.step q ≡ (has p.step q || has more.step q)) → ((q : ℕ) → has new.served q ≡ (has p.served q || has more.served q)) →
       Seen sys inside waiting due (ms ++ ns) new
   seen_then due ms ns p more new h k wait wait_once stay step served =
       record {

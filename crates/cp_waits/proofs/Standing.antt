@@ -21,7 +21,7 @@ use Rattle.cp_waits.specs.Legs.{Leg, first_leg, choice_leg, IsHalted, Ends, Goes
 use Rattle.cp_waits.specs.Sets.{has}
 use Rattle.cp_waits.specs.declared.graph.Graph.{Graph}
 use Rattle.cp_waits.specs.declared.graph.Standstill.{Standstill}
-use Rattle.cp_waits.specs.declared.passing.Passing.{Passing}
+use Rattle.cp_waits.specs.declared.passing.PassingSets.{PassingSets}
 use Rattle.cp_waits.specs.declared.set.Set.{Set}
 use Rattle.cp_waits.specs.declared.watching.Came.{Came}
 use Rattle.cp_waits.specs.declared.watching.Came.TheVariants.{Choice, End, Repeats as GoesOn}
@@ -56,7 +56,7 @@ module _ {S : Type 0} (sys : System S) (inside waiting : S → ℕ → Bool) (st
   round_of s p x = record { before = steps; state = x.state; process = x.process; comes = x.comes; after = x.after; returns = x.returns }
 
   -- each process was seen to be served, and this one to wait
-  pub seen_to_wait : (q : ℕ) (again : Passing) → q < sys.processes → GoesRound sys inside waiting steps leg again → LetsWait sys waiting steps leg q → ((r : ℕ) → r < sys.processes → has again.served r ≡ true) × (has again.wait q ≡ true)
+  pub seen_to_wait : (q : ℕ) (again : PassingSets) → q < sys.processes → GoesRound sys inside waiting steps leg again → LetsWait sys waiting steps leg q → ((r : ℕ) → r < sys.processes → has again.served r ≡ true) × (has again.wait q ≡ true)
   seen_to_wait q again lt x w = (λ r l. (x.seen.served r l).1 (still.fair r l), (x.seen.wait q lt).1 (tt, still.waits))
     where
       same : (◌≡◌ {A = S × ℕ}) (w.begin, w.first) (x.begin, x.first)
@@ -69,7 +69,7 @@ module _ {S : Type 0} (sys : System S) (inside waiting : S → ℕ → Bool) (st
       still = standstills_found sys x.begin x.first (round_of x.begin x.first x.repeats) waiting q stands
 
   -- where a choice is due, or the run is over, nobody waits in its stretch for ever
-  pub no_round : IsOfStretch sys steps leg → (came : Came) (due : List S) (p : Passing) (m : S) → ((again : Passing) → came ≡ GoesOn again → ⊥) → ComesTo sys inside waiting steps leg due p came m → (q : ℕ) → LetsWait sys waiting steps leg q → ⊥
+  pub no_round : IsOfStretch sys steps leg → (came : Came) (due : List S) (p : PassingSets) (m : S) → ((again : PassingSets) → came ≡ GoesOn again → ⊥) → ComesTo sys inside waiting steps leg due p came m → (q : ℕ) → LetsWait sys waiting steps leg q → ⊥
   no_round of Choice due p m none h q w =
       choosing (leg.node) (sym (of w.begin w.first w.spot ∙ cut_there sys steps w.begin w.first w.repeats.state w.repeats.process w.repeats.comes)) h.0
     where
@@ -78,7 +78,7 @@ module _ {S : Type 0} (sys : System S) (inside waiting : S → ℕ → Bool) (st
   no_round of End due p m none h q w = h.0.never w.begin w.first w.spot w.repeats
   no_round of (GoesOn again) due p m none h q w = none again refl
 
-  pub round_seen : (again : Passing) (due : List S) (p : Passing) (m : S) → ComesTo sys inside waiting steps leg due p (GoesOn again) m → GoesRound sys inside waiting steps leg again
+  pub round_seen : (again : PassingSets) (due : List S) (p : PassingSets) (m : S) → ComesTo sys inside waiting steps leg due p (GoesOn again) m → GoesRound sys inside waiting steps leg again
   round_seen again due p m h = h.0
 
   -- ---- standstills of a graph
@@ -93,7 +93,7 @@ module _ {S : Type 0} (sys : System S) (inside waiting : S → ℕ → Bool) (st
           all = λ q lt w. absurd (none q lt w);
         }
 
-    pub adds_one : (again : Passing) → new.standstills.items ≡ old.standstills.items ++ record { origin = origin; again = again } ∷ [] → GoesRound sys inside waiting steps leg again → ((q : ℕ) → q < sys.processes → has again.served q ≡ true) → AddsStill sys inside waiting steps leg origin old new
+    pub adds_one : (again : PassingSets) → new.standstills.items ≡ old.standstills.items ++ record { origin = origin; again = again } ∷ [] → GoesRound sys inside waiting steps leg again → ((q : ℕ) → q < sys.processes → has again.served q ≡ true) → AddsStill sys inside waiting steps leg origin old new
     adds_one again more round fair =
         record {
           keeps = λ s h. subst (λ l. Contains l s) (sym more) (Contains-append_left old.standstills.items (still ∷ []) s h);

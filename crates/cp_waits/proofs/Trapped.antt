@@ -19,7 +19,7 @@ use Rattle.cp_ends.proofs.named.Kinds.{contains_map}
 use Rattle.cp_waits.specs.declared.graph.Edge.{Edge}
 use Rattle.cp_waits.specs.declared.graph.Graph.{Graph}
 use Rattle.cp_waits.specs.declared.passing.Keeping.TheVariants.{Waiting}
-use Rattle.cp_waits.specs.declared.passing.Passing.{Passing}
+use Rattle.cp_waits.specs.declared.passing.PassingSets.{PassingSets}
 use Rattle.cp_waits.specs.declared.watching.Came.{Came}
 use Rattle.cp_waits.specs.declared.watching.Came.TheVariants as came
 use Rattle.cp_waits.specs.Graphs.{IsChoice, IsNumber}
@@ -149,7 +149,7 @@ module _ {S : Type 0} (sys : System S) (inside waiting : S → ℕ → Bool) (st
         let r = ranked (index (state (suc m))) keep a.to in
         (r.0, λ is served. by a.edge.passing a.seen (traps.1 (rank (state m))) (r.1 is) served)
       where
-        by : (passing : Passing) → Seen sys inside waiting (state m ∷ []) (moments sys steps (state m) (w m)) passing → (o : Option ℕ) → IsPassedOver g.processes (Waiting q) o passing → IsServed sys (who sys.processes o) (moments sys steps (state m) (w m)) → ⊥
+        by : (passing : PassingSets) → Seen sys inside waiting (state m ∷ []) (moments sys steps (state m) (w m)) passing → (o : Option ℕ) → IsPassedOver g.processes (Waiting q) o passing → IsServed sys (who sys.processes o) (moments sys steps (state m) (w m)) → ⊥
         by passing seen None over served = over
         by passing seen (Some r) over served =
             let small = subst (λ (k : ℕ). r < k) processes over.0 in

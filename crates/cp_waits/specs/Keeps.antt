@@ -2,12 +2,12 @@
 use Rattle.std.specs.Prelude.{Bool, false, not}
 use Rattle.cp_waits.specs.declared.passing.Keeping.{Keeping}
 use Rattle.cp_waits.specs.declared.passing.Keeping.TheVariants.{Waiting, Inside}
-use Rattle.cp_waits.specs.declared.passing.Passing.{Passing}
+use Rattle.cp_waits.specs.declared.passing.PassingSets.{PassingSets}
 use Rattle.cp_waits.specs.declared.set.Set.{Set}
 use Rattle.cp_waits.specs.Sets.{has}
 
 -- it does so at each moment
-abbrev pub keeps : Keeping → Passing → Bool
+abbrev pub keeps : Keeping → PassingSets → Bool
 keeps (Waiting q) p = has p.wait q
 keeps (Inside q) p = has p.stay q
 

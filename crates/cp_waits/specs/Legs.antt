@@ -10,7 +10,7 @@ use Rattle.cp_endless.specs.Repeats.{Repeats, repeated_part}
 use Rattle.cp_endless.specs.Rounds.{spot_after, opening_spot, chosen_spot}
 use Rattle.cp_endless.specs.Silent.{silent_slots, in_call_on_slots, waits_on_slots}
 use Rattle.cp_waits.specs.Passings.{Seen, HasSeen}
-use Rattle.cp_waits.specs.declared.passing.Passing.{Passing}
+use Rattle.cp_waits.specs.declared.passing.PassingSets.{PassingSets}
 use Rattle.cp_waits.specs.declared.watching.Came.{Came}
 use Rattle.cp_waits.specs.declared.watching.Came.TheVariants as came
 
@@ -42,7 +42,7 @@ pub record Ends {S : Type 0} (sys : System S) (steps : ℕ) (leg : Leg S) : Type
   pub never : (s : S) (p : ℕ) → leg.spot ≡ Some (s, p) → Repeats sys steps s p → ⊥
 
 -- its stretch is seen to repeat, and `again` is what was seen of the part that repeats
-pub record GoesRound {S : Type 0} (sys : System S) (inside waiting : S → ℕ → Bool) (steps : ℕ) (leg : Leg S) (again : Passing) : Type 0 where
+pub record GoesRound {S : Type 0} (sys : System S) (inside waiting : S → ℕ → Bool) (steps : ℕ) (leg : Leg S) (again : PassingSets) : Type 0 where
   pub halted : IsHalted leg.node
   pub begin : S
   pub first : ℕ
@@ -51,17 +51,17 @@ pub record GoesRound {S : Type 0} (sys : System S) (inside waiting : S → ℕ �
   pub seen : Seen sys inside waiting [] (repeated_part repeats) again
 
 -- Some steps after it is in this state before a step of this process, but no more than the limit, a stretch is so again: then `again` is what was seen.
-abbrev pub HasRound : Tables → Gates → ℕ → Machine → ℕ → Option Passing → Type 0
+abbrev pub HasRound : Tables → Gates → ℕ → Machine → ℕ → Option PassingSets → Type 0
 HasRound r gates steps s p None = (k : ℕ) → k < steps → spot_after (silent_slots r gates) (suc k) s p ≡ Some (s, p) → ⊥
 HasRound r gates steps s p (Some again) =
     (k : ℕ) × (k < steps) × (spot_after (silent_slots r gates) (suc k) s p ≡ Some (s, p)) × HasSeen r gates [] (stretch_moments (silent_slots r gates) (suc k) s p) again
 
 -- Where a leg came to, and what was seen of it, with the due choices before it: of as many steps as the limit, and once round if it repeats.
-abbrev pub ComesTo : {S : Type 0} → System S → (S → ℕ → Bool) → (S → ℕ → Bool) → ℕ → Leg S → List S → Passing → Came → S → Type 0
+abbrev pub ComesTo : {S : Type 0} → System S → (S → ℕ → Bool) → (S → ℕ → Bool) → ℕ → Leg S → List S → PassingSets → Came → S → Type 0
 ComesTo sys inside waiting steps leg due p came.Choice s = (leg.node ≡ Choosing s) × Seen sys inside waiting due (leg.moments steps) p
 ComesTo sys inside waiting steps leg due p came.End s = Ends sys steps leg × Seen sys inside waiting due (leg.moments steps) p
 ComesTo sys inside waiting steps leg due p (came.Repeats again) s = (x : GoesRound sys inside waiting steps leg again) × Seen sys inside waiting due (leg.moments (steps + suc x.repeats.after)) p
 
 -- of the slot machine that shows nothing
-abbrev pub Comes : Tables → Gates → ℕ → Leg Machine → List Machine → Passing → Came → Machine → Type 0
+abbrev pub Comes : Tables → Gates → ℕ → Leg Machine → List Machine → PassingSets → Came → Machine → Type 0
 Comes r gates steps leg due p came m = ComesTo (silent_slots r gates) in_call_on_slots waits_on_slots steps leg due p came m

@@ -9,8 +9,8 @@ use Rattle.cp_waits.specs.declared.graph.Graph.{Graph}
 use Rattle.cp_waits.specs.declared.graph.Standstill.{Standstill}
 use Rattle.cp_waits.specs.declared.passing.Keeping.{Keeping}
 use Rattle.cp_waits.specs.declared.passing.Keeping.TheVariants as keeping
-use Rattle.cp_waits.specs.declared.waiting.Finding.{Finding}
-use Rattle.cp_waits.specs.declared.waiting.Finding.TheVariants as answer
+use Rattle.cp_waits.specs.declared.waiting.WaitFinding.{WaitFinding}
+use Rattle.cp_waits.specs.declared.waiting.WaitFinding.TheVariants as answer
 use Rattle.cp_waits.specs.declared.waiting.How.{How}
 use Rattle.cp_waits.specs.declared.waiting.How.TheVariants.{Throughout, ForGood, InItsCall}
 use Rattle.cp_waits.specs.declared.waiting.Waiting.{Waiting}
@@ -70,7 +70,7 @@ IsLine g states q line = (line.process ≡ q) × IsShown g states line line.how
 abbrev pub HasNoLine : Graph → ℕ → Type 0
 HasNoLine g q = NeverWaits g q × HasRanks g (keeping.Inside q)
 
-abbrev pub IsAnswer : Graph → States → ℕ → Finding → Type 0
+abbrev pub IsAnswer : Graph → States → ℕ → WaitFinding → Type 0
 IsAnswer g states q (answer.Yes line) = IsLine g states q line
 IsAnswer g states q answer.No = HasNoLine g q
 IsAnswer g states q answer.NotSettled = Unit {0}

@@ -9,7 +9,7 @@ use Rattle.cp_endless.specs.Fair.{IsServed}
 use Rattle.cp_endless.specs.Moments.{Moment, AnyOf}
 use Rattle.cp_endless.specs.Silent.{silent_slots, in_call_on_slots, waits_on_slots}
 use Rattle.cp_waits.specs.Sets.{has}
-use Rattle.cp_waits.specs.declared.passing.Passing.{Passing}
+use Rattle.cp_waits.specs.declared.passing.PassingSets.{PassingSets}
 use Rattle.cp_waits.specs.declared.set.Set.{Set}
 
 -- the set has exactly those of the first n processes of whom it is so
@@ -17,7 +17,7 @@ abbrev pub AreThose : ℕ → Set → (ℕ → Type 0) → Type 0
 AreThose n set P = (q : ℕ) → q < n → (has set q ≡ true) ↔ P q
 
 -- of due choices in these states, and of these moments
-pub record Seen {S : Type 0} (sys : System S) (inside waiting : S → ℕ → Bool) (due : List S) (ms : List (Moment S)) (p : Passing) : Type 0 where
+pub record Seen {S : Type 0} (sys : System S) (inside waiting : S → ℕ → Bool) (due : List S) (ms : List (Moment S)) (p : PassingSets) : Type 0 where
   pub wait : AreThose sys.processes p.wait (λ q. Each (λ t. waiting t q ≡ true) due × Each (λ m. waiting m.state q ≡ true) ms)
   pub wait_once : AreThose sys.processes p.wait_once (λ q. AnyOf (λ t. waiting t q ≡ true) due ⊎ AnyOf (λ m. waiting m.state q ≡ true) ms)
   pub stay : AreThose sys.processes p.stay (λ q. Each (λ t. inside t q ≡ true) due × Each (λ m. inside m.state q ≡ true) ms)
@@ -25,5 +25,5 @@ pub record Seen {S : Type 0} (sys : System S) (inside waiting : S → ℕ → Bo
   pub served : AreThose sys.processes p.served (λ q. IsServed sys q ms)
 
 -- of the slot machine that shows nothing
-abbrev pub HasSeen : Tables → Gates → List Machine → List (Moment Machine) → Passing → Type 0
+abbrev pub HasSeen : Tables → Gates → List Machine → List (Moment Machine) → PassingSets → Type 0
 HasSeen r gates due ms p = Seen (silent_slots r gates) in_call_on_slots waits_on_slots due ms p

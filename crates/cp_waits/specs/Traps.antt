@@ -1,7 +1,7 @@
 -- States of a graph in which a process keeps doing something whatever is chosen, and to which each schedule comes in which it keeps doing so for ever.
 use Rattle.std.specs.Prelude.{◌≡◌, ◌<◌, ℕ, Bool, true, false, Option, None, Some, length, slice_get}
-use Rattle.cp_waits.specs.declared.components.Component.{Component}
-use Rattle.cp_waits.specs.declared.components.Parts.{Parts}
+use Rattle.cp_waits.specs.declared.components.EdgeComponent.{EdgeComponent}
+use Rattle.cp_waits.specs.declared.components.EdgeComponents.{EdgeComponents}
 use Rattle.cp_waits.specs.declared.graph.Edge.{Edge}
 use Rattle.cp_waits.specs.declared.graph.Graph.{Graph}
 use Rattle.cp_waits.specs.declared.passing.Keeping.{Keeping}
@@ -33,9 +33,9 @@ HasTraps g keeping = (rank : ℕ → ℕ) × (passed_over : ℕ → Option ℕ) 
 
 -- ---- components as traps
 
-abbrev pub is_part_trap : Option Component → Bool
+abbrev pub is_part_trap : Option EdgeComponent → Bool
 is_part_trap None = false
 is_part_trap (Some part) = part.is_trap
 
-abbrev pub is_trap_in : Parts → ℕ → Bool
+abbrev pub is_trap_in : EdgeComponents → ℕ → Bool
 is_trap_in parts n = is_part_trap (slice_get parts.parts.items n)

@@ -15,12 +15,12 @@ ghost use Rattle.cp_waits.specs.Graphs.{IsGraphOfAll, IsNumber, IsSlotGraphOf};
 ghost use Rattle.cp_waits.specs.Legs.{Comes, Leg};
 
 use crate::graph::{Edge, Graph, Standstill};
-use crate::passing::Passing;
+use crate::passing::PassingSets;
 use crate::watching::{Came, choose, open};
 use cp_ends::Found;
 use cp_ends::origin::Origin;
 use cp_machine::{State, Ticks};
-use cp_run::{Limits, wanted};
+use cp_run::{Limits, candidates};
 use cp_slots::Resolved;
 use std::alloc::{AllocError, Global};
 use std::marker::Brand;
@@ -42,10 +42,10 @@ pub fn graph_of(
     requires kept { HasFindings program.now found.now }
     ensures { IfOk result (λ graph. IsGraphOfAll program.now limits.gates limits.steps found.now graph) }
 {
-    built::<Brand>(alloc, program, limits, found, Blank::new(1))
+    build_graph::<Brand>(alloc, program, limits, found, Blank::new(1))
 }
 
-fn built<S: Ledger>(
+fn build_graph<S: Ledger>(
     alloc: Global,
     program: &Resolved,
     limits: Limits,
@@ -87,7 +87,7 @@ impl Builder {
         requires ends { self.old.graph.ends.items ≡ [] }
         ensures { IfOk result (λ _. IsGraphOfAll program.now limits.gates limits.steps found.now self.new.graph) }
     {
-        let mut passing = Passing::new(self.graph.everybody());
+        let mut passing = PassingSets::new(self.graph.everybody());
         let came = open(alloc, program, limits, state, &mut passing, steps)?;
         self.note_standstill(came, Origin::Start)?;
         let mut next = state.copy(alloc)?;
@@ -138,7 +138,7 @@ impl Builder {
         ensures next { IsStateOf program.now next.new }
         ensures graph { IfOk result (λ _. (states : List (Machine × List ℕ)) (x : Machine × List ℕ) → AreAll program.now limits.gates limits.steps found.now states → self.old.graph.processes ≡ length program.now.processes → slice_get states number ≡ Some x → machine_of state.now ≡ x.0 → AddsChoicesOnSlots program.now limits.gates limits.steps states number x.0 (those_below (length program.now.processes) (may (slots program.now limits.gates) x.0)) self.old.graph self.new.graph) }
     {
-        let numbers = wanted(program, limits, state);
+        let numbers = candidates(program, limits, state);
         for process in numbers.as_slice() {
             next.take_from(state);
             self.take_choice(alloc, program, limits, found, number, next, *process, steps)?;
@@ -164,7 +164,7 @@ impl Builder {
         ensures own { IsStateOf program.now state.new }
         ensures graph { IfOk result (λ _. (states : List (Machine × List ℕ)) (x : Machine × List ℕ) → AreAll program.now limits.gates limits.steps found.now states → self.old.graph.processes ≡ length program.now.processes → slice_get states number ≡ Some x → machine_of state.old ≡ x.0 → AddsChoicesOnSlots program.now limits.gates limits.steps states number x.0 (process ∷ []) self.old.graph self.new.graph) }
     {
-        let mut passing = Passing::new(self.graph.everybody());
+        let mut passing = PassingSets::new(self.graph.everybody());
         let came = choose(alloc, program, limits, state, process, &mut passing, steps)?;
         let to = self.number_after(came, found, state)?;
         let origin = Origin::Choice {
@@ -188,7 +188,7 @@ impl Builder {
         state: &State,
     ) -> Result<Option<u32>, AllocError>
         ensures graph { self.new.graph ≡ self.old.graph }
-        ensures number { IfOk result (λ to. (r : Tables) (gates : slot_gates.Gates) (steps : ℕ) (leg : Leg Machine) (due : List Machine) (seen : Passing) (states : List (Machine × List ℕ)) → AreAll r gates steps found.now states → IsIn (HasWord states) (λ kind. Unit {0}) leg.node → Comes r gates steps leg due seen came (machine_of state.now) → IsNumber states leg.node to) }
+        ensures number { IfOk result (λ to. (r : Tables) (gates : slot_gates.Gates) (steps : ℕ) (leg : Leg Machine) (due : List Machine) (seen : PassingSets) (states : List (Machine × List ℕ)) → AreAll r gates steps found.now states → IsIn (HasWord states) (λ kind. Unit {0}) leg.node → Comes r gates steps leg due seen came (machine_of state.now) → IsNumber states leg.node to) }
     {
         match came {
             Came::Choice => self.number_of(found, state),
@@ -215,7 +215,7 @@ impl Builder {
         ensures processes { self.new.graph.processes ≡ self.old.graph.processes }
         ensures edges { self.new.graph.edges.items ≡ self.old.graph.edges.items }
         ensures ends { self.new.graph.ends.items ≡ self.old.graph.ends.items }
-        ensures still { IfOk result (λ _. (r : Tables) (gates : slot_gates.Gates) (steps : ℕ) (leg : Leg Machine) (due : List Machine) (seen : Passing) (m : Machine) → length r.processes ≤ 16 → self.old.graph.processes ≡ length r.processes → IsOfStretch (silent_slots r gates) steps leg → Comes r gates steps leg due seen came m → AddsStill (silent_slots r gates) in_call_on_slots waits_on_slots steps leg origin self.old.graph self.new.graph) }
+        ensures still { IfOk result (λ _. (r : Tables) (gates : slot_gates.Gates) (steps : ℕ) (leg : Leg Machine) (due : List Machine) (seen : PassingSets) (m : Machine) → length r.processes ≤ 16 → self.old.graph.processes ≡ length r.processes → IsOfStretch (silent_slots r gates) steps leg → Comes r gates steps leg due seen came m → AddsStill (silent_slots r gates) in_call_on_slots waits_on_slots steps leg origin self.old.graph self.new.graph) }
     {
         let Came::Repeats(again) = came else {
             return Ok(());

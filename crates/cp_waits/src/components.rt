@@ -14,7 +14,7 @@ const NONE: u32 = u32::MAX;
 
 /// A component.
 #[derive(Clone, Copy)]
-pub struct Component {
+pub struct EdgeComponent {
     /// The first of its states.
     pub least: u32,
     /// Those that are served on some of its edges.
@@ -31,9 +31,9 @@ pub struct Component {
 
 /// The component of each state, and what they are. No edge leads to a component of a greater number.
 #[derive(Drop)]
-pub struct Parts {
+pub struct EdgeComponents {
     pub of: Vec<u32>,
-    pub parts: Vec<Component>,
+    pub parts: Vec<EdgeComponent>,
 }
 
 // A state whose edges are followed, from this one on and before this one.
@@ -46,9 +46,9 @@ struct Visit {
 
 // The algorithm of Tarjan, whose calls are visits.
 #[derive(Drop)]
-struct Search {
+struct ComponentSearch {
     keeping: Keeping,
-    parts: Parts,
+    parts: EdgeComponents,
     // When a state was come to, counted from 1, or 0.
     order: Vec<u32>,
     // The earliest state that is known to be in the same component.
@@ -61,11 +61,15 @@ struct Search {
 }
 
 /// The components of the graph that has those edges alone on which the process keeps doing this.
-pub fn parts_of(alloc: Global, graph: &Graph, keeping: Keeping) -> Result<Parts, AllocError> {
+pub fn parts_of(
+    alloc: Global,
+    graph: &Graph,
+    keeping: Keeping,
+) -> Result<EdgeComponents, AllocError> {
     let states = graph.states();
-    let mut search = Search {
+    let mut search = ComponentSearch {
         keeping,
-        parts: Parts {
+        parts: EdgeComponents {
             of: list_of(alloc, states, NONE)?,
             parts: Vec::new(alloc),
         },
@@ -80,7 +84,7 @@ pub fn parts_of(alloc: Global, graph: &Graph, keeping: Keeping) -> Result<Parts,
     Ok(search.parts)
 }
 
-impl Parts {
+impl EdgeComponents {
     /// The number of the component of a state.
     pub fn number_of(&self, state: usize) -> u32
         ensures { result ≡ rank_in self.now state }
@@ -91,7 +95,7 @@ impl Parts {
         }
     }
 
-    pub fn part(&self, number: u32) -> Option<&Component> {
+    pub fn part(&self, number: u32) -> Option<&EdgeComponent> {
         self.parts.get(number as usize)
     }
 
@@ -114,7 +118,7 @@ impl Parts {
     }
 }
 
-impl Search {
+impl ComponentSearch {
     fn visit_all(&mut self, graph: &Graph) -> Result<(), AllocError> {
         let mut state = 0u32;
         for _ in 0..graph.states() {
@@ -215,7 +219,7 @@ impl Search {
     }
 }
 
-fn number_after(parts: &[Component]) -> u32 {
+fn number_after(parts: &[EdgeComponent]) -> u32 {
     match u32::try_from(parts.len()) {
         Ok(number) => number,
         Err(_) => NONE,
@@ -241,11 +245,11 @@ fn somebody_in(set: Set) -> Option<u8> {
 fn part_with(
     graph: &Graph,
     keeping: Keeping,
-    parts: &Parts,
+    parts: &EdgeComponents,
     number: u32,
     members: &[u32],
-) -> Component {
-    let mut part = Component {
+) -> EdgeComponent {
+    let mut part = EdgeComponent {
         least: NONE,
         served: Set::nobody(),
         wait_once: Set::nobody(),
@@ -265,9 +269,9 @@ fn part_with(
     part
 }
 
-impl Component {
+impl EdgeComponent {
     // One edge more of its states.
-    fn add(&mut self, keeping: Keeping, parts: &Parts, number: u32, edge: &Edge) {
+    fn add(&mut self, keeping: Keeping, parts: &EdgeComponents, number: u32, edge: &Edge) {
         if !keeping.holds(&edge.passing) {
             self.is_trap = false;
             return;

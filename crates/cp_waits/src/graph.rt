@@ -4,7 +4,7 @@ ghost use Rattle.std.specs.Prelude.{◌≡◌, ◌&&◌, ◌∷◌, ◌++◌, �
 ghost use Rattle.cp_waits.specs.Sets.{has};
 ghost use Rattle.cp_waits.specs.Walks.{first_edge, end_edge};
 
-use crate::passing::Passing;
+use crate::passing::PassingSets;
 use crate::set::Set;
 use cp_ends::origin::Origin;
 use std::alloc::{AllocError, Global};
@@ -15,7 +15,7 @@ pub struct Edge {
     pub number: u8,
     /// The state at the next due choice, if there is one.
     pub to: Option<u32>,
-    pub passing: Passing,
+    pub passing: PassingSets,
 }
 
 /// A stretch that goes on for ever without a choice, in which each process is served.
@@ -23,7 +23,7 @@ pub struct Edge {
 pub struct Standstill {
     pub origin: Origin,
     /// What processes do in the part that repeats.
-    pub again: Passing,
+    pub again: PassingSets,
 }
 
 /// The choices of each state, by the number of the state.

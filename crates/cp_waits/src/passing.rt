@@ -16,7 +16,7 @@ use cp_machine::{Entry, State};
 
 /// What processes do at the moments of a stretch: at the choice before it, and before each of its steps.
 #[derive(Clone, Copy)]
-pub struct Passing {
+pub struct PassingSets {
     /// Those that are at a gate or delayed at each moment.
     pub wait: Set,
     /// Those that are so at some moment.
@@ -29,12 +29,12 @@ pub struct Passing {
     pub served: Set,
 }
 
-impl Passing {
+impl PassingSets {
     /// There was no moment yet.
-    pub fn new(everybody: Set) -> Passing
+    pub fn new(everybody: Set) -> PassingSets
         ensures { (r : Tables) (gates : slot_gates.Gates) → ((q : ℕ) → q < length r.processes → has everybody q ≡ true) → HasSeen r gates [] [] result }
     {
-        Passing {
+        PassingSets {
             wait: everybody,
             wait_once: Set::nobody(),
             stay: everybody,
@@ -83,7 +83,7 @@ impl Passing {
     }
 
     /// The moments of another one come after these.
-    pub fn then(&mut self, other: &Passing)
+    pub fn then(&mut self, other: &PassingSets)
         ensures { (r : Tables) (gates : slot_gates.Gates) (due : List Machine) (ms ns : List (Moment Machine)) → HasSeen r gates due ms self.old → HasSeen r gates [] ns other.now → HasSeen r gates due (ms ++ ns) self.new }
     {
         self.wait = self.wait.and(other.wait);
@@ -162,7 +162,7 @@ pub enum Keeping {
 
 impl Keeping {
     /// Whether it does so at each moment.
-    pub fn holds(self, passing: &Passing) -> bool
+    pub fn holds(self, passing: &PassingSets) -> bool
         ensures { result ≡ keeps self passing.now }
     {
         match self {

@@ -5,13 +5,13 @@ ghost use Rattle.cp_waits.specs.Ranks.{AreRanks, IsRanked, IsPassedOver, rank_in
 ghost use Rattle.cp_waits.specs.Walks.{IsEdge};
 ghost use Rattle.cp_waits.specs.declared.graph.Edge.{Edge};
 
-use crate::components::Parts;
+use crate::components::EdgeComponents;
 use crate::graph::{Edge, Graph};
-use crate::passing::{Keeping, Passing};
+use crate::passing::{Keeping, PassingSets};
 
 /// Whether the numbers of the components are such ranks: while the process keeps doing this no choice raises them, and while a number
 /// stays some process is passed over, or the process is never seen to wait.
-pub fn are_ranks(graph: &Graph, parts: &Parts, keeping: Keeping) -> bool
+pub fn are_ranks(graph: &Graph, parts: &EdgeComponents, keeping: Keeping) -> bool
     ensures { IsTrue result ↔ AreRanks graph.now keeping (rank_in parts.now) (passed_over_in parts.now) }
 {
     for state in 0..graph.states() {
@@ -22,7 +22,7 @@ pub fn are_ranks(graph: &Graph, parts: &Parts, keeping: Keeping) -> bool
     true
 }
 
-fn is_state_ranked(graph: &Graph, parts: &Parts, keeping: Keeping, state: usize) -> bool
+fn is_state_ranked(graph: &Graph, parts: &EdgeComponents, keeping: Keeping, state: usize) -> bool
     ensures { IsTrue result ↔ ((e : Edge) → IsEdge graph.now state e → IsRanked graph.now keeping (rank_in parts.now) (passed_over_in parts.now) state e) }
 {
     for place in graph.begin(state)..graph.end(state) {
@@ -33,7 +33,13 @@ fn is_state_ranked(graph: &Graph, parts: &Parts, keeping: Keeping, state: usize)
     true
 }
 
-fn is_ranked_at(graph: &Graph, parts: &Parts, keeping: Keeping, state: usize, place: usize) -> bool
+fn is_ranked_at(
+    graph: &Graph,
+    parts: &EdgeComponents,
+    keeping: Keeping,
+    state: usize,
+    place: usize,
+) -> bool
     ensures { IsTrue result ↔ ((e : Edge) → slice_get graph.now.edges.items place ≡ Some e → IsRanked graph.now keeping (rank_in parts.now) (passed_over_in parts.now) state e) }
 {
     match graph.edge(place) {
@@ -43,7 +49,13 @@ fn is_ranked_at(graph: &Graph, parts: &Parts, keeping: Keeping, state: usize, pl
 }
 
 /// Whether the choice raises no number, and passes somebody over where the number stays.
-pub fn is_ranked(graph: &Graph, parts: &Parts, keeping: Keeping, state: usize, edge: &Edge) -> bool
+pub fn is_ranked(
+    graph: &Graph,
+    parts: &EdgeComponents,
+    keeping: Keeping,
+    state: usize,
+    edge: &Edge,
+) -> bool
     ensures { IsTrue result ↔ IsRanked graph.now keeping (rank_in parts.now) (passed_over_in parts.now) state edge.now }
 {
     let Some(to) = edge.to else {
@@ -66,7 +78,7 @@ fn is_passed_over(
     processes: u8,
     keeping: Keeping,
     passed_over: Option<u8>,
-    passing: &Passing,
+    passing: &PassingSets,
 ) -> bool
     ensures { IsTrue result ↔ IsPassedOver processes keeping passed_over passing.now }
 {

@@ -3,9 +3,9 @@
 ghost use Rattle.std.specs.Prelude.{IfOk, IfSome};
 ghost use Rattle.cp_waits.specs.Walks.{IsRound};
 
-use crate::components::{Parts, at, list_of, set_at};
+use crate::components::{EdgeComponents, at, list_of, set_at};
 use crate::graph::{Edge, Graph};
-use crate::passing::{Keeping, Passing};
+use crate::passing::{Keeping, PassingSets};
 use crate::set::Set;
 use crate::trails::{Round, round_along};
 use std::alloc::{AllocError, Global};
@@ -47,7 +47,7 @@ struct Tour {
 }
 
 impl Wanted {
-    fn is_met_by(self, passing: &Passing) -> bool {
+    fn is_met_by(self, passing: &PassingSets) -> bool {
         let serves = !self.processes.and(passing.served).is_empty();
         let waits = match self.waits {
             Some(pid) => passing.wait_once.has(pid),
@@ -56,7 +56,7 @@ impl Wanted {
         serves || waits
     }
 
-    fn after(self, passing: &Passing) -> Wanted {
+    fn after(self, passing: &PassingSets) -> Wanted {
         Wanted {
             processes: self.processes.but(passing.served),
             waits: match self.waits {
@@ -76,7 +76,7 @@ impl Wanted {
 pub fn round_in(
     alloc: Global,
     graph: &Graph,
-    parts: &Parts,
+    parts: &EdgeComponents,
     keeping: Keeping,
     part: u32,
     first: u32,
@@ -139,7 +139,7 @@ impl Tour {
     fn go_to(
         &mut self,
         graph: &Graph,
-        parts: &Parts,
+        parts: &EdgeComponents,
         aim: Destination,
     ) -> Result<bool, AllocError> {
         self.turn = self.turn.saturating_add(1);
@@ -169,7 +169,7 @@ impl Tour {
     }
 
     // Where an edge of the component leads.
-    fn next_of(&self, parts: &Parts, edge: &Edge) -> Option<u32> {
+    fn next_of(&self, parts: &EdgeComponents, edge: &Edge) -> Option<u32> {
         let to = edge.to?;
         if self.keeping.holds(&edge.passing) && parts.number_of(to as usize) == self.part {
             Some(to)

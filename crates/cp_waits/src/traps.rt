@@ -6,14 +6,14 @@ ghost use Rattle.cp_waits.specs.Traps.{AreTraps, HasEdge, IsStateLed, LeadsToTra
 ghost use Rattle.cp_waits.specs.Walks.{IsEdge};
 ghost use Rattle.cp_waits.specs.declared.graph.Edge.{Edge};
 
-use crate::components::Parts;
+use crate::components::EdgeComponents;
 use crate::graph::{Edge, Graph};
 use crate::passing::Keeping;
 use crate::ranks::is_ranked;
 
 /// Whether each schedule in which the process keeps doing this for ever comes to a trap: no choice leads out of a trap, and the numbers
 /// of the other components are ranks.
-pub fn are_traps(graph: &Graph, parts: &Parts, keeping: Keeping) -> bool
+pub fn are_traps(graph: &Graph, parts: &EdgeComponents, keeping: Keeping) -> bool
     ensures { IsTrue result ↔ AreTraps graph.now keeping (rank_in parts.now) (passed_over_in parts.now) (is_trap_in parts.now) }
 {
     for state in 0..graph.states() {
@@ -24,7 +24,7 @@ pub fn are_traps(graph: &Graph, parts: &Parts, keeping: Keeping) -> bool
     true
 }
 
-fn is_state_led(graph: &Graph, parts: &Parts, keeping: Keeping, state: usize) -> bool
+fn is_state_led(graph: &Graph, parts: &EdgeComponents, keeping: Keeping, state: usize) -> bool
     ensures { IsTrue result ↔ IsStateLed graph.now keeping (rank_in parts.now) (passed_over_in parts.now) (is_trap_in parts.now) state }
 {
     let is_trap = parts.is_trap(parts.number_of(state));
@@ -46,7 +46,7 @@ fn has_edge(graph: &Graph, state: usize) -> bool
 
 fn are_edges_led(
     graph: &Graph,
-    parts: &Parts,
+    parts: &EdgeComponents,
     keeping: Keeping,
     state: usize,
     is_trap: bool,
@@ -63,7 +63,7 @@ fn are_edges_led(
 
 fn is_edge_led_at(
     graph: &Graph,
-    parts: &Parts,
+    parts: &EdgeComponents,
     keeping: Keeping,
     state: usize,
     is_trap: bool,
@@ -79,7 +79,7 @@ fn is_edge_led_at(
 
 fn is_edge_led(
     graph: &Graph,
-    parts: &Parts,
+    parts: &EdgeComponents,
     keeping: Keeping,
     state: usize,
     is_trap: bool,
@@ -94,7 +94,7 @@ fn is_edge_led(
     }
 }
 
-fn stays_trapped(parts: &Parts, keeping: Keeping, edge: &Edge) -> bool
+fn stays_trapped(parts: &EdgeComponents, keeping: Keeping, edge: &Edge) -> bool
     ensures { IsTrue result ↔ StaysTrapped keeping (rank_in parts.now) (is_trap_in parts.now) edge.now }
 {
     if !keeping.holds(&edge.passing) {

@@ -4,7 +4,7 @@ ghost use Rattle.std.specs.Prelude.{◌≡◌, true, Contains, IfOk, IfSome, Mat
 ghost use Rattle.cp_waits.specs.Lines.{SayWhoWaits, IsAnswer, ShowsRound, StandsStillNever, NeverWaits};
 ghost use Rattle.cp_waits.specs.Sets.{has};
 
-use crate::components::{Component, Parts, parts_of};
+use crate::components::{EdgeComponent, EdgeComponents, parts_of};
 use crate::graph::{Graph, Standstill};
 use crate::passing::Keeping;
 use crate::ranks::are_ranks;
@@ -47,7 +47,7 @@ pub enum Waits {
 
 // What was found of a process.
 #[derive(Drop)]
-enum Finding {
+enum WaitFinding {
     Yes(Waiting),
     No,
     NotSettled,
@@ -68,9 +68,9 @@ pub fn who_waits(alloc: Global, graph: &Graph, states: &States) -> Result<Waits,
     let mut list = Vec::new(alloc);
     for process in 0..graph.processes {
         match answer_of(alloc, graph, states, process)? {
-            Finding::Yes(waiting) => list.push(waiting)?,
-            Finding::No => {}
-            Finding::NotSettled => return Ok(Waits::NotSettled(process)),
+            WaitFinding::Yes(waiting) => list.push(waiting)?,
+            WaitFinding::No => {}
+            WaitFinding::NotSettled => return Ok(Waits::NotSettled(process)),
         }
     }
     Ok(Waits::Known(list))
@@ -81,7 +81,7 @@ fn answer_of(
     graph: &Graph,
     states: &States,
     process: u8,
-) -> Result<Finding, AllocError>
+) -> Result<WaitFinding, AllocError>
     ensures { IfOk result (λ answer. IsAnswer graph.now states.now process answer) }
 {
     let keeping = Keeping::Waiting(process);
@@ -97,7 +97,7 @@ fn answer_of(
         Some(still) => standing_still(alloc, graph, states, &parts, process, &still),
         None => {
             if !are_ranks(graph, &parts, keeping) {
-                return Ok(Finding::NotSettled);
+                return Ok(WaitFinding::NotSettled);
             }
             answer_in_call(alloc, graph, states, process)
         }
@@ -109,10 +109,10 @@ fn round_of(
     alloc: Global,
     graph: &Graph,
     states: &States,
-    parts: &Parts,
+    parts: &EdgeComponents,
     process: u8,
     fair: Fair,
-) -> Result<Finding, AllocError>
+) -> Result<WaitFinding, AllocError>
     ensures { IfOk result (λ answer. IsAnswer graph.now states.now process answer) }
 {
     if fair.is_trap {
@@ -130,8 +130,8 @@ fn round_of(
             process,
             How::Throughout,
         )? {
-            Some(waiting) => Finding::Yes(waiting),
-            None => Finding::NotSettled,
+            Some(waiting) => WaitFinding::Yes(waiting),
+            None => WaitFinding::NotSettled,
         },
     )
 }
@@ -141,15 +141,15 @@ fn round_for_good(
     alloc: Global,
     graph: &Graph,
     states: &States,
-    parts: &Parts,
+    parts: &EdgeComponents,
     process: u8,
     fair: Fair,
-) -> Result<Finding, AllocError>
+) -> Result<WaitFinding, AllocError>
     ensures { IfOk result (λ answer. IsAnswer graph.now states.now process answer) }
 {
     let keeping = Keeping::Waiting(process);
     if !are_traps(graph, parts, keeping) {
-        return Ok(Finding::NotSettled);
+        return Ok(WaitFinding::NotSettled);
     }
     Ok(
         match lasso(
@@ -162,8 +162,8 @@ fn round_for_good(
             process,
             How::ForGood,
         )? {
-            Some(waiting) => Finding::Yes(waiting),
-            None => Finding::NotSettled,
+            Some(waiting) => WaitFinding::Yes(waiting),
+            None => WaitFinding::NotSettled,
         },
     )
 }
@@ -173,18 +173,18 @@ fn standing_still(
     alloc: Global,
     graph: &Graph,
     states: &States,
-    parts: &Parts,
+    parts: &EdgeComponents,
     process: u8,
     still: &Standstill,
-) -> Result<Finding, AllocError>
+) -> Result<WaitFinding, AllocError>
     requires known { Contains graph.now.standstills.items still.now }
     requires waits { has still.now.again.wait process ≡ true }
     ensures { IfOk result (λ answer. IsAnswer graph.now states.now process answer) }
 {
     if !are_traps(graph, parts, Keeping::Waiting(process)) {
-        return Ok(Finding::NotSettled);
+        return Ok(WaitFinding::NotSettled);
     }
-    Ok(Finding::Yes(Waiting {
+    Ok(WaitFinding::Yes(Waiting {
         process,
         first: states.word(alloc, still.origin)?,
         again: Vec::new(alloc),
@@ -199,7 +199,7 @@ fn answer_in_call(
     graph: &Graph,
     states: &States,
     process: u8,
-) -> Result<Finding, AllocError>
+) -> Result<WaitFinding, AllocError>
     requires { NeverWaits graph.now process }
     ensures { IfOk result (λ answer. IsAnswer graph.now states.now process answer) }
 {
@@ -207,9 +207,9 @@ fn answer_in_call(
     let parts = parts_of(alloc, graph, keeping)?;
     let Some(fair) = fair_part(graph, &parts, keeping) else {
         if are_ranks(graph, &parts, keeping) {
-            return Ok(Finding::No);
+            return Ok(WaitFinding::No);
         }
-        return Ok(Finding::NotSettled);
+        return Ok(WaitFinding::NotSettled);
     };
     Ok(
         match lasso(
@@ -222,14 +222,14 @@ fn answer_in_call(
             process,
             How::InItsCall,
         )? {
-            Some(waiting) => Finding::Yes(waiting),
-            None => Finding::NotSettled,
+            Some(waiting) => WaitFinding::Yes(waiting),
+            None => WaitFinding::NotSettled,
         },
     )
 }
 
 // A fair component: no trap if there is such a one, and then the one that is come to first.
-fn fair_part(graph: &Graph, parts: &Parts, keeping: Keeping) -> Option<Fair> {
+fn fair_part(graph: &Graph, parts: &EdgeComponents, keeping: Keeping) -> Option<Fair> {
     let everybody = graph.everybody();
     let mut best = None;
     let mut number = 0u32;
@@ -246,7 +246,7 @@ fn fair_part(graph: &Graph, parts: &Parts, keeping: Keeping) -> Option<Fair> {
     best
 }
 
-fn is_better(part: &Component, best: Option<Fair>) -> bool {
+fn is_better(part: &EdgeComponent, best: Option<Fair>) -> bool {
     match best {
         None => true,
         Some(best) => {
@@ -275,7 +275,7 @@ fn lasso(
     alloc: Global,
     graph: &Graph,
     states: &States,
-    parts: &Parts,
+    parts: &EdgeComponents,
     keeping: Keeping,
     fair: Fair,
     process: u8,

@@ -10,10 +10,10 @@ ghost use Rattle.cp_ends.specs.Holds.{same_key};
 ghost use Rattle.cp_waits.specs.Legs.{Comes, HasRound, choice_leg, first_leg, stretch_leg};
 ghost use Rattle.cp_waits.specs.Passings.{HasSeen};
 
-use crate::passing::Passing;
+use crate::passing::PassingSets;
 use crate::set::Set;
 use cp_ends::going::take_step;
-use cp_ends::state_key::StateKey;
+use cp_ends::state_key::ReachedKey;
 use cp_machine::{Shown, State, Ticks};
 use cp_run::turn::{settled_turn, turn_at};
 use cp_run::{Limits, Turn};
@@ -29,7 +29,7 @@ pub enum Came {
     /// There is none any more.
     End,
     /// It goes on for ever without a choice; this is what processes do in the part that repeats.
-    Repeats(Passing),
+    Repeats(PassingSets),
 }
 
 // Goes on with a process until a choice is due, or there is none any more.
@@ -39,7 +39,7 @@ fn stretch<S: Ledger>(
     limits: Limits,
     state: &mut State,
     pid: u8,
-    passing: &mut Passing,
+    passing: &mut PassingSets,
     steps: &mut Ticks<S>,
 ) -> Result<Came, AllocError>
     requires own { IsStateOf program.now state.old }
@@ -80,7 +80,7 @@ fn round<S: Ledger>(
     pid: u8,
     told: &mut Vec<Shown>,
     steps: &mut Ticks<S>,
-) -> Result<Option<Passing>, AllocError>
+) -> Result<Option<PassingSets>, AllocError>
     requires own { IsStateOf program.now state.old }
     requires ready { is_ready (machine_of state.old) pid ≡ true }
     requires free { is_pending (machine_of state.old) ≡ false }
@@ -92,7 +92,7 @@ fn round<S: Ledger>(
     let mut first = empty_key(alloc);
     first.take_from(state)?;
     let mut key = empty_key(alloc);
-    let mut again = Passing::new(Set::below(program.processes()));
+    let mut again = PassingSets::new(Set::below(program.processes()));
     let mut going = pid;
     for _ in 0..limits.steps {
         again.add(state, going);
@@ -109,14 +109,14 @@ fn round<S: Ledger>(
 }
 
 /// A key that is none yet.
-pub fn empty_key(alloc: Global) -> StateKey {
-    StateKey {
+pub fn empty_key(alloc: Global) -> ReachedKey {
+    ReachedKey {
         bytes: Vec::new(alloc),
     }
 }
 
 // Whether this is the state of a key. There is room for another one.
-fn is_at(state: &State, first: &StateKey, key: &mut StateKey) -> Result<bool, AllocError>
+fn is_at(state: &State, first: &ReachedKey, key: &mut ReachedKey) -> Result<bool, AllocError>
     ensures { IfOk result (λ b. (m : Machine) → first.now.bytes.items ≡ key_of m → b ≡ same_key (machine_of state.now) m) }
 {
     key.take_from(state)?;
@@ -130,7 +130,7 @@ pub fn choose<S: Ledger>(
     limits: Limits,
     state: &mut State,
     process: u8,
-    passing: &mut Passing,
+    passing: &mut PassingSets,
     steps: &mut Ticks<S>,
 ) -> Result<Came, AllocError>
     requires own { IsStateOf program.now state.old }
@@ -158,7 +158,7 @@ pub fn open<S: Ledger>(
     program: &Resolved,
     limits: Limits,
     state: &mut State,
-    passing: &mut Passing,
+    passing: &mut PassingSets,
     steps: &mut Ticks<S>,
 ) -> Result<Came, AllocError>
     requires own { IsStateOf program.now state.old }

@@ -17,8 +17,8 @@ use Rattle.cp_board.specs.Seats.{view_of, IsSeatOf}
 use Rattle.cp_board.proofs.Lists.{sum_ones, sum_same, sum_le, sum_range}
 use Rattle.cp_walk.specs.declared.worker.TaskRows.{TaskRows}
 use Rattle.cp_walk.specs.declared.worker.Worked.{Worked}
-use Rattle.cp_walk.specs.declared.worker.End.{End}
-use Rattle.cp_walk.specs.declared.worker.End.TheVariants.{Dry, Excess, Refused}
+use Rattle.cp_walk.specs.declared.worker.WorkerEnd.{WorkerEnd}
+use Rattle.cp_walk.specs.declared.worker.WorkerEnd.TheVariants.{Dry, Excess, Refused}
 use Rattle.cp_walk.specs.Tables.{table_of, rows_at}
 use Rattle.cp_walk.specs.Ends.{IsDone, IsHonest, EndsAs, IsKept, HasWorked}
 use Rattle.cp_walk.proofs.Doing.{honest}
@@ -69,12 +69,12 @@ found rows t (p ∷ ps) cut has =
     ] is in
     cases (eqb p.task t) refl
 
-honest_of : (rows : ℕ → List Row) (v : View) (ps : List TaskRows) (e : End) → EndsAs rows v ps e → IsKept e → IsHonest rows v
+honest_of : (rows : ℕ → List Row) (v : View) (ps : List TaskRows) (e : WorkerEnd) → EndsAs rows v ps e → IsKept e → IsHonest rows v
 honest_of rows v ps Dry h kept = honest rows v ps h.1
 honest_of rows v ps Excess h kept = h.0
 honest_of rows v ps Refused h kept = absurd kept
 
-done_of : (rows : ℕ → List Row) (v : View) (ps : List TaskRows) (e : End) (total : ℕ) → EndsAs rows v ps e → IsKept e → All (λ n. n.total ≤ total) v.notes → total ≤ 50000 → (v.spent ≡ 1) × IsDone rows v ps
+done_of : (rows : ℕ → List Row) (v : View) (ps : List TaskRows) (e : WorkerEnd) (total : ℕ) → EndsAs rows v ps e → IsKept e → All (λ n. n.total ≤ total) v.notes → total ≤ 50000 → (v.spent ≡ 1) × IsDone rows v ps
 done_of rows v ps Dry total h kept most few = h
 done_of rows v ps Excess total (low, (k, n, at, is, over)) kept most few =
     let le : n.total ≤ total = subst (λ (m : Note). m.total ≤ total) is (most k n at) in

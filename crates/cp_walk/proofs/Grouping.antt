@@ -14,7 +14,7 @@ use Rattle.cp_run.specs.Table.{Line, each}
 use Rattle.cp_run.specs.declared.outcome.Outcome.{Outcome}
 use Rattle.cp_walk.specs.Report.{outcome_numbers, same_outcome, outcomes_of, firsts, count_of, group_text, groups_text}
 use Rattle.cp_walk.specs.Groups.{Tally, tally, tally_of, tallies_of, tally_with, tally_text}
-use Rattle.cp_walk.specs.declared.groups.Group.{Group}
+use Rattle.cp_walk.specs.declared.groups.RowGroup.{RowGroup}
 use Rattle.cp_walk.specs.declared.key.OutcomeKey.{OutcomeKey}
 use Rattle.cp_walk.specs.declared.row.Row.{Row}
 use Rattle.cp_walk.specs.Rows.{line_of}
@@ -166,10 +166,10 @@ pub few_counted : (lines : List Line) (q : List ℕ) → IfSome (lookup (pointwi
 few_counted lines q = few_of lines (firsts [] lines) q
 
 -- an entry of the code's map: the numbers of its outcome, its first row, and its count
-abbrev pub held : OutcomeKey × Group → List ℕ × Tally
+abbrev pub held : OutcomeKey × RowGroup → List ℕ × Tally
 held e = (outcome_numbers e.0.row.now.outcome, tally e.1)
 
-held_insert : (es : List (OutcomeKey × Group)) (k : OutcomeKey) (g : Group) → map held (insert_entry (λ x y. same_outcome x.row.now.outcome y.row.now.outcome) es k g) ≡ insert_entry (pointwise nat_eq) (map held es) (outcome_numbers k.row.now.outcome) (tally g)
+held_insert : (es : List (OutcomeKey × RowGroup)) (k : OutcomeKey) (g : RowGroup) → map held (insert_entry (λ x y. same_outcome x.row.now.outcome y.row.now.outcome) es k g) ≡ insert_entry (pointwise nat_eq) (map held es) (outcome_numbers k.row.now.outcome) (tally g)
 held_insert [] k g = refl
 held_insert (e ∷ es) k g = by (same_outcome k.row.now.outcome e.0.row.now.outcome) (held_insert es k g)
   where
@@ -177,7 +177,7 @@ held_insert (e ∷ es) k g = by (same_outcome k.row.now.outcome e.0.row.now.outc
     by true h = refl
     by false h = ap (λ ts. held e ∷ ts) h
 
-held_lookup : (es : List (OutcomeKey × Group)) (o : Outcome) → option_map tally (lookup (λ k. same_outcome o k.row.now.outcome) es) ≡ lookup (pointwise nat_eq (outcome_numbers o)) (map held es)
+held_lookup : (es : List (OutcomeKey × RowGroup)) (o : Outcome) → option_map tally (lookup (λ k. same_outcome o k.row.now.outcome) es) ≡ lookup (pointwise nat_eq (outcome_numbers o)) (map held es)
 held_lookup [] o = refl
 held_lookup (e ∷ es) o = by (same_outcome o e.0.row.now.outcome) (held_lookup es o)
   where
@@ -186,12 +186,12 @@ held_lookup (e ∷ es) o = by (same_outcome o e.0.row.now.outcome) (held_lookup 
     by false h = h
 
 -- an outcome with one row more, where the code finds what is known of it or begins at none
-pub counted_one : (o : Option Group) (row : Bor Row) (now new : Group) → now ≡ unwrap_or o (record { first = row; count = 0 }) → new ≡ record { first = now.first; count = now.count + 1 } → tally new ≡ tally_with (option_map tally o) (line_of row.now)
+pub counted_one : (o : Option RowGroup) (row : Bor Row) (now new : RowGroup) → now ≡ unwrap_or o (record { first = row; count = 0 }) → new ≡ record { first = now.first; count = now.count + 1 } → tally new ≡ tally_with (option_map tally o) (line_of row.now)
 counted_one None row now new h e = ap tally e ∙ ap (λ g. tally (record { first = g.first; count = g.count + 1 })) h
 counted_one (Some g) row now new h e = ap tally e ∙ ap (λ g. tally (record { first = g.first; count = g.count + 1 })) h
 
 -- the map after one row more
-pub grouped_more : (rows : List Row) (k : ℕ) (key : OutcomeKey) (es new : List (OutcomeKey × Group)) (g : Group) → k < length rows → key.row.now ≡ get_or rows k key.row.now → map held es ≡ tallies_of (map line_of (take k rows)) → tally g ≡ tally_with (option_map tally (lookup (λ q. same_outcome key.row.now.outcome q.row.now.outcome) es)) (line_of key.row.now) → new ≡ insert_entry (λ p q. same_outcome p.row.now.outcome q.row.now.outcome) es key g → map held new ≡ tallies_of (map line_of (take (k + 1) rows))
+pub grouped_more : (rows : List Row) (k : ℕ) (key : OutcomeKey) (es new : List (OutcomeKey × RowGroup)) (g : RowGroup) → k < length rows → key.row.now ≡ get_or rows k key.row.now → map held es ≡ tallies_of (map line_of (take k rows)) → tally g ≡ tally_with (option_map tally (lookup (λ q. same_outcome key.row.now.outcome q.row.now.outcome) es)) (line_of key.row.now) → new ≡ insert_entry (λ p q. same_outcome p.row.now.outcome q.row.now.outcome) es key g → map held new ≡ tallies_of (map line_of (take (k + 1) rows))
 grouped_more rows k key es new g lt at h t e =
     let x = key.row.now in
     let lines = map line_of (take k rows) in
@@ -201,12 +201,12 @@ grouped_more rows k key es new g lt at h t e =
     ap (map held) e ∙ held_insert es key g ∙ ap (λ ts. insert_entry (pointwise nat_eq) ts (numbers l) (tally g)) h ∙ tallies_more lines l (tally g) (t ∙ ap (λ o. tally_with o l) found) ∙ ap tallies_of (sym more)
 
 -- a count is below the number of rows while there are more
-pub room : (rows : List Row) (k most : ℕ) (es : List (OutcomeKey × Group)) (o : Outcome) → k < length rows → most ≡ length rows → map held es ≡ tallies_of (map line_of (take k rows)) → IfSome (lookup (λ p. same_outcome o p.row.now.outcome) es) (λ g. g.count < most)
+pub room : (rows : List Row) (k most : ℕ) (es : List (OutcomeKey × RowGroup)) (o : Outcome) → k < length rows → most ≡ length rows → map held es ≡ tallies_of (map line_of (take k rows)) → IfSome (lookup (λ p. same_outcome o p.row.now.outcome) es) (λ g. g.count < most)
 room rows k most es o lt all h =
     let lines = map line_of (take k rows) in
     by (lookup (λ p. same_outcome o p.row.now.outcome) es) (subst (λ f. IfSome f (λ t. t.count ≤ length lines)) (sym (held_lookup es o ∙ ap (lookup (pointwise nat_eq (outcome_numbers o))) h)) (few_counted lines (outcome_numbers o)))
   where
-    by : (o : Option Group) → IfSome (option_map tally o) (λ t. t.count ≤ length (map line_of (take k rows))) → IfSome o (λ g. g.count < most)
+    by : (o : Option RowGroup) → IfSome (option_map tally o) (λ t. t.count ≤ length (map line_of (take k rows))) → IfSome o (λ g. g.count < most)
     by None few = tt
     by (Some g) few = let n = length-map (take k rows) line_of in let m = length-take-le k rows (omega (arith, lt)) in omega (arith, few, n, m, lt, all)
 
@@ -214,13 +214,13 @@ tallies_text : (names : Spellings) (lines fs : List Line) → each (λ t. tally_
 tallies_text names lines [] = refl
 tallies_text names lines (f ∷ fs) = ap (λ l. group_text names lines f ++ l) (tallies_text names lines fs)
 
-values_text : (names : Spellings) (es : List (OutcomeKey × Group)) → each (tally_text names) (map tally (values_of es)) ≡ each (λ t. tally_text names t.1) (map held es)
+values_text : (names : Spellings) (es : List (OutcomeKey × RowGroup)) → each (tally_text names) (map tally (values_of es)) ≡ each (λ t. tally_text names t.1) (map held es)
 values_text names [] = refl
 values_text names (e ∷ es) = ap (λ l. tally_text names (tally e.1) ++ l) (values_text names es)
 
 -- the texts of the groups of all rows
-pub grouped_text : (names : Spellings) (lines : List Line) (es : List (OutcomeKey × Group)) → map held es ≡ tallies_of lines → each (tally_text names) (map tally (values_of es)) ≡ groups_text names lines (outcomes_of lines)
+pub grouped_text : (names : Spellings) (lines : List Line) (es : List (OutcomeKey × RowGroup)) → map held es ≡ tallies_of lines → each (tally_text names) (map tally (values_of es)) ≡ groups_text names lines (outcomes_of lines)
 grouped_text names lines es h = values_text names es ∙ ap (each (λ t. tally_text names t.1)) h ∙ tallies_text names lines (outcomes_of lines)
 
-pub grouped_count : (lines : List Line) (es : List (OutcomeKey × Group)) → map held es ≡ tallies_of lines → length es ≡ length (outcomes_of lines)
+pub grouped_count : (lines : List Line) (es : List (OutcomeKey × RowGroup)) → map held es ≡ tallies_of lines → length es ≡ length (outcomes_of lines)
 grouped_count lines es h = sym (length-map es held) ∙ ap length h ∙ length-map (outcomes_of lines) (tally_of lines)

@@ -7,8 +7,8 @@ use Rattle.cp_board.specs.declared.seats.Board.{Board}
 use Rattle.cp_board.specs.Seats.{IsSeatOf, tasks_of, view_of}
 use Rattle.cp_walk.specs.declared.worker.TaskRows.{TaskRows}
 use Rattle.cp_walk.specs.declared.worker.Worked.{Worked}
-use Rattle.cp_walk.specs.declared.worker.End.{End}
-use Rattle.cp_walk.specs.declared.worker.End.TheVariants.{Dry, Excess, Refused}
+use Rattle.cp_walk.specs.declared.worker.WorkerEnd.{WorkerEnd}
+use Rattle.cp_walk.specs.declared.worker.WorkerEnd.TheVariants.{Dry, Excess, Refused}
 
 -- each draw has its piece and its note, in order, with the rows of its task, of which those past the 50,001st are left out
 pub record IsDone (rows : ℕ → List Row) (v : View) (ps : List TaskRows) : Type 0 where
@@ -23,12 +23,12 @@ abbrev pub IsHonest : (ℕ → List Row) → View → Type 0
 IsHonest rows v = All (λ n. n.rows ≤ length (rows n.task)) v.notes
 
 -- a worker stops where nothing is left, at a total above 50,000, or for want of memory
-abbrev pub EndsAs : (ℕ → List Row) → View → List TaskRows → End → Type 0
+abbrev pub EndsAs : (ℕ → List Row) → View → List TaskRows → WorkerEnd → Type 0
 EndsAs rows v ps Dry = (v.spent ≡ 1) × IsDone rows v ps
 EndsAs rows v ps Excess = IsHonest rows v × Any (λ n. 50000 < n.total) v.notes
 EndsAs rows v ps Refused = Unit {0}
 
-abbrev pub IsKept : End → Type 0
+abbrev pub IsKept : WorkerEnd → Type 0
 IsKept Dry = Unit {0}
 IsKept Excess = Unit {0}
 IsKept Refused = ⊥

@@ -5,7 +5,7 @@ use Rattle.cp_run.specs.Table.{Line}
 use Rattle.cp_walk.specs.Report.{outcome_numbers, outcomes_of, count_of}
 use Rattle.cp_walk.specs.Rows.{line_of}
 use Rattle.cp_walk.specs.Text.{Spellings, word_text, outcome_text}
-use Rattle.cp_walk.specs.declared.groups.Group.{Group}
+use Rattle.cp_walk.specs.declared.groups.RowGroup.{RowGroup}
 
 pub record Tally : Type 0 where
   pub first : Line
@@ -23,7 +23,7 @@ abbrev pub tally_with : Option Tally → Line → Tally
 tally_with None l = record { first = l; count = 1 }
 tally_with (Some t) l = record { first = t.first; count = t.count + 1 }
 
-abbrev pub tally : Group → Tally
+abbrev pub tally : RowGroup → Tally
 tally g = record { first = line_of g.first.now; count = g.count }
 
 abbrev pub tally_text : Spellings → Tally → List ℕ

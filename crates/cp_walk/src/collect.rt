@@ -5,12 +5,12 @@ ghost use Rattle.cp_walk.specs.Tables.{table_of, rows_at};
 ghost use Rattle.cp_walk.specs.Ends.{IsKept};
 
 use crate::row::Row;
-use crate::worker::{End, TaskRows, Worked};
+use crate::worker::{TaskRows, Worked, WorkerEnd};
 use cp_board::Seat;
 use std::alloc::{AllocError, Global};
 
 /// All seats and all parts, where no worker was refused memory.
-pub fn collected(
+pub fn collect_parts(
     alloc: Global,
     workers: Vec<Worked>,
 ) -> Result<(Vec<Seat>, Vec<TaskRows>), AllocError>
@@ -26,7 +26,7 @@ pub fn collected(
             mut parts,
             end,
         } = worker;
-        if let End::Refused = end {
+        if let WorkerEnd::Refused = end {
             return Err(AllocError);
         }
         seats.push(seat)?;
@@ -36,15 +36,15 @@ pub fn collected(
 }
 
 /// The rows of the parts in order of task.
-pub fn gathered(alloc: Global, tasks: u32, parts: Vec<TaskRows>) -> Result<Vec<Row>, AllocError>
+pub fn gather_rows(alloc: Global, tasks: u32, parts: Vec<TaskRows>) -> Result<Vec<Row>, AllocError>
     requires { All (λ p. p.task < tasks) parts.items }
     ensures { IfOk result (λ v. v.items ≡ table_of (rows_at parts.items) tasks) }
 {
-    let slots = sorted(alloc, tasks, parts)?;
-    joined(alloc, slots)
+    let slots = sort_by_task(alloc, tasks, parts)?;
+    join_rows(alloc, slots)
 }
 
-fn joined(alloc: Global, slots: Vec<Vec<Row>>) -> Result<Vec<Row>, AllocError>
+fn join_rows(alloc: Global, slots: Vec<Vec<Row>>) -> Result<Vec<Row>, AllocError>
     ensures { IfOk result (λ v. v.items ≡ flat_map (λ r. r.items) slots.items) }
 {
     let mut all = Vec::new(alloc);
@@ -54,7 +54,11 @@ fn joined(alloc: Global, slots: Vec<Vec<Row>>) -> Result<Vec<Row>, AllocError>
     Ok(all)
 }
 
-fn sorted(alloc: Global, tasks: u32, mut parts: Vec<TaskRows>) -> Result<Vec<Vec<Row>>, AllocError>
+fn sort_by_task(
+    alloc: Global,
+    tasks: u32,
+    mut parts: Vec<TaskRows>,
+) -> Result<Vec<Vec<Row>>, AllocError>
     requires { All (λ p. p.task < tasks) parts.items }
     ensures { IfOk result (λ v. map (λ r. r.items) v.items ≡ map (rows_at parts.items) (range_with_len 0 tasks)) }
 {

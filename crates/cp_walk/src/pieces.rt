@@ -4,13 +4,13 @@ ghost use Rattle.std.specs.Prelude.{◌≡◌, ◌<◌, None, [], Ok, Err, IfOk,
 ghost use Rattle.cp_walk.specs.Gather.{placed, placed_one, joined, gathered, IsGatherFault};
 
 use crate::fault::GatherFault;
-use crate::row::{Piece, Row, Rows, Table};
+use crate::row::{Row, RowPiece, Rows, Table};
 use crate::walk::MOST_ROWS;
 use std::alloc::{AllocError, Global};
 
 /// The rows of piece 0, piece 1 and so on. Double and Stranger are answered for the first such piece in the order given, then Missing
 /// for the least task without a piece, and TooManyRows last.
-pub fn gather(alloc: Global, tasks: u32, pieces: Vec<Piece>) -> Result<Table, GatherFault>
+pub fn gather(alloc: Global, tasks: u32, pieces: Vec<RowPiece>) -> Result<Table, GatherFault>
     ensures rows { IfOk result (λ t. gathered tasks pieces.items ≡ Ok t.rows) }
     ensures fault { IfErr result (λ e. IsGatherFault e → gathered tasks pieces.items ≡ Err e) }
 {
@@ -28,11 +28,11 @@ fn empty_slots(alloc: Global, tasks: u32) -> Result<Vec<Option<Rows>>, AllocErro
     Ok(slots)
 }
 
-fn place(slots: &mut Vec<Option<Rows>>, piece: Piece) -> Result<(), GatherFault>
+fn place(slots: &mut Vec<Option<Rows>>, piece: RowPiece) -> Result<(), GatherFault>
     ensures slots { IfOk result (λ _. placed_one slots.old.items piece ≡ Ok slots.new.items) }
     ensures fault { IfErr result (λ e. placed_one slots.old.items piece ≡ Err e) }
 {
-    let Piece { task, rows } = piece;
+    let RowPiece { task, rows } = piece;
     let at = task as usize;
     if at >= slots.len() {
         return Err(GatherFault::Stranger(task));
@@ -47,7 +47,7 @@ fn place(slots: &mut Vec<Option<Rows>>, piece: Piece) -> Result<(), GatherFault>
 fn place_all(
     alloc: Global,
     tasks: u32,
-    mut pieces: Vec<Piece>,
+    mut pieces: Vec<RowPiece>,
 ) -> Result<Vec<Option<Rows>>, GatherFault>
     ensures slots { IfOk result (λ v. placed (replicate tasks None) pieces.items ≡ Ok v.items) }
     ensures count { IfOk result (λ v. length v.items ≡ tasks) }

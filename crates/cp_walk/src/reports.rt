@@ -8,7 +8,7 @@ ghost use Rattle.cp_walk.specs.Groups.{tally, tally_text};
 ghost use Rattle.cp_walk.specs.Report.{report_text, row_text, rows_text};
 ghost use Rattle.cp_walk.specs.Rows.{line_of};
 
-use crate::groups::{Group, grouped};
+use crate::groups::{RowGroup, group_rows};
 use crate::key::OutcomeKey;
 use crate::printed::{Report, Text};
 use crate::row::{Row, Table};
@@ -36,7 +36,7 @@ fn push_rows(text: &mut String, program: &Resolved, rows: &[Row]) -> Result<(), 
     Ok(())
 }
 
-fn push_group(text: &mut String, program: &Resolved, group: &Group) -> Result<(), AllocError>
+fn push_group(text: &mut String, program: &Resolved, group: &RowGroup) -> Result<(), AllocError>
     ensures { IfOk result (λ _. string_bytes text.new ≡ string_bytes text.old ++ tally_text program.now.names (tally group.now)) }
 {
     push_count(text, group.count)?;
@@ -50,7 +50,7 @@ fn push_group(text: &mut String, program: &Resolved, group: &Group) -> Result<()
 fn push_groups(
     text: &mut String,
     program: &Resolved,
-    groups: &IndexMap<OutcomeKey, Group>,
+    groups: &IndexMap<OutcomeKey, RowGroup>,
 ) -> Result<(), AllocError>
     ensures { IfOk result (λ _. string_bytes text.new ≡ string_bytes text.old ++ each (tally_text program.now.names) (map tally (values groups.now))) }
 {
@@ -73,7 +73,7 @@ fn push_parts(
     text: &mut String,
     program: &Resolved,
     all: &[Row],
-    groups: &IndexMap<OutcomeKey, Group>,
+    groups: &IndexMap<OutcomeKey, RowGroup>,
     rows: bool,
 ) -> Result<(), AllocError>
     ensures { IfOk result (λ _. string_bytes text.new ≡ string_bytes text.old ++ (if rows then rows_text program.now.names (map line_of all.now) else []) ++ codes "schedules " ++ number_text (length all.now) ++ codes "\n" ++ codes "outcomes " ++ number_text (index_map_len groups.now) ++ codes "\n" ++ each (tally_text program.now.names) (map tally (values groups.now))) }
@@ -95,7 +95,7 @@ fn push_report(
 ) -> Result<(), AllocError>
     ensures { IfOk result (λ _. string_bytes text.new ≡ string_bytes text.old ++ report_text program.now.names (map line_of all.now) rows) }
 {
-    let groups = grouped(alloc, all)?;
+    let groups = group_rows(alloc, all)?;
     push_parts(text, program, all, &groups, rows)
 }
 

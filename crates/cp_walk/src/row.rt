@@ -59,7 +59,7 @@ pub struct Table {
 
 /// The rows of one task.
 #[derive(Drop)]
-pub struct Piece {
+pub struct RowPiece {
     pub task: u32,
     pub rows: Rows,
 }

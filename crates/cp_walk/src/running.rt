@@ -6,12 +6,12 @@ ghost use Rattle.cp_board.specs.Seats.{IsSeatOf, view_of, tasks_of};
 ghost use Rattle.cp_walk.specs.Ends.{HasWorked};
 
 use crate::fault::ExploreFault;
-use crate::worker::{EXCESS, End, Gate, MOST_NOTED, TaskRows, Work, Worked};
+use crate::worker::{EXCESS, MOST_NOTED, StartGate, TaskRows, Work, Worked, WorkerEnd};
 use cp_board::{Board, Seat};
 use std::alloc::Global;
 
 /// Draws until there is nothing more, until there are too many rows, or until memory is refused.
-pub fn worked<W: Work, G: Gate>(
+pub fn draw_tasks<W: Work, G: StartGate>(
     alloc: Global,
     board: &Board,
     work: &W,
@@ -31,14 +31,14 @@ pub fn worked<W: Work, G: Gate>(
                 return Worked {
                     seat,
                     parts,
-                    end: End::Excess,
+                    end: WorkerEnd::Excess,
                 };
             }
             Err(ExploreFault::Memory) => {
                 return Worked {
                     seat,
                     parts,
-                    end: End::Refused,
+                    end: WorkerEnd::Refused,
                 };
             }
         };
@@ -47,20 +47,20 @@ pub fn worked<W: Work, G: Gate>(
             return Worked {
                 seat,
                 parts,
-                end: End::Refused,
+                end: WorkerEnd::Refused,
             };
         }
         if board.note(&mut seat, count) > MOST_NOTED {
             return Worked {
                 seat,
                 parts,
-                end: End::Excess,
+                end: WorkerEnd::Excess,
             };
         }
     }
     Worked {
         seat,
         parts,
-        end: End::Dry,
+        end: WorkerEnd::Dry,
     }
 }

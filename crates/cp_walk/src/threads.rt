@@ -8,13 +8,13 @@ ghost use Rattle.cp_walk.specs.Rows.{line_of};
 use crate::cutting::Cutting;
 use crate::fault::ExploreFault;
 use crate::row::{Rows, Table};
-use crate::worker::Gate;
+use crate::worker::StartGate;
 use crate::workers::explore_tasks;
 use std::alloc::Global;
 use std::thread::Threads;
 
 /// The table of a cutting's job, by workers that draw its members. Each worker calls `gate` after it drew a member and before its runs.
-pub fn walk_on_threads<X: Threads + Sync, G: Gate + Sync>(
+pub fn walk_on_threads<X: Threads + Sync, G: StartGate + Sync>(
     rt: &X,
     alloc: Global,
     cutting: &Cutting,

@@ -18,7 +18,7 @@ use crate::row::Row;
 use crate::word::word_of;
 use arrayvec::ArrayVec;
 use cp_machine::{State, Ticks, Unwatched};
-use cp_run::{Halt, Limits, OutcomeKind, choose, outcome_at, wanted};
+use cp_run::{Halt, Limits, OutcomeKind, candidates, choose, outcome_at};
 use cp_slots::Resolved;
 use std::alloc::Global;
 use std::sync::ledger::Ledger;
@@ -92,7 +92,7 @@ pub fn walk_from<S: Ledger, C: Ledger>(
     let Some((next, deeper)) = kept.split_first_mut() else {
         return add_row(alloc, state, OutcomeKind::ChoiceLimit, word, rows);
     };
-    let numbers = wanted(program, limits, state);
+    let numbers = candidates(program, limits, state);
     let Some((last, others)) = numbers.as_slice().split_last() else {
         unreachable!()
     };

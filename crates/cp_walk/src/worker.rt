@@ -29,14 +29,14 @@ pub trait Work {
 }
 
 /// Each worker passes it after a claim and before the task's runs.
-pub trait Gate {
+pub trait StartGate {
     fn pass(&self, task: u32);
 }
 
 /// A gate at which nobody waits.
 pub struct NoGate;
 
-impl Gate for NoGate {
+impl StartGate for NoGate {
     fn pass(&self, _task: u32) {}
 }
 
@@ -49,7 +49,7 @@ pub struct TaskRows {
 
 /// Why a worker stopped: nothing is left, there are too many rows, or memory was refused.
 #[derive(Clone, Copy)]
-pub enum End {
+pub enum WorkerEnd {
     Dry,
     Excess,
     Refused,
@@ -60,5 +60,5 @@ pub enum End {
 pub struct Worked {
     pub seat: Seat,
     pub parts: Vec<TaskRows>,
-    pub end: End,
+    pub end: WorkerEnd,
 }

@@ -5,18 +5,18 @@ ghost use Rattle.cp_board.specs.Seats.{IsSeatOf, view_of, tasks_of};
 ghost use Rattle.cp_walk.specs.Tables.{table_of};
 ghost use Rattle.cp_walk.specs.Ends.{HasWorked};
 
-use crate::collect::{collected, gathered};
+use crate::collect::{collect_parts, gather_rows};
 use crate::fault::ExploreFault;
 use crate::row::Row;
-use crate::running::worked;
-use crate::worker::{Gate, MOST_NOTED, Work, Worked};
+use crate::running::draw_tasks;
+use crate::worker::{MOST_NOTED, StartGate, Work, Worked};
 use cp_board::{Board, BoardFault, Seat};
 use std::alloc::Global;
 use std::thread;
 use std::thread::Threads;
 
 /// The rows of all tasks in order, whatever the threads do.
-pub fn explore_tasks<X: Threads + Sync, W: Work + Sync, G: Gate + Sync>(
+pub fn explore_tasks<X: Threads + Sync, W: Work + Sync, G: StartGate + Sync>(
     rt: &X,
     alloc: Global,
     work: &W,
@@ -42,18 +42,18 @@ pub fn explore_tasks<X: Threads + Sync, W: Work + Sync, G: Gate + Sync>(
         &|seat: Seat| -> Worked
             requires { IsSeatOf shared.now seat × (view_of seat ≡ view 1 (tasks_of shared.now) [] [] 0) }
             ensures { HasWorked (W.rows work.entry.now) shared.entry.now result }
-        { worked(alloc, shared, work, gate, seat) },
+        { draw_tasks(alloc, shared, work, gate, seat) },
     ) else {
         return Err(ExploreFault::Memory);
     };
-    let Ok((seats, parts)) = collected(alloc, ended) else {
+    let Ok((seats, parts)) = collect_parts(alloc, ended) else {
         return Err(ExploreFault::Memory);
     };
     let closed = board.close(seats);
     if closed.total > MOST_NOTED {
         return Err(ExploreFault::TooManyRows);
     }
-    let Ok(rows) = gathered(alloc, tasks, parts) else {
+    let Ok(rows) = gather_rows(alloc, tasks, parts) else {
         return Err(ExploreFault::Memory);
     };
     Ok(rows)

@@ -22,7 +22,7 @@ const READING: SourceReading<'static> = SourceReading {
 
 // What the words ask for.
 #[derive(Drop)]
-enum Asked {
+enum RequestedWork {
     Options(Options),
     Version,
     // The words are refused, and this says why.
@@ -32,7 +32,7 @@ enum Asked {
 
 fn main(rt: HostRuntime) -> ExitCode {
     let code = match read_words(&rt) {
-        Ok(Asked::Options(options)) => explored::<HostRuntime, Brand, Brand>(
+        Ok(RequestedWork::Options(options)) => explored::<HostRuntime, Brand, Brand>(
             &rt,
             rt.alloc(),
             &options,
@@ -41,13 +41,13 @@ fn main(rt: HostRuntime) -> ExitCode {
             rt.stdout(),
             Blank::new(3),
         ),
-        Ok(Asked::Version) => printed(print!(rt; "cpx {VERSION}\n")),
-        Ok(Asked::Refused(why)) => {
+        Ok(RequestedWork::Version) => printed(print!(rt; "cpx {VERSION}\n")),
+        Ok(RequestedWork::Refused(why)) => {
             let _ = eprintln!(rt; "options refused");
             let _ = eprintln!(rt; "{why}");
             2
         }
-        Ok(Asked::Help(text)) => printed(print!(rt; "{text}")),
+        Ok(RequestedWork::Help(text)) => printed(print!(rt; "{text}")),
         Err(_) => 3,
     };
     match code {
@@ -71,14 +71,17 @@ fn printed<T: Drop, E: Drop>(print: Result<T, E>) -> u8 {
 }
 
 /// What the program's arguments ask for. Arguments that are no text are refused.
-fn read_words(rt: &HostRuntime) -> Result<Asked, AllocError> {
+fn read_words(rt: &HostRuntime) -> Result<RequestedWork, AllocError> {
     let alloc = rt.alloc();
     let words = match env::args(rt) {
         Ok(words) => words,
         Err(error) => {
             return match error.kind() {
                 ErrorKind::OutOfMemory => Err(AllocError),
-                _ => Ok(Asked::Refused(String::from_str(alloc, "a word is no text in UTF-8")?)),
+                _ => Ok(RequestedWork::Refused(String::from_str(
+                    alloc,
+                    "a word is no text in UTF-8",
+                )?)),
             };
         }
     };
@@ -91,15 +94,15 @@ fn read_words(rt: &HostRuntime) -> Result<Asked, AllocError> {
 }
 
 // What the words ask for, of which the first is the program's name.
-fn read<'a>(alloc: Global, words: &'a [&'a str]) -> Result<Asked, AllocError> {
+fn read<'a>(alloc: Global, words: &'a [&'a str]) -> Result<RequestedWork, AllocError> {
     if asks_version(words) {
-        return Ok(Asked::Version);
+        return Ok(RequestedWork::Version);
     }
     match read_options(alloc, words) {
-        Ok(options) => Ok(Asked::Options(options)),
-        Err(OptionFault::Refused) => Ok(Asked::Refused(reason_for(alloc, words, READING)?)),
+        Ok(options) => Ok(RequestedWork::Options(options)),
+        Err(OptionFault::Refused) => Ok(RequestedWork::Refused(reason_for(alloc, words, READING)?)),
         Err(OptionFault::Memory) => Err(AllocError),
-        Err(OptionFault::Help(text)) => Ok(Asked::Help(text)),
+        Err(OptionFault::Help(text)) => Ok(RequestedWork::Help(text)),
     }
 }
 

@@ -13,16 +13,16 @@ use crate::refusals::explanation_answer;
 use cp_check::check;
 use cp_cover::{Entries, entries_of};
 use cp_drops::{drop_checked, drop_program, drop_tree};
-use cp_ends_story::{Subject as Endless, ends_story};
+use cp_ends_story::{EndsSubject as Endless, ends_story};
 use cp_front::reasons::{check_reason, parse_reason, reason_line, scan_reason};
 use cp_front::transfer::{MOST_BYTES, ReadFault, read_source, write_text};
 use cp_front::{Sink, Source};
-use cp_lanes::{PictureSubject, View, picture_in};
+use cp_lanes::{PictureSubject, PictureView, picture_in};
 use cp_legend::{Legend, legend_of};
 use cp_machine::Ticks;
 use cp_merged::word::word_of;
 use cp_outcomes::{
-    First, Format, Subject as Survey, first_of_outcome, outcomes, simplest_of_outcome,
+    Subject as Survey, First, Format, first_of_outcome, outcomes, simplest_of_outcome,
 };
 use cp_page::{Length, PageSubject as Played, page};
 use cp_resolved::resolve;
@@ -564,7 +564,7 @@ fn picture_of(
     legend: &Legend,
     source: &[String],
     word: &[u8],
-    view: View,
+    view: PictureView,
 ) -> Result<String, AllocError>
     requires { length word.now ≤ 100 }
 {

@@ -3,7 +3,7 @@
 use crate::command::command;
 use clap::ArgMatches;
 use clap::error::ErrorKind;
-use cp_lanes::{Extent, View};
+use cp_lanes::{PictureView, SheetExtent};
 use cp_tool::{OptionFault, Options, SourceReading, read_options, reason_for, word_reason};
 use std::alloc::{AllocError, Global};
 
@@ -32,7 +32,7 @@ pub enum Part {
         json: bool,
     },
     /// These rows of the schedule as a picture, or a plain one.
-    Lanes(View),
+    Lanes(PictureView),
     /// A page on which the scheduler is played, which goes on from so many states.
     Page {
         states: u32,
@@ -100,8 +100,8 @@ fn read_matches(alloc: Global, matches: &ArgMatches<'_>) -> Result<Asked, Option
         "trace" => Part::Trace {
             json: inner.get_flag("json"),
         },
-        "lanes" => Part::Lanes(View {
-            extent: extent_of(inner).unwrap_or(Extent::All),
+        "lanes" => Part::Lanes(PictureView {
+            extent: extent_of(inner).unwrap_or(SheetExtent::All),
             is_plain: inner.get_flag("plain"),
         }),
         "page" => Part::Page {
@@ -158,18 +158,18 @@ fn page_states(matches: &ArgMatches<'_>) -> Option<u32> {
 }
 
 // Which rows of a picture are drawn; none where the words say what is no such thing.
-fn extent_of(matches: &ArgMatches<'_>) -> Option<Extent> {
+fn extent_of(matches: &ArgMatches<'_>) -> Option<SheetExtent> {
     match (matches.get_str("rows"), matches.get_str("last")) {
-        (None, None) => Some(Extent::All),
+        (None, None) => Some(SheetExtent::All),
         (Some(rows), None) => {
             let (first, last) = rows.split_once('-')?;
             let (first, last) = (number_of(first)?, number_of(last)?);
             if first > last {
                 return None;
             }
-            Some(Extent::Between(first, last))
+            Some(SheetExtent::Between(first, last))
         }
-        (None, Some(last)) => Some(Extent::Last(number_of(last)?)),
+        (None, Some(last)) => Some(SheetExtent::Last(number_of(last)?)),
         (Some(_), Some(_)) => None,
     }
 }

@@ -1,7 +1,9 @@
 //! Why a source is refused, as an answer.
 
 use crate::answering::{Answer, Verdict};
-use cp_refusal::{ByteRange, Explanation as Said, Hints, Refusal, position_of, refusal, text};
+use cp_refusal::{
+    ByteRange, ExplainedRefusal, Explanation as Said, Hints, position_of, refusal, text,
+};
 use cp_story::objects::Object;
 use serde_json::Value;
 use std::alloc::{AllocError, Global};
@@ -49,7 +51,11 @@ fn put_position(object: &mut Object, source: &[u8], span: ByteRange) -> Result<(
     object.number("length", place.length as u64)
 }
 
-fn put_refusal(object: &mut Object, source: &[u8], refusal: &Refusal) -> Result<(), AllocError> {
+fn put_refusal(
+    object: &mut Object,
+    source: &[u8],
+    refusal: &ExplainedRefusal,
+) -> Result<(), AllocError> {
     object.put("accepted", Value::Bool(false))?;
     if let Some(span) = refusal.span {
         put_position(object, source, span)?;

@@ -9,7 +9,7 @@ use Rattle.cp_tree.specs.declared.constant.Constant.{Constant}
 use Rattle.cp_tree.specs.Syntax.{Program, Expression, Statement, Arms, no_arms, more_arms, arm, case_of}
 use Rattle.cp_slots.specs.declared.item.Action.{Action}
 use Rattle.cp_slots.specs.declared.item.Action.TheVariants as action
-use Rattle.cp_slots.specs.declared.item.Arm as slot_arm
+use Rattle.cp_slots.specs.declared.item.ResolvedArm as slot_arm
 use Rattle.cp_slots.specs.declared.place.Expression as code_expression
 use Rattle.cp_slots.specs.Code as code
 use Rattle.cp_slots.specs.Tables.{item_at}
@@ -40,7 +40,7 @@ use Rattle.cp_refine.proofs.control.Control.{Taken, StepIs, takes_item, acts, fa
 use Rattle.cp_refine.proofs.control.Lists.{statement_items}
 use Rattle.cp_refine.proofs.expressions.Views.{views_agree}
 
-is_case : (a : Action) (c : code.Expression) (arms : List code.Arm) → code.action_seen a ≡ code.select c arms → (x : code_expression.Expression) × (v : Vec slot_arm.Arm Global) × (a ≡ action.Case x v) × (code.expression_seen x ≡ c) × (map code.arm_seen v.items ≡ arms)
+is_case : (a : Action) (c : code.Expression) (arms : List code.Arm) → code.action_seen a ≡ code.select c arms → (x : code_expression.Expression) × (v : Vec slot_arm.ResolvedArm Global) × (a ≡ action.Case x v) × (code.expression_seen x ≡ c) × (map code.arm_seen v.items ≡ arms)
 is_case (action.Case x v) c arms e = (x, v, refl, cc, cc)
 is_case a c arms e = absurd (cc)
 
@@ -59,7 +59,7 @@ ArmAgrees g h (Ok t) (Ok list) = StatementIs g h list t None
 ArmAgrees g h (Err e) (Err d) = error_of e ≡ d
 ArmAgrees g h o r = ⊥
 
-arms_agree : (g : Ground) (h : Here) (z : ℤ) (as' : Arms) (xs : List slot_arm.Arm) → OwnArms g h as' (map code.arm_seen xs) → ArmAgrees g h (arm_for h.scope z as') (statements.arm_for z xs)
+arms_agree : (g : Ground) (h : Here) (z : ℤ) (as' : Arms) (xs : List slot_arm.ResolvedArm) → OwnArms g h as' (map code.arm_seen xs) → ArmAgrees g h (arm_for h.scope z as') (statements.arm_for z xs)
 arms_agree g h z no_arms [] k = refl
 arms_agree g h z no_arms (x ∷ xs) k = absurd k
 arms_agree g h z (more_arms a as') [] k = absurd k
@@ -91,7 +91,7 @@ module _ (g : Ground) (p : Program) (l : Layouts) (s : State) (m : Machine) (q a
   abbrev chosen : Outcome Typed → statements.Stepped → Type 0
   chosen o n = StepIs g p l q line (settled p s q (o >>= λ x. arm_for inside (number_of x.value) as' >>= λ t. becomes (view_of p s q) (items_of inside t ++ (xs ++ ys)))) n
 
-  by_arm : (z : ℤ) (arms : List slot_arm.Arm) (n : Option ℕ) → n ≡ mid → OwnArms g this as' (map code.arm_seen arms) →
+  by_arm : (z : ℤ) (arms : List slot_arm.ResolvedArm) (n : Option ℕ) → n ≡ mid → OwnArms g this as' (map code.arm_seen arms) →
       StepIs g p l q line (settled p s q (arm_for inside z as' >>= λ t. becomes (view_of p s q) (items_of inside t ++ (xs ++ ys)))) (statements.with_value (statements.arm_for z arms) (statements.fault m q line) (λ list. statements.local (with_stack m q (rest_of list (rest_of n es)))))
   by_arm z arms n w own = go (arm_for inside z as') (statements.arm_for z arms) (arms_agree g this z as' arms own)
     where
@@ -101,7 +101,7 @@ module _ (g : Ground) (p : Program) (l : Layouts) (s : State) (m : Machine) (q a
       go (Ok t) (Err d) h = absurd h
       go (Err a) (Ok list) h = absurd h
 
-  by_value : (arms : List slot_arm.Arm) (n : Option ℕ) → n ≡ mid → OwnArms g this as' (map code.arm_seen arms) → (t : Ty) (o : Outcome Typed) (r : Result ℤ slots.ErrorName) → OrdinalAgrees o t r →
+  by_value : (arms : List slot_arm.ResolvedArm) (n : Option ℕ) → n ≡ mid → OwnArms g this as' (map code.arm_seen arms) → (t : Ty) (o : Outcome Typed) (r : Result ℤ slots.ErrorName) → OrdinalAgrees o t r →
       chosen o (statements.with_value r (statements.fault m q line) (λ v. statements.with_value (statements.arm_for v arms) (statements.fault m q line) (λ list. statements.local (with_stack m q (rest_of list (rest_of n es))))))
   by_value arms n w own t (Ok x) (Ok z) h =
       subst (λ (y : ℤ). StepIs g p l q line (settled p s q (arm_for inside y as' >>= λ t. becomes (view_of p s q) (items_of inside t ++ (xs ++ ys)))) (statements.with_value (statements.arm_for z arms) (statements.fault m q line) (λ list. statements.local (with_stack m q (rest_of list (rest_of n es))))))

@@ -7,7 +7,7 @@ use Rattle.cp_slots.specs.declared.item.Action.{Action}
 use Rattle.cp_slots.specs.declared.item.Action.TheVariants.{Empty, Assign, AssignSet, Copy, Block, If, Case, While, Until, For, Cycle, Call, Start, Delay, Continue, Display}
 use Rattle.cp_slots.specs.declared.item.Item.{Item}
 use Rattle.cp_slots.specs.declared.place.Argument.{Argument}
-use Rattle.cp_slots.specs.declared.place.Origin.{Origin}
+use Rattle.cp_slots.specs.declared.place.PlaceOrigin.{PlaceOrigin}
 use Rattle.cp_slots.specs.declared.tables.ComponentKind.{ComponentKind}
 use Rattle.cp_slots.specs.declared.tables.ComponentKind.TheVariants as kind
 use Rattle.cp_store.specs.declared.argument.Bound.{Bound}
@@ -54,12 +54,12 @@ module _ (m : Machine) (pid : ℕ) where
   shown_so : (rest : List Entry) (v : Shown) → Kept (statements.show m pid rest v)
   shown_so rest v = either_so (length m.output == MOST_SHOWN) _ _ (λ h. refl) (λ h. absurd (cc))
 
-  from_so : (line at : ℕ) (variable : Origin) (low high : ℤ) (down : Bool) (list next : Option ℕ) (es : List Entry) (first last : ℤ) → Kept (statements.for_from m pid line at variable low high down list next es first last)
+  from_so : (line at : ℕ) (variable : PlaceOrigin) (low high : ℤ) (down : Bool) (list next : Option ℕ) (es : List Entry) (first last : ℤ) → Kept (statements.for_from m pid line at variable low high down list next es first last)
   from_so line at variable low high down list next es first last =
       either_so (statements.is_beyond down first last) _ _ (local_so (with_stack m pid (rest_of next es)))
       (value_so (ranged low high first) line _ (λ v. local_so (statements.gone_on m pid at variable list es last v)))
 
-  turn_so : (line at : ℕ) (variable : Origin) (low high : ℤ) (down : Bool) (list next : Option ℕ) (es : List Entry) (z last : ℤ) → Kept (statements.next_turn m pid line at variable low high down list next es z last)
+  turn_so : (line at : ℕ) (variable : PlaceOrigin) (low high : ℤ) (down : Bool) (list next : Option ℕ) (es : List Entry) (z last : ℤ) → Kept (statements.next_turn m pid line at variable low high down list next es z last)
   turn_so line at variable low high down list next es z last =
       either_so (int_eq z last) _ _ (local_so (with_stack m pid (rest_of next es)))
       (value_so (statements.next_value down low high z) line _ (λ v. local_so (statements.gone_on m pid at variable list es last v)))

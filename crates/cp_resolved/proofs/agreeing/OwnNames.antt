@@ -22,9 +22,9 @@ use Rattle.cp_check.specs.Types.{Step, nothing, typed}
 use Rattle.cp_check.specs.Declarations.{reserve_name, reserve_names, add_names, add_all, add_one, constant_step, constant_steps, type_step, type_steps, variable_step, variable_steps, part_step, part_steps}
 use Rattle.cp_check.specs.Headings as headings
 use Rattle.cp_check.specs.Systems as systems
-use Rattle.cp_layout.specs.declared.kinds.Base.{Base}
-use Rattle.cp_layout.specs.declared.kinds.ValueType.{ValueType}
-use Rattle.cp_layout.specs.declared.kinds.ValueType.TheVariants as types
+use Rattle.cp_layout.specs.declared.kinds.CellBase.{CellBase}
+use Rattle.cp_layout.specs.declared.kinds.CellType.{CellType}
+use Rattle.cp_layout.specs.declared.kinds.CellType.TheVariants as types
 use Rattle.cp_layout.specs.declared.layer.Contained.{Contained}
 use Rattle.cp_layout.specs.declared.names.Meaning.{Meaning}
 use Rattle.cp_layout.specs.declared.names.Meaning.TheVariants as meaning
@@ -103,7 +103,7 @@ module _ (Q : List ℕ → Type 0) (n : ℕ) where
 
   -- ---- types
 
-  enumerated_inside : (l : Layer) (s : Scopes) (b : Base) (c : checked_base.Base) (j k : ℕ) (is : List Identifier) → Inside l.names s → Inside (enumerated l b j is).names (typing.members s c k is).scopes
+  enumerated_inside : (l : Layer) (s : Scopes) (b : CellBase) (c : checked_base.Base) (j k : ℕ) (is : List Identifier) → Inside l.names s → Inside (enumerated l b j is).names (typing.members s c k is).scopes
   unfolding enumerated typing.members typing.member
   enumerated_inside l s b c j k [] h = h
   enumerated_inside l s b c j k (i ∷ is) h = enumerated_inside (with_constant l i.name (meaning.Constant b (as_integer j))) (typing.member s c k i).scopes b c (j + 1) (k + 1) is (go (is_declared s i.name))
@@ -173,7 +173,7 @@ module _ (Q : List ℕ → Type 0) (n : ℕ) where
   unfolding add_all settle
   settled ns s is o h = h
 
-  locals_inside : (l : Layer) (s : Scopes) (t : ValueType) (is : List Identifier) (o : Option checked.Meaning) → Inside l.names s → Inside (locals_of l t is).names (add_names s is o)
+  locals_inside : (l : Layer) (s : Scopes) (t : CellType) (is : List Identifier) (o : Option checked.Meaning) → Inside l.names s → Inside (locals_of l t is).names (add_names s is o)
   unfolding locals_of add_names
   locals_inside l s t [] o h = h
   locals_inside l s t (i ∷ is) o h = locals_inside (local l i.name t) (add s i.name o) t is o (declared l.names s i.name _ o tt h)
@@ -186,14 +186,14 @@ module _ (Q : List ℕ → Type 0) (n : ℕ) where
       let x = written_type l g.variable_type in
       local_variables_inside p (locals_of x.1 x.0 g.names) (variable_step p s g).scopes gs (settled (locals_of x.1 x.0 g.names).names after g.names _ (locals_inside x.1 after x.0 g.names _ (type_inside l (reserve_names s g.names).scopes p g.variable_type (all_reserved l.names s g.names h))))
 
-  variable_inside : (l : Layer) (s : Scopes) (x : List ℕ) (t : ValueType) (o : Option checked.Meaning) → Inside l.names s → Inside (variable l x t).names (add s x o)
+  variable_inside : (l : Layer) (s : Scopes) (x : List ℕ) (t : CellType) (o : Option checked.Meaning) → Inside l.names s → Inside (variable l x t).names (add s x o)
   variable_inside l s x t o h = go (components_of l.types t)
     where
       go : (c : Option Contained) → Inside (variable_with l x t c).names (add s x o)
       go None = declared l.names s x _ o tt h
       go (Some c) = declared l.names s x _ o tt h
 
-  variables_of_inside : (l : Layer) (s : Scopes) (t : ValueType) (is : List Identifier) (o : Option checked.Meaning) → Inside l.names s → Inside (variables_of l t is).names (add_names s is o)
+  variables_of_inside : (l : Layer) (s : Scopes) (t : CellType) (is : List Identifier) (o : Option checked.Meaning) → Inside l.names s → Inside (variables_of l t is).names (add_names s is o)
   unfolding variables_of add_names
   variables_of_inside l s t [] o h = h
   variables_of_inside l s t (i ∷ is) o h = variables_of_inside (variable l i.name t) (add s i.name o) t is o (variable_inside l s i.name t o h)
@@ -232,12 +232,12 @@ module _ (Q : List ℕ → Type 0) (n : ℕ) where
 
   -- ---- headings
 
-  constants_of_inside : (l : Layer) (ps : Parameters) (s : Scopes) (t : ValueType) (is : List Identifier) (o : Option checked.Meaning) → Inside l.names s → Inside (constant_parameters_of l ps t is).1.names (add_names s is o)
+  constants_of_inside : (l : Layer) (ps : Parameters) (s : Scopes) (t : CellType) (is : List Identifier) (o : Option checked.Meaning) → Inside l.names s → Inside (constant_parameters_of l ps t is).1.names (add_names s is o)
   unfolding constant_parameters_of add_names
   constants_of_inside l ps s t [] o h = h
   constants_of_inside l ps s t (i ∷ is) o h = let x = constant_parameter l ps i.name t in constants_of_inside x.1 x.0 (add s i.name o) t is o (declared l.names s i.name _ o tt h)
 
-  vars_of_inside : (l : Layer) (ps : Parameters) (s : Scopes) (t : ValueType) (is : List Identifier) (o : Option checked.Meaning) → Inside l.names s → Inside (var_parameters_of l ps t is).1.names (add_names s is o)
+  vars_of_inside : (l : Layer) (ps : Parameters) (s : Scopes) (t : CellType) (is : List Identifier) (o : Option checked.Meaning) → Inside l.names s → Inside (var_parameters_of l ps t is).1.names (add_names s is o)
   unfolding var_parameters_of add_names
   vars_of_inside l ps s t [] o h = h
   vars_of_inside l ps s t (i ∷ is) o h = let x = var_parameter l ps i.name t in vars_of_inside x.1 x.0 (add s i.name o) t is o (declared l.names s i.name _ o tt h)
@@ -272,7 +272,7 @@ module _ (Q : List ℕ → Type 0) (n : ℕ) where
 
   -- ---- parameters of system types
 
-  system_parameter_inside : (l : Layer) (ps : Parameters) (s : Scopes) (x : List ℕ) (t : ValueType) (o : Option checked.Meaning) → Inside l.names s → Inside (system_parameter l ps x t).1.names (add s x o)
+  system_parameter_inside : (l : Layer) (ps : Parameters) (s : Scopes) (x : List ℕ) (t : CellType) (o : Option checked.Meaning) → Inside l.names s → Inside (system_parameter l ps x t).1.names (add s x o)
   system_parameter_inside l ps s x (types.System k) o h = declared l.names s x _ o tt h
   system_parameter_inside l ps s x (types.Ordinal q) o h = declared l.names s x _ o tt h
   system_parameter_inside l ps s x types.Queue o h = declared l.names s x _ o tt h
@@ -280,7 +280,7 @@ module _ (Q : List ℕ → Type 0) (n : ℕ) where
   system_parameter_inside l ps s x (types.Array k) o h = declared l.names s x _ o tt h
   system_parameter_inside l ps s x (types.Record k) o h = declared l.names s x _ o tt h
 
-  system_parameters_inside : (l : Layer) (ps : Parameters) (s : Scopes) (t : ValueType) (is : List Identifier) (o : Option checked.Meaning) → Inside l.names s → Inside (system_parameters_of l ps t is).1.names (add_names s is o)
+  system_parameters_inside : (l : Layer) (ps : Parameters) (s : Scopes) (t : CellType) (is : List Identifier) (o : Option checked.Meaning) → Inside l.names s → Inside (system_parameters_of l ps t is).1.names (add_names s is o)
   unfolding system_parameters_of add_names
   system_parameters_inside l ps s t [] o h = h
   system_parameters_inside l ps s t (i ∷ is) o h = let x = system_parameter l ps i.name t in system_parameters_inside x.1 x.0 (add s i.name o) t is o (system_parameter_inside l ps s i.name t o h)

@@ -7,8 +7,8 @@ use Rattle.cp_tree.specs.Syntax as syntax
 use Rattle.cp_tree.specs.Syntax.{ConstantDefinition, TypeDefinition, VariableGroup, Part, Group, ParameterGroup, RoutineKind, Simple, TypeTerm, FieldGroup, FieldGroups, Body, Routine, Definition, SystemDefinition, ProgramPart, Program}
 use Rattle.cp_slots.specs.declared.tables.Component.{Component}
 use Rattle.cp_slots.specs.declared.tables.ComponentParameter.{ComponentParameter}
-use Rattle.cp_layout.specs.declared.kinds.Base.{Base}
-use Rattle.cp_layout.specs.declared.kinds.ValueType.{ValueType}
+use Rattle.cp_layout.specs.declared.kinds.CellBase.{CellBase}
+use Rattle.cp_layout.specs.declared.kinds.CellType.{CellType}
 use Rattle.cp_layout.specs.declared.names.Meaning.TheVariants as meaning
 use Rattle.cp_layout.specs.declared.layer.Contained.{Contained}
 use Rattle.cp_layout.specs.Kinds.{Compounds, Fields, no_fields}
@@ -23,7 +23,7 @@ use Rattle.cp_resolved.proofs.components.Listing.{program_keeps}
 
 -- ---- what types and routines leave of the permanent cells
 
-enumerated_owned : (l : Layer) (b : Base) (n : ℕ) (is : List Identifier) → (enumerated l b n is).owned ≡ l.owned
+enumerated_owned : (l : Layer) (b : CellBase) (n : ℕ) (is : List Identifier) → (enumerated l b n is).owned ≡ l.owned
 unfolding enumerated
 enumerated_owned l b n [] = refl
 enumerated_owned l b n (i ∷ is) = enumerated_owned (with_constant l i.name (meaning.Constant b (as_integer n))) b (n + 1) is
@@ -60,7 +60,7 @@ unfolding type_definitions
 definitions_owned l [] = refl
 definitions_owned l (d ∷ ds) = definitions_owned (type_definition l d) ds ∙ written_owned l d.value
 
-locals_owned : (l : Layer) (t : ValueType) (is : List Identifier) → (locals_of l t is).owned ≡ l.owned
+locals_owned : (l : Layer) (t : CellType) (is : List Identifier) → (locals_of l t is).owned ≡ l.owned
 unfolding locals_of
 locals_owned l t [] = refl
 locals_owned l t (i ∷ is) = locals_owned (local l i.name t) t is
@@ -80,7 +80,7 @@ unfolding local_parts
 local_parts_owned l [] = refl
 local_parts_owned l (p ∷ ps) = local_parts_owned (local_part l p) ps ∙ local_part_owned l p
 
-constant_parameters_owned : (l : Layer) (ps : Parameters) (t : ValueType) (is : List Identifier) → (constant_parameters_of l ps t is).1.owned ≡ l.owned
+constant_parameters_owned : (l : Layer) (ps : Parameters) (t : CellType) (is : List Identifier) → (constant_parameters_of l ps t is).1.owned ≡ l.owned
 unfolding constant_parameters_of
 constant_parameters_owned l ps t [] = refl
 constant_parameters_owned l ps t (i ∷ is) = constant_parameters_owned (constant_parameter l ps i.name t).1 (constant_parameter l ps i.name t).0 t is
@@ -90,7 +90,7 @@ unfolding constant_groups
 constant_groups_owned l ps [] = refl
 constant_groups_owned l ps (g ∷ gs) = constant_groups_owned (constant_group l ps g).1 (constant_group l ps g).0 gs ∙ constant_parameters_owned l ps (named_type l g.type_name.name) g.names
 
-var_parameters_owned : (l : Layer) (ps : Parameters) (t : ValueType) (is : List Identifier) → (var_parameters_of l ps t is).1.owned ≡ l.owned
+var_parameters_owned : (l : Layer) (ps : Parameters) (t : CellType) (is : List Identifier) → (var_parameters_of l ps t is).1.owned ≡ l.owned
 unfolding var_parameters_of
 var_parameters_owned l ps t [] = refl
 var_parameters_owned l ps t (i ∷ is) = var_parameters_owned (var_parameter l ps i.name t).1 (var_parameter l ps i.name t).0 t is
@@ -132,11 +132,11 @@ routines_owned l (r ∷ rs) = routines_owned (routine l r) rs ∙ routine_owned 
 abbrev pub handed : Layer → List ComponentParameter
 handed l = l.owned.parameters
 
-variable_handed : (l : Layer) (x : List ℕ) (t : ValueType) (o : Option Contained) → handed (variable_with l x t o) ≡ handed l
+variable_handed : (l : Layer) (x : List ℕ) (t : CellType) (o : Option Contained) → handed (variable_with l x t o) ≡ handed l
 variable_handed l x t None = refl
 variable_handed l x t (Some c) = refl
 
-variables_of_handed : (l : Layer) (t : ValueType) (is : List Identifier) → handed (variables_of l t is) ≡ handed l
+variables_of_handed : (l : Layer) (t : CellType) (is : List Identifier) → handed (variables_of l t is) ≡ handed l
 unfolding variables_of
 variables_of_handed l t [] = refl
 variables_of_handed l t (i ∷ is) = variables_of_handed (variable l i.name t) t is ∙ variable_handed l i.name t (components_of l.types t)

@@ -7,8 +7,8 @@ use Rattle.cp_tree.specs.declared.constant.Identifier.{Identifier}
 use Rattle.cp_tree.specs.Syntax as syntax
 use Rattle.cp_tree.specs.Spelling.{put_optional, put_behind, put_all, put_parameters, put_identifier, put_constant_definition, put_type_definition, put_variable_group, put_type, put_part, put_group, put_body, put_routine, put_system, put_definition, put_system_definition, put_program_part, spell}
 use Rattle.cp_tree.proofs.Grows.{grows_all, grows_optional, grows_type, grows_constant_definition, grows_type_definition, grows_definition}
-use Rattle.cp_layout.specs.declared.kinds.ValueType.{ValueType}
-use Rattle.cp_layout.specs.declared.kinds.ValueType.TheVariants as types
+use Rattle.cp_layout.specs.declared.kinds.CellType.{CellType}
+use Rattle.cp_layout.specs.declared.kinds.CellType.TheVariants as types
 use Rattle.cp_layout.specs.declared.layer.Contained.{Contained}
 use Rattle.cp_layout.specs.declared.layer.Content.{Content}
 use Rattle.cp_layout.specs.declared.layer.Content.TheVariants as content
@@ -96,14 +96,14 @@ module _ (ts : Compounds) where
   same_filled : (high low : ℕ) (l m : Layer) → m.owned ≡ l.owned → low ≤ high → Filled high low l m
   same_filled high low l m e le = let c : cells_in m.owned.contents ≡ cells_in l.owned.contents = ap (λ (o : Owned). cells_in o.contents) e in omega (arith, c, le)
 
-  variable_filled : (l : Layer) (x : List ℕ) (t : ValueType) → IsSmall (variable l x t) → Filled 1 0 l (variable l x t)
+  variable_filled : (l : Layer) (x : List ℕ) (t : CellType) → IsSmall (variable l x t) → Filled 1 0 l (variable l x t)
   variable_filled l x t h = go (components_of l.types t) h
     where
       go : (o : Option Contained) → IsSmall (variable_with l x t o) → Filled 1 0 l (variable_with l x t o)
       go (Some c) s = omega arith
       go None s = let few : length (least ts t) ≤ 8192 = s.0 in let e = one_more l.owned.contents (content.Variable t) in omega (arith, few, e)
 
-  variables_of_filled : (l : Layer) (t : ValueType) (is : List Identifier) → IsSmall (variables_of l t is) → Filled (length is) 0 l (variables_of l t is)
+  variables_of_filled : (l : Layer) (t : CellType) (is : List Identifier) → IsSmall (variables_of l t is) → Filled (length is) 0 l (variables_of l t is)
   unfolding variables_of
   variables_of_filled l t [] h = omega arith
   variables_of_filled l t (i ∷ is) h =
@@ -147,7 +147,7 @@ module _ (ts : Compounds) where
 
   -- ---- parameters of system types
 
-  cell_filled : (l : Layer) (ps : Parameters) (x : List ℕ) (t : ValueType) → IsSmall (system_parameter l ps x t).1 → Filled 1 0 l (system_parameter l ps x t).1
+  cell_filled : (l : Layer) (ps : Parameters) (x : List ℕ) (t : CellType) → IsSmall (system_parameter l ps x t).1 → Filled 1 0 l (system_parameter l ps x t).1
   cell_filled l ps x (types.System k) h = let e = one_more l.owned.contents content.Component in omega (arith, e)
   cell_filled l ps x (types.Ordinal r) h = let few : length (least ts (types.Ordinal r)) ≤ 8192 = h.0 in let e = one_more l.owned.contents (content.Variable (types.Ordinal r)) in omega (arith, few, e)
   cell_filled l ps x types.Queue h = let few : length (least ts types.Queue) ≤ 8192 = h.0 in let e = one_more l.owned.contents (content.Variable types.Queue) in omega (arith, few, e)
@@ -155,7 +155,7 @@ module _ (ts : Compounds) where
   cell_filled l ps x (types.Array n) h = let few : length (least ts (types.Array n)) ≤ 8192 = h.0 in let e = one_more l.owned.contents (content.Variable (types.Array n)) in omega (arith, few, e)
   cell_filled l ps x (types.Record n) h = let few : length (least ts (types.Record n)) ≤ 8192 = h.0 in let e = one_more l.owned.contents (content.Variable (types.Record n)) in omega (arith, few, e)
 
-  parameters_filled : (l : Layer) (ps : Parameters) (t : ValueType) (is : List Identifier) → IsSmall (system_parameters_of l ps t is).1 → Filled (length is) 0 l (system_parameters_of l ps t is).1
+  parameters_filled : (l : Layer) (ps : Parameters) (t : CellType) (is : List Identifier) → IsSmall (system_parameters_of l ps t is).1 → Filled (length is) 0 l (system_parameters_of l ps t is).1
   unfolding system_parameters_of
   parameters_filled l ps t [] h = omega arith
   parameters_filled l ps t (i ∷ is) h =

@@ -7,8 +7,8 @@ use Rattle.cp_tree.specs.declared.constant.Identifier.{Identifier}
 use Rattle.cp_tree.specs.Syntax as syntax
 use Rattle.cp_tree.specs.Spelling.{put_behind, put_all, put_parameters, put_identifier, put_constant_definition, put_type_definition, put_variable_group, put_type, put_part, put_group, put_parameter_group, put_routine_kind}
 use Rattle.cp_tree.proofs.Grows.{grows_all, grows_optional, grows_type, grows_constant_definition, grows_type_definition}
-use Rattle.cp_layout.specs.declared.kinds.Base.{Base}
-use Rattle.cp_layout.specs.declared.kinds.ValueType.{ValueType}
+use Rattle.cp_layout.specs.declared.kinds.CellBase.{CellBase}
+use Rattle.cp_layout.specs.declared.kinds.CellType.{CellType}
 use Rattle.cp_layout.specs.declared.names.Meaning.TheVariants as meaning
 use Rattle.cp_layout.specs.Kinds.{Fields, no_fields, least}
 use Rattle.cp_layout.specs.Layers.{Layer, Frame}
@@ -21,7 +21,7 @@ use Rattle.cp_resolved.proofs.names.SmallNames.{SmallNames, earlier, named_small
 
 -- ---- what types leave of the frame
 
-enumerated_frame : (l : Layer) (b : Base) (n : ℕ) (is : List Identifier) → (enumerated l b n is).frame ≡ l.frame
+enumerated_frame : (l : Layer) (b : CellBase) (n : ℕ) (is : List Identifier) → (enumerated l b n is).frame ≡ l.frame
 unfolding enumerated
 enumerated_frame l b n [] = refl
 enumerated_frame l b n (i ∷ is) = enumerated_frame (with_constant l i.name (meaning.Constant b (as_integer n))) b (n + 1) is
@@ -75,7 +75,7 @@ wider high higher low lower l m le h = let a = h.image in record { image = omega
 
 -- ---- local variables
 
-locals_extended : (l : Layer) (t : ValueType) (is : List Identifier) → SmallNames (locals_of l t is) → Extended (length is) 0 l (locals_of l t is)
+locals_extended : (l : Layer) (t : CellType) (is : List Identifier) → SmallNames (locals_of l t is) → Extended (length is) 0 l (locals_of l t is)
 unfolding locals_of
 locals_extended l t [] h = record { image = omega arith; room = refl }
 locals_extended l t (i ∷ is) h =
@@ -124,7 +124,7 @@ parts_extended l (d ∷ ds) rest h =
 
 -- ---- headings
 
-constants_extended : (l : Layer) (ps : Parameters) (t : ValueType) (is : List Identifier) → SmallNames (constant_parameters_of l ps t is).1 → Extended (length is) 0 l (constant_parameters_of l ps t is).1
+constants_extended : (l : Layer) (ps : Parameters) (t : CellType) (is : List Identifier) → SmallNames (constant_parameters_of l ps t is).1 → Extended (length is) 0 l (constant_parameters_of l ps t is).1
 unfolding constant_parameters_of
 constants_extended l ps t [] h = record { image = omega arith; room = refl }
 constants_extended l ps t (i ∷ is) h =
@@ -141,7 +141,7 @@ constant_group_extended l ps g rest h =
     let a = names_room 0 g.names (kind.Mark mark.Colon ∷ put_identifier g.type_name rest) in
     wider (length g.names) (length (put_group g rest)) 0 (length rest) l (constant_group l ps g).1 (omega (arith, a)) (constants_extended l ps (named_type l g.type_name.name) g.names h)
 
-vars_frame : (l : Layer) (ps : Parameters) (t : ValueType) (is : List Identifier) → Extended 0 0 l (var_parameters_of l ps t is).1
+vars_frame : (l : Layer) (ps : Parameters) (t : CellType) (is : List Identifier) → Extended 0 0 l (var_parameters_of l ps t is).1
 unfolding var_parameters_of
 vars_frame l ps t [] = record { image = omega arith; room = refl }
 vars_frame l ps t (i ∷ is) = let x = var_parameter l ps i.name t in let r = vars_frame x.1 x.0 t is in let a = r.image in record { image = omega (arith, a); room = r.room }

@@ -10,8 +10,8 @@ use Rattle.cp_tree.specs.Spelling.{put_optional, put_behind, put_all, put_parame
 use Rattle.cp_tree.proofs.Grows.{grows_all, grows_optional, grows_type, grows_constant_definition, grows_variable_group, grows_part, grows_group, grows_parameters, grows_body, grows_routine, grows_definition, grows_program_part}
 use Rattle.cp_slots.specs.declared.tables.Process.{Process}
 use Rattle.cp_resolved.proofs.counts.Rooms.{Room}
-use Rattle.cp_layout.specs.declared.kinds.Base.{Base}
-use Rattle.cp_layout.specs.declared.kinds.ValueType.{ValueType}
+use Rattle.cp_layout.specs.declared.kinds.CellBase.{CellBase}
+use Rattle.cp_layout.specs.declared.kinds.CellType.{CellType}
 use Rattle.cp_layout.specs.declared.names.Meaning.TheVariants as meaning
 use Rattle.cp_slots.specs.Tables.{RoutineView}
 use Rattle.cp_layout.specs.Kinds.{Fields, no_fields}
@@ -107,7 +107,7 @@ framed_same l = framed l l refl refl
 then_framed : (l k m : Layer) → Framed l k → Framed k m → Framed l m
 then_framed l k m h g = let a = h.extents in let b = g.extents in record { extents = omega (arith, a, b); rooms = g.rooms ∙ h.rooms }
 
-enumerated_framed : (l : Layer) (b : Base) (n : ℕ) (is : List Identifier) → Framed l (enumerated l b n is)
+enumerated_framed : (l : Layer) (b : CellBase) (n : ℕ) (is : List Identifier) → Framed l (enumerated l b n is)
 unfolding enumerated
 enumerated_framed l b n [] = framed_same l
 enumerated_framed l b n (i ∷ is) = let k : Layer = with_constant l i.name (meaning.Constant b (as_integer n)) in then_framed l k (enumerated k b (n + 1) is) (framed l k refl refl) (enumerated_framed k b (n + 1) is)
@@ -150,7 +150,7 @@ definitions_framed l (d ∷ ds) =
     let k : Layer = type_definition l d in
     then_framed l k (type_definitions k ds) (then_framed l x.1 k (type_framed l d.value) (framed x.1 k refl refl)) (definitions_framed k ds)
 
-locals_framed : (l : Layer) (t : ValueType) (is : List Identifier) → Framed l (locals_of l t is)
+locals_framed : (l : Layer) (t : CellType) (is : List Identifier) → Framed l (locals_of l t is)
 unfolding locals_of
 locals_framed l t [] = framed_same l
 locals_framed l t (i ∷ is) = let k : Layer = local l i.name t in then_framed l k (locals_of k t is) (framed l k refl refl) (locals_framed k t is)
@@ -175,7 +175,7 @@ parts_framed l (d ∷ ds) = let k : Layer = local_part l d in then_framed l k (l
 
 -- ---- headings
 
-constants_of_framed : (l : Layer) (ps : Parameters) (t : ValueType) (is : List Identifier) → Framed l (constant_parameters_of l ps t is).1
+constants_of_framed : (l : Layer) (ps : Parameters) (t : CellType) (is : List Identifier) → Framed l (constant_parameters_of l ps t is).1
 unfolding constant_parameters_of
 constants_of_framed l ps t [] = framed_same l
 constants_of_framed l ps t (i ∷ is) = let x = constant_parameter l ps i.name t in then_framed l x.1 (constant_parameters_of x.1 x.0 t is).1 (framed l x.1 refl refl) (constants_of_framed x.1 x.0 t is)
@@ -190,7 +190,7 @@ groups_of_framed l ps (g ∷ gs) =
 one_more : {X : Type 0} (xs : List X) (x : X) → length (xs ++ x ∷ []) ≡ length xs + 1
 one_more xs x = length-append xs (x ∷ [])
 
-vars_extended : (l : Layer) (ps : Parameters) (t : ValueType) (is : List Identifier) → Extended (length is) 0 l (var_parameters_of l ps t is).1
+vars_extended : (l : Layer) (ps : Parameters) (t : CellType) (is : List Identifier) → Extended (length is) 0 l (var_parameters_of l ps t is).1
 unfolding var_parameters_of
 vars_extended l ps t [] = record { extents = omega arith; rooms = refl }
 vars_extended l ps t (i ∷ is) =
@@ -209,7 +209,7 @@ group_extended l ps g rest = go g.is_var
     spelled : length (put_names g.group.names after) ≤ length (put_parameter_group g rest)
     spelled = grows_optional mark.Var g.is_var (put_group g.group rest)
 
-    t : ValueType
+    t : CellType
     t = named_type l g.group.type_name.name
 
     go : (b : Bool) → Extended (length (put_parameter_group g rest)) (length rest) l (if b then var_parameters_of l ps t g.group.names else constant_parameters_of l ps t g.group.names).1

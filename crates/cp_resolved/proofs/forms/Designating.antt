@@ -1,9 +1,9 @@
 -- What a name stands for, and a field or an element of it, are those of its form.
 use Rattle.std.proofs.Common.{◌≡◌, ◌+◌, ◌≤◌, ℕ, true, false, Option, Some, None, refl, sym, ap, subst, ◌∙◌, arith, inl, inr}
 use Rattle.std.specs.Prelude.{◌⊎◌}
-use Rattle.cp_slots.specs.declared.place.Origin.TheVariants as origin
-use Rattle.cp_layout.specs.declared.kinds.ValueType.{ValueType}
-use Rattle.cp_layout.specs.declared.kinds.ValueType.TheVariants as types
+use Rattle.cp_slots.specs.declared.place.PlaceOrigin.TheVariants as origin
+use Rattle.cp_layout.specs.declared.kinds.CellType.{CellType}
+use Rattle.cp_layout.specs.declared.kinds.CellType.TheVariants as types
 use Rattle.cp_layout.specs.declared.names.Meaning.{Meaning}
 use Rattle.cp_layout.specs.declared.names.Meaning.TheVariants as meaning
 use Rattle.cp_layout.specs.Kinds as kinds
@@ -126,7 +126,7 @@ module _ (k : Numbering) (h : Here) (l : Layer) (g : Knows k h l) where
 
   -- ---- selectors
 
-  component_same : (first : ℕ) (r : named.Range) (n : ℕ) (w : ValueType) (c : code.Expression) → TypeIs k l.types (named.array_over r (named.component_of n)) w → component_found l first (array_of l.types w) c ≡ values.a_component (code.element first r.low r.high (h.layouts.systems n).count c) n
+  component_same : (first : ℕ) (r : named.Range) (n : ℕ) (w : CellType) (c : code.Expression) → TypeIs k l.types (named.array_over r (named.component_of n)) w → component_found l first (array_of l.types w) c ≡ values.a_component (code.element first r.low r.high (h.layouts.systems n).count c) n
   component_same first r n w c v =
       let there : array_of l.types w ≡ Some (kinds.array_type l.types (range_on k r) v.element) = ap (array_of l.types) v.is ∙ ap as_array v.there in
       ap (λ a. component_found l first a c) there

@@ -23,8 +23,8 @@ use Rattle.cp_check.specs.Calls as calls
 use Rattle.cp_check.specs.Expressions.{expression, designator}
 use Rattle.cp_check.specs.Statements as statements
 use Rattle.cp_check.specs.Statements.{target_of}
-use Rattle.cp_slots.specs.declared.place.Origin.{Origin}
-use Rattle.cp_slots.specs.declared.place.Origin.TheVariants.{Permanent}
+use Rattle.cp_slots.specs.declared.place.PlaceOrigin.{PlaceOrigin}
+use Rattle.cp_slots.specs.declared.place.PlaceOrigin.TheVariants.{Permanent}
 use Rattle.cp_slots.specs.Code as code
 use Rattle.cp_meaning.specs.Names.{Name, result_name}
 use Rattle.cp_meaning.specs.Types as named
@@ -81,7 +81,7 @@ plain_whole w (named.component_of n) p = tt
 
 -- the whole of a variable
 pub record AtFirst (p : code.Place) : Type 0 where
-  pub origin : Origin
+  pub origin : PlaceOrigin
   pub is : p ≡ code.place origin 0 code.no_indices
 
 variable_place : (p q : code.Place) (t u : Ty) → Some (a_variable p t) ≡ Some (a_variable q u) → p ≡ q

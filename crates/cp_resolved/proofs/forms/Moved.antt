@@ -1,7 +1,7 @@
 -- What is laid out as an argument, or as an assignment, is what its form wants.
 use Rattle.std.proofs.Common.{◌≡◌, ◌≤◌, ℕ, ℤ, pos, negsuc, Bool, true, false, ◌&&◌, if◌then◌else◌, nat_le, Option, Some, None, refl, sym, ap, ◌∙◌, arith}
 use Rattle.std.proofs.lemmas.Bool.{le-leb}
-use Rattle.cp_layout.specs.declared.kinds.ValueType.{ValueType}
+use Rattle.cp_layout.specs.declared.kinds.CellType.{CellType}
 use Rattle.cp_layout.specs.declared.layer.Passing.{Passing}
 use Rattle.cp_layout.specs.declared.layer.Passing.TheVariants as passing
 use Rattle.cp_slots.specs.Code as code
@@ -42,7 +42,7 @@ module _ (k : Numbering) (l : Layer) where
 
   -- ---- arguments
 
-  copied : (u t : Ty) (q : code.Place) (v : Value) (x : ValueType) (g : code.ArgumentValue) → passed l (passing.Constant x) v ≡ code.copy (place_of v) (kinds.cells_of l.types x) → FormIs k l.types t (as_place q) v → TypeIs k l.types u x → cells_of u ≤ kinds.most → t ≡ u → g ≡ code.copy q (cells_of t) → passed l (passing.Constant x) v ≡ g
+  copied : (u t : Ty) (q : code.Place) (v : Value) (x : CellType) (g : code.ArgumentValue) → passed l (passing.Constant x) v ≡ code.copy (place_of v) (kinds.cells_of l.types x) → FormIs k l.types t (as_place q) v → TypeIs k l.types u x → cells_of u ≤ kinds.most → t ≡ u → g ≡ code.copy q (cells_of t) → passed l (passing.Constant x) v ≡ g
   copied u t q v x g c i w m e h = c ∙ ap (code.copy (place_of v)) (cells_same k l.types u x w m) ∙ ap (λ y. code.copy (place_of y) (cells_of u)) i.1 ∙ ap (λ y. code.copy q (cells_of y)) (sym e) ∙ sym h
 
   value_same : (u t : Ty) (f : Form) (v : Value) (p : Passing) (g : code.ArgumentValue) → FormIs k l.types t f v → PassedBy k l.types false u p → ValueGiven u t f g → IsMoved u → passed l p v ≡ g
@@ -89,10 +89,10 @@ module _ (k : Numbering) (l : Layer) where
 
   -- ---- assignments
 
-  copies : (u t : Ty) (p q : code.Place) (v : Value) (x : ValueType) (a : code.Action) → assigned_as l p v x ≡ code.copy_cells p (place_of v) (kinds.cells_of l.types x) → FormIs k l.types t (as_place q) v → TypeIs k l.types u x → cells_of u ≤ kinds.most → t ≡ u → a ≡ code.copy_cells p q (cells_of t) → assigned_as l p v x ≡ a
+  copies : (u t : Ty) (p q : code.Place) (v : Value) (x : CellType) (a : code.Action) → assigned_as l p v x ≡ code.copy_cells p (place_of v) (kinds.cells_of l.types x) → FormIs k l.types t (as_place q) v → TypeIs k l.types u x → cells_of u ≤ kinds.most → t ≡ u → a ≡ code.copy_cells p q (cells_of t) → assigned_as l p v x ≡ a
   copies u t p q v x a c i w m e h = c ∙ ap (code.copy_cells p (place_of v)) (cells_same k l.types u x w m) ∙ ap (λ y. code.copy_cells p (place_of y) (cells_of u)) i.1 ∙ ap (λ y. code.copy_cells p q (cells_of y)) (sym e) ∙ sym h
 
-  pub assigned_same : (u t : Ty) (f : Form) (v : Value) (p : code.Place) (x : ValueType) (a : code.Action) → FormIs k l.types t f v → TypeIs k l.types u x → AssignedBy u p t f a → IsMoved u → assigned_as l p v x ≡ a
+  pub assigned_same : (u t : Ty) (f : Form) (v : Value) (p : code.Place) (x : CellType) (a : code.Action) → FormIs k l.types t f v → TypeIs k l.types u x → AssignedBy u p t f a → IsMoved u → assigned_as l p v x ≡ a
   assigned_same (named.ordinal r) t (as_ordinal c) v p x a i w h m = ap (assigned_as l p v) w ∙ ap (λ y. code.assign p (ordinal_of y) r.low r.high) i.2 ∙ sym h
   assigned_same (named.ordinal r) t (as_set b) v p x a i w h m = absurd h
   assigned_same (named.ordinal r) t (as_place q) v p x a i w h m = absurd h

@@ -9,8 +9,8 @@ use Rattle.cp_tree.specs.declared.expression.Addition.{Addition}
 use Rattle.cp_tree.specs.declared.expression.Addition.TheVariants as addition
 use Rattle.cp_tree.specs.declared.expression.Multiplication.{Multiplication}
 use Rattle.cp_tree.specs.declared.expression.Multiplication.TheVariants as multiplication
-use Rattle.cp_layout.specs.declared.kinds.Base as code_base
-use Rattle.cp_layout.specs.declared.kinds.Base.TheVariants as base
+use Rattle.cp_layout.specs.declared.kinds.CellBase as code_base
+use Rattle.cp_layout.specs.declared.kinds.CellBase.TheVariants as base
 use Rattle.cp_layout.specs.Kinds.{Compounds}
 use Rattle.cp_slots.specs.Code as code
 use Rattle.cp_layout.specs.Values as values
@@ -76,7 +76,7 @@ module _ (k : Numbering) (ts : Compounds) where
 
   -- ---- sums and products
 
-  added_numbers : (o : Addition) (n t : Bool) (a b : code.Expression) (p q : code_base.Base) (v w : Value) (z : Formed) → v ≡ ordinal_value a p → w ≡ ordinal_value b q → added_ordinals o n t a b ≡ Some z → ValueIs k ts z (values.added o v w)
+  added_numbers : (o : Addition) (n t : Bool) (a b : code.Expression) (p q : code_base.CellBase) (v w : Value) (z : Formed) → v ≡ ordinal_value a p → w ≡ ordinal_value b q → added_ordinals o n t a b ≡ Some z → ValueIs k ts z (values.added o v w)
   added_numbers addition.Plus true t a b p q v w z h i e = as_integer _ z _ e (both (values.added addition.Plus) v _ w _ h i)
   added_numbers addition.Plus false t a b p q v w z h i e = absurd (cc)
   added_numbers addition.Minus true t a b p q v w z h i e = as_integer _ z _ e (both (values.added addition.Minus) v _ w _ h i)
@@ -98,7 +98,7 @@ module _ (k : Numbering) (ts : Compounds) where
   added o x y (as_place p) g t u v w z h i e = absurd (cc)
   added o x y (as_component p) g t u v w z h i e = absurd (cc)
 
-  multiplied_numbers : (o : Multiplication) (n t : Bool) (a b : code.Expression) (p q : code_base.Base) (v w : Value) (z : Formed) → v ≡ ordinal_value a p → w ≡ ordinal_value b q → multiplied_ordinals o n t a b ≡ Some z → ValueIs k ts z (values.multiplied o v w)
+  multiplied_numbers : (o : Multiplication) (n t : Bool) (a b : code.Expression) (p q : code_base.CellBase) (v w : Value) (z : Formed) → v ≡ ordinal_value a p → w ≡ ordinal_value b q → multiplied_ordinals o n t a b ≡ Some z → ValueIs k ts z (values.multiplied o v w)
   multiplied_numbers multiplication.Times true t a b p q v w z h i e = as_integer _ z _ e (both (values.multiplied multiplication.Times) v _ w _ h i)
   multiplied_numbers multiplication.Times false t a b p q v w z h i e = absurd (cc)
   multiplied_numbers multiplication.Div true t a b p q v w z h i e = as_integer _ z _ e (both (values.multiplied multiplication.Div) v _ w _ h i)

@@ -1,9 +1,9 @@
 -- Fields and elements of what a name stands for, and its value, are those of its form.
 use Rattle.std.proofs.Common.{◌≡◌, ◌+◌, ◌*◌, ◌≤◌, ℕ, zero, suc, Bool, true, false, if◌then◌else◌, List, Option, Some, None, refl, sym, ap, subst, ◌∙◌, arith}
 use Rattle.std.specs.Str.{bytes_eq}
-use Rattle.cp_slots.specs.declared.place.Origin.{Origin}
-use Rattle.cp_layout.specs.declared.kinds.ValueType.{ValueType}
-use Rattle.cp_layout.specs.declared.kinds.ValueType.TheVariants as types
+use Rattle.cp_slots.specs.declared.place.PlaceOrigin.{PlaceOrigin}
+use Rattle.cp_layout.specs.declared.kinds.CellType.{CellType}
+use Rattle.cp_layout.specs.declared.kinds.CellType.TheVariants as types
 use Rattle.cp_layout.specs.Kinds as kinds
 use Rattle.cp_layout.specs.Kinds.{Compounds, Field, as_field, field_of, as_array, array_of, most, plus}
 use Rattle.cp_slots.specs.Code as code
@@ -22,7 +22,7 @@ use Rattle.cp_resolved.proofs.frames.Cells.{cells_same, Found, field_same, cappe
 
 module _ (k : Numbering) (ts : Compounds) where
   -- the value of a variable
-  pub loaded_same : (p : code.Place) (t : Ty) (w : ValueType) → TypeIs k ts t w → ValueIs k ts (record { ty = t; form = loaded_form p t }) (loaded p w)
+  pub loaded_same : (p : code.Place) (t : Ty) (w : CellType) → TypeIs k ts t w → ValueIs k ts (record { ty = t; form = loaded_form p t }) (loaded p w)
   loaded_same p (named.ordinal r) w h = (r, refl, ap (loaded p) h)
   loaded_same p named.queue_type w h = (types.Queue, ap (loaded p) h, refl)
   loaded_same p (named.set_over r) w h = ap (loaded p) h
@@ -44,13 +44,13 @@ module _ (k : Numbering) (ts : Compounds) where
       go true ih g = subst (λ (q : Chosen). IsFull q.1) (same_inside (0, t) c g) h.0
       go false ih g = further_full (cells_of t) (field_chosen us x) c ih g
 
-  offset_same : (o : Origin) (n m : ℕ) (is : code.Indices) (j : ℕ) → m ≡ 0 + j → n + j ≤ most → with_offset (code.place o n is) m ≡ code.place o (n + j) is
+  offset_same : (o : PlaceOrigin) (n m : ℕ) (is : code.Indices) (j : ℕ) → m ≡ 0 + j → n + j ≤ most → with_offset (code.place o n is) m ≡ code.place o (n + j) is
   offset_same o n m is j h i =
       let e : m ≡ j = omega (arith, h) in
       ap (λ q. code.place o (plus n q) is) e ∙ ap (λ q. code.place o q is) (capped (n + j) most i)
 
   -- the part of a record
-  part_same : (o : Origin) (n : ℕ) (is : code.Indices) (us : FieldTypes) (w : ValueType) (x : List ℕ) (q : Option Chosen) (d : Designated) → q ≡ field_chosen us x → TypeIs k ts (named.record_with us) w → n + cells_in us ≤ most → AreFull us →
+  part_same : (o : PlaceOrigin) (n : ℕ) (is : code.Indices) (us : FieldTypes) (w : CellType) (x : List ℕ) (q : Option Chosen) (d : Designated) → q ≡ field_chosen us x → TypeIs k ts (named.record_with us) w → n + cells_in us ≤ most → AreFull us →
       then_form q (λ c. Some (part_of_form (code.place o n is) c)) ≡ Some d → DesignatedIs k ts d (field_found (code.place o n is) (field_of ts w x))
   part_same o n is us w x None d g h i f e = absurd (cc)
   part_same o n is us w x (Some c) d g h i f e =
@@ -68,7 +68,7 @@ module _ (k : Numbering) (ts : Compounds) where
       } in
       subst (λ y. DesignatedIs k ts y (field_found (code.place o n is) (field_of ts w x))) (same_inside (part_of_form (code.place o n is) c) d e) z
 
-  pub field_selected_same : (p : code.Place) (t : Ty) (w : ValueType) (x : List ℕ) (d : Designated) → TypeIs k ts t w → Ends p t → IsFull t → field_of_form t p x ≡ Some d → DesignatedIs k ts d (field_found p (field_of ts w x))
+  pub field_selected_same : (p : code.Place) (t : Ty) (w : CellType) (x : List ℕ) (d : Designated) → TypeIs k ts t w → Ends p t → IsFull t → field_of_form t p x ≡ Some d → DesignatedIs k ts d (field_found p (field_of ts w x))
   field_selected_same (code.place o n is) (named.record_with us) w x d h i f e = part_same o n is us w x (field_chosen us x) d refl h i f e
   field_selected_same p (named.ordinal r) w x d h i f e = absurd (cc)
   field_selected_same p named.queue_type w x d h i f e = absurd (cc)
@@ -87,7 +87,7 @@ module _ (k : Numbering) (ts : Compounds) where
   element_inside zero x h = absurd (omega (arith, h))
   element_inside (suc n) x h = omega (arith, one_more n x)
 
-  pub element_selected_same : (p : code.Place) (t : Ty) (w : ValueType) (c : code.Expression) (d : Designated) → TypeIs k ts t w → Ends p t → IsFull t → element_of_form t p c ≡ Some d → DesignatedIs k ts d (element_found p (array_of ts w) c)
+  pub element_selected_same : (p : code.Place) (t : Ty) (w : CellType) (c : code.Expression) (d : Designated) → TypeIs k ts t w → Ends p t → IsFull t → element_of_form t p c ≡ Some d → DesignatedIs k ts d (element_found p (array_of ts w) c)
   element_selected_same (code.place o n is) (named.array_over r t) w c d h i f e =
       let less : cells_of t ≤ length_of_range r * cells_of t = element_inside (length_of_range r) (cells_of t) f.0 in
       let few : cells_of t ≤ most = omega (arith, i, less) in

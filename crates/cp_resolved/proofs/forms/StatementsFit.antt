@@ -36,7 +36,7 @@ use Rattle.cp_check.specs.Expressions.{expression, designator, arguments, select
 use Rattle.cp_check.specs.Statements as statements
 use Rattle.cp_check.specs.Statements.{statement, target_of}
 use Rattle.cp_lawful.proofs.Loud.{Heard}
-use Rattle.cp_slots.specs.declared.place.Origin.{Origin}
+use Rattle.cp_slots.specs.declared.place.PlaceOrigin.{PlaceOrigin}
 use Rattle.cp_slots.specs.Code as code
 use Rattle.cp_meaning.specs.Names.{Name}
 use Rattle.cp_meaning.specs.Types as named
@@ -411,7 +411,7 @@ module _ (tokens : Tokens) (s : Scopes) (h : Here) (w : Context) (agrees : Scope
   counts at n target.Kind a b u r e = absurd (cc)
 
   record Counter (i : Identifier) : Type 0 where
-    pub origin : Origin
+    pub origin : PlaceOrigin
     pub range : named.Range
     pub variable : begun_form h i.name (find i.name h.scope) ≡ Some (a_variable (code.place origin 0 code.no_indices) (named.ordinal range))
     pub named : IsTarget h (find i.name h.scope) (name_with i no_selectors)

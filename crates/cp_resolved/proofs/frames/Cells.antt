@@ -4,7 +4,7 @@ use Rattle.std.specs.Prelude.{min, ◌+ℤ◌, ◌-ℤ◌}
 use Rattle.std.specs.Str.{bytes_eq}
 use Rattle.std.proofs.Math.Dec.{leb-zero}
 use Rattle.std.proofs.Math.Nat.{mul_comm}
-use Rattle.cp_layout.specs.declared.kinds.ValueType.{ValueType}
+use Rattle.cp_layout.specs.declared.kinds.CellType.{CellType}
 use Rattle.cp_layout.specs.Kinds as kinds
 use Rattle.cp_layout.specs.Kinds.{Compounds, Field, field_in, compound_cells, count_of, not_below_zero, most, times, plus}
 use Rattle.cp_meaning.specs.Types as named
@@ -40,7 +40,7 @@ elements (suc n) x y h i =
 
 module _ (k : Numbering) (ts : Compounds) where
   mutual
-    pub cells_same : (t : Ty) (v : ValueType) → TypeIs k ts t v → cells_of t ≤ most → kinds.cells_of ts v ≡ cells_of t
+    pub cells_same : (t : Ty) (v : CellType) → TypeIs k ts t v → cells_of t ≤ most → kinds.cells_of ts v ≡ cells_of t
     cells_same (named.ordinal s) v h i = ap (kinds.cells_of ts) h
     cells_same named.queue_type v h i = ap (kinds.cells_of ts) h
     cells_same (named.set_over s) v h i = ap (kinds.cells_of ts) h

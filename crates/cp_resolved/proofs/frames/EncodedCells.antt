@@ -3,8 +3,8 @@ use Rattle.std.proofs.Common.{◌≡◌, ℕ, zero, suc, ◌+◌, ◌*◌, ◌<�
 use Rattle.std.specs.Prelude.{min, int_le, int_lt}
 use Rattle.std.proofs.lemmas.Bool.{eqb-true, eqb-false}
 use Rattle.std.proofs.lemmas.Option.{slice_get_within}
-use Rattle.cp_layout.specs.declared.kinds.ValueType.{ValueType}
-use Rattle.cp_layout.specs.declared.kinds.ValueType.TheVariants as types
+use Rattle.cp_layout.specs.declared.kinds.CellType.{CellType}
+use Rattle.cp_layout.specs.declared.kinds.CellType.TheVariants as types
 use Rattle.cp_layout.specs.Kinds as kinds
 use Rattle.cp_layout.specs.Kinds.{Field, Compound, array, record_with, Compounds, array_type, compound_cells, count_of, least_of, least_by, fields_least, compound_least, compound_below, most, plus, times}
 use Rattle.cp_meaning.specs.Types as named
@@ -18,7 +18,7 @@ use Rattle.cp_resolved.proofs.frames.Cells.{count_same}
 -- ---- types that hold earlier ones alone
 
 -- one of the first
-abbrev pub IsBelow : ℕ → ValueType → Type 0
+abbrev pub IsBelow : ℕ → CellType → Type 0
 IsBelow n (types.Array m) = m < n
 IsBelow n (types.Record m) = m < n
 IsBelow n v = Unit {0}
@@ -35,7 +35,7 @@ abbrev pub HoldEarlier : Compounds → Type 0
 HoldEarlier ts = (n : ℕ) (c : Compound) → slice_get ts n ≡ Some c → HoldsBelow n c
 
 module _ (f g : ℕ → List ℤ) (n : ℕ) (same : (m : ℕ) → m < n → f m ≡ g m) where
-  type_same : (v : ValueType) → IsBelow n v → least_by f v ≡ least_by g v
+  type_same : (v : CellType) → IsBelow n v → least_by f v ≡ least_by g v
   type_same (types.Ordinal r) h = refl
   type_same types.Queue h = refl
   type_same (types.Set r) h = refl
@@ -142,13 +142,13 @@ times_stopped (suc n) m =
     rw (a, b) (omega (arith, e))
 
 module _ (k : Numbering) (ts : Compounds) (earlier : HoldEarlier ts) where
-  abbrev cells : ValueType → List ℤ
+  abbrev cells : CellType → List ℤ
   cells v = least_by (compound_below ts (length ts)) v
 
   mutual
     unfolding fields_least
 
-    cells_encoded : (t : Ty) (v : ValueType) → IsValued t → TypeIs k ts t v → cells v ≡ encode (values.least t)
+    cells_encoded : (t : Ty) (v : CellType) → IsValued t → TypeIs k ts t v → cells v ≡ encode (values.least t)
     cells_encoded (named.ordinal r) v w h = ap cells h ∙ ap (λ z. z ∷ []) (range_least k r)
     cells_encoded named.queue_type v w h = ap cells h
     cells_encoded (named.set_over r) v w h = ap cells h
@@ -168,7 +168,7 @@ module _ (k : Numbering) (ts : Compounds) (earlier : HoldEarlier ts) where
   mutual
     unfolding fields_least
 
-    cells_counted : (t : Ty) (v : ValueType) → TypeIs k ts t v → kinds.cells_of ts v ≡ min (length (cells v)) most
+    cells_counted : (t : Ty) (v : CellType) → TypeIs k ts t v → kinds.cells_of ts v ≡ min (length (cells v)) most
     cells_counted (named.ordinal r) v h = rw h (omega arith)
     cells_counted named.queue_type v h = rw h (omega arith)
     cells_counted (named.set_over r) v h = rw h (omega arith)
@@ -191,10 +191,10 @@ module _ (k : Numbering) (ts : Compounds) (earlier : HoldEarlier ts) where
         let l = length-append (cells h.value_type) (fields_least (compound_below ts (length ts)) h.rest) in
         rw h.first (omega (arith, e, l))
 
-  pub least_encoded : (t : Ty) (v : ValueType) → IsValued t → TypeIs k ts t v → kinds.least ts v ≡ encode (values.least t)
+  pub least_encoded : (t : Ty) (v : CellType) → IsValued t → TypeIs k ts t v → kinds.least ts v ≡ encode (values.least t)
   unfolding kinds.least
   least_encoded t v w h = cells_encoded t v w h
 
-  pub least_counted : (t : Ty) (v : ValueType) → TypeIs k ts t v → kinds.cells_of ts v ≡ min (length (kinds.least ts v)) most
+  pub least_counted : (t : Ty) (v : CellType) → TypeIs k ts t v → kinds.cells_of ts v ≡ min (length (kinds.least ts v)) most
   unfolding kinds.least
   least_counted t v h = cells_counted t v h

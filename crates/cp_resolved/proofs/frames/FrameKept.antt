@@ -2,7 +2,7 @@
 use Rattle.std.proofs.Common.{◌≡◌, ◌+◌, ℕ, List, [], ◌∷◌, length, refl, ap, ◌∙◌}
 use Rattle.cp_tree.specs.declared.constant.Identifier.{Identifier}
 use Rattle.cp_tree.specs.Syntax as syntax
-use Rattle.cp_layout.specs.declared.kinds.Base.{Base}
+use Rattle.cp_layout.specs.declared.kinds.CellBase.{CellBase}
 use Rattle.cp_layout.specs.declared.names.Meaning.TheVariants as meaning
 use Rattle.cp_layout.specs.Kinds.{Fields, no_fields}
 use Rattle.cp_layout.specs.Layers.{Layer, Frame, Owned}
@@ -17,7 +17,7 @@ Cells = Frame × Owned
 abbrev pub cells : Layer → Cells
 cells l = (l.frame, l.owned)
 
-enumerated_cells : (l : Layer) (b : Base) (n : ℕ) (is : List Identifier) → cells (enumerated l b n is) ≡ cells l
+enumerated_cells : (l : Layer) (b : CellBase) (n : ℕ) (is : List Identifier) → cells (enumerated l b n is) ≡ cells l
 unfolding enumerated
 enumerated_cells l b n [] = refl
 enumerated_cells l b n (i ∷ is) = enumerated_cells (with_constant l i.name (meaning.Constant b (as_integer n))) b (n + 1) is

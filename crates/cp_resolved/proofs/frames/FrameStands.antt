@@ -2,8 +2,8 @@
 use Rattle.std.proofs.Common.{◌≡◌, ◌+◌, ◌≤◌, ◌⊎◌, inl, inr, ℕ, zero, suc, pos, Bool, true, false, if◌then◌else◌, List, ◌++◌, length, Option, Some, None, refl, sym, ap, subst, ◌∙◌, arith}
 use Rattle.std.proofs.lemmas.Option.{none-some}
 use Rattle.cp_tree.specs.Syntax as syntax
-use Rattle.cp_slots.specs.declared.place.Origin.{Origin}
-use Rattle.cp_slots.specs.declared.place.Origin.TheVariants as origin
+use Rattle.cp_slots.specs.declared.place.PlaceOrigin.{PlaceOrigin}
+use Rattle.cp_slots.specs.declared.place.PlaceOrigin.TheVariants as origin
 use Rattle.cp_layout.specs.declared.names.Meaning.{Meaning}
 use Rattle.cp_layout.specs.declared.names.Meaning.TheVariants as meaning
 use Rattle.cp_layout.specs.Layers as layers
@@ -138,13 +138,13 @@ module _ (k : Numbering) (p : syntax.Program) (m : RoutineMeaning) (l : Layer) (
   seen x t a = look_each (λ v. find v.name m.scope ≡ Some (local_variable v.ty)) x t (routine_variables m) declared.visible (among_look x t (routine_variables m) declared.different a)
 
   module _ (frames : Frames l all refs) where
-    abbrev At : Name → Origin → Type 0
+    abbrev At : Name → PlaceOrigin → Type 0
     At x o = (f.origins x ≡ o) × Lies all refs x o
 
-    lies_at : (x : Name) (t : Ty) → find x m.scope ≡ Some (local_variable t) → (o : Origin) × (f.origins x ≡ o) × IsInFrame o × Lies all refs x o
+    lies_at : (x : Name) (t : Ty) → find x m.scope ≡ Some (local_variable t) → (o : PlaceOrigin) × (f.origins x ≡ o) × IsInFrame o × Lies all refs x o
     lies_at x t e = go (layers.find x l.names) refl (subst (λ q. FoundIs k l.types (layers.find x l.names) q (scopes.since x m.scope)) e (found_in k l.types x l.names m.scope steps))
       where
-        go : (q : Option Meaning) → layers.find x l.names ≡ q → FoundIs k l.types q (Some (local_variable t)) (scopes.since x m.scope) → (o : Origin) × (f.origins x ≡ o) × IsInFrame o × Lies all refs x o
+        go : (q : Option Meaning) → layers.find x l.names ≡ q → FoundIs k l.types q (Some (local_variable t)) (scopes.since x m.scope) → (o : PlaceOrigin) × (f.origins x ≡ o) × IsInFrame o × Lies all refs x o
         go None g h = absurd h
         go (Some n) g h =
             let there : layers.find x l.names ≡ Some (meaning.Variable h.origin h.value_type) = g ∙ ap (λ y. Some y) h.is in
@@ -153,7 +153,7 @@ module _ (k : Numbering) (p : syntax.Program) (m : RoutineMeaning) (l : Layer) (
     declared_origin : (x : Name) (t : Ty) → Among x t (first ++ m.variables) → f.origins x ≡ origin.Local (cells_before x all)
     declared_origin x t a = let w = lies_at x t (seen x t (missing_all x t m.parameters m.variables a)) in go w.0 w.1 w.2 w.3
       where
-        go : (o : Origin) → f.origins x ≡ o → IsInFrame o → Lies all refs x o → f.origins x ≡ origin.Local (cells_before x all)
+        go : (o : PlaceOrigin) → f.origins x ≡ o → IsInFrame o → Lies all refs x o → f.origins x ≡ origin.Local (cells_before x all)
         go (origin.Local n) e i h = e ∙ ap origin.Local h.2
         go (origin.Reference n) e i h = absurd (never_both x t h.0 m.parameters m.variables declared.different a (look_among x h.0 refs h.1))
         go (origin.Permanent n) e i h = absurd i
@@ -168,7 +168,7 @@ module _ (k : Numbering) (p : syntax.Program) (m : RoutineMeaning) (l : Layer) (
         bad u (inl same) = never_missing x t (routine_variables m) inside (subst (λ y. look y (routine_variables m) ≡ None) (sym same) (no_local result_name (λ i. i)))
         bad u (inr a) = never_both x u t m.parameters m.variables declared.different a (look_among x t refs e)
 
-        go : (o : Origin) → f.origins x ≡ o → IsInFrame o → Lies all refs x o → f.origins x ≡ origin.Reference (number_among x refs)
+        go : (o : PlaceOrigin) → f.origins x ≡ o → IsInFrame o → Lies all refs x o → f.origins x ≡ origin.Reference (number_among x refs)
         go (origin.Local n) g i h = absurd (bad h.0 (declared_or x h.0 h.1))
         go (origin.Reference n) g i h = g ∙ ap origin.Reference h.2
         go (origin.Permanent n) g i h = absurd i

@@ -3,9 +3,9 @@ use Rattle.std.proofs.Common.{◌≡◌, ◌+◌, ◌≤◌, ℕ, zero, suc, tru
 use Rattle.std.specs.Str.{bytes_eq}
 use Rattle.std.proofs.lemmas.Option.{none-some, slice_get_within}
 use Rattle.cp_tree.specs.Syntax as syntax
-use Rattle.cp_slots.specs.declared.place.Origin.{Origin}
-use Rattle.cp_slots.specs.declared.place.Origin.TheVariants as origin
-use Rattle.cp_layout.specs.declared.kinds.ValueType.{ValueType}
+use Rattle.cp_slots.specs.declared.place.PlaceOrigin.{PlaceOrigin}
+use Rattle.cp_slots.specs.declared.place.PlaceOrigin.TheVariants as origin
+use Rattle.cp_layout.specs.declared.kinds.CellType.{CellType}
 use Rattle.cp_layout.specs.declared.names.Meaning.{Meaning}
 use Rattle.cp_layout.specs.declared.names.Meaning.TheVariants as meaning
 use Rattle.cp_layout.specs.Kinds as kinds
@@ -86,16 +86,16 @@ fits_fewer us vs (w ∷ ws) f h = (record { other = f w.name h.0.other; has = h.
 
 -- ---- where variables lie
 
-abbrev pub Lies : (vs rs : List Variable) → Name → Origin → Type 0
+abbrev pub Lies : (vs rs : List Variable) → Name → PlaceOrigin → Type 0
 Lies vs rs x (origin.Local n) = (t : Ty) × (look x vs ≡ Some t) × (n ≡ cells_before x vs)
 Lies vs rs x (origin.Reference n) = (t : Ty) × (look x rs ≡ Some t) × (n ≡ number_among x rs)
 Lies vs rs x (origin.Permanent n) = Unit {0}
 
 -- what stands for a variable of the frame stands for one of these
 abbrev pub AreLying : (vs rs : List Variable) → Names → Type 0
-AreLying vs rs ns = (x : Name) (o : Origin) (v : ValueType) → find x ns ≡ Some (meaning.Variable o v) → Lies vs rs x o
+AreLying vs rs ns = (x : Name) (o : PlaceOrigin) (v : CellType) → find x ns ≡ Some (meaning.Variable o v) → Lies vs rs x o
 
-pub lies_more : (vs rs ws qs : List Variable) (x : Name) (o : Origin) → Lies vs rs x o → Lies (vs ++ ws) (rs ++ qs) x o
+pub lies_more : (vs rs ws qs : List Variable) (x : Name) (o : PlaceOrigin) → Lies vs rs x o → Lies (vs ++ ws) (rs ++ qs) x o
 lies_more vs rs ws qs x (origin.Local n) h = (h.0, look_left x h.0 vs ws h.1, h.2 ∙ sym (before_left x h.0 vs ws h.1))
 lies_more vs rs ws qs x (origin.Reference n) h = (h.0, look_left x h.0 rs qs h.1, h.2 ∙ sym (number_left x h.0 rs qs h.1))
 lies_more vs rs ws qs x (origin.Permanent n) h = tt
@@ -111,11 +111,11 @@ lying_added vs rs x m ns i h y o v e = go (found_cases (x, m) ns y (meaning.Vari
     go (inl w) = absurd (subst IsNoVariable w.1 i)
     go (inr f) = h y o v f
 
-same_origin : (o p : Origin) (v w : ValueType) → meaning.Variable o v ≡ meaning.Variable p w → o ≡ p
+same_origin : (o p : PlaceOrigin) (v w : CellType) → meaning.Variable o v ≡ meaning.Variable p w → o ≡ p
 same_origin o p v w e = cc
 
 -- one more variable, at its place
-lying_variable : (vs rs : List Variable) (x : Name) (p : Origin) (w : ValueType) (ns : Names) → ((y : Name) → bytes_eq x y ≡ true → Lies vs rs y p) → AreLying vs rs ns → AreLying vs rs ((x, meaning.Variable p w) ∷ ns)
+lying_variable : (vs rs : List Variable) (x : Name) (p : PlaceOrigin) (w : CellType) (ns : Names) → ((y : Name) → bytes_eq x y ≡ true → Lies vs rs y p) → AreLying vs rs ns → AreLying vs rs ((x, meaning.Variable p w) ∷ ns)
 lying_variable vs rs x p w ns l h y o v e = go (found_cases (x, meaning.Variable p w) ns y (meaning.Variable o v) e)
   where
     go : ((bytes_eq x y ≡ true) × (meaning.Variable p w ≡ meaning.Variable o v)) ⊎ (find y ns ≡ Some (meaning.Variable o v)) → Lies vs rs y o
@@ -167,14 +167,14 @@ abbrev pub one_variable : Name → Ty → Variable
 one_variable x t = record { name = x; ty = t }
 
 module _ (k : Numbering) where
-  image_more : (l : Layer) (x : Name) (t : Ty) (v : ValueType) (vs : List Variable) → TypeIs k l.types t v → Counted l.types → HasCells t → l.frame.image ≡ images vs → l.frame.image ++ kinds.least l.types v ≡ images (vs ++ one_variable x t ∷ [])
+  image_more : (l : Layer) (x : Name) (t : Ty) (v : CellType) (vs : List Variable) → TypeIs k l.types t v → Counted l.types → HasCells t → l.frame.image ≡ images vs → l.frame.image ++ kinds.least l.types v ≡ images (vs ++ one_variable x t ∷ [])
   image_more l x t v vs i c has e =
       ap (λ zs. zs ++ kinds.least l.types v) e
       ∙ ap (λ zs. images vs ++ zs) (least_laid k l.types c t v i has.free has.few has.full ∙ sym (append-nil (encode (least t))))
       ∙ sym (images_append vs (one_variable x t ∷ []))
 
   -- the cells of a result, without a name
-  pub result_framed : (l : Layer) (x : Name) (t : Ty) (v : ValueType) (vs rs : List Variable) → TypeIs k l.types t v → Counted l.types → HasCells t → Frames l vs rs → Frames (with_local l v).1 (vs ++ one_variable x t ∷ []) rs
+  pub result_framed : (l : Layer) (x : Name) (t : Ty) (v : CellType) (vs rs : List Variable) → TypeIs k l.types t v → Counted l.types → HasCells t → Frames l vs rs → Frames (with_local l v).1 (vs ++ one_variable x t ∷ []) rs
   result_framed l x t v vs rs i c has h =
       record {
         free = each_both IsFreeVariable vs (one_variable x t ∷ []) h.free (has.free, tt);
@@ -193,7 +193,7 @@ module _ (k : Numbering) where
       let place = before_right y vs (one_variable x t ∷ []) absent in
       (t, look_right y vs (one_variable x t ∷ []) absent ∙ first, omega (arith, long, place, none))
 
-  pub local_framed : (l : Layer) (x : Name) (t : Ty) (v : ValueType) (vs rs : List Variable) → TypeIs k l.types t v → Counted l.types → IsNew vs (one_variable x t) → Frames l vs rs → Frames (local l x v) (vs ++ one_variable x t ∷ []) rs
+  pub local_framed : (l : Layer) (x : Name) (t : Ty) (v : CellType) (vs rs : List Variable) → TypeIs k l.types t v → Counted l.types → IsNew vs (one_variable x t) → Frames l vs rs → Frames (local l x v) (vs ++ one_variable x t ∷ []) rs
   local_framed l x t v vs rs i c new h =
       let j : Frames (with_local l v).1 (vs ++ one_variable x t ∷ []) rs = result_framed l x t v vs rs i c new.has h in
       record {
@@ -213,9 +213,9 @@ module _ (k : Numbering) where
       let place = number_right y rs (one_variable x t ∷ []) absent in
       (t, look_right y rs (one_variable x t ∷ []) absent ∙ first, omega (arith, long, place, none))
 
-  pub reference_framed : (l : Layer) (ps : Parameters) (x : Name) (t : Ty) (v : ValueType) (vs rs : List Variable) → TypeIs k l.types t v → IsNew rs (one_variable x t) → Frames l vs rs → Frames (var_parameter l ps x v).1 vs (rs ++ one_variable x t ∷ [])
+  pub reference_framed : (l : Layer) (ps : Parameters) (x : Name) (t : Ty) (v : CellType) (vs rs : List Variable) → TypeIs k l.types t v → IsNew rs (one_variable x t) → Frames l vs rs → Frames (var_parameter l ps x v).1 vs (rs ++ one_variable x t ∷ [])
   reference_framed l ps x t v vs rs i new h =
-      let more : (y : Name) (o : Origin) (u : ValueType) → find y l.names ≡ Some (meaning.Variable o u) → Lies vs (rs ++ one_variable x t ∷ []) y o = λ y o u e. subst (λ ws. Lies ws (rs ++ one_variable x t ∷ []) y o) (append-nil vs) (lies_more vs rs [] (one_variable x t ∷ []) y o (h.lying y o u e)) in
+      let more : (y : Name) (o : PlaceOrigin) (u : CellType) → find y l.names ≡ Some (meaning.Variable o u) → Lies vs (rs ++ one_variable x t ∷ []) y o = λ y o u e. subst (λ ws. Lies ws (rs ++ one_variable x t ∷ []) y o) (append-nil vs) (lies_more vs rs [] (one_variable x t ∷ []) y o (h.lying y o u e)) in
       record {
         free = h.free;
         image = h.image;

@@ -2,7 +2,7 @@
 use Rattle.std.proofs.Common.{◌≡◌, Bool, true, false, if◌then◌else◌, List, [], ◌∷◌, ◌++◌, length, Option, Some, None, refl, sym, ap, subst, ◌∙◌, append_assoc, append-nil}
 use Rattle.cp_tree.specs.declared.constant.Identifier.{Identifier}
 use Rattle.cp_tree.specs.Syntax as syntax
-use Rattle.cp_layout.specs.declared.kinds.ValueType.{ValueType}
+use Rattle.cp_layout.specs.declared.kinds.CellType.{CellType}
 use Rattle.cp_layout.specs.declared.layer.FunctionResult.{FunctionResult}
 use Rattle.cp_layout.specs.Kinds.{Compounds}
 use Rattle.cp_layout.specs.Layers.{Layer}
@@ -121,7 +121,7 @@ module _ (k : Numbering) (all : Compounds) (counted : Counted all) where
 
   -- ---- local variables
 
-  locals_of_framed : (l : Layer) (t : Ty) (v : ValueType) (is : List Identifier) (vs rs : List Variable) → TypeIs k l.types t v → Counted l.types → Fits vs (named_variables (names_of is) t) → Frames l vs rs → Frames (locals_of l v is) (vs ++ named_variables (names_of is) t) rs
+  locals_of_framed : (l : Layer) (t : Ty) (v : CellType) (is : List Identifier) (vs rs : List Variable) → TypeIs k l.types t v → Counted l.types → Fits vs (named_variables (names_of is) t) → Frames l vs rs → Frames (locals_of l v is) (vs ++ named_variables (names_of is) t) rs
   unfolding locals_of
   locals_of_framed l t v [] vs rs i c f h = subst (λ us. Frames l us rs) (sym (append-nil vs)) h
   locals_of_framed l t v (x ∷ xs) vs rs i c f h =
@@ -134,7 +134,7 @@ module _ (k : Numbering) (all : Compounds) (counted : Counted all) where
   locals_framed l b [] pre rs s n i x f h = h
   locals_framed l b (g ∷ gs) pre rs s n i x f h =
       let fs : List Enumerated = each_in (λ (g : syntax.VariableGroup). in_type g.variable_type) gs in
-      let v : ValueType × Layer = written_type l g.variable_type in
+      let v : CellType × Layer = written_type l g.variable_type in
       let y : Ty × Scope = meant.type_in b.scope g.variable_type in
       let w : Written k l v y (in_type g.variable_type) = type_written k l b.scope g.variable_type s.0 (numbered_left k (length l.constants) (in_type g.variable_type) fs n) i in
       let m : Layer = local_group l g in
@@ -165,7 +165,7 @@ module _ (k : Numbering) (all : Compounds) (counted : Counted all) where
 
   -- ---- parameters
 
-  constants_of_framed : (l : Layer) (ps : Parameters) (t : Ty) (v : ValueType) (is : List Identifier) (vs rs : List Variable) → TypeIs k l.types t v → Counted l.types → Fits vs (named_variables (names_of is) t) → Frames l vs rs → Frames (constant_parameters_of l ps v is).1 (vs ++ named_variables (names_of is) t) rs
+  constants_of_framed : (l : Layer) (ps : Parameters) (t : Ty) (v : CellType) (is : List Identifier) (vs rs : List Variable) → TypeIs k l.types t v → Counted l.types → Fits vs (named_variables (names_of is) t) → Frames l vs rs → Frames (constant_parameters_of l ps v is).1 (vs ++ named_variables (names_of is) t) rs
   unfolding constant_parameters_of
   constants_of_framed l ps t v [] vs rs i c f h = subst (λ us. Frames l us rs) (sym (append-nil vs)) h
   constants_of_framed l ps t v (x ∷ xs) vs rs i c f h =
@@ -173,7 +173,7 @@ module _ (k : Numbering) (all : Compounds) (counted : Counted all) where
       subst (λ us. Frames (constant_parameters_of m.1 m.0 v xs).1 us rs) (append_assoc vs (one_variable x.name t ∷ []) (named_variables (names_of xs) t))
       (constants_of_framed m.1 m.0 t v xs (vs ++ one_variable x.name t ∷ []) rs i c f.1 (local_framed k l x.name t v vs rs i c f.0 h))
 
-  vars_of_framed : (l : Layer) (ps : Parameters) (t : Ty) (v : ValueType) (is : List Identifier) (vs rs : List Variable) → TypeIs k l.types t v → Fits rs (named_variables (names_of is) t) → Frames l vs rs → Frames (var_parameters_of l ps v is).1 vs (rs ++ named_variables (names_of is) t)
+  vars_of_framed : (l : Layer) (ps : Parameters) (t : Ty) (v : CellType) (is : List Identifier) (vs rs : List Variable) → TypeIs k l.types t v → Fits rs (named_variables (names_of is) t) → Frames l vs rs → Frames (var_parameters_of l ps v is).1 vs (rs ++ named_variables (names_of is) t)
   unfolding var_parameters_of
   vars_of_framed l ps t v [] vs rs i f h = subst (λ us. Frames l vs us) (sym (append-nil rs)) h
   vars_of_framed l ps t v (x ∷ xs) vs rs i f h =

@@ -5,8 +5,8 @@ use Rattle.std.proofs.lemmas.Option.{slice_get_within}
 use Rattle.std.proofs.lemmas.Bool.{eqb-true}
 use Rattle.std.proofs.Math.Dec.{T, eqb_refl, leb-zero}
 use Rattle.std.proofs.Math.Nat.{mul_comm}
-use Rattle.cp_layout.specs.declared.kinds.ValueType.{ValueType}
-use Rattle.cp_layout.specs.declared.kinds.ValueType.TheVariants as types
+use Rattle.cp_layout.specs.declared.kinds.CellType.{CellType}
+use Rattle.cp_layout.specs.declared.kinds.CellType.TheVariants as types
 use Rattle.cp_layout.specs.Kinds as kinds
 use Rattle.cp_layout.specs.Kinds.{Compound, array, record_with, Compounds, Field, compound_cells, count_of, most, times, array_type, least_by, fields_least, elements_least, compound_least, compound_below, least_below}
 use Rattle.cp_meaning.specs.Types as named
@@ -196,11 +196,11 @@ past_taken (suc n) zero (x ∷ xs) h = absurd (omega (arith, h))
 past_taken (suc n) (suc j) (x ∷ xs) h = past_taken n j xs (omega (arith, h))
 
 module _ (k : Numbering) (ts : Compounds) where
-  cells_before : (n : ℕ) (v : ValueType) → kinds.cells_of (take n ts) v ≤ kinds.cells_of ts v
+  cells_before : (n : ℕ) (v : CellType) → kinds.cells_of (take n ts) v ≤ kinds.cells_of ts v
   cells_before n v = subst (λ us. kinds.cells_of (take n ts) v ≤ kinds.cells_of us v) (take_drop n ts) (cells_more (take n ts) (drop n ts) v)
 
   -- a compound type is one of the first, if it has cells
-  abbrev Reaches : ℕ → ValueType → ℕ → Type 0
+  abbrev Reaches : ℕ → CellType → ℕ → Type 0
   Reaches bound (types.Array n) c = (n < bound) ⊎ (c ≡ 0)
   Reaches bound (types.Record n) c = (n < bound) ⊎ (c ≡ 0)
   Reaches bound v c = Unit {0}
@@ -213,7 +213,7 @@ module _ (k : Numbering) (ts : Compounds) where
       go (inr h) = inr (sym e ∙ ap compound_cells (past_taken n j ts h))
 
   -- by the cells that it has among the first ones
-  reaches : (n c : ℕ) (v : ValueType) → kinds.cells_of (take n ts) v ≡ c → Reaches n v c
+  reaches : (n c : ℕ) (v : CellType) → kinds.cells_of (take n ts) v ≡ c → Reaches n v c
   reaches n c (types.Array j) e = compound_reaches n j c e
   reaches n c (types.Record j) e = compound_reaches n j c e
   reaches n c (types.Ordinal r) e = tt
@@ -231,7 +231,7 @@ module _ (k : Numbering) (ts : Compounds) where
 
   module _ (counted : Counted ts) where
     -- the element of an array stands before it, if it has cells
-    element_reaches : (n : ℕ) (s : Range) (t : Ty) (v : ValueType) → slice_get ts n ≡ Some (array (array_type ts (range_on k s) v)) → TypeIs k ts t v → 1 ≤ length_of_range s → length_of_range s * cells_of t ≤ most → Reaches n v (cells_of t)
+    element_reaches : (n : ℕ) (s : Range) (t : Ty) (v : CellType) → slice_get ts n ≡ Some (array (array_type ts (range_on k s) v)) → TypeIs k ts t v → 1 ≤ length_of_range s → length_of_range s * cells_of t ≤ most → Reaches n v (cells_of t)
     element_reaches n s t v there belongs full few = reaches n (cells_of t) v (go (length_of_range s) refl full)
       where
         go : (m : ℕ) → length_of_range s ≡ m → 1 ≤ m → kinds.cells_of (take n ts) v ≡ cells_of t
@@ -248,7 +248,7 @@ module _ (k : Numbering) (ts : Compounds) where
             let more = times_apart m (kinds.cells_of (take n ts) v) (cells_of t) (omega (arith, below, same)) in
             omega (arith, d, e2, more, one, below, same)
 
-    array_least : (bound n : ℕ) (s : Range) (t : Ty) (v : ValueType) → slice_get ts n ≡ Some (array (array_type ts (range_on k s) v)) → is_free (named.array_over s t) ≡ true → least_below ts n v ≡ encode (least t) → (n < bound) ⊎ (length_of_range s * cells_of t ≡ 0) →
+    array_least : (bound n : ℕ) (s : Range) (t : Ty) (v : CellType) → slice_get ts n ≡ Some (array (array_type ts (range_on k s) v)) → is_free (named.array_over s t) ≡ true → least_below ts n v ≡ encode (least t) → (n < bound) ⊎ (length_of_range s * cells_of t ≡ 0) →
         compound_below ts bound n ≡ encode_all (copies (length_of_range s) (least t))
     array_least bound n s t v there f inner r = go (below_or_not n bound) r
       where
@@ -277,7 +277,7 @@ module _ (k : Numbering) (ts : Compounds) where
     mutual
       unfolding fields_least
 
-      pub least_same : (bound : ℕ) (t : Ty) (v : ValueType) → TypeIs k ts t v → is_free t ≡ true → cells_of t ≤ most → IsFull t → Reaches bound v (cells_of t) → least_below ts bound v ≡ encode (least t)
+      pub least_same : (bound : ℕ) (t : Ty) (v : CellType) → TypeIs k ts t v → is_free t ≡ true → cells_of t ≤ most → IsFull t → Reaches bound v (cells_of t) → least_below ts bound v ≡ encode (least t)
       least_same bound (named.ordinal s) v h f few full r = ap (least_below ts bound) h ∙ ap (λ z. z ∷ []) (least_of_same k s)
       least_same bound named.queue_type v h f few full r = absurd (let bad : false ≡ true = f in cc)
       least_same bound (named.set_over s) v h f few full r = ap (least_below ts bound) h
@@ -303,7 +303,7 @@ module _ (k : Numbering) (ts : Compounds) where
           ap (fields_least (compound_below ts n)) h.first ∙ ap (λ ys. ys ++ fields_least (compound_below ts n) h.rest) one ∙ ap (λ ys. encode (least t) ++ ys) others
 
     -- the cells of a variable are those of its least value
-    there_reaches : (t : Ty) (v : ValueType) → TypeIs k ts t v → Reaches (length ts) v (cells_of t)
+    there_reaches : (t : Ty) (v : CellType) → TypeIs k ts t v → Reaches (length ts) v (cells_of t)
     there_reaches (named.ordinal s) v h = rw h tt
     there_reaches named.queue_type v h = rw h tt
     there_reaches (named.set_over s) v h = rw h tt
@@ -311,6 +311,6 @@ module _ (k : Numbering) (ts : Compounds) where
     there_reaches (named.record_with us) v h = rw h.is (inl (slice_get_within ts h.number _ h.there))
     there_reaches (named.component_of n) v h = rw h tt
 
-    pub least_laid : (t : Ty) (v : ValueType) → TypeIs k ts t v → is_free t ≡ true → cells_of t ≤ most → IsFull t → kinds.least ts v ≡ encode (least t)
+    pub least_laid : (t : Ty) (v : CellType) → TypeIs k ts t v → is_free t ≡ true → cells_of t ≤ most → IsFull t → kinds.least ts v ≡ encode (least t)
     unfolding kinds.least
     least_laid t v h f few full = least_same (length ts) t v h f few full (there_reaches t v h)

@@ -2,8 +2,8 @@
 use Rattle.std.proofs.Common.{◌≡◌, ℕ, zero, suc, ◌+◌, ◌*◌, ◌≤◌, ◌==◌, ℤ, Bool, true, false, if◌then◌else◌, List, [], ◌∷◌, ◌++◌, length, Option, Some, None, slice_get, refl, sym, ap, subst, ◌∙◌, arith, length-append}
 use Rattle.std.proofs.lemmas.Bool.{eqb-true, eqb-false}
 use Rattle.std.proofs.lemmas.Nat.{mul-le}
-use Rattle.cp_layout.specs.declared.kinds.ValueType.{ValueType}
-use Rattle.cp_layout.specs.declared.kinds.ValueType.TheVariants as types
+use Rattle.cp_layout.specs.declared.kinds.CellType.{CellType}
+use Rattle.cp_layout.specs.declared.kinds.CellType.TheVariants as types
 use Rattle.cp_layout.specs.Kinds.{Field, Compound, array, record_with, Compounds, count_of, least_by, fields_least, compound_least, compound_below, least_below, least}
 use Rattle.cp_meaning.specs.Types as named
 use Rattle.cp_meaning.specs.Types.{Ty, FieldTypes, length_of_range}
@@ -28,7 +28,7 @@ module _ (k : Numbering) (ts : Compounds) where
   mutual
     unfolding fields_least
 
-    below_cells : (bound : ℕ) (t : Ty) (v : ValueType) → TypeIs k ts t v → length (least_below ts bound v) ≤ cells_of t
+    below_cells : (bound : ℕ) (t : Ty) (v : CellType) → TypeIs k ts t v → length (least_below ts bound v) ≤ cells_of t
     below_cells bound (named.ordinal s) v h = subst (λ u. length (least_below ts bound u) ≤ 1) (sym h) (omega arith)
     below_cells bound named.queue_type v h = subst (λ u. length (least_below ts bound u) ≤ 1) (sym h) (omega arith)
     below_cells bound (named.set_over s) v h = subst (λ u. length (least_below ts bound u) ≤ 8) (sym h) (omega arith)
@@ -50,7 +50,7 @@ module _ (k : Numbering) (ts : Compounds) where
         let e = length-append (least_below ts bound h.value_type) (fields_least (compound_below ts bound) h.rest) in
         subst (λ gs. length (fields_least (compound_below ts bound) gs) ≤ cells_of t + cells_in us) (sym h.first) (omega (arith, a, b, e))
 
-  pub least_cells : (t : Ty) (v : ValueType) → TypeIs k ts t v → length (least ts v) ≤ cells_of t
+  pub least_cells : (t : Ty) (v : CellType) → TypeIs k ts t v → length (least ts v) ≤ cells_of t
   unfolding least
   least_cells t v h = below_cells (length ts) t v h
 
@@ -67,7 +67,7 @@ below_none ts (suc b) n le = go (n == b) refl (below_none ts b n (omega (arith, 
 
 -- by what gives more for each number
 module _ (f g : ℕ → List ℤ) (more : (n : ℕ) → length (f n) ≤ length (g n)) where
-  by_more : (t : ValueType) → length (least_by f t) ≤ length (least_by g t)
+  by_more : (t : CellType) → length (least_by f t) ≤ length (least_by g t)
   by_more (types.Array n) = more n
   by_more (types.Record n) = more n
   by_more (types.Ordinal r) = omega arith
@@ -128,6 +128,6 @@ module _ (ts more : Compounds) where
   below_more zero (suc a) le n = absurd (omega (arith, le))
   below_more (suc c) (suc a) le n = below_step c a n (omega (arith, le)) (below_more c) (n == a) (n == c) refl refl
 
-  pub least_more : (v : ValueType) → length (least ts v) ≤ length (least (ts ++ more) v)
+  pub least_more : (v : CellType) → length (least ts v) ≤ length (least (ts ++ more) v)
   unfolding least
   least_more v = by_more (compound_below ts (length ts)) (compound_below (ts ++ more) (length (ts ++ more))) (below_more (length (ts ++ more)) (length ts) (let e = length-append ts more in omega (arith, e))) v

@@ -2,9 +2,9 @@
 -- For each system type: its initial statement and its cells.
 use Rattle.std.proofs.Common.{◌≡◌, ◌+◌, ◌-◌, inl, inr, ℕ, suc, true, false, List, [], ◌∷◌, ◌++◌, length, Option, Some, None, slice_get, slice_index_or, refl, sym, ap, subst, ◌∙◌, arith, append-nil}
 use Rattle.cp_tree.specs.Syntax as syntax
-use Rattle.cp_slots.specs.declared.place.Origin.{Origin}
-use Rattle.cp_slots.specs.declared.place.Origin.TheVariants as origin
-use Rattle.cp_layout.specs.declared.kinds.ValueType.{ValueType}
+use Rattle.cp_slots.specs.declared.place.PlaceOrigin.{PlaceOrigin}
+use Rattle.cp_slots.specs.declared.place.PlaceOrigin.TheVariants as origin
+use Rattle.cp_layout.specs.declared.kinds.CellType.{CellType}
 use Rattle.cp_layout.specs.declared.names.Meaning.{Meaning}
 use Rattle.cp_layout.specs.declared.names.Meaning.TheVariants as meaning
 use Rattle.cp_layout.specs.Kinds.{Compounds}
@@ -45,7 +45,7 @@ use Rattle.cp_resolved.proofs.names.StepsOfTypes.{numbered_left, numbered_after}
 -- ---- no variable of a frame, and no permanent variable
 
 module _ (k : Numbering) (ts : Compounds) where
-  lying_found : (ps : List Variable) (x : Name) (s : Scope) (o : Origin) (v : ValueType) (n : Option scopes.Meaning) (u : Scope) → AreOf [] ps s → scopes.find x s ≡ n → FoundIs k ts (Some (meaning.Variable o v)) n u → Lies [] [] x o
+  lying_found : (ps : List Variable) (x : Name) (s : Scope) (o : PlaceOrigin) (v : CellType) (n : Option scopes.Meaning) (u : Scope) → AreOf [] ps s → scopes.find x s ≡ n → FoundIs k ts (Some (meaning.Variable o v)) n u → Lies [] [] x o
   lying_found ps x s o v None u h e f = absurd f
   lying_found ps x s o v (Some (scopes.local_variable t)) u h e f = absurd (of_local x t [] ps s h e)
   lying_found ps x s (origin.Permanent n) v (Some m) u h e f = tt

@@ -1,7 +1,7 @@
 -- What an item means is inside what it names, and the components that it names are of the types that it wants.
 use Rattle.std.proofs.Common.{◌≡◌, ℕ, ◌+◌, ◌<◌, ◌≤◌, nat_lt, Bool, true, false, ◌&&◌, List, length, Option, Some, None, refl, sym, ap, subst, ◌∙◌, arith, rules}
 use Rattle.cp_tree.specs.Syntax as syntax
-use Rattle.cp_slots.specs.declared.place.Origin.{Origin}
+use Rattle.cp_slots.specs.declared.place.PlaceOrigin.{PlaceOrigin}
 use Rattle.cp_slots.specs.Code as code
 use Rattle.cp_slots.specs.Inside.{has, room_from, result_inside}
 use Rattle.cp_slots.specs.Tables.{Tables, RoutineView, routine_at}
@@ -64,7 +64,7 @@ module _ (t : Tables) (h : Here) (r : RoutineView) (P : ℕ → Type 0) (v : Var
   queue_inside : (p : code.Place) → IsQueue h p → has 1 (place_in r p) ≡ true
   queue_inside p m = has_place r p named.queue_type 1 (expression_fits (Leads t h r P) h r v m.expression _ m.held m.formed) (omega arith)
 
-  counter_inside : (o : Origin) → IsCounter h o → has 1 (room_from r o) ≡ true
+  counter_inside : (o : PlaceOrigin) → IsCounter h o → has 1 (room_from r o) ≡ true
   counter_inside o m =
       let f : PlaceFits r (code.place o 0 code.no_indices) (named.ordinal m.range) = begun_fits (Leads t h r P) h r v m.name.name (scopes.find m.name.name h.scope) _ refl m.variable in
       let c : HasCells r o (0 + 0 + 1) = f.cells in

@@ -2,8 +2,8 @@
 use Rattle.std.proofs.Common.{◌≡◌, ◌+◌, ◌-◌, ◌<◌, ◌≤◌, ◌-ℤ◌, unsigned_abs, ℕ, zero, suc, nat_lt, Bool, true, false, if◌then◌else◌, List, [], ◌∷◌, ◌++◌, length, Option, Some, None, slice_get, slice_index_or, refl, sym, ap, subst, ◌∙◌, ◌⊎◌, inl, inr, arith, rules}
 use Rattle.std.proofs.lemmas.Option.{same_Some, slice_get_within}
 use Rattle.cp_tree.specs.Syntax.{Tree}
-use Rattle.cp_slots.specs.declared.place.Origin.{Origin}
-use Rattle.cp_slots.specs.declared.place.Origin.TheVariants as origin
+use Rattle.cp_slots.specs.declared.place.PlaceOrigin.{PlaceOrigin}
+use Rattle.cp_slots.specs.declared.place.PlaceOrigin.TheVariants as origin
 use Rattle.cp_slots.specs.Code as code
 use Rattle.cp_slots.specs.Inside.{extent_at, room_from}
 use Rattle.cp_layout.specs.Kinds.{most}
@@ -76,13 +76,13 @@ result_cells (Some (named.component_of k)) u i e = absurd i
 -- ---- cells of variables
 
 module _ (r : RoutineView) where
-  local_cells : (o : Origin) (slot n : ℕ) → o ≡ origin.Local slot → slot + n ≤ length r.image → HasCells r o n
+  local_cells : (o : PlaceOrigin) (slot n : ℕ) → o ≡ origin.Local slot → slot + n ≤ length r.image → HasCells r o n
   local_cells o slot n e le = record { room = length r.image - slot; from = ap (room_from r) e ∙ behind_some slot (length r.image) (omega (arith, le)); enough = omega (arith, le) }
 
   permanent_cells : (slot n : ℕ) → slot + n ≤ r.own → HasCells r (origin.Permanent slot) n
   permanent_cells slot n le = record { room = r.own - slot; from = behind_some slot r.own (omega (arith, le)); enough = omega (arith, le) }
 
-  reference_cells : (o : Origin) (number n : ℕ) → o ≡ origin.Reference number → number < length r.extents → slice_index_or r.extents number 0 ≡ n → HasCells r o n
+  reference_cells : (o : PlaceOrigin) (number n : ℕ) → o ≡ origin.Reference number → number < length r.extents → slice_index_or r.extents number 0 ≡ n → HasCells r o n
   reference_cells o number n e lt i = record { room = slice_index_or r.extents number 0; from = ap (room_from r) e ∙ extent_there r.extents number lt; enough = omega (arith, i) }
 
   -- the parameters of a routine have their cells

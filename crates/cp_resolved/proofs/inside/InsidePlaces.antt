@@ -1,7 +1,7 @@
 -- A part of a variable is inside the cells of the variable, whatever its indices are.
 use Rattle.std.proofs.Common.{◌≡◌, ℕ, zero, suc, ◌+◌, ◌*◌, ◌≤◌, ℤ, pos, negsuc, ◌-ℤ◌, unsigned_abs, Bool, true, false, if◌then◌else◌, Option, Some, None, refl, sym, ap, subst, ◌∙◌, arith, rules}
 use Rattle.std.specs.Prelude.{◌+ℤ◌}
-use Rattle.cp_slots.specs.declared.place.Origin.{Origin}
+use Rattle.cp_slots.specs.declared.place.PlaceOrigin.{PlaceOrigin}
 use Rattle.cp_slots.specs.Code as code
 use Rattle.cp_slots.specs.Inside.{has, room_from}
 use Rattle.cp_slots.specs.Tables.{RoutineView}
@@ -18,13 +18,13 @@ use Rattle.cp_resolved.proofs.inside.PlainInside.{expression_in, place_in, span,
 -- ---- places
 
 -- a variable has this many cells at least
-pub record HasCells (r : RoutineView) (o : Origin) (n : ℕ) : Type 0 where
+pub record HasCells (r : RoutineView) (o : PlaceOrigin) (n : ℕ) : Type 0 where
   pub room : ℕ
   pub from : room_from r o ≡ Some room
   pub enough : n ≤ room
 
 -- the cells before a place of a type, those that its indices may skip and its own are cells of its variable
-pub record Reaches (r : RoutineView) (o : Origin) (offset : ℕ) (is : code.Indices) (t : Ty) : Type 0 where
+pub record Reaches (r : RoutineView) (o : PlaceOrigin) (offset : ℕ) (is : code.Indices) (t : Ty) : Type 0 where
   pub cells : HasCells r o (offset + span is + cells_of t)
   pub read : AreIn r is
   pub full : IsFull t
@@ -32,10 +32,10 @@ pub record Reaches (r : RoutineView) (o : Origin) (offset : ℕ) (is : code.Indi
 abbrev pub PlaceFits : RoutineView → code.Place → Ty → Type 0
 PlaceFits r (code.place o n is) t = Reaches r o n is t
 
-pub fewer_cells : (r : RoutineView) (o : Origin) (n m : ℕ) → m ≤ n → HasCells r o n → HasCells r o m
+pub fewer_cells : (r : RoutineView) (o : PlaceOrigin) (n m : ℕ) → m ≤ n → HasCells r o n → HasCells r o m
 fewer_cells r o n m le h = record { room = h.room; from = h.from; enough = (let e : n ≤ h.room = h.enough in omega (arith, e, le)) }
 
-pub whole_fits : (r : RoutineView) (o : Origin) (t : Ty) → HasCells r o (cells_of t) → IsFull t → PlaceFits r (code.place o 0 code.no_indices) t
+pub whole_fits : (r : RoutineView) (o : PlaceOrigin) (t : Ty) → HasCells r o (cells_of t) → IsFull t → PlaceFits r (code.place o 0 code.no_indices) t
 whole_fits r o t h f = record { cells = fewer_cells r o (cells_of t) (0 + 0 + cells_of t) (omega arith) h; read = tt; full = f }
 
 pub has_place : (r : RoutineView) (p : code.Place) (t : Ty) (n : ℕ) → PlaceFits r p t → n ≤ cells_of t → has n (place_in r p) ≡ true
@@ -64,7 +64,7 @@ abbrev pub VariableFits : RoutineView → Designated → Type 0
 VariableFits r (a_variable p t) = PlaceFits r p t
 VariableFits r d = ⊥
 
-part_fits : (r : RoutineView) (o : Origin) (n : ℕ) (is : code.Indices) (us : FieldTypes) (x : Name) (q : Option Chosen) (d : Designated) → q ≡ field_chosen us x → Reaches r o n is (named.record_with us) → then_form q (λ c. Some (part_of_form (code.place o n is) c)) ≡ Some d → VariableFits r d
+part_fits : (r : RoutineView) (o : PlaceOrigin) (n : ℕ) (is : code.Indices) (us : FieldTypes) (x : Name) (q : Option Chosen) (d : Designated) → q ≡ field_chosen us x → Reaches r o n is (named.record_with us) → then_form q (λ c. Some (part_of_form (code.place o n is) c)) ≡ Some d → VariableFits r d
 part_fits r o n is us x None d g h e = absurd (cc)
 part_fits r o n is us x (Some c) d g h e =
     let i = field_inside us x c h.full (sym g) in

@@ -1,6 +1,6 @@
 -- What plain items read is inside what they name, if the cells before a place, those of its indices and its own are no more than the variable has.
 use Rattle.std.proofs.Common.{◌≡◌, ℕ, ◌+◌, ◌-◌, ◌*◌, ◌≤◌, nat_le, Bool, true, false, ◌&&◌, if◌then◌else◌, ◌-ℤ◌, unsigned_abs, Option, Some, None, refl, arith, rules}
-use Rattle.cp_slots.specs.declared.place.Origin.{Origin}
+use Rattle.cp_slots.specs.declared.place.PlaceOrigin.{PlaceOrigin}
 use Rattle.cp_slots.specs.Code.{Place, place, Indices, no_indices, more_indices, Index, index, Expression, number, load, negate, absolute, opposite, successor, predecessor, character, arithmetic, logic, compare, same_set, member, is_empty, SetExpression, load_set, empty_set, with_element, combine}
 use Rattle.cp_slots.specs.Inside.{behind, then_some, has, SET_CELLS, room_from}
 use Rattle.cp_slots.specs.Tables.{RoutineView}
@@ -64,5 +64,5 @@ indices_left r (more_indices (index e low high size) is) left n h le =
     let k : ℕ = unsigned_abs (high -ℤ low) * size in
     rw (h.0, behind_some k left (omega (arith, le))) (indices_left r is (left - k) n h.1 (omega (arith, le)))
 
-pub within : (r : RoutineView) (o : Origin) (offset room n : ℕ) (is : Indices) → room_from r o ≡ Some room → offset + span is + n ≤ room → AreIn r is → has n (place_in r (place o offset is)) ≡ true
+pub within : (r : RoutineView) (o : PlaceOrigin) (offset room n : ℕ) (is : Indices) → room_from r o ≡ Some room → offset + span is + n ≤ room → AreIn r is → has n (place_in r (place o offset is)) ≡ true
 within r o offset room n is e le h = rw (e, behind_some offset room (omega (arith, le))) (indices_left r is (room - offset) n h (omega (arith, le)))

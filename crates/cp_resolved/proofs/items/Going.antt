@@ -7,7 +7,7 @@ use Rattle.cp_tree.specs.Syntax as syntax
 use Rattle.cp_layout.specs.declared.names.Meaning.{Meaning}
 use Rattle.cp_layout.specs.declared.names.Meaning.TheVariants as meaning
 use Rattle.cp_layout.specs.declared.layer.FunctionResult.{FunctionResult}
-use Rattle.cp_layout.specs.declared.layer.Parameter as code_parameter
+use Rattle.cp_layout.specs.declared.layer.ParameterLayout as code_parameter
 use Rattle.cp_slots.specs.Code as code
 use Rattle.cp_slots.specs.Tables.{RoutineView}
 use Rattle.cp_layout.specs.Values as values
@@ -165,7 +165,7 @@ module _ (k : Numbering) (h : Here) (b : Layer) (g : Knows k h b) (calls : Knows
 
   -- what arguments do, where expressions do as they are to
   abbrev Argues : syntax.Expressions → Type 0
-  Argues es = (l : Layer) (r n : ℕ) (slots : Name → ℕ) (qs : List Parameter) (ps : List code_parameter.Parameter) → Kept b l → AreReady h (cells l) (expressions_calls h.scope es) → ParametersAre k b.types slots qs ps → ((i : ℕ) → parameter_of b r (n + i) ≡ slice_get ps i) → CanGiveAll h qs es → ArgumentsGo l r n es slots qs
+  Argues es = (l : Layer) (r n : ℕ) (slots : Name → ℕ) (qs : List Parameter) (ps : List code_parameter.ParameterLayout) → Kept b l → AreReady h (cells l) (expressions_calls h.scope es) → ParametersAre k b.types slots qs ps → ((i : ℕ) → parameter_of b r (n + i) ≡ slice_get ps i) → CanGiveAll h qs es → ArgumentsGo l r n es slots qs
 
   pub grown_room : (f : layers.Frame) (o : Option RoutineView) → length (layers.frame_with f o).image ≡ length f.image
   grown_room f None = refl
@@ -429,7 +429,7 @@ module _ (k : Numbering) (h : Here) (b : Layer) (g : Knows k h b) (calls : Knows
         goes_both lines h l m (elements m d es).1 (expression_calls h.scope e) (expressions_calls h.scope es) i (members_go m d q.0 es z (kept_trans b l m s (expression_kept l e)) u.1 (ready_rest h (cells l) m (expression_calls h.scope e) (expressions_calls h.scope es) i.taken n) q.2)
 
     -- arguments, by the parameters from a place on
-    pub arguments_go : (l : Layer) (r n : ℕ) (es : syntax.Expressions) (slots : Name → ℕ) (qs : List Parameter) (ps : List code_parameter.Parameter) → Kept b l → AreUsed h es → AreReady h (cells l) (expressions_calls h.scope es) → ParametersAre k b.types slots qs ps → ((i : ℕ) → parameter_of b r (n + i) ≡ slice_get ps i) →
+    pub arguments_go : (l : Layer) (r n : ℕ) (es : syntax.Expressions) (slots : Name → ℕ) (qs : List Parameter) (ps : List code_parameter.ParameterLayout) → Kept b l → AreUsed h es → AreReady h (cells l) (expressions_calls h.scope es) → ParametersAre k b.types slots qs ps → ((i : ℕ) → parameter_of b r (n + i) ≡ slice_get ps i) →
         CanGiveAll h qs es → ArgumentsGo l r n es slots qs
     arguments_go l r n syntax.no_expressions slots [] ps s u a w d c = (goes_none lines h l, tt)
     arguments_go l r n syntax.no_expressions slots (q ∷ qs) ps s u a w d c = absurd c

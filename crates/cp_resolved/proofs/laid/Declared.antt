@@ -4,10 +4,10 @@ use Rattle.std.specs.Str.{bytes_eq}
 use Rattle.cp_tree.specs.declared.constant.Identifier.{Identifier}
 use Rattle.cp_tree.specs.Syntax as syntax
 use Rattle.cp_tree.specs.Syntax.{ConstantDefinition, TypeDefinition, VariableGroup, Part, Group, ParameterGroup, RoutineKind, Simple, TypeTerm, FieldGroup, FieldGroups}
-use Rattle.cp_layout.specs.declared.kinds.Base.{Base}
-use Rattle.cp_layout.specs.declared.kinds.Range.{Range}
-use Rattle.cp_layout.specs.declared.kinds.ValueType.{ValueType}
-use Rattle.cp_layout.specs.declared.kinds.ValueType.TheVariants as types
+use Rattle.cp_layout.specs.declared.kinds.CellBase.{CellBase}
+use Rattle.cp_layout.specs.declared.kinds.CellRange.{CellRange}
+use Rattle.cp_layout.specs.declared.kinds.CellType.{CellType}
+use Rattle.cp_layout.specs.declared.kinds.CellType.TheVariants as types
 use Rattle.cp_layout.specs.declared.names.Meaning.{Meaning}
 use Rattle.cp_layout.specs.declared.names.Meaning.TheVariants as meaning
 use Rattle.cp_layout.specs.declared.layer.Contained.{Contained}
@@ -43,7 +43,7 @@ pub then_declared : (l k m : Layer) → Declared l k → (Named k → Declared k
 then_declared l k m h f = declared_trans l k m h (f h.named)
 
 -- a type that is made, and the state after it
-pub record Typed (l : Layer) (x : ValueType × Layer) : Type 0 where
+pub record Typed (l : Layer) (x : CellType × Layer) : Type 0 where
   pub declared : Declared l x.1
   pub is : IsType (length x.1.systems) x.0
 
@@ -74,10 +74,10 @@ latest_there s r x ((n, meaning.Predeclared p) ∷ ds) h = latest_there s r x ds
 pub named_there : (l : Layer) (x : List ℕ) → Named l → IsType (length l.systems) (named_type l x)
 named_there l x n = latest_there (length l.systems) (length l.routines) x l.names n.names
 
-constant_declared : (l : Layer) (x : List ℕ) (b : Base) (z : ℤ) → Named l → Declared l (with_constant l x (meaning.Constant b z))
+constant_declared : (l : Layer) (x : List ℕ) (b : CellBase) (z : ℤ) → Named l → Declared l (with_constant l x (meaning.Constant b z))
 constant_declared l x b z n = record { same = refl; named = record { names = (tt, n.names); types = n.types; systems = n.systems }; owned = step_same l.owned; sizes = resized_same l _ refl refl refl refl }
 
-enumerated_declared : (l : Layer) (b : Base) (n : ℕ) (is : List Identifier) → Named l → Declared l (enumerated l b n is)
+enumerated_declared : (l : Layer) (b : CellBase) (n : ℕ) (is : List Identifier) → Named l → Declared l (enumerated l b n is)
 unfolding enumerated
 enumerated_declared l b n [] h = declared_same l h
 enumerated_declared l b n (i ∷ is) h =
@@ -97,13 +97,13 @@ compound_declared l c h q n = record { same = refl; named = record { names = n.n
     go k d (inl e) = n.types k d e
     go k d (inr e) = subst (IsCompound (length l.systems)) (sym e.1) h
 
-array_typed : (l : Layer) (i : Range) (t : ValueType) → IsType (length l.systems) t → Named l → Typed l (with_array_type l i t)
+array_typed : (l : Layer) (i : CellRange) (t : CellType) → IsType (length l.systems) t → Named l → Typed l (with_array_type l i t)
 array_typed l i t h n = record { declared = compound_declared l (array (array_type l.types i t)) h (omega arith) n; is = tt }
 
 record_typed : (l : Layer) (r : Fields) → FieldsFit l r → Named l → Typed l (with_record_type l r)
 record_typed l r h n = record { declared = compound_declared l (record_with r.fields r.cells) tt h n; is = tt }
 
-then_typed : (l k : Layer) (x : ValueType × Layer) → Declared l k → Typed k x → Typed l x
+then_typed : (l k : Layer) (x : CellType × Layer) → Declared l k → Typed k x → Typed l x
 then_typed l k x h t = record { declared = declared_trans l k x.1 h t.declared; is = t.is }
 
 mutual
@@ -144,7 +144,7 @@ unfolding constants
 constants_declared l [] n = declared_same l n
 constants_declared l (d ∷ ds) n = then_declared l (constant l d) (constants (constant l d) ds) (name_declared l d.name.name _ tt n) (constants_declared (constant l d) ds)
 
-pub type_named_declared : (l : Layer) (x : List ℕ) (t : ValueType × Layer) → Typed l t → Declared l (type_named x t)
+pub type_named_declared : (l : Layer) (x : List ℕ) (t : CellType × Layer) → Typed l t → Declared l (type_named x t)
 type_named_declared l x t h = declared_trans l t.1 (type_named x t) h.declared (name_declared t.1 x (meaning.Kind t.0) h.is h.declared.named)
 
 definitions_declared : (l : Layer) (ds : List TypeDefinition) → Named l → Declared l (type_definitions l ds)
@@ -154,18 +154,18 @@ definitions_declared l (d ∷ ds) n = then_declared l (type_definition l d) (typ
 
 -- ---- variables
 
-cell_declared : (l : Layer) (x : List ℕ) (t : ValueType) → Named l → Declared l (cell_variable l x t).1
+cell_declared : (l : Layer) (x : List ℕ) (t : CellType) → Named l → Declared l (cell_variable l x t).1
 cell_declared l x t n = record { same = refl; named = record { names = (tt, n.names); types = n.types; systems = n.systems }; owned = cells_step l.owned (cells_of l.types t) (l.owned.contents ++ content.Variable t ∷ []); sizes = resized_cells l _ t refl refl refl refl }
 
-variable_with_declared : (l : Layer) (x : List ℕ) (t : ValueType) (o : Option Contained) → IsType (length l.systems) t → Named l → Declared l (variable_with l x t o)
+variable_with_declared : (l : Layer) (x : List ℕ) (t : CellType) (o : Option Contained) → IsType (length l.systems) t → Named l → Declared l (variable_with l x t o)
 variable_with_declared l x t None h n = cell_declared l x t n
 variable_with_declared l x t (Some c) h n = record { same = refl; named = record { names = (h, n.names); types = n.types; systems = n.systems }; owned = contained_step l.owned _ _; sizes = resized_same l _ refl refl refl refl }
 
 -- a type of a state is one of the later state
-still_type : (l m : Layer) (t : ValueType) → Declared l m → IsType (length l.systems) t → IsType (length m.systems) t
+still_type : (l m : Layer) (t : CellType) → Declared l m → IsType (length l.systems) t → IsType (length m.systems) t
 still_type l m t h i = subst (λ (j : Layer). IsType (length j.systems) t) (sym h.same) i
 
-variables_of_declared : (l : Layer) (t : ValueType) (is : List Identifier) → IsType (length l.systems) t → Named l → Declared l (variables_of l t is)
+variables_of_declared : (l : Layer) (t : CellType) (is : List Identifier) → IsType (length l.systems) t → Named l → Declared l (variables_of l t is)
 unfolding variables_of
 variables_of_declared l t [] h n = declared_same l n
 variables_of_declared l t (i ∷ is) h n =
@@ -182,10 +182,10 @@ variables_declared l (g ∷ gs) n =
     let k : Layer = variable_group l g in
     then_declared l k (variables k gs) (declared_trans l x.1 k h.declared (variables_of_declared x.1 x.0 g.names h.is h.declared.named)) (variables_declared k gs)
 
-local_declared : (l : Layer) (x : List ℕ) (t : ValueType) → Named l → Declared l (local_at l x t).1
+local_declared : (l : Layer) (x : List ℕ) (t : CellType) → Named l → Declared l (local_at l x t).1
 local_declared l x t n = record { same = refl; named = record { names = (tt, n.names); types = n.types; systems = n.systems }; owned = step_same l.owned; sizes = resized_same l _ refl refl refl refl }
 
-locals_of_declared : (l : Layer) (t : ValueType) (is : List Identifier) → Named l → Declared l (locals_of l t is)
+locals_of_declared : (l : Layer) (t : CellType) (is : List Identifier) → Named l → Declared l (locals_of l t is)
 unfolding locals_of
 locals_of_declared l t [] n = declared_same l n
 locals_of_declared l t (i ∷ is) n = then_declared l (local l i.name t) (locals_of (local l i.name t) t is) (local_declared l i.name t n) (locals_of_declared (local l i.name t) t is)
@@ -223,7 +223,7 @@ local_parts_declared l (p ∷ ps) n = then_declared l (local_part l p) (local_pa
 
 -- ---- headings
 
-constants_of_declared : (l : Layer) (ps : Parameters) (t : ValueType) (is : List Identifier) → Named l → Declared l (constant_parameters_of l ps t is).1
+constants_of_declared : (l : Layer) (ps : Parameters) (t : CellType) (is : List Identifier) → Named l → Declared l (constant_parameters_of l ps t is).1
 unfolding constant_parameters_of
 constants_of_declared l ps t [] n = declared_same l n
 constants_of_declared l ps t (i ∷ is) n =
@@ -237,10 +237,10 @@ constant_groups_declared l ps (g ∷ gs) n =
     let x = constant_group l ps g in
     then_declared l x.1 (constant_groups x.1 x.0 gs).1 (constants_of_declared l ps (named_type l g.type_name.name) g.names n) (constant_groups_declared x.1 x.0 gs)
 
-var_declared : (l : Layer) (ps : Parameters) (x : List ℕ) (t : ValueType) → Named l → Declared l (var_parameter l ps x t).1
+var_declared : (l : Layer) (ps : Parameters) (x : List ℕ) (t : CellType) → Named l → Declared l (var_parameter l ps x t).1
 var_declared l ps x t n = record { same = refl; named = record { names = (tt, n.names); types = n.types; systems = n.systems }; owned = step_same l.owned; sizes = resized_same l _ refl refl refl refl }
 
-vars_of_declared : (l : Layer) (ps : Parameters) (t : ValueType) (is : List Identifier) → Named l → Declared l (var_parameters_of l ps t is).1
+vars_of_declared : (l : Layer) (ps : Parameters) (t : CellType) (is : List Identifier) → Named l → Declared l (var_parameters_of l ps t is).1
 unfolding var_parameters_of
 vars_of_declared l ps t [] n = declared_same l n
 vars_of_declared l ps t (i ∷ is) n =
@@ -271,7 +271,7 @@ heading_declared l x (syntax.function gs i) n =
 
 -- ---- parameters of system types
 
-system_parameter_declared : (l : Layer) (ps : Parameters) (x : List ℕ) (t : ValueType) → IsType (length l.systems) t → Named l → Declared l (system_parameter l ps x t).1
+system_parameter_declared : (l : Layer) (ps : Parameters) (x : List ℕ) (t : CellType) → IsType (length l.systems) t → Named l → Declared l (system_parameter l ps x t).1
 system_parameter_declared l ps x (types.System k) h n = record { same = refl; named = record { names = (h, n.names); types = n.types; systems = n.systems }; owned = component_step l.owned k (l.owned.contents ++ content.Component ∷ []); sizes = resized_component l _ refl refl refl refl }
 system_parameter_declared l ps x (types.Ordinal r) h n = cell_declared l x (types.Ordinal r) n
 system_parameter_declared l ps x types.Queue h n = cell_declared l x types.Queue n
@@ -279,7 +279,7 @@ system_parameter_declared l ps x (types.Set r) h n = cell_declared l x (types.Se
 system_parameter_declared l ps x (types.Array k) h n = cell_declared l x (types.Array k) n
 system_parameter_declared l ps x (types.Record k) h n = cell_declared l x (types.Record k) n
 
-system_parameters_declared : (l : Layer) (ps : Parameters) (t : ValueType) (is : List Identifier) → IsType (length l.systems) t → Named l → Declared l (system_parameters_of l ps t is).1
+system_parameters_declared : (l : Layer) (ps : Parameters) (t : CellType) (is : List Identifier) → IsType (length l.systems) t → Named l → Declared l (system_parameters_of l ps t is).1
 unfolding system_parameters_of
 system_parameters_declared l ps t [] h n = declared_same l n
 system_parameters_declared l ps t (i ∷ is) h n =

@@ -4,9 +4,9 @@ use Rattle.std.proofs.Common.{◌≡◌, ℕ, ◌+◌, Bool, true, false, if◌t
 use Rattle.std.proofs.lemmas.List.{append-nil}
 use Rattle.cp_tree.specs.declared.constant.Identifier.{Identifier}
 use Rattle.cp_tree.specs.Syntax as syntax
-use Rattle.cp_layout.specs.declared.kinds.Base.{Base}
-use Rattle.cp_layout.specs.declared.kinds.ValueType.{ValueType}
-use Rattle.cp_layout.specs.declared.kinds.ValueType.TheVariants as types
+use Rattle.cp_layout.specs.declared.kinds.CellBase.{CellBase}
+use Rattle.cp_layout.specs.declared.kinds.CellType.{CellType}
+use Rattle.cp_layout.specs.declared.kinds.CellType.TheVariants as types
 use Rattle.cp_layout.specs.declared.layer.Contained.{Contained}
 use Rattle.cp_layout.specs.declared.names.Meaning.TheVariants as meaning
 use Rattle.cp_layout.specs.Kinds.{Compounds, Fields, no_fields}
@@ -54,7 +54,7 @@ declares_none l = declares_names l [] l.owned l.frame
 one_type : (l : Layer) (ts : Compounds) → Declares l (record l { types = l.types ++ ts })
 one_type l ts = record { names = []; types = ts; constants = []; same = ap (λ (cs : List (List ℕ)). placed l l.names (l.types ++ ts) cs l.owned l.frame) (sym (append-nil l.constants)) }
 
-one_constant : (l : Layer) (x : List ℕ) (b : Base) (n : ℕ) → Declares l (with_constant l x (meaning.Constant b (as_integer n)))
+one_constant : (l : Layer) (x : List ℕ) (b : CellBase) (n : ℕ) → Declares l (with_constant l x (meaning.Constant b (as_integer n)))
 one_constant l x b n =
     record {
       names = (x, meaning.Constant b (as_integer n)) ∷ [];
@@ -65,7 +65,7 @@ one_constant l x b n =
 
 -- ---- types
 
-enumerated_declares : (l : Layer) (b : Base) (n : ℕ) (is : List Identifier) → Declares l (enumerated l b n is)
+enumerated_declares : (l : Layer) (b : CellBase) (n : ℕ) (is : List Identifier) → Declares l (enumerated l b n is)
 unfolding enumerated
 enumerated_declares l b n [] = declares_none l
 enumerated_declares l b n (i ∷ is) =
@@ -118,14 +118,14 @@ definitions_declare l (d ∷ ds) =
 
 -- ---- permanent variables
 
-with_declares : (l : Layer) (x : List ℕ) (t : ValueType) (o : Option Contained) → Declares l (variable_with l x t o)
+with_declares : (l : Layer) (x : List ℕ) (t : CellType) (o : Option Contained) → Declares l (variable_with l x t o)
 with_declares l x t None = declares_names l (_ ∷ []) _ l.frame
 with_declares l x t (Some c) = declares_names l (_ ∷ []) _ l.frame
 
-pub variable_declares : (l : Layer) (x : List ℕ) (t : ValueType) → Declares l (variable l x t)
+pub variable_declares : (l : Layer) (x : List ℕ) (t : CellType) → Declares l (variable l x t)
 variable_declares l x t = with_declares l x t (components_of l.types t)
 
-pub variables_of_declare : (l : Layer) (t : ValueType) (is : List Identifier) → Declares l (variables_of l t is)
+pub variables_of_declare : (l : Layer) (t : CellType) (is : List Identifier) → Declares l (variables_of l t is)
 unfolding variables_of
 variables_of_declare l t [] = declares_none l
 variables_of_declare l t (i ∷ is) = declares_trans l (variable l i.name t) (variables_of (variable l i.name t) t is) (variable_declares l i.name t) (variables_of_declare (variable l i.name t) t is)
@@ -134,13 +134,13 @@ pub variables_declare : (l : Layer) (gs : List syntax.VariableGroup) → Declare
 unfolding variables
 variables_declare l [] = declares_none l
 variables_declare l (g ∷ gs) =
-    let x : ValueType × Layer = written_type l g.variable_type in
+    let x : CellType × Layer = written_type l g.variable_type in
     declares_trans l (variable_group l g) (variables (variable_group l g) gs)
     (declares_trans l x.1 (variable_group l g) (type_declares l g.variable_type) (variables_of_declare x.1 x.0 g.names)) (variables_declare (variable_group l g) gs)
 
 -- ---- local variables
 
-pub locals_of_declare : (l : Layer) (t : ValueType) (is : List Identifier) → Declares l (locals_of l t is)
+pub locals_of_declare : (l : Layer) (t : CellType) (is : List Identifier) → Declares l (locals_of l t is)
 unfolding locals_of
 locals_of_declare l t [] = declares_none l
 locals_of_declare l t (i ∷ is) = declares_trans l (local l i.name t) (locals_of (local l i.name t) t is) (declares_names l (_ ∷ []) l.owned _) (locals_of_declare (local l i.name t) t is)
@@ -149,7 +149,7 @@ pub locals_declare : (l : Layer) (gs : List syntax.VariableGroup) → Declares l
 unfolding local_variables
 locals_declare l [] = declares_none l
 locals_declare l (g ∷ gs) =
-    let x : ValueType × Layer = written_type l g.variable_type in
+    let x : CellType × Layer = written_type l g.variable_type in
     declares_trans l (local_group l g) (local_variables (local_group l g) gs)
     (declares_trans l x.1 (local_group l g) (type_declares l g.variable_type) (locals_of_declare x.1 x.0 g.names)) (locals_declare (local_group l g) gs)
 
@@ -177,7 +177,7 @@ local_parts_declare l (p ∷ ps) = declares_trans l (local_part l p) (local_part
 
 -- ---- headings
 
-pub constant_parameters_declare : (l : Layer) (ps : Parameters) (t : ValueType) (is : List Identifier) → Declares l (constant_parameters_of l ps t is).1
+pub constant_parameters_declare : (l : Layer) (ps : Parameters) (t : CellType) (is : List Identifier) → Declares l (constant_parameters_of l ps t is).1
 unfolding constant_parameters_of
 constant_parameters_declare l ps t [] = declares_none l
 constant_parameters_declare l ps t (i ∷ is) =
@@ -191,7 +191,7 @@ constant_groups_declare l ps (g ∷ gs) =
     let x : Parameters × Layer = constant_group l ps g in
     declares_trans l x.1 (constant_groups x.1 x.0 gs).1 (constant_parameters_declare l ps (named_type l g.type_name.name) g.names) (constant_groups_declare x.1 x.0 gs)
 
-pub var_parameters_declare : (l : Layer) (ps : Parameters) (t : ValueType) (is : List Identifier) → Declares l (var_parameters_of l ps t is).1
+pub var_parameters_declare : (l : Layer) (ps : Parameters) (t : CellType) (is : List Identifier) → Declares l (var_parameters_of l ps t is).1
 unfolding var_parameters_of
 var_parameters_declare l ps t [] = declares_none l
 var_parameters_declare l ps t (i ∷ is) =
@@ -218,7 +218,7 @@ heading_declares l x (syntax.function gs i) =
 
 -- ---- parameters of a system type
 
-pub system_parameter_declares : (l : Layer) (ps : Parameters) (x : List ℕ) (t : ValueType) → Declares l (system_parameter l ps x t).1
+pub system_parameter_declares : (l : Layer) (ps : Parameters) (x : List ℕ) (t : CellType) → Declares l (system_parameter l ps x t).1
 system_parameter_declares l ps x (types.Ordinal r) = declares_names l (_ ∷ []) _ l.frame
 system_parameter_declares l ps x types.Queue = declares_names l (_ ∷ []) _ l.frame
 system_parameter_declares l ps x (types.Set r) = declares_names l (_ ∷ []) _ l.frame
@@ -226,7 +226,7 @@ system_parameter_declares l ps x (types.Array n) = declares_names l (_ ∷ []) _
 system_parameter_declares l ps x (types.Record n) = declares_names l (_ ∷ []) _ l.frame
 system_parameter_declares l ps x (types.System k) = declares_names l (_ ∷ []) _ l.frame
 
-pub system_parameters_declare : (l : Layer) (ps : Parameters) (t : ValueType) (is : List Identifier) → Declares l (system_parameters_of l ps t is).1
+pub system_parameters_declare : (l : Layer) (ps : Parameters) (t : CellType) (is : List Identifier) → Declares l (system_parameters_of l ps t is).1
 unfolding system_parameters_of
 system_parameters_declare l ps t [] = declares_none l
 system_parameters_declare l ps t (i ∷ is) =

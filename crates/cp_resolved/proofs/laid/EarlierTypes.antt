@@ -4,9 +4,9 @@ use Rattle.std.specs.Str.{bytes_eq}
 use Rattle.std.proofs.lemmas.Option.{none-some}
 use Rattle.cp_tree.specs.declared.constant.Identifier.{Identifier}
 use Rattle.cp_tree.specs.Syntax as syntax
-use Rattle.cp_layout.specs.declared.kinds.Base.{Base}
-use Rattle.cp_layout.specs.declared.kinds.ValueType.{ValueType}
-use Rattle.cp_layout.specs.declared.kinds.ValueType.TheVariants as types
+use Rattle.cp_layout.specs.declared.kinds.CellBase.{CellBase}
+use Rattle.cp_layout.specs.declared.kinds.CellType.{CellType}
+use Rattle.cp_layout.specs.declared.kinds.CellType.TheVariants as types
 use Rattle.cp_layout.specs.declared.layer.Contained.{Contained}
 use Rattle.cp_layout.specs.declared.names.Meaning.{Meaning}
 use Rattle.cp_layout.specs.declared.names.Meaning.TheVariants as meaning
@@ -37,7 +37,7 @@ record Orderly (l : Layer) : Type 0 where
   types : HoldEarlier l.types
 
 -- a type that is made, and the state after it
-record Ordered (l : Layer) (x : ValueType × Layer) : Type 0 where
+record Ordered (l : Layer) (x : CellType × Layer) : Type 0 where
   orderly : Orderly x.1
   below : IsBelow (length x.1.types) x.0
   longer : length l.types ≤ length x.1.types
@@ -50,7 +50,7 @@ record Grouped (l : Layer) (x : Fields × Layer) : Type 0 where
 
 -- ---- more types
 
-type_higher : (m n : ℕ) (v : ValueType) → m ≤ n → IsBelow m v → IsBelow n v
+type_higher : (m n : ℕ) (v : CellType) → m ≤ n → IsBelow m v → IsBelow n v
 type_higher m n (types.Array k) le h = omega (arith, le, h)
 type_higher m n (types.Record k) le h = omega (arith, le, h)
 type_higher m n (types.Ordinal r) le h = tt
@@ -107,12 +107,12 @@ find_below n x ((y, meaning.Bound k s) ∷ ds) h = find_below n x ds h.1
 find_below n x ((y, meaning.Routine k) ∷ ds) h = find_below n x ds h.1
 find_below n x ((y, meaning.Predeclared p) ∷ ds) h = find_below n x ds h.1
 
-enumerated_orderly : (l : Layer) (b : Base) (n : ℕ) (is : List Identifier) → Orderly l → Orderly (enumerated l b n is)
+enumerated_orderly : (l : Layer) (b : CellBase) (n : ℕ) (is : List Identifier) → Orderly l → Orderly (enumerated l b n is)
 unfolding enumerated
 enumerated_orderly l b n [] o = o
 enumerated_orderly l b n (i ∷ is) o = enumerated_orderly (with_constant l i.name (meaning.Constant b (as_integer n))) b (n + 1) is (record { names = (tt, o.names); types = o.types })
 
-enumerated_types : (l : Layer) (b : Base) (n : ℕ) (is : List Identifier) → (enumerated l b n is).types ≡ l.types
+enumerated_types : (l : Layer) (b : CellBase) (n : ℕ) (is : List Identifier) → (enumerated l b n is).types ≡ l.types
 unfolding enumerated
 enumerated_types l b n [] = refl
 enumerated_types l b n (i ∷ is) = enumerated_types (with_constant l i.name (meaning.Constant b (as_integer n))) b (n + 1) is
@@ -121,12 +121,12 @@ simple_ordered : (l : Layer) (s : syntax.Simple) → Orderly l → Ordered l (si
 unfolding simple_type
 simple_ordered l (syntax.type_name at x) o = record { orderly = o; below = find_below (length l.types) x l.names o.names; longer = omega arith }
 simple_ordered l (syntax.enumeration at is) o =
-    let b : Base = enumeration_base (length l.constants) (length is) in
+    let b : CellBase = enumeration_base (length l.constants) (length is) in
     let e : length (enumerated l b 0 is).types ≡ length l.types = ap (λ (ts : Compounds). length ts) (enumerated_types l b 0 is) in
     record { orderly = enumerated_orderly l b 0 is o; below = tt; longer = omega (arith, e) }
 simple_ordered l (syntax.subrange at c d) o = record { orderly = o; below = tt; longer = omega arith }
 
-fields_of_below : (n : ℕ) (r : Fields) (is : List Identifier) (v : ValueType) (cells : ℕ) → IsBelow n v → AreBelow n r.fields → AreBelow n (fields_of_type r is v cells).fields
+fields_of_below : (n : ℕ) (r : Fields) (is : List Identifier) (v : CellType) (cells : ℕ) → IsBelow n v → AreBelow n r.fields → AreBelow n (fields_of_type r is v cells).fields
 unfolding fields_of_type
 fields_of_below n r [] v cells b h = h
 fields_of_below n r (i ∷ is) v cells b h = fields_of_below n (with_field r i.name v cells) is v cells b (last r.fields h)
@@ -141,8 +141,8 @@ mutual
   type_ordered : (l : Layer) (t : syntax.TypeTerm) → Orderly l → Ordered l (written_type l t)
   type_ordered l (syntax.simple at s) o = simple_ordered l s o
   type_ordered l (syntax.array_of at s t) o =
-      let x : ValueType × Layer = simple_type l s in
-      let y : ValueType × Layer = written_type x.1 t in
+      let x : CellType × Layer = simple_type l s in
+      let y : CellType × Layer = written_type x.1 t in
       let a : Ordered l x = simple_ordered l s o in
       let b : Ordered x.1 y = type_ordered x.1 t a.orderly in
       let c : Compound = array (array_type y.1.types (range_of x.0) y.0) in
@@ -171,7 +171,7 @@ mutual
 
   group_ordered : (l : Layer) (r : Fields) (g : syntax.FieldGroup) → AreBelow (length l.types) r.fields → Orderly l → Grouped l (field_group l r g)
   group_ordered l r (syntax.fields is t) h o =
-      let x : ValueType × Layer = written_type l t in
+      let x : CellType × Layer = written_type l t in
       let a : Ordered l x = type_ordered l t o in
       record { orderly = a.orderly; below = fields_of_below (length x.1.types) r is x.0 (cells_of x.1.types x.0) a.below (fields_higher (length l.types) (length x.1.types) r.fields a.longer h); longer = a.longer }
 
@@ -189,17 +189,17 @@ definitions_orderly : (l : Layer) (ds : List syntax.TypeDefinition) → Orderly 
 unfolding type_definitions
 definitions_orderly l [] o = o
 definitions_orderly l (d ∷ ds) o =
-    let x : ValueType × Layer = written_type l d.value in
+    let x : CellType × Layer = written_type l d.value in
     let a : Ordered l x = type_ordered l d.value o in
     definitions_orderly (type_definition l d) ds (orderly_name x.1 d.name.name (meaning.Kind x.0) a.below a.orderly)
 
 -- ---- permanent variables
 
-variable_orderly : (l : Layer) (x : List ℕ) (v : ValueType) (o : Option Contained) → Orderly l → Orderly (variable_with l x v o)
+variable_orderly : (l : Layer) (x : List ℕ) (v : CellType) (o : Option Contained) → Orderly l → Orderly (variable_with l x v o)
 variable_orderly l x v None h = record { names = (tt, h.names); types = h.types }
 variable_orderly l x v (Some c) h = record { names = (tt, h.names); types = h.types }
 
-variables_of_orderly : (l : Layer) (v : ValueType) (is : List Identifier) → Orderly l → Orderly (variables_of l v is)
+variables_of_orderly : (l : Layer) (v : CellType) (is : List Identifier) → Orderly l → Orderly (variables_of l v is)
 unfolding variables_of
 variables_of_orderly l v [] o = o
 variables_of_orderly l v (i ∷ is) o = variables_of_orderly (variable l i.name v) v is (variable_orderly l i.name v (components_of l.types v) o)
@@ -221,7 +221,7 @@ permanent_parts_orderly l (p ∷ ps) o = permanent_parts_orderly (permanent_part
 
 -- ---- routines
 
-locals_of_orderly : (l : Layer) (v : ValueType) (is : List Identifier) → Orderly l → Orderly (locals_of l v is)
+locals_of_orderly : (l : Layer) (v : CellType) (is : List Identifier) → Orderly l → Orderly (locals_of l v is)
 unfolding locals_of
 locals_of_orderly l v [] o = o
 locals_of_orderly l v (i ∷ is) o = locals_of_orderly (local l i.name v) v is (record { names = (tt, o.names); types = o.types })
@@ -241,12 +241,12 @@ unfolding local_parts
 local_parts_orderly l [] o = o
 local_parts_orderly l (p ∷ ps) o = local_parts_orderly (local_part l p) ps (local_part_orderly l p o)
 
-constant_parameters_orderly : (l : Layer) (ps : Parameters) (v : ValueType) (is : List Identifier) → Orderly l → Orderly (constant_parameters_of l ps v is).1
+constant_parameters_orderly : (l : Layer) (ps : Parameters) (v : CellType) (is : List Identifier) → Orderly l → Orderly (constant_parameters_of l ps v is).1
 unfolding constant_parameters_of
 constant_parameters_orderly l ps v [] o = o
 constant_parameters_orderly l ps v (i ∷ is) o = constant_parameters_orderly (constant_parameter l ps i.name v).1 (constant_parameter l ps i.name v).0 v is (record { names = (tt, o.names); types = o.types })
 
-var_parameters_orderly : (l : Layer) (ps : Parameters) (v : ValueType) (is : List Identifier) → Orderly l → Orderly (var_parameters_of l ps v is).1
+var_parameters_orderly : (l : Layer) (ps : Parameters) (v : CellType) (is : List Identifier) → Orderly l → Orderly (var_parameters_of l ps v is).1
 unfolding var_parameters_of
 var_parameters_orderly l ps v [] o = o
 var_parameters_orderly l ps v (i ∷ is) o = var_parameters_orderly (var_parameter l ps i.name v).1 (var_parameter l ps i.name v).0 v is (record { names = (tt, o.names); types = o.types })
@@ -301,7 +301,7 @@ inside_below n (d ∷ ds) h = go (is_open d.1) (inside_below n ds h.1)
     go true rest = (h.0, rest)
     go false rest = rest
 
-parameter_orderly : (l : Layer) (ps : Parameters) (x : List ℕ) (v : ValueType) → Orderly l → Orderly (system_parameter l ps x v).1
+parameter_orderly : (l : Layer) (ps : Parameters) (x : List ℕ) (v : CellType) → Orderly l → Orderly (system_parameter l ps x v).1
 parameter_orderly l ps x (types.System k) o = record { names = (tt, o.names); types = o.types }
 parameter_orderly l ps x (types.Ordinal r) o = record { names = (tt, o.names); types = o.types }
 parameter_orderly l ps x types.Queue o = record { names = (tt, o.names); types = o.types }
@@ -309,7 +309,7 @@ parameter_orderly l ps x (types.Set r) o = record { names = (tt, o.names); types
 parameter_orderly l ps x (types.Array n) o = record { names = (tt, o.names); types = o.types }
 parameter_orderly l ps x (types.Record n) o = record { names = (tt, o.names); types = o.types }
 
-parameters_orderly : (l : Layer) (ps : Parameters) (v : ValueType) (is : List Identifier) → Orderly l → Orderly (system_parameters_of l ps v is).1
+parameters_orderly : (l : Layer) (ps : Parameters) (v : CellType) (is : List Identifier) → Orderly l → Orderly (system_parameters_of l ps v is).1
 unfolding system_parameters_of
 parameters_orderly l ps v [] o = o
 parameters_orderly l ps v (i ∷ is) o = parameters_orderly (system_parameter l ps i.name v).1 (system_parameter l ps i.name v).0 v is (parameter_orderly l ps i.name v o)
@@ -345,7 +345,7 @@ definition_ordered l (syntax.system_definition s) o = system_orderly l s o
 
 definition_orderly : (l : Layer) (d : syntax.SystemDefinition) → Orderly l → Orderly (system_definition l d)
 definition_orderly l d o =
-    let x : ValueType × Layer = definition l d.value in
+    let x : CellType × Layer = definition l d.value in
     let a : Ordered l x = definition_ordered l d.value o in
     orderly_name x.1 d.name.name (meaning.Kind x.0) a.below a.orderly
 

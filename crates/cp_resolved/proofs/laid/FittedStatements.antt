@@ -2,8 +2,8 @@
 use Rattle.std.proofs.Common.{◌≡◌, ℕ, ◌+◌, ◌*◌, ◌<◌, ◌≤◌, max, Bool, false, List, [], ◌∷◌, length, Option, Some, None, slice_index, refl, sym, ap, subst, arith}
 use Rattle.cp_tree.specs.declared.statement.Direction.{Direction}
 use Rattle.cp_tree.specs.Syntax as syntax
-use Rattle.cp_layout.specs.declared.kinds.ValueType.{ValueType}
-use Rattle.cp_layout.specs.declared.kinds.ValueType.TheVariants as types
+use Rattle.cp_layout.specs.declared.kinds.CellType.{CellType}
+use Rattle.cp_layout.specs.declared.kinds.CellType.TheVariants as types
 use Rattle.cp_layout.specs.declared.names.Predeclared.{Predeclared}
 use Rattle.cp_layout.specs.declared.names.Predeclared.TheVariants as predeclared
 use Rattle.cp_slots.specs.Code as code
@@ -38,7 +38,7 @@ added_ran l at a need fits plain bound =
       calls = (record { action = action_onward l m (length l.routines) need need a (omega arith) o fits; plain = plain; bound = bound }, tt);
     }
 
-assigned_fits : (l m : Layer) (r : ℕ) (p : Place) (v : Value) (t : ValueType) → ActionFits m r 0 (assigned_as l p v t) × IsNoLoop (assigned_as l p v t)
+assigned_fits : (l m : Layer) (r : ℕ) (p : Place) (v : Value) (t : CellType) → ActionFits m r 0 (assigned_as l p v t) × IsNoLoop (assigned_as l p v t)
 assigned_fits l m r p v (types.Ordinal q) = (tt, tt)
 assigned_fits l m r p v (types.Set q) = (tt, tt)
 assigned_fits l m r p v types.Queue = (tt, tt)

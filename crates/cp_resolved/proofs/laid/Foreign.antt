@@ -2,8 +2,8 @@
 use Rattle.std.proofs.Common.{◌≡◌, ℕ, ◌+◌, ◌<◌, Bool, List, [], ◌∷◌, ◌++◌, length, Option, Some, None, sym, ap, subst, arith}
 use Rattle.cp_tree.specs.declared.statement.Direction.{Direction}
 use Rattle.cp_tree.specs.Syntax as syntax
-use Rattle.cp_layout.specs.declared.kinds.ValueType.{ValueType}
-use Rattle.cp_layout.specs.declared.kinds.ValueType.TheVariants as types
+use Rattle.cp_layout.specs.declared.kinds.CellType.{CellType}
+use Rattle.cp_layout.specs.declared.kinds.CellType.TheVariants as types
 use Rattle.cp_layout.specs.declared.kinds.ArrayType.{ArrayType}
 use Rattle.cp_layout.specs.declared.layer.FunctionResult.{FunctionResult}
 use Rattle.cp_layout.specs.declared.names.Meaning.{Meaning}
@@ -44,7 +44,7 @@ IsElsewhere n (a_routine r) = r ≡ n → ⊥
 IsElsewhere n (an_entry c r) = r ≡ n → ⊥
 IsElsewhere n d = Unit {0}
 
-contained_elsewhere : (n first : ℕ) (t : ValueType) → IsElsewhere n (begun_as (Some (meaning.Contained first t)))
+contained_elsewhere : (n first : ℕ) (t : CellType) → IsElsewhere n (begun_as (Some (meaning.Contained first t)))
 contained_elsewhere n first (types.System k) = tt
 contained_elsewhere n first (types.Ordinal q) = tt
 contained_elsewhere n first types.Queue = tt
@@ -89,7 +89,7 @@ element_is : (p : Place) (o : Option ArrayType) (e : Expression) → IsSelected 
 element_is p None e = tt
 element_is p (Some a) e = tt
 
-component_is : (l : Layer) (n : ℕ) (a : ArrayType) (t : ValueType) (e : Expression) → IsSelected (component_of_array l n a t e)
+component_is : (l : Layer) (n : ℕ) (a : ArrayType) (t : CellType) (e : Expression) → IsSelected (component_of_array l n a t e)
 component_is l n a (types.System k) e = tt
 component_is l n a (types.Ordinal q) e = tt
 component_is l n a types.Queue e = tt
@@ -262,7 +262,7 @@ module _ (P : List ℕ → Type 0) (n : ℕ) where
 
   -- ---- statements
 
-  assigned_foreign : (l : Layer) (p : Place) (v : Value) (t : ValueType) → IsForeign n (assigned_as l p v t)
+  assigned_foreign : (l : Layer) (p : Place) (v : Value) (t : CellType) → IsForeign n (assigned_as l p v t)
   assigned_foreign l p v (types.Ordinal q) = tt
   assigned_foreign l p v (types.Set q) = tt
   assigned_foreign l p v types.Queue = tt

@@ -1,8 +1,8 @@
 -- What names, types and system types lead to is there: the numbers of system types and routines are below how many there are.
 use Rattle.std.proofs.Common.{◌≡◌, ℕ, suc, ◌+◌, ◌<◌, ◌≤◌, Bool, true, false, if◌then◌else◌, ◌&&◌, nat_le, nat_lt, List, [], ◌∷◌, drop, length, Option, Some, None, slice_get, refl, sym, subst, arith, rules}
 use Rattle.std.specs.Str.{bytes_eq}
-use Rattle.cp_layout.specs.declared.kinds.ValueType.{ValueType}
-use Rattle.cp_layout.specs.declared.kinds.ValueType.TheVariants as types
+use Rattle.cp_layout.specs.declared.kinds.CellType.{CellType}
+use Rattle.cp_layout.specs.declared.kinds.CellType.TheVariants as types
 use Rattle.cp_layout.specs.declared.kinds.ArrayType.{ArrayType}
 use Rattle.cp_layout.specs.declared.names.Meaning.{Meaning}
 use Rattle.cp_layout.specs.declared.names.Meaning.TheVariants as meaning
@@ -17,7 +17,7 @@ use Rattle.cp_resolved.proofs.names.Entries.{there}
 -- ---- this many system types and routines
 
 -- a system type among the first
-abbrev pub IsType : (systems : ℕ) → ValueType → Type 0
+abbrev pub IsType : (systems : ℕ) → CellType → Type 0
 IsType s (types.System k) = k < s
 IsType s t = Unit {0}
 
@@ -59,7 +59,7 @@ IsDesignated s r d = Unit {0}
 
 -- ---- more of them
 
-pub type_more : (s t : ℕ) (v : ValueType) → s ≤ t → IsType s v → IsType t v
+pub type_more : (s t : ℕ) (v : CellType) → s ≤ t → IsType s v → IsType t v
 type_more s t (types.System k) le h = omega arith
 type_more s t (types.Ordinal r) le h = tt
 type_more s t types.Queue le h = tt
@@ -122,7 +122,7 @@ found s r x (d ∷ ds) h = go (bytes_eq d.0 x) (found s r x ds h.1)
     go true rest = h.0
     go false rest = rest
 
-begun_contained : (s r n : ℕ) (t : ValueType) → IsType s t → IsDesignated s r (begun_as (Some (meaning.Contained n t)))
+begun_contained : (s r n : ℕ) (t : CellType) → IsType s t → IsDesignated s r (begun_as (Some (meaning.Contained n t)))
 begun_contained s r n (types.System k) h = h
 begun_contained s r n (types.Ordinal q) h = tt
 begun_contained s r n types.Queue h = tt
@@ -198,7 +198,7 @@ as_array_there s None h = tt
 as_array_there s (Some (array a)) h = h (array a) refl
 as_array_there s (Some (record_with fs n)) h = tt
 
-array_there : (s : ℕ) (ts : Compounds) (t : ValueType) → AreTypes s ts → IsElement s (array_of ts t)
+array_there : (s : ℕ) (ts : Compounds) (t : CellType) → AreTypes s ts → IsElement s (array_of ts t)
 unfolding IsElement
 array_there s ts (types.Array n) h = as_array_there s (slice_get ts n) (h n)
 array_there s ts (types.Ordinal q) h = tt
@@ -207,7 +207,7 @@ array_there s ts (types.Set q) h = tt
 array_there s ts (types.Record n) h = tt
 array_there s ts (types.System n) h = tt
 
-component_there : (l : Layer) (n : ℕ) (a : ArrayType) (t : ValueType) (e : Expression) → IsType (length l.systems) t → DesignatedIn l (component_of_array l n a t e)
+component_there : (l : Layer) (n : ℕ) (a : ArrayType) (t : CellType) (e : Expression) → IsType (length l.systems) t → DesignatedIn l (component_of_array l n a t e)
 component_there l n a (types.System k) e h = h
 component_there l n a (types.Ordinal q) e h = tt
 component_there l n a types.Queue e h = tt

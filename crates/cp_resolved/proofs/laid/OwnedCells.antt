@@ -2,8 +2,8 @@
 use Rattle.std.proofs.Common.{◌≡◌, ◌+◌, ℕ, Bool, true, false, if◌then◌else◌, List, [], ◌∷◌, length, refl, ap, ◌∙◌}
 use Rattle.cp_tree.specs.declared.constant.Identifier.{Identifier}
 use Rattle.cp_tree.specs.Syntax as syntax
-use Rattle.cp_layout.specs.declared.kinds.Base.{Base}
-use Rattle.cp_layout.specs.declared.kinds.ValueType.{ValueType}
+use Rattle.cp_layout.specs.declared.kinds.CellBase.{CellBase}
+use Rattle.cp_layout.specs.declared.kinds.CellType.{CellType}
 use Rattle.cp_layout.specs.declared.names.Meaning.TheVariants as meaning
 use Rattle.cp_layout.specs.Kinds.{Fields, no_fields}
 use Rattle.cp_layout.specs.Layers.{Layer}
@@ -13,7 +13,7 @@ use Rattle.cp_layout.specs.LaidDeclarations.{constant, constants, type_definitio
 use Rattle.cp_resolved.specs.Begun.{routine_begun}
 use Rattle.cp_resolved.proofs.laid.Grown.{statements_grew}
 
-enumerated_owned : (l : Layer) (b : Base) (n : ℕ) (is : List Identifier) → (enumerated l b n is).owned ≡ l.owned
+enumerated_owned : (l : Layer) (b : CellBase) (n : ℕ) (is : List Identifier) → (enumerated l b n is).owned ≡ l.owned
 unfolding enumerated
 enumerated_owned l b n [] = refl
 enumerated_owned l b n (i ∷ is) = enumerated_owned (with_constant l i.name (meaning.Constant b (as_integer n))) b (n + 1) is
@@ -52,7 +52,7 @@ definitions_owned l (d ∷ ds) = definitions_owned (type_definition l d) ds ∙ 
 
 -- ---- routines
 
-locals_of_owned : (l : Layer) (v : ValueType) (is : List Identifier) → (locals_of l v is).owned ≡ l.owned
+locals_of_owned : (l : Layer) (v : CellType) (is : List Identifier) → (locals_of l v is).owned ≡ l.owned
 unfolding locals_of
 locals_of_owned l v [] = refl
 locals_of_owned l v (i ∷ is) = locals_of_owned (local l i.name v) v is
@@ -72,12 +72,12 @@ unfolding local_parts
 local_parts_owned l [] = refl
 local_parts_owned l (p ∷ ps) = local_parts_owned (local_part l p) ps ∙ local_part_owned l p
 
-constant_parameters_owned : (l : Layer) (ps : Parameters) (v : ValueType) (is : List Identifier) → (constant_parameters_of l ps v is).1.owned ≡ l.owned
+constant_parameters_owned : (l : Layer) (ps : Parameters) (v : CellType) (is : List Identifier) → (constant_parameters_of l ps v is).1.owned ≡ l.owned
 unfolding constant_parameters_of
 constant_parameters_owned l ps v [] = refl
 constant_parameters_owned l ps v (i ∷ is) = constant_parameters_owned (constant_parameter l ps i.name v).1 (constant_parameter l ps i.name v).0 v is
 
-var_parameters_owned : (l : Layer) (ps : Parameters) (v : ValueType) (is : List Identifier) → (var_parameters_of l ps v is).1.owned ≡ l.owned
+var_parameters_owned : (l : Layer) (ps : Parameters) (v : CellType) (is : List Identifier) → (var_parameters_of l ps v is).1.owned ≡ l.owned
 unfolding var_parameters_of
 var_parameters_owned l ps v [] = refl
 var_parameters_owned l ps v (i ∷ is) = var_parameters_owned (var_parameter l ps i.name v).1 (var_parameter l ps i.name v).0 v is

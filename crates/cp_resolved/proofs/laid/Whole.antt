@@ -4,7 +4,7 @@ use Rattle.std.proofs.lemmas.Option.{none-some}
 use Rattle.cp_tree.specs.declared.declaration.SystemKind.{SystemKind}
 use Rattle.cp_tree.specs.Syntax as syntax
 use Rattle.cp_tree.specs.Syntax.{Body, Routine, Definition, SystemDefinition, ProgramPart, Program}
-use Rattle.cp_layout.specs.declared.kinds.ValueType.{ValueType}
+use Rattle.cp_layout.specs.declared.kinds.CellType.{CellType}
 use Rattle.cp_layout.specs.declared.names.Meaning.TheVariants as meaning
 use Rattle.cp_slots.specs.Code as code
 use Rattle.cp_slots.specs.Code.{Action, Item}
@@ -306,7 +306,7 @@ initial_last l ps b w =
 
 -- ---- system types
 
-pub record SystemLaid (x : ValueType × Layer) : Type 0 where
+pub record SystemLaid (x : CellType × Layer) : Type 0 where
   pub whole : Whole x.1
   pub is : IsType (length x.1.systems) x.0
   pub outside : Outside x.1
@@ -403,7 +403,7 @@ pub definition_laid : (l : Layer) (d : Definition) → Whole l → Outside l →
 definition_laid l (syntax.type_definition t) w o = let h : Typed l (written_type l t) = written_typed l t w.ground.named in record { whole = whole_declared l (written_type l t).1 h.declared w; is = h.is; outside = outside_declared l (written_type l t).1 h.declared o }
 definition_laid l (syntax.system_definition s) w o = system_laid l s w o
 
-pub named_laid : (x : List ℕ) (t : ValueType × Layer) → SystemLaid t → Whole (type_named x t) × Outside (type_named x t)
+pub named_laid : (x : List ℕ) (t : CellType × Layer) → SystemLaid t → Whole (type_named x t) × Outside (type_named x t)
 named_laid x t h =
     let d = name_declared t.1 x (meaning.Kind t.0) h.is h.whole.ground.named in
     (whole_declared t.1 (type_named x t) d h.whole, outside_declared t.1 (type_named x t) d h.outside)

@@ -4,8 +4,8 @@ use Rattle.std.specs.Str.{bytes_eq}
 use Rattle.std.proofs.lemmas.Option.{none-some, same_Some}
 use Rattle.cp_tree.specs.declared.constant.Identifier.{Identifier}
 use Rattle.cp_tree.specs.Syntax as syntax
-use Rattle.cp_layout.specs.declared.kinds.ValueType.{ValueType}
-use Rattle.cp_layout.specs.declared.kinds.ValueType.TheVariants as types
+use Rattle.cp_layout.specs.declared.kinds.CellType.{CellType}
+use Rattle.cp_layout.specs.declared.kinds.CellType.TheVariants as types
 use Rattle.cp_layout.specs.declared.names.Meaning.{Meaning}
 use Rattle.cp_layout.specs.declared.names.Meaning.TheVariants as meaning
 use Rattle.cp_layout.specs.Layers as layers
@@ -136,7 +136,7 @@ module _ (k : Numbering) (p : syntax.Program) (os : List Opening) (all : List La
       go true e rest = (open_owned w d.1 e, rest)
       go false e rest = rest
 
-  parameter_owned : (w : ℕ) (l : Layer) (ps : Parameters) (x : List ℕ) (v : ValueType) → AreOwned w l.names → AreOwned w (system_parameter l ps x v).1.names
+  parameter_owned : (w : ℕ) (l : Layer) (ps : Parameters) (x : List ℕ) (v : CellType) → AreOwned w l.names → AreOwned w (system_parameter l ps x v).1.names
   parameter_owned w l ps x (types.System n) h = (tt, h)
   parameter_owned w l ps x (types.Ordinal r) h = (tt, h)
   parameter_owned w l ps x types.Queue h = (tt, h)
@@ -144,7 +144,7 @@ module _ (k : Numbering) (p : syntax.Program) (os : List Opening) (all : List La
   parameter_owned w l ps x (types.Array n) h = (tt, h)
   parameter_owned w l ps x (types.Record n) h = (tt, h)
 
-  parameters_owned : (w : ℕ) (l : Layer) (ps : Parameters) (v : ValueType) (is : List Identifier) → AreOwned w l.names → AreOwned w (system_parameters_of l ps v is).1.names
+  parameters_owned : (w : ℕ) (l : Layer) (ps : Parameters) (v : CellType) (is : List Identifier) → AreOwned w l.names → AreOwned w (system_parameters_of l ps v is).1.names
   unfolding system_parameters_of
   parameters_owned w l ps v [] h = h
   parameters_owned w l ps v (i ∷ is) h = parameters_owned w (system_parameter l ps i.name v).1 (system_parameter l ps i.name v).0 v is (parameter_owned w l ps i.name v h)

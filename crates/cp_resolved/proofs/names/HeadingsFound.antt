@@ -3,12 +3,12 @@ use Rattle.std.proofs.Common.{◌≡◌, ℕ, Bool, true, false, if◌then◌els
 use Rattle.std.proofs.lemmas.List.{append-nil}
 use Rattle.cp_tree.specs.declared.constant.Identifier.{Identifier}
 use Rattle.cp_tree.specs.Syntax as syntax
-use Rattle.cp_slots.specs.declared.place.Origin.{Origin}
-use Rattle.cp_slots.specs.declared.place.Origin.TheVariants as origin
-use Rattle.cp_layout.specs.declared.kinds.ValueType.{ValueType}
+use Rattle.cp_slots.specs.declared.place.PlaceOrigin.{PlaceOrigin}
+use Rattle.cp_slots.specs.declared.place.PlaceOrigin.TheVariants as origin
+use Rattle.cp_layout.specs.declared.kinds.CellType.{CellType}
 use Rattle.cp_layout.specs.declared.layer.Passing.{Passing}
 use Rattle.cp_layout.specs.declared.layer.Passing.TheVariants as passing
-use Rattle.cp_layout.specs.declared.layer.Parameter as code_parameter
+use Rattle.cp_layout.specs.declared.layer.ParameterLayout as code_parameter
 use Rattle.cp_layout.specs.declared.names.Meaning.{Meaning}
 use Rattle.cp_layout.specs.declared.names.Meaning.TheVariants as meaning
 use Rattle.cp_layout.specs.Kinds.{Compounds}
@@ -81,9 +81,9 @@ named_beside (x ∷ xs) ys t b h = (each_right (λ y. same_name x y ≡ false) x
 -- ---- parameters that are found
 
 module _ (k : Numbering) where
-  pub record Found (ts : Compounds) (ns : Names) (q : Parameter) (p : code_parameter.Parameter) : Type 0 where
-    pub place : Origin
-    pub value_type : ValueType
+  pub record Found (ts : Compounds) (ns : Names) (q : Parameter) (p : code_parameter.ParameterLayout) : Type 0 where
+    pub place : PlaceOrigin
+    pub value_type : CellType
     pub there : find q.name ns ≡ Some (meaning.Variable place value_type)
     pub slot : p.slot ≡ slot_of place
     pub passed : PassedBy k ts q.is_var q.ty p.passing
@@ -94,7 +94,7 @@ module _ (k : Numbering) where
   AreFound ts ns [] (p ∷ ps) = ⊥
   AreFound ts ns (q ∷ qs) [] = ⊥
 
-  pub passed_value : (ts : Compounds) (t : Ty) (v : ValueType) → IsNoComponent t → TypeIs k ts t v → PassedBy k ts false t (passing.Constant v)
+  pub passed_value : (ts : Compounds) (t : Ty) (v : CellType) → IsNoComponent t → TypeIs k ts t v → PassedBy k ts false t (passing.Constant v)
   passed_value ts (named.ordinal r) v o h = (v, refl, h)
   passed_value ts named.queue_type v o h = (v, refl, h)
   passed_value ts (named.set_over r) v o h = (v, refl, h)
@@ -124,7 +124,7 @@ module _ (k : Numbering) where
   found_kept ts ns ms (q ∷ qs) [] e h = absurd h
   found_kept ts ns ms (q ∷ qs) (p ∷ ps) e h = (record { place = h.0.place; value_type = h.0.value_type; there = e.0 ∙ h.0.there; slot = h.0.slot; passed = h.0.passed }, found_kept ts ns ms qs ps e.1 h.1)
 
-  found_last : (ts : Compounds) (ns : Names) (qs : List Parameter) (ps : Parameters) (q : Parameter) (p : code_parameter.Parameter) → AreFound ts ns qs ps → Found ts ns q p → AreFound ts ns (qs ++ q ∷ []) (ps ++ p ∷ [])
+  found_last : (ts : Compounds) (ns : Names) (qs : List Parameter) (ps : Parameters) (q : Parameter) (p : code_parameter.ParameterLayout) → AreFound ts ns qs ps → Found ts ns q p → AreFound ts ns (qs ++ q ∷ []) (ps ++ p ∷ [])
   found_last ts ns [] [] q p h g = (g, tt)
   found_last ts ns [] (r ∷ ps) q p h g = absurd h
   found_last ts ns (r ∷ qs) [] q p h g = absurd h
@@ -138,7 +138,7 @@ module _ (k : Numbering) where
   find_itself n m ns = ap (λ (b : Bool). if b then Some m else find n ns) (itself n)
 
   -- one parameter more
-  one_found : (ts : Compounds) (ns : Names) (qs : List Parameter) (ps : Parameters) (q : Parameter) (p : code_parameter.Parameter) (o : Origin) (v : ValueType) → p.slot ≡ slot_of o → PassedBy k ts q.is_var q.ty p.passing → Each (λ (r : Parameter). same_name r.name q.name ≡ false) qs → AreFound ts ns qs ps →
+  one_found : (ts : Compounds) (ns : Names) (qs : List Parameter) (ps : Parameters) (q : Parameter) (p : code_parameter.ParameterLayout) (o : PlaceOrigin) (v : CellType) → p.slot ≡ slot_of o → PassedBy k ts q.is_var q.ty p.passing → Each (λ (r : Parameter). same_name r.name q.name ≡ false) qs → AreFound ts ns qs ps →
       AreFound ts ((q.name, meaning.Variable o v) ∷ ns) (qs ++ q ∷ []) (ps ++ p ∷ [])
   one_found ts ns qs ps q p o v slot passed others h =
       let ms : Names = (q.name, meaning.Variable o v) ∷ ns in
@@ -149,7 +149,7 @@ module _ (k : Numbering) where
 
   -- ---- parameters of one type
 
-  constants_found : (l : Layer) (ps : Parameters) (qs : List Parameter) (t : Ty) (v : ValueType) (is : List Identifier) → AreValues (parameters_named (names_of is) t false) → TypeIs k l.types t v → AreBeside qs (names_of is) → AreDistinct (names_of is) → AreFound l.types l.names qs ps →
+  constants_found : (l : Layer) (ps : Parameters) (qs : List Parameter) (t : Ty) (v : CellType) (is : List Identifier) → AreValues (parameters_named (names_of is) t false) → TypeIs k l.types t v → AreBeside qs (names_of is) → AreDistinct (names_of is) → AreFound l.types l.names qs ps →
       AreFound l.types (constant_parameters_of l ps v is).1.names (qs ++ parameters_named (names_of is) t false) (constant_parameters_of l ps v is).0
   unfolding constant_parameters_of
   constants_found l ps qs t v [] o h beside distinct f = subst (λ rs. AreFound l.types l.names rs ps) (sym (append-nil qs)) f
@@ -161,7 +161,7 @@ module _ (k : Numbering) where
       subst (λ rs. AreFound l.types (constant_parameters_of x.1 x.0 v is).1.names rs (constant_parameters_of x.1 x.0 v is).0) (append_assoc qs (q ∷ []) (parameters_named (names_of is) t false))
       (constants_found x.1 x.0 (qs ++ q ∷ []) t v is o.1 h (beside_one qs q (names_of is) beside distinct.0) distinct.1 one)
 
-  references_found : (l : Layer) (ps : Parameters) (qs : List Parameter) (t : Ty) (v : ValueType) (is : List Identifier) → AreBeside qs (names_of is) → AreDistinct (names_of is) → AreFound l.types l.names qs ps →
+  references_found : (l : Layer) (ps : Parameters) (qs : List Parameter) (t : Ty) (v : CellType) (is : List Identifier) → AreBeside qs (names_of is) → AreDistinct (names_of is) → AreFound l.types l.names qs ps →
       AreFound l.types (var_parameters_of l ps v is).1.names (qs ++ parameters_named (names_of is) t true) (var_parameters_of l ps v is).0
   unfolding var_parameters_of
   references_found l ps qs t v [] beside distinct f = subst (λ rs. AreFound l.types l.names rs ps) (sym (append-nil qs)) f
@@ -173,12 +173,12 @@ module _ (k : Numbering) where
       subst (λ rs. AreFound l.types (var_parameters_of x.1 x.0 v is).1.names rs (var_parameters_of x.1 x.0 v is).0) (append_assoc qs (q ∷ []) (parameters_named (names_of is) t true))
       (references_found x.1 x.0 (qs ++ q ∷ []) t v is (beside_one qs q (names_of is) beside distinct.0) distinct.1 one)
 
-  constants_types : (l : Layer) (ps : Parameters) (v : ValueType) (is : List Identifier) → (constant_parameters_of l ps v is).1.types ≡ l.types
+  constants_types : (l : Layer) (ps : Parameters) (v : CellType) (is : List Identifier) → (constant_parameters_of l ps v is).1.types ≡ l.types
   unfolding constant_parameters_of
   constants_types l ps v [] = refl
   constants_types l ps v (i ∷ is) = constants_types (constant_parameter l ps i.name v).1 (constant_parameter l ps i.name v).0 v is
 
-  references_types : (l : Layer) (ps : Parameters) (v : ValueType) (is : List Identifier) → (var_parameters_of l ps v is).1.types ≡ l.types
+  references_types : (l : Layer) (ps : Parameters) (v : CellType) (is : List Identifier) → (var_parameters_of l ps v is).1.types ≡ l.types
   unfolding var_parameters_of
   references_types l ps v [] = refl
   references_types l ps v (i ∷ is) = references_types (var_parameter l ps i.name v).1 (var_parameter l ps i.name v).0 v is
@@ -209,7 +209,7 @@ module _ (k : Numbering) where
   groups_found l ps h [] i o beside distinct f = f
   groups_found l ps h (g ∷ gs) i o beside distinct f =
       let t : Ty = type_named h.scope g.type_name.name in
-      let v : ValueType = named_type l g.type_name.name in
+      let v : CellType = named_type l g.type_name.name in
       let new : List Parameter = parameters_named (names_of g.names) t false in
       let rest : List Name = all_names (λ (g : syntax.Group). names_of g.names) gs in
       let x : Parameters × Layer = constant_group l ps g in

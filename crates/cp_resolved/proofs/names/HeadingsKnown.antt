@@ -4,7 +4,7 @@ use Rattle.std.specs.Str.{bytes_eq}
 use Rattle.std.proofs.lemmas.Bool.{leb-true, ltb-true}
 use Rattle.std.proofs.lemmas.Option.{none-some, same_Some}
 use Rattle.cp_tree.specs.Syntax as syntax
-use Rattle.cp_slots.specs.declared.place.Origin.{Origin}
+use Rattle.cp_slots.specs.declared.place.PlaceOrigin.{PlaceOrigin}
 use Rattle.cp_layout.specs.declared.names.Meaning.TheVariants as meaning
 use Rattle.cp_slots.specs.Code as code
 use Rattle.cp_layout.specs.Kinds.{Compounds}
@@ -48,7 +48,7 @@ use Rattle.cp_resolved.proofs.names.TreeKnown.{owner_is, found_known, LowBy, var
 
 -- ---- slots of parameters that are found
 
-found_are : (k : Numbering) (ts : Compounds) (ns : Names) (other : Name → Origin) (qs : List Parameter) (ps : Parameters) → AreFound k ts ns qs ps → ParametersAre k ts (λ x. slot_of (origin_in (other x) (layers.find x ns))) qs ps
+found_are : (k : Numbering) (ts : Compounds) (ns : Names) (other : Name → PlaceOrigin) (qs : List Parameter) (ps : Parameters) → AreFound k ts ns qs ps → ParametersAre k ts (λ x. slot_of (origin_in (other x) (layers.find x ns))) qs ps
 found_are k ts ns other [] [] h = tt
 found_are k ts ns other [] (p ∷ ps) h = absurd h
 found_are k ts ns other (q ∷ qs) [] h = absurd h

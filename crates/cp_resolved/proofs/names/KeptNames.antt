@@ -2,10 +2,10 @@
 use Rattle.std.proofs.Common.{◌+◌, ℕ, ℤ, Bool, true, false, if◌then◌else◌, List, [], ◌∷◌, length, Option, Some, None, sym, subst}
 use Rattle.cp_tree.specs.declared.constant.Identifier.{Identifier}
 use Rattle.cp_tree.specs.Syntax as syntax
-use Rattle.cp_slots.specs.declared.place.Origin.{Origin}
-use Rattle.cp_slots.specs.declared.place.Origin.TheVariants as origin
-use Rattle.cp_layout.specs.declared.kinds.Base.{Base}
-use Rattle.cp_layout.specs.declared.kinds.ValueType.{ValueType}
+use Rattle.cp_slots.specs.declared.place.PlaceOrigin.{PlaceOrigin}
+use Rattle.cp_slots.specs.declared.place.PlaceOrigin.TheVariants as origin
+use Rattle.cp_layout.specs.declared.kinds.CellBase.{CellBase}
+use Rattle.cp_layout.specs.declared.kinds.CellType.{CellType}
 use Rattle.cp_layout.specs.declared.layer.Contained.{Contained}
 use Rattle.cp_layout.specs.declared.names.Meaning.{Meaning}
 use Rattle.cp_layout.specs.declared.names.Meaning.TheVariants as meaning
@@ -17,10 +17,10 @@ use Rattle.cp_layout.specs.LaidDeclarations.{constant, constants, type_definitio
 use Rattle.cp_resolved.specs.InStep.{IsInFrame}
 use Rattle.cp_resolved.proofs.laid.Extends.{system_names}
 
-module _ (Q : Names → Type 0) (A : Meaning → Type 0) (add : (x : List ℕ) (m : Meaning) (ns : Names) → A m → Q ns → Q ((x, m) ∷ ns)) (constant_may : (b : Base) (z : ℤ) → A (meaning.Constant b z)) (kind_may : (v : ValueType) → A (meaning.Kind v)) where
+module _ (Q : Names → Type 0) (A : Meaning → Type 0) (add : (x : List ℕ) (m : Meaning) (ns : Names) → A m → Q ns → Q ((x, m) ∷ ns)) (constant_may : (b : CellBase) (z : ℤ) → A (meaning.Constant b z)) (kind_may : (v : CellType) → A (meaning.Kind v)) where
   -- ---- constants and types
 
-  enumerated_keep : (l : Layer) (b : Base) (n : ℕ) (is : List Identifier) → Q l.names → Q (enumerated l b n is).names
+  enumerated_keep : (l : Layer) (b : CellBase) (n : ℕ) (is : List Identifier) → Q l.names → Q (enumerated l b n is).names
   unfolding enumerated
   enumerated_keep l b n [] h = h
   enumerated_keep l b n (i ∷ is) h = enumerated_keep (with_constant l i.name (meaning.Constant b (as_integer n))) b (n + 1) is (add i.name _ l.names (constant_may b (as_integer n)) h)
@@ -59,8 +59,8 @@ module _ (Q : Names → Type 0) (A : Meaning → Type 0) (add : (x : List ℕ) (
 
   -- ---- inside a routine
 
-  module _ (variable_may : (o : Origin) (v : ValueType) → IsInFrame o → A (meaning.Variable o v)) where
-    locals_of_keep : (l : Layer) (v : ValueType) (is : List Identifier) → Q l.names → Q (locals_of l v is).names
+  module _ (variable_may : (o : PlaceOrigin) (v : CellType) → IsInFrame o → A (meaning.Variable o v)) where
+    locals_of_keep : (l : Layer) (v : CellType) (is : List Identifier) → Q l.names → Q (locals_of l v is).names
     unfolding locals_of
     locals_of_keep l v [] h = h
     locals_of_keep l v (i ∷ is) h = locals_of_keep (local l i.name v) v is (add i.name _ l.names (variable_may (origin.Local (length l.frame.image)) v tt) h)
@@ -80,12 +80,12 @@ module _ (Q : Names → Type 0) (A : Meaning → Type 0) (add : (x : List ℕ) (
     local_parts_keep l [] h = h
     local_parts_keep l (p ∷ ps) h = local_parts_keep (local_part l p) ps (local_part_keep l p h)
 
-    constant_parameters_keep : (l : Layer) (ps : Parameters) (v : ValueType) (is : List Identifier) → Q l.names → Q (constant_parameters_of l ps v is).1.names
+    constant_parameters_keep : (l : Layer) (ps : Parameters) (v : CellType) (is : List Identifier) → Q l.names → Q (constant_parameters_of l ps v is).1.names
     unfolding constant_parameters_of
     constant_parameters_keep l ps v [] h = h
     constant_parameters_keep l ps v (i ∷ is) h = constant_parameters_keep (constant_parameter l ps i.name v).1 (constant_parameter l ps i.name v).0 v is (add i.name _ l.names (variable_may (origin.Local (length l.frame.image)) v tt) h)
 
-    var_parameters_keep : (l : Layer) (ps : Parameters) (v : ValueType) (is : List Identifier) → Q l.names → Q (var_parameters_of l ps v is).1.names
+    var_parameters_keep : (l : Layer) (ps : Parameters) (v : CellType) (is : List Identifier) → Q l.names → Q (var_parameters_of l ps v is).1.names
     unfolding var_parameters_of
     var_parameters_keep l ps v [] h = h
     var_parameters_keep l ps v (i ∷ is) h = var_parameters_keep (var_parameter l ps i.name v).1 (var_parameter l ps i.name v).0 v is (add i.name _ l.names (variable_may (origin.Reference (length l.frame.extents)) v tt) h)
@@ -111,12 +111,12 @@ module _ (Q : Names → Type 0) (A : Meaning → Type 0) (add : (x : List ℕ) (
 
   -- ---- in a system type, or in the program
 
-  module _ (variable_may : (n : ℕ) (v : ValueType) → A (meaning.Variable (origin.Permanent n) v)) (contained_may : (n : ℕ) (v : ValueType) → A (meaning.Contained n v)) where
-    variable_keep : (l : Layer) (x : List ℕ) (v : ValueType) (o : Option Contained) → Q l.names → Q (variable_with l x v o).names
+  module _ (variable_may : (n : ℕ) (v : CellType) → A (meaning.Variable (origin.Permanent n) v)) (contained_may : (n : ℕ) (v : CellType) → A (meaning.Contained n v)) where
+    variable_keep : (l : Layer) (x : List ℕ) (v : CellType) (o : Option Contained) → Q l.names → Q (variable_with l x v o).names
     variable_keep l x v None h = add x _ l.names (variable_may l.owned.cells v) h
     variable_keep l x v (Some c) h = add x _ l.names (contained_may l.owned.count v) h
 
-    variables_of_keep : (l : Layer) (v : ValueType) (is : List Identifier) → Q l.names → Q (variables_of l v is).names
+    variables_of_keep : (l : Layer) (v : CellType) (is : List Identifier) → Q l.names → Q (variables_of l v is).names
     unfolding variables_of
     variables_of_keep l v [] h = h
     variables_of_keep l v (i ∷ is) h = variables_of_keep (variable l i.name v) v is (variable_keep l i.name v (components_of l.types v) h)

@@ -2,8 +2,8 @@
 use Rattle.std.proofs.Common.{◌≡◌, ◌+◌, ℕ, Bool, false, if◌then◌else◌, List, [], ◌∷◌, ◌++◌, length, Option, Some, None, refl, ap, ◌∙◌}
 use Rattle.cp_tree.specs.declared.constant.Identifier.{Identifier}
 use Rattle.cp_tree.specs.Syntax as syntax
-use Rattle.cp_layout.specs.declared.kinds.Base.{Base}
-use Rattle.cp_layout.specs.declared.kinds.ValueType.{ValueType}
+use Rattle.cp_layout.specs.declared.kinds.CellBase.{CellBase}
+use Rattle.cp_layout.specs.declared.kinds.CellType.{CellType}
 use Rattle.cp_layout.specs.declared.layer.Contained.{Contained}
 use Rattle.cp_layout.specs.declared.names.Meaning.{Meaning}
 use Rattle.cp_layout.specs.declared.names.Meaning.TheVariants as meaning
@@ -33,7 +33,7 @@ find_past x n m ns h = ap (λ (b : Bool). if b then Some m else find x ns) (byte
 
 -- ---- constants and types
 
-enumerated_beside : (l : Layer) (b : Base) (n : ℕ) (is : List Identifier) → Beside (names_of is) l (enumerated l b n is)
+enumerated_beside : (l : Layer) (b : CellBase) (n : ℕ) (is : List Identifier) → Beside (names_of is) l (enumerated l b n is)
 unfolding enumerated
 enumerated_beside l b n [] x h = refl
 enumerated_beside l b n (i ∷ is) x h = enumerated_beside (with_constant l i.name (meaning.Constant b (as_integer n))) b (n + 1) is x h.1 ∙ find_past x i.name (meaning.Constant b (as_integer n)) l.names h.0
@@ -79,7 +79,7 @@ definitions_beside l (d ∷ ds) =
 abbrev group_names : syntax.VariableGroup → List Name
 group_names g = type_names g.variable_type ++ names_of g.names
 
-locals_of_beside : (l : Layer) (v : ValueType) (is : List Identifier) → Beside (names_of is) l (locals_of l v is)
+locals_of_beside : (l : Layer) (v : CellType) (is : List Identifier) → Beside (names_of is) l (locals_of l v is)
 unfolding locals_of
 locals_of_beside l v [] x h = refl
 locals_of_beside l v (i ∷ is) x h = locals_of_beside (local l i.name v) v is x h.1 ∙ find_past x i.name _ l.names h.0
@@ -88,15 +88,15 @@ locals_beside : (l : Layer) (gs : List syntax.VariableGroup) → Beside (all_nam
 unfolding local_variables
 locals_beside l [] = beside_none l
 locals_beside l (g ∷ gs) =
-    let y : ValueType × Layer = written_type l g.variable_type in
+    let y : CellType × Layer = written_type l g.variable_type in
     beside_then (group_names g) (all_names group_names gs) l (local_group l g) (local_variables (local_group l g) gs)
     (beside_then (type_names g.variable_type) (names_of g.names) l y.1 (local_group l g) (type_beside l g.variable_type) (locals_of_beside y.1 y.0 g.names)) (locals_beside (local_group l g) gs)
 
-one_beside : (l : Layer) (n : Name) (v : ValueType) (o : Option Contained) (x : Name) → same_name x n ≡ false → find x (variable_with l n v o).names ≡ find x l.names
+one_beside : (l : Layer) (n : Name) (v : CellType) (o : Option Contained) (x : Name) → same_name x n ≡ false → find x (variable_with l n v o).names ≡ find x l.names
 one_beside l n v None x h = find_past x n _ l.names h
 one_beside l n v (Some c) x h = find_past x n _ l.names h
 
-variables_of_beside : (l : Layer) (v : ValueType) (is : List Identifier) → Beside (names_of is) l (variables_of l v is)
+variables_of_beside : (l : Layer) (v : CellType) (is : List Identifier) → Beside (names_of is) l (variables_of l v is)
 unfolding variables_of
 variables_of_beside l v [] x h = refl
 variables_of_beside l v (i ∷ is) x h = variables_of_beside (variable l i.name v) v is x h.1 ∙ one_beside l i.name v (components_of l.types v) x h.0
@@ -105,7 +105,7 @@ variables_beside : (l : Layer) (gs : List syntax.VariableGroup) → Beside (all_
 unfolding variables
 variables_beside l [] = beside_none l
 variables_beside l (g ∷ gs) =
-    let y : ValueType × Layer = written_type l g.variable_type in
+    let y : CellType × Layer = written_type l g.variable_type in
     beside_then (group_names g) (all_names group_names gs) l (variable_group l g) (variables (variable_group l g) gs)
     (beside_then (type_names g.variable_type) (names_of g.names) l y.1 (variable_group l g) (type_beside l g.variable_type) (variables_of_beside y.1 y.0 g.names)) (variables_beside (variable_group l g) gs)
 

@@ -8,10 +8,10 @@ use Rattle.std.proofs.lemmas.Option.{same_Some}
 use Rattle.std.proofs.lemmas.Slice.Eq.{bytes_eq-Decides}
 use Rattle.cp_tree.specs.declared.constant.Identifier.{Identifier}
 use Rattle.cp_tree.specs.Syntax as syntax
-use Rattle.cp_slots.specs.declared.place.Origin.{Origin}
-use Rattle.cp_slots.specs.declared.place.Origin.TheVariants as origin
-use Rattle.cp_layout.specs.declared.kinds.ValueType.{ValueType}
-use Rattle.cp_layout.specs.declared.kinds.ValueType.TheVariants as types
+use Rattle.cp_slots.specs.declared.place.PlaceOrigin.{PlaceOrigin}
+use Rattle.cp_slots.specs.declared.place.PlaceOrigin.TheVariants as origin
+use Rattle.cp_layout.specs.declared.kinds.CellType.{CellType}
+use Rattle.cp_layout.specs.declared.kinds.CellType.TheVariants as types
 use Rattle.cp_layout.specs.declared.layer.Contained.{Contained}
 use Rattle.cp_layout.specs.declared.names.Meaning.{Meaning}
 use Rattle.cp_layout.specs.declared.names.Meaning.TheVariants as meaning
@@ -69,7 +69,7 @@ under_added outer x m ns o u y n i e = go (found_cases (x, m) ns y n e)
     go (inl w) = absurd (o (subst IsPermanent (sym w.1) i))
     go (inr f) = u y n i f
 
-in_frame_other : (o : Origin) (v : ValueType) → IsInFrame o → IsOther (meaning.Variable o v)
+in_frame_other : (o : PlaceOrigin) (v : CellType) → IsInFrame o → IsOther (meaning.Variable o v)
 in_frame_other (origin.Local n) v h i = i
 in_frame_other (origin.Reference n) v h i = i
 in_frame_other (origin.Permanent n) v h i = h
@@ -192,7 +192,7 @@ bound_parameter qs q m ns u y n k e = go (found_cases (q.name, m) ns y (meaning.
     go (inl w) = parameter_last y qs q [] (same_turned q.name y w.0)
     go (inr f) = parameter_more y qs (q ∷ []) (u y n k f)
 
-one_bound : (qs : List Parameter) (q : Parameter) (l : Layer) (ps : Parameters) (v : ValueType) → BoundIn qs l.names → BoundIn (qs ++ q ∷ []) (system_parameter l ps q.name v).1.names
+one_bound : (qs : List Parameter) (q : Parameter) (l : Layer) (ps : Parameters) (v : CellType) → BoundIn qs l.names → BoundIn (qs ++ q ∷ []) (system_parameter l ps q.name v).1.names
 one_bound qs q l ps (types.System k) u = bound_parameter qs q (meaning.Bound l.owned.cells k) l.names u
 one_bound qs q l ps (types.Ordinal r) u = bound_parameter qs q (meaning.Variable (origin.Permanent l.owned.cells) (types.Ordinal r)) l.names u
 one_bound qs q l ps types.Queue u = bound_parameter qs q (meaning.Variable (origin.Permanent l.owned.cells) types.Queue) l.names u
@@ -200,7 +200,7 @@ one_bound qs q l ps (types.Set r) u = bound_parameter qs q (meaning.Variable (or
 one_bound qs q l ps (types.Array n) u = bound_parameter qs q (meaning.Variable (origin.Permanent l.owned.cells) (types.Array n)) l.names u
 one_bound qs q l ps (types.Record n) u = bound_parameter qs q (meaning.Variable (origin.Permanent l.owned.cells) (types.Record n)) l.names u
 
-parameters_bound : (qs : List Parameter) (l : Layer) (ps : Parameters) (t : Ty) (b : Bool) (v : ValueType) (is : List Identifier) → BoundIn qs l.names → BoundIn (qs ++ parameters_named (names_of is) t b) (system_parameters_of l ps v is).1.names
+parameters_bound : (qs : List Parameter) (l : Layer) (ps : Parameters) (t : Ty) (b : Bool) (v : CellType) (is : List Identifier) → BoundIn qs l.names → BoundIn (qs ++ parameters_named (names_of is) t b) (system_parameters_of l ps v is).1.names
 unfolding system_parameters_of
 parameters_bound qs l ps t b v [] u = subst (λ rs. BoundIn rs l.names) (sym (append-nil qs)) u
 parameters_bound qs l ps t b v (i ∷ is) u =
@@ -230,7 +230,7 @@ is_variable x [] = false
 is_variable x (v ∷ vs) = same_name x v.name || is_variable x vs
 
 abbrev pub ContainedIn : List Variable → Names → Type 0
-ContainedIn vs ns = (x : List ℕ) (n : ℕ) (v : ValueType) → find x ns ≡ Some (meaning.Contained n v) → is_variable x vs ≡ true
+ContainedIn vs ns = (x : List ℕ) (n : ℕ) (v : CellType) → find x ns ≡ Some (meaning.Contained n v) → is_variable x vs ≡ true
 
 abbrev IsAlone : Meaning → Type 0
 IsAlone (meaning.Contained n v) = ⊥
@@ -262,11 +262,11 @@ contained_variable vs w m ns u y n v e = go (found_cases (w.name, m) ns y (meani
     go (inl f) = variable_last y vs w (same_turned w.name y f.0)
     go (inr f) = variable_more y vs (w ∷ []) (u y n v f)
 
-one_contained : (vs : List Variable) (w : Variable) (l : Layer) (v : ValueType) (o : Option Contained) → ContainedIn vs l.names → ContainedIn (vs ++ w ∷ []) (variable_with l w.name v o).names
+one_contained : (vs : List Variable) (w : Variable) (l : Layer) (v : CellType) (o : Option Contained) → ContainedIn vs l.names → ContainedIn (vs ++ w ∷ []) (variable_with l w.name v o).names
 one_contained vs w l v None u = contained_variable vs w (meaning.Variable (origin.Permanent l.owned.cells) v) l.names u
 one_contained vs w l v (Some c) u = contained_variable vs w (meaning.Contained l.owned.count v) l.names u
 
-variables_of_contained : (vs : List Variable) (l : Layer) (t : Ty) (v : ValueType) (is : List Identifier) → ContainedIn vs l.names → ContainedIn (vs ++ named_variables (names_of is) t) (variables_of l v is).names
+variables_of_contained : (vs : List Variable) (l : Layer) (t : Ty) (v : CellType) (is : List Identifier) → ContainedIn vs l.names → ContainedIn (vs ++ named_variables (names_of is) t) (variables_of l v is).names
 unfolding variables_of
 variables_of_contained vs l t v [] u = subst (λ ws. ContainedIn ws l.names) (sym (append-nil vs)) u
 variables_of_contained vs l t v (i ∷ is) u =
@@ -279,7 +279,7 @@ variables_contained : (b : Block) (l : Layer) (gs : List syntax.VariableGroup) �
 unfolding variables
 variables_contained b l [] u = u
 variables_contained b l (g ∷ gs) u =
-    let x : ValueType × Layer = written_type l g.variable_type in
+    let x : CellType × Layer = written_type l g.variable_type in
     let t : Ty = (type_in b.scope g.variable_type).0 in
     let a : ContainedIn b.variables x.1.names = kept.type_keep (ContainedIn b.variables) IsAlone (contained_added b.variables) (λ b z. tt) (λ v. tt) l g.variable_type u in
     variables_contained (record { variables = b.variables ++ named_variables (names_of g.names) t; scope = with_names (names_of g.names) (permanent_variable t) (type_in b.scope g.variable_type).1 }) (variable_group l g) gs (variables_of_contained b.variables x.1 t x.0 g.names a)
@@ -295,7 +295,7 @@ parts_contained b l [] u = u
 parts_contained b l (p ∷ ps) u = parts_contained (part_in permanent_variable b p) (permanent_part l p) ps (part_contained b l p u)
 
 -- no parameter is a component that is contained
-parameter_contained : (l : Layer) (ps : Parameters) (x : List ℕ) (v : ValueType) → ContainedIn [] l.names → ContainedIn [] (system_parameter l ps x v).1.names
+parameter_contained : (l : Layer) (ps : Parameters) (x : List ℕ) (v : CellType) → ContainedIn [] l.names → ContainedIn [] (system_parameter l ps x v).1.names
 parameter_contained l ps x (types.System k) u = contained_added [] x (meaning.Bound l.owned.cells k) l.names tt u
 parameter_contained l ps x (types.Ordinal r) u = contained_added [] x (meaning.Variable (origin.Permanent l.owned.cells) (types.Ordinal r)) l.names tt u
 parameter_contained l ps x types.Queue u = contained_added [] x (meaning.Variable (origin.Permanent l.owned.cells) types.Queue) l.names tt u
@@ -303,7 +303,7 @@ parameter_contained l ps x (types.Set r) u = contained_added [] x (meaning.Varia
 parameter_contained l ps x (types.Array n) u = contained_added [] x (meaning.Variable (origin.Permanent l.owned.cells) (types.Array n)) l.names tt u
 parameter_contained l ps x (types.Record n) u = contained_added [] x (meaning.Variable (origin.Permanent l.owned.cells) (types.Record n)) l.names tt u
 
-parameters_contained : (l : Layer) (ps : Parameters) (v : ValueType) (is : List Identifier) → ContainedIn [] l.names → ContainedIn [] (system_parameters_of l ps v is).1.names
+parameters_contained : (l : Layer) (ps : Parameters) (v : CellType) (is : List Identifier) → ContainedIn [] l.names → ContainedIn [] (system_parameters_of l ps v is).1.names
 unfolding system_parameters_of
 parameters_contained l ps v [] u = u
 parameters_contained l ps v (i ∷ is) u = parameters_contained (system_parameter l ps i.name v).1 (system_parameter l ps i.name v).0 v is (parameter_contained l ps i.name v u)
@@ -322,7 +322,7 @@ other_name x qs (v ∷ vs) h e = go (same_name x v.name) refl (other_name x qs v
     go false w rest f = rest f
 
 abbrev pub FirstsApart : List Parameter → Names → Type 0
-FirstsApart qs ns = (x : List ℕ) (n : ℕ) (v : ValueType) → find x ns ≡ Some (meaning.Contained n v) → is_parameter x qs ≡ false
+FirstsApart qs ns = (x : List ℕ) (n : ℕ) (v : CellType) → find x ns ≡ Some (meaning.Contained n v) → is_parameter x qs ≡ false
 
 pub parts_first : (qs : List Parameter) (b : Block) (l : Layer) (d : syntax.System) → b.variables ≡ [] → AreOthers qs (parts_in permanent_variable b d.parts).variables → FirstsApart qs (parts_begun l d).names
 parts_first qs b l d none h x n v e =

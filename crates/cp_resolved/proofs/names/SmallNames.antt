@@ -1,7 +1,7 @@
 -- Where names are in step with a scope of limited types, each variable begins with at most 8,192 cells. It does so where fewer names stand too.
 use Rattle.std.proofs.Common.{ℕ, ◌≤◌, Bool, true, false, if◌then◌else◌, List, [], ◌∷◌, ◌++◌, length, Some, sym, ap, subst, ◌⊎◌, inl, inr, arith, le_trans}
 use Rattle.std.specs.Str.{bytes_eq}
-use Rattle.cp_layout.specs.declared.kinds.ValueType.{ValueType}
+use Rattle.cp_layout.specs.declared.kinds.CellType.{CellType}
 use Rattle.cp_layout.specs.declared.names.Meaning.{Meaning}
 use Rattle.cp_layout.specs.declared.names.Meaning.TheVariants as meaning
 use Rattle.cp_layout.specs.Kinds.{Compounds, least}
@@ -18,7 +18,7 @@ use Rattle.cp_resolved.proofs.laid.Declares.{Declares}
 use Rattle.cp_resolved.proofs.counts.FewReferences.{each_weaker}
 use Rattle.cp_resolved.proofs.frames.LeastLengths.{least_cells, least_more}
 
-abbrev pub IsSmallIn : Compounds → ValueType → Type 0
+abbrev pub IsSmallIn : Compounds → CellType → Type 0
 IsSmallIn ts v = length (least ts v) ≤ 8192
 
 abbrev pub IsSmallMeaning : Compounds → Meaning → Type 0
@@ -33,7 +33,7 @@ abbrev pub SmallNames : Layer → Type 0
 SmallNames l = AreSmallNames l.types l.names
 
 module _ (k : Numbering) (ts : Compounds) where
-  small_type : (t : Ty) (v : ValueType) → TypeIs k ts t v → IsLimited t → IsSmallIn ts v
+  small_type : (t : Ty) (v : CellType) → TypeIs k ts t v → IsLimited t → IsSmallIn ts v
   small_type t v h le = le_trans (least_cells k ts t v h) le
 
   permanent_small : (m : Meaning) (t : Ty) → CellsAre k ts t m ⊎ (PartsAre k ts t m ⊎ BoundIs t m) → IsLimited t → IsSmallMeaning ts m

@@ -7,7 +7,7 @@ use Rattle.std.proofs.lemmas.Bool.Decides.{same_from_decides}
 use Rattle.std.proofs.lemmas.Slice.Eq.{bytes_eq-Decides}
 use Rattle.std.proofs.lemmas.Option.{slice_get_within, slice_get-get_or, get_or_from_slice_get}
 use Rattle.std.proofs.lemmas.List.{get_or_append_left}
-use Rattle.cp_layout.specs.declared.kinds.ValueType.{ValueType}
+use Rattle.cp_layout.specs.declared.kinds.CellType.{CellType}
 use Rattle.cp_layout.specs.declared.names.Meaning.{Meaning}
 use Rattle.cp_layout.specs.Kinds.{Compounds, Field, array, compound_cells, cells_of, plus, times, count_of}
 use Rattle.cp_layout.specs.Layers as layers
@@ -101,7 +101,7 @@ module _ (k : Numbering) (ts : Compounds) where
 
 -- a type takes this many cells also among more types
 module _ (k : Numbering) (ts more : Compounds) where
-  pub cells_grown : (t : Ty) (v : ValueType) → TypeIs k ts t v → cells_of (ts ++ more) v ≡ cells_of ts v
+  pub cells_grown : (t : Ty) (v : CellType) → TypeIs k ts t v → cells_of (ts ++ more) v ≡ cells_of ts v
   cells_grown (named.ordinal s) v h = rw h refl
   cells_grown named.queue_type v h = rw h refl
   cells_grown (named.set_over s) v h = rw h refl
@@ -110,7 +110,7 @@ module _ (k : Numbering) (ts more : Compounds) where
   cells_grown (named.component_of n) v h = rw h refl
 
   mutual
-    pub type_grown : (t : Ty) (v : ValueType) → TypeIs k ts t v → TypeIs k (ts ++ more) t v
+    pub type_grown : (t : Ty) (v : CellType) → TypeIs k ts t v → TypeIs k (ts ++ more) t v
     type_grown (named.ordinal s) v h = h
     type_grown named.queue_type v h = h
     type_grown (named.set_over s) v h = h

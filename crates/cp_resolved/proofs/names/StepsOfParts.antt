@@ -4,9 +4,9 @@ use Rattle.std.specs.Prelude.{◌⊎◌}
 use Rattle.std.proofs.lemmas.List.{append-nil}
 use Rattle.cp_tree.specs.declared.constant.Identifier.{Identifier}
 use Rattle.cp_tree.specs.Syntax as syntax
-use Rattle.cp_slots.specs.declared.place.Origin.TheVariants as origin
-use Rattle.cp_layout.specs.declared.kinds.ValueType.{ValueType}
-use Rattle.cp_layout.specs.declared.kinds.ValueType.TheVariants as types
+use Rattle.cp_slots.specs.declared.place.PlaceOrigin.TheVariants as origin
+use Rattle.cp_layout.specs.declared.kinds.CellType.{CellType}
+use Rattle.cp_layout.specs.declared.kinds.CellType.TheVariants as types
 use Rattle.cp_layout.specs.declared.layer.Contained.{Contained}
 use Rattle.cp_layout.specs.Kinds.{Compounds, as_array, array_type}
 use Rattle.cp_layout.specs.Layers.{Layer}
@@ -41,7 +41,7 @@ module _ (k : Numbering) where
   pub reached_then : (l j m : Layer) (s t : Scope) (es : List Enumerated) → Reached l j s es → Reached j m t [] → Reached l m t es
   reached_then l j m s t es h i = subst (λ fs. Reached l m t fs) (append-nil es) (reached_trans l j m s t es [] h i)
 
-  pub written_reached : (l : Layer) (x : ValueType × Layer) (y : Ty × Scope) (es : List Enumerated) → Written k l x y es → Reached l x.1 y.1 es
+  pub written_reached : (l : Layer) (x : CellType × Layer) (y : Ty × Scope) (es : List Enumerated) → Written k l x y es → Reached l x.1 y.1 es
   written_reached l x y es w = record { names = w.names; constants = w.constants }
 
   -- ---- constants and types
@@ -73,10 +73,10 @@ module _ (k : Numbering) where
   -- ---- permanent variables
 
   -- components are found where the type has components
-  abbrev pub ComponentsAre : Compounds → Ty → ValueType → Type 0
+  abbrev pub ComponentsAre : Compounds → Ty → CellType → Type 0
   ComponentsAre ts t v = ((has_components t ≡ false) × (components_of ts v ≡ None)) ⊎ ((c : Contained) × (has_components t ≡ true) × (components_of ts v ≡ Some c))
 
-  pub components_same : (ts : Compounds) (t : Ty) (v : ValueType) → TypeIs k ts t v → ComponentsAre ts t v
+  pub components_same : (ts : Compounds) (t : Ty) (v : CellType) → TypeIs k ts t v → ComponentsAre ts t v
   components_same ts (named.ordinal s) v h = inl (refl, ap (components_of ts) h)
   components_same ts named.queue_type v h = inl (refl, ap (components_of ts) h)
   components_same ts (named.set_over s) v h = inl (refl, ap (components_of ts) h)
@@ -89,11 +89,11 @@ module _ (k : Numbering) where
   components_same ts (named.record_with us) v h = inl (refl, ap (components_of ts) h.is)
   components_same ts (named.component_of n) v h = inr (_, refl, ap (components_of ts) h)
 
-  variable_types : (l : Layer) (x : List ℕ) (v : ValueType) (o : Option Contained) → (variable_with l x v o).types ≡ l.types
+  variable_types : (l : Layer) (x : List ℕ) (v : CellType) (o : Option Contained) → (variable_with l x v o).types ≡ l.types
   variable_types l x v None = refl
   variable_types l x v (Some c) = refl
 
-  with_reached : (l : Layer) (s : Scope) (x : List ℕ) (t : Ty) (v : ValueType) (o : Option Contained) → o ≡ components_of l.types v → TypeIs k l.types t v → ComponentsAre l.types t v → InStep k l.types l.names s → Reached l (variable_with l x v o) ((x, scopes.permanent_variable t) ∷ s) []
+  with_reached : (l : Layer) (s : Scope) (x : List ℕ) (t : Ty) (v : CellType) (o : Option Contained) → o ≡ components_of l.types v → TypeIs k l.types t v → ComponentsAre l.types t v → InStep k l.types l.names s → Reached l (variable_with l x v o) ((x, scopes.permanent_variable t) ∷ s) []
   with_reached l s x t v None e h (inl c) i =
       record { names = (refl, inl (record { slot = l.owned.cells; value_type = v; is = refl; belongs = h; without = c.0 }), i); constants = sym (append-nil l.constants) }
   with_reached l s x t v None e h (inr c) i = absurd (let w : None ≡ Some c.0 = e ∙ c.2 in cc)
@@ -101,7 +101,7 @@ module _ (k : Numbering) where
   with_reached l s x t v (Some d) e h (inr c) i =
       record { names = (refl, inr (inl (record { first = l.owned.count; value_type = v; is = refl; belongs = h; has = c.1 })), i); constants = sym (append-nil l.constants) }
 
-  pub variables_of_reached : (l : Layer) (s : Scope) (t : Ty) (v : ValueType) (is : List Identifier) → TypeIs k l.types t v → InStep k l.types l.names s → Reached l (variables_of l v is) (with_names (names_of is) (scopes.permanent_variable t) s) []
+  pub variables_of_reached : (l : Layer) (s : Scope) (t : Ty) (v : CellType) (is : List Identifier) → TypeIs k l.types t v → InStep k l.types l.names s → Reached l (variables_of l v is) (with_names (names_of is) (scopes.permanent_variable t) s) []
   unfolding variables_of
   variables_of_reached l s t v [] h i = reached_same l s i
   variables_of_reached l s t v (x ∷ xs) h i =
@@ -116,7 +116,7 @@ module _ (k : Numbering) where
   variables_reached l b [] h n i = reached_same l b.scope i
   variables_reached l b (g ∷ gs) h n i =
       let fs : List Enumerated = each_in (λ (g : syntax.VariableGroup). in_type g.variable_type) gs in
-      let x : ValueType × Layer = written_type l g.variable_type in
+      let x : CellType × Layer = written_type l g.variable_type in
       let y : Ty × Scope = meant.type_in b.scope g.variable_type in
       let w : Written k l x y (in_type g.variable_type) = type_written k l b.scope g.variable_type h.0 (numbered_left k (length l.constants) (in_type g.variable_type) fs n) i in
       let m : Layer = variable_group l g in
@@ -126,7 +126,7 @@ module _ (k : Numbering) where
 
   -- ---- local variables
 
-  pub locals_of_reached : (l : Layer) (s : Scope) (t : Ty) (v : ValueType) (is : List Identifier) → TypeIs k l.types t v → InStep k l.types l.names s → Reached l (locals_of l v is) (with_names (names_of is) (scopes.local_variable t) s) []
+  pub locals_of_reached : (l : Layer) (s : Scope) (t : Ty) (v : CellType) (is : List Identifier) → TypeIs k l.types t v → InStep k l.types l.names s → Reached l (locals_of l v is) (with_names (names_of is) (scopes.local_variable t) s) []
   unfolding locals_of
   locals_of_reached l s t v [] h i = reached_same l s i
   locals_of_reached l s t v (x ∷ xs) h i =
@@ -140,7 +140,7 @@ module _ (k : Numbering) where
   locals_reached l b [] h n i = reached_same l b.scope i
   locals_reached l b (g ∷ gs) h n i =
       let fs : List Enumerated = each_in (λ (g : syntax.VariableGroup). in_type g.variable_type) gs in
-      let x : ValueType × Layer = written_type l g.variable_type in
+      let x : CellType × Layer = written_type l g.variable_type in
       let y : Ty × Scope = meant.type_in b.scope g.variable_type in
       let w : Written k l x y (in_type g.variable_type) = type_written k l b.scope g.variable_type h.0 (numbered_left k (length l.constants) (in_type g.variable_type) fs n) i in
       let m : Layer = local_group l g in
@@ -180,7 +180,7 @@ module _ (k : Numbering) where
 
   -- ---- headings of routines
 
-  pub constant_parameters_reached : (l : Layer) (s : Scope) (ps : Parameters) (t : Ty) (v : ValueType) (is : List Identifier) → TypeIs k l.types t v → InStep k l.types l.names s → Reached l (constant_parameters_of l ps v is).1 (with_names (names_of is) (scopes.local_variable t) s) []
+  pub constant_parameters_reached : (l : Layer) (s : Scope) (ps : Parameters) (t : Ty) (v : CellType) (is : List Identifier) → TypeIs k l.types t v → InStep k l.types l.names s → Reached l (constant_parameters_of l ps v is).1 (with_names (names_of is) (scopes.local_variable t) s) []
   unfolding constant_parameters_of
   constant_parameters_reached l s ps t v [] h i = reached_same l s i
   constant_parameters_reached l s ps t v (x ∷ xs) h i =
@@ -189,7 +189,7 @@ module _ (k : Numbering) where
       let a : Reached m.1 (constant_parameters_of m.1 m.0 v xs).1 (with_names (names_of xs) (scopes.local_variable t) s') [] = constant_parameters_reached m.1 s' m.0 t v xs h (refl, record { origin = origin.Local (length l.frame.image); value_type = v; is = refl; in_frame = tt; belongs = h }, i) in
       record { names = a.names; constants = a.constants }
 
-  var_parameters_reached : (l : Layer) (s : Scope) (ps : Parameters) (t : Ty) (v : ValueType) (is : List Identifier) → TypeIs k l.types t v → InStep k l.types l.names s → Reached l (var_parameters_of l ps v is).1 (with_names (names_of is) (scopes.local_variable t) s) []
+  var_parameters_reached : (l : Layer) (s : Scope) (ps : Parameters) (t : Ty) (v : CellType) (is : List Identifier) → TypeIs k l.types t v → InStep k l.types l.names s → Reached l (var_parameters_of l ps v is).1 (with_names (names_of is) (scopes.local_variable t) s) []
   unfolding var_parameters_of
   var_parameters_reached l s ps t v [] h i = reached_same l s i
   var_parameters_reached l s ps t v (x ∷ xs) h i =
@@ -230,10 +230,10 @@ module _ (k : Numbering) where
   -- ---- parameters of system types
 
   -- a parameter with cells
-  cell_reached : (l : Layer) (s : Scope) (ps : Parameters) (x : List ℕ) (t : Ty) (v : ValueType) → has_components t ≡ false → TypeIs k l.types t v → InStep k l.types l.names s → Reached l (laid_parts.cell_parameter l ps x v).1 ((x, scopes.permanent_variable t) ∷ s) []
+  cell_reached : (l : Layer) (s : Scope) (ps : Parameters) (x : List ℕ) (t : Ty) (v : CellType) → has_components t ≡ false → TypeIs k l.types t v → InStep k l.types l.names s → Reached l (laid_parts.cell_parameter l ps x v).1 ((x, scopes.permanent_variable t) ∷ s) []
   cell_reached l s ps x t v w h i = record { names = (refl, inl (record { slot = l.owned.cells; value_type = v; is = refl; belongs = h; without = w }), i); constants = sym (append-nil l.constants) }
 
-  system_parameter_reached : (l : Layer) (s : Scope) (ps : Parameters) (x : List ℕ) (t : Ty) (v : ValueType) → IsParameter t → TypeIs k l.types t v → InStep k l.types l.names s → Reached l (system_parameter l ps x v).1 ((x, scopes.permanent_variable t) ∷ s) []
+  system_parameter_reached : (l : Layer) (s : Scope) (ps : Parameters) (x : List ℕ) (t : Ty) (v : CellType) → IsParameter t → TypeIs k l.types t v → InStep k l.types l.names s → Reached l (system_parameter l ps x v).1 ((x, scopes.permanent_variable t) ∷ s) []
   system_parameter_reached l s ps x (named.ordinal r) v f h i = subst (λ u. Reached l (system_parameter l ps x u).1 ((x, scopes.permanent_variable (named.ordinal r)) ∷ s) []) (sym h) (cell_reached l s ps x (named.ordinal r) (types.Ordinal (range_on k r)) refl refl i)
   system_parameter_reached l s ps x named.queue_type v f h i = subst (λ u. Reached l (system_parameter l ps x u).1 ((x, scopes.permanent_variable named.queue_type) ∷ s) []) (sym h) (cell_reached l s ps x named.queue_type types.Queue refl refl i)
   system_parameter_reached l s ps x (named.set_over r) v f h i = subst (λ u. Reached l (system_parameter l ps x u).1 ((x, scopes.permanent_variable (named.set_over r)) ∷ s) []) (sym h) (cell_reached l s ps x (named.set_over r) (types.Set (range_on k r)) refl refl i)
@@ -241,7 +241,7 @@ module _ (k : Numbering) where
   system_parameter_reached l s ps x (named.record_with us) v f h i = subst (λ u. Reached l (system_parameter l ps x u).1 ((x, scopes.permanent_variable (named.record_with us)) ∷ s) []) (sym h.is) (cell_reached l s ps x (named.record_with us) (types.Record h.number) refl (subst (TypeIs k l.types (named.record_with us)) h.is h) i)
   system_parameter_reached l s ps x (named.component_of n) v f h i = subst (λ u. Reached l (system_parameter l ps x u).1 ((x, scopes.permanent_variable (named.component_of n)) ∷ s) []) (sym h) (record { names = (refl, inr (inr (record { slot = l.owned.cells; system = n; is = refl; component = refl })), i); constants = sym (append-nil l.constants) })
 
-  system_parameter_types : (l : Layer) (ps : Parameters) (x : List ℕ) (v : ValueType) → (system_parameter l ps x v).1.types ≡ l.types
+  system_parameter_types : (l : Layer) (ps : Parameters) (x : List ℕ) (v : CellType) → (system_parameter l ps x v).1.types ≡ l.types
   system_parameter_types l ps x (types.Ordinal r) = refl
   system_parameter_types l ps x types.Queue = refl
   system_parameter_types l ps x (types.Set r) = refl
@@ -249,7 +249,7 @@ module _ (k : Numbering) where
   system_parameter_types l ps x (types.Record n) = refl
   system_parameter_types l ps x (types.System n) = refl
 
-  pub system_parameters_reached : (l : Layer) (s : Scope) (ps : Parameters) (t : Ty) (v : ValueType) (is : List Identifier) → IsParameter t → TypeIs k l.types t v → InStep k l.types l.names s → Reached l (system_parameters_of l ps v is).1 (with_names (names_of is) (scopes.permanent_variable t) s) []
+  pub system_parameters_reached : (l : Layer) (s : Scope) (ps : Parameters) (t : Ty) (v : CellType) (is : List Identifier) → IsParameter t → TypeIs k l.types t v → InStep k l.types l.names s → Reached l (system_parameters_of l ps v is).1 (with_names (names_of is) (scopes.permanent_variable t) s) []
   unfolding system_parameters_of
   system_parameters_reached l s ps t v [] f h i = reached_same l s i
   system_parameters_reached l s ps t v (x ∷ xs) f h i =

@@ -14,12 +14,12 @@ use Rattle.cp_tree.specs.declared.constant.Constant.{Constant}
 use Rattle.cp_tree.specs.declared.constant.ConstantKind.{ConstantKind}
 use Rattle.cp_tree.specs.declared.constant.ConstantKind.TheVariants as constant_kind
 use Rattle.cp_tree.specs.Syntax as syntax
-use Rattle.cp_slots.specs.declared.place.Origin.TheVariants as origin
-use Rattle.cp_layout.specs.declared.kinds.Base.{Base}
-use Rattle.cp_layout.specs.declared.kinds.Base.TheVariants as base
-use Rattle.cp_layout.specs.declared.kinds.Range.{Range}
-use Rattle.cp_layout.specs.declared.kinds.ValueType.{ValueType}
-use Rattle.cp_layout.specs.declared.kinds.ValueType.TheVariants as types
+use Rattle.cp_slots.specs.declared.place.PlaceOrigin.TheVariants as origin
+use Rattle.cp_layout.specs.declared.kinds.CellBase.{CellBase}
+use Rattle.cp_layout.specs.declared.kinds.CellBase.TheVariants as base
+use Rattle.cp_layout.specs.declared.kinds.CellRange.{CellRange}
+use Rattle.cp_layout.specs.declared.kinds.CellType.{CellType}
+use Rattle.cp_layout.specs.declared.kinds.CellType.TheVariants as types
 use Rattle.cp_layout.specs.declared.names.Meaning.{Meaning}
 use Rattle.cp_layout.specs.declared.names.Meaning.TheVariants as meaning
 use Rattle.cp_layout.specs.Kinds as kinds
@@ -75,7 +75,7 @@ sign_same (Some sign.Minus) z h = opposite z h
 module _ (k : Numbering) where
   -- ---- constants
 
-  abbrev pub ConstantIs : Base × ℤ → named.Base × ℤ → Type 0
+  abbrev pub ConstantIs : CellBase × ℤ → named.Base × ℤ → Type 0
   ConstantIs c d = (c ≡ (base_of k d.0, d.1)) × IsSmall d.1
 
   no_constant : (o : Option Sign) → ConstantIs (base.Integer, pos 0) (named.integers, meant.signed o (pos 0))
@@ -113,10 +113,10 @@ module _ (k : Numbering) where
   -- ---- names of types
 
   -- the latest types of a name, so far
-  abbrev Latest : Compounds → Scope → List ℕ → Option ValueType → Type 0
+  abbrev Latest : Compounds → Scope → List ℕ → Option CellType → Type 0
   Latest ts s x o = TypeIs k ts (meant.type_named s x) (laid.type_meant o)
 
-  either_type : (b : Bool) (ts : Compounds) (t u : Ty) (v : ValueType) (o : Option ValueType) → TypeIs k ts t v → TypeIs k ts u (laid.type_meant o) → TypeIs k ts (if b then t else u) (laid.type_meant (if b then Some v else o))
+  either_type : (b : Bool) (ts : Compounds) (t u : Ty) (v : CellType) (o : Option CellType) → TypeIs k ts t v → TypeIs k ts u (laid.type_meant o) → TypeIs k ts (if b then t else u) (laid.type_meant (if b then Some v else o))
   either_type true ts t u v o h i = h
   either_type false ts t u v o h i = i
 
@@ -149,7 +149,7 @@ module _ (k : Numbering) where
   -- ---- enumerations
 
   -- the constants have the numbers from n on
-  record Counted (l : Layer) (b : Base) (n : ℕ) (is : List Identifier) (s : Scope) : Type 0 where
+  record Counted (l : Layer) (b : CellBase) (n : ℕ) (is : List Identifier) (s : Scope) : Type 0 where
     names : InStep k l.types (enumerated l b n is).names s
     types : (enumerated l b n is).types ≡ l.types
     constants : (enumerated l b n is).constants ≡ l.constants ++ map (λ i. i.name) is
@@ -168,12 +168,12 @@ module _ (k : Numbering) where
 
   -- ---- types: what is laid out of one is the type, and the names after it are in step
 
-  pub record Written (l : Layer) (x : ValueType × Layer) (y : Ty × Scope) (es : List Enumerated) : Type 0 where
+  pub record Written (l : Layer) (x : CellType × Layer) (y : Ty × Scope) (es : List Enumerated) : Type 0 where
     pub belongs : TypeIs k x.1.types y.0 x.0
     pub names : InStep k x.1.types x.1.names y.1
     pub constants : x.1.constants ≡ l.constants ++ names_among es
 
-  range_same : (ts : Compounds) (t : Ty) (v : ValueType) → TypeIs k ts t v → laid.range_of v ≡ range_on k (named.range_of t)
+  range_same : (ts : Compounds) (t : Ty) (v : CellType) → TypeIs k ts t v → laid.range_of v ≡ range_on k (named.range_of t)
   range_same ts (named.ordinal s) v h = ap laid.range_of h
   range_same ts named.queue_type v h = ap laid.range_of h
   range_same ts (named.set_over s) v h = ap laid.range_of h
@@ -192,7 +192,7 @@ module _ (k : Numbering) where
       ∙ ap (λ z. base.Enumeration (k.firsts at) z) (small_natural (length is - 1) small)
       ∙ ap (λ n. base.Enumeration (k.firsts at) (pos (n - 1))) (sym (length-map is (λ i. i.name)))
 
-  enumeration_written : (l : Layer) (s : Scope) (at : ℕ) (is : List Identifier) (b : Base) → b ≡ base_of k (named.enumerated at (map (λ i. i.name) is)) → length is ≤ 32768 → InStep k l.types l.names s →
+  enumeration_written : (l : Layer) (s : Scope) (at : ℕ) (is : List Identifier) (b : CellBase) → b ≡ base_of k (named.enumerated at (map (λ i. i.name) is)) → length is ≤ 32768 → InStep k l.types l.names s →
       Written l (kinds.values_of b, enumerated l b 0 is) (meant.simple_in s (syntax.enumeration at is)) ((let e : Enumerated = record { at = at; names = is } in e) ∷ [])
   enumeration_written l s at is b e j h =
       let c : named.Base = named.enumerated at (map (λ i. i.name) is) in
@@ -248,7 +248,7 @@ module _ (k : Numbering) where
     fields : q.fields ≡ r.fields ++ new
     each : FieldsAre k ts us (new ++ tail) r.cells end
 
-  of_type : (ts : Compounds) (is : List Identifier) (t : Ty) (v : ValueType) (n : ℕ) (r : Fields) (us : named.FieldTypes) (tail : List Field) (end : ℕ) → TypeIs k ts t v → cells_of ts v ≡ n →
+  of_type : (ts : Compounds) (is : List Identifier) (t : Ty) (v : CellType) (n : ℕ) (r : Fields) (us : named.FieldTypes) (tail : List Field) (end : ℕ) → TypeIs k ts t v → cells_of ts v ≡ n →
       FieldsAre k ts us tail (fields_of_type r is v n).cells end → Fielded ts r (fields_of_type r is v n) (meant.more_of_type is t us) tail end
   unfolding fields_of_type
   of_type ts [] t v n r us tail end h c i = record { new = []; fields = sym (append-nil r.fields); each = i }
@@ -271,10 +271,10 @@ module _ (k : Numbering) where
     names : InStep k x.1.types x.1.names y.1
     constants : x.1.constants ≡ l.constants ++ names_among es
 
-  abbrev array_shape : ValueType → Range → ℕ → Option Compound
+  abbrev array_shape : CellType → CellRange → ℕ → Option Compound
   array_shape v r n = Some (array (record { index = r; element = v; element_cells = n; cells = times n (count_of r) }))
 
-  array_written : (l : Layer) (s : Scope) (y : ValueType × Layer) (r : Range) (index : named.Range) (t : Ty) (es : List Enumerated) → r ≡ range_on k index → Written l y (t, s) es → Written l (laid.with_array_type y.1 r y.0) (named.array_over index t, s) es
+  array_written : (l : Layer) (s : Scope) (y : CellType × Layer) (r : CellRange) (index : named.Range) (t : Ty) (es : List Enumerated) → r ≡ range_on k index → Written l y (t, s) es → Written l (laid.with_array_type y.1 r y.0) (named.array_over index t, s) es
   array_written l s y r index t es h w =
       let more : Compounds = array (array_type y.1.types r y.0) ∷ [] in
       record {
@@ -310,7 +310,7 @@ module _ (k : Numbering) where
       Grouped (written_type l t).1 (fields_of_type r is (written_type l t).0 (cells_of (written_type l t).1.types (written_type l t).0)) (field_groups (written_type l t).1 (fields_of_type r is (written_type l t).0 (cells_of (written_type l t).1.types (written_type l t).0)) gs) (meant.fields_in (meant.type_in s t).1 gs) (in_groups gs) →
       Grouped l r (field_groups (written_type l t).1 (fields_of_type r is (written_type l t).0 (cells_of (written_type l t).1.types (written_type l t).0)) gs) (meant.fields_in s (syntax.more_fields (syntax.fields is t) gs)) (in_type t ++ in_groups gs)
   with_group l s r is t gs w v =
-      let y : ValueType × Layer = written_type l t in
+      let y : CellType × Layer = written_type l t in
       let n : ℕ = cells_of y.1.types y.0 in
       let q : Fields = fields_of_type r is y.0 n in
       let z : Fields × Layer = field_groups y.1 q gs in
@@ -333,14 +333,14 @@ module _ (k : Numbering) where
     pub type_written : (l : Layer) (s : Scope) (t : syntax.TypeTerm) → IsSmallType t → AreNumbered k.firsts (length l.constants) (in_type t) → InStep k l.types l.names s → Written l (written_type l t) (meant.type_in s t) (in_type t)
     type_written l s (syntax.simple at t) h n i = simple_written l s t h n i
     type_written l s (syntax.array_of at t u) h n i =
-        let x : ValueType × Layer = simple_type l t in
+        let x : CellType × Layer = simple_type l t in
         let w : Written l x (meant.simple_in s t) (in_simple t) = simple_written l s t h.0 (numbered_left (length l.constants) (in_simple t) (in_type u) n) i in
-        let y : ValueType × Layer = written_type x.1 u in
+        let y : CellType × Layer = written_type x.1 u in
         let v : Written x.1 y (meant.type_in (meant.simple_in s t).1 u) (in_type u) = type_written x.1 (meant.simple_in s t).1 u h.1 (numbered_after l.constants x.1.constants (in_simple t) (in_type u) w.constants n) w.names in
         array_written l (meant.type_in (meant.simple_in s t).1 u).1 y (laid.range_of x.0) (named.range_of (meant.simple_in s t).0) (meant.type_in (meant.simple_in s t).1 u).0 (in_simple t ++ in_type u) (range_same x.1.types (meant.simple_in s t).0 x.0 w.belongs)
         (record { belongs = v.belongs; names = v.names; constants = constants_trans l.constants x.1.constants y.1.constants (in_simple t) (in_type u) w.constants v.constants })
     type_written l s (syntax.set_type at t) h n i =
-        let x : ValueType × Layer = simple_type l t in
+        let x : CellType × Layer = simple_type l t in
         let w : Written l x (meant.simple_in s t) (in_simple t) = simple_written l s t h n i in
         record { belongs = ap types.Set (range_same x.1.types (meant.simple_in s t).0 x.0 w.belongs); names = w.names; constants = w.constants }
     type_written l s (syntax.record_of at gs b) h n i = record_written l (field_groups l kinds.no_fields gs) (meant.fields_in s gs) (in_groups gs) (groups_written l s kinds.no_fields gs h n i)
@@ -348,7 +348,7 @@ module _ (k : Numbering) where
     groups_written : (l : Layer) (s : Scope) (r : Fields) (gs : syntax.FieldGroups) → AreSmallGroups gs → AreNumbered k.firsts (length l.constants) (in_groups gs) → InStep k l.types l.names s → Grouped l r (field_groups l r gs) (meant.fields_in s gs) (in_groups gs)
     groups_written l s r syntax.no_fields h n i = record { new = []; fields = sym (append-nil r.fields); each = (refl, refl); names = i; constants = sym (append-nil l.constants) }
     groups_written l s r (syntax.more_fields (syntax.fields is t) gs) h n i =
-        let y : ValueType × Layer = written_type l t in
+        let y : CellType × Layer = written_type l t in
         let w : Written l y (meant.type_in s t) (in_type t) = type_written l s t h.0 (numbered_left (length l.constants) (in_type t) (in_groups gs) n) i in
         let q : Fields = fields_of_type r is y.0 (cells_of y.1.types y.0) in
         with_group l s r is t gs w (groups_written y.1 (meant.type_in s t).1 q gs h.1 (numbered_after l.constants y.1.constants (in_type t) (in_groups gs) w.constants n) w.names)

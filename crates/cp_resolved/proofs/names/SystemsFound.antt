@@ -3,10 +3,10 @@ use Rattle.std.proofs.Common.{◌≡◌, ℕ, false, List, [], ◌∷◌, ◌++�
 use Rattle.std.proofs.lemmas.List.{append-nil}
 use Rattle.cp_tree.specs.declared.constant.Identifier.{Identifier}
 use Rattle.cp_tree.specs.Syntax as syntax
-use Rattle.cp_slots.specs.declared.place.Origin.TheVariants as origin
-use Rattle.cp_layout.specs.declared.kinds.ValueType.{ValueType}
-use Rattle.cp_layout.specs.declared.kinds.ValueType.TheVariants as types
-use Rattle.cp_layout.specs.declared.layer.Parameter as code_parameter
+use Rattle.cp_slots.specs.declared.place.PlaceOrigin.TheVariants as origin
+use Rattle.cp_layout.specs.declared.kinds.CellType.{CellType}
+use Rattle.cp_layout.specs.declared.kinds.CellType.TheVariants as types
+use Rattle.cp_layout.specs.declared.layer.ParameterLayout as code_parameter
 use Rattle.cp_layout.specs.declared.names.Meaning.{Meaning}
 use Rattle.cp_layout.specs.declared.names.Meaning.TheVariants as meaning
 use Rattle.cp_layout.specs.Kinds.{Compounds}
@@ -49,7 +49,7 @@ module _ (k : Numbering) where
   parameters_same ts f g (q ∷ qs) [] e h = absurd h
   parameters_same ts f g (q ∷ qs) (p ∷ ps) e h = (h.0 ∙ e.0, h.1, parameters_same ts f g qs ps e.1 h.2)
 
-  parameters_last : (ts : Compounds) (f : Name → ℕ) (qs : List Parameter) (ps : Parameters) (q : Parameter) (p : code_parameter.Parameter) → ParametersAre k ts f qs ps → p.slot ≡ f q.name → PassedBy k ts q.is_var q.ty p.passing → ParametersAre k ts f (qs ++ q ∷ []) (ps ++ p ∷ [])
+  parameters_last : (ts : Compounds) (f : Name → ℕ) (qs : List Parameter) (ps : Parameters) (q : Parameter) (p : code_parameter.ParameterLayout) → ParametersAre k ts f qs ps → p.slot ≡ f q.name → PassedBy k ts q.is_var q.ty p.passing → ParametersAre k ts f (qs ++ q ∷ []) (ps ++ p ∷ [])
   parameters_last ts f [] [] q p h e i = (e, i, tt)
   parameters_last ts f [] (r ∷ ps) q p h e i = absurd h
   parameters_last ts f (r ∷ qs) [] q p h e i = absurd h
@@ -64,21 +64,21 @@ module _ (k : Numbering) where
   abbrev Slots : Compounds → Names → List Parameter → Parameters → Type 0
   Slots ts ns qs ps = ParametersAre k ts (slots_in ns) qs ps
 
-  one_slot : (ts : Compounds) (ns : Names) (qs : List Parameter) (ps : Parameters) (q : Parameter) (p : code_parameter.Parameter) (m : Meaning) → p.slot ≡ slot_in (Some m) → PassedBy k ts q.is_var q.ty p.passing → Each (λ (r : Parameter). same_name r.name q.name ≡ false) qs → Slots ts ns qs ps →
+  one_slot : (ts : Compounds) (ns : Names) (qs : List Parameter) (ps : Parameters) (q : Parameter) (p : code_parameter.ParameterLayout) (m : Meaning) → p.slot ≡ slot_in (Some m) → PassedBy k ts q.is_var q.ty p.passing → Each (λ (r : Parameter). same_name r.name q.name ≡ false) qs → Slots ts ns qs ps →
       Slots ts ((q.name, m) ∷ ns) (qs ++ q ∷ []) (ps ++ p ∷ [])
   one_slot ts ns qs ps q p m slot passed others h =
       let ms : Names = (q.name, m) ∷ ns in
       parameters_last ts (slots_in ms) qs ps q p (parameters_same ts (slots_in ns) (slots_in ms) qs ps (slots_past qs q.name m ns others) h) (slot ∙ sym (ap slot_in (find_itself k q.name m ns))) passed
 
-  abbrev OneMore : Layer → Parameters → List Parameter → Name → Ty → ValueType → Type 0
+  abbrev OneMore : Layer → Parameters → List Parameter → Name → Ty → CellType → Type 0
   OneMore l ps qs x t v = Slots l.types (system_parameter l ps x v).1.names (qs ++ (let q : Parameter = record { name = x; ty = t; is_var = false } in q) ∷ []) (system_parameter l ps x v).0
 
-  cell_more : (l : Layer) (ps : Parameters) (qs : List Parameter) (x : Name) (t : Ty) (v : ValueType) → IsNoComponent t → TypeIs k l.types t v → Each (λ (r : Parameter). same_name r.name x ≡ false) qs → Slots l.types l.names qs ps →
+  cell_more : (l : Layer) (ps : Parameters) (qs : List Parameter) (x : Name) (t : Ty) (v : CellType) → IsNoComponent t → TypeIs k l.types t v → Each (λ (r : Parameter). same_name r.name x ≡ false) qs → Slots l.types l.names qs ps →
       Slots l.types (cell_parameter l ps x v).1.names (qs ++ (let q : Parameter = record { name = x; ty = t; is_var = false } in q) ∷ []) (cell_parameter l ps x v).0
   cell_more l ps qs x t v o h others f =
       one_slot l.types l.names qs ps (record { name = x; ty = t; is_var = false }) (value_parameter l.owned.cells v) (meaning.Variable (origin.Permanent l.owned.cells) v) refl (passed_value k l.types t v o h) others f
 
-  one_more : (l : Layer) (ps : Parameters) (qs : List Parameter) (x : Name) (t : Ty) (v : ValueType) → TypeIs k l.types t v → Each (λ (r : Parameter). same_name r.name x ≡ false) qs → Slots l.types l.names qs ps → OneMore l ps qs x t v
+  one_more : (l : Layer) (ps : Parameters) (qs : List Parameter) (x : Name) (t : Ty) (v : CellType) → TypeIs k l.types t v → Each (λ (r : Parameter). same_name r.name x ≡ false) qs → Slots l.types l.names qs ps → OneMore l ps qs x t v
   one_more l ps qs x (named.ordinal r) v h e f = subst (OneMore l ps qs x (named.ordinal r)) (sym h) (cell_more l ps qs x (named.ordinal r) (types.Ordinal (range_on k r)) tt refl e f)
   one_more l ps qs x named.queue_type v h e f = subst (OneMore l ps qs x named.queue_type) (sym h) (cell_more l ps qs x named.queue_type types.Queue tt refl e f)
   one_more l ps qs x (named.set_over r) v h e f = subst (OneMore l ps qs x (named.set_over r)) (sym h) (cell_more l ps qs x (named.set_over r) (types.Set (range_on k r)) tt refl e f)
@@ -89,7 +89,7 @@ module _ (k : Numbering) where
 
   -- ---- groups
 
-  one_types : (l : Layer) (ps : Parameters) (x : Name) (v : ValueType) → (system_parameter l ps x v).1.types ≡ l.types
+  one_types : (l : Layer) (ps : Parameters) (x : Name) (v : CellType) → (system_parameter l ps x v).1.types ≡ l.types
   one_types l ps x (types.Ordinal r) = refl
   one_types l ps x types.Queue = refl
   one_types l ps x (types.Set r) = refl
@@ -97,7 +97,7 @@ module _ (k : Numbering) where
   one_types l ps x (types.Record n) = refl
   one_types l ps x (types.System n) = refl
 
-  parameters_types : (l : Layer) (ps : Parameters) (v : ValueType) (is : List Identifier) → (system_parameters_of l ps v is).1.types ≡ l.types
+  parameters_types : (l : Layer) (ps : Parameters) (v : CellType) (is : List Identifier) → (system_parameters_of l ps v is).1.types ≡ l.types
   unfolding system_parameters_of
   parameters_types l ps v [] = refl
   parameters_types l ps v (i ∷ is) = parameters_types (system_parameter l ps i.name v).1 (system_parameter l ps i.name v).0 v is ∙ one_types l ps i.name v
@@ -107,7 +107,7 @@ module _ (k : Numbering) where
   groups_types l ps [] = refl
   groups_types l ps (g ∷ gs) = groups_types (system_group l ps g).1 (system_group l ps g).0 gs ∙ parameters_types l ps (named_type l g.type_name.name) g.names
 
-  parameters_found : (l : Layer) (ps : Parameters) (qs : List Parameter) (t : Ty) (v : ValueType) (is : List Identifier) → TypeIs k l.types t v → AreBeside qs (names_of is) → AreDistinct (names_of is) → Slots l.types l.names qs ps →
+  parameters_found : (l : Layer) (ps : Parameters) (qs : List Parameter) (t : Ty) (v : CellType) (is : List Identifier) → TypeIs k l.types t v → AreBeside qs (names_of is) → AreDistinct (names_of is) → Slots l.types l.names qs ps →
       Slots l.types (system_parameters_of l ps v is).1.names (qs ++ parameters_named (names_of is) t false) (system_parameters_of l ps v is).0
   unfolding system_parameters_of
   parameters_found l ps qs t v [] h beside distinct f = subst (λ rs. Slots l.types l.names rs ps) (sym (append-nil qs)) f
@@ -127,7 +127,7 @@ module _ (k : Numbering) where
   groups_found l ps h [] o i beside distinct f = f
   groups_found l ps h (g ∷ gs) o i beside distinct f =
       let t : Ty = type_named h.scope g.type_name.name in
-      let v : ValueType = named_type l g.type_name.name in
+      let v : CellType = named_type l g.type_name.name in
       let new : List Parameter = parameters_named (names_of g.names) t false in
       let rest : List Name = all_names (λ (g : syntax.Group). names_of g.names) gs in
       let x : Parameters × Layer = system_group l ps g in

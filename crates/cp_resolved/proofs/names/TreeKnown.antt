@@ -4,11 +4,11 @@ use Rattle.std.specs.Prelude.{◌⊎◌}
 use Rattle.std.proofs.lemmas.Option.{none-some, same_Some}
 use Rattle.std.proofs.lemmas.Slice.Eq.{bytes_eq-Decides}
 use Rattle.cp_tree.specs.Syntax as syntax
-use Rattle.cp_slots.specs.declared.place.Origin.{Origin}
-use Rattle.cp_slots.specs.declared.place.Origin.TheVariants as origin
+use Rattle.cp_slots.specs.declared.place.PlaceOrigin.{PlaceOrigin}
+use Rattle.cp_slots.specs.declared.place.PlaceOrigin.TheVariants as origin
 use Rattle.cp_layout.specs.declared.kinds.ArrayType.{ArrayType}
-use Rattle.cp_layout.specs.declared.kinds.ValueType.{ValueType}
-use Rattle.cp_layout.specs.declared.kinds.ValueType.TheVariants as types
+use Rattle.cp_layout.specs.declared.kinds.CellType.{CellType}
+use Rattle.cp_layout.specs.declared.kinds.CellType.TheVariants as types
 use Rattle.cp_layout.specs.declared.names.Meaning.{Meaning}
 use Rattle.cp_layout.specs.declared.names.Meaning.TheVariants as meaning
 use Rattle.cp_layout.specs.Kinds.{array}
@@ -84,9 +84,9 @@ module _ (t : syntax.Tree) (place : IsPlaced t) (n : ℕ) (l : Layer) (o : Openi
 
   -- ---- names
 
-  frame_is : (x : Name) (p : Origin) (v : ValueType) → layers.find x l.names ≡ Some (meaning.Variable p v) → (frame_here h).origins x ≡ p
+  frame_is : (x : Name) (p : PlaceOrigin) (v : CellType) → layers.find x l.names ≡ Some (meaning.Variable p v) → (frame_here h).origins x ≡ p
   frame_is x p v e =
-      let other : Origin = hidden_origin (begun_at t n) (all_calls_laid (meaning_at t.program n).scope (meaning_at t.program n).body) x in
+      let other : PlaceOrigin = hidden_origin (begun_at t n) (all_calls_laid (meaning_at t.program n).scope (meaning_at t.program n).body) x in
       ap (λ (m : Layer). origin_in other (layers.find x m.names)) begun_is ∙ ap (origin_in other) e
 
   in_system : (A : Type 0) (f : Option Meaning → A) (x : Name) (m : Meaning) → layers.find x b.around.names ≡ Some m → f (layers.find x (parts_at t h.system).names) ≡ f (Some m)

@@ -2,7 +2,7 @@
 use Rattle.std.proofs.Common.{◌≡◌, ℕ, zero, suc, ◌+◌, ◌-◌, ◌*◌, ◌^◌, ◌<◌, ◌≤◌, min, List, [], ◌∷◌, map, length, Option, Some, None, slice_get, slice_index_or, refl, sym, ap, ◌∙◌, ◌⊎◌, inl, inr, arith}
 use Rattle.std.proofs.lemmas.Option.{none-some, same_Some, slice_get_within}
 use Rattle.cp_slots.specs.declared.item.Item as code_item
-use Rattle.cp_slots.specs.declared.item.Arm as code_arm
+use Rattle.cp_slots.specs.declared.item.ResolvedArm as code_arm
 use Rattle.cp_slots.specs.declared.item.Action as code_action
 use Rattle.cp_slots.specs.declared.item.Action.TheVariants as action
 use Rattle.cp_slots.specs.declared.place.Argument as code_argument
@@ -87,7 +87,7 @@ module _ (t : Tables) (l : Layer) (s : Shows t l) (w : Whole l) where
         let f : (item_at t at).need ≤ need_of l.items (Some at) = g.fits in
         (omega (arith, b, le), record { place = g.place; same = g.same; fits = omega (arith, b, le, f) })
 
-    arms : (r n : ℕ) (as' : List code_arm.Arm) → ArmsFit l.items r n (map arm_seen as') → fits.ArmsFit t r n as'
+    arms : (r n : ℕ) (as' : List code_arm.ResolvedArm) → ArmsFit l.items r n (map arm_seen as') → fits.ArmsFit t r n as'
     arms r n [] h k d lt = absurd (omega arith)
     arms r n (a ∷ as') h zero d lt = inner r n a.body h.0
     arms r n (a ∷ as') h (suc k) d lt = arms r n as' h.1 k d (omega arith)

@@ -4,9 +4,9 @@ use Rattle.std.specs.Str.{bytes_eq}
 use Rattle.std.proofs.lemmas.Slice.Eq.{bytes_eq-Decides}
 use Rattle.cp_tree.specs.declared.constant.Identifier.{Identifier}
 use Rattle.cp_tree.specs.Syntax as syntax
-use Rattle.cp_slots.specs.declared.place.Origin.TheVariants.{Permanent}
-use Rattle.cp_layout.specs.declared.kinds.ValueType.{ValueType}
-use Rattle.cp_layout.specs.declared.kinds.ValueType.TheVariants as types
+use Rattle.cp_slots.specs.declared.place.PlaceOrigin.TheVariants.{Permanent}
+use Rattle.cp_layout.specs.declared.kinds.CellType.{CellType}
+use Rattle.cp_layout.specs.declared.kinds.CellType.TheVariants as types
 use Rattle.cp_layout.specs.declared.names.Meaning.{Meaning}
 use Rattle.cp_layout.specs.declared.names.Meaning.TheVariants as meaning
 use Rattle.cp_slots.specs.declared.tables.ComponentParameter.{ComponentParameter}
@@ -129,7 +129,7 @@ AreBoundAt l qs = AreBound l.owned.parameters qs l.names
 abbrev value_named : Name → Ty → Parameter
 value_named x t = record { name = x; ty = t; is_var = false }
 
-parameter_types : (l : Layer) (ps : Parameters) (x : List ℕ) (v : ValueType) → (system_parameter l ps x v).1.types ≡ l.types
+parameter_types : (l : Layer) (ps : Parameters) (x : List ℕ) (v : CellType) → (system_parameter l ps x v).1.types ≡ l.types
 parameter_types l ps x (types.System j) = refl
 parameter_types l ps x (types.Ordinal r) = refl
 parameter_types l ps x types.Queue = refl
@@ -138,7 +138,7 @@ parameter_types l ps x (types.Array n) = refl
 parameter_types l ps x (types.Record n) = refl
 
 module _ (k : Numbering) where
-  one_bound : (l : Layer) (ps : Parameters) (x : Name) (t : Ty) (v : ValueType) (qs : List Parameter) → TypeIs k l.types t v → AreBoundAt l qs → AreBoundAt (system_parameter l ps x v).1 (qs ++ value_named x t ∷ [])
+  one_bound : (l : Layer) (ps : Parameters) (x : Name) (t : Ty) (v : CellType) (qs : List Parameter) → TypeIs k l.types t v → AreBoundAt l qs → AreBoundAt (system_parameter l ps x v).1 (qs ++ value_named x t ∷ [])
   one_bound l ps x (named.component_of n) v qs i h = subst (λ u. AreBoundAt (system_parameter l ps x u).1 (qs ++ value_named x (named.component_of n) ∷ [])) (sym i) (component_bound l.owned.parameters qs (value_named x (named.component_of n)) l.owned.cells n l.names refl h)
   one_bound l ps x (named.ordinal s) v qs i h = subst (λ u. AreBoundAt (system_parameter l ps x u).1 (qs ++ value_named x (named.ordinal s) ∷ [])) (sym i) (value_bound l.owned.parameters qs (value_named x (named.ordinal s)) (meaning.Variable (Permanent l.owned.cells) (types.Ordinal (range_on k s))) l.names tt refl h)
   one_bound l ps x named.queue_type v qs i h = subst (λ u. AreBoundAt (system_parameter l ps x u).1 (qs ++ value_named x named.queue_type ∷ [])) (sym i) (value_bound l.owned.parameters qs (value_named x named.queue_type) (meaning.Variable (Permanent l.owned.cells) types.Queue) l.names tt refl h)
@@ -148,7 +148,7 @@ module _ (k : Numbering) where
   one_bound l ps x (named.record_with us) v qs i h =
       subst (λ w. AreBoundAt (system_parameter l ps x w).1 (qs ++ value_named x (named.record_with us) ∷ [])) (sym i.is) (value_bound l.owned.parameters qs (value_named x (named.record_with us)) (meaning.Variable (Permanent l.owned.cells) (types.Record i.number)) l.names tt refl h)
 
-  parameters_bound : (l : Layer) (ps : Parameters) (t : Ty) (v : ValueType) (is : List Identifier) (qs : List Parameter) → TypeIs k l.types t v → AreBoundAt l qs → AreBoundAt (system_parameters_of l ps v is).1 (qs ++ parameters_named (names_of is) t false)
+  parameters_bound : (l : Layer) (ps : Parameters) (t : Ty) (v : CellType) (is : List Identifier) (qs : List Parameter) → TypeIs k l.types t v → AreBoundAt l qs → AreBoundAt (system_parameters_of l ps v is).1 (qs ++ parameters_named (names_of is) t false)
   unfolding system_parameters_of
   parameters_bound l ps t v [] qs i h = subst (λ us. AreBoundAt l us) (sym (append-nil qs)) h
   parameters_bound l ps t v (x ∷ xs) qs i h =

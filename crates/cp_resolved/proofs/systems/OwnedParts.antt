@@ -2,8 +2,8 @@
 use Rattle.std.proofs.Common.{◌≡◌, ℕ, ◌<◌, true, List, [], ◌∷◌, ◌++◌, length, Some, slice_get, refl, sym, ap, subst, ◌∙◌, ◌⊎◌, inl, inr, append_assoc, append-nil, arith, length-append}
 use Rattle.std.specs.Str.{bytes_eq}
 use Rattle.std.proofs.lemmas.Slice.Eq.{bytes_eq-Decides}
-use Rattle.cp_slots.specs.declared.place.Origin.TheVariants.{Permanent}
-use Rattle.cp_layout.specs.declared.kinds.ValueType.{ValueType}
+use Rattle.cp_slots.specs.declared.place.PlaceOrigin.TheVariants.{Permanent}
+use Rattle.cp_layout.specs.declared.kinds.CellType.{CellType}
 use Rattle.cp_layout.specs.declared.layer.Contained.{Contained}
 use Rattle.cp_layout.specs.declared.layer.Content.{Content}
 use Rattle.cp_layout.specs.declared.layer.Content.TheVariants as content
@@ -52,7 +52,7 @@ cells_after ts n (c ∷ cs) = cells_after ts (plus n (content_cells ts c)) cs
 -- ---- what names lead to
 
 -- a variable lies at a cell
-pub record SlotIs (ts : Compounds) (cs : List Content) (n : ℕ) (v : ValueType) : Type 0 where
+pub record SlotIs (ts : Compounds) (cs : List Content) (n : ℕ) (v : CellType) : Type 0 where
   pub before : List Content
   pub after : List Content
   pub is : cs ≡ before ++ content.Variable v ∷ after
@@ -68,10 +68,10 @@ pub record FirstIs (ss : List System) (vs : List Variable) (x : Name) (n : ℕ) 
   pub first : n ≡ count_after ss 1 (all_contained before)
 
 abbrev pub SlotsAre : Compounds → List Content → Names → Type 0
-SlotsAre ts cs ns = (x : Name) (n : ℕ) (v : ValueType) → find x ns ≡ Some (meaning.Variable (Permanent n) v) → SlotIs ts cs n v
+SlotsAre ts cs ns = (x : Name) (n : ℕ) (v : CellType) → find x ns ≡ Some (meaning.Variable (Permanent n) v) → SlotIs ts cs n v
 
 abbrev pub FirstsAre : List System → List Variable → Names → Type 0
-FirstsAre ss vs ns = (x : Name) (n : ℕ) (v : ValueType) → find x ns ≡ Some (meaning.Contained n v) → FirstIs ss vs x n
+FirstsAre ss vs ns = (x : Name) (n : ℕ) (v : CellType) → find x ns ≡ Some (meaning.Contained n v) → FirstIs ss vs x n
 
 abbrev pub AreLow : ℕ → List Contained → Type 0
 AreLow s cs = Each (λ (c : Contained). c.system < s) cs
@@ -160,7 +160,7 @@ module _ (k : Numbering) where
       higher [] g = tt
       higher (c ∷ cs) g = (let lt : c.system < length ss = g.0 in let e = length-append ss extra in omega (arith, lt, e), higher cs g.1)
 
-      slot_grown : (n : ℕ) (v : ValueType) → SlotIs ts o.contents n v → SlotIs (ts ++ more) o.contents n v
+      slot_grown : (n : ℕ) (v : CellType) → SlotIs ts o.contents n v → SlotIs (ts ++ more) o.contents n v
       slot_grown n v g =
           record {
             before = g.before;
@@ -184,12 +184,12 @@ module _ (k : Numbering) where
     abbrev more_cells : Content → Owned
     more_cells c = record o { cells = plus o.cells (content_cells ts c); contents = o.contents ++ c ∷ [] }
 
-    slot_before : (c : Content) (n : ℕ) (v : ValueType) → SlotIs ts o.contents n v → SlotIs ts (o.contents ++ c ∷ []) n v
+    slot_before : (c : Content) (n : ℕ) (v : CellType) → SlotIs ts o.contents n v → SlotIs ts (o.contents ++ c ∷ []) n v
     slot_before c n v g =
         record { before = g.before; after = g.after ++ c ∷ []; is = ap (λ cs. cs ++ c ∷ []) g.is ∙ append_assoc g.before (content.Variable v ∷ g.after) (c ∷ []); slot = g.slot }
 
     -- a name with other cells
-    other_cells : (x : Name) (m : Meaning) (c : Content) → ContentIs ts c → ((n : ℕ) (v : ValueType) → m ≡ meaning.Variable (Permanent n) v → SlotIs ts (o.contents ++ c ∷ []) n v) → ((n : ℕ) (v : ValueType) → m ≡ meaning.Contained n v → ⊥) → Owns ts ss ((x, m) ∷ ns) (more_cells c) vs
+    other_cells : (x : Name) (m : Meaning) (c : Content) → ContentIs ts c → ((n : ℕ) (v : CellType) → m ≡ meaning.Variable (Permanent n) v → SlotIs ts (o.contents ++ c ∷ []) n v) → ((n : ℕ) (v : CellType) → m ≡ meaning.Contained n v → ⊥) → Owns ts ss ((x, m) ∷ ns) (more_cells c) vs
     other_cells x m c i f g =
         record {
           contained = h.contained;
@@ -201,22 +201,22 @@ module _ (k : Numbering) where
           firsts = λ y n v e. first n v y (found_cases (x, m) ns y (meaning.Contained n v) e);
         }
       where
-        slot : (n : ℕ) (v : ValueType) (y : Name) → ((bytes_eq x y ≡ true) × (m ≡ meaning.Variable (Permanent n) v)) ⊎ (find y ns ≡ Some (meaning.Variable (Permanent n) v)) → SlotIs ts (o.contents ++ c ∷ []) n v
+        slot : (n : ℕ) (v : CellType) (y : Name) → ((bytes_eq x y ≡ true) × (m ≡ meaning.Variable (Permanent n) v)) ⊎ (find y ns ≡ Some (meaning.Variable (Permanent n) v)) → SlotIs ts (o.contents ++ c ∷ []) n v
         slot n v y (inl w) = f n v w.1
         slot n v y (inr e) = slot_before c n v (h.slots y n v e)
 
-        first : (n : ℕ) (v : ValueType) (y : Name) → ((bytes_eq x y ≡ true) × (m ≡ meaning.Contained n v)) ⊎ (find y ns ≡ Some (meaning.Contained n v)) → FirstIs ss vs y n
+        first : (n : ℕ) (v : CellType) (y : Name) → ((bytes_eq x y ≡ true) × (m ≡ meaning.Contained n v)) ⊎ (find y ns ≡ Some (meaning.Contained n v)) → FirstIs ss vs y n
         first n v y (inl w) = absurd (g n v w.1)
         first n v y (inr e) = h.firsts y n v e
 
-    own_slot : (v : ValueType) (n : ℕ) (u : ValueType) → meaning.Variable (Permanent o.cells) v ≡ meaning.Variable (Permanent n) u → SlotIs ts (o.contents ++ content.Variable v ∷ []) n u
+    own_slot : (v : CellType) (n : ℕ) (u : CellType) → meaning.Variable (Permanent o.cells) v ≡ meaning.Variable (Permanent n) u → SlotIs ts (o.contents ++ content.Variable v ∷ []) n u
     own_slot v n u e =
         let a : o.cells ≡ n = (let w : meaning.Variable (Permanent o.cells) v ≡ meaning.Variable (Permanent n) u = e in cc) in
         let b : v ≡ u = (let w : meaning.Variable (Permanent o.cells) v ≡ meaning.Variable (Permanent n) u = e in cc) in
         record { before = o.contents; after = []; is = ap (λ w. o.contents ++ content.Variable w ∷ []) b; slot = sym a ∙ h.cells }
 
     -- one more variable or parameter with cells
-    pub owns_cells : (x : Name) (t : Ty) (v : ValueType) → TypeIs k ts t v → Owns ts ss ((x, meaning.Variable (Permanent o.cells) v) ∷ ns) (more_cells (content.Variable v)) vs
+    pub owns_cells : (x : Name) (t : Ty) (v : CellType) → TypeIs k ts t v → Owns ts ss ((x, meaning.Variable (Permanent o.cells) v) ∷ ns) (more_cells (content.Variable v)) vs
     owns_cells x t v i = other_cells x (meaning.Variable (Permanent o.cells) v) (content.Variable v) (t, i) (own_slot v) (λ n u e. cc)
 
     -- a parameter that is a component
@@ -247,7 +247,7 @@ module _ (k : Numbering) where
         }
 
     -- one more that is
-    pub owns_components : (w : Variable) (v : ValueType) (c : Contained) → contained_of w.ty ≡ c ∷ [] → c.system < length ss →
+    pub owns_components : (w : Variable) (v : CellType) (c : Contained) → contained_of w.ty ≡ c ∷ [] → c.system < length ss →
         Owns ts ss ((w.name, meaning.Contained o.count v) ∷ ns) (let p : Owned = record o { count = plus o.count (times (count_in (slice_get ss c.system)) c.count); contained = o.contained ++ c ∷ [] } in p) (vs ++ w ∷ [])
     owns_components w v c e lt =
         let more : all_contained (vs ++ w ∷ []) ≡ all_contained vs ++ c ∷ [] = one_contained w ∙ ap (λ cs. all_contained vs ++ cs) e in
@@ -261,11 +261,11 @@ module _ (k : Numbering) where
           firsts = λ y n u f. first n u y (found_cases (w.name, meaning.Contained o.count v) ns y (meaning.Contained n u) f);
         }
       where
-        slot : (n : ℕ) (u : ValueType) (y : Name) → ((bytes_eq w.name y ≡ true) × (meaning.Contained o.count v ≡ meaning.Variable (Permanent n) u)) ⊎ (find y ns ≡ Some (meaning.Variable (Permanent n) u)) → SlotIs ts o.contents n u
+        slot : (n : ℕ) (u : CellType) (y : Name) → ((bytes_eq w.name y ≡ true) × (meaning.Contained o.count v ≡ meaning.Variable (Permanent n) u)) ⊎ (find y ns ≡ Some (meaning.Variable (Permanent n) u)) → SlotIs ts o.contents n u
         slot n u y (inl f) = absurd (let g : meaning.Contained o.count v ≡ meaning.Variable (Permanent n) u = f.1 in cc)
         slot n u y (inr f) = h.slots y n u f
 
-        first : (n : ℕ) (u : ValueType) (y : Name) → ((bytes_eq w.name y ≡ true) × (meaning.Contained o.count v ≡ meaning.Contained n u)) ⊎ (find y ns ≡ Some (meaning.Contained n u)) → FirstIs ss (vs ++ w ∷ []) y n
+        first : (n : ℕ) (u : CellType) (y : Name) → ((bytes_eq w.name y ≡ true) × (meaning.Contained o.count v ≡ meaning.Contained n u)) ⊎ (find y ns ≡ Some (meaning.Contained n u)) → FirstIs ss (vs ++ w ∷ []) y n
         first n u y (inl f) =
             let a : o.count ≡ n = (let g : meaning.Contained o.count v ≡ meaning.Contained n u = f.1 in cc) in
             record { before = vs; variable = w; after = []; is = refl; name = (bytes_eq-Decides w.name y).0 f.0; first = sym a ∙ h.count }

@@ -5,9 +5,9 @@ use Rattle.std.specs.Str.{bytes_eq}
 use Rattle.std.proofs.lemmas.Option.{none-some, same_Some}
 use Rattle.cp_tree.specs.declared.constant.Identifier.{Identifier}
 use Rattle.cp_tree.specs.Syntax as syntax
-use Rattle.cp_slots.specs.declared.place.Origin.TheVariants as origin
-use Rattle.cp_layout.specs.declared.kinds.ValueType.{ValueType}
-use Rattle.cp_layout.specs.declared.kinds.ValueType.TheVariants as types
+use Rattle.cp_slots.specs.declared.place.PlaceOrigin.TheVariants as origin
+use Rattle.cp_layout.specs.declared.kinds.CellType.{CellType}
+use Rattle.cp_layout.specs.declared.kinds.CellType.TheVariants as types
 use Rattle.cp_layout.specs.declared.layer.Contained.{Contained}
 use Rattle.cp_layout.specs.declared.names.Meaning.{Meaning}
 use Rattle.cp_layout.specs.declared.names.Meaning.TheVariants as meaning
@@ -191,7 +191,7 @@ pub record IsFirst (ws : List Variable) (v : Variable) : Type 0 where
   pub other : look v.name ws ≡ None
   pub few : cells_of v.ty ≤ most
 
-variable_holds : (ws : List Variable) (x : Name) (t : Ty) (v : ValueType) (n : ℕ) → look x ws ≡ None → n ≡ min (taken ws) most → (y : Name) → bytes_eq x y ≡ true → Holds (ws ++ one_variable x t ∷ []) y (meaning.Variable (origin.Permanent n) v)
+variable_holds : (ws : List Variable) (x : Name) (t : Ty) (v : CellType) (n : ℕ) → look x ws ≡ None → n ≡ min (taken ws) most → (y : Name) → bytes_eq x y ≡ true → Holds (ws ++ one_variable x t ∷ []) y (meaning.Variable (origin.Permanent n) v)
 variable_holds ws x t v n new e y same =
     let turned : same_name y x ≡ true = bytes_turned y x ∙ same in
     let absent : look y ws ≡ None = ap (λ z. look z ws) (same_is y x turned) ∙ new in
@@ -218,7 +218,7 @@ pub width_plain : (t : Ty) → has_components t ≡ false → width t ≡ cells_
 width_plain = plain_width
 
 module _ (k : Numbering) where
-  cell_owns : (l : Layer) (x : Name) (t : Ty) (v : ValueType) (ws : List Variable) → has_components t ≡ false → TypeIs k l.types t v → IsFirst ws (one_variable x t) → Owns l ws → Owns (cell_variable l x v).1 (ws ++ one_variable x t ∷ [])
+  cell_owns : (l : Layer) (x : Name) (t : Ty) (v : CellType) (ws : List Variable) → has_components t ≡ false → TypeIs k l.types t v → IsFirst ws (one_variable x t) → Owns l ws → Owns (cell_variable l x v).1 (ws ++ one_variable x t ∷ [])
   cell_owns l x t v ws w i new h =
       record {
         cells = more_cells ws x t l.owned.cells (kinds.cells_of l.types v) h.cells (cells_same k l.types t v i new.few ∙ sym (plain_width t w));
@@ -227,7 +227,7 @@ module _ (k : Numbering) where
 
   -- ---- variables
 
-  with_owns : (l : Layer) (x : Name) (t : Ty) (v : ValueType) (o : Option Contained) (ws : List Variable) → o ≡ components_of l.types v → TypeIs k l.types t v → ComponentsAre k l.types t v → (has_components t ≡ false → IsFirst ws (one_variable x t)) → Owns l ws →
+  with_owns : (l : Layer) (x : Name) (t : Ty) (v : CellType) (o : Option Contained) (ws : List Variable) → o ≡ components_of l.types v → TypeIs k l.types t v → ComponentsAre k l.types t v → (has_components t ≡ false → IsFirst ws (one_variable x t)) → Owns l ws →
       Owns (variable_with l x v o) (ws ++ components_among false (one_variable x t ∷ []))
   with_owns l x t v None ws e i (inl c) new h = subst (λ us. Owns (cell_variable l x v).1 (ws ++ us)) (sym (ap (λ b. if b then [] else one_variable x t ∷ []) c.0)) (cell_owns l x t v ws c.0 i (new c.0) h)
   with_owns l x t v None ws e i (inr c) new h = absurd (let w : None ≡ Some c.0 = e ∙ c.2 in cc)
@@ -252,11 +252,11 @@ module _ (k : Numbering) where
   follow_right ws [] us h = subst (λ xs. Follow xs us) (sym (append-nil ws)) h
   follow_right ws (v ∷ vs) us h = subst (λ xs. Follow xs us) (one_and_more ws v vs) (follow_right (ws ++ components_among false (v ∷ [])) vs us h.1)
 
-  variable_types : (l : Layer) (x : List ℕ) (v : ValueType) (o : Option Contained) → (variable_with l x v o).types ≡ l.types
+  variable_types : (l : Layer) (x : List ℕ) (v : CellType) (o : Option Contained) → (variable_with l x v o).types ≡ l.types
   variable_types l x v None = refl
   variable_types l x v (Some c) = refl
 
-  variables_of_own : (l : Layer) (t : Ty) (v : ValueType) (is : List Identifier) (ws : List Variable) → TypeIs k l.types t v → Follow ws (named_variables (names_of is) t) → Owns l ws → Owns (variables_of l v is) (ws ++ components_among false (named_variables (names_of is) t))
+  variables_of_own : (l : Layer) (t : Ty) (v : CellType) (is : List Identifier) (ws : List Variable) → TypeIs k l.types t v → Follow ws (named_variables (names_of is) t) → Owns l ws → Owns (variables_of l v is) (ws ++ components_among false (named_variables (names_of is) t))
   unfolding variables_of
   variables_of_own l t v [] ws i f h = subst (λ us. Owns l us) (sym (append-nil ws)) h
   variables_of_own l t v (x ∷ xs) ws i f h =
@@ -274,7 +274,7 @@ module _ (k : Numbering) where
   variables_own l b [] pre s n i f h = h
   variables_own l b (g ∷ gs) pre s n i f h =
       let fs : List Enumerated = each_in (λ (g : syntax.VariableGroup). in_type g.variable_type) gs in
-      let v : ValueType × Layer = written_type l g.variable_type in
+      let v : CellType × Layer = written_type l g.variable_type in
       let y : Ty × Scope = meant.type_in b.scope g.variable_type in
       let w : Written k l v y (in_type g.variable_type) = type_written k l b.scope g.variable_type s.0 (numbered_left k (length l.constants) (in_type g.variable_type) fs n) i in
       let m : Layer = variable_group l g in
@@ -318,7 +318,7 @@ module _ (k : Numbering) where
   firsts_right ws [] us h = subst (λ xs. Firsts xs us) (sym (append-nil ws)) h
   firsts_right ws (v ∷ vs) us h = subst (λ xs. Firsts xs us) (append_assoc ws (v ∷ []) vs) (firsts_right (ws ++ v ∷ []) vs us h.1)
 
-  parameter_owns : (l : Layer) (ps : Parameters) (x : Name) (t : Ty) (v : ValueType) (ws : List Variable) → IsParameter t → TypeIs k l.types t v → IsFirst ws (one_variable x t) → Owns l ws → Owns (system_parameter l ps x v).1 (ws ++ one_variable x t ∷ [])
+  parameter_owns : (l : Layer) (ps : Parameters) (x : Name) (t : Ty) (v : CellType) (ws : List Variable) → IsParameter t → TypeIs k l.types t v → IsFirst ws (one_variable x t) → Owns l ws → Owns (system_parameter l ps x v).1 (ws ++ one_variable x t ∷ [])
   parameter_owns l ps x (named.ordinal r) v ws p i new h = subst (λ u. Owns (system_parameter l ps x u).1 (ws ++ one_variable x (named.ordinal r) ∷ [])) (sym i) (cell_owns l x (named.ordinal r) (types.Ordinal (range_on k r)) ws refl refl new h)
   parameter_owns l ps x named.queue_type v ws p i new h = subst (λ u. Owns (system_parameter l ps x u).1 (ws ++ one_variable x named.queue_type ∷ [])) (sym i) (cell_owns l x named.queue_type types.Queue ws refl refl new h)
   parameter_owns l ps x (named.set_over r) v ws p i new h = subst (λ u. Owns (system_parameter l ps x u).1 (ws ++ one_variable x (named.set_over r) ∷ [])) (sym i) (cell_owns l x (named.set_over r) (types.Set (range_on k r)) ws refl refl new h)
@@ -330,7 +330,7 @@ module _ (k : Numbering) where
       subst (λ u. Owns (system_parameter l ps x u).1 (ws ++ one_variable x (named.component_of n) ∷ [])) (sym i)
       (record { cells = more_cells ws x (named.component_of n) l.owned.cells 1 h.cells refl; holding = holding_variable (ws ++ one_variable x (named.component_of n) ∷ []) x (meaning.Bound l.owned.cells n) l.names (bound_holds ws x (named.component_of n) l.owned.cells n new.other h.cells) (holding_more ws (one_variable x (named.component_of n) ∷ []) l.names h.holding) })
 
-  system_parameter_types : (l : Layer) (ps : Parameters) (x : List ℕ) (v : ValueType) → (system_parameter l ps x v).1.types ≡ l.types
+  system_parameter_types : (l : Layer) (ps : Parameters) (x : List ℕ) (v : CellType) → (system_parameter l ps x v).1.types ≡ l.types
   system_parameter_types l ps x (types.Ordinal r) = refl
   system_parameter_types l ps x types.Queue = refl
   system_parameter_types l ps x (types.Set r) = refl
@@ -338,7 +338,7 @@ module _ (k : Numbering) where
   system_parameter_types l ps x (types.Record n) = refl
   system_parameter_types l ps x (types.System n) = refl
 
-  parameters_own : (l : Layer) (ps : Parameters) (t : Ty) (v : ValueType) (is : List Identifier) (ws : List Variable) → IsParameter t → TypeIs k l.types t v → Firsts ws (named_variables (names_of is) t) → Owns l ws → Owns (system_parameters_of l ps v is).1 (ws ++ named_variables (names_of is) t)
+  parameters_own : (l : Layer) (ps : Parameters) (t : Ty) (v : CellType) (is : List Identifier) (ws : List Variable) → IsParameter t → TypeIs k l.types t v → Firsts ws (named_variables (names_of is) t) → Owns l ws → Owns (system_parameters_of l ps v is).1 (ws ++ named_variables (names_of is) t)
   unfolding system_parameters_of
   parameters_own l ps t v [] ws p i f h = subst (λ us. Owns l us) (sym (append-nil ws)) h
   parameters_own l ps t v (x ∷ xs) ws p i f h =
@@ -359,7 +359,7 @@ module _ (k : Numbering) where
       let t : Ty = meant.type_named j.scope g.type_name.name in
       let xs : List Name = names_of g.names in
       let qs : List Variable = parameter_variables j.parameters in
-      let v : ValueType = laid.named_type l g.type_name.name in
+      let v : CellType = laid.named_type l g.type_name.name in
       let is : TypeIs k l.types t v = named_type_same k l j.scope g.type_name.name i in
       let a : Reached k l x.1 c.scope [] = system_parameters_reached k l j.scope ps t v g.names p.0 is i in
       let e : parameter_variables c.parameters ≡ qs ++ named_variables xs t = variables_append j.parameters (parameters_named xs t false) ∙ ap (λ us. qs ++ us) (named_parameters xs t false) in

@@ -3,9 +3,9 @@ use Rattle.std.proofs.Common.{◌≡◌, ℕ, ◌<◌, List, [], ◌∷◌, ◌+
 use Rattle.std.proofs.lemmas.Option.{none-some, same_Some}
 use Rattle.cp_tree.specs.declared.constant.Identifier.{Identifier}
 use Rattle.cp_tree.specs.Syntax as syntax
-use Rattle.cp_slots.specs.declared.place.Origin.TheVariants.{Permanent}
-use Rattle.cp_layout.specs.declared.kinds.ValueType.{ValueType}
-use Rattle.cp_layout.specs.declared.kinds.ValueType.TheVariants as types
+use Rattle.cp_slots.specs.declared.place.PlaceOrigin.TheVariants.{Permanent}
+use Rattle.cp_layout.specs.declared.kinds.CellType.{CellType}
+use Rattle.cp_layout.specs.declared.kinds.CellType.TheVariants as types
 use Rattle.cp_layout.specs.declared.layer.Contained.{Contained}
 use Rattle.cp_layout.specs.declared.names.Meaning.{Meaning}
 use Rattle.cp_layout.specs.declared.names.Meaning.TheVariants as meaning
@@ -37,20 +37,20 @@ use Rattle.cp_resolved.proofs.names.StepsOfTypes.{Written, named_type_same, type
 
 -- ---- the components of a type
 
-record One (ts : Compounds) (s : ℕ) (t : Ty) (v : ValueType) : Type 0 where
+record One (ts : Compounds) (s : ℕ) (t : Ty) (v : CellType) : Type 0 where
   components : Contained
   one : contained_of t ≡ components ∷ []
   is : components_of ts v ≡ Some components
   low : components.system < s
 
-abbrev ContainedAre : Compounds → ℕ → Ty → ValueType → Type 0
+abbrev ContainedAre : Compounds → ℕ → Ty → CellType → Type 0
 ContainedAre ts s t v = ((contained_of t ≡ []) × (components_of ts v ≡ None)) ⊎ One ts s t v
 
 module _ (k : Numbering) (ts : Compounds) (s : ℕ) where
-  in_array : (r : named.Range) (v : ValueType) (number : ℕ) (element : ValueType) → v ≡ types.Array number → slice_get ts number ≡ Some (array (array_type ts (range_on k r) element)) → (o : Option Contained) → array_components (array_type ts (range_on k r) element) element ≡ o → components_of ts v ≡ o
+  in_array : (r : named.Range) (v : CellType) (number : ℕ) (element : CellType) → v ≡ types.Array number → slice_get ts number ≡ Some (array (array_type ts (range_on k r) element)) → (o : Option Contained) → array_components (array_type ts (range_on k r) element) element ≡ o → components_of ts v ≡ o
   in_array r v number element e there o f = ap (components_of ts) e ∙ ap (λ p. components_in (as_array p)) there ∙ f
 
-  contained_same : (t : Ty) (v : ValueType) → TypeIs k ts t v → IsType s v → AreTypes s ts → ContainedAre ts s t v
+  contained_same : (t : Ty) (v : CellType) → TypeIs k ts t v → IsType s v → AreTypes s ts → ContainedAre ts s t v
   contained_same (named.ordinal r) v h i all = inl (refl, ap (components_of ts) h)
   contained_same named.queue_type v h i all = inl (refl, ap (components_of ts) h)
   contained_same (named.set_over r) v h i all = inl (refl, ap (components_of ts) h)
@@ -85,7 +85,7 @@ module _ (ns : Names) where
   under_definitions : (l : Layer) (ds : List syntax.TypeDefinition) → Under ns l.names → Under ns (type_definitions l ds).names
   under_definitions l ds u = kept.definitions_keep (Under ns) IsOther (under_added ns) (λ b z i. i) (λ v i. i) l ds u
 
-  pub under_kind : (x : List ℕ) (v : ValueType) (ms : Names) → Under ns ms → Under ns ((x, meaning.Kind v) ∷ ms)
+  pub under_kind : (x : List ℕ) (v : CellType) (ms : Names) → Under ns ms → Under ns ((x, meaning.Kind v) ∷ ms)
   under_kind x v ms u = under_added ns x (meaning.Kind v) ms (λ i. i) u
 
 module _ (k : Numbering) where
@@ -98,15 +98,15 @@ module _ (k : Numbering) where
 
   -- ---- variables
 
-  still_types : (l : Layer) (x : List ℕ) (v : ValueType) (o : Option Contained) → (variable_with l x v o).types ≡ l.types
+  still_types : (l : Layer) (x : List ℕ) (v : CellType) (o : Option Contained) → (variable_with l x v o).types ≡ l.types
   still_types l x v None = refl
   still_types l x v (Some c) = refl
 
-  still_systems : (l : Layer) (x : List ℕ) (v : ValueType) (o : Option Contained) → (variable_with l x v o).systems ≡ l.systems
+  still_systems : (l : Layer) (x : List ℕ) (v : CellType) (o : Option Contained) → (variable_with l x v o).systems ≡ l.systems
   still_systems l x v None = refl
   still_systems l x v (Some c) = refl
 
-  variable_owns : (l : Layer) (w : Variable) (v : ValueType) (o : Option Contained) (vs : List Variable) → components_of l.types v ≡ o → TypeIs k l.types w.ty v → ContainedAre l.types (length l.systems) w.ty v → OwnsAt k l vs → OwnsAt k (variable_with l w.name v o) (vs ++ w ∷ [])
+  variable_owns : (l : Layer) (w : Variable) (v : CellType) (o : Option Contained) (vs : List Variable) → components_of l.types v ≡ o → TypeIs k l.types w.ty v → ContainedAre l.types (length l.systems) w.ty v → OwnsAt k l vs → OwnsAt k (variable_with l w.name v o) (vs ++ w ∷ [])
   variable_owns l w v None vs e h (inl c) i =
       owns_variable k l.types l.systems ((w.name, meaning.Variable (Permanent l.owned.cells) v) ∷ l.names) _ vs (owns_cells k l.types l.systems l.names l.owned vs i w.name w.ty v h) w c.0
   variable_owns l w v None vs e h (inr c) i = absurd (none-some c.components (sym e ∙ c.is))
@@ -115,7 +115,7 @@ module _ (k : Numbering) where
       let same : c.components ≡ d = same_Some c.components d (sym c.is ∙ e) in
       owns_components k l.types l.systems l.names l.owned vs i w v d (c.one ∙ ap (λ x. x ∷ []) same) (subst (λ (x : Contained). x.system < length l.systems) same c.low)
 
-  variables_of_owns : (l : Layer) (t : Ty) (v : ValueType) (is : List Identifier) (vs : List Variable) → TypeIs k l.types t v → ContainedAre l.types (length l.systems) t v → OwnsAt k l vs → OwnsAt k (variables_of l v is) (vs ++ named_variables (names_of is) t)
+  variables_of_owns : (l : Layer) (t : Ty) (v : CellType) (is : List Identifier) (vs : List Variable) → TypeIs k l.types t v → ContainedAre l.types (length l.systems) t v → OwnsAt k l vs → OwnsAt k (variables_of l v is) (vs ++ named_variables (names_of is) t)
   unfolding variables_of
   variables_of_owns l t v [] vs h c i = rw (append-nil vs) i
   variables_of_owns l t v (x ∷ xs) vs h c i =
@@ -132,7 +132,7 @@ module _ (k : Numbering) where
   group_owns : (l : Layer) (b : Block) (g : syntax.VariableGroup) → IsSmallType g.variable_type → AreNumbered k.firsts (length l.constants) (in_type g.variable_type) → InStep k l.types l.names b.scope → Named l → OwnsAt k l b.variables →
       OwnsAt k (variable_group l g) (b.variables ++ named_variables (names_of g.names) (meant.type_in b.scope g.variable_type).0)
   group_owns l b g h n i a o =
-      let x : ValueType × Layer = written_type l g.variable_type in
+      let x : CellType × Layer = written_type l g.variable_type in
       let y : Ty × Scope = meant.type_in b.scope g.variable_type in
       let w : Written k l x y (in_type g.variable_type) = type_written k l b.scope g.variable_type h n i in
       let d : declared_parts.Typed l x = declared_parts.written_typed l g.variable_type a in
@@ -175,7 +175,7 @@ module _ (k : Numbering) where
 
   -- ---- parameters of a system type
 
-  parameter_owns : (l : Layer) (ps : Parameters) (x : List ℕ) (t : Ty) (v : ValueType) → TypeIs k l.types t v → OwnsAt k l [] → OwnsAt k (system_parameter l ps x v).1 []
+  parameter_owns : (l : Layer) (ps : Parameters) (x : List ℕ) (t : Ty) (v : CellType) → TypeIs k l.types t v → OwnsAt k l [] → OwnsAt k (system_parameter l ps x v).1 []
   parameter_owns l ps x t (types.System j) h o = owns_bound k l.types l.systems l.names l.owned [] o x j
   parameter_owns l ps x t (types.Ordinal r) h o = owns_cells k l.types l.systems l.names l.owned [] o x t (types.Ordinal r) h
   parameter_owns l ps x t types.Queue h o = owns_cells k l.types l.systems l.names l.owned [] o x t types.Queue h
@@ -183,7 +183,7 @@ module _ (k : Numbering) where
   parameter_owns l ps x t (types.Array n) h o = owns_cells k l.types l.systems l.names l.owned [] o x t (types.Array n) h
   parameter_owns l ps x t (types.Record n) h o = owns_cells k l.types l.systems l.names l.owned [] o x t (types.Record n) h
 
-  parameter_types : (l : Layer) (ps : Parameters) (x : List ℕ) (v : ValueType) → (system_parameter l ps x v).1.types ≡ l.types
+  parameter_types : (l : Layer) (ps : Parameters) (x : List ℕ) (v : CellType) → (system_parameter l ps x v).1.types ≡ l.types
   parameter_types l ps x (types.System j) = refl
   parameter_types l ps x (types.Ordinal r) = refl
   parameter_types l ps x types.Queue = refl
@@ -191,7 +191,7 @@ module _ (k : Numbering) where
   parameter_types l ps x (types.Array n) = refl
   parameter_types l ps x (types.Record n) = refl
 
-  parameters_own : (l : Layer) (ps : Parameters) (t : Ty) (v : ValueType) (is : List Identifier) → TypeIs k l.types t v → OwnsAt k l [] → OwnsAt k (system_parameters_of l ps v is).1 []
+  parameters_own : (l : Layer) (ps : Parameters) (t : Ty) (v : CellType) (is : List Identifier) → TypeIs k l.types t v → OwnsAt k l [] → OwnsAt k (system_parameters_of l ps v is).1 []
   unfolding system_parameters_of
   parameters_own l ps t v [] h o = o
   parameters_own l ps t v (i ∷ is) h o =

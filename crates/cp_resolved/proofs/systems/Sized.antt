@@ -1,7 +1,7 @@
 -- The permanent cells that are counted are no more than those of the types that are declared.
 use Rattle.std.proofs.Common.{◌≡◌, ℕ, ◌≤◌, List, [], ◌∷◌, ◌++◌, Some, slice_get, refl, sym, ap, ◌∙◌, append_assoc, append-nil, arith}
 use Rattle.cp_tree.specs.declared.constant.Identifier.{Identifier}
-use Rattle.cp_layout.specs.declared.kinds.ValueType.{ValueType}
+use Rattle.cp_layout.specs.declared.kinds.CellType.{CellType}
 use Rattle.cp_layout.specs.declared.layer.Content.TheVariants as content
 use Rattle.cp_layout.specs.Kinds.{Field, Compound, Compounds, Fields, cells_of, plus, with_field}
 use Rattle.cp_layout.specs.Layers.{Layer, Owned, System}
@@ -44,7 +44,7 @@ resized_trans l k m h i =
     }
 
 -- one more permanent variable
-pub resized_cells : (l m : Layer) (t : ValueType) → m.types ≡ l.types → m.owned.cells ≡ plus l.owned.cells (cells_of l.types t) → m.owned.contents ≡ l.owned.contents ++ content.Variable t ∷ [] → m.systems ≡ l.systems → Resized l m
+pub resized_cells : (l m : Layer) (t : CellType) → m.types ≡ l.types → m.owned.cells ≡ plus l.owned.cells (cells_of l.types t) → m.owned.contents ≡ l.owned.contents ++ content.Variable t ∷ [] → m.systems ≡ l.systems → Resized l m
 resized_cells l m t e f g i =
     record {
       more = [];
@@ -86,7 +86,7 @@ FieldsFit l r = r.cells ≤ fields_cells l.types r.fields
 pub fields_resized : (l m : Layer) (r : Fields) → Resized l m → FieldsFit l r → FieldsFit m r
 fields_resized l m r h f = let a = fields_more l.types h.more r.fields in rw h.types (omega (arith, a, f))
 
-pub fields_of_fit : (l : Layer) (r : Fields) (is : List Identifier) (t : ValueType) → FieldsFit l r → FieldsFit l (fields_of_type r is t (cells_of l.types t))
+pub fields_of_fit : (l : Layer) (r : Fields) (is : List Identifier) (t : CellType) → FieldsFit l r → FieldsFit l (fields_of_type r is t (cells_of l.types t))
 unfolding fields_of_type
 fields_of_fit l r [] t h = h
 fields_of_fit l r (i ∷ is) t h =

@@ -2,8 +2,8 @@
 use Rattle.std.proofs.Common.{◌≡◌, ℕ, zero, suc, ◌+◌, ◌*◌, ◌≤◌, ◌==◌, ℤ, Bool, true, false, if◌then◌else◌, List, [], ◌∷◌, ◌++◌, take, length, Option, Some, None, slice_get, refl, sym, ap, subst, ◌∙◌, ◌⊎◌, inl, inr, arith, length-append, le_trans}
 use Rattle.std.proofs.lemmas.Bool.{eqb-true, eqb-false}
 use Rattle.std.proofs.lemmas.Option.{slice_get_within}
-use Rattle.cp_layout.specs.declared.kinds.ValueType.{ValueType}
-use Rattle.cp_layout.specs.declared.kinds.ValueType.TheVariants as types
+use Rattle.cp_layout.specs.declared.kinds.CellType.{CellType}
+use Rattle.cp_layout.specs.declared.kinds.CellType.TheVariants as types
 use Rattle.cp_layout.specs.declared.layer.Content.{Content}
 use Rattle.cp_layout.specs.declared.layer.Content.TheVariants as content
 use Rattle.cp_layout.specs.Kinds.{Field, Compound, array, record_with, Compounds, compound_cells, cells_of, count_of, copies, least_by, fields_least, compound_least, compound_below, least}
@@ -67,7 +67,7 @@ compound_more ts more n = go (slice_get ts n) refl
     go None e = omega arith
     go (Some c) e = rw (still_there ts more n c e) (omega arith)
 
-pub cells_more : (ts more : Compounds) (t : ValueType) → cells_of ts t ≤ cells_of (ts ++ more) t
+pub cells_more : (ts more : Compounds) (t : CellType) → cells_of ts t ≤ cells_of (ts ++ more) t
 cells_more ts more (types.Array n) = compound_more ts more n
 cells_more ts more (types.Record n) = compound_more ts more n
 cells_more ts more (types.Ordinal r) = omega arith
@@ -88,7 +88,7 @@ pub fields_last : (ts : Compounds) (fs : List Field) (f : Field) → fields_cell
 fields_last ts [] f = omega arith
 fields_last ts (g ∷ fs) f = let a = fields_last ts fs f in omega (arith, a)
 
-pub contents_last : (ts : Compounds) (cs : List Content) (t : ValueType) → contents_cells ts (cs ++ content.Variable t ∷ []) ≡ contents_cells ts cs + cells_of ts t
+pub contents_last : (ts : Compounds) (cs : List Content) (t : CellType) → contents_cells ts (cs ++ content.Variable t ∷ []) ≡ contents_cells ts cs + cells_of ts t
 contents_last ts [] t = omega arith
 contents_last ts (content.Variable u ∷ cs) t = let a = contents_last ts cs t in omega (arith, a)
 contents_last ts (content.Component ∷ cs) t = let a = contents_last ts cs t in omega (arith, a)
@@ -110,7 +110,7 @@ times_more zero a b le = omega arith
 times_more (suc n) a b le = let h = times_more n a b le in omega (arith, h, le)
 
 module _ (ts : Compounds) (bound : ℕ) (compound : ℕ → List ℤ) (below : (n : ℕ) → compound_cells (slice_get (take bound ts) n) ≤ length (compound n)) where
-  type_least : (t : ValueType) → cells_of (take bound ts) t ≤ length (least_by compound t)
+  type_least : (t : CellType) → cells_of (take bound ts) t ≤ length (least_by compound t)
   type_least (types.Ordinal r) = omega arith
   type_least types.Queue = omega arith
   type_least (types.Set r) = omega arith
@@ -153,7 +153,7 @@ unfolding compound_below
 below_length ts g zero le n = omega arith
 below_length ts g (suc bound) le n = below_step ts bound n (n == bound) g (omega (arith, le)) refl (λ k. below_length ts g bound (omega (arith, le)) k)
 
-least_length : (ts : Compounds) → Counted ts → (t : ValueType) → cells_of ts t ≤ length (least ts t)
+least_length : (ts : Compounds) → Counted ts → (t : CellType) → cells_of ts t ≤ length (least ts t)
 unfolding least
 least_length ts g t =
     subst (λ (us : Compounds). cells_of us t ≤ length (least_by (compound_below ts (length ts)) t)) (take_whole ts) (type_least ts (length ts) (compound_below ts (length ts)) (λ n. below_length ts g (length ts) (omega arith) n) t)

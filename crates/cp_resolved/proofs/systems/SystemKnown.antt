@@ -2,8 +2,8 @@
 use Rattle.std.proofs.Common.{◌≡◌, ◌+◌, ◌<◌, ◌≤◌, ◌⊎◌, inl, inr, ℕ, Bool, true, false, if◌then◌else◌, List, [], ◌∷◌, ◌++◌, Option, Some, None, refl, sym, ap, subst, ◌∙◌, arith, append_assoc}
 use Rattle.std.specs.Prelude.{min}
 use Rattle.std.proofs.lemmas.Option.{none-some, same_Some}
-use Rattle.cp_slots.specs.declared.place.Origin.TheVariants as origin
-use Rattle.cp_layout.specs.declared.kinds.ValueType.{ValueType}
+use Rattle.cp_slots.specs.declared.place.PlaceOrigin.TheVariants as origin
+use Rattle.cp_layout.specs.declared.kinds.CellType.{CellType}
 use Rattle.cp_layout.specs.declared.names.Meaning.{Meaning}
 use Rattle.cp_layout.specs.declared.names.Meaning.TheVariants as meaning
 use Rattle.cp_layout.specs.Kinds.{most}
@@ -152,7 +152,7 @@ module _ (k : Numbering) where
 
   -- what is wanted where the routines begin in the state z, and the initial statement in the state l
   module _ (m : SystemMeaning) (z l : Layer) (declared : AreDeclared permanent_variable m.scope (system_variables m)) (standing : Each IsStandingVariable (system_variables m)) (owns : Owns z (parameter_variables m.parameters ++ components_among false m.variables))
-      (few : z.owned.cells < most) (named : InStep k l.types l.names m.scope) (under : (x : Name) (n : ℕ) (v : ValueType) → layers.find x l.names ≡ Some (meaning.Variable (origin.Permanent n) v) → layers.find x z.names ≡ Some (meaning.Variable (origin.Permanent n) v)) where
+      (few : z.owned.cells < most) (named : InStep k l.types l.names m.scope) (under : (x : Name) (n : ℕ) (v : CellType) → layers.find x l.names ≡ Some (meaning.Variable (origin.Permanent n) v) → layers.find x z.names ≡ Some (meaning.Variable (origin.Permanent n) v)) where
     abbrev ws : List Variable
     ws = parameter_variables m.parameters ++ components_among false m.variables
 

@@ -2,8 +2,8 @@
 use Rattle.std.proofs.Common.{◌≡◌, ◌+◌, ◌-◌, ◌<◌, ◌≤◌, inl, inr, ℕ, zero, suc, true, false, List, [], ◌∷◌, ◌++◌, length, Option, Some, None, slice_get, slice_index_or, refl, sym, ap, subst, ◌∙◌, arith, length-append}
 use Rattle.std.proofs.lemmas.Option.{none-some, same_Some, slice_get_within}
 use Rattle.cp_tree.specs.Syntax as syntax
-use Rattle.cp_slots.specs.declared.place.Origin.TheVariants as origin
-use Rattle.cp_layout.specs.declared.kinds.ValueType.{ValueType}
+use Rattle.cp_slots.specs.declared.place.PlaceOrigin.TheVariants as origin
+use Rattle.cp_layout.specs.declared.kinds.CellType.{CellType}
 use Rattle.cp_layout.specs.declared.names.Meaning.TheVariants as meaning
 use Rattle.cp_layout.specs.Kinds.{most}
 use Rattle.cp_layout.specs.Laid.{PlainTables, plain, laid, tables_laid, system_types}
@@ -206,7 +206,7 @@ systems_law t r same place framed modest n le =
     let z : Layer = s.around in
     let l : Layer = s.begun in
     let few : z.owned.cells < most = subst (λ c. c < most) s.own (modest n) in
-    let under : (x : Name) (i : ℕ) (w : ValueType) → layers.find x l.names ≡ Some (meaning.Variable (origin.Permanent i) w) → layers.find x z.names ≡ Some (meaning.Variable (origin.Permanent i) w) = λ x i w e. s.under x (meaning.Variable (origin.Permanent i) w) tt e in
+    let under : (x : Name) (i : ℕ) (w : CellType) → layers.find x l.names ≡ Some (meaning.Variable (origin.Permanent i) w) → layers.find x z.names ≡ Some (meaning.Variable (origin.Permanent i) w) = λ x i w e. s.under x (meaning.Variable (origin.Permanent i) w) tt e in
     let inside : (x : Name) (u : Ty) → look x (components_among false (system_variables m)) ≡ Some u → slot_in (layers.find x (parts_at t n).names) + cells_of u ≤ (system_at r n).own =
     λ x u e. subst (λ (q : Layer). slot_in (layers.find x q.names) + cells_of u ≤ (system_at r n).own) (sym s.there) (subst (λ c. slot_in (layers.find x z.names) + cells_of u ≤ c) (sym s.own) (cells_inside k m z l (framed.permanents n) (framed.standing n) s.owns few s.names under x u e)) in
     record {

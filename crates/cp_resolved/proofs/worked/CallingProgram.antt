@@ -8,7 +8,7 @@ use Rattle.cp_tree.specs.declared.expression.Addition.TheVariants.{Plus}
 use Rattle.cp_tree.specs.Syntax.{Expression, alone, sum, no_terms, more_terms, term, no_factors, number, named, no_expressions, more_expressions, Designator, designator, no_selectors, assign, invoke, no_statements, more_statements, simple, type_name, function, procedure, Routine, program_variables, Tree}
 use Rattle.cp_slots.specs.declared.item.Item as code_item
 use Rattle.cp_slots.specs.declared.place.Arithmetic.TheVariants.{Add}
-use Rattle.cp_slots.specs.declared.place.Origin.TheVariants.{Permanent, Local, Reference}
+use Rattle.cp_slots.specs.declared.place.PlaceOrigin.TheVariants.{Permanent, Local, Reference}
 use Rattle.cp_slots.specs.declared.tables.ComponentKind.TheVariants as kind
 use Rattle.cp_slots.specs.Code as code
 use Rattle.cp_slots.specs.Tables.{Tables, item_at, routine_at, no_item}

@@ -2,7 +2,7 @@
 use Rattle.std.proofs.Common.{◌≡◌, ℕ, ◌<◌, ◌≤◌, Bool, true, false, if◌then◌else◌, [], ◌∷◌, Some, None, refl, subst, arith}
 use Rattle.cp_tree.specs.Syntax.{empty, no_statements, more_statements, Tree}
 use Rattle.cp_slots.specs.declared.item.Action.TheVariants as action
-use Rattle.cp_slots.specs.declared.place.Origin.TheVariants.{Local}
+use Rattle.cp_slots.specs.declared.place.PlaceOrigin.TheVariants.{Local}
 use Rattle.cp_slots.specs.declared.tables.ComponentKind.TheVariants as kind
 use Rattle.cp_slots.specs.Tables.{Tables}
 use Rattle.cp_meaning.specs.Names.{Name, same_name}

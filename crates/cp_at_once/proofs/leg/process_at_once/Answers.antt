@@ -15,7 +15,7 @@ has_quiet_leg-requires-clause-ready g c =
     let sys = slots c.args.program.now c.args.limits.gates in
     let i = c.loop-pid.pid-index in
     let all = c.as_slice-pid-items.result.now in
-    let listed : all ≡ those_below sys.processes (may sys s) = c.as_slice-pid-items.ensures.value ∙ c.wanted-numbers.ensures in
+    let listed : all ≡ those_below sys.processes (may sys s) = c.as_slice-pid-items.ensures.value ∙ c.candidates-numbers.ensures in
     let lt : i < length all = omega arith in
     let free : is_pending s ≡ false = pending_is s c.pending.result false c.pending.ensures (sym c.if-is_some.ensures) in
     let on = may_be_ready sys s (get_or all i 0) free (may_those sys s all listed i lt) in
@@ -27,7 +27,7 @@ returns-then-has_quiet_leg-clause-may g c =
     let sys = slots c.args.program.now c.args.limits.gates in
     let i = c.loop-pid.pid-index in
     let all = c.as_slice-pid-items.result.now in
-    let listed : all ≡ those_below sys.processes (may sys s) = c.as_slice-pid-items.ensures.value ∙ c.wanted-numbers.ensures in
+    let listed : all ≡ those_below sys.processes (may sys s) = c.as_slice-pid-items.ensures.value ∙ c.candidates-numbers.ensures in
     let lt : i < length all = omega arith in
     let on : may sys s (get_or all i 0) ≡ true = may_those sys s all listed i lt in
     search (rules, on)

@@ -1,16 +1,16 @@
 use Rattle.std.proofs.Common.{◌≡◌, ◌+◌, ℕ, suc, List, true, sym, subst, arith}
 use Rattle.cp_run.specs.Slots.{slots}
-use Rattle.cp_cover.specs.declared.keys.StateKey.{StateKey}
-use Rattle.cp_cover.specs.declared.mark.Mark.{Mark}
+use Rattle.cp_cover.specs.declared.keys.CoverStateKey.{CoverStateKey}
+use Rattle.cp_cover.specs.declared.mark.CoverMark.{CoverMark}
 use Rattle.cp_cover.specs.Layers.{AreReached, IsLayer}
 use Rattle.cp_cover.proofs.FromLayer.{same_marks}
 use Rattle.cp_cover.proofs.search.find_with.Goals as goal
 
 pub next_layer-requires-clause-layer : goal.next_layer-requires-clause-layer
-next_layer-requires-clause-layer g c = subst (λ (l : List StateKey). IsLayer c.args.program.now (slots c.args.program.now c.args.limits.gates) c.args.limits.steps c.loop-depth.depth l) (sym c.take_layer-layer.ensures.taken) c.loop-depth.invariant.layer
+next_layer-requires-clause-layer g c = subst (λ (l : List CoverStateKey). IsLayer c.args.program.now (slots c.args.program.now c.args.limits.gates) c.args.limits.steps c.loop-depth.depth l) (sym c.take_layer-layer.ensures.taken) c.loop-depth.invariant.layer
 
 pub next_layer-requires-clause-marks : goal.next_layer-requires-clause-marks
-next_layer-requires-clause-marks g c = subst (λ (l : List Mark). AreReached (slots c.args.program.now c.args.limits.gates) c.args.limits.steps c.loop-depth.depth l) (sym c.take_layer-layer.ensures.marks) c.loop-depth.invariant.marks
+next_layer-requires-clause-marks g c = subst (λ (l : List CoverMark). AreReached (slots c.args.program.now c.args.limits.gates) c.args.limits.steps c.loop-depth.depth l) (sym c.take_layer-layer.ensures.marks) c.loop-depth.invariant.marks
 
 pub returns-then-not-is_room-clause-reached : goal.returns-then-not-is_room-clause-reached
 returns-then-not-is_room-clause-reached g c = same_marks (slots c.args.program.now c.args.limits.gates) c.args.limits.steps c.loop-depth.depth c.loop-depth.search.marks.known.keys c.in_ok-before.before.known.keys c.in_ok-before.ensures c.loop-depth.invariant.marks

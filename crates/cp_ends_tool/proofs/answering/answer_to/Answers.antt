@@ -21,4 +21,4 @@ returns-in-Ok c =
     IfOk-weaker c.answer_for-answer.result _ _ (λ a h. inl (l.tokens, t, loads, ((program, is, h t (read_by c.args.source.now l.tokens t loads) loads.accepted is), alone))) c.answer_for-answer.ensures
 
 pub returns-in-Err : goal.returns-in-Err
-returns-in-Err c = IfOk-weaker c.refused.result _ _ (λ a h. inr (h.0, (c.in-Err.refusal, c.in-Err.ensures.refused, h.1))) c.refused.ensures
+returns-in-Err c = IfOk-weaker c.answer_refusal.result _ _ (λ a h. inr (h.0, (c.in-Err.refusal, c.in-Err.ensures.refused, h.1))) c.answer_refusal.ensures

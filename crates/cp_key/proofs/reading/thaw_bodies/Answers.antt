@@ -1,7 +1,7 @@
 use Rattle.std.proofs.Common.{◌≡◌, ◌∙◌, ◌+◌, ◌<◌, ◌≤◌, ◌∷◌, [], ◌++◌, ap, arith, drop, false, get_or-set_other, length, subst, sym}
 use Rattle.std.specs.Prelude.{slice_index_or, vec_capacity}
 use Rattle.std.proofs.lemmas.List.{drop_all, get_or_read, length-append}
-use Rattle.cp_machine.specs.declared.process.Process.{Process}
+use Rattle.cp_machine.specs.declared.process.ProcessState.{ProcessState}
 use Rattle.cp_machine.specs.Bodies.{body_of, has_moved}
 use Rattle.cp_machine.specs.Machine.{no_thread, thread_at}
 use Rattle.cp_machine.proofs.CopyLemmas.{grown, set_each}
@@ -27,7 +27,7 @@ thaw_next-requires c =
     let p = slice_index_or c.loop-at.processes at old in
     let within : c.loop-at.at < length c.args.processes.now = omega arith in
     let same = c.loop-at.invariant.later at old (omega arith) in
-    found (length known.rests.items) (at + 1) c.between-body.result.now (body_key (inside p)) (λ few. c.between-body.ensures.some (body_key (inside p)) (omega arith) few (c.requires.known at old within few ∙ ap (λ (q : Process). body_key (inside q) ++ rest_at known (at + 1)) (sym same))) (λ le. c.between-body.ensures.none le)
+    found (length known.rests.items) (at + 1) c.between-body.result.now (body_key (inside p)) (λ few. c.between-body.ensures.some (body_key (inside p)) (omega arith) few (c.requires.known at old within few ∙ ap (λ (q : ProcessState). body_key (inside q) ++ rest_at known (at + 1)) (sym same))) (λ le. c.between-body.ensures.none le)
 
 pub loop-at-preserved : goal.loop-at-preserved
 loop-at-preserved c =
@@ -36,12 +36,12 @@ loop-at-preserved c =
     let first = c.args.processes.now in
     let here : c.loop-at.at < length c.loop-at.processes = omega arith in
     let old = c.index-processes-at.result in
-    let read : Process = slice_index_or ps at old in
+    let read : ProcessState = slice_index_or ps at old in
     let new = c.thaw_next.new.process in
-    let same : (d : Process) → read ≡ slice_index_or ps at d = λ d. sym c.index-processes-at.is ∙ get_or_read ps at old here c.index-processes-at.is d in
-    let stack : vec_capacity old.stack ≤ vec_capacity new.stack = (let e = ap (λ (p : Process). vec_capacity p.stack) c.index-processes-at.is in omega (arith, e, c.thaw_next.ensures.stack)) in
-    let cells : vec_capacity old.room.cells ≤ vec_capacity new.room.cells = (let e = ap (λ (p : Process). vec_capacity p.room.cells) c.index-processes-at.is in omega (arith, e, c.thaw_next.ensures.cells)) in
-    let references : vec_capacity old.room.references ≤ vec_capacity new.room.references = (let e = ap (λ (p : Process). vec_capacity p.room.references) c.index-processes-at.is in omega (arith, e, c.thaw_next.ensures.references)) in
+    let same : (d : ProcessState) → read ≡ slice_index_or ps at d = λ d. sym c.index-processes-at.is ∙ get_or_read ps at old here c.index-processes-at.is d in
+    let stack : vec_capacity old.stack ≤ vec_capacity new.stack = (let e = ap (λ (p : ProcessState). vec_capacity p.stack) c.index-processes-at.is in omega (arith, e, c.thaw_next.ensures.stack)) in
+    let cells : vec_capacity old.room.cells ≤ vec_capacity new.room.cells = (let e = ap (λ (p : ProcessState). vec_capacity p.room.cells) c.index-processes-at.is in omega (arith, e, c.thaw_next.ensures.cells)) in
+    let references : vec_capacity old.room.references ≤ vec_capacity new.room.references = (let e = ap (λ (p : ProcessState). vec_capacity p.room.references) c.index-processes-at.is in omega (arith, e, c.thaw_next.ensures.references)) in
     let of_stack = grown (λ p. vec_capacity p.stack) ps at new old here c.index-processes-at.is stack in
     let of_cells = grown (λ p. vec_capacity p.room.cells) ps at new old here c.index-processes-at.is cells in
     let of_references = grown (λ p. vec_capacity p.room.references) ps at new old here c.index-processes-at.is references in
@@ -50,7 +50,7 @@ loop-at-preserved c =
       read = λ ts more e room. (
           let before = inv.read ts more e room in
           let lt : c.loop-at.at < length ts = omega (arith, room.count) in
-          let roomy = subst (λ (p : Process). HasThreadRoom p (thread_at ts at)) (sym (inv.later at old (omega arith))) (room.each at old (omega arith)) in
+          let roomy = subst (λ (p : ProcessState). HasThreadRoom p (thread_at ts at)) (sym (inv.later at old (omega arith))) (room.each at old (omega arith)) in
           let got = c.thaw_next.ensures.same (thread_at ts at) (bodies_key (drop (at + 1) ts) ++ more) (before.1 ∙ next_of (λ t. body_key (body_of t)) ts at no_thread more lt) roomy in (
             set_each (λ k d p. inside p ≡ body_of (thread_at ts k)) ps at new here (λ d. got.0) (at + 1) (λ k d l ne. before.0 k d (omega arith)),
             got.1,

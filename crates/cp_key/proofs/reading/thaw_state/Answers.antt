@@ -1,6 +1,6 @@
 use Rattle.std.proofs.Common.{◌∙◌, ◌++◌, List, ap, arith, length, map, subst, sym}
 use Rattle.std.proofs.lemmas.List.{append_assoc, with_items_is}
-use Rattle.cp_machine.specs.declared.process.Process.{Process}
+use Rattle.cp_machine.specs.declared.process.ProcessState.{ProcessState}
 use Rattle.cp_machine.specs.Fits.{HaveCells, HaveReferences, HaveStacks}
 use Rattle.cp_machine.specs.Machine.{monitor_of, thread_of}
 use Rattle.cp_key.specs.Key.{key_of, rest_key, gates_key, monitor_key, option_key, phase_key, shown_key, threads_key}
@@ -19,7 +19,7 @@ thaw_same-bindings-requires-clause-ends c = numbers_tell
 pub returns-clause-same : goal.returns-clause-same
 unfolding key_of rest_key
 returns-clause-same c = λ m more e room.
-    (let Room : List Process → Type 0 = λ ps. HaveThreadRoom ps m.threads in
+    (let Room : List ProcessState → Type 0 = λ ps. HaveThreadRoom ps m.threads in
     let o = c.thaw_list.ensures.list m.output (after_output m ++ more) (e ∙ append_assoc (list_key shown_key m.output) (after_output m) more) room.output in
     let a = c.thaw_same-permanents.ensures.list m.permanents (after_permanents m ++ more) (o.1 ∙ append_assoc (list_key integer_key m.permanents) (after_permanents m) more) room.permanents in
     let b = c.thaw_same-bindings.ensures.list m.bindings (after_bindings m ++ more) (a.1 ∙ append_assoc (list_key number_key m.bindings) (after_bindings m) more) room.bindings in

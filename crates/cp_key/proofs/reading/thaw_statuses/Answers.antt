@@ -2,7 +2,7 @@ use Rattle.std.proofs.Common.{◌≡◌, ◌∙◌, ◌+◌, ◌<◌, ◌++◌, 
 use Rattle.std.specs.Prelude.{slice_index_or}
 use Rattle.std.specs.List.{flat_map}
 use Rattle.std.proofs.lemmas.List.{get_or_read, length-set}
-use Rattle.cp_machine.specs.declared.process.Process.{Process}
+use Rattle.cp_machine.specs.declared.process.ProcessState.{ProcessState}
 use Rattle.cp_machine.specs.Machine.{no_thread, thread_at}
 use Rattle.cp_machine.proofs.CopyLemmas.{set_each}
 use Rattle.cp_key.specs.Key.{status_key}
@@ -15,11 +15,11 @@ loop-at-preserved c =
     let at = c.loop-at.at in
     let ps = c.loop-at.processes in
     let old = c.index-processes-at.result in
-    let read : Process = slice_index_or ps at old in
-    let new : Process = record { status = c.thaw-in-loop-at.result; frame = read.frame; stack = read.stack; room = read.room } in
+    let read : ProcessState = slice_index_or ps at old in
+    let new : ProcessState = record { status = c.thaw-in-loop-at.result; frame = read.frame; stack = read.stack; room = read.room } in
     let here : c.loop-at.at < length c.loop-at.processes = omega arith in
     let long = length-set ps at new in
-    let same : (d : Process) → read ≡ slice_index_or ps at d = λ d. sym c.index-processes-at.is ∙ get_or_read ps at old here c.index-processes-at.is d in
+    let same : (d : ProcessState) → read ≡ slice_index_or ps at d = λ d. sym c.index-processes-at.is ∙ get_or_read ps at old here c.index-processes-at.is d in
     record {
       read = λ ts more e count. (
           let before = c.loop-at.invariant.read ts more e (omega (arith, count, long)) in

@@ -1,7 +1,7 @@
 use Rattle.std.proofs.Common.{◌≡◌, ◌<◌, ◌++◌, ℕ, List, length, drop}
 use Rattle.std.specs.Prelude.{slice_index_or}
 use Rattle.std.specs.List.{flat_map}
-use Rattle.cp_machine.specs.declared.process.Process.{Process}
+use Rattle.cp_machine.specs.declared.process.ProcessState.{ProcessState}
 use Rattle.cp_machine.specs.Machine.{Thread, thread_at}
 use Rattle.cp_key.specs.Key.{status_key}
 use Rattle.cp_key.specs.Known.{AreSameInside}
@@ -10,6 +10,6 @@ use Rattle.cp_key.proofs.reading.thaw_statuses.Given as goal
 abbrev pub invariant-loop-at : goal.invariant-loop-at
 invariant-loop-at l =
     record {
-      read : (ts : List Thread) (more : List ℕ) → l.initial.key.bytes.now ≡ flat_map (λ t. status_key t.status) ts ++ more → length ts ≡ length l.processes → ((k : ℕ) (d : Process) → k < l.at → (slice_index_or l.processes k d).status ≡ (thread_at ts k).status) × (l.key.bytes.now ≡ flat_map (λ t. status_key t.status) (drop l.at ts) ++ more);
-      insides : (q : ℕ) (d : Process) → AreSameInside (slice_index_or l.processes q d) (slice_index_or l.fn.processes q d);
+      read : (ts : List Thread) (more : List ℕ) → l.initial.key.bytes.now ≡ flat_map (λ t. status_key t.status) ts ++ more → length ts ≡ length l.processes → ((k : ℕ) (d : ProcessState) → k < l.at → (slice_index_or l.processes k d).status ≡ (thread_at ts k).status) × (l.key.bytes.now ≡ flat_map (λ t. status_key t.status) (drop l.at ts) ++ more);
+      insides : (q : ℕ) (d : ProcessState) → AreSameInside (slice_index_or l.processes q d) (slice_index_or l.fn.processes q d);
     }

@@ -13,7 +13,7 @@ use Rattle.cp_machine.specs.Fits.{HasCallRoom}
 use Rattle.cp_machine.specs.Machine.{under}
 use Rattle.cp_machine.specs.Stack.{rest_of}
 use Rattle.cp_machine.specs.Statements.{fault, outcome}
-use Rattle.cp_machine.specs.declared.process.Process.{Process}
+use Rattle.cp_machine.specs.declared.process.ProcessState.{ProcessState}
 use Rattle.std.proofs.Common.{Err, rules, ◌<◌}
 use Rattle.std.specs.Prelude.{slice_index_or, vec_len}
 use Rattle.cp_machine.proofs.call.call.Goals as goal
@@ -85,7 +85,7 @@ pub call_by-requires-clause-pid : goal.call_by-requires-clause-pid
 call_by-requires-clause-pid c = subst (λ p. c.args.pid < length p.items) (sym c.arguments_of.ensures.processes) c.requires.pid
 
 pub call_by-requires-clause-busy : goal.call_by-requires-clause-busy
-call_by-requires-clause-busy c = subst (λ p. (d : Process) → 0 < vec_len (slice_index_or p.items c.args.pid d).stack) (sym c.arguments_of.ensures.processes) c.requires.busy
+call_by-requires-clause-busy c = subst (λ p. (d : ProcessState) → 0 < vec_len (slice_index_or p.items c.args.pid d).stack) (sym c.arguments_of.ensures.processes) c.requires.busy
 
 pub call_by-requires-clause-routine : goal.call_by-requires-clause-routine
 call_by-requires-clause-routine c = c.requires.routine

@@ -1,7 +1,7 @@
 use Rattle.std.proofs.Common.{ℕ, ◌<◌, length, subst, sym, ◌∙◌, ap}
 use Rattle.std.specs.Prelude.{slice_index_or}
 use Rattle.cp_slots.specs.declared.item.Action.TheVariants.{If, Case}
-use Rattle.cp_slots.specs.declared.item.Arm.{Arm}
+use Rattle.cp_slots.specs.declared.item.ResolvedArm.{ResolvedArm}
 use Rattle.cp_machine.specs.Fits.{HasRoom}
 use Rattle.cp_machine.specs.Machine.{machine_of, under}
 use Rattle.cp_machine.specs.Step.{act}
@@ -26,7 +26,7 @@ case_of-requires-clause-reads c = (taken_reads c.requires.taken.0 c.args.state.n
 
 pub case_of-requires-clause-room : goal.case_of-requires-clause-room
 case_of-requires-clause-room c =
-    subst (λ arms. (k : ℕ) (d : Arm) → k < length arms → HasRoom c.args.state.now c.args.pid (slice_index_or arms k d).body) (sym c.deref.ensures.value)
+    subst (λ arms. (k : ℕ) (d : ResolvedArm) → k < length arms → HasRoom c.args.state.now c.args.pid (slice_index_or arms k d).body) (sym c.deref.ensures.value)
     (λ k d lt. taken_room c.requires.taken.0 c.args.state.now c.args.pid c.requires.taken.1 c.args.item.now c.requires.taken.2 (slice_index_or c.in-Case.arms.items k d).body ((taken_fits c.requires.taken.0 c.args.state.now c.args.pid c.requires.taken.1 c.args.item.now c.requires.taken.2 (Case c.in-Case.selector c.in-Case.arms) c.in-Case.is) k d lt))
 
 pub branch-state-requires-clause-busy : goal.branch-state-requires-clause-busy

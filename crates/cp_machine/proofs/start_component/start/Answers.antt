@@ -10,7 +10,7 @@ use Rattle.cp_machine.specs.Fits.{HasCallRoom}
 use Rattle.cp_machine.specs.Machine.{under}
 use Rattle.cp_machine.specs.Stack.{rest_of}
 use Rattle.cp_machine.specs.Statements.{fault, outcome}
-use Rattle.cp_machine.specs.declared.process.Process.{Process}
+use Rattle.cp_machine.specs.declared.process.ProcessState.{ProcessState}
 use Rattle.cp_slots.specs.Tables.{component_at}
 use Rattle.std.proofs.Common.{Err, rules, ◌<◌}
 use Rattle.std.specs.Prelude.{slice_index_or, vec_len}
@@ -81,7 +81,7 @@ pub start_by-requires-clause-pid : goal.start_by-requires-clause-pid
 start_by-requires-clause-pid c = subst (λ p. c.args.pid < length p.items) (sym c.arguments_of.ensures.processes) c.requires.pid
 
 pub start_by-requires-clause-busy : goal.start_by-requires-clause-busy
-start_by-requires-clause-busy c = subst (λ p. (d : Process) → 0 < vec_len (slice_index_or p.items c.args.pid d).stack) (sym c.arguments_of.ensures.processes) c.requires.busy
+start_by-requires-clause-busy c = subst (λ p. (d : ProcessState) → 0 < vec_len (slice_index_or p.items c.args.pid d).stack) (sym c.arguments_of.ensures.processes) c.requires.busy
 
 pub start_by-requires-clause-count : goal.start_by-requires-clause-count
 start_by-requires-clause-count c = c.in_ok-arguments_of.ensures.count

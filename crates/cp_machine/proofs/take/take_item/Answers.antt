@@ -25,7 +25,7 @@ returns-in-Err-clause-after c =
     let m = machine_of c.args.state.now in
     let n = machine_of c.perform.new.state in
     let told : Event → Stepped = λ e. record { machine = n; event = e } in
-    ap (λ i. act c.args.program.now m c.args.pid c.args.at i i.action (under m c.args.pid)) (sym c.item-item.ensures.value) ∙ c.perform.ensures.after ∙ ap (λ o. outcome o n c.args.pid c.item-item.result.now.line) c.in-Err.is ∙ ap told (sym c.failed.ensures)
+    ap (λ i. act c.args.program.now m c.args.pid c.args.at i i.action (under m c.args.pid)) (sym c.item-item.ensures.value) ∙ c.perform.ensures.after ∙ ap (λ o. outcome o n c.args.pid c.item-item.result.now.line) c.in-Err.is ∙ ap told (sym c.fault_event.ensures)
 
 pub returns-in-Err-clause-reserved : goal.returns-in-Err-clause-reserved
 returns-in-Err-clause-reserved c = c.perform.ensures.reserved

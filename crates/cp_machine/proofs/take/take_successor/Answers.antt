@@ -42,4 +42,4 @@ returns-in-Err-clause-after c =
     let value_is : to_z w16 (of_z w16 c.args.value) ≡ c.args.value = search rules in
     let last_is : to_z w16 (of_z w16 c.args.last) ≡ c.args.last = search rules in
     let told : Event → Stepped = λ e. record { machine = n; event = e } in
-    ap (λ i. succeeded m c.args.pid c.args.at i i.action es c.args.value c.args.last) (sym c.item-item.ensures.value) ∙ ap (λ v. succeeded m c.args.pid c.args.at c.item-item.result.now c.item-item.result.now.action es v c.args.last) (sym value_is) ∙ ap (λ v. succeeded m c.args.pid c.args.at c.item-item.result.now c.item-item.result.now.action es (to_z w16 (of_z w16 c.args.value)) v) (sym last_is) ∙ c.perform_successor.ensures.after ∙ ap (λ o. outcome o n c.args.pid c.item-item.result.now.line) c.in-Err.is ∙ ap told (sym c.failed.ensures)
+    ap (λ i. succeeded m c.args.pid c.args.at i i.action es c.args.value c.args.last) (sym c.item-item.ensures.value) ∙ ap (λ v. succeeded m c.args.pid c.args.at c.item-item.result.now c.item-item.result.now.action es v c.args.last) (sym value_is) ∙ ap (λ v. succeeded m c.args.pid c.args.at c.item-item.result.now c.item-item.result.now.action es (to_z w16 (of_z w16 c.args.value)) v) (sym last_is) ∙ c.perform_successor.ensures.after ∙ ap (λ o. outcome o n c.args.pid c.item-item.result.now.line) c.in-Err.is ∙ ap told (sym c.fault_event.ensures)

@@ -6,7 +6,7 @@ use Rattle.cp_merged.specs.Layers.{front_at}
 use Rattle.cp_merged.specs.Holds.{same_key, AreLeads}
 use Rattle.cp_merged.proofs.Making.{Ending, ending_start, ending_next, ending_more, ending_done, ending_small}
 use Rattle.cp_merged.specs.declared.prefixes.Prefixes as code
-use Rattle.cp_states.specs.declared.row.Row.{Row}
+use Rattle.cp_states.specs.declared.row.StateRow.{StateRow}
 use Rattle.cp_merged.proofs.layering.end_layer.Goals as goal
 
 pub loop-key-init : goal.loop-key-init
@@ -26,7 +26,7 @@ take_output-requires c =
     let l = c.args.limits in
     let old = c.loop-key.frontier in
     let es = c.next.new.self in
-    let e : Row × code.Prefixes = (c.in-Some.key.now, c.in-Some.prefixes.now) in
+    let e : StateRow × code.Prefixes = (c.in-Some.key.now, c.in-Some.prefixes.now) in
     let at : c.loop-key.key-iterator ≡ (c.in-Some.key.now, c.in-Some.prefixes.now) ∷ c.next.new.self = first_of (search (rules, c.in-Some.ensures.steps), cc (c.in-Some.ensures.steps, c.in-Some.key-is, c.in-Some.prefixes-is), grind (arith, c.in-Some.ensures.steps, c.in-Some.key-is, c.in-Some.prefixes-is), assumption c.in-Some.ensures.steps) in
     let m = subst (Ending r l.gates l.steps l.choices old.store old.ended.entries) at c.loop-key.invariant.ending in
     let n = ending_next r l.gates l.steps l.choices old.store old.ended.entries es e m in
@@ -40,7 +40,7 @@ end-requires c =
     let l = c.args.limits in
     let old = c.loop-key.frontier in
     let es = c.next.new.self in
-    let e : Row × code.Prefixes = (c.in-Some.key.now, c.in-Some.prefixes.now) in
+    let e : StateRow × code.Prefixes = (c.in-Some.key.now, c.in-Some.prefixes.now) in
     let at : c.loop-key.key-iterator ≡ (c.in-Some.key.now, c.in-Some.prefixes.now) ∷ c.next.new.self = first_of (search (rules, c.in-Some.ensures.steps), cc (c.in-Some.ensures.steps, c.in-Some.key-is, c.in-Some.prefixes-is), grind (arith, c.in-Some.ensures.steps, c.in-Some.key-is, c.in-Some.prefixes-is), assumption c.in-Some.ensures.steps) in
     let m = subst (Ending r l.gates l.steps l.choices old.store old.ended.entries) at c.loop-key.invariant.ending in
     ending_small r l.gates l.steps l.choices old.store old.ended.entries es e m
@@ -51,7 +51,7 @@ loop-key-preserved c =
     let l = c.args.limits in
     let old = c.loop-key.frontier in
     let es = c.next.new.self in
-    let e : Row × code.Prefixes = (c.in-Some.key.now, c.in-Some.prefixes.now) in
+    let e : StateRow × code.Prefixes = (c.in-Some.key.now, c.in-Some.prefixes.now) in
     let at : c.loop-key.key-iterator ≡ (c.in-Some.key.now, c.in-Some.prefixes.now) ∷ c.next.new.self = first_of (search (rules, c.in-Some.ensures.steps), cc (c.in-Some.ensures.steps, c.in-Some.key-is, c.in-Some.prefixes-is), grind (arith, c.in-Some.ensures.steps, c.in-Some.key-is, c.in-Some.prefixes-is), assumption c.in-Some.ensures.steps) in
     let m = subst (Ending r l.gates l.steps l.choices old.store old.ended.entries) at c.loop-key.invariant.ending in
     let n = ending_next r l.gates l.steps l.choices old.store old.ended.entries es e m in

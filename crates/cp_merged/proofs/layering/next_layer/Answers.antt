@@ -9,7 +9,7 @@ use Rattle.cp_merged.specs.Holds.{same_key, AreLeads}
 use Rattle.cp_merged.proofs.Making.{Making, leads_length, making_start, making_next, making_more, making_done, making_many, making_room, making_small}
 use Rattle.cp_merged.proofs.Knowing.{all_moved}
 use Rattle.cp_merged.specs.declared.prefixes.Prefixes as code
-use Rattle.cp_states.specs.declared.row.Row.{Row}
+use Rattle.cp_states.specs.declared.row.StateRow.{StateRow}
 use Rattle.cp_merged.proofs.layering.next_layer.Goals as goal
 
 pub loop-key-init : goal.loop-key-init
@@ -37,7 +37,7 @@ take-requires-clause-row g c =
     let d = c.args.depth in
     let old = c.loop-key.frontier in
     let es = c.next.new.self in
-    let e : Row × code.Prefixes = (c.in-Some.key.now, c.in-Some.prefixes.now) in
+    let e : StateRow × code.Prefixes = (c.in-Some.key.now, c.in-Some.prefixes.now) in
     let at : c.loop-key.key-iterator ≡ (c.in-Some.key.now, c.in-Some.prefixes.now) ∷ c.next.new.self = first_of (search (rules, c.in-Some.ensures.steps), cc (c.in-Some.ensures.steps, c.in-Some.key-is, c.in-Some.prefixes-is), grind (arith, c.in-Some.ensures.steps, c.in-Some.key-is, c.in-Some.prefixes-is), assumption c.in-Some.ensures.steps) in
     let m = subst (Making r l.gates l.steps d old.store old.ended.entries old.layer.entries) at c.loop-key.invariant.making in
     let n = making_next r l.gates l.steps d old.store old.ended.entries old.layer.entries es e m in
@@ -50,7 +50,7 @@ take_choices-requires-clause-own g c =
     let d = c.args.depth in
     let old = c.loop-key.frontier in
     let es = c.next.new.self in
-    let e : Row × code.Prefixes = (c.in-Some.key.now, c.in-Some.prefixes.now) in
+    let e : StateRow × code.Prefixes = (c.in-Some.key.now, c.in-Some.prefixes.now) in
     let at : c.loop-key.key-iterator ≡ (c.in-Some.key.now, c.in-Some.prefixes.now) ∷ c.next.new.self = first_of (search (rules, c.in-Some.ensures.steps), cc (c.in-Some.ensures.steps, c.in-Some.key-is, c.in-Some.prefixes-is), grind (arith, c.in-Some.ensures.steps, c.in-Some.key-is, c.in-Some.prefixes-is), assumption c.in-Some.ensures.steps) in
     let m = subst (Making r l.gates l.steps d old.store old.ended.entries old.layer.entries) at c.loop-key.invariant.making in
     let n = making_next r l.gates l.steps d old.store old.ended.entries old.layer.entries es e m in
@@ -63,7 +63,7 @@ take_choices-requires-clause-known g c =
     let d = c.args.depth in
     let old = c.loop-key.frontier in
     let es = c.next.new.self in
-    let e : Row × code.Prefixes = (c.in-Some.key.now, c.in-Some.prefixes.now) in
+    let e : StateRow × code.Prefixes = (c.in-Some.key.now, c.in-Some.prefixes.now) in
     let at : c.loop-key.key-iterator ≡ (c.in-Some.key.now, c.in-Some.prefixes.now) ∷ c.next.new.self = first_of (search (rules, c.in-Some.ensures.steps), cc (c.in-Some.ensures.steps, c.in-Some.key-is, c.in-Some.prefixes-is), grind (arith, c.in-Some.ensures.steps, c.in-Some.key-is, c.in-Some.prefixes-is), assumption c.in-Some.ensures.steps) in
     let m = subst (Making r l.gates l.steps d old.store old.ended.entries old.layer.entries) at c.loop-key.invariant.making in
     let n = making_next r l.gates l.steps d old.store old.ended.entries old.layer.entries es e m in
@@ -76,7 +76,7 @@ returns-in_default-clause-own g c =
     let d = c.args.depth in
     let old = c.loop-key.frontier in
     let es = c.next.new.self in
-    let e : Row × code.Prefixes = (c.in-Some.key.now, c.in-Some.prefixes.now) in
+    let e : StateRow × code.Prefixes = (c.in-Some.key.now, c.in-Some.prefixes.now) in
     let at : c.loop-key.key-iterator ≡ (c.in-Some.key.now, c.in-Some.prefixes.now) ∷ c.next.new.self = first_of (search (rules, c.in-Some.ensures.steps), cc (c.in-Some.ensures.steps, c.in-Some.key-is, c.in-Some.prefixes-is), grind (arith, c.in-Some.ensures.steps, c.in-Some.key-is, c.in-Some.prefixes-is), assumption c.in-Some.ensures.steps) in
     let m = subst (Making r l.gates l.steps d old.store old.ended.entries old.layer.entries) at c.loop-key.invariant.making in
     let n = making_next r l.gates l.steps d old.store old.ended.entries old.layer.entries es e m in
@@ -89,7 +89,7 @@ returns-then-len-most-clause-own g c =
     let d = c.args.depth in
     let old = c.loop-key.frontier in
     let es = c.next.new.self in
-    let e : Row × code.Prefixes = (c.in-Some.key.now, c.in-Some.prefixes.now) in
+    let e : StateRow × code.Prefixes = (c.in-Some.key.now, c.in-Some.prefixes.now) in
     let at : c.loop-key.key-iterator ≡ (c.in-Some.key.now, c.in-Some.prefixes.now) ∷ c.next.new.self = first_of (search (rules, c.in-Some.ensures.steps), cc (c.in-Some.ensures.steps, c.in-Some.key-is, c.in-Some.prefixes-is), grind (arith, c.in-Some.ensures.steps, c.in-Some.key-is, c.in-Some.prefixes-is), assumption c.in-Some.ensures.steps) in
     let m = subst (Making r l.gates l.steps d old.store old.ended.entries old.layer.entries) at c.loop-key.invariant.making in
     let n = making_next r l.gates l.steps d old.store old.ended.entries old.layer.entries es e m in
@@ -105,7 +105,7 @@ take_choices-requires-clause-room g c =
     let d = c.args.depth in
     let old = c.loop-key.frontier in
     let es = c.next.new.self in
-    let e : Row × code.Prefixes = (c.in-Some.key.now, c.in-Some.prefixes.now) in
+    let e : StateRow × code.Prefixes = (c.in-Some.key.now, c.in-Some.prefixes.now) in
     let at : c.loop-key.key-iterator ≡ (c.in-Some.key.now, c.in-Some.prefixes.now) ∷ c.next.new.self = first_of (search (rules, c.in-Some.ensures.steps), cc (c.in-Some.ensures.steps, c.in-Some.key-is, c.in-Some.prefixes-is), grind (arith, c.in-Some.ensures.steps, c.in-Some.key-is, c.in-Some.prefixes-is), assumption c.in-Some.ensures.steps) in
     let m = subst (Making r l.gates l.steps d old.store old.ended.entries old.layer.entries) at c.loop-key.invariant.making in
     let due = c.requires.due in
@@ -119,7 +119,7 @@ take_choices-requires-clause-small g c =
     let d = c.args.depth in
     let old = c.loop-key.frontier in
     let es = c.next.new.self in
-    let e : Row × code.Prefixes = (c.in-Some.key.now, c.in-Some.prefixes.now) in
+    let e : StateRow × code.Prefixes = (c.in-Some.key.now, c.in-Some.prefixes.now) in
     let at : c.loop-key.key-iterator ≡ (c.in-Some.key.now, c.in-Some.prefixes.now) ∷ c.next.new.self = first_of (search (rules, c.in-Some.ensures.steps), cc (c.in-Some.ensures.steps, c.in-Some.key-is, c.in-Some.prefixes-is), grind (arith, c.in-Some.ensures.steps, c.in-Some.key-is, c.in-Some.prefixes-is), assumption c.in-Some.ensures.steps) in
     let m = subst (Making r l.gates l.steps d old.store old.ended.entries old.layer.entries) at c.loop-key.invariant.making in
     making_small r l.gates l.steps d old.store old.ended.entries old.layer.entries es e m
@@ -131,7 +131,7 @@ returns-then-len-most-clause-many g c =
     let d = c.args.depth in
     let old = c.loop-key.frontier in
     let es = c.next.new.self in
-    let e : Row × code.Prefixes = (c.in-Some.key.now, c.in-Some.prefixes.now) in
+    let e : StateRow × code.Prefixes = (c.in-Some.key.now, c.in-Some.prefixes.now) in
     let at : c.loop-key.key-iterator ≡ (c.in-Some.key.now, c.in-Some.prefixes.now) ∷ c.next.new.self = first_of (search (rules, c.in-Some.ensures.steps), cc (c.in-Some.ensures.steps, c.in-Some.key-is, c.in-Some.prefixes-is), grind (arith, c.in-Some.ensures.steps, c.in-Some.key-is, c.in-Some.prefixes-is), assumption c.in-Some.ensures.steps) in
     let m = subst (Making r l.gates l.steps d old.store old.ended.entries old.layer.entries) at c.loop-key.invariant.making in
     let n = making_next r l.gates l.steps d old.store old.ended.entries old.layer.entries es e m in
@@ -148,7 +148,7 @@ loop-key-preserved g c =
     let d = c.args.depth in
     let old = c.loop-key.frontier in
     let es = c.next.new.self in
-    let e : Row × code.Prefixes = (c.in-Some.key.now, c.in-Some.prefixes.now) in
+    let e : StateRow × code.Prefixes = (c.in-Some.key.now, c.in-Some.prefixes.now) in
     let at : c.loop-key.key-iterator ≡ (c.in-Some.key.now, c.in-Some.prefixes.now) ∷ c.next.new.self = first_of (search (rules, c.in-Some.ensures.steps), cc (c.in-Some.ensures.steps, c.in-Some.key-is, c.in-Some.prefixes-is), grind (arith, c.in-Some.ensures.steps, c.in-Some.key-is, c.in-Some.prefixes-is), assumption c.in-Some.ensures.steps) in
     let m = subst (Making r l.gates l.steps d old.store old.ended.entries old.layer.entries) at c.loop-key.invariant.making in
     let n = making_next r l.gates l.steps d old.store old.ended.entries old.layer.entries es e m in

@@ -17,7 +17,7 @@ take_choice-requires-clause-may g c =
     let sys = slots c.args.program.now c.args.limits.gates in
     let i = c.loop-process.process-index in
     let all = c.as_slice-process-items.result.now in
-    let listed : all ≡ those_below sys.processes (may sys s) = c.as_slice-process-items.ensures.value ∙ c.wanted-numbers.ensures in
+    let listed : all ≡ those_below sys.processes (may sys s) = c.as_slice-process-items.ensures.value ∙ c.candidates-numbers.ensures in
     let lt : i < length all = omega arith in
     let on : may sys (machine_of c.take_moved.new.self) (get_or all i 0) ≡ true = ap (λ m. may sys m (get_or all i 0)) c.take_moved.ensures.same ∙ may_those sys s all listed i lt in
     search (rules, on)
@@ -30,7 +30,7 @@ take_choice-requires-clause-small g c =
     let i = c.loop-process.process-index in
     let numbers = c.as_slice-process-items.result.now in
     let f = c.requires.small.0 in
-    let listed : numbers ≡ those_below sys.processes (may sys s) = c.as_slice-process-items.ensures.value ∙ c.wanted-numbers.ensures in
+    let listed : numbers ≡ those_below sys.processes (may sys s) = c.as_slice-process-items.ensures.value ∙ c.candidates-numbers.ensures in
     let lt : i < length numbers = omega arith in
     let taken = length-take-le i numbers (omega (arith, lt)) in
     let all = ap length listed in
@@ -87,7 +87,7 @@ returns-clause-front g c = λ f h.
     let i = c.loop-process.process-index in
     let numbers = c.as_slice-process-items.result.now in
     let new = c.loop-process.frontier in
-    let listed : numbers ≡ those_below sys.processes (may sys s) = c.as_slice-process-items.ensures.value ∙ c.wanted-numbers.ensures in
+    let listed : numbers ≡ those_below sys.processes (may sys s) = c.as_slice-process-items.ensures.value ∙ c.candidates-numbers.ensures in
     let whole : take i numbers ≡ numbers = take_all i numbers (omega arith) in
     let all = ap (λ ps. after_list sys same_outcome same_key steps x ps f) (whole ∙ listed) ∙ list_those sys same_outcome same_key steps x sys.processes f in
     subst (Holds r new.store new.ended.entries new.layer.entries) all (c.loop-process.invariant.front f h))

@@ -25,4 +25,4 @@ returns-else-used-limits c =
     let sys = slots c.args.program.now c.args.limits.gates in
     let m = machine_of c.args.state.now in
     let k = c.args.limits.choices - c.args.used in
-    ap Wants c.wanted.ensures ∙ sym (ap (λ h. further c.args.used (run_from sys c.args.limits.steps k [] (node_of h m))) c.in-Choice.is ∙ wants_at sys c.args.limits.steps k (c.args.limits.choices - (c.args.used + 1)) c.args.used [] m (omega arith) refl)
+    ap Wants c.candidates.ensures ∙ sym (ap (λ h. further c.args.used (run_from sys c.args.limits.steps k [] (node_of h m))) c.in-Choice.is ∙ wants_at sys c.args.limits.steps k (c.args.limits.choices - (c.args.used + 1)) c.args.used [] m (omega arith) refl)

@@ -85,13 +85,13 @@ element-origin_address-requires t c = begins (memory_of c.args.permanents.now c.
 pub element-moved-start-requires : goal.element-moved-start-requires
 element-moved-start-requires t c = rw c.origin_address.ensures (moves (memory_of c.args.permanents.now c.args.room.now) c.args.frame.now c.args.place.now 1 c.requires)
 
-pub loaded-origin_address-requires : goal.loaded-origin_address-requires
-loaded-origin_address-requires t c = begins (memory_of c.args.permanents.now c.args.room.now) c.args.frame.now c.args.place.now 1 c.requires
+pub load_value-origin_address-requires : goal.load_value-origin_address-requires
+load_value-origin_address-requires t c = begins (memory_of c.args.permanents.now c.args.room.now) c.args.frame.now c.args.place.now 1 c.requires
 
-pub loaded-moved-at-requires : goal.loaded-moved-at-requires
-loaded-moved-at-requires t c = rw c.origin_address.ensures (moves (memory_of c.args.permanents.now c.args.room.now) c.args.frame.now c.args.place.now 1 c.requires)
+pub load_value-moved-at-requires : goal.load_value-moved-at-requires
+load_value-moved-at-requires t c = rw c.origin_address.ensures (moves (memory_of c.args.permanents.now c.args.room.now) c.args.frame.now c.args.place.now 1 c.requires)
 
-pub loaded-cell-requires : goal.loaded-cell-requires
-loaded-cell-requires t c =
+pub load_value-cell-requires : goal.load_value-cell-requires
+load_value-cell-requires t c =
     let there = address_there (memory_of c.args.permanents.now c.args.room.now) c.args.frame.now c.args.place.now c.origin_address.result c.moved-at.result c.as_slice.result.now c.origin_address.ensures c.moved-at.ensures c.as_slice.ensures.value c.in-empty.len_below in
     reached (memory_of c.args.permanents.now c.args.room.now) c.args.frame.now c.args.place.now 1 c.requires c.moved-at.result (sym there)

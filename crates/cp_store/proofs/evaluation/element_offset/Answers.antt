@@ -12,7 +12,7 @@ returns c =
     let index_is : to_z w16 (of_z w16 c.args.index) ≡ c.args.index = search rules in
     let value_is : to_z w16 (of_z w16 c.in_ok-index.index) ≡ c.in_ok-index.index = search rules in
     let ranged_is : ◌≡◌ {A = Result ℤ ErrorName} (ranged c.args.low c.args.high c.args.index) (Ok c.in_ok-index.index) =
-    cc (low_is, high_is, index_is, c.ranged.ensures, c.in_ok-index.was {u = tt}) in
+    cc (low_is, high_is, index_is, c.check_range.ensures, c.in_ok-index.was {u = tt}) in
     let elements_are : c.abs_diff-elements.result ≡ unsigned_abs (c.in_ok-index.index -ℤ c.args.low) = cc (low_is, value_is, c.abs_diff-elements.ensures) in
     let near = nearer c.args.low c.args.high c.args.index c.in_ok-index.index c.args.size ranged_is in
     distance_is c.args.low c.args.high c.args.index c.in_ok-index.index c.args.size c.abs_diff-elements.result ranged_is elements_are (rw elements_are (omega (arith, near, c.requires)))
@@ -24,7 +24,7 @@ overflow_mul-result c =
     let index_is : to_z w16 (of_z w16 c.args.index) ≡ c.args.index = search rules in
     let value_is : to_z w16 (of_z w16 c.in_ok-index.index) ≡ c.in_ok-index.index = search rules in
     let ranged_is : ◌≡◌ {A = Result ℤ ErrorName} (ranged c.args.low c.args.high c.args.index) (Ok c.in_ok-index.index) =
-    cc (low_is, high_is, index_is, c.ranged.ensures, c.in_ok-index.was {u = tt}) in
+    cc (low_is, high_is, index_is, c.check_range.ensures, c.in_ok-index.was {u = tt}) in
     let elements_are : c.abs_diff-elements.result ≡ unsigned_abs (c.in_ok-index.index -ℤ c.args.low) = cc (low_is, value_is, c.abs_diff-elements.ensures) in
     let near = nearer c.args.low c.args.high c.args.index c.in_ok-index.index c.args.size ranged_is in
     rw elements_are (omega (arith, near, c.requires))

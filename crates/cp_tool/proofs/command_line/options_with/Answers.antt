@@ -24,8 +24,8 @@ returns-then-kind c o has =
     let bad : true ≡ false = sym c.if-kind.true ∙ c.requires.kind.clash ∙ has.one in
     absurd (cc)
 
-pub chosen-requires : goal.chosen-requires
-chosen-requires c =
+pub parse_number-requires : goal.parse_number-requires
+parse_number-requires c =
     let rows = rows_of (found_of c.args.matches.now) in
     let fits = default_fits (asks_merge rows) (asks_ends rows) in
     let ends = c.default_choices-usual.ensures ∙ ap default_choices c.requires.kind.ends in
@@ -39,34 +39,34 @@ returns-then-rows c o has =
     let rows = has.rows_asked ∙ sym (ap is_asked (c.get_str.ensures ∙ first_value-rows f (codes "rows"))) ∙ sym c.is_asked-rows.ensures ∙ c.if-rows.true in
     both_asked o.merge o.rows merge rows o.rows_or_merge
 
-pub returns-in_err-chosen : goal.returns-in_err-chosen
-returns-in_err-chosen c = finds_none (HasOptions (rows_of (found_of c.args.matches.now))) c.from_residual.result c.from_residual.ensures (λ o has.
+pub returns-in_err-parse_number : goal.returns-in_err-parse_number
+returns-in_err-parse_number c = finds_none (HasOptions (rows_of (found_of c.args.matches.now))) c.from_residual.result c.from_residual.ensures (λ o has.
     let text = c.get_str-2.ensures ∙ first_value-rows (found_of c.args.matches.now) (codes "choices") in
     let most : c.from-most.result ≡ most_choices o.merge = c.from-most.ensures ∙ c.most_choices.ensures ∙ ap most_choices (c.requires.kind.merge ∙ sym has.merge) in
     let default : c.default_choices-usual.result ≡ default_choices o.ends = c.default_choices-usual.ensures ∙ ap default_choices (c.requires.kind.ends ∙ sym has.ends) in
     let here = subst (λ (t : Option Text). IsChosen (default_choices o.ends) 0 (most_choices o.merge) t o.choices) (sym text) has.choices in
     let given = subst (λ (n : ℕ). IsChosen n 0 (most_choices o.merge) (option_map (λ s. s.now) c.get_str-2.result) o.choices) (sym default) here in
-    c.in_err-chosen.ensures o.choices (subst (λ (n : ℕ). IsChosen c.default_choices-usual.result 0 n (option_map (λ s. s.now) c.get_str-2.result) o.choices) (sym most) given))
+    c.in_err-parse_number.ensures o.choices (subst (λ (n : ℕ). IsChosen c.default_choices-usual.result 0 n (option_map (λ s. s.now) c.get_str-2.result) o.choices) (sym most) given))
 
-pub returns-in_err-chosen-2 : goal.returns-in_err-chosen-2
-returns-in_err-chosen-2 c = finds_none (HasOptions (rows_of (found_of c.args.matches.now))) c.from_residual-in_err-chosen-2.result c.from_residual-in_err-chosen-2.ensures (λ o has.
+pub returns-in_err-parse_number-2 : goal.returns-in_err-parse_number-2
+returns-in_err-parse_number-2 c = finds_none (HasOptions (rows_of (found_of c.args.matches.now))) c.from_residual-in_err-parse_number-2.result c.from_residual-in_err-parse_number-2.ensures (λ o has.
     let text = c.get_str-3.ensures ∙ first_value-rows (found_of c.args.matches.now) (codes "steps") in
-    c.in_err-chosen-2.ensures o.steps (subst (λ (t : Option Text). IsChosen 1000 1 100000 t o.steps) (sym text) has.steps))
+    c.in_err-parse_number-2.ensures o.steps (subst (λ (t : Option Text). IsChosen 1000 1 100000 t o.steps) (sym text) has.steps))
 
-pub returns-in_err-chosen-3 : goal.returns-in_err-chosen-3
-returns-in_err-chosen-3 c = finds_none (HasOptions (rows_of (found_of c.args.matches.now))) c.from_residual-in_err-chosen-3.result c.from_residual-in_err-chosen-3.ensures (λ o has.
+pub returns-in_err-parse_number-3 : goal.returns-in_err-parse_number-3
+returns-in_err-parse_number-3 c = finds_none (HasOptions (rows_of (found_of c.args.matches.now))) c.from_residual-in_err-parse_number-3.result c.from_residual-in_err-parse_number-3.ensures (λ o has.
     let text = c.get_str-4.ensures ∙ first_value-rows (found_of c.args.matches.now) (codes "workers") in
-    c.in_err-chosen-3.ensures o.workers (subst (λ (t : Option Text). IsChosen 2 1 16 t o.workers) (sym text) has.workers))
+    c.in_err-parse_number-3.ensures o.workers (subst (λ (t : Option Text). IsChosen 2 1 16 t o.workers) (sym text) has.workers))
 
-pub returns-in_err-chosen-4 : goal.returns-in_err-chosen-4
-returns-in_err-chosen-4 c = finds_none (HasOptions (rows_of (found_of c.args.matches.now))) c.from_residual-in_err-chosen-4.result c.from_residual-in_err-chosen-4.ensures (λ o has.
+pub returns-in_err-parse_number-4 : goal.returns-in_err-parse_number-4
+returns-in_err-parse_number-4 c = finds_none (HasOptions (rows_of (found_of c.args.matches.now))) c.from_residual-in_err-parse_number-4.result c.from_residual-in_err-parse_number-4.ensures (λ o has.
     let text = c.get_str-5.ensures ∙ first_value-rows (found_of c.args.matches.now) (codes "cut") in
-    c.in_err-chosen-4.ensures o.cut (subst (λ (t : Option Text). IsChosen 2 0 20 t o.cut) (sym text) has.cut))
+    c.in_err-parse_number-4.ensures o.cut (subst (λ (t : Option Text). IsChosen 2 0 20 t o.cut) (sym text) has.cut))
 
-pub returns-in_err-chosen-5 : goal.returns-in_err-chosen-5
-returns-in_err-chosen-5 c = finds_none (HasOptions (rows_of (found_of c.args.matches.now))) c.from_residual-in_err-chosen-5.result c.from_residual-in_err-chosen-5.ensures (λ o has.
+pub returns-in_err-parse_number-5 : goal.returns-in_err-parse_number-5
+returns-in_err-parse_number-5 c = finds_none (HasOptions (rows_of (found_of c.args.matches.now))) c.from_residual-in_err-parse_number-5.result c.from_residual-in_err-parse_number-5.ensures (λ o has.
     let text = c.get_str-6.ensures ∙ first_value-rows (found_of c.args.matches.now) (codes "states") in
-    c.in_err-chosen-5.ensures o.states (subst (λ (t : Option Text). IsChosen 200000 1 10000000 t o.states) (sym text) has.states))
+    c.in_err-parse_number-5.ensures o.states (subst (λ (t : Option Text). IsChosen 200000 1 10000000 t o.states) (sym text) has.states))
 
 pub returns-in_err-gates_for : goal.returns-in_err-gates_for
 returns-in_err-gates_for c = finds_none (HasOptions (rows_of (found_of c.args.matches.now))) c.from_residual-in_err-gates_for.result c.from_residual-in_err-gates_for.ensures (λ o has.
@@ -79,21 +79,21 @@ returns c =
     let f = found_of c.args.matches.now in
     let at = λ (id : Text). first_value-rows f id in
     let most : c.from-most.result ≡ most_choices c.args.kind.merge = c.from-most.ensures ∙ c.most_choices.ensures in
-    let choices = subst (λ (t : Option Text). IsChosen c.default_choices-usual.result 0 c.from-most.result t c.in_ok-chosen.field-0) (c.get_str-2.ensures ∙ at (codes "choices")) c.in_ok-chosen.ensures in
-    let within = subst (λ (n : ℕ). IsChosen c.default_choices-usual.result 0 n (first_of (codes "choices") (rows_of f)) c.in_ok-chosen.field-0) most choices in
+    let choices = subst (λ (t : Option Text). IsChosen c.default_choices-usual.result 0 c.from-most.result t c.in_ok-parse_number.field-0) (c.get_str-2.ensures ∙ at (codes "choices")) c.in_ok-parse_number.ensures in
+    let within = subst (λ (n : ℕ). IsChosen c.default_choices-usual.result 0 n (first_of (codes "choices") (rows_of f)) c.in_ok-parse_number.field-0) most choices in
     record {
       merge = c.requires.kind.merge;
       ends = c.requires.kind.ends;
       waits = c.requires.kind.waits;
       at_once = c.requires.kind.at_once;
       one = sym c.requires.kind.clash ∙ c.if-kind.false;
-      choices = subst (λ (n : ℕ). IsChosen n 0 (most_choices c.args.kind.merge) (first_of (codes "choices") (rows_of f)) c.in_ok-chosen.field-0) c.default_choices-usual.ensures within;
-      steps = subst (λ (t : Option Text). IsChosen 1000 1 100000 t c.in_ok-chosen-2.field-0) (c.get_str-3.ensures ∙ at (codes "steps")) c.in_ok-chosen-2.ensures;
-      workers = subst (λ (t : Option Text). IsChosen 2 1 16 t c.in_ok-chosen-3.field-0) (c.get_str-4.ensures ∙ at (codes "workers")) c.in_ok-chosen-3.ensures;
-      cut = subst (λ (t : Option Text). IsChosen 2 0 20 t c.in_ok-chosen-4.field-0) (c.get_str-5.ensures ∙ at (codes "cut")) c.in_ok-chosen-4.ensures;
+      choices = subst (λ (n : ℕ). IsChosen n 0 (most_choices c.args.kind.merge) (first_of (codes "choices") (rows_of f)) c.in_ok-parse_number.field-0) c.default_choices-usual.ensures within;
+      steps = subst (λ (t : Option Text). IsChosen 1000 1 100000 t c.in_ok-parse_number-2.field-0) (c.get_str-3.ensures ∙ at (codes "steps")) c.in_ok-parse_number-2.ensures;
+      workers = subst (λ (t : Option Text). IsChosen 2 1 16 t c.in_ok-parse_number-3.field-0) (c.get_str-4.ensures ∙ at (codes "workers")) c.in_ok-parse_number-3.ensures;
+      cut = subst (λ (t : Option Text). IsChosen 2 0 20 t c.in_ok-parse_number-4.field-0) (c.get_str-5.ensures ∙ at (codes "cut")) c.in_ok-parse_number-4.ensures;
       cut_given = c.is_given.ensures ∙ ap is_some (c.get_str-8.ensures ∙ at (codes "cut"));
       rows_asked = c.is_asked-rows.ensures ∙ ap is_asked (c.get_str.ensures ∙ at (codes "rows"));
-      states = subst (λ (t : Option Text). IsChosen 200000 1 10000000 t c.in_ok-chosen-5.field-0) (c.get_str-6.ensures ∙ at (codes "states")) c.in_ok-chosen-5.ensures;
+      states = subst (λ (t : Option Text). IsChosen 200000 1 10000000 t c.in_ok-parse_number-5.field-0) (c.get_str-6.ensures ∙ at (codes "states")) c.in_ok-parse_number-5.ensures;
       schedule = subst (λ (r : Option (Option (ArrayVec ℕ))). Finds (IsScheduled (most_choices c.args.kind.merge) (first_of (codes "schedule") (rows_of f))) r) c.in_ok-schedule.was c.requires.schedule;
       gates = subst (λ (b : Bool). IsGatedFor b (first_of (codes "gates") (rows_of f)) c.in_ok-gates_for.field-0) (ap₂ (λ a b. a || b) c.requires.kind.waits c.requires.kind.at_once) (subst (λ (t : Option Text). IsGatedFor (c.args.kind.waits || c.args.kind.at_once) t c.in_ok-gates_for.field-0) (c.get_str-7.ensures ∙ at (codes "gates")) c.in_ok-gates_for.ensures);
     }

@@ -1,4 +1,4 @@
 use Rattle.cp_waits.proofs.building.graph_of.Given as goal
 
-abbrev pub ghosts-built : goal.ghosts-built
-ghosts-built a = record { name = a.blank.name; parts = a.blank.parts }
+abbrev pub ghosts-build_graph : goal.ghosts-build_graph
+ghosts-build_graph a = record { name = a.blank.name; parts = a.blank.parts }

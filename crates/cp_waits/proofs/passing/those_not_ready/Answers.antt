@@ -1,7 +1,7 @@
 use Rattle.std.proofs.Common.{◌≡◌, ◌∙◌, ◌<◌, ◌≤◌, ◌+◌, ap, sym, true, false, length, arith, List, ℕ, Bool, not}
 use Rattle.std.specs.Prelude.{◌&&◌, ◌||◌, nat_eq, slice_index_or}
 use Rattle.std.proofs.lemmas.Bool.{lt-ltb}
-use Rattle.cp_machine.specs.declared.process.Process.{Process}
+use Rattle.cp_machine.specs.declared.process.ProcessState.{ProcessState}
 use Rattle.cp_machine.specs.Machine.{is_ready, is_ready_status}
 use Rattle.cp_machine.specs.System.{machine_of}
 use Rattle.cp_machine.proofs.ThreadLemmas.{thread_read}
@@ -18,7 +18,7 @@ loop-process-preserved c =
     let count : pid ≡ i = c.loop-process.invariant.count in
     let p = c.process-item.result in
     let lt : i < length ps = rw (← c.deref-process-items.ensures.value) c.loop-process-test.true in
-    let at : p ≡ slice_index_or ps i p = c.process-item.is ∙ ap (λ (l : List Process). slice_index_or l i p) c.deref-process-items.ensures.value in
+    let at : p ≡ slice_index_or ps i p = c.process-item.is ∙ ap (λ (l : List ProcessState). slice_index_or l i p) c.deref-process-items.ensures.value in
     let m = machine_of c.args.state.now in
     let g : ℕ → Bool = λ q. not (is_ready m q) in
     let read : g pid ≡ not (is_ready_status p.status) = ap g count ∙ ap (λ t. not (is_ready_status t.status)) (thread_read ps i p lt at) in

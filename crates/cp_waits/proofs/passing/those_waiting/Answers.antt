@@ -1,7 +1,7 @@
 use Rattle.std.proofs.Common.{◌≡◌, ◌∙◌, ◌<◌, ◌≤◌, ◌+◌, ap, sym, true, false, length, arith, List, ℕ, Bool}
 use Rattle.std.specs.Prelude.{◌&&◌, ◌||◌, nat_eq, slice_index_or}
 use Rattle.std.proofs.lemmas.Bool.{lt-ltb}
-use Rattle.cp_machine.specs.declared.process.Process.{Process}
+use Rattle.cp_machine.specs.declared.process.ProcessState.{ProcessState}
 use Rattle.cp_machine.specs.Machine.{is_waiting}
 use Rattle.cp_machine.specs.System.{machine_of}
 use Rattle.cp_machine.proofs.ThreadLemmas.{thread_read}
@@ -19,7 +19,7 @@ loop-process-preserved c =
     let count : pid ≡ i = c.loop-process.invariant.count in
     let p = c.process-item.result in
     let lt : i < length ps = rw (← c.deref-process-items.ensures.value) c.loop-process-test.true in
-    let at : p ≡ slice_index_or ps i p = c.process-item.is ∙ ap (λ (l : List Process). slice_index_or l i p) c.deref-process-items.ensures.value in
+    let at : p ≡ slice_index_or ps i p = c.process-item.is ∙ ap (λ (l : List ProcessState). slice_index_or l i p) c.deref-process-items.ensures.value in
     let m = machine_of c.args.state.now in
     let read : waits_on_slots m pid ≡ is_waiting p.status = ap (waits_on_slots m) count ∙ ap (λ t. is_waiting t.status) (thread_read ps i p lt at) in
     let j = c.saturating_add-pid.result in

@@ -87,7 +87,7 @@ walk_from-unreachable-requires g t c =
     let s = machine_of c.args.state.now in
     let sys = slots c.args.program.now c.args.limits.gates in
     let due = subst (λ h. IsDue sys (node_of h s)) (not_ended c.args.halt c.in_default.not-Ended) c.requires.due in
-    none_due sys s c.as_slice.result.now (c.as_slice.ensures.value ∙ c.wanted-numbers.ensures) c.in_default-split_last.ensures.cases due
+    none_due sys s c.as_slice.result.now (c.as_slice.ensures.value ∙ c.candidates-numbers.ensures) c.in_default-split_last.ensures.cases due
 
 pub walk_from-loop-process-init : goal.walk_from-loop-process-init
 walk_from-loop-process-init g t c =
@@ -109,7 +109,7 @@ walk_from-walk_child-requires g t c =
     let i = c.loop-process.process-index in
     let others = c.in-Some-split_last.others.now in
     let last = c.in-Some-split_last.last.now in
-    let listed : others ++ last ∷ [] ≡ those_below sys.processes (may sys s) = sym c.in-Some-split_last.ensures.cases.0 ∙ c.as_slice.ensures.value ∙ c.wanted-numbers.ensures in
+    let listed : others ++ last ∷ [] ≡ those_below sys.processes (may sys s) = sym c.in-Some-split_last.ensures.cases.0 ∙ c.as_slice.ensures.value ∙ c.candidates-numbers.ensures in
     let lt : i < length others = omega arith in
     let on : may sys (machine_of c.take_from.new.self) (get_or others i 0) ≡ true = ap (λ m. may sys m (get_or others i 0)) c.take_from.ensures.same ∙ may_other sys c.args.limits.steps 0 s others last listed i (get_or others i 0) lt refl in
     search (rules, on)
@@ -128,7 +128,7 @@ walk_from-loop-process-preserved g t c =
     let old = map line_of c.args.rows.now.items in
     let rows = map line_of c.loop-process.rows.items in
     let new = map line_of c.walk_child.new.rows.items in
-    let listed : others ++ last ∷ [] ≡ those_below sys.processes (may sys s) = sym c.in-Some-split_last.ensures.cases.0 ∙ c.as_slice.ensures.value ∙ c.wanted-numbers.ensures in
+    let listed : others ++ last ∷ [] ≡ those_below sys.processes (may sys s) = sym c.in-Some-split_last.ensures.cases.0 ∙ c.as_slice.ensures.value ∙ c.candidates-numbers.ensures in
     let lt : i < length others = omega arith in
     let more : length c.walk_child.new.deeper ≡ n = c.walk_child.auto.deeper in
     let grown : new ≡ rows ++ map (behind (word ++ p ∷ [])) (walk sys steps n (chosen sys steps s p)) = c.in_ok-walk_child.ensures.rows ∙ ap (λ w. rows ++ map (behind (w ++ p ∷ [])) (walk sys steps n (chosen sys steps (machine_of c.take_from.new.self) p))) c.loop-process.invariant.word ∙ ap (λ m. rows ++ map (behind (word ++ p ∷ [])) (walk sys steps n (chosen sys steps m p))) c.take_from.ensures.same in
@@ -154,7 +154,7 @@ walk_from-returns-in_err-walk_child-clause-many g t c =
     let p = get_or others i 0 in
     let n = length c.loop-process.deeper in
     let left = length c.args.kept.now in
-    let listed : others ++ last ∷ [] ≡ those_below sys.processes (may sys s) = sym c.in-Some-split_last.ensures.cases.0 ∙ c.as_slice.ensures.value ∙ c.wanted-numbers.ensures in
+    let listed : others ++ last ∷ [] ≡ those_below sys.processes (may sys s) = sym c.in-Some-split_last.ensures.cases.0 ∙ c.as_slice.ensures.value ∙ c.candidates-numbers.ensures in
     let lt : i < length others = omega arith in
     let deep : left ≡ n + 1 = sym c.in-Some.ensures.cases.1 ∙ ap (λ k. k + 1) (sym c.loop-process.auto.deeper) in
     let bound = many_other sys steps n s others last listed i p left lt refl deep c.args.word.now.items (map line_of c.args.rows.now.items) (map line_of c.loop-process.rows.items) c.loop-process.invariant.rows in
@@ -170,7 +170,7 @@ walk_from-walk_child-requires-2 g t c =
     let sys = slots c.args.program.now c.args.limits.gates in
     let others = c.in-Some-split_last.others.now in
     let last = c.in-Some-split_last.last.now in
-    let listed : others ++ last ∷ [] ≡ those_below sys.processes (may sys s) = sym c.in-Some-split_last.ensures.cases.0 ∙ c.as_slice.ensures.value ∙ c.wanted-numbers.ensures in
+    let listed : others ++ last ∷ [] ≡ those_below sys.processes (may sys s) = sym c.in-Some-split_last.ensures.cases.0 ∙ c.as_slice.ensures.value ∙ c.candidates-numbers.ensures in
     let on : may sys s last ≡ true = may_last sys c.args.limits.steps 0 s others last listed in
     search (rules, on)
 
@@ -187,7 +187,7 @@ walk_from-returns-clause-rows g t c =
     let old = map line_of c.args.rows.now.items in
     let rows = map line_of c.loop-process.rows.items in
     let new = map line_of c.walk_child-2.new.rows.items in
-    let listed : others ++ last ∷ [] ≡ those_below sys.processes (may sys s) = sym c.in-Some-split_last.ensures.cases.0 ∙ c.as_slice.ensures.value ∙ c.wanted-numbers.ensures in
+    let listed : others ++ last ∷ [] ≡ those_below sys.processes (may sys s) = sym c.in-Some-split_last.ensures.cases.0 ∙ c.as_slice.ensures.value ∙ c.candidates-numbers.ensures in
     let deep : left ≡ n + 1 = sym c.in-Some.ensures.cases.1 ∙ ap (λ k. k + 1) (sym c.loop-process.auto.deeper) in
     let whole : take c.loop-process.process-index others ≡ others = take_all c.loop-process.process-index others (omega arith) in
     let so_far : rows ≡ old ++ map (behind word) (behind_each sys steps n s others) = c.loop-process.invariant.rows ∙ ap (λ ps. old ++ map (behind word) (behind_each sys steps n s ps)) whole in
@@ -209,7 +209,7 @@ walk_from-returns-clause-many g t c =
     let word = c.args.word.now.items in
     let old = map line_of c.args.rows.now.items in
     let rows = map line_of c.loop-process.rows.items in
-    let listed : others ++ last ∷ [] ≡ those_below sys.processes (may sys s) = sym c.in-Some-split_last.ensures.cases.0 ∙ c.as_slice.ensures.value ∙ c.wanted-numbers.ensures in
+    let listed : others ++ last ∷ [] ≡ those_below sys.processes (may sys s) = sym c.in-Some-split_last.ensures.cases.0 ∙ c.as_slice.ensures.value ∙ c.candidates-numbers.ensures in
     let deep : left ≡ n + 1 = sym c.in-Some.ensures.cases.1 ∙ ap (λ k. k + 1) (sym c.loop-process.auto.deeper) in
     let whole : take c.loop-process.process-index others ≡ others = take_all c.loop-process.process-index others (omega arith) in
     let so_far : rows ≡ old ++ map (behind word) (behind_each sys steps n s others) = c.loop-process.invariant.rows ∙ ap (λ ps. old ++ map (behind word) (behind_each sys steps n s ps)) whole in
@@ -228,7 +228,7 @@ walk_from-returns-clause-some g t c =
     let last = c.in-Some-split_last.last.now in
     let n = length c.loop-process.deeper in
     let left = length c.args.kept.now in
-    let listed : others ++ last ∷ [] ≡ those_below sys.processes (may sys s) = sym c.in-Some-split_last.ensures.cases.0 ∙ c.as_slice.ensures.value ∙ c.wanted-numbers.ensures in
+    let listed : others ++ last ∷ [] ≡ those_below sys.processes (may sys s) = sym c.in-Some-split_last.ensures.cases.0 ∙ c.as_slice.ensures.value ∙ c.candidates-numbers.ensures in
     let deep : left ≡ n + 1 = sym c.in-Some.ensures.cases.1 ∙ ap (λ k. k + 1) (sym c.loop-process.auto.deeper) in
     let due = not_ended c.args.halt c.in_default.not-Ended in
     ok_as c.walk_child-2.result _ (λ _. 0 < length (walk sys steps left (node_of c.args.halt s))) c.walk_child-2.ensures.some (λ a h. subst (λ k. 0 < length (walk sys steps left (node_of k s))) (sym due) (some_last sys steps n s others last listed left deep h))
@@ -243,7 +243,7 @@ walk_from-returns-clause-calls g t c =
     let n = length c.loop-process.deeper in
     let left = length c.args.kept.now in
     let new = c.walk_child-2.new.calls in
-    let listed : others ++ last ∷ [] ≡ those_below sys.processes (may sys s) = sym c.in-Some-split_last.ensures.cases.0 ∙ c.as_slice.ensures.value ∙ c.wanted-numbers.ensures in
+    let listed : others ++ last ∷ [] ≡ those_below sys.processes (may sys s) = sym c.in-Some-split_last.ensures.cases.0 ∙ c.as_slice.ensures.value ∙ c.candidates-numbers.ensures in
     let deep : left ≡ n + 1 = sym c.in-Some.ensures.cases.1 ∙ ap (λ k. k + 1) (sym c.loop-process.auto.deeper) in
     let whole : take c.loop-process.process-index others ≡ others = take_all c.loop-process.process-index others (omega arith) in
     let so_far : c.loop-process.calls ≤ c.args.calls.now + added [] (words_in (behind_each sys steps n s others)) = subst (λ ps. c.loop-process.calls ≤ c.args.calls.now + added [] (words_in (behind_each sys steps n s ps))) whole c.loop-process.invariant.calls in

@@ -15,7 +15,7 @@ close-closed-requires-clause-own g c =
     let P : Seat → Type 0 = IsSeatOf c.in-Ok.made.0 in
     let ended = c.in-Ok-map_vec.ended.items in
     let calls = c.in-Ok-map_vec.ensures in
-    subst (All P) (sym c.in-Ok-collected.ensures.seats) (All-map P (λ (w : Worked). w.seat) ended (λ k d h. (calls.each k d (omega (arith, h, calls.len))).1.call.met.0))
+    subst (All P) (sym c.in-Ok-collect_parts.ensures.seats) (All-map P (λ (w : Worked). w.seat) ended (λ k d h. (calls.each k d (omega (arith, h, calls.len))).1.call.met.0))
 
 pub returns-then-closed-gt-MOST_NOTED-clause-many : goal.returns-then-closed-gt-MOST_NOTED-clause-many
 returns-then-closed-gt-MOST_NOTED-clause-many g c _ =
@@ -28,11 +28,11 @@ returns-then-closed-gt-MOST_NOTED-clause-many g c _ =
     let met : All (HasWorked rows b) ended = λ k d h. (calls.each k d (omega (arith, h, calls.len))).1.call.met in
     let settled : Settles c.args.tasks claimed total (map view_of (map (λ (w : Worked). w.seat) ended)) =
     subst (λ n. Settles n claimed total (map view_of (map (λ (w : Worked). w.seat) ended))) c.in-Ok.ensures.made.tasks_are
-    (subst (λ (l : List Seat). Settles (tasks_of b) claimed total (map view_of l)) c.in-Ok-collected.ensures.seats c.close-closed.ensures.settled) in
-    omega (arith, c.if-closed-gt-MOST_NOTED.true, total-le-table rows b c.args.tasks ended claimed total settled met c.in-Ok-collected.ensures.kept)
+    (subst (λ (l : List Seat). Settles (tasks_of b) claimed total (map view_of l)) c.in-Ok-collect_parts.ensures.seats c.close-closed.ensures.settled) in
+    omega (arith, c.if-closed-gt-MOST_NOTED.true, total-le-table rows b c.args.tasks ended claimed total settled met c.in-Ok-collect_parts.ensures.kept)
 
-pub gathered-requires : goal.gathered-requires
-gathered-requires g c =
+pub gather_rows-requires : goal.gather_rows-requires
+gather_rows-requires g c =
     let rows = g.W.Work.rows c.args.work.now in
     let b = c.in-Ok.made.0 in
     let ended = c.in-Ok-map_vec.ended.items in
@@ -42,10 +42,10 @@ gathered-requires g c =
     let met : All (HasWorked rows b) ended = λ k d h. (calls.each k d (omega (arith, h, calls.len))).1.call.met in
     let settled : Settles c.args.tasks claimed total (map view_of (map (λ (w : Worked). w.seat) ended)) =
     subst (λ n. Settles n claimed total (map view_of (map (λ (w : Worked). w.seat) ended))) c.in-Ok.ensures.made.tasks_are
-    (subst (λ (l : List Seat). Settles (tasks_of b) claimed total (map view_of l)) c.in-Ok-collected.ensures.seats c.close-closed.ensures.settled) in
+    (subst (λ (l : List Seat). Settles (tasks_of b) claimed total (map view_of l)) c.in-Ok-collect_parts.ensures.seats c.close-closed.ensures.settled) in
     let few : total ≤ 50000 = c.if-closed-gt-MOST_NOTED.false in
-    subst (All (λ (p : TaskRows). p.task < c.args.tasks)) (sym c.in-Ok-collected.ensures.parts)
-    (all_below rows b c.args.tasks ended claimed total settled met c.in-Ok-collected.ensures.kept few (λ w own. own.1 ∙ c.in-Ok.ensures.made.tasks_are))
+    subst (All (λ (p : TaskRows). p.task < c.args.tasks)) (sym c.in-Ok-collect_parts.ensures.parts)
+    (all_below rows b c.args.tasks ended claimed total settled met c.in-Ok-collect_parts.ensures.kept few (λ w own. own.1 ∙ c.in-Ok.ensures.made.tasks_are))
 
 pub returns-clause-table : goal.returns-clause-table
 returns-clause-table g c =
@@ -58,11 +58,11 @@ returns-clause-table g c =
     let met : All (HasWorked rows b) ended = λ k d h. (calls.each k d (omega (arith, h, calls.len))).1.call.met in
     let settled : Settles c.args.tasks claimed total (map view_of (map (λ (w : Worked). w.seat) ended)) =
     subst (λ n. Settles n claimed total (map view_of (map (λ (w : Worked). w.seat) ended))) c.in-Ok.ensures.made.tasks_are
-    (subst (λ (l : List Seat). Settles (tasks_of b) claimed total (map view_of l)) c.in-Ok-collected.ensures.seats c.close-closed.ensures.settled) in
+    (subst (λ (l : List Seat). Settles (tasks_of b) claimed total (map view_of l)) c.in-Ok-collect_parts.ensures.seats c.close-closed.ensures.settled) in
     let few : total ≤ 50000 = c.if-closed-gt-MOST_NOTED.false in
     let one : 0 < length ended = omega (arith, calls.len, c.in-Ok.ensures.made.many, c.requires.workers.0) in
-    c.in-Ok-gathered.ensures ∙ ap (λ (ps : List TaskRows). table_of (rows_at ps) c.args.tasks) c.in-Ok-collected.ensures.parts
-    ∙ table-from_parts rows b c.args.tasks ended claimed total settled met c.in-Ok-collected.ensures.kept few one
+    c.in-Ok-gather_rows.ensures ∙ ap (λ (ps : List TaskRows). table_of (rows_at ps) c.args.tasks) c.in-Ok-collect_parts.ensures.parts
+    ∙ table-from_parts rows b c.args.tasks ended claimed total settled met c.in-Ok-collect_parts.ensures.kept few one
 
 pub returns-clause-few : goal.returns-clause-few
 returns-clause-few g c _ =
@@ -75,7 +75,7 @@ returns-clause-few g c _ =
     let met : All (HasWorked rows b) ended = λ k d h. (calls.each k d (omega (arith, h, calls.len))).1.call.met in
     let settled : Settles c.args.tasks claimed total (map view_of (map (λ (w : Worked). w.seat) ended)) =
     subst (λ n. Settles n claimed total (map view_of (map (λ (w : Worked). w.seat) ended))) c.in-Ok.ensures.made.tasks_are
-    (subst (λ (l : List Seat). Settles (tasks_of b) claimed total (map view_of l)) c.in-Ok-collected.ensures.seats c.close-closed.ensures.settled) in
+    (subst (λ (l : List Seat). Settles (tasks_of b) claimed total (map view_of l)) c.in-Ok-collect_parts.ensures.seats c.close-closed.ensures.settled) in
     let few : total ≤ 50000 = c.if-closed-gt-MOST_NOTED.false in
     let one : 0 < length ended = omega (arith, calls.len, c.in-Ok.ensures.made.many, c.requires.workers.0) in
-    omega (arith, few, length-table rows b c.args.tasks ended claimed total settled met c.in-Ok-collected.ensures.kept few one)
+    omega (arith, few, length-table rows b c.args.tasks ended claimed total settled met c.in-Ok-collect_parts.ensures.kept few one)

@@ -19,7 +19,7 @@ choose-requires-clause-may g c =
     let sys = slots c.args.program.now c.args.limits.gates in
     let i = c.loop-process.process-index in
     let all = c.as_slice-process-items.result.now in
-    let listed : all ≡ those_below sys.processes (may sys s) = c.as_slice-process-items.ensures.value ∙ c.wanted-numbers.ensures in
+    let listed : all ≡ those_below sys.processes (may sys s) = c.as_slice-process-items.ensures.value ∙ c.candidates-numbers.ensures in
     let lt : i < length all = omega arith in
     let on : may sys (machine_of c.take_from.new.self) (get_or all i 0) ≡ true = ap (λ m. may sys m (get_or all i 0)) c.take_from.ensures.same ∙ may_those sys s all listed i lt in
     search (rules, on)
@@ -39,7 +39,7 @@ returns-then-not-branch-clause-found g c = λ states x h at same.
     let Leg = HasLeg r c.args.limits.gates in
     let i = c.loop-process.process-index in
     let all = c.as_slice-process-items.result.now in
-    let listed : all ≡ those_below gr.below (gr.may x.0) = c.as_slice-process-items.ensures.value ∙ c.wanted-numbers.ensures ∙ ap (λ m. those_below gr.below (gr.may m)) same in
+    let listed : all ≡ those_below gr.below (gr.may x.0) = c.as_slice-process-items.ensures.value ∙ c.candidates-numbers.ensures ∙ ap (λ m. those_below gr.below (gr.may m)) same in
     let lt : i < length all = omega arith in
     let was = c.loop-process.invariant.found states x h at same in
     let may : gr.may x.0 (get_or all i 0) ≡ true = may_those (slots r c.args.limits.gates) x.0 all listed i lt in
@@ -58,7 +58,7 @@ loop-process-preserved g c =
           let Leg = HasLeg r c.args.limits.gates in
           let i = c.loop-process.process-index in
           let all = c.as_slice-process-items.result.now in
-          let listed : all ≡ those_below gr.below (gr.may x.0) = c.as_slice-process-items.ensures.value ∙ c.wanted-numbers.ensures ∙ ap (λ m. those_below gr.below (gr.may m)) same in
+          let listed : all ≡ those_below gr.below (gr.may x.0) = c.as_slice-process-items.ensures.value ∙ c.candidates-numbers.ensures ∙ ap (λ m. those_below gr.below (gr.may m)) same in
           let lt : i < length all = omega arith in
           let was = c.loop-process.invariant.found states x h at same in
           let may : gr.may x.0 (get_or all i 0) ≡ true = may_those (slots r c.args.limits.gates) x.0 all listed i lt in
@@ -75,7 +75,7 @@ returns-clause-found g c = λ states x h at same.
     let sys = slots r c.args.limits.gates in
     let i = c.loop-process.process-index in
     let all = c.as_slice-process-items.result.now in
-    let listed : all ≡ those_below gr.below (gr.may x.0) = c.as_slice-process-items.ensures.value ∙ c.wanted-numbers.ensures ∙ ap (λ m. those_below gr.below (gr.may m)) same in
+    let listed : all ≡ those_below gr.below (gr.may x.0) = c.as_slice-process-items.ensures.value ∙ c.candidates-numbers.ensures ∙ ap (λ m. those_below gr.below (gr.may m)) same in
     let whole : take i all ≡ all = take_all i all (omega arith) in
     all_chosen r gr (HasLeg r c.args.limits.gates) c.args.most c.args.self.now.found states c.loop-process.self.found x.0 (take i all) (λ p. ap (list_any (λ y. y == p)) (whole ∙ listed) ∙ any_wanted sys x.0 p) (c.loop-process.invariant.found states x h at same))
 

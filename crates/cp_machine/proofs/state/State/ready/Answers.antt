@@ -2,7 +2,7 @@ use Rattle.std.proofs.Common.{◌≡◌, ◌∙◌, ◌<◌, ap, length, sym, tr
 use Rattle.std.proofs.lemmas.List.{append-nil}
 use Rattle.std.specs.Prelude.{slice_index_or}
 use Rattle.arrayvec.specs.ArrayVec.{array_vec_len}
-use Rattle.cp_machine.specs.declared.process.Process.{Process}
+use Rattle.cp_machine.specs.declared.process.ProcessState.{ProcessState}
 use Rattle.cp_machine.specs.Machine.{is_ready, is_ready_status, machine_of}
 use Rattle.cp_machine.proofs.ListLemmas.{kept_more}
 use Rattle.cp_machine.proofs.ThreadLemmas.{thread_read}
@@ -13,7 +13,7 @@ pub loop-pid-preserved : goal.loop-pid-preserved
 loop-pid-preserved c =
     let m = machine_of c.args.self.now in
     let lt : c.loop-pid.pid < length c.args.self.now.processes.items = rw (← c.deref-process-items.ensures.value) c.loop-pid-test.true in
-    let at : c.process-item.result ≡ slice_index_or c.args.self.now.processes.items c.loop-pid.pid c.process-item.result = c.process-item.is ∙ ap (λ (ps : List Process). slice_index_or ps c.loop-pid.pid c.process-item.result) c.deref-process-items.ensures.value in
+    let at : c.process-item.result ≡ slice_index_or c.args.self.now.processes.items c.loop-pid.pid c.process-item.result = c.process-item.is ∙ ap (λ (ps : List ProcessState). slice_index_or ps c.loop-pid.pid c.process-item.result) c.deref-process-items.ensures.value in
     let read = thread_read c.args.self.now.processes.items c.loop-pid.pid c.process-item.result lt at in
     let test : is_ready m c.loop-pid.pid ≡ c.is_ready.result = ap (λ t. is_ready_status t.status) read ∙ sym c.is_ready.ensures in
     elim c.if-is_ready.branch [

@@ -1,5 +1,5 @@
 use Rattle.std.proofs.Common.{◌∙◌, ℕ, List, arith, map, refl, subst, sym}
-use Rattle.cp_machine.specs.Machine.{Machine, machine_of, no_thread, thread_of}
+use Rattle.cp_machine.specs.Machine.{Machine, machine_of}
 use Rattle.cp_states.specs.Admitted.{admitted_by}
 use Rattle.cp_states.specs.Gated.{gated_by, none_gated}
 use Rattle.cp_states.specs.Kept.{IsAmong}

@@ -1,10 +1,10 @@
-use Rattle.std.proofs.Common.{◌≡◌, ◌∙◌, ◌+◌, ◌<◌, ℕ, Bool, true, ap, arith, length, map, refl, subst, sym}
+use Rattle.std.proofs.Common.{◌≡◌, ◌∙◌, ◌+◌, ◌<◌, ℕ, Bool, true, ap, arith, length, map, subst, sym}
 use Rattle.std.specs.Prelude.{slice_index_or, vec_len}
 use Rattle.std.specs.Vec.{with_items}
 use Rattle.std.proofs.lemmas.List.{length-map, with_items_is}
 use Rattle.cp_key.proofs.Owned.{machine_room}
 use Rattle.cp_machine.specs.Fits.{HaveCells, HaveReferences, HaveStacks, LinesFit, MachineFits}
-use Rattle.cp_machine.specs.Machine.{Machine, Thread, machine_of, monitor_of, no_thread, thread_at, thread_of}
+use Rattle.cp_machine.specs.Machine.{Thread, thread_at, thread_of}
 use Rattle.cp_machine.specs.Reach.{Reaches}
 use Rattle.cp_states.specs.Rows.{number_at}
 use Rattle.cp_states.specs.Taking.{AreTaken, HasRoomFor}

@@ -15,7 +15,7 @@ take_choice-requires-clause-may g c =
     let sys = slots c.args.program.now c.args.limits.gates in
     let i = c.loop-process.process-index in
     let all = c.as_slice-process-items.result.now in
-    let listed : all ≡ those_below sys.processes (may sys s) = c.as_slice-process-items.ensures.value ∙ c.wanted-numbers.ensures in
+    let listed : all ≡ those_below sys.processes (may sys s) = c.as_slice-process-items.ensures.value ∙ c.candidates-numbers.ensures in
     let lt : i < length all = omega arith in
     let on : may sys (machine_of c.take_from.new.self) (get_or all i 0) ≡ true = ap (λ m. may sys m (get_or all i 0)) c.take_from.ensures.same ∙ may_those sys s all listed i lt in
     search (rules, on)
@@ -53,6 +53,6 @@ returns-clause-graph g c = λ states x all count at same.
     let sys = slots r gates in
     let i = c.loop-process.process-index in
     let items = c.as_slice-process-items.result.now in
-    let listed : items ≡ those_below sys.processes (may sys x.0) = c.as_slice-process-items.ensures.value ∙ c.wanted-numbers.ensures ∙ ap (λ m. those_below sys.processes (may sys m)) same in
+    let listed : items ≡ those_below sys.processes (may sys x.0) = c.as_slice-process-items.ensures.value ∙ c.candidates-numbers.ensures ∙ ap (λ m. those_below sys.processes (may sys m)) same in
     let whole : take i items ≡ items = take_all i items (omega arith) in
     subst (λ ps. AddsChoicesOnSlots r gates steps states c.args.number x.0 ps c.args.self.now.graph c.loop-process.self.graph) (whole ∙ listed) (c.loop-process.invariant.graph states x all count at same))

@@ -1,6 +1,0 @@
-use Rattle.std.proofs.Common.{◌≡◌, ◌++◌, map}
-use Rattle.cp_merged.specs.Code.{end_of, tally_of}
-use Rattle.cp_merged.proofs.ordered.found.Given as goal
-
-abbrev pub invariant-loop-key : goal.invariant-loop-key
-invariant-loop-key l = map tally_of l.tallies.items ++ map end_of l.key-iterator ≡ map end_of l.fn.ends.entries

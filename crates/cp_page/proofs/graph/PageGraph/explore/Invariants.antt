@@ -1,0 +1,7 @@
+use Rattle.std.proofs.Common.{All}
+use Rattle.cp_machine.specs.System.{IsStateOf}
+use Rattle.cp_machine.specs.declared.state.State.{State}
+use Rattle.cp_page.proofs.graph.PageGraph.explore.Given as goal
+
+abbrev pub invariant-loop-at : goal.invariant-loop-at
+invariant-loop-at g l = All (λ (s : State). IsStateOf l.program s) l.states.items

@@ -1,0 +1,8 @@
+//! What a long search is at, told on one line of a terminal that is taken away at the end.
+#![tactic(auto)]
+
+mod line;
+#[cfg(test)]
+mod tests;
+
+pub use line::{ObserveWork, ProgressLine};

@@ -1,0 +1,159 @@
+//! The line, and when it is written.
+
+ghost use Rattle.std.specs.Duration.{as_nanos};
+ghost use Rattle.std.specs.Prelude.{◌≡◌, ◌<◌, false, IfSome};
+
+use cp_progress::{ObserveLayers, Progress, Unobserved};
+use std::alloc::{AllocError, Global};
+use std::io::Write;
+use std::time::{Clock, Duration};
+
+/// Whoever is told of each layer, and of the end of the work.
+pub trait ObserveWork: ObserveLayers {
+    /// The work is done, or given up, and its answer is not yet written.
+    fn observe_end(&mut self);
+}
+
+impl ObserveWork for Unobserved {
+    #[inline(always)]
+    fn observe_end(&mut self) {}
+}
+
+/// A line of a terminal that tells what work of more than two seconds is at. Where a write or the clock fails, the line is not written, and nothing
+/// else comes of it.
+#[derive(Drop)]
+pub struct ProgressLine<C: Drop, W: Drop> {
+    alloc: Global,
+    clock: C,
+    // Without one nothing is ever written.
+    terminal: Option<W>,
+    // What is counted beside choices and states.
+    counted: &'static str,
+    began: Duration,
+    written: Option<Duration>,
+    width: usize,
+}
+
+impl<C: Clock + Drop, W: Write + Drop> ProgressLine<C, W> {
+    /// The work begins now.
+    pub fn begin(
+        alloc: Global,
+        clock: C,
+        terminal: Option<W>,
+        counted: &'static str,
+    ) -> ProgressLine<C, W> {
+        let (began, terminal) = match (terminal, clock.monotonic()) {
+            (Some(terminal), Ok(now)) => (now, Some(terminal)),
+            (_, _) => (Duration::ZERO, None),
+        };
+        ProgressLine {
+            alloc,
+            clock,
+            terminal,
+            counted,
+            began,
+            written: None,
+            width: 0,
+        }
+    }
+
+    /// Gives the terminal back.
+    pub fn into_terminal(self) -> Option<W> {
+        self.terminal
+    }
+
+    // The time, if the line is to be written now.
+    fn time_to_write(&self) -> Option<Duration> {
+        if self.terminal.is_none() {
+            return None;
+        }
+        let Ok(now) = self.clock.monotonic() else {
+            return None;
+        };
+        let since_written = match self.written {
+            Some(written) => Some(now.saturating_sub(written)),
+            None => None,
+        };
+        if is_due(now.saturating_sub(self.began), since_written) {
+            Some(now)
+        } else {
+            None
+        }
+    }
+
+    fn write(&mut self, text: &str) {
+        match &mut self.terminal {
+            Some(terminal) => {
+                let _ = terminal.write_all(text.as_bytes());
+            }
+            None => {}
+        }
+    }
+}
+
+impl<C: Clock + Drop, W: Write + Drop> ObserveLayers for ProgressLine<C, W> {
+    fn observe_layer(&mut self, progress: Progress) {
+        let Some(now) = self.time_to_write() else {
+            return;
+        };
+        let Ok(text) = text_of(self.alloc, self.counted, progress) else {
+            return;
+        };
+        let Ok(line) = line_over(self.alloc, text.as_str(), self.width) else {
+            return;
+        };
+        self.write(line.as_str());
+        self.width = text.len();
+        self.written = Some(now);
+    }
+}
+
+impl<C: Clock + Drop, W: Write + Drop> ObserveWork for ProgressLine<C, W> {
+    fn observe_end(&mut self) {
+        if self.width == 0 {
+            return;
+        }
+        // Where memory is refused, the terminal is asked to empty the line.
+        match line_over(self.alloc, "", self.width) {
+            Ok(line) => {
+                self.write(line.as_str());
+                self.write("\r");
+            }
+            Err(_) => self.write("\r\x1b[K"),
+        }
+        self.width = 0;
+    }
+}
+
+// Whether the line is due so long after the work began, and after the line was written last: after two seconds, and four times a second.
+fn is_due(since_begin: Duration, since_written: Option<Duration>) -> bool
+    ensures late { as_nanos since_begin < 2_000_000_000 → result ≡ false }
+    ensures seldom { IfSome since_written (λ since. as_nanos since < 250_000_000 → result ≡ false) }
+{
+    if since_begin.as_nanos() < 2_000_000_000 {
+        return false;
+    }
+    match since_written {
+        Some(since) => since.as_nanos() >= 250_000_000,
+        None => true,
+    }
+}
+
+fn text_of(alloc: Global, counted: &'static str, progress: Progress) -> Result<String, AllocError> {
+    let Progress {
+        choices,
+        states,
+        outcomes,
+    } = progress;
+    format!(in alloc; "choices done: {choices}, states: {states}, {counted} so far: {outcomes}")
+}
+
+// A text at the beginning of the line, with blanks over what else stood there.
+fn line_over(alloc: Global, text: &str, width: usize) -> Result<String, AllocError> {
+    let mut line = String::from_str(alloc, "\r")?;
+    line.push_str(text)?;
+    for _column in text.len()..width {
+        line.push(' ')?;
+    }
+    Ok(line)
+}

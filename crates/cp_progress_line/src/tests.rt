@@ -1,0 +1,128 @@
+//! When the line is written, what it says, and that it goes.
+
+use crate::{ObserveWork, ProgressLine};
+use cp_progress::{ObserveLayers, Progress};
+use std::alloc::Global;
+use std::cell::Cell;
+use std::io::{Error, ErrorKind, Result as IoResult, Write};
+use std::test::Fail;
+use std::time::{Clock, Duration};
+
+/// Shows a hundred milliseconds more each time that it is read.
+#[derive(Drop)]
+struct TickingClock {
+    reads: Cell<u32>,
+}
+
+impl Clock for TickingClock {
+    fn monotonic(&self) -> IoResult<Duration> {
+        let reads = self.reads.get().saturating_add(1);
+        self.reads.set(reads);
+        Ok(Duration::from_millis(7_000 + u64::from(reads) * 100))
+    }
+
+    fn since_1970(&self) -> IoResult<Duration> {
+        self.monotonic()
+    }
+}
+
+/// Keeps what is written, or refuses it.
+#[derive(Drop)]
+struct FakeTerminal {
+    taken: Vec<u8>,
+    is_broken: bool,
+}
+
+impl FakeTerminal {
+    fn new(alloc: Global, is_broken: bool) -> FakeTerminal {
+        FakeTerminal {
+            taken: Vec::new(alloc),
+            is_broken,
+        }
+    }
+}
+
+impl Write for FakeTerminal {
+    fn write(&mut self, bytes: &[u8]) -> IoResult<usize> {
+        if self.is_broken {
+            return Err(Error::from(ErrorKind::Other));
+        }
+        match self.taken.extend_from_slice(bytes) {
+            Ok(()) => Ok(bytes.len()),
+            Err(_) => Err(Error::from(ErrorKind::OutOfMemory)),
+        }
+    }
+
+    fn flush(&mut self) -> IoResult<()> {
+        Ok(())
+    }
+}
+
+// What a terminal is told of so many layers, of which each takes a hundred milliseconds.
+fn told(alloc: Global, layers: u32, is_broken: bool) -> FakeTerminal {
+    let clock = TickingClock {
+        reads: Cell::new(0),
+    };
+    let mut line = ProgressLine::begin(
+        alloc,
+        clock,
+        Some(FakeTerminal::new(alloc, is_broken)),
+        "outcomes",
+    );
+    for layer in 0..layers {
+        line.observe_layer(Progress {
+            choices: layer,
+            states: if layer < 21 { 1_000_000 } else { 7 },
+            outcomes: 3,
+        });
+    }
+    line.observe_end();
+    line.observe_end();
+    line.into_terminal()
+        .unwrap_or(FakeTerminal::new(alloc, false))
+}
+
+#[test]
+fn short_work_tells_nothing(rt: HostRuntime) {
+    assert!(rt; told(rt.alloc(), 0, false).taken.is_empty());
+    assert!(rt; told(rt.alloc(), 19, false).taken.is_empty());
+}
+
+#[test]
+fn the_line_comes_and_goes(rt: HostRuntime) {
+    let terminal = told(rt.alloc(), 20, false);
+    let wanted =
+        "\rchoices done: 19, states: 1000000, outcomes so far: 3\r                                                     \r";
+    assert!(rt; terminal.taken.as_slice() == wanted.as_bytes());
+}
+
+#[test]
+fn a_shorter_line_hides_a_longer_one(rt: HostRuntime) {
+    let terminal = told(rt.alloc(), 24, false);
+    let wanted =
+        "\rchoices done: 19, states: 1000000, outcomes so far: 3\rchoices done: 22, states: 7, outcomes so far: 3      \r                                               \r";
+    assert!(rt; terminal.taken.as_slice() == wanted.as_bytes());
+}
+
+#[test]
+fn a_broken_terminal_changes_nothing(rt: HostRuntime) {
+    assert!(rt; told(rt.alloc(), 24, true).taken.is_empty());
+}
+
+#[test]
+fn without_a_terminal_nothing_is_told(rt: HostRuntime) {
+    let clock = TickingClock {
+        reads: Cell::new(0),
+    };
+    let nowhere: Option<FakeTerminal> = None;
+    let mut line = ProgressLine::begin(rt.alloc(), clock, nowhere, "ends");
+    for choices in 0..30 {
+        line.observe_layer(Progress {
+            choices,
+            states: 7,
+            outcomes: 3,
+        });
+    }
+    line.observe_end();
+    assert!(rt; line.into_terminal().is_none());
+}

@@ -1,0 +1,21 @@
+use Rattle.std.proofs.Common.{◌≡◌, ◌∙◌, ◌<◌, ◌≤◌, length, sym, ap, arith}
+use Rattle.std.specs.Prelude.{◌||◌, nat_eq, not}
+use Rattle.std.proofs.lemmas.List.{length-map}
+use Rattle.cp_machine.specs.Machine.{thread_of}
+use Rattle.cp_machine.specs.System.{machine_of, is_ready}
+use Rattle.cp_machine.proofs.CallerLemmas.{threads_count}
+use Rattle.cp_endless.specs.Silent.{silent_slots, in_call_on_slots, waits_on_slots}
+use Rattle.cp_waits.specs.Sets.{has}
+use Rattle.cp_waits.proofs.Seeing.{seen_due}
+use Rattle.cp_waits.proofs.passing.PassingSets.see_due.Goals as goal
+
+pub returns : goal.returns
+returns c = λ r gates own h.
+    (let ps = c.args.state.now.processes.items in
+    let count : length r.processes ≡ length ps = sym (threads_count r c.args.state.now own) ∙ length-map ps thread_of in
+    let x = c.see.ensures in
+    seen_due (silent_slots r gates) in_call_on_slots waits_on_slots (machine_of c.args.state.now) c.args.self.now c.see.new.self h
+    (λ q lt. x.wait q (omega (arith, lt, count)))
+    (λ q lt. x.wait_once q (omega (arith, lt, count)))
+    (λ q lt. x.stay q (omega (arith, lt, count)))
+    x.step x.served)
