@@ -9,7 +9,8 @@ use crate::programs::{TWO_CYCLES, TWO_DISPLAYS, limits_of, program_of};
 use arrayvec::ArrayVec;
 use cp_drops::drop_program;
 use cp_explore::{
-    Cutting, GatherFault, Job, Piece, Row, Rows, SplitFault, Table, beginnings, explore_one, gather,
+    Cutting, GatherFault, Job, Row, RowPiece, Rows, SplitFault, Table, beginnings, explore_one,
+    gather,
 };
 use cp_machine::{Gates, Ticks};
 use cp_run::{Limits, Outcome, OutcomeKind, Output};
@@ -152,19 +153,19 @@ fn empty_row(alloc: Global) -> Row {
 }
 
 /// A piece of this many rows with nothing displayed.
-fn empty_piece(alloc: Global, task: u32, count: u32) -> Result<Piece, Fail> {
+fn empty_piece(alloc: Global, task: u32, count: u32) -> Result<RowPiece, Fail> {
     let mut rows = Vec::new(alloc);
     for _ in 0..count {
         rows.push(empty_row(alloc))?;
     }
-    Ok(Piece {
+    Ok(RowPiece {
         task,
         rows: Rows::new(rows),
     })
 }
 
 /// Pieces without rows, of these tasks.
-fn pieces_of(alloc: Global, tasks: &[u32]) -> Result<Vec<Piece>, Fail> {
+fn pieces_of(alloc: Global, tasks: &[u32]) -> Result<Vec<RowPiece>, Fail> {
     let mut pieces = Vec::new(alloc);
     for task in tasks {
         pieces.push(empty_piece(alloc, *task, 0)?)?;
@@ -203,7 +204,7 @@ enum Wrong {
 }
 
 /// What is wrong with these pieces of a table.
-fn wrong_of(alloc: Global, tasks: u32, pieces: Vec<Piece>) -> Wrong {
+fn wrong_of(alloc: Global, tasks: u32, pieces: Vec<RowPiece>) -> Wrong {
     match gather(alloc, tasks, pieces) {
         Ok(_) => Wrong::Nothing,
         Err(GatherFault::Double(task)) => Wrong::Double(task),
@@ -244,7 +245,7 @@ fn copy_of(alloc: Global, row: &Row) -> Result<Row, AllocError> {
 }
 
 /// The rows of a table that begin with a member, as a piece; no rows where there is no such member.
-fn piece_of(alloc: Global, table: &Table, task: u32) -> Result<Piece, AllocError> {
+fn piece_of(alloc: Global, table: &Table, task: u32) -> Result<RowPiece, AllocError> {
     let mut rows = Vec::new(alloc);
     if let Some(member) = MEMBERS.get(task as usize) {
         for row in table.rows.as_slice() {
@@ -253,14 +254,18 @@ fn piece_of(alloc: Global, table: &Table, task: u32) -> Result<Piece, AllocError
             }
         }
     }
-    Ok(Piece {
+    Ok(RowPiece {
         task,
         rows: Rows::new(rows),
     })
 }
 
 /// The pieces of these tasks, cut from a table.
-pub fn cut_pieces(alloc: Global, table: &Table, tasks: &[u32]) -> Result<Vec<Piece>, AllocError> {
+pub fn cut_pieces(
+    alloc: Global,
+    table: &Table,
+    tasks: &[u32],
+) -> Result<Vec<RowPiece>, AllocError> {
     let mut pieces = Vec::new(alloc);
     for task in tasks {
         pieces.push(piece_of(alloc, table, *task)?)?;

@@ -3,7 +3,7 @@ ghost use Rattle.std.specs.Prelude.{◌<◌, ◌≤◌};
 
 use crate::programs::{TWO_DISPLAYS, program_of};
 use cp_drops::drop_program;
-use cp_explore::{Cutting, Gate, Job, NoGate, Report, explore, report};
+use cp_explore::{Cutting, Job, NoGate, Report, StartGate, explore, report};
 use cp_machine::Gates;
 use cp_run::Limits;
 use std::alloc::Global;
@@ -17,7 +17,7 @@ pub static REPORT: &str =
     "schedules 45\noutcomes 2\n30 first 0.0.1.1 finished output 1 2\n15 first 0.0.2.1.1 finished output 2 1\n";
 
 /// Whether workers that draw the words of this many choices give the report of `TWO_DISPLAYS`.
-fn is_reported<X: Threads + Sync, G: Gate + Sync>(
+fn is_reported<X: Threads + Sync, G: StartGate + Sync>(
     rt: &X,
     alloc: Global,
     depth: u8,
@@ -38,7 +38,7 @@ fn is_reported<X: Threads + Sync, G: Gate + Sync>(
 }
 
 /// The report of a job by workers that draw the words of this many choices.
-fn reported<X: Threads + Sync, G: Gate + Sync>(
+fn reported<X: Threads + Sync, G: StartGate + Sync>(
     rt: &X,
     alloc: Global,
     job: Job,
@@ -62,7 +62,7 @@ struct Pair {
     is_seen: AtomicBool,
 }
 
-impl Gate for Pair {
+impl StartGate for Pair {
     fn pass(&self, _task: u32) {
         if self.passed.fetch_add(1, Ordering::SeqCst) > 0 {
             return;
@@ -95,7 +95,7 @@ struct Together {
     late: AtomicU64,
 }
 
-impl Gate for Together {
+impl StartGate for Together {
     fn pass(&self, _task: u32) {
         self.passed.fetch_add(1, Ordering::SeqCst);
         for _ in 0..10_000_000 {
@@ -127,7 +127,7 @@ struct LastTask {
     late: AtomicU64,
 }
 
-impl Gate for LastTask {
+impl StartGate for LastTask {
     fn pass(&self, task: u32) {
         if task != self.task {
             self.passed.fetch_add(1, Ordering::SeqCst);

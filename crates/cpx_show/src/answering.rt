@@ -22,7 +22,7 @@ use cp_legend::{Legend, legend_of};
 use cp_machine::Ticks;
 use cp_merged::word::word_of;
 use cp_outcomes::{
-    Subject as Survey, First, Format, first_of_outcome, outcomes, simplest_of_outcome,
+    First, Format, Subject as Survey, first_of_outcome, outcomes, simplest_of_outcome,
 };
 use cp_page::{Length, PageSubject as Played, page};
 use cp_resolved::resolve;
