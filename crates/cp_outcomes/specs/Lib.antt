@@ -2,3 +2,6 @@ pub mod Findings
 pub mod Meant
 pub mod Shares
 pub mod Stops
+pub mod Text
+pub mod Told
+pub mod Written

@@ -4,12 +4,14 @@
 pub mod completing;
 pub mod known;
 mod objects;
+mod pieces;
 pub mod share;
 mod simples;
 pub mod stopped;
 pub mod subject;
 mod telling;
 mod texts;
+mod told;
 
 pub use subject::{Format, Subject, Summary};
 pub use telling::{First, first_of_outcome, outcomes, simplest_of_outcome};

@@ -6,14 +6,15 @@ use crate::share::share_of;
 use crate::simples::Simples;
 use crate::stopped::{LIMITS, is_stopped, schedules_in, stopped_at};
 use crate::subject::{Excess, Subject};
-use crate::texts::{line_of, waits_of};
+use crate::told::{line_of, waits_of};
 use cp_machine::Ticks;
 use cp_merged::{Tallies, Tally};
 use cp_natural::{Natural, push_natural};
 use cp_run::OutcomeKind;
 use cp_simplest::SimplestSchedule;
 use cp_story::objects::{Object, monitors, numbers, processes, put_kind, waits};
-use cp_story::{kind_words, output_words};
+use cp_story::output_words;
+use cp_walk::Job;
 use serde_json::Value;
 use std::alloc::{AllocError, Global};
 use std::sync::ledger::Ledger;
@@ -43,13 +44,17 @@ fn put_outcomes<L: Ledger>(
     simples: &Simples,
     ticks: &mut Ticks<L>,
 ) -> Result<(), AllocError> {
+    let job = Job {
+        program: subject.program,
+        limits: subject.limits,
+    };
     let whole = schedules_in(tallies.as_slice());
     let mut items = Vec::new(alloc);
     for stopped in [false, true] {
         for (place, tally) in tallies.as_slice().iter().enumerate() {
             if is_stopped(tally.outcome.kind) == stopped {
                 let number = items.len().saturating_add(1);
-                let simple = simples.at(place);
+                let simple = simples.at(alloc, job, place, tally, ticks)?;
                 items.push(tally_object(alloc, subject, number, tally, simple, &whole, ticks)?)?;
             }
         }
@@ -156,7 +161,7 @@ fn stops(alloc: Global, tallies: &Tallies) -> Result<Vec<Value>, AllocError> {
         let count = stopped_at(limit, tallies.as_slice());
         if !count.is_zero() {
             let mut object = Object::new(alloc);
-            object.text("kind", kind_words(limit.kind()))?;
+            object.text("kind", limit.name())?;
             object.put("count", count_value(alloc, &count)?)?;
             items.push(object.done())?;
         }

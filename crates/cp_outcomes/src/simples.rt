@@ -19,21 +19,18 @@ pub struct Simples {
 
 impl Simples {
     /// Those of these outcomes, by a search through so many states at most.
-    pub fn of<L: Ledger>(
+    pub fn of(
         alloc: Global,
         job: Job,
         states: u32,
         tallies: &Tallies,
-        ticks: &mut Ticks<L>,
     ) -> Result<Simples, AllocError> {
         let mut outcomes = Vec::new(alloc);
         for tally in tallies.as_slice() {
             outcomes.push(&tally.outcome)?;
         }
         match simplest(alloc, job, states as usize, &outcomes)? {
-            Searched::Found(found) => Ok(Simples {
-                words: Some(confirm_words(alloc, job, found, tallies.as_slice(), ticks)?),
-            }),
+            Searched::Found(words) => Ok(Simples { words: Some(words) }),
             Searched::TooMany => Ok(Simples { words: None }),
         }
     }
@@ -43,8 +40,30 @@ impl Simples {
         self.words.is_some()
     }
 
-    /// That of the outcome at a place.
-    pub fn at(&self, place: usize) -> Option<&SimplestSchedule> {
+    /// That of the outcome at a place: its word, if the run of it is a row of the table with this outcome.
+    pub fn at<L: Ledger>(
+        &self,
+        alloc: Global,
+        job: Job,
+        place: usize,
+        tally: &Tally,
+        ticks: &mut Ticks<L>,
+    ) -> Result<Option<&SimplestSchedule>, AllocError>
+        ensures { IfOk result (λ found. IfSome found (λ s. IsScheduleOf (slots job.entry.program.now job.entry.limits.gates) job.entry.limits.choices job.entry.limits.steps s.now.word.items tally.now.outcome)) }
+    {
+        let Some(simple) = self.found_at(place) else {
+            return Ok(None);
+        };
+        let Job { program, limits } = job;
+        let word = simple.word.as_slice();
+        if is_schedule_of(alloc, program, limits, word, &tally.outcome, ticks)? {
+            Ok(Some(simple))
+        } else {
+            Ok(None)
+        }
+    }
+
+    fn found_at(&self, place: usize) -> Option<&SimplestSchedule> {
         match &self.words {
             Some(words) => match words.get(place) {
                 Some(Some(simple)) => Some(simple),
@@ -52,42 +71,5 @@ impl Simples {
             },
             None => None,
         }
-    }
-}
-
-// The words whose runs end in their outcomes.
-fn confirm_words<L: Ledger>(
-    alloc: Global,
-    job: Job,
-    found: Vec<Option<SimplestSchedule>>,
-    tallies: &[Tally],
-    ticks: &mut Ticks<L>,
-) -> Result<Vec<Option<SimplestSchedule>>, AllocError> {
-    let mut words = Vec::new(alloc);
-    for (simple, tally) in found.into_iter().zip(tallies) {
-        words.push(confirm_word(alloc, job, simple, tally, ticks)?)?;
-    }
-    Ok(words)
-}
-
-// The word, if its run is a row of the table with the outcome.
-fn confirm_word<L: Ledger>(
-    alloc: Global,
-    job: Job,
-    simple: Option<SimplestSchedule>,
-    tally: &Tally,
-    ticks: &mut Ticks<L>,
-) -> Result<Option<SimplestSchedule>, AllocError>
-    ensures { IfOk result (λ found. IfSome found (λ s. IsScheduleOf (slots job.entry.program.now job.entry.limits.gates) job.entry.limits.choices job.entry.limits.steps s.word.items tally.now.outcome)) }
-{
-    let Some(simple) = simple else {
-        return Ok(None);
-    };
-    let Job { program, limits } = job;
-    let word = simple.word.as_slice();
-    if is_schedule_of(alloc, program, limits, word, &tally.outcome, ticks)? {
-        Ok(Some(simple))
-    } else {
-        Ok(None)
     }
 }

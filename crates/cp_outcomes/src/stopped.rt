@@ -3,7 +3,9 @@
 ghost use Rattle.std.specs.Prelude.{◌≡◌, ◌<◌, ◌^◌, map, true};
 ghost use Rattle.cp_merged.specs.Code.{tally_of};
 ghost use Rattle.cp_merged.specs.Told.{rows_in};
-ghost use Rattle.cp_outcomes.specs.Stops.{count_at, is_at, rows_at};
+ghost use Rattle.cp_walk.specs.Text.{kind_text};
+ghost use Rattle.cp_outcomes.specs.Stops.{count_at, is_at, kind_at, rows_at};
+ghost use Rattle.cp_outcomes.specs.Told.{is_cut};
 
 use cp_merged::Tally;
 use cp_natural::Natural;
@@ -35,21 +37,23 @@ impl Limit {
         }
     }
 
-    /// The kind of an end at this limit, as the report has it.
-    pub fn kind(self) -> OutcomeKind
-        ensures { is_at self result ≡ true }
+    /// The kind of an end at this limit, as the report names it.
+    pub fn name(self) -> &'static str
+        ensures { result.now ≡ kind_text (kind_at self) }
     {
         match self {
-            Limit::Choices => OutcomeKind::ChoiceLimit,
-            Limit::Steps => OutcomeKind::StepLimit,
-            Limit::Output => OutcomeKind::OutputLimit,
+            Limit::Choices => "choice-limit",
+            Limit::Steps => "step-limit",
+            Limit::Output => "output-limit",
         }
     }
 }
 
 /// Whether a kind of end is that of some limit.
-pub fn is_stopped(kind: OutcomeKind) -> bool {
-    LIMITS.iter().any(|limit| limit.stops(kind))
+pub fn is_stopped(kind: OutcomeKind) -> bool
+    ensures { result ≡ is_cut kind }
+{
+    Limit::Choices.stops(kind) || Limit::Steps.stops(kind) || Limit::Output.stops(kind)
 }
 
 /// How many schedules there are.

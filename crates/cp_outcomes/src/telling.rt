@@ -1,9 +1,12 @@
 //! The outcomes of all schedules, in words or as JSON.
 
-ghost use Rattle.std.specs.Prelude.{◌≡◌, IfOk};
+ghost use Rattle.std.specs.Prelude.{◌≡◌, IfOk, map, string_bytes};
 ghost use Rattle.cp_run.specs.Slots.{slots};
+ghost use Rattle.cp_merged.specs.Code.{tally_of};
 ghost use Rattle.cp_outcomes.specs.Findings.{IsExcessOf, IsFoundOf};
 ghost use Rattle.cp_outcomes.specs.Meant.{IsMeantFinding};
+ghost use Rattle.cp_outcomes.specs.Told.{setting_of};
+ghost use Rattle.cp_outcomes.specs.Written.{IsExcessText, IsTextOf, TellsOutcomes};
 
 use crate::completing::greatest_known;
 use crate::known::Known;
@@ -11,7 +14,7 @@ use crate::objects::{excess_json, json};
 use crate::simples::Simples;
 use crate::stopped::is_stopped;
 use crate::subject::{Excess, Format, Subject, Summary};
-use crate::texts::{excess_text, text};
+use crate::texts::{excess_and_known, excess_text, text};
 use cp_machine::Ticks;
 use cp_merged::word::{Word, word_of};
 use cp_merged::{MergeFault, Tallies, Tally, explore_merged};
@@ -30,7 +33,9 @@ enum Finding {
 }
 
 /// The outcomes of all schedules of a program in words: their shares, counts and first schedules, and whether these are all.
-pub fn outcomes(alloc: Global, subject: Subject<'_>, form: Format) -> Result<Summary, AllocError> {
+pub fn outcomes(alloc: Global, subject: Subject<'_>, form: Format) -> Result<Summary, AllocError>
+    ensures { IfOk result (TellsOutcomes subject.entry form) }
+{
     match find_outcomes(alloc, subject)? {
         Finding::Whole(tallies) => Ok(Summary {
             is_whole: true,
@@ -50,10 +55,12 @@ fn excess_written(
     form: Format,
     excess: Excess,
     known: &Option<Known>,
-) -> Result<String, AllocError> {
+) -> Result<String, AllocError>
+    ensures { IfOk result (λ t. form ≡ Format.Text → IsExcessText subject.entry excess known.now (string_bytes t)) }
+{
     let Some(known) = known else {
         return match form {
-            Format::Text => excess_text(alloc, excess, None),
+            Format::Text => excess_text(alloc, excess),
             Format::Json => excess_json(alloc, excess, None),
         };
     };
@@ -62,10 +69,9 @@ fn excess_written(
     };
     let fewer = Subject { limits, ..subject };
     let told = write_findings::<Brand>(alloc, fewer, form, &known.tallies, Blank::new(1))?;
-    let known = Some((known.choices, told.as_str()));
     match form {
-        Format::Text => excess_text(alloc, excess, known),
-        Format::Json => excess_json(alloc, excess, known),
+        Format::Text => excess_and_known(alloc, excess, known.choices, told.as_str()),
+        Format::Json => excess_json(alloc, excess, Some((known.choices, told.as_str()))),
     }
 }
 
@@ -151,8 +157,11 @@ fn simplest_among<L: Ledger>(
         return Ok(First::None(tallies.as_slice().len()));
     };
     let mut ticks: Ticks<L> = Ticks::new(blank);
-    let simples = Simples::of(alloc, job, states, tallies, &mut ticks)?;
-    match simples.at(place) {
+    let simples = Simples::of(alloc, job, states, tallies)?;
+    let Some(tally) = tallies.as_slice().get(place) else {
+        return Ok(First::NotSearched);
+    };
+    match simples.at(alloc, job, place, tally, &mut ticks)? {
         Some(simple) => Ok(First::Word(word_of(simple.word.as_slice()))),
         None => Ok(First::NotSearched),
     }
@@ -168,13 +177,14 @@ fn write_findings<L: Ledger>(
     requires name { blank.name ≡ L.name }
     requires parts { blank.parts ≡ L.parts }
     requires one { L.parts ≡ 1 }
+    ensures { IfOk result (λ t. form ≡ Format.Text → IsTextOf (setting_of subject.entry subject.entry.limits.choices) (map tally_of tallies.now) (string_bytes t)) }
 {
     let mut ticks: Ticks<L> = Ticks::new(blank);
     let job = Job {
         program: subject.program,
         limits: subject.limits,
     };
-    let simples = Simples::of(alloc, job, subject.states, tallies, &mut ticks)?;
+    let simples = Simples::of(alloc, job, subject.states, tallies)?;
     match form {
         Format::Text => text(alloc, subject, tallies, &simples, &mut ticks),
         Format::Json => json(alloc, subject, tallies, &simples, &mut ticks),

@@ -1,20 +1,30 @@
 //! Outcomes as lines of text.
 
-ghost use Rattle.std.specs.Prelude.{◌≤◌, ◌<◌, ◌^◌, length, map};
+ghost use Rattle.std.specs.Prelude.{◌≡◌, ◌<◌, ◌^◌, ◌++◌, ◌==◌, ◌||◌, if◌then◌else◌, not, IfOk, codes, length, map, option_copied, string_bytes};
+ghost use Rattle.cp_natural.specs.Decimal.{number_text};
+ghost use Rattle.cp_run.specs.Table.{each};
 ghost use Rattle.cp_merged.specs.Code.{tally_of};
 ghost use Rattle.cp_merged.specs.Told.{rows_in};
+ghost use Rattle.cp_walk.specs.Text.{word_text};
+ghost use Rattle.cp_outcomes.specs.Shares.{share_in, share_text};
+ghost use Rattle.cp_outcomes.specs.Stops.{rows_at, stops};
+ghost use Rattle.cp_outcomes.specs.Text as spec;
+ghost use Rattle.cp_outcomes.specs.Told.{setting_of, told_of};
+ghost use Rattle.cp_outcomes.specs.Written.{IsTextOf};
 
+use crate::pieces::{push_blanks, push_counted, push_right, push_schedules};
 use crate::share::share_of;
 use crate::simples::Simples;
-use crate::stopped::{LIMITS, Limit, is_stopped, schedules_in, stopped_at};
+use crate::stopped::{Limit, schedules_in, stopped_at};
 use crate::subject::{Excess, Subject};
+use crate::told::{ToldOutcome, told_outcomes};
 use cp_machine::Ticks;
 use cp_merged::{Tallies, Tally};
-use cp_natural::{Natural, push_natural};
-use cp_run::{Limits, MOST_CHOICES, MOST_STEPS, OutcomeKind};
+use cp_natural::Natural;
+use cp_run::{Limits, MOST_CHOICES, MOST_STEPS};
 use cp_simplest::SimplestSchedule;
-use cp_story::{Wait, kind_words, tell, wait_words};
-use cp_walk::text::{push_outcome, push_word};
+use cp_slots::Resolved;
+use cp_walk::text::{push_count, push_outcome, push_word};
 use std::alloc::{AllocError, Global};
 use std::sync::ledger::Ledger;
 
@@ -22,7 +32,7 @@ use std::sync::ledger::Ledger;
 const SHARE_WIDTH: usize = 8;
 
 /// How wide a share is with what stands before and after it.
-const MARGIN: usize = 10;
+const MARGIN: usize = 11;
 
 /// The outcomes: first those of runs that ended, each with its share, then those of runs that a limit stopped. The last line says
 /// whether these are all.
@@ -32,234 +42,253 @@ pub fn text<L: Ledger>(
     tallies: &Tallies,
     simples: &Simples,
     ticks: &mut Ticks<L>,
-) -> Result<String, AllocError> {
+) -> Result<String, AllocError>
+    ensures { IfOk result (λ t. IsTextOf (setting_of subject.entry subject.entry.limits.choices) (map tally_of tallies.now) (string_bytes t)) }
+{
     let all = tallies.as_slice();
-    let whole = schedules_in(all);
+    let told = told_outcomes(alloc, subject, all, simples, ticks)?;
+    outcomes_text(alloc, subject, all, &told, simples.is_searched())
+}
+
+// The text of these outcomes, told so.
+fn outcomes_text(
+    alloc: Global,
+    subject: Subject<'_>,
+    tallies: &[Tally],
+    told: &[ToldOutcome<'_>],
+    is_searched: bool,
+) -> Result<String, AllocError>
+    requires { rows_in (map tally_of tallies.now) < 10 ^ 126 }
+    ensures { IfOk result (λ t. string_bytes t ≡ spec.outcomes_text (setting_of subject.entry subject.entry.limits.choices) is_searched (map tally_of tallies.now) (map told_of told.now)) }
+{
+    let whole = schedules_in(tallies);
     let mut text = String::new(alloc);
-    push_heading(&mut text, &whole, all.len())?;
-    let width = digits_of(all.len());
-    let mut number = 0usize;
-    for stopped in [false, true] {
-        for (place, tally) in all.iter().enumerate() {
-            if is_stopped(tally.outcome.kind) == stopped {
-                number = number.saturating_add(1);
-                push_number(&mut text, number, width)?;
-                push_share(alloc, &mut text, tally, &whole)?;
-                push_words(subject, &mut text, width, tally, simples.at(place))?;
-                push_end(alloc, subject, &mut text, width, tally, ticks)?;
-            }
-        }
-    }
-    if !simples.is_searched() {
-        write!(
-            text,
-            "\nsimplest schedules: not searched, with more than {} states\n",
-            subject.states
-        )?;
-    }
-    push_last(subject, &mut text, all)?;
+    push_heading(&mut text, &whole, tallies.len())?;
+    push_outcomes(alloc, &mut text, subject.program, &whole, told)?;
+    push_searched(&mut text, subject.states, is_searched)?;
+    push_closing(&mut text, subject.limits, tallies)?;
     Ok(text)
 }
 
-// How many digits a number has.
-fn digits_of(number: usize) -> usize {
-    let mut left = number / 10;
-    for digits in 1..20 {
-        if left == 0 {
-            return digits;
-        }
-        left /= 10;
-    }
-    20
+fn push_heading(text: &mut String, schedules: &Natural, outcomes: usize) -> Result<(), AllocError>
+    ensures { IfOk result (λ _. string_bytes text.new ≡ string_bytes text.old ++ spec.heading_text schedules.now outcomes) }
+{
+    push_schedules(text, schedules)?;
+    text.push_str(", ")?;
+    push_counted(text, outcomes, " outcome", " outcomes")?;
+    text.push_str("\n\n")
 }
 
-// The number of an outcome, as wide as any.
-fn push_number(text: &mut String, number: usize, width: usize) -> Result<(), AllocError> {
-    push_spaces(text, width.saturating_sub(digits_of(number)))?;
-    write!(text, "{number}.")
-}
-
-fn push_spaces(text: &mut String, count: usize) -> Result<(), AllocError> {
-    for _ in 0..count {
-        text.push(' ')?;
+// The outcomes, with their numbers.
+fn push_outcomes(
+    alloc: Global,
+    text: &mut String,
+    program: &Resolved,
+    whole: &Natural,
+    told: &[ToldOutcome<'_>],
+) -> Result<(), AllocError>
+    requires { whole.now < 10 ^ 126 }
+    ensures { IfOk result (λ _. string_bytes text.new ≡ string_bytes text.old ++ spec.numbered_text program.now.names (length (number_text (length told.now))) whole.now 1 (map told_of told.now)) }
+{
+    let mut last = String::new(alloc);
+    push_count(&mut last, told.len())?;
+    let width = last.len();
+    for (index, outcome) in told.iter().enumerate() {
+        push_outcome_told(alloc, text, program, width, whole, index + 1, outcome)?;
     }
     Ok(())
 }
 
-// Begins a line below the first of an outcome, whose number is so wide.
-fn push_indent(text: &mut String, width: usize) -> Result<(), AllocError> {
-    push_spaces(text, width.saturating_add(MARGIN + 1))
-}
-
-fn push_heading(text: &mut String, schedules: &Natural, outcomes: usize) -> Result<(), AllocError> {
-    push_schedules(text, schedules)?;
-    let ending = if outcomes == 1 { "" } else { "s" };
-    write!(text, ", {outcomes} outcome{ending}")?;
-    text.push_str("\n\n")
-}
-
-fn push_schedules(text: &mut String, count: &Natural) -> Result<(), AllocError> {
-    push_natural(text, count)?;
-    text.push_str(if count.to_u64() == Some(1) {
-        " schedule"
-    } else {
-        " schedules"
-    })
-}
-
-// The outcome, how many schedules have it, the first of them, and the simplest where it is another one.
-fn push_words(
-    subject: Subject<'_>,
+// An outcome: its number, its share, its schedules, and its end.
+#[tactic(auto, unfolding(crate::specs::Text::told_text, crate::specs::Text::line_text))]
+fn push_outcome_told(
+    alloc: Global,
     text: &mut String,
+    program: &Resolved,
     width: usize,
-    tally: &Tally,
-    simple: Option<&SimplestSchedule>,
-) -> Result<(), AllocError> {
-    push_outcome(text, subject.program, &tally.outcome)?;
-    text.push('\n')?;
+    whole: &Natural,
+    number: usize,
+    told: &ToldOutcome<'_>,
+) -> Result<(), AllocError>
+    requires { whole.now < 10 ^ 126 }
+    ensures { IfOk result (λ _. string_bytes text.new ≡ string_bytes text.old ++ spec.told_text program.now.names width whole.now number (told_of told.now)) }
+{
+    let tally = told.tally;
+    push_figures(alloc, text, width, number, &tally.count, whole)?;
+    push_outcome(text, program, &tally.outcome)?;
+    text.push_str("\n")?;
     push_indent(text, width)?;
-    push_schedules(text, &tally.count)?;
-    text.push_str(", first ")?;
-    push_word(text, tally.first.as_slice())?;
-    if let Some(simple) = simple {
-        push_simple(text, tally, simple)?;
-    }
-    text.push('\n')
+    push_first(text, tally)?;
+    push_simple(text, tally.first.as_slice(), told.simple)?;
+    text.push_str("\n")?;
+    push_lines(text, width, &told.ends)
 }
 
-fn push_simple(
-    text: &mut String,
-    tally: &Tally,
-    simple: &SimplestSchedule,
-) -> Result<(), AllocError> {
-    let word = simple.word.as_slice();
-    if word == tally.first.as_slice() {
-        return Ok(());
-    }
-    text.push_str(", simplest ")?;
-    push_word(text, word)?;
-    let switches = simple.switches;
-    let ending = if switches == 1 { "" } else { "es" };
-    write!(text, ", {switches} switch{ending}")
-}
-
-// Who waits where at the end, or the line of a run error.
-fn push_end<L: Ledger>(
+// The number of an outcome, as wide as any, and its share.
+fn push_figures(
     alloc: Global,
-    subject: Subject<'_>,
     text: &mut String,
     width: usize,
-    tally: &Tally,
-    ticks: &mut Ticks<L>,
-) -> Result<(), AllocError> {
-    match tally.outcome.kind {
-        OutcomeKind::AllWaiting => {
-            for wait in &waits_of(alloc, subject, tally.first.as_slice(), ticks)? {
-                push_line(
-                    text,
-                    width,
-                    wait_words(alloc, subject.legend, wait)?.as_str(),
-                )?;
-            }
-            Ok(())
-        }
-        OutcomeKind::RunError { process, line, .. } => {
-            push_source(subject, text, width, process, line)
-        }
-        _ => Ok(()),
-    }
-}
-
-// The share, as wide as any.
-fn push_share(
-    alloc: Global,
-    text: &mut String,
-    tally: &Tally,
+    number: usize,
+    count: &Natural,
     whole: &Natural,
 ) -> Result<(), AllocError>
     requires { whole.now < 10 ^ 126 }
+    ensures { IfOk result (λ _. string_bytes text.new ≡ string_bytes text.old ++ spec.right_text width (number_text number) ++ codes "." ++ spec.right_text 8 (share_text (share_in count.now whole.now)) ++ codes "  ") }
 {
+    let mut digits = String::new(alloc);
+    push_count(&mut digits, number)?;
+    push_right(text, width, digits.as_str())?;
+    text.push_str(".")?;
     let mut share = String::new(alloc);
-    share_of(&tally.count, whole).push_to(&mut share)?;
-    push_spaces(text, SHARE_WIDTH.saturating_sub(share.len()))?;
-    text.push_str(share.as_str())?;
+    share_of(count, whole).push_to(&mut share)?;
+    push_right(text, SHARE_WIDTH, share.as_str())?;
     text.push_str("  ")
 }
 
-fn push_line(text: &mut String, width: usize, line: &str) -> Result<(), AllocError> {
+// How many schedules have an outcome, and the first of them.
+fn push_first(text: &mut String, tally: &Tally) -> Result<(), AllocError>
+    ensures { IfOk result (λ _. string_bytes text.new ≡ string_bytes text.old ++ spec.schedules_text tally.now.count ++ codes ", first " ++ word_text tally.now.first.items) }
+{
+    push_schedules(text, &tally.count)?;
+    text.push_str(", first ")?;
+    push_word(text, tally.first.as_slice())
+}
+
+// The simplest schedule, if there is one, where it is another one than the first.
+fn push_simple(
+    text: &mut String,
+    first: &[u8],
+    simple: Option<&SimplestSchedule>,
+) -> Result<(), AllocError>
+    ensures { IfOk result (λ _. string_bytes text.new ≡ string_bytes text.old ++ spec.simple_text first.now (option_copied simple.entry)) }
+{
+    match simple {
+        Some(simple) => push_other(text, first, simple),
+        None => Ok(()),
+    }
+}
+
+fn push_other(
+    text: &mut String,
+    first: &[u8],
+    simple: &SimplestSchedule,
+) -> Result<(), AllocError>
+    ensures { IfOk result (λ _. string_bytes text.new ≡ string_bytes text.old ++ spec.other_text first.now simple.now) }
+{
+    if simple.word.as_slice() == first {
+        return Ok(());
+    }
+    push_simplest(text, simple)
+}
+
+fn push_simplest(text: &mut String, simple: &SimplestSchedule) -> Result<(), AllocError>
+    ensures { IfOk result (λ _. string_bytes text.new ≡ string_bytes text.old ++ spec.simplest_text simple.now) }
+{
+    text.push_str(", simplest ")?;
+    push_word(text, simple.word.as_slice())?;
+    text.push_str(", ")?;
+    push_counted(text, simple.switches as usize, " switch", " switches")
+}
+
+// Begins a line below the first of an outcome, whose number is so wide.
+fn push_indent(text: &mut String, width: usize) -> Result<(), AllocError>
+    ensures { IfOk result (λ _. string_bytes text.new ≡ string_bytes text.old ++ spec.blanks width ++ spec.blanks 11) }
+{
+    push_blanks(text, width)?;
+    push_blanks(text, MARGIN)
+}
+
+fn push_lines(text: &mut String, width: usize, lines: &[String]) -> Result<(), AllocError>
+    ensures { IfOk result (λ _. string_bytes text.new ≡ string_bytes text.old ++ each (spec.line_text width) (map string_bytes lines.now)) }
+{
+    for line in lines {
+        push_line(text, width, line.as_str())?;
+    }
+    Ok(())
+}
+
+#[tactic(auto, unfolding(crate::specs::Text::line_text))]
+fn push_line(text: &mut String, width: usize, line: &str) -> Result<(), AllocError>
+    ensures { IfOk result (λ _. string_bytes text.new ≡ string_bytes text.old ++ spec.line_text width line.now) }
+{
     push_indent(text, width)?;
     text.push_str(line)?;
-    text.push('\n')
+    text.push_str("\n")
 }
 
-/// Who waits at the end of a schedule, and where.
-pub fn waits_of<L: Ledger>(
-    alloc: Global,
-    subject: Subject<'_>,
-    word: &[u8],
-    ticks: &mut Ticks<L>,
-) -> Result<Vec<Wait>, AllocError>
-    requires { length word.now ≤ 100 }
+fn push_searched(text: &mut String, states: u32, is_searched: bool) -> Result<(), AllocError>
+    ensures { IfOk result (λ _. string_bytes text.new ≡ string_bytes text.old ++ spec.searched_text states is_searched) }
 {
-    let Subject {
-        program,
-        legend,
-        limits,
-        ..
-    } = subject;
-    Ok(tell(alloc, program, legend, limits, word, ticks)?.waits)
-}
-
-// The process that was in error, and the text of the line at which it was.
-fn push_source(
-    subject: Subject<'_>,
-    text: &mut String,
-    width: usize,
-    process: u8,
-    line: u32,
-) -> Result<(), AllocError> {
-    let name = subject.legend.process_name(process);
-    push_indent(text, width)?;
-    write!(text, "{process} {name} at line {line}: ")?;
-    text.push_str(line_of(subject.source, line))?;
-    text.push('\n')
-}
-
-/// The text of a line, counted from 1, without the spaces around it.
-pub fn line_of(source: &[String], line: u32) -> &str {
-    let place = (line as usize).saturating_sub(1);
-    match source.get(place) {
-        Some(text) => text.as_str().trim_ascii(),
-        None => "",
+    if is_searched {
+        return Ok(());
     }
+    text.push_str("\nsimplest schedules: not searched, with more than ")?;
+    push_count(text, states as usize)?;
+    text.push_str(" states\n")
 }
 
 // Whether these are all outcomes; if not, what to try.
-fn push_last(subject: Subject<'_>, text: &mut String, tallies: &[Tally]) -> Result<(), AllocError>
+fn push_closing(text: &mut String, limits: Limits, tallies: &[Tally]) -> Result<(), AllocError>
     requires { rows_in (map tally_of tallies.now) < 10 ^ 126 }
+    ensures { IfOk result (λ _. string_bytes text.new ≡ string_bytes text.old ++ spec.closing_text (λ l. spec.stop_text limits.choices limits.steps (rows_at l (map tally_of tallies.now)) l) (stops (map tally_of tallies.now))) }
 {
-    let mut before = "\nnot complete: ";
-    let mut is_complete = true;
-    for limit in LIMITS {
-        let count = stopped_at(limit, tallies);
-        if !count.is_zero() {
-            text.push_str(before)?;
-            push_schedules(text, &count)?;
-            text.push_str(" ended as ")?;
-            text.push_str(kind_words(limit.kind()))?;
-            text.push_str(advice(limit, subject.limits))?;
-            before = ", ";
-            is_complete = false;
-        }
+    let begun = push_stop(text, limits, tallies, Limit::Choices, false)?;
+    let begun = push_stop(text, limits, tallies, Limit::Steps, begun)?;
+    let begun = push_stop(text, limits, tallies, Limit::Output, begun)?;
+    text.push_str(last_words(begun))
+}
+
+// How the last line ends; where nothing began it, it says that these are all.
+fn last_words(begun: bool) -> &'static str
+    ensures { result.now ≡ (if begun then codes "\n" else codes "\ncomplete: the same for every greater number of choices and of steps\n") }
+{
+    if begun {
+        "\n"
+    } else {
+        "\ncomplete: the same for every greater number of choices and of steps\n"
     }
-    if is_complete {
-        text.push_str("\ncomplete: the same for every greater number of choices and of steps")?;
+}
+
+// How many schedules ended at a limit, if any did; and whether the last line was begun, now or before.
+fn push_stop(
+    text: &mut String,
+    limits: Limits,
+    tallies: &[Tally],
+    limit: Limit,
+    begun: bool,
+) -> Result<bool, AllocError>
+    requires { rows_in (map tally_of tallies.now) < 10 ^ 126 }
+    ensures begun { IfOk result (λ now. now ≡ (begun || not (rows_at limit (map tally_of tallies.now) == 0))) }
+    ensures text { IfOk result (λ _. string_bytes text.new ≡ string_bytes text.old ++ spec.begun_text begun (rows_at limit (map tally_of tallies.now)) (spec.stop_text limits.choices limits.steps (rows_at limit (map tally_of tallies.now)) limit)) }
+{
+    let count = stopped_at(limit, tallies);
+    if count.is_zero() {
+        return Ok(begun);
     }
-    text.push('\n')
+    text.push_str(if begun { ", " } else { "\nnot complete: " })?;
+    push_stopped(text, limits, limit, &count)?;
+    Ok(true)
+}
+
+fn push_stopped(
+    text: &mut String,
+    limits: Limits,
+    limit: Limit,
+    count: &Natural,
+) -> Result<(), AllocError>
+    ensures { IfOk result (λ _. string_bytes text.new ≡ string_bytes text.old ++ spec.stop_text limits.choices limits.steps count.now limit) }
+{
+    push_schedules(text, count)?;
+    text.push_str(" ended as ")?;
+    text.push_str(limit.name())?;
+    text.push_str(advice(limit, limits))
 }
 
 /// What to try where runs ended at a limit.
-pub fn advice(limit: Limit, limits: Limits) -> &'static str {
+pub fn advice(limit: Limit, limits: Limits) -> &'static str
+    ensures { result.now ≡ spec.advice_text limits.choices limits.steps limit }
+{
     match limit {
         Limit::Choices => {
             if limits.choices < MOST_CHOICES {
@@ -279,26 +308,50 @@ pub fn advice(limit: Limit, limits: Limits) -> &'static str {
     }
 }
 
-/// What there is too much of, what to try, and what is told of all schedules of a smaller number of choices, if there is one.
-pub fn excess_text(
+/// What there is too much of, and what to try.
+pub fn excess_text(alloc: Global, excess: Excess) -> Result<String, AllocError>
+    ensures { IfOk result (λ t. string_bytes t ≡ spec.excess_text excess) }
+{
+    let mut text = String::new(alloc);
+    push_excess(&mut text, excess)?;
+    Ok(text)
+}
+
+/// The same, and what is told of all schedules of a smaller number of choices.
+pub fn excess_and_known(
     alloc: Global,
     excess: Excess,
-    known: Option<(u8, &str)>,
-) -> Result<String, AllocError> {
+    choices: u8,
+    told: &str,
+) -> Result<String, AllocError>
+    ensures { IfOk result (λ t. string_bytes t ≡ spec.excess_text excess ++ spec.known_text choices told.now) }
+{
     let mut text = String::new(alloc);
+    push_excess(&mut text, excess)?;
+    push_known(&mut text, choices, told)?;
+    Ok(text)
+}
+
+fn push_excess(text: &mut String, excess: Excess) -> Result<(), AllocError>
+    ensures { IfOk result (λ _. string_bytes text.new ≡ string_bytes text.old ++ spec.excess_text excess) }
+{
     match excess {
         Excess::States(most) => {
-            write!(text, "too many states: a layer may have {most}\n")?;
-            text.push_str("try greater --states, or ./show ends\n")?;
+            text.push_str("too many states: a layer may have ")?;
+            push_count(text, most as usize)?;
+            text.push_str("\ntry greater --states, or ./show ends\n")
         }
         Excess::Outcomes => {
-            text.push_str("too many outcomes: there may be 50000\n")?;
-            text.push_str("try smaller --choices\n")?;
+            text.push_str("too many outcomes: there may be 50000\ntry smaller --choices\n")
         }
     }
-    if let Some((choices, told)) = known {
-        write!(text, "\nof all schedules of at most {choices} choices:\n\n")?;
-        text.push_str(told)?;
-    }
-    Ok(text)
+}
+
+fn push_known(text: &mut String, choices: u8, told: &str) -> Result<(), AllocError>
+    ensures { IfOk result (λ _. string_bytes text.new ≡ string_bytes text.old ++ spec.known_text choices told.now) }
+{
+    text.push_str("\nof all schedules of at most ")?;
+    push_count(text, choices as usize)?;
+    text.push_str(" choices:\n\n")?;
+    text.push_str(told)
 }
