@@ -12,19 +12,22 @@ pub struct Progress {
     pub outcomes: usize,
 }
 
-/// Whoever is told of each layer.
-pub trait ObserveLayers {
-    /// A layer is done. What it does changes nothing in the search.
-    fn observe_layer(&mut self, progress: Progress);
+/// A search goes on from so many states of a layer before it tells how far it has come. So a layer that takes long is told of too.
+pub const STATES_BETWEEN: u32 = 64;
+
+/// Whoever is told how far a search has come: after each layer, and within one now and then.
+pub trait ObserveProgress {
+    /// What it does changes nothing in the search.
+    fn observe_progress(&mut self, progress: Progress);
 }
 
 /// Nobody is told.
 #[derive(Clone, Copy, Drop)]
 pub struct Unobserved;
 
-impl ObserveLayers for Unobserved {
+impl ObserveProgress for Unobserved {
     #[inline(always)]
-    fn observe_layer(&mut self, progress: Progress) {
+    fn observe_progress(&mut self, progress: Progress) {
         let _ = progress;
     }
 }

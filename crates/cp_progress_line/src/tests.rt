@@ -1,7 +1,7 @@
 //! When the line is written, what it says, and that it goes.
 
 use crate::{ObserveWork, ProgressLine};
-use cp_progress::{ObserveLayers, Progress};
+use cp_progress::{ObserveProgress, Progress};
 use std::alloc::Global;
 use std::cell::Cell;
 use std::io::{Error, ErrorKind, Result as IoResult, Write};
@@ -63,14 +63,15 @@ fn told(alloc: Global, layers: u32, is_broken: bool) -> FakeTerminal {
     let clock = TickingClock {
         reads: Cell::new(0),
     };
-    let mut line = ProgressLine::begin(
+    let mut line = ProgressLine::new(
         alloc,
         clock,
         Some(FakeTerminal::new(alloc, is_broken)),
         "outcomes",
     );
+    line.observe_begin();
     for layer in 0..layers {
-        line.observe_layer(Progress {
+        line.observe_progress(Progress {
             choices: layer,
             states: if layer < 21 { 1_000_000 } else { 7 },
             outcomes: 3,
@@ -115,9 +116,10 @@ fn without_a_terminal_nothing_is_told(rt: HostRuntime) {
         reads: Cell::new(0),
     };
     let nowhere: Option<FakeTerminal> = None;
-    let mut line = ProgressLine::begin(rt.alloc(), clock, nowhere, "ends");
+    let mut line = ProgressLine::new(rt.alloc(), clock, nowhere, "ends");
+    line.observe_begin();
     for choices in 0..30 {
-        line.observe_layer(Progress {
+        line.observe_progress(Progress {
             choices,
             states: 7,
             outcomes: 3,
@@ -125,4 +127,23 @@ fn without_a_terminal_nothing_is_told(rt: HostRuntime) {
     }
     line.observe_end();
     assert!(rt; line.into_terminal().is_none());
+}
+
+#[test]
+fn time_before_the_work_does_not_count(rt: HostRuntime) {
+    let clock = TickingClock {
+        reads: Cell::new(0),
+    };
+    let terminal = FakeTerminal::new(rt.alloc(), false);
+    let mut line = ProgressLine::new(rt.alloc(), clock, Some(terminal), "ends");
+    for choices in 0..30 {
+        line.observe_progress(Progress {
+            choices,
+            states: 7,
+            outcomes: 3,
+        });
+    }
+    line.observe_end();
+    let taken = line.into_terminal().map(|terminal| terminal.taken.len());
+    assert!(rt; taken == Some(0));
 }
