@@ -4,7 +4,7 @@ use Rattle.std.proofs.Math.Seq.{drop-cons, take-suc}
 use Rattle.std.proofs.lemmas.List.{drop_all, take_all, map-append}
 use Rattle.cp_slots.specs.declared.tables.Process.{Process}
 use Rattle.cp_layout.specs.declared.tables.RoomNeed.{RoomNeed}
-use Rattle.cp_layout.specs.declared.layer.System as code_system
+use Rattle.cp_layout.specs.declared.layer.SystemCells as code_system
 use Rattle.cp_layout.specs.Layers.{Layer, system_seen}
 use Rattle.cp_layout.specs.Laid.{room_for, room_from, system_type, types_of}
 

@@ -6,7 +6,7 @@ use Rattle.std.specs.Option.{option_copied}
 use Rattle.std.proofs.lemmas.List.{map-append}
 use Rattle.indexmap.specs.IndexMap.{IndexMap, insert_entry}
 use Rattle.indexmap.proofs.CallerLemmas.{insert_entry-new}
-use Rattle.cp_scope.specs.declared.shape.Shape as code_shape
+use Rattle.cp_scope.specs.declared.shape.TokenShape as code_shape
 use Rattle.cp_scope.specs.declared.shapes.Shapes as code_shapes
 use Rattle.cp_scope.specs.Scopes.{Shape, Shapes, shape_in, with_shape}
 use Rattle.cp_scope.specs.View.{shape_view, shape_entry, shapes_of}

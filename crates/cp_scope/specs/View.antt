@@ -6,10 +6,10 @@ use Rattle.std.specs.String.{string_bytes}
 use Rattle.cp_scope.specs.declared.types.Meaning.{Meaning}
 use Rattle.cp_scope.specs.declared.scope.Scope as code_scope
 use Rattle.cp_scope.specs.declared.shape.Heading as code_heading
-use Rattle.cp_scope.specs.declared.shape.Shape as code_shape
-use Rattle.cp_scope.specs.declared.shape.Shape.TheVariants as shape
+use Rattle.cp_scope.specs.declared.shape.TokenShape as code_shape
+use Rattle.cp_scope.specs.declared.shape.TokenShape.TheVariants as shape
 use Rattle.cp_scope.specs.declared.shapes.Shapes as code_shapes
-use Rattle.cp_scope.specs.declared.table.Table.{Table}
+use Rattle.cp_scope.specs.declared.table.ScopeTable.{ScopeTable}
 use Rattle.cp_scope.specs.Scopes.{Names, Scope, Heading, Shape, array_shape, record_shape, system_shape, heading_shape, body_shape, Shapes, Scopes}
 
 abbrev pub entry_view : String Global × Meaning → List ℕ × Option Meaning
@@ -44,5 +44,5 @@ unfoldable pub shapes_of : code_shapes.Shapes → Shapes
 shapes_of m = map shape_entry m.items.entries
 
 -- the scopes
-unfoldable pub scopes_of : Table → Scopes
+unfoldable pub scopes_of : ScopeTable → Scopes
 scopes_of t = record { outer = map scope_of t.outer.items; inner = scope_of t.inner; shapes = shapes_of t.shapes }

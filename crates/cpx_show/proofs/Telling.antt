@@ -7,7 +7,7 @@ use Rattle.cp_run.specs.Table.{table}
 use Rattle.cp_run.specs.declared.limits.Limits.{Limits}
 use Rattle.cp_tool.specs.declared.options.Options.{Options}
 use Rattle.cp_verdict.specs.declared.expectation.Expectation.{Expectation}
-use Rattle.cp_ends_verdict.specs.declared.expectation.Expectation as ends_expectation
+use Rattle.cp_ends_verdict.specs.declared.expectation.EndsExpectation as ends_expectation
 use Rattle.cpx_show.specs.Showing.{Verdict, TellsMark, TellsEndsMark, TellsMarkAtOnce}
 
 abbrev pub TellsWithin : ℕ → ℕ → Gates → Tables → List Expectation → Verdict → Type 0

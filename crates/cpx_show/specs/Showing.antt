@@ -5,13 +5,13 @@ use Rattle.cp_run.specs.Table.{Line}
 use Rattle.cp_slots.specs.Tables.{Tables}
 use Rattle.cp_machine.specs.declared.gates.Gates.{Gates}
 use Rattle.cp_ends_verdict.specs.AtOnce.{IsMarkAtOnce, IsMarkInTurn}
-use Rattle.cp_ends_verdict.specs.declared.expectation.Expectation as ends_expectation
-use Rattle.cp_ends_verdict.specs.declared.verdict.Mark as ends_mark
-use Rattle.cp_ends_verdict.specs.declared.verdict.Mark.TheVariants as of_ends
+use Rattle.cp_ends_verdict.specs.declared.expectation.EndsExpectation as ends_expectation
+use Rattle.cp_ends_verdict.specs.declared.verdict.EndsMark as ends_mark
+use Rattle.cp_ends_verdict.specs.declared.verdict.EndsMark.TheVariants as of_ends
 use Rattle.cp_verdict.specs.Marked.{IsMarkOf}
 use Rattle.cp_verdict.specs.declared.expectation.Expectation.{Expectation}
-use Rattle.cp_verdict.specs.declared.marking.Mark.{Mark}
-use Rattle.cp_verdict.specs.declared.marking.Mark.TheVariants as mark
+use Rattle.cp_verdict.specs.declared.marking.TableMark.{TableMark}
+use Rattle.cp_verdict.specs.declared.marking.TableMark.TheVariants as mark
 pub use Rattle.cpx_show.specs.declared.answering.Verdict.{Verdict}
 pub use Rattle.cpx_show.specs.declared.answering.Ending.{Ending}
 use Rattle.cpx_show.specs.declared.answering.Ending.TheVariants.{Told, OutOfMemory, ReadFailed, WriteFailed}
@@ -42,14 +42,14 @@ IsSilent OutOfMemory = Unit {0}
 IsSilent ReadFailed = Unit {0}
 IsSilent WriteFailed = ⊥
 
-abbrev pub verdict_of : Mark → Verdict
+abbrev pub verdict_of : TableMark → Verdict
 verdict_of mark.Holds = Reported
 verdict_of mark.Fails = Fails
 verdict_of mark.Open = Open
 
 -- There are too many rows, states or outcomes; or the mark of a program whose table has these rows is told.
 abbrev pub TellsMark : Spellings → List Expectation → List Line → Verdict → Type 0
-TellsMark names es lines verdict = (verdict ≡ TooMany) ⊎ ((m : Mark) × (verdict ≡ verdict_of m) × IsMarkOf names es lines m)
+TellsMark names es lines verdict = (verdict ≡ TooMany) ⊎ ((m : TableMark) × (verdict ≡ verdict_of m) × IsMarkOf names es lines m)
 
 abbrev pub ends_verdict_of : ends_mark.Mark → Verdict
 ends_verdict_of of_ends.Holds = Reported

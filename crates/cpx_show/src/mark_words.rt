@@ -4,7 +4,7 @@ ghost use Rattle.std.specs.Prelude.{◌≡◌, IfOk};
 ghost use Rattle.cpx_show.specs.declared.answering.Verdict.TheVariants.{Misread};
 
 use crate::answering::{Answer, Verdict, told as story_of};
-use cp_ends_verdict::{Mark as EndsMark, Marked as EndsMarked, Standing};
+use cp_ends_verdict::{EndsMark, MarkedEnds, Standing};
 use cp_legend::Legend;
 use cp_run::{MOST_CHOICES, OutcomeKind};
 use cp_slots::Resolved;
@@ -12,7 +12,8 @@ use cp_story::objects::{Object, numbers, put_kind, waits};
 use cp_story::{output_words, wait_words};
 use cp_tool::Options;
 use cp_verdict::{
-    Claim, Expectation, Judgement, Mark, Marked, Reading, Row, push_doubt, push_expectation,
+    Claim, Expectation, Judgement, Marked, Reading, SeenRow, TableMark, push_doubt,
+    push_expectation,
 };
 use cp_walk::text::{push_outcome, push_word};
 use serde_json::Value;
@@ -75,7 +76,7 @@ pub fn told(
         return told_as_json(alloc, examinee, reading, marked);
     }
     let mut text = String::new(alloc);
-    if marked.mark == Mark::Holds {
+    if marked.mark == TableMark::Holds {
         push_holds(&mut text, marked)?;
     }
     for wanted in ["fails", "not settled"] {
@@ -85,7 +86,7 @@ pub fn told(
             }
         }
     }
-    if marked.mark == Mark::Open
+    if marked.mark == TableMark::Open
         && marked.stops.choices
         && examinee.options.choices == MOST_CHOICES
     {
@@ -192,7 +193,7 @@ fn push_row(
     alloc: Global,
     examinee: Examinee<'_>,
     text: &mut String,
-    row: &Row,
+    row: &SeenRow,
 ) -> Result<(), AllocError> {
     text.push_str("first against it: ")?;
     push_word(text, row.schedule.as_slice())?;
@@ -250,9 +251,9 @@ fn told_as_json(
     object.text(
         "verdict",
         match marked.mark {
-            Mark::Holds => "holds",
-            Mark::Fails => "fails",
-            Mark::Open => "not settled",
+            TableMark::Holds => "holds",
+            TableMark::Fails => "fails",
+            TableMark::Open => "not settled",
         },
     )?;
     let mut items = Vec::new(alloc);
@@ -287,7 +288,7 @@ fn put_limits(alloc: Global, object: &mut Object, marked: &Marked) -> Result<(),
 pub fn ends_told(
     alloc: Global,
     examinee: Examinee<'_>,
-    marked: &EndsMarked,
+    marked: &MarkedEnds,
 ) -> Result<String, AllocError> {
     if !examinee.as_json {
         return marked.text(alloc);
@@ -365,7 +366,7 @@ fn put_row(
     alloc: Global,
     examinee: Examinee<'_>,
     object: &mut Object,
-    row: &Row,
+    row: &SeenRow,
 ) -> Result<(), AllocError> {
     object.put("first", numbers(alloc, row.schedule.as_slice())?)?;
     put_kind(object, row.outcome.kind)?;

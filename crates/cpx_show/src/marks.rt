@@ -11,14 +11,14 @@ ghost use Rattle.cpx_show.specs.declared.answering.Verdict.TheVariants.{TooMany}
 use crate::answering::{Answer, Verdict};
 use crate::mark_words::{Examinee, ends_told, excess, misread, told};
 use cp_ends_verdict::{
-    Expectation as EndsExpectation, Mark as EndsMark, MarkSubject as Endless,
-    Reading as EndsReading, expectations as ends_expectations, mark_at_once, mark_in_turn,
+    EndsExpectation, EndsMark, EndsReading, MarkSubject as Endless,
+    expectations as ends_expectations, mark_at_once, mark_in_turn,
     misread_text as ends_misread_text,
 };
 use cp_outcomes::completing::greatest_known;
 use cp_run::{Limits, MOST_CHOICES};
 use cp_verdict::{
-    Expectation, Mark, MarkFault, Misread, Reading, expectations, expectations_in, mark_program,
+    MarkFault, Misread, Reading, TableMark, expectations, expectations_in, mark_program,
     mark_tallies, misread_text,
 };
 use cp_walk::Job;
@@ -193,13 +193,13 @@ fn mark_of(alloc: Global, examinee: Examinee<'_>, reading: &Reading) -> Result<A
     }
 }
 
-fn verdict_of(mark: Mark) -> Verdict
+fn verdict_of(mark: TableMark) -> Verdict
     ensures { result ≡ spec.verdict_of mark }
 {
     match mark {
-        Mark::Holds => Verdict::Reported,
-        Mark::Fails => Verdict::Fails,
-        Mark::Open => Verdict::Open,
+        TableMark::Holds => Verdict::Reported,
+        TableMark::Fails => Verdict::Fails,
+        TableMark::Open => Verdict::Open,
     }
 }
 

@@ -18,12 +18,12 @@ use Rattle.cp_scope.specs.Judged.{Judged, both, ◌>>=◌, faults}
 use Rattle.cp_scope.specs.Scopes.{Heading, Scopes, heading_at}
 use Rattle.cp_check.specs.declared.operand.Context.{Context}
 use Rattle.cp_check.specs.declared.operand.Operand.{Operand}
-use Rattle.cp_check.specs.declared.operand.Place.{Place}
-use Rattle.cp_check.specs.declared.operand.Place.TheVariants as place
+use Rattle.cp_check.specs.declared.operand.OperandUse.{OperandUse}
+use Rattle.cp_check.specs.declared.operand.OperandUse.TheVariants as place
 use Rattle.cp_check.specs.Operations as operations
 use Rattle.cp_check.specs.Expressions as expressions
 use Rattle.cp_scope.specs.declared.fault.Rule.TheVariants.{C5, C21}
-use Rattle.cp_check.specs.declared.operand.Designated as check_designated
+use Rattle.cp_check.specs.declared.operand.DesignatedName as check_designated
 use Rattle.cp_check.specs.declared.operand.Named.{Named}
 use Rattle.cp_check.specs.declared.operand.Named.TheVariants as name
 use Rattle.cp_check.specs.declared.case.Label.{Label}
@@ -377,7 +377,7 @@ module _ (tokens : Tokens) (s : Scopes) (h : Here) (w : Context) (agrees : Scope
   named_counted : (i : Identifier) (e f : Expression) (n : Named) (a b : Operand) → NamedIs tokens s h i.name (find i.name h.scope) None n (begun_form h i.name (find i.name h.scope)) → CountsOver (target_of s w n) a b → Expressed W a.value_type (expression_form h e) → Expressed W b.value_type (expression_form h f) → Counted i e f
   named_counted i e f (name.Variable v) a b k c x y = go (place_of s v) c
     where
-      go : (z : Place) → CountsOver (if is_assignable z then target.Assignable v else target.Fixed (Some v)) a b → Counted i e f
+      go : (z : OperandUse) → CountsOver (if is_assignable z then target.Assignable v else target.Fixed (Some v)) a b → Counted i e f
       go place.Assignable d = with_bounds i e f (any_counts i (find i.name h.scope) (counter_of i (find i.name h.scope) None v (begun_form h i.name (find i.name h.scope)) refl k d.0)) (bounds_of v a b e f d x y)
       go place.Value d = absurd d
       go place.Fixed d = absurd d
@@ -442,7 +442,7 @@ module _ (tokens : Tokens) (s : Scopes) (h : Here) (w : Context) (agrees : Scope
   typed_of : (e : Expression) (o : Operand) → IsSmallExpression e → expression s w false e ≡ Ok o → Expressed W o.value_type (expression_form h e)
   typed_of e o small i = subst (λ (j : Judged Operand). HasForm W j (expression_form h e)) i (expression_typed tokens s h w agrees e small)
 
-  queue_formed : (e : Expression) (v : ValueType) (p : Place) → Expressed W v (expression_form h e) → is_queue_in v p ≡ true → HasQueue h e
+  queue_formed : (e : Expression) (v : ValueType) (p : OperandUse) → Expressed W v (expression_form h e) → is_queue_in v p ≡ true → HasQueue h e
   queue_formed e types.Queue p x i = let f : QueueForm (expression_form h e) = queue_found W (expression_form h e) x in record { place = f.place; formed = f.is }
   queue_formed e (types.Ordinal r) p x i = absurd (cc)
   queue_formed e (types.Set r) p x i = absurd (cc)

@@ -9,10 +9,10 @@ use Rattle.cp_scope.specs.declared.types.Meaning.TheVariants as meaning
 use Rattle.cp_scope.specs.Judged.{◌>>=◌}
 use Rattle.cp_scope.specs.Scopes.{Scopes, look, heading_at}
 use Rattle.cp_check.specs.declared.operand.Context.{Context}
-use Rattle.cp_check.specs.declared.operand.Place.{Place}
-use Rattle.cp_check.specs.declared.operand.Place.TheVariants as place
+use Rattle.cp_check.specs.declared.operand.OperandUse.{OperandUse}
+use Rattle.cp_check.specs.declared.operand.OperandUse.TheVariants as place
 use Rattle.cp_scope.specs.declared.types.Predeclared.{Predeclared}
-use Rattle.cp_check.specs.declared.operand.Designated as check_designated
+use Rattle.cp_check.specs.declared.operand.DesignatedName as check_designated
 use Rattle.cp_check.specs.declared.operand.Named.{Named}
 use Rattle.cp_check.specs.declared.operand.Named.TheVariants as name
 use Rattle.cp_check.specs.declared.statement.Target.TheVariants as target
@@ -250,7 +250,7 @@ module _ (tokens : Tokens) (s : Scopes) (h : Here) (w : Context) (agrees : Scope
       same_type : (a b : ValueType) → target.Assignable a ≡ target.Assignable b → a ≡ b
       same_type a b z = cc
 
-      go : (z : Place) → calls.place_of s u ≡ z → (if is_assignable z then target.Assignable u else target.Fixed (Some u)) ≡ target.Assignable v → TargetFormed i ss v o
+      go : (z : OperandUse) → calls.place_of s u ≡ z → (if is_assignable z then target.Assignable u else target.Fixed (Some u)) ≡ target.Assignable v → TargetFormed i ss v o
       go place.Assignable j y = subst (λ z. TargetFormed i ss z o) (same_type u v y) (variable_target i ss x u o k (free_place tokens s h w agrees u (ap is_assignable j)))
       go place.Value j y = absurd (cc)
       go place.Fixed j y = absurd (cc)

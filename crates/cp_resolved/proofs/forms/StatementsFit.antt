@@ -19,14 +19,14 @@ use Rattle.cp_scope.specs.Scopes.{Scopes, heading_at}
 use Rattle.cp_scope.specs.Scopes as checker
 use Rattle.cp_check.specs.declared.operand.Context.{Context}
 use Rattle.cp_check.specs.declared.operand.Operand.{Operand}
-use Rattle.cp_check.specs.declared.operand.Designated as check_designated
+use Rattle.cp_check.specs.declared.operand.DesignatedName as check_designated
 use Rattle.cp_check.specs.declared.operand.Named.{Named}
 use Rattle.cp_check.specs.declared.operand.Named.TheVariants as name
 use Rattle.cp_check.specs.declared.case.Label.{Label}
 use Rattle.cp_check.specs.declared.statement.Target.{Target}
 use Rattle.cp_check.specs.declared.statement.Target.TheVariants as target
-use Rattle.cp_check.specs.declared.operand.Place.{Place}
-use Rattle.cp_check.specs.declared.operand.Place.TheVariants as place
+use Rattle.cp_check.specs.declared.operand.OperandUse.{OperandUse}
+use Rattle.cp_check.specs.declared.operand.OperandUse.TheVariants as place
 use Rattle.cp_check.specs.Operands.{is_function, is_assignable}
 use Rattle.cp_check.specs.Names as names
 use Rattle.cp_check.specs.Calls as calls
@@ -158,7 +158,7 @@ module _ (tokens : Tokens) (s : Scopes) (h : Here) (w : Context) (agrees : Scope
   free_place true false o k e = absurd (cc)
   free_place false c o k e = absurd (cc)
 
-  assignable_no_function : (p : Place) → is_assignable p ≡ true → is_function p ≡ false
+  assignable_no_function : (p : OperandUse) → is_assignable p ≡ true → is_function p ≡ false
   assignable_no_function place.Assignable e = refl
   assignable_no_function place.Value e = refl
   assignable_no_function place.Fixed e = refl

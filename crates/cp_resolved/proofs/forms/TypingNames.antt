@@ -15,7 +15,7 @@ use Rattle.cp_scope.specs.Judged.{Judged, both, ◌>>=◌}
 use Rattle.cp_scope.specs.Scopes.{Names, Scope, record_shape, Shapes, shape_in, as_array, as_field, Scopes, look, look_in, field_at, array_at, member_at, heading_at}
 use Rattle.cp_scope.specs.Scopes as scope
 use Rattle.cp_check.specs.declared.operand.Operand.{Operand}
-use Rattle.cp_check.specs.declared.operand.Designated as check_designated
+use Rattle.cp_check.specs.declared.operand.DesignatedName as check_designated
 use Rattle.cp_check.specs.declared.operand.Named.{Named}
 use Rattle.cp_check.specs.declared.operand.Named.TheVariants as name
 use Rattle.cp_check.specs.Names as names

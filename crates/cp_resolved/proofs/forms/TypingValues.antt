@@ -13,10 +13,10 @@ use Rattle.cp_scope.specs.Types.{is_of, values_of, whole}
 use Rattle.cp_scope.specs.Judged.{Judged, broken, both, ◌>>=◌}
 use Rattle.cp_scope.specs.Scopes.{Scopes, heading_at}
 use Rattle.cp_check.specs.declared.operand.Context.{Context}
-use Rattle.cp_check.specs.declared.operand.Place.{Place}
-use Rattle.cp_check.specs.declared.operand.Place.TheVariants as place
+use Rattle.cp_check.specs.declared.operand.OperandUse.{OperandUse}
+use Rattle.cp_check.specs.declared.operand.OperandUse.TheVariants as place
 use Rattle.cp_check.specs.declared.operand.Operand.{Operand}
-use Rattle.cp_check.specs.declared.operand.Designated as check_designated
+use Rattle.cp_check.specs.declared.operand.DesignatedName as check_designated
 use Rattle.cp_check.specs.declared.operand.Named.{Named}
 use Rattle.cp_check.specs.declared.operand.Named.TheVariants as name
 use Rattle.cp_check.specs.Operands.{value, is_queue_in}
@@ -191,7 +191,7 @@ module _ (tokens : Tokens) (s : Scopes) (h : Here) (w : Context) where
       then_one (Expressed W (values_of b)) (applied_form q) f (formed (named.ordinal g.range) (as_ordinal g.code)) g.is
       (subst (λ (t : Bool). Expressed W (values_of b) (applied_ordinal q (named.ordinal g.range) t g.code)) (sym g.belongs) (k g.range g.code))
 
-  emptied : (v : ValueType) (p : Place) (f : Option Formed) → Expressed W v f → is_queue_in v p ≡ true → Expressed W (values_of base.Boolean) (then_form f (applied_form scopes.empty_function))
+  emptied : (v : ValueType) (p : OperandUse) (f : Option Formed) → Expressed W v f → is_queue_in v p ≡ true → Expressed W (values_of base.Boolean) (then_form f (applied_form scopes.empty_function))
   emptied types.Queue p f e i =
       let g : QueueForm f = queue_found W f e in
       then_one (Expressed W (values_of base.Boolean)) (applied_form scopes.empty_function) f (formed named.queue_type (as_place g.place)) g.is (a_truth W _)

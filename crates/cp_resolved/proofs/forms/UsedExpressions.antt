@@ -14,8 +14,8 @@ use Rattle.cp_scope.specs.Judged.{Judged, broken, both, ◌>>=◌}
 use Rattle.cp_scope.specs.Scopes.{Heading, Scopes, heading_at}
 use Rattle.cp_check.specs.declared.operand.Context.{Context}
 use Rattle.cp_check.specs.declared.operand.Operand.{Operand}
-use Rattle.cp_check.specs.declared.operand.Place.TheVariants as place
-use Rattle.cp_check.specs.declared.operand.Designated as check_designated
+use Rattle.cp_check.specs.declared.operand.OperandUse.TheVariants as place
+use Rattle.cp_check.specs.declared.operand.DesignatedName as check_designated
 use Rattle.cp_check.specs.declared.operand.Named.{Named}
 use Rattle.cp_check.specs.declared.operand.Named.TheVariants.{Nothing, Constant, Variable, Parameter, Kind, Routine, Entry, Predeclared as Predeclared'}
 use Rattle.cp_check.specs.Operands.{value, is_function}

@@ -18,9 +18,9 @@ use Rattle.cp_scope.specs.Judged.{Judged, broken, both, ◌>>=◌, faults}
 use Rattle.cp_scope.specs.Scopes.{Scopes, heading_at}
 use Rattle.cp_check.specs.declared.operand.Context.{Context}
 use Rattle.cp_check.specs.declared.operand.Operand.{Operand}
-use Rattle.cp_check.specs.declared.operand.Place.{Place}
-use Rattle.cp_check.specs.declared.operand.Place.TheVariants as place
-use Rattle.cp_check.specs.declared.operand.Designated as check_designated
+use Rattle.cp_check.specs.declared.operand.OperandUse.{OperandUse}
+use Rattle.cp_check.specs.declared.operand.OperandUse.TheVariants as place
+use Rattle.cp_check.specs.declared.operand.DesignatedName as check_designated
 use Rattle.cp_check.specs.declared.operand.Named.{Named}
 use Rattle.cp_check.specs.declared.operand.Named.TheVariants as name
 use Rattle.cp_check.specs.declared.statement.Target.{Target}
@@ -161,7 +161,7 @@ module _ (tokens : Tokens) (s : Scopes) (h : Here) (w : Context) (agrees : Scope
   aimed_free : (u : ValueType) → IsAimed (name.Variable u) → calls.is_fixed s u ≡ false
   aimed_free u a = go (calls.place_of s u) refl a.1
     where
-      go : (z : Place) → calls.place_of s u ≡ z → (if is_assignable z then target.Assignable u else target.Fixed (Some u)) ≡ target.Assignable a.0 → calls.is_fixed s u ≡ false
+      go : (z : OperandUse) → calls.place_of s u ≡ z → (if is_assignable z then target.Assignable u else target.Fixed (Some u)) ≡ target.Assignable a.0 → calls.is_fixed s u ≡ false
       go place.Assignable j y = free_place tokens s h w agrees u (ap is_assignable j)
       go place.Value j y = absurd (cc)
       go place.Fixed j y = absurd (cc)
@@ -369,7 +369,7 @@ module _ (tokens : Tokens) (s : Scopes) (h : Here) (w : Context) (agrees : Scope
       go false x g = absurd (cc)
   queue_operand at (o ∷ p ∷ os) e = absurd (cc)
 
-  queue_stored : (v : ValueType) (p : Place) → is_queue_in v p ≡ true → is_stored p ≡ true
+  queue_stored : (v : ValueType) (p : OperandUse) → is_queue_in v p ≡ true → is_stored p ≡ true
   queue_stored v place.Fixed e = refl
   queue_stored v place.Assignable e = refl
   queue_stored types.Queue place.Value e = absurd (cc)

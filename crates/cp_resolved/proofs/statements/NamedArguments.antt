@@ -10,9 +10,9 @@ use Rattle.cp_scope.specs.Judged.{Judged, both, ◌>>=◌}
 use Rattle.cp_scope.specs.Scopes.{Scopes}
 use Rattle.cp_check.specs.declared.operand.Context.{Context}
 use Rattle.cp_check.specs.declared.operand.Operand.{Operand}
-use Rattle.cp_check.specs.declared.operand.Place.{Place}
-use Rattle.cp_check.specs.declared.operand.Place.TheVariants as place
-use Rattle.cp_check.specs.declared.operand.Designated as check_designated
+use Rattle.cp_check.specs.declared.operand.OperandUse.{OperandUse}
+use Rattle.cp_check.specs.declared.operand.OperandUse.TheVariants as place
+use Rattle.cp_check.specs.declared.operand.DesignatedName as check_designated
 use Rattle.cp_check.specs.declared.operand.Named.{Named}
 use Rattle.cp_check.specs.declared.operand.Named.TheVariants as name
 use Rattle.cp_check.specs.Operands.{value, is_assignable}
@@ -51,7 +51,7 @@ AreVariables h (q ∷ qs) no_expressions = Unit {0}
 AreVariables h (q ∷ qs) (more_expressions e es) = (q.is_var ≡ true → IsVariable h (variable_in e)) × AreVariables h qs es
 
 -- it stands somewhere
-abbrev pub is_stored : Place → Bool
+abbrev pub is_stored : OperandUse → Bool
 is_stored place.Assignable = true
 is_stored place.Fixed = true
 is_stored p = false
@@ -60,7 +60,7 @@ abbrev HasName : Here → Judged Operand → Option Designator → Type 0
 HasName h (Ok o) d = is_stored o.place ≡ true → IsVariable h d
 HasName h (Err fs) d = Unit {0}
 
-assigned_stored : (p : Place) → is_assignable p ≡ true → is_stored p ≡ true
+assigned_stored : (p : OperandUse) → is_assignable p ≡ true → is_stored p ≡ true
 assigned_stored place.Assignable e = refl
 assigned_stored place.Fixed e = refl
 assigned_stored place.Value e = absurd (cc)

@@ -19,9 +19,9 @@ use Rattle.cp_scope.specs.Judged.{Judged, both, ◌>>=◌}
 use Rattle.cp_scope.specs.Scopes.{Scopes, heading_at, body_at, shape_in, as_need}
 use Rattle.cp_check.specs.declared.operand.Context.{Context}
 use Rattle.cp_check.specs.declared.operand.Operand.{Operand}
-use Rattle.cp_check.specs.declared.operand.Place.{Place}
-use Rattle.cp_check.specs.declared.operand.Place.TheVariants as place
-use Rattle.cp_check.specs.declared.operand.Designated as check_designated
+use Rattle.cp_check.specs.declared.operand.OperandUse.{OperandUse}
+use Rattle.cp_check.specs.declared.operand.OperandUse.TheVariants as place
+use Rattle.cp_check.specs.declared.operand.DesignatedName as check_designated
 use Rattle.cp_check.specs.declared.operand.Named.{Named}
 use Rattle.cp_check.specs.declared.operand.Named.TheVariants as name
 use Rattle.cp_check.specs.declared.case.Label.{Label}
@@ -142,7 +142,7 @@ module _ (s : Scopes) (w : Context) (f : Bool) (scope : Scope) where
   free_place true false o k e = absurd (cc)
   free_place false c o k e = absurd (cc)
 
-  assignable_no_function : (p : Place) → is_assignable p ≡ true → is_function p ≡ false
+  assignable_no_function : (p : OperandUse) → is_assignable p ≡ true → is_function p ≡ false
   assignable_no_function place.Assignable e = refl
   assignable_no_function place.Value e = refl
   assignable_no_function place.Fixed e = refl
