@@ -108,7 +108,7 @@ impl SearchAtOnce {
         Progress {
             choices,
             states: self.found.kept.len(),
-            outcomes: self.found.ends.len(),
+            outcomes: Some(self.found.ends.len()),
         }
     }
 

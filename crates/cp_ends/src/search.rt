@@ -111,7 +111,7 @@ impl Search {
         Progress {
             choices,
             states: self.found.states.len(),
-            outcomes: self.found.ends.len(),
+            outcomes: Some(self.found.ends.len()),
         }
     }
 

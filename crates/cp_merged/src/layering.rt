@@ -101,7 +101,7 @@ pub fn progress_of(frontier: &Frontier, choices: u32) -> Progress {
     Progress {
         choices,
         states: frontier.layer.len(),
-        outcomes: frontier.ended.len(),
+        outcomes: Some(frontier.ended.len()),
     }
 }
 

@@ -6,10 +6,10 @@
 pub struct Progress {
     /// How many choices were taken on each way that still goes on.
     pub choices: u32,
-    /// How many states are kept.
+    /// How many states were found, of the layer that is made where only that is kept.
     pub states: usize,
-    /// How many outcomes or ends were found.
-    pub outcomes: usize,
+    /// How many outcomes or ends were found, where they are looked for.
+    pub outcomes: Option<usize>,
 }
 
 /// A search goes on from so many states of a layer before it tells how far it has come. So a layer that takes long is told of too.

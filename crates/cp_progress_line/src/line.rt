@@ -157,7 +157,14 @@ fn text_of(alloc: Global, counted: &'static str, progress: Progress) -> Result<S
         states,
         outcomes,
     } = progress;
-    format!(in alloc; "choices done: {choices}, states: {states}, {counted} so far: {outcomes}")
+    match outcomes {
+        Some(found) => {
+            format!(in alloc;
+                "choices done: {choices}, states: {states}, {counted} so far: {found}"
+            )
+        }
+        None => format!(in alloc; "choices done: {choices}, states: {states}"),
+    }
 }
 
 // A text at the beginning of the line, with blanks over what else stood there.

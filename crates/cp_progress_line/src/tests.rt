@@ -74,7 +74,7 @@ fn told(alloc: Global, layers: u32, is_broken: bool) -> FakeTerminal {
         line.observe_progress(Progress {
             choices: layer,
             states: if layer < 21 { 1_000_000 } else { 7 },
-            outcomes: 3,
+            outcomes: Some(3),
         });
     }
     line.observe_end();
@@ -122,7 +122,7 @@ fn without_a_terminal_nothing_is_told(rt: HostRuntime) {
         line.observe_progress(Progress {
             choices,
             states: 7,
-            outcomes: 3,
+            outcomes: Some(3),
         });
     }
     line.observe_end();
@@ -140,10 +140,31 @@ fn time_before_the_work_does_not_count(rt: HostRuntime) {
         line.observe_progress(Progress {
             choices,
             states: 7,
-            outcomes: 3,
+            outcomes: Some(3),
         });
     }
     line.observe_end();
     let taken = line.into_terminal().map(|terminal| terminal.taken.len());
     assert!(rt; taken == Some(0));
+}
+
+#[test]
+fn what_is_not_looked_for_is_not_told(rt: HostRuntime) {
+    let clock = TickingClock {
+        reads: Cell::new(0),
+    };
+    let terminal = FakeTerminal::new(rt.alloc(), false);
+    let mut line = ProgressLine::new(rt.alloc(), clock, Some(terminal), "outcomes");
+    line.observe_begin();
+    for _layer in 0..20 {
+        line.observe_progress(Progress {
+            choices: 4,
+            states: 7,
+            outcomes: None,
+        });
+    }
+    let terminal = line
+        .into_terminal()
+        .unwrap_or(FakeTerminal::new(rt.alloc(), false));
+    assert!(rt; terminal.taken.as_slice() == "\rchoices done: 4, states: 7".as_bytes());
 }

@@ -125,7 +125,7 @@ impl Builder {
                 observer.observe_progress(Progress {
                     choices,
                     states: number as usize,
-                    outcomes: found.ends.len(),
+                    outcomes: Some(found.ends.len()),
                 });
             }
             if !found.states.thaw_at(number, state) {
