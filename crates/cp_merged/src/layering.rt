@@ -137,6 +137,10 @@ pub fn next_layer<O: ObserveProgress, S: Ledger, C: Ledger>(
     let mut moved = Moved::everybody();
     let mut gone_on: u32 = 0;
     for (key, prefixes) in layer.iter() {
+        gone_on = gone_on.wrapping_add(1);
+        if gone_on % STATES_BETWEEN == 0 {
+            observer.observe_progress(progress_of(frontier, u32::from(depth)));
+        }
         frontier.store.take(key, row, state, &mut moved);
         *row = *key;
         let Ok(()) = take_choices(
@@ -146,10 +150,6 @@ pub fn next_layer<O: ObserveProgress, S: Ledger, C: Ledger>(
         };
         if frontier.layer.len() > most {
             return Err(MergeFault::TooManyStates);
-        }
-        gone_on = gone_on.wrapping_add(1);
-        if gone_on % STATES_BETWEEN == 0 {
-            observer.observe_progress(progress_of(frontier, u32::from(depth)));
         }
     }
     Ok(())

@@ -5,7 +5,7 @@ ghost use Rattle.std.specs.Prelude.{◌≡◌, ◌<◌, false, IfSome};
 
 use cp_progress::{ObserveProgress, Progress, Unobserved};
 use std::alloc::{AllocError, Global};
-use std::io::Write;
+use std::io::{IsTerminal, Write};
 use std::time::{Clock, Duration};
 
 /// Whoever is told how far searches have come, and when the work that they belong to begins and ends.
@@ -134,6 +134,15 @@ impl<C: Clock + Drop, W: Write + Drop> ObserveWork for ProgressLine<C, W> {
             Err(_) => self.write("\r\x1b[K"),
         }
         self.width = 0;
+    }
+}
+
+/// A stream, where it is a terminal.
+pub fn terminal_of<W: IsTerminal + Drop>(stream: W) -> Option<W> {
+    if stream.is_terminal() {
+        Some(stream)
+    } else {
+        None
     }
 }
 

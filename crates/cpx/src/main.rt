@@ -4,13 +4,13 @@
 ghost use Rattle.std.specs.Prelude.{◌≡◌};
 
 use cp_ends_tool::answer_stream;
-use cp_progress_line::{ObserveWork, ProgressLine};
+use cp_progress_line::{ObserveWork, ProgressLine, terminal_of};
 use cp_tool::{
     OptionFault, Options, SourceReading, VERSION, Wrapped, asks_version, read_options, reason_for,
 };
 use std::alloc::{AllocError, Global};
 use std::env;
-use std::io::{ErrorKind, IsTerminal, Stderr, Stdin, Stdout};
+use std::io::{ErrorKind, Stderr, Stdin, Stdout};
 use std::marker::Brand;
 use std::process::ExitCode;
 use std::sync::ledger::{Blank, Ledger};
@@ -113,15 +113,6 @@ fn explore_input(rt: &HostRuntime, options: &Options) -> u8 {
         rt.stdout(),
         Blank::new(3),
     )
-}
-
-// Standard error, where it is a terminal.
-fn terminal_of(error: Stderr) -> Option<Stderr> {
-    if error.is_terminal() {
-        Some(error)
-    } else {
-        None
-    }
 }
 
 /// The status of answering what standard input has; the blanks are for the counts of the streams' calls.
