@@ -40,9 +40,7 @@ pub fn endless_of<O: ObserveProgress>(
     } = subject;
     let found = search_ends_with(alloc, program, limits, MOST, observer)?;
     let waits = match found.stopped {
-        None => Some(find_waits_with(
-            alloc, program, limits, &found, observer,
-        )?),
+        None => Some(find_waits_with(alloc, program, limits, &found, observer)?),
         Some(_) => None,
     };
     Ok(Endless { found, waits })
