@@ -25,6 +25,8 @@ use cp_outcomes::{
     First, Format, Subject as Survey, first_of_outcome, outcomes, simplest_of_outcome,
 };
 use cp_page::{Length, PageSubject as Played, page};
+use cp_progress::ObserveProgress;
+use cp_progress_line::ObserveWork;
 use cp_resolved::resolve;
 use cp_run::{Limits, MOST_CHOICES};
 use cp_slots::Resolved;
@@ -92,10 +94,11 @@ fn code_of(ending: Ending) -> u8
 /// Reads a source, shows what is asked for, and answers the exit code: 0 reported, 1 source refused, 2 no expectation or one
 /// that can't be read, 3 memory refused, 4 read or write fault, 5 too many rows, states or outcomes, 6 an expectation fails, 7 one
 /// is not settled. The whole text is built before the first write, and nothing is written after a failed read or where memory
-/// is refused.
-pub fn show_stream<R: Source, W: Sink>(
+/// is refused. An observer is told how far each search has come.
+pub fn show_stream<O: ObserveWork, R: Source, W: Sink>(
     alloc: Global,
     asked: &Asked,
+    observer: &mut O,
     source: &mut R,
     sink: &mut W,
 ) -> u8
@@ -103,16 +106,22 @@ pub fn show_stream<R: Source, W: Sink>(
     ensures told { (ending : spec.Ending) × (result ≡ spec.code_of ending) × (spec.IsSilent ending → W.writes sink.new ≡ W.writes sink.old) × (R.failed_reads source.new + (W.failed_writes sink.new + W.empty_writes sink.new) ≡ R.failed_reads source.old + (W.failed_writes sink.old + W.empty_writes sink.old) + spec.faults_of ending) }
     ensures reads { R.reads source.new ≤ R.reads source.old + 65536 }
 {
-    code_of(serve(alloc, asked, source, sink))
+    code_of(serve(alloc, asked, observer, source, sink))
 }
 
-fn serve<R: Source, W: Sink>(alloc: Global, asked: &Asked, source: &mut R, sink: &mut W) -> Ending
+fn serve<O: ObserveWork, R: Source, W: Sink>(
+    alloc: Global,
+    asked: &Asked,
+    observer: &mut O,
+    source: &mut R,
+    sink: &mut W,
+) -> Ending
     ensures silent { spec.IsSilent result → W.writes sink.new ≡ W.writes sink.old }
     ensures faults { R.failed_reads source.new + (W.failed_writes sink.new + W.empty_writes sink.new) ≡ R.failed_reads source.old + (W.failed_writes sink.old + W.empty_writes sink.old) + spec.faults_of result }
     ensures reads { R.reads source.new ≤ R.reads source.old + 65536 }
 {
     match read_source(alloc, source, MOST_BYTES) {
-        Ok(bytes) => match answer_source(alloc, asked, &bytes) {
+        Ok(bytes) => match answer_source(alloc, asked, observer, &bytes) {
             Ok(answer) => write_answer(sink, &answer),
             Err(_) => Ending::OutOfMemory,
         },
@@ -132,50 +141,63 @@ fn write_answer<W: Sink>(sink: &mut W, answer: &Answer) -> Ending
     }
 }
 
-fn answer_source(alloc: Global, asked: &Asked, source: &[u8]) -> Result<Answer, AllocError> {
+fn answer_source<O: ObserveWork>(
+    alloc: Global,
+    asked: &Asked,
+    observer: &mut O,
+    source: &[u8],
+) -> Result<Answer, AllocError> {
     match &asked.part {
         Part::Refusal { json, file } => explanation_answer(alloc, source, *json, file),
-        Part::Mark { json, .. } => examined(alloc, asked, source, *json),
-        _ => answer_tokens_of(alloc, asked, source),
+        Part::Mark { json, .. } => examined(alloc, asked, observer, source, *json),
+        _ => answer_tokens_of(alloc, asked, observer, source),
     }
 }
 
 // The mark of a source, or why it is refused.
-fn examined(
+fn examined<O: ObserveWork>(
     alloc: Global,
     asked: &Asked,
+    observer: &mut O,
     source: &[u8],
     as_json: bool,
 ) -> Result<Answer, AllocError> {
-    let answer = answer_tokens_of(alloc, asked, source)?;
+    let answer = answer_tokens_of(alloc, asked, observer, source)?;
     match answer.verdict {
         Verdict::Refused => explanation_answer(alloc, source, as_json, &None),
         _ => Ok(answer),
     }
 }
 
-fn answer_tokens_of(alloc: Global, asked: &Asked, source: &[u8]) -> Result<Answer, AllocError> {
+fn answer_tokens_of<O: ObserveWork>(
+    alloc: Global,
+    asked: &Asked,
+    observer: &mut O,
+    source: &[u8],
+) -> Result<Answer, AllocError> {
     match scan(alloc, source) {
-        Ok(tokens) => answer_tokens(alloc, asked, source, &tokens),
+        Ok(tokens) => answer_tokens(alloc, asked, observer, source, &tokens),
         Err(fault) => refusal_answer(alloc, fault.line, scan_reason(fault.cause)),
     }
 }
 
-fn answer_tokens(
+fn answer_tokens<O: ObserveWork>(
     alloc: Global,
     asked: &Asked,
+    observer: &mut O,
     source: &[u8],
     tokens: &Tokens,
 ) -> Result<Answer, AllocError> {
     match parse(alloc, tokens) {
-        Ok(tree) => answer_tree(alloc, asked, source, tokens, tree),
+        Ok(tree) => answer_tree(alloc, asked, observer, source, tokens, tree),
         Err(fault) => refused_at(alloc, tokens, parse_reason(&fault)),
     }
 }
 
-fn answer_tree(
+fn answer_tree<O: ObserveWork>(
     alloc: Global,
     asked: &Asked,
+    observer: &mut O,
     source: &[u8],
     tokens: &Tokens,
     tree: Tree,
@@ -187,7 +209,9 @@ fn answer_tree(
             let entries = entries_of(alloc, checked.tree());
             drop_checked(checked);
             let program = resolved?;
-            let answer = shown_with(alloc, asked, &program, legend, entries, source);
+            observer.observe_begin();
+            let answer = shown_with(alloc, asked, observer, &program, legend, entries, source);
+            observer.observe_end();
             drop_program(program);
             answer
         }
@@ -199,20 +223,23 @@ fn answer_tree(
 }
 
 // What is shown of a program, where there is a legend.
-fn shown_with(
+fn shown_with<O: ObserveProgress>(
     alloc: Global,
     asked: &Asked,
+    observer: &mut O,
     program: &Resolved,
     legend: Result<Legend, AllocError>,
     entries: Result<Entries, AllocError>,
     source: &[u8],
 ) -> Result<Answer, AllocError> {
     let legend = legend?;
-    let answer = answer_part(alloc, asked, program, &legend, source)?;
+    let answer = answer_part(alloc, asked, observer, program, &legend, source)?;
     match asked.part {
         Part::Outcomes { json, cover: true } => {
             let options = &asked.options;
-            with_coverage(alloc, options, program, &legend, &entries?, answer, json)
+            with_coverage(
+                alloc, options, observer, program, &legend, &entries?, answer, json,
+            )
         }
         _ => Ok(answer),
     }
@@ -242,9 +269,10 @@ fn refused_at(
 }
 
 // The part that is asked for.
-fn answer_part(
+fn answer_part<O: ObserveProgress>(
     alloc: Global,
     asked: &Asked,
+    observer: &mut O,
     program: &Resolved,
     legend: &Legend,
     source: &[u8],
@@ -252,12 +280,18 @@ fn answer_part(
     let options = &asked.options;
     let lines = lines_of(alloc, source)?;
     match &asked.part {
-        Part::Trace { .. } | Part::Lanes(_) => shown_once(alloc, asked, program, legend, &lines),
-        Part::Page { states } => page_answer(alloc, asked, program, legend, *states, source),
+        Part::Trace { .. } | Part::Lanes(_) => shown_once(
+            alloc, asked, observer, program, legend, &lines,
+        ),
+        Part::Page { states } => page_answer(
+            alloc, asked, observer, program, legend, *states, source,
+        ),
         Part::Outcomes { json, .. } => {
-            outcomes_answer(alloc, options, program, legend, &lines, *json)
+            outcomes_answer(alloc, options, observer, program, legend, &lines, *json)
         }
-        Part::Ends { json } => { ends_answer(alloc, options, program, legend, &lines, *json) }
+        Part::Ends { json } => {
+            ends_answer(alloc, options, observer, program, legend, &lines, *json)
+        }
         Part::Mark { words, own, json } => {
             let examinee = Examinee {
                 options,
@@ -266,21 +300,22 @@ fn answer_part(
                 lines: &lines,
                 as_json: *json,
             };
-            mark_answer(alloc, examinee, words.as_str(), *own, source)
+            mark_answer(alloc, examinee, observer, words.as_str(), *own, source)
         }
         Part::Refusal { json, file } => explanation_answer(alloc, source, *json, file),
     }
 }
 
 // A part of one schedule.
-fn shown_once(
+fn shown_once<O: ObserveProgress>(
     alloc: Global,
     asked: &Asked,
+    observer: &mut O,
     program: &Resolved,
     legend: &Legend,
     source: &[String],
 ) -> Result<Answer, AllocError> {
-    let word = match schedule_asked(alloc, asked, program)? {
+    let word = match schedule_asked(alloc, asked, observer, program)? {
         First::Word(word) => word,
         First::None(count) => return no_outcome(alloc, count),
         First::NotSearched => return unsearched_answer(alloc, asked),
@@ -317,9 +352,10 @@ fn no_outcome(alloc: Global, count: usize) -> Result<Answer, AllocError> {
 }
 
 // A page on which the scheduler is played.
-fn page_answer(
+fn page_answer<O: ObserveProgress>(
     alloc: Global,
     asked: &Asked,
+    observer: &mut O,
     program: &Resolved,
     legend: &Legend,
     states: u32,
@@ -329,7 +365,7 @@ fn page_answer(
     let Some(limits) = Limits::new(options.choices, options.steps, options.gates) else {
         unreachable!()
     };
-    let word = match schedule_asked(alloc, asked, program)? {
+    let word = match schedule_asked(alloc, asked, observer, program)? {
         First::Word(word) => word,
         First::None(count) => return no_outcome(alloc, count),
         First::NotSearched => return unsearched_answer(alloc, asked),
@@ -350,12 +386,17 @@ fn page_answer(
     };
     Ok(Answer {
         verdict: Verdict::Reported,
-        text: page(alloc, subject)?,
+        text: page(alloc, subject, observer)?,
     })
 }
 
 // The schedule that is given, or the first or the simplest one of the outcome that is.
-fn schedule_asked(alloc: Global, asked: &Asked, program: &Resolved) -> Result<First, AllocError> {
+fn schedule_asked<O: ObserveProgress>(
+    alloc: Global,
+    asked: &Asked,
+    observer: &mut O,
+    program: &Resolved,
+) -> Result<First, AllocError> {
     let options = &asked.options;
     let Some(number) = asked.outcome else {
         return Ok(First::Word(word_of(word_given(options))));
@@ -365,9 +406,9 @@ fn schedule_asked(alloc: Global, asked: &Asked, program: &Resolved) -> Result<Fi
     };
     let job = Job { program, limits };
     if asked.simplest {
-        simplest_of_outcome(alloc, job, options.states, number)
+        simplest_of_outcome(alloc, job, options.states, number, observer)
     } else {
-        first_of_outcome(alloc, job, options.states, number)
+        first_of_outcome(alloc, job, options.states, number, observer)
     }
 }
 
@@ -458,9 +499,10 @@ fn text_with_again(
 }
 
 // The outcomes of all schedules.
-fn outcomes_answer(
+fn outcomes_answer<O: ObserveProgress>(
     alloc: Global,
     options: &Options,
+    observer: &mut O,
     program: &Resolved,
     legend: &Legend,
     source: &[String],
@@ -477,7 +519,7 @@ fn outcomes_answer(
         source,
     };
     let form = if as_json { Format::Json } else { Format::Text };
-    let told = outcomes(alloc, subject, form)?;
+    let told = outcomes(alloc, subject, form, observer)?;
     Ok(Answer {
         verdict: if told.is_whole {
             Verdict::Reported
@@ -489,9 +531,10 @@ fn outcomes_answer(
 }
 
 // The ends of schedules of any length.
-fn ends_answer(
+fn ends_answer<O: ObserveProgress>(
     alloc: Global,
     options: &Options,
+    observer: &mut O,
     program: &Resolved,
     legend: &Legend,
     source: &[String],
@@ -514,7 +557,7 @@ fn ends_answer(
     } else {
         cp_ends_story::EndsFormat::Text
     };
-    let told = ends_story(alloc, subject, form)?;
+    let told = ends_story(alloc, subject, form, observer)?;
     Ok(Answer {
         verdict: if told.is_whole {
             Verdict::Reported

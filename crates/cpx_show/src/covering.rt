@@ -3,15 +3,17 @@
 use crate::answering::Answer;
 use cp_cover::{Entries, cover_json, cover_text, find_coverage, gaps_of};
 use cp_legend::Legend;
+use cp_progress::ObserveProgress;
 use cp_run::Limits;
 use cp_slots::Resolved;
 use cp_tool::Options;
 use std::alloc::{AllocError, Global};
 
 /// An answer that has the outcomes, with what no schedule comes to after them.
-pub fn with_coverage(
+pub fn with_coverage<O: ObserveProgress>(
     alloc: Global,
     options: &Options,
+    observer: &mut O,
     program: &Resolved,
     legend: &Legend,
     entries: &Entries,
@@ -21,7 +23,7 @@ pub fn with_coverage(
     let Some(limits) = Limits::new(options.choices, options.steps, options.gates) else {
         unreachable!()
     };
-    let coverage = find_coverage(alloc, program, limits, options.states)?;
+    let coverage = find_coverage(alloc, program, limits, options.states, observer)?;
     let rest = gaps_of(alloc, program, legend, entries, &coverage)?;
     let text = if as_json {
         let cover = cover_json(alloc, &rest)?.to_string(alloc)?;

@@ -16,6 +16,7 @@ use cp_ends_verdict::{
     misread_text as ends_misread_text,
 };
 use cp_outcomes::completing::greatest_known;
+use cp_progress::ObserveProgress;
 use cp_run::{Limits, MOST_CHOICES};
 use cp_verdict::{
     MarkFault, Misread, Reading, TableMark, expectations, expectations_in, mark_program,
@@ -25,9 +26,10 @@ use cp_walk::Job;
 use std::alloc::{AllocError, Global};
 
 /// What is said of a program by the expectations of the words; by those of the source where they are asked for, or where there are no words.
-pub fn mark_answer(
+pub fn mark_answer<O: ObserveProgress>(
     alloc: Global,
     examinee: Examinee<'_>,
+    observer: &mut O,
     words: &str,
     with_own: bool,
     source: &[u8],
@@ -47,16 +49,21 @@ pub fn mark_answer(
             "no expectation: none was given, and the source has no comment that begins (* expect\n",
         );
     }
-    marked_by(alloc, examinee, text.as_str())
+    marked_by(alloc, examinee, observer, text.as_str())
 }
 
 // What is said by the expectations of a text.
-fn marked_by(alloc: Global, examinee: Examinee<'_>, text: &str) -> Result<Answer, AllocError> {
+fn marked_by<O: ObserveProgress>(
+    alloc: Global,
+    examinee: Examinee<'_>,
+    observer: &mut O,
+    text: &str,
+) -> Result<Answer, AllocError> {
     if examinee.options.ends {
-        return marked_ends(alloc, examinee, text);
+        return marked_ends(alloc, examinee, observer, text);
     }
     match expectations(alloc, text) {
-        Ok(reading) => mark_of(alloc, examinee, &reading),
+        Ok(reading) => mark_of(alloc, examinee, observer, &reading),
         Err(Misread::Unexpected { wanted, place }) => misread(
             alloc,
             examinee,
@@ -67,9 +74,14 @@ fn marked_by(alloc: Global, examinee: Examinee<'_>, text: &str) -> Result<Answer
 }
 
 // The same of schedules of any length.
-fn marked_ends(alloc: Global, examinee: Examinee<'_>, text: &str) -> Result<Answer, AllocError> {
+fn marked_ends<O: ObserveProgress>(
+    alloc: Global,
+    examinee: Examinee<'_>,
+    observer: &mut O,
+    text: &str,
+) -> Result<Answer, AllocError> {
     match ends_expectations(alloc, examinee.legend, text)? {
-        EndsReading::Expectations(list) => judged_ends(alloc, examinee, &list),
+        EndsReading::Expectations(list) => judged_ends(alloc, examinee, observer, &list),
         EndsReading::Misread { wanted, place } => misread(
             alloc,
             examinee,
@@ -79,25 +91,27 @@ fn marked_ends(alloc: Global, examinee: Examinee<'_>, text: &str) -> Result<Answ
 }
 
 // What schedules of any length say of the expectations.
-fn judged_ends(
+fn judged_ends<O: ObserveProgress>(
     alloc: Global,
     examinee: Examinee<'_>,
+    observer: &mut O,
     list: &[EndsExpectation],
 ) -> Result<Answer, AllocError>
     ensures in_turn { examinee.entry.options.now.at_once ≡ false → 1 ≤ examinee.entry.options.now.states → can_be_asked examinee.entry.options.now.gates list.now ≡ true → IfOk result (λ a. spec.TellsEndsMark examinee.entry.program.now examinee.entry.options.now.gates examinee.entry.options.now.steps examinee.entry.options.now.states list.now a.verdict) }
     ensures at_once { examinee.entry.options.now.at_once ≡ true → can_be_at_once examinee.entry.options.now.gates list.now ≡ true → IfOk result (λ a. spec.TellsMarkAtOnce examinee.entry.program.now examinee.entry.options.now.steps list.now a.verdict) }
 {
     if examinee.options.at_once {
-        judged_at_once(alloc, examinee, list)
+        judged_at_once(alloc, examinee, observer, list)
     } else {
-        judged_in_turn(alloc, examinee, list)
+        judged_in_turn(alloc, examinee, observer, list)
     }
 }
 
 // The same without calls at once, but where there are too many states.
-fn judged_in_turn(
+fn judged_in_turn<O: ObserveProgress>(
     alloc: Global,
     examinee: Examinee<'_>,
+    observer: &mut O,
     list: &[EndsExpectation],
 ) -> Result<Answer, AllocError>
     ensures { 1 ≤ examinee.entry.options.now.states → can_be_asked examinee.entry.options.now.gates list.now ≡ true → IfOk result (λ a. spec.TellsEndsMark examinee.entry.program.now examinee.entry.options.now.gates examinee.entry.options.now.steps examinee.entry.options.now.states list.now a.verdict) }
@@ -117,7 +131,7 @@ fn judged_in_turn(
         limits,
         most: options.states,
     };
-    let marked = mark_in_turn(alloc, subject, list)?;
+    let marked = mark_in_turn(alloc, subject, list, observer)?;
     let text = ends_told(alloc, examinee, &marked)?;
     Ok(Answer {
         verdict: ends_verdict_of(marked.mark),
@@ -126,9 +140,10 @@ fn judged_in_turn(
 }
 
 // The same with calls at once.
-fn judged_at_once(
+fn judged_at_once<O: ObserveProgress>(
     alloc: Global,
     examinee: Examinee<'_>,
+    observer: &mut O,
     list: &[EndsExpectation],
 ) -> Result<Answer, AllocError>
     ensures { can_be_at_once examinee.entry.options.now.gates list.now ≡ true → IfOk result (λ a. spec.TellsMarkAtOnce examinee.entry.program.now examinee.entry.options.now.steps list.now a.verdict) }
@@ -148,7 +163,7 @@ fn judged_at_once(
         limits,
         most: options.states,
     };
-    let marked = mark_at_once(alloc, subject, list)?;
+    let marked = mark_at_once(alloc, subject, list, observer)?;
     let text = ends_told(alloc, examinee, &marked)?;
     Ok(Answer {
         verdict: ends_verdict_of(marked.mark),
@@ -169,7 +184,12 @@ fn ends_verdict_of(mark: EndsMark) -> Verdict
 }
 
 // What the table within the limits of the options says of the expectations.
-fn mark_of(alloc: Global, examinee: Examinee<'_>, reading: &Reading) -> Result<Answer, AllocError>
+fn mark_of<O: ObserveProgress>(
+    alloc: Global,
+    examinee: Examinee<'_>,
+    observer: &mut O,
+    reading: &Reading,
+) -> Result<Answer, AllocError>
     ensures { IfOk result (λ a. spec.TellsMark examinee.entry.program.now.names reading.now.expectations.items (table (slots examinee.entry.program.now examinee.entry.options.now.gates) examinee.entry.options.now.choices examinee.entry.options.now.steps) a.verdict) }
 {
     let options = examinee.options;
@@ -181,15 +201,15 @@ fn mark_of(alloc: Global, examinee: Examinee<'_>, reading: &Reading) -> Result<A
         limits,
     };
     let list = reading.expectations.as_slice();
-    match mark_program(alloc, job, options.states, list) {
+    match mark_program(alloc, job, options.states, list, observer) {
         Ok(marked) => {
             let verdict = verdict_of(marked.mark);
             let text = told(alloc, examinee, reading, &marked)?;
             Ok(Answer { verdict, text })
         }
         Err(MarkFault::Memory) => Err(AllocError),
-        Err(MarkFault::TooManyStates) => too_many(alloc, examinee, job, reading, true),
-        Err(MarkFault::TooManyOutcomes) => too_many(alloc, examinee, job, reading, false),
+        Err(MarkFault::TooManyStates) => too_many(alloc, examinee, observer, job, reading, true),
+        Err(MarkFault::TooManyOutcomes) => too_many(alloc, examinee, observer, job, reading, false),
     }
 }
 
@@ -204,9 +224,10 @@ fn verdict_of(mark: TableMark) -> Verdict
 }
 
 // What is said where there are too many states, or else outcomes, and the mark by schedules of fewer choices.
-fn too_many(
+fn too_many<O: ObserveProgress>(
     alloc: Global,
     examinee: Examinee<'_>,
+    observer: &mut O,
     job: Job,
     reading: &Reading,
     of_states: bool,
@@ -214,7 +235,7 @@ fn too_many(
     ensures { IfOk result (λ a. a.verdict ≡ TooMany) }
 {
     let states = examinee.options.states;
-    let text = match greatest_known(alloc, job, states)? {
+    let text = match greatest_known(alloc, job, states, observer)? {
         Some(known) => {
             let tallies = known.tallies.as_slice();
             let marked = mark_tallies(alloc, job.program, &reading.expectations, tallies)?;

@@ -6,7 +6,7 @@ use Rattle.cpx_show.proofs.Telling.{told_within}
 use Rattle.cpx_show.proofs.marks.mark_of.Goals as goal
 
 pub returns-in_ok-text-in-Ok : goal.returns-in_ok-text-in-Ok
-returns-in_ok-text-in-Ok c =
+returns-in_ok-text-in-Ok g c =
     let limits = c.in-Some.limits in
     let program = c.args.examinee.program.now in
     let mark = c.in-Ok.marked.mark in
