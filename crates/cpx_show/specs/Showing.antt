@@ -1,5 +1,5 @@
 -- What the program tells its caller.
-use Rattle.std.specs.Prelude.{◌≡◌, ◌⊎◌, ℕ, List}
+use Rattle.std.specs.Prelude.{◌≡◌, ◌⊎◌, ℕ, List, Result, Ok, Err}
 use Rattle.cp_walk.specs.Text.{Spellings}
 use Rattle.cp_run.specs.Table.{Line}
 use Rattle.cp_slots.specs.Tables.{Tables}
@@ -8,39 +8,29 @@ use Rattle.cp_ends_verdict.specs.AtOnce.{IsMarkAtOnce, IsMarkInTurn}
 use Rattle.cp_ends_verdict.specs.declared.expectation.Expectation as ends_expectation
 use Rattle.cp_ends_verdict.specs.declared.verdict.Mark as ends_mark
 use Rattle.cp_ends_verdict.specs.declared.verdict.Mark.TheVariants as of_ends
+use Rattle.cp_front.specs.declared.transfer.StreamFault.{StreamFault}
+use Rattle.cp_front.specs.declared.transfer.StreamFault.TheVariants as fault
 use Rattle.cp_verdict.specs.Marked.{IsMarkOf}
 use Rattle.cp_verdict.specs.declared.expectation.Expectation.{Expectation}
 use Rattle.cp_verdict.specs.declared.marking.Mark.{Mark}
 use Rattle.cp_verdict.specs.declared.marking.Mark.TheVariants as mark
 pub use Rattle.cpx_show.specs.declared.answering.Verdict.{Verdict}
-pub use Rattle.cpx_show.specs.declared.answering.Ending.{Ending}
-use Rattle.cpx_show.specs.declared.answering.Ending.TheVariants.{Told, OutOfMemory, ReadFailed, WriteFailed}
 use Rattle.cpx_show.specs.declared.answering.Verdict.TheVariants.{Reported, Refused, TooMany, Misread, Fails, Open}
 
-abbrev pub code_of : Ending → ℕ
-code_of (Told Reported) = 0
-code_of (Told Refused) = 1
-code_of (Told Misread) = 2
-code_of OutOfMemory = 3
-code_of ReadFailed = 4
-code_of WriteFailed = 4
-code_of (Told TooMany) = 5
-code_of (Told Fails) = 6
-code_of (Told Open) = 7
-
--- how many calls failed or took nothing
-abbrev pub faults_of : Ending → ℕ
-faults_of (Told verdict) = 0
-faults_of OutOfMemory = 0
-faults_of ReadFailed = 1
-faults_of WriteFailed = 1
+abbrev pub code_of : Verdict → ℕ
+code_of Reported = 0
+code_of Refused = 1
+code_of Misread = 2
+code_of TooMany = 5
+code_of Fails = 6
+code_of Open = 7
 
 -- nothing is written
-abbrev pub IsSilent : Ending → Type 0
-IsSilent (Told verdict) = ⊥
-IsSilent OutOfMemory = Unit {0}
-IsSilent ReadFailed = Unit {0}
-IsSilent WriteFailed = ⊥
+abbrev pub IsSilent : Result Verdict StreamFault → Type 0
+IsSilent (Ok verdict) = ⊥
+IsSilent (Err fault.Memory) = Unit {0}
+IsSilent (Err fault.Read) = Unit {0}
+IsSilent (Err fault.Write) = ⊥
 
 abbrev pub verdict_of : Mark → Verdict
 verdict_of mark.Holds = Reported

@@ -1,22 +1,26 @@
 //! From the bytes of a source to the bytes of what is shown.
 
-ghost use Rattle.std.specs.Prelude.{◌≡◌, ◌+◌, ◌≤◌, IfOk, length};
+ghost use Rattle.std.specs.Prelude.{◌≡◌, ◌+◌, ◌≤◌, IfOk, Result, length};
+ghost use Rattle.cp_tree.specs.TreeView.{tree_view};
+ghost use Rattle.cp_front.specs.Transfer.{code_by, faults_in};
+ghost use Rattle.cp_front.specs.declared.transfer.StreamFault.{StreamFault};
+ghost use Rattle.cp_resolved.specs.Resolving.{IsProgramOf};
 ghost use Rattle.cp_walk.specs.Rows.{UsedWithin};
 ghost use Rattle.cpx_show.specs.Showing as spec;
+ghost use Rattle.cpx_show.specs.Told as told_of;
+ghost use Rattle.cpx_show.specs.declared.answering.Verdict.TheVariants.{Refused};
 
 use crate::covering::with_coverage;
 use crate::lines::lines_of;
 use crate::mark_words::Examinee;
-use crate::marks::mark_answer;
+use crate::marks::{mark_answer, mark_of};
 use crate::parts::{Asked, Part};
-use crate::refusals::explanation_answer;
-use cp_check::check;
-use cp_cover::{Entries, entries_of};
-use cp_drops::{drop_checked, drop_program, drop_tree};
+use crate::refusals::explanation_text;
 use cp_ends_story::{EndsSubject as Endless, ends_story};
-use cp_front::reasons::{check_reason, parse_reason, reason_line, scan_reason};
-use cp_front::transfer::{MOST_BYTES, ReadFault, read_source, write_text};
-use cp_front::{Sink, Source};
+use cp_front::{
+    Loaded, MOST_BYTES, ReadFault, Refusal, Sink, Source, StreamFault, drop_loaded, drop_refusal,
+    load, read_source, refusal_line, write_text,
+};
 use cp_lanes::{PictureSubject, PictureView, picture_in};
 use cp_legend::{Legend, legend_of};
 use cp_machine::Ticks;
@@ -25,13 +29,10 @@ use cp_outcomes::{
     First, Format, Subject as Survey, first_of_outcome, outcomes, simplest_of_outcome,
 };
 use cp_page::{Length, PageSubject as Played, page};
-use cp_resolved::resolve;
 use cp_run::{Limits, MOST_CHOICES};
 use cp_slots::Resolved;
 use cp_story::{Story, json, tell, text};
-use cp_text::{Tokens, scan};
 use cp_tool::Options;
-use cp_tree::{Tree, parse};
 use cp_walk::{Job, trace_report};
 use std::alloc::{AllocError, Global};
 use std::marker::Brand;
@@ -61,31 +62,19 @@ pub struct Answer {
     pub text: String,
 }
 
-/// How a source was shown.
-#[derive(Clone, Copy)]
-pub enum Ending {
-    /// The whole text was written.
-    Told(Verdict),
-    /// Memory was refused.
-    OutOfMemory,
-    /// A read failed.
-    ReadFailed,
-    /// A write failed or took nothing.
-    WriteFailed,
-}
-
-fn code_of(ending: Ending) -> u8
-    ensures { result ≡ spec.code_of ending }
-{
-    match ending {
-        Ending::Told(Verdict::Reported) => 0,
-        Ending::Told(Verdict::Refused) => 1,
-        Ending::Told(Verdict::Misread) => 2,
-        Ending::OutOfMemory => 3,
-        Ending::ReadFailed | Ending::WriteFailed => 4,
-        Ending::Told(Verdict::TooMany) => 5,
-        Ending::Told(Verdict::Fails) => 6,
-        Ending::Told(Verdict::Open) => 7,
+impl Verdict {
+    /// The exit code.
+    fn code(self) -> u8
+        ensures { result ≡ spec.code_of self }
+    {
+        match self {
+            Verdict::Reported => 0,
+            Verdict::Refused => 1,
+            Verdict::Misread => 2,
+            Verdict::TooMany => 5,
+            Verdict::Fails => 6,
+            Verdict::Open => 7,
+        }
     }
 }
 
@@ -99,166 +88,133 @@ pub fn show_stream<R: Source, W: Sink>(
     source: &mut R,
     sink: &mut W,
 ) -> u8
-    // Status 4 comes exactly where a call failed or took nothing.
-    ensures told { (ending : spec.Ending) × (result ≡ spec.code_of ending) × (spec.IsSilent ending → W.writes sink.new ≡ W.writes sink.old) × (R.failed_reads source.new + (W.failed_writes sink.new + W.empty_writes sink.new) ≡ R.failed_reads source.old + (W.failed_writes sink.old + W.empty_writes sink.old) + spec.faults_of ending) }
+    // What is told is true of the source that was read; status 4 comes exactly where a call failed or took nothing.
+    ensures told { (ending : Result spec.Verdict StreamFault) × (result ≡ code_by spec.code_of ending) × told_of.Tells asked.now (R.remaining source.old) ending × (spec.IsSilent ending → W.writes sink.new ≡ W.writes sink.old) × (R.failed_reads source.new + (W.failed_writes sink.new + W.empty_writes sink.new) ≡ R.failed_reads source.old + (W.failed_writes sink.old + W.empty_writes sink.old) + faults_in ending) }
     ensures reads { R.reads source.new ≤ R.reads source.old + 65536 }
 {
-    code_of(serve(alloc, asked, source, sink))
+    match serve(alloc, asked, source, sink) {
+        Ok(verdict) => verdict.code(),
+        Err(fault) => fault.code(),
+    }
 }
 
-fn serve<R: Source, W: Sink>(alloc: Global, asked: &Asked, source: &mut R, sink: &mut W) -> Ending
+fn serve<R: Source, W: Sink>(
+    alloc: Global,
+    asked: &Asked,
+    source: &mut R,
+    sink: &mut W,
+) -> Result<Verdict, StreamFault>
+    ensures told { told_of.Tells asked.now (R.remaining source.old) result }
     ensures silent { spec.IsSilent result → W.writes sink.new ≡ W.writes sink.old }
-    ensures faults { R.failed_reads source.new + (W.failed_writes sink.new + W.empty_writes sink.new) ≡ R.failed_reads source.old + (W.failed_writes sink.old + W.empty_writes sink.old) + spec.faults_of result }
+    ensures faults { R.failed_reads source.new + (W.failed_writes sink.new + W.empty_writes sink.new) ≡ R.failed_reads source.old + (W.failed_writes sink.old + W.empty_writes sink.old) + faults_in result }
     ensures reads { R.reads source.new ≤ R.reads source.old + 65536 }
 {
     match read_source(alloc, source, MOST_BYTES) {
         Ok(bytes) => match answer_source(alloc, asked, &bytes) {
             Ok(answer) => write_answer(sink, &answer),
-            Err(_) => Ending::OutOfMemory,
+            Err(_) => Err(StreamFault::Memory),
         },
-        Err(ReadFault::Memory) => Ending::OutOfMemory,
-        Err(ReadFault::Failed) => Ending::ReadFailed,
+        Err(ReadFault::Memory) => Err(StreamFault::Memory),
+        Err(ReadFault::Failed) => Err(StreamFault::Read),
     }
 }
 
 // Writes an answer.
-fn write_answer<W: Sink>(sink: &mut W, answer: &Answer) -> Ending
-    ensures loud { spec.IsSilent result → W.writes sink.new ≡ W.writes sink.old }
-    ensures faults { W.failed_writes sink.new + W.empty_writes sink.new ≡ W.failed_writes sink.old + W.empty_writes sink.old + spec.faults_of result }
+fn write_answer<W: Sink>(sink: &mut W, answer: &Answer) -> Result<Verdict, StreamFault>
+    ensures verdict { IfOk result (λ v. v ≡ answer.now.verdict) }
+    ensures silent { spec.IsSilent result → W.writes sink.new ≡ W.writes sink.old }
+    ensures faults { W.failed_writes sink.new + W.empty_writes sink.new ≡ W.failed_writes sink.old + W.empty_writes sink.old + faults_in result }
 {
     match write_text(sink, answer.text.as_str().as_bytes()) {
-        Ok(()) => Ending::Told(answer.verdict),
-        Err(_) => Ending::WriteFailed,
+        Ok(()) => Ok(answer.verdict),
+        Err(_) => Err(StreamFault::Write),
     }
 }
 
-fn answer_source(alloc: Global, asked: &Asked, source: &[u8]) -> Result<Answer, AllocError> {
-    match &asked.part {
-        Part::Refusal { json, file } => explanation_answer(alloc, source, *json, file),
-        Part::Mark { json, .. } => examined(alloc, asked, source, *json),
-        _ => answer_tokens_of(alloc, asked, source),
-    }
-}
-
-// The mark of a source, or why it is refused.
-fn examined(
-    alloc: Global,
-    asked: &Asked,
-    source: &[u8],
-    as_json: bool,
-) -> Result<Answer, AllocError> {
-    let answer = answer_tokens_of(alloc, asked, source)?;
-    match answer.verdict {
-        Verdict::Refused => explanation_answer(alloc, source, as_json, &None),
-        _ => Ok(answer),
-    }
-}
-
-fn answer_tokens_of(alloc: Global, asked: &Asked, source: &[u8]) -> Result<Answer, AllocError> {
-    match scan(alloc, source) {
-        Ok(tokens) => answer_tokens(alloc, asked, source, &tokens),
-        Err(fault) => refusal_answer(alloc, fault.line, scan_reason(fault.cause)),
-    }
-}
-
-fn answer_tokens(
-    alloc: Global,
-    asked: &Asked,
-    source: &[u8],
-    tokens: &Tokens,
-) -> Result<Answer, AllocError> {
-    match parse(alloc, tokens) {
-        Ok(tree) => answer_tree(alloc, asked, source, tokens, tree),
-        Err(fault) => refused_at(alloc, tokens, parse_reason(&fault)),
-    }
-}
-
-fn answer_tree(
-    alloc: Global,
-    asked: &Asked,
-    source: &[u8],
-    tokens: &Tokens,
-    tree: Tree,
-) -> Result<Answer, AllocError> {
-    match check(alloc, tree) {
-        Ok(checked) => {
-            let resolved = resolve(alloc, &checked);
-            let legend = legend_of(alloc, checked.tree());
-            let entries = entries_of(alloc, checked.tree());
-            drop_checked(checked);
-            let program = resolved?;
-            let answer = shown_with(alloc, asked, &program, legend, entries, source);
-            drop_program(program);
+// What is shown of a source, or why it is refused.
+fn answer_source(alloc: Global, asked: &Asked, source: &[u8]) -> Result<Answer, AllocError>
+    ensures { IfOk result (λ a. told_of.IsOfSource asked.now source.now a.verdict) }
+{
+    match load(alloc, source) {
+        Ok(loaded) => {
+            let answer = show_loaded(alloc, asked, &loaded, source);
+            drop_loaded(loaded);
             answer
         }
-        Err((fault, tree)) => {
-            drop_tree(tree);
-            refused_at(alloc, tokens, check_reason(&fault))
+        Err(refusal) => {
+            let answer = show_refusal(alloc, asked, &refusal, source);
+            drop_refusal(refusal);
+            answer
         }
     }
 }
 
-// What is shown of a program, where there is a legend.
-fn shown_with(
+// Why a source is refused: for people where they ask for that or for a mark, else in the line of `cpx`.
+fn show_refusal(
     alloc: Global,
     asked: &Asked,
-    program: &Resolved,
-    legend: Result<Legend, AllocError>,
-    entries: Result<Entries, AllocError>,
+    refusal: &Refusal,
     source: &[u8],
-) -> Result<Answer, AllocError> {
-    let legend = legend?;
-    let answer = answer_part(alloc, asked, program, &legend, source)?;
-    match asked.part {
-        Part::Outcomes { json, cover: true } => {
-            let options = &asked.options;
-            with_coverage(alloc, options, program, &legend, &entries?, answer, json)
+) -> Result<Answer, AllocError>
+    ensures { IfOk result (λ a. a.verdict ≡ Refused) }
+{
+    let text = match &asked.part {
+        Part::Refusal { json, file } => {
+            explanation_text(alloc, source, Err(refusal), *json, file)?
         }
-        _ => Ok(answer),
-    }
-}
-
-fn refusal_answer(alloc: Global, line: u32, reason: Option<&str>) -> Result<Answer, AllocError> {
-    let Some(reason) = reason else {
-        return Err(AllocError);
+        Part::Mark { json, .. } => explanation_text(alloc, source, Err(refusal), *json, &None)?,
+        _ => refusal_line(alloc, refusal)?,
     };
     Ok(Answer {
         verdict: Verdict::Refused,
-        text: reason_line(alloc, line, reason)?,
+        text,
     })
 }
 
-// The refusal at a token, or at the last one for the end of the source.
-fn refused_at(
+// What is shown of a source that is accepted.
+fn show_loaded(
     alloc: Global,
-    tokens: &Tokens,
-    reason: Option<(usize, &str)>,
-) -> Result<Answer, AllocError> {
-    let Some((at, reason)) = reason else {
-        return Err(AllocError);
-    };
-    let line = tokens.line(at.min(tokens.count()));
-    refusal_answer(alloc, line, Some(reason))
+    asked: &Asked,
+    loaded: &Loaded,
+    source: &[u8],
+) -> Result<Answer, AllocError>
+    ensures { IsProgramOf (tree_view loaded.now.checked.tree) loaded.now.program → IfOk result (λ a. told_of.IsOfProgram asked.now.part asked.now.options (tree_view loaded.now.checked.tree) a.verdict) }
+{
+    let legend = legend_of(alloc, loaded.checked.tree())?;
+    answer_part(alloc, asked, loaded, &legend, source)
 }
 
 // The part that is asked for.
 fn answer_part(
     alloc: Global,
     asked: &Asked,
-    program: &Resolved,
+    loaded: &Loaded,
     legend: &Legend,
     source: &[u8],
-) -> Result<Answer, AllocError> {
+) -> Result<Answer, AllocError>
+    ensures { IsProgramOf (tree_view loaded.now.checked.tree) loaded.now.program → IfOk result (λ a. told_of.IsOfProgram asked.now.part asked.now.options (tree_view loaded.now.checked.tree) a.verdict) }
+{
     let options = &asked.options;
+    let program = &loaded.program;
     let lines = lines_of(alloc, source)?;
     match &asked.part {
         Part::Trace { .. } | Part::Lanes(_) => shown_once(alloc, asked, program, legend, &lines),
         Part::Page { states } => page_answer(alloc, asked, program, legend, *states, source),
-        Part::Outcomes { json, .. } => {
-            outcomes_answer(alloc, options, program, legend, &lines, *json)
+        Part::Outcomes { json, cover } => {
+            let answer = outcomes_answer(alloc, options, program, legend, &lines, *json)?;
+            if *cover {
+                with_coverage(alloc, options, loaded, legend, answer, *json)
+            } else {
+                Ok(answer)
+            }
         }
         Part::Ends { json } => { ends_answer(alloc, options, program, legend, &lines, *json) }
-        Part::Mark { words, own, json } => {
+        Part::Mark {
+            words,
+            reading,
+            own,
+            json,
+        } => {
             let examinee = Examinee {
                 options,
                 program,
@@ -266,9 +222,15 @@ fn answer_part(
                 lines: &lines,
                 as_json: *json,
             };
-            mark_answer(alloc, examinee, words.as_str(), *own, source)
+            match reading {
+                Some(reading) => mark_of(alloc, examinee, reading),
+                None => mark_answer(alloc, examinee, words.as_str(), *own, source),
+            }
         }
-        Part::Refusal { json, file } => explanation_answer(alloc, source, *json, file),
+        Part::Refusal { json, file } => Ok(Answer {
+            verdict: Verdict::Reported,
+            text: explanation_text(alloc, source, Ok(loaded), *json, file)?,
+        }),
     }
 }
 

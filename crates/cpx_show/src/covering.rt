@@ -1,10 +1,10 @@
 //! What no schedule comes to, after the outcomes.
 
 use crate::answering::Answer;
-use cp_cover::{Entries, cover_json, cover_text, find_coverage, gaps_of};
+use cp_cover::{cover_json, cover_text, entries_of, find_coverage, gaps_of};
+use cp_front::Loaded;
 use cp_legend::Legend;
 use cp_run::Limits;
-use cp_slots::Resolved;
 use cp_tool::Options;
 use std::alloc::{AllocError, Global};
 
@@ -12,17 +12,17 @@ use std::alloc::{AllocError, Global};
 pub fn with_coverage(
     alloc: Global,
     options: &Options,
-    program: &Resolved,
+    loaded: &Loaded,
     legend: &Legend,
-    entries: &Entries,
     answer: Answer,
     as_json: bool,
 ) -> Result<Answer, AllocError> {
     let Some(limits) = Limits::new(options.choices, options.steps, options.gates) else {
         unreachable!()
     };
-    let coverage = find_coverage(alloc, program, limits, options.states)?;
-    let rest = gaps_of(alloc, program, legend, entries, &coverage)?;
+    let coverage = find_coverage(alloc, &loaded.program, limits, options.states)?;
+    let entries = entries_of(alloc, loaded.checked.tree())?;
+    let rest = gaps_of(alloc, &loaded.program, legend, &entries, &coverage)?;
     let text = if as_json {
         let cover = cover_json(alloc, &rest)?.to_string(alloc)?;
         with_member(alloc, answer.text.as_str(), cover.as_str())?

@@ -3,8 +3,14 @@
 ghost use Rattle.std.specs.Prelude.{◌≡◌, ◌≤◌, IfOk, false, true};
 ghost use Rattle.cp_ends_verdict.specs.AtOnce.{can_be_at_once};
 ghost use Rattle.cp_ends_verdict.specs.Marked.{can_be_asked};
+ghost use Rattle.cp_lawful.specs.Accepted.{IsAccepted};
+ghost use Rattle.cp_refine.specs.Named.{named, named_gates};
+ghost use Rattle.cp_resolved.specs.Enumerations.{constant_names};
+ghost use Rattle.cp_resolved.specs.Resolving.{IsProgramOf};
 ghost use Rattle.cp_run.specs.Slots.{slots};
 ghost use Rattle.cp_run.specs.Table.{table};
+ghost use Rattle.cp_tree.specs.Read.{IsRead};
+ghost use Rattle.cp_tree.specs.Syntax.{Tree};
 ghost use Rattle.cpx_show.specs.Showing as spec;
 ghost use Rattle.cpx_show.specs.declared.answering.Verdict.TheVariants.{TooMany};
 
@@ -168,9 +174,14 @@ fn ends_verdict_of(mark: EndsMark) -> Verdict
     }
 }
 
-// What the table within the limits of the options says of the expectations.
-fn mark_of(alloc: Global, examinee: Examinee<'_>, reading: &Reading) -> Result<Answer, AllocError>
-    ensures { IfOk result (λ a. spec.TellsMark examinee.entry.program.now.names reading.now.expectations.items (table (slots examinee.entry.program.now examinee.entry.options.now.gates) examinee.entry.options.now.choices examinee.entry.options.now.steps) a.verdict) }
+/// What the table within the limits of the options says of the expectations.
+pub fn mark_of(
+    alloc: Global,
+    examinee: Examinee<'_>,
+    reading: &Reading,
+) -> Result<Answer, AllocError>
+    ensures mark { IfOk result (λ a. spec.TellsMark examinee.entry.program.now.names reading.now.expectations.items (table (slots examinee.entry.program.now examinee.entry.options.now.gates) examinee.entry.options.now.choices examinee.entry.options.now.steps) a.verdict) }
+    ensures meaning { (t : Tree) → ∥ IsRead t.program ∥₁ → IsAccepted t → IsProgramOf t examinee.entry.program.now → IfOk result (λ a. spec.TellsMark (constant_names t.program) reading.now.expectations.items (table (named t (named_gates examinee.entry.options.now.gates)) examinee.entry.options.now.choices examinee.entry.options.now.steps) a.verdict) }
 {
     let options = examinee.options;
     let Some(limits) = Limits::new(options.choices, options.steps, options.gates) else {

@@ -5,6 +5,7 @@ use clap::ArgMatches;
 use clap::error::ErrorKind;
 use cp_lanes::{PictureView, SheetExtent};
 use cp_tool::{OptionFault, Options, SourceReading, read_options, reason_for, word_reason};
+use cp_verdict::{Misread, Reading, expectations};
 use std::alloc::{AllocError, Global};
 
 /// The options that are those of `cpx`, but for `--choices`.
@@ -54,6 +55,8 @@ pub enum Part {
     /// Whether the expectations of these words hold, as lines or as JSON; with no words, or where they are asked for, those of the source.
     Mark {
         words: String,
+        /// What the words are read to expect, where that alone is to be marked by schedules of so many choices.
+        reading: Option<Reading>,
         own: bool,
         json: bool,
     },
@@ -118,11 +121,7 @@ fn read_matches(alloc: Global, matches: &ArgMatches<'_>) -> Result<Asked, Option
             json: inner.get_flag("json"),
             file: file_of(alloc, inner)?,
         },
-        "mark" => Part::Mark {
-            words: words_given(alloc, inner)?,
-            own: inner.get_flag("own"),
-            json: inner.get_flag("json"),
-        },
+        "mark" => mark_part(alloc, inner)?,
         _ => return Err(OptionFault::Refused),
     };
     if !choice_fault(name, inner).is_empty() {
@@ -135,6 +134,31 @@ fn read_matches(alloc: Global, matches: &ArgMatches<'_>) -> Result<Asked, Option
         simplest: is_simplest(name, inner),
         round: numbers_of(inner.get_str("again")),
     })
+}
+
+fn mark_part(alloc: Global, matches: &ArgMatches<'_>) -> Result<Part, OptionFault> {
+    let words = words_given(alloc, matches)?;
+    let own = matches.get_flag("own");
+    let reading = if own || words.is_empty() || matches.get_flag("ends") {
+        None
+    } else {
+        expected_by(alloc, words.as_str())?
+    };
+    Ok(Part::Mark {
+        words,
+        reading,
+        own,
+        json: matches.get_flag("json"),
+    })
+}
+
+// What words expect, if they can be read.
+fn expected_by(alloc: Global, words: &str) -> Result<Option<Reading>, AllocError> {
+    match expectations(alloc, words) {
+        Ok(reading) => Ok(Some(reading)),
+        Err(Misread::Unexpected { .. }) => Ok(None),
+        Err(Misread::Memory) => Err(AllocError),
+    }
 }
 
 // The name of the file that the source is read from, if it is given.

@@ -1,6 +1,6 @@
-//! Why a source is refused, as an answer.
+//! Why a source is refused, as a text.
 
-use crate::answering::{Answer, Verdict};
+use cp_front::{Loaded, Refusal as LoadRefusal};
 use cp_refusal::{
     ByteRange, ExplainedRefusal, Explanation as Said, Hints, position_of, refusal, text,
 };
@@ -9,27 +9,23 @@ use serde_json::Value;
 use std::alloc::{AllocError, Global};
 
 /// Why the source is refused, or that it is accepted; places begin with the name of its file, if one is given.
-pub fn explanation_answer(
+pub fn explanation_text(
     alloc: Global,
     source: &[u8],
+    loaded: Result<&Loaded, &LoadRefusal>,
     as_json: bool,
     file: &Option<String>,
-) -> Result<Answer, AllocError> {
-    let said = refusal(alloc, source)?;
-    let verdict = match &said {
-        Said::Accepted(_) => Verdict::Reported,
-        Said::Refused(_) => Verdict::Refused,
-    };
-    let text = if as_json {
-        json(alloc, source, &said)?
+) -> Result<String, AllocError> {
+    let said = refusal(alloc, source, loaded)?;
+    if as_json {
+        json(alloc, source, &said)
     } else {
         let file = match file {
             Some(name) => Some(name.as_str()),
             None => None,
         };
-        text(alloc, source, &said, file)?
-    };
-    Ok(Answer { verdict, text })
+        text(alloc, source, &said, file)
+    }
 }
 
 // The same as one JSON object.
