@@ -2,18 +2,16 @@
 #![tactic(auto)]
 
 mod answering;
-mod command;
 mod covering;
 mod lines;
-mod mark_words;
-mod marks;
-mod parts;
 mod refusals;
+mod schedules;
+mod summaries;
 
 ghost use Rattle.std.specs.Prelude.{◌≡◌};
 
 use crate::answering::show_stream;
-use crate::parts::{Asked, read_parts, refused_part};
+use cp_show_options::{Asked, read_parts, refused_part};
 use cp_tool::{OptionFault, VERSION, Wrapped, asks_version};
 use std::alloc::{AllocError, Global};
 use std::env;

@@ -11,21 +11,25 @@ ghost use Rattle.cp_run.specs.Slots.{slots};
 ghost use Rattle.cp_run.specs.Table.{table};
 ghost use Rattle.cp_tree.specs.Read.{IsRead};
 ghost use Rattle.cp_tree.specs.Syntax.{Tree};
-ghost use Rattle.cpx_show.specs.Showing as spec;
-ghost use Rattle.cpx_show.specs.declared.answering.Verdict.TheVariants.{TooMany};
+ghost use Rattle.cp_show_mark.specs.Showing as spec;
+ghost use Rattle.cp_show_mark.specs.declared.answer.ShowVerdict.TheVariants.{TooMany};
 
-use crate::answering::{Answer, Verdict};
-use crate::mark_words::{Examinee, ends_told, excess, misread, told};
+use crate::answer::{ShowAnswer, ShowVerdict};
+use crate::ends_words::ends_told;
+use crate::examinee::Examinee;
+use crate::excess::{MarkExcess, excess_text};
+use crate::mark_words::{misread_text, told};
 use cp_ends_verdict::{
-    Expectation as EndsExpectation, Mark as EndsMark, MarkSubject as Endless,
+    Expectation as EndsExpectation, Mark as EndsMark, MarkSubject as Endless, Marked as EndsMarked,
     Reading as EndsReading, expectations as ends_expectations, mark_at_once, mark_in_turn,
-    misread_text as ends_misread_text,
+    misread_text as ends_reason,
 };
 use cp_outcomes::completing::greatest_known;
-use cp_run::{Limits, MOST_CHOICES};
+use cp_outcomes::known::Known;
+use cp_show_options::{limits_of, longest_limits_of};
 use cp_verdict::{
-    Expectation, Mark, MarkFault, Misread, Reading, expectations, expectations_in, mark_program,
-    mark_tallies, misread_text,
+    Mark, MarkFault, Marked, Misread, Reading, expectations, expectations_in, mark_program,
+    mark_tallies, misread_text as reason,
 };
 use cp_walk::Job;
 use std::alloc::{AllocError, Global};
@@ -37,15 +41,8 @@ pub fn mark_answer(
     words: &str,
     with_own: bool,
     source: &[u8],
-) -> Result<Answer, AllocError> {
-    let mut text = String::from_str(alloc, words)?;
-    if words.is_empty() || with_own {
-        let own = expectations_in(alloc, source)?;
-        if !words.is_empty() && !own.is_empty() {
-            text.push_str(" and ")?;
-        }
-        text.push_str(own.as_str())?;
-    }
+) -> Result<ShowAnswer, AllocError> {
+    let text = expected(alloc, words, with_own, source)?;
     if text.is_empty() {
         return misread(
             alloc,
@@ -56,8 +53,40 @@ pub fn mark_answer(
     marked_by(alloc, examinee, text.as_str())
 }
 
+// The expectations as they are written.
+fn expected(
+    alloc: Global,
+    words: &str,
+    with_own: bool,
+    source: &[u8],
+) -> Result<String, AllocError> {
+    if !words.is_empty() && !with_own {
+        return String::from_str(alloc, words);
+    }
+    let own = expectations_in(alloc, source)?;
+    if words.is_empty() {
+        return Ok(own);
+    }
+    joined(alloc, words, own.as_str())
+}
+
+fn joined(alloc: Global, words: &str, own: &str) -> Result<String, AllocError> {
+    if own.is_empty() {
+        return String::from_str(alloc, words);
+    }
+    format!(in alloc; "{words} and {own}")
+}
+
+// That there is no expectation, or why it is none.
+fn misread(alloc: Global, examinee: Examinee<'_>, said: &str) -> Result<ShowAnswer, AllocError> {
+    Ok(ShowAnswer {
+        verdict: ShowVerdict::Misread,
+        text: misread_text(alloc, said, examinee.as_json)?,
+    })
+}
+
 // What is said by the expectations of a text.
-fn marked_by(alloc: Global, examinee: Examinee<'_>, text: &str) -> Result<Answer, AllocError> {
+fn marked_by(alloc: Global, examinee: Examinee<'_>, text: &str) -> Result<ShowAnswer, AllocError> {
     if examinee.options.ends {
         return marked_ends(alloc, examinee, text);
     }
@@ -66,20 +95,24 @@ fn marked_by(alloc: Global, examinee: Examinee<'_>, text: &str) -> Result<Answer
         Err(Misread::Unexpected { wanted, place }) => misread(
             alloc,
             examinee,
-            misread_text(alloc, text, wanted, place)?.as_str(),
+            reason(alloc, text, wanted, place)?.as_str(),
         ),
         Err(Misread::Memory) => Err(AllocError),
     }
 }
 
 // The same of schedules of any length.
-fn marked_ends(alloc: Global, examinee: Examinee<'_>, text: &str) -> Result<Answer, AllocError> {
+fn marked_ends(
+    alloc: Global,
+    examinee: Examinee<'_>,
+    text: &str,
+) -> Result<ShowAnswer, AllocError> {
     match ends_expectations(alloc, examinee.legend, text)? {
         EndsReading::Expectations(list) => judged_ends(alloc, examinee, &list),
         EndsReading::Misread { wanted, place } => misread(
             alloc,
             examinee,
-            ends_misread_text(alloc, text, wanted, place)?.as_str(),
+            ends_reason(alloc, text, wanted, place)?.as_str(),
         ),
     }
 }
@@ -89,7 +122,7 @@ fn judged_ends(
     alloc: Global,
     examinee: Examinee<'_>,
     list: &[EndsExpectation],
-) -> Result<Answer, AllocError>
+) -> Result<ShowAnswer, AllocError>
     ensures in_turn { examinee.entry.options.now.at_once ≡ false → 1 ≤ examinee.entry.options.now.states → can_be_asked examinee.entry.options.now.gates list.now ≡ true → IfOk result (λ a. spec.TellsEndsMark examinee.entry.program.now examinee.entry.options.now.gates examinee.entry.options.now.steps examinee.entry.options.now.states list.now a.verdict) }
     ensures at_once { examinee.entry.options.now.at_once ≡ true → can_be_at_once examinee.entry.options.now.gates list.now ≡ true → IfOk result (λ a. spec.TellsMarkAtOnce examinee.entry.program.now examinee.entry.options.now.steps list.now a.verdict) }
 {
@@ -105,7 +138,7 @@ fn judged_in_turn(
     alloc: Global,
     examinee: Examinee<'_>,
     list: &[EndsExpectation],
-) -> Result<Answer, AllocError>
+) -> Result<ShowAnswer, AllocError>
     ensures { 1 ≤ examinee.entry.options.now.states → can_be_asked examinee.entry.options.now.gates list.now ≡ true → IfOk result (λ a. spec.TellsEndsMark examinee.entry.program.now examinee.entry.options.now.gates examinee.entry.options.now.steps examinee.entry.options.now.states list.now a.verdict) }
 {
     let Examinee {
@@ -114,21 +147,14 @@ fn judged_in_turn(
         legend,
         ..
     } = examinee;
-    let Some(limits) = Limits::new(MOST_CHOICES, options.steps, options.gates) else {
-        unreachable!()
-    };
     let subject = Endless {
         program,
         legend,
-        limits,
+        limits: longest_limits_of(options),
         most: options.states,
     };
     let marked = mark_in_turn(alloc, subject, list)?;
-    let text = ends_told(alloc, examinee, &marked)?;
-    Ok(Answer {
-        verdict: ends_verdict_of(marked.mark),
-        text,
-    })
+    ends_answer(alloc, examinee, &marked)
 }
 
 // The same with calls at once.
@@ -136,7 +162,7 @@ fn judged_at_once(
     alloc: Global,
     examinee: Examinee<'_>,
     list: &[EndsExpectation],
-) -> Result<Answer, AllocError>
+) -> Result<ShowAnswer, AllocError>
     ensures { can_be_at_once examinee.entry.options.now.gates list.now ≡ true → IfOk result (λ a. spec.TellsMarkAtOnce examinee.entry.program.now examinee.entry.options.now.steps list.now a.verdict) }
 {
     let Examinee {
@@ -145,32 +171,39 @@ fn judged_at_once(
         legend,
         ..
     } = examinee;
-    let Some(limits) = Limits::new(MOST_CHOICES, options.steps, options.gates) else {
-        unreachable!()
-    };
     let subject = Endless {
         program,
         legend,
-        limits,
+        limits: longest_limits_of(options),
         most: options.states,
     };
     let marked = mark_at_once(alloc, subject, list)?;
-    let text = ends_told(alloc, examinee, &marked)?;
-    Ok(Answer {
+    ends_answer(alloc, examinee, &marked)
+}
+
+fn ends_answer(
+    alloc: Global,
+    examinee: Examinee<'_>,
+    marked: &EndsMarked,
+) -> Result<ShowAnswer, AllocError>
+    ensures { IfOk result (λ a. a.verdict ≡ spec.ends_verdict_of marked.now.mark) }
+{
+    let text = ends_told(alloc, examinee, marked)?;
+    Ok(ShowAnswer {
         verdict: ends_verdict_of(marked.mark),
         text,
     })
 }
 
-fn ends_verdict_of(mark: EndsMark) -> Verdict
+fn ends_verdict_of(mark: EndsMark) -> ShowVerdict
     ensures { result ≡ spec.ends_verdict_of mark }
 {
     match mark {
-        EndsMark::Holds => Verdict::Reported,
-        EndsMark::Fails => Verdict::Fails,
-        EndsMark::Open => Verdict::Open,
-        EndsMark::TooMany => Verdict::TooMany,
-        EndsMark::Misread => Verdict::Misread,
+        EndsMark::Holds => ShowVerdict::Reported,
+        EndsMark::Fails => ShowVerdict::Fails,
+        EndsMark::Open => ShowVerdict::Open,
+        EndsMark::TooMany => ShowVerdict::TooMany,
+        EndsMark::Misread => ShowVerdict::Misread,
     }
 }
 
@@ -179,68 +212,107 @@ pub fn mark_of(
     alloc: Global,
     examinee: Examinee<'_>,
     reading: &Reading,
-) -> Result<Answer, AllocError>
+) -> Result<ShowAnswer, AllocError>
     ensures mark { IfOk result (λ a. spec.TellsMark examinee.entry.program.now.names reading.now.expectations.items (table (slots examinee.entry.program.now examinee.entry.options.now.gates) examinee.entry.options.now.choices examinee.entry.options.now.steps) a.verdict) }
     ensures meaning { (t : Tree) → ∥ IsRead t.program ∥₁ → IsAccepted t → IsProgramOf t examinee.entry.program.now → IfOk result (λ a. spec.TellsMark (constant_names t.program) reading.now.expectations.items (table (named t (named_gates examinee.entry.options.now.gates)) examinee.entry.options.now.choices examinee.entry.options.now.steps) a.verdict) }
 {
-    let options = examinee.options;
-    let Some(limits) = Limits::new(options.choices, options.steps, options.gates) else {
-        unreachable!()
-    };
+    let limits = limits_of(examinee.options);
     let job = Job {
         program: examinee.program,
         limits,
     };
     let list = reading.expectations.as_slice();
-    match mark_program(alloc, job, options.states, list) {
-        Ok(marked) => {
-            let verdict = verdict_of(marked.mark);
-            let text = told(alloc, examinee, reading, &marked)?;
-            Ok(Answer { verdict, text })
-        }
+    match mark_program(alloc, job, examinee.options.states, list) {
+        Ok(marked) => told_answer(alloc, examinee, reading, &marked),
         Err(MarkFault::Memory) => Err(AllocError),
-        Err(MarkFault::TooManyStates) => too_many(alloc, examinee, job, reading, true),
-        Err(MarkFault::TooManyOutcomes) => too_many(alloc, examinee, job, reading, false),
+        Err(MarkFault::TooManyStates) => {
+            too_many(alloc, examinee, job, reading, MarkExcess::States)
+        }
+        Err(MarkFault::TooManyOutcomes) => {
+            too_many(alloc, examinee, job, reading, MarkExcess::Outcomes)
+        }
     }
 }
 
-fn verdict_of(mark: Mark) -> Verdict
+fn told_answer(
+    alloc: Global,
+    examinee: Examinee<'_>,
+    reading: &Reading,
+    marked: &Marked,
+) -> Result<ShowAnswer, AllocError>
+    ensures { IfOk result (λ a. a.verdict ≡ spec.verdict_of marked.now.mark) }
+{
+    let text = told(alloc, examinee, reading, marked)?;
+    Ok(ShowAnswer {
+        verdict: verdict_of(marked.mark),
+        text,
+    })
+}
+
+fn verdict_of(mark: Mark) -> ShowVerdict
     ensures { result ≡ spec.verdict_of mark }
 {
     match mark {
-        Mark::Holds => Verdict::Reported,
-        Mark::Fails => Verdict::Fails,
-        Mark::Open => Verdict::Open,
+        Mark::Holds => ShowVerdict::Reported,
+        Mark::Fails => ShowVerdict::Fails,
+        Mark::Open => ShowVerdict::Open,
     }
 }
 
-// What is said where there are too many states, or else outcomes, and the mark by schedules of fewer choices.
+// What there is too much of, and the mark by schedules of fewer choices.
 fn too_many(
     alloc: Global,
     examinee: Examinee<'_>,
     job: Job,
     reading: &Reading,
-    of_states: bool,
-) -> Result<Answer, AllocError>
+    excess: MarkExcess,
+) -> Result<ShowAnswer, AllocError>
     ensures { IfOk result (λ a. a.verdict ≡ TooMany) }
 {
-    let states = examinee.options.states;
-    let text = match greatest_known(alloc, job, states)? {
-        Some(known) => {
-            let tallies = known.tallies.as_slice();
-            let marked = mark_tallies(alloc, job.program, &reading.expectations, tallies)?;
-            let said = told(alloc, examinee, reading, &marked)?;
-            excess(
-                alloc,
-                examinee,
-                of_states,
-                Some((known.choices, said.as_str())),
-            )?
-        }
-        None => excess(alloc, examinee, of_states, None)?,
-    };
-    Ok(Answer {
-        verdict: Verdict::TooMany,
+    let text = too_many_text(alloc, examinee, job, reading, excess)?;
+    Ok(ShowAnswer {
+        verdict: ShowVerdict::TooMany,
         text,
     })
+}
+
+fn too_many_text(
+    alloc: Global,
+    examinee: Examinee<'_>,
+    job: Job,
+    reading: &Reading,
+    excess: MarkExcess,
+) -> Result<String, AllocError> {
+    match greatest_known(alloc, job, examinee.options.states)? {
+        Some(known) => known_text(alloc, examinee, reading, excess, &known),
+        None => excess_text(alloc, examinee, excess, None),
+    }
+}
+
+// The same with what is said of all schedules of fewer choices.
+fn known_text(
+    alloc: Global,
+    examinee: Examinee<'_>,
+    reading: &Reading,
+    excess: MarkExcess,
+    known: &Known,
+) -> Result<String, AllocError> {
+    let said = said_of_known(alloc, examinee, reading, known)?;
+    excess_text(
+        alloc,
+        examinee,
+        excess,
+        Some((known.choices, said.as_str())),
+    )
+}
+
+fn said_of_known(
+    alloc: Global,
+    examinee: Examinee<'_>,
+    reading: &Reading,
+    known: &Known,
+) -> Result<String, AllocError> {
+    let list = reading.expectations.as_slice();
+    let marked = mark_tallies(alloc, examinee.program, list, known.tallies.as_slice())?;
+    told(alloc, examinee, reading, &marked)
 }
