@@ -18,7 +18,7 @@ use Rattle.cp_scope.specs.Scopes.{Scopes}
 use Rattle.cp_scope.specs.Judged.{Judged, both, ◌>>=◌, Refuses}
 use Rattle.cp_check.specs.declared.operand.Context.{Context}
 use Rattle.cp_check.specs.declared.operand.Operand.{Operand}
-use Rattle.cp_check.specs.declared.operand.Designated.{Designated}
+use Rattle.cp_check.specs.declared.operand.DesignatedName.{DesignatedName}
 use Rattle.cp_check.specs.Operations as operations
 use Rattle.cp_check.specs.Names.{selected}
 use Rattle.cp_check.specs.Expressions.{expression, sum_value, is_unsigned, has_no_terms, has_no_factors, term_value, more_terms, factor, more_factors, selectors, selector, arguments, is_var_at, before, added, multiplied, at_index}
@@ -27,28 +27,28 @@ use Rattle.cp_check.proofs.Fronts.{with_front, front_refuses}
 
 -- ---- selectors
 
-selector_refuses : (s : Scopes) (w : Context) (e : CheckFault) (j : Judged Designated) (x : Selector) → Refuses e j → Refuses e (selector s w j x)
+selector_refuses : (s : Scopes) (w : Context) (e : CheckFault) (j : Judged DesignatedName) (x : Selector) → Refuses e j → Refuses e (selector s w j x)
 unfolding selector
 selector_refuses s w e j (field i) h = refuses_bind e j (selected s i) h
 selector_refuses s w e j (index x) h = refuses_both e j _ (at_index s) h
 
-pub selectors_refuse : (s : Scopes) (w : Context) (e : CheckFault) (j : Judged Designated) (ss : Selectors) → Refuses e j → Refuses e (selectors s w j ss)
+pub selectors_refuse : (s : Scopes) (w : Context) (e : CheckFault) (j : Judged DesignatedName) (ss : Selectors) → Refuses e j → Refuses e (selectors s w j ss)
 unfolding selectors
 selectors_refuse s w e j no_selectors h = h
 selectors_refuse s w e j (more_selectors x ss) h = selectors_refuse s w e (selector s w j x) ss (selector_refuses s w e j x h)
 
-module _ (s : Scopes) (w : Context) (d : Designated) (xs : List tree_selector.Selector) (i : ℕ) (x : tree_selector.Selector) (within : i < length xs) (here : x ≡ get_or xs i x) where
+module _ (s : Scopes) (w : Context) (d : DesignatedName) (xs : List tree_selector.Selector) (i : ℕ) (x : tree_selector.Selector) (within : i < length xs) (here : x ≡ get_or xs i x) where
   selectors_split : selectors s w (Ok d) (selectors_of (selectors_view (drop i xs))) ≡ selectors s w (selector s w (Ok d) (selector_view x)) (selectors_of (selectors_view (drop (i + 1) xs)))
   unfolding selectors
   selectors_split = rw (add-one, drop-cons xs i x, ← here) refl
 
-  pub selectors_passed : (new : Designated) → selector s w (Ok d) (selector_view x) ≡ Ok new → selectors s w (Ok d) (selectors_of (selectors_view (drop i xs))) ≡ selectors s w (Ok new) (selectors_of (selectors_view (drop (i + 1) xs)))
-  selectors_passed new h = selectors_split ∙ ap (λ (j : Judged Designated). selectors s w j (selectors_of (selectors_view (drop (i + 1) xs)))) h
+  pub selectors_passed : (new : DesignatedName) → selector s w (Ok d) (selector_view x) ≡ Ok new → selectors s w (Ok d) (selectors_of (selectors_view (drop i xs))) ≡ selectors s w (Ok new) (selectors_of (selectors_view (drop (i + 1) xs)))
+  selectors_passed new h = selectors_split ∙ ap (λ (j : Judged DesignatedName). selectors s w j (selectors_of (selectors_view (drop (i + 1) xs)))) h
 
   pub selectors_refused : (e : CheckFault) → Refuses e (selector s w (Ok d) (selector_view x)) → Refuses e (selectors s w (Ok d) (selectors_of (selectors_view (drop i xs))))
-  selectors_refused e h = subst (λ (j : Judged Designated). Refuses e j) (sym selectors_split) (selectors_refuse s w e _ _ h)
+  selectors_refused e h = subst (λ (j : Judged DesignatedName). Refuses e j) (sym selectors_split) (selectors_refuse s w e _ _ h)
 
-pub selectors_none : (s : Scopes) (w : Context) (d : Designated) (xs : List tree_selector.Selector) (i : ℕ) → length xs ≤ i → selectors s w (Ok d) (selectors_of (selectors_view (drop i xs))) ≡ Ok d
+pub selectors_none : (s : Scopes) (w : Context) (d : DesignatedName) (xs : List tree_selector.Selector) (i : ℕ) → length xs ≤ i → selectors s w (Ok d) (selectors_of (selectors_view (drop i xs))) ≡ Ok d
 unfolding selectors
 selectors_none s w d xs i h = rw (drop_all i xs h) refl
 

@@ -16,12 +16,12 @@ use Rattle.cp_scope.specs.Counts.{both_uses}
 use Rattle.cp_scope.specs.Scopes.{Scopes, heading_at, body_at, array_at}
 use Rattle.cp_scope.specs.Judged.{Judged, broken, ◌>>=◌}
 use Rattle.cp_check.specs.declared.operand.Context.{Context}
-use Rattle.cp_check.specs.declared.operand.Place.{Place}
-use Rattle.cp_check.specs.declared.operand.Place.TheVariants.{Fixed, Assignable, Function}
+use Rattle.cp_check.specs.declared.operand.OperandUse.{OperandUse}
+use Rattle.cp_check.specs.declared.operand.OperandUse.TheVariants.{Fixed, Assignable, Function}
 use Rattle.cp_check.specs.declared.operand.Operand.{Operand}
 use Rattle.cp_check.specs.declared.operand.Named.{Named}
 use Rattle.cp_check.specs.declared.operand.Named.TheVariants.{Nothing, Constant, Variable, Parameter as Parameter', Kind, Routine, Entry, Predeclared}
-use Rattle.cp_check.specs.declared.operand.Designated.{Designated}
+use Rattle.cp_check.specs.declared.operand.DesignatedName.{DesignatedName}
 use Rattle.cp_check.specs.Operands.{value, is_assignable, is_function}
 use Rattle.cp_check.specs.Operations as operations
 
@@ -139,17 +139,17 @@ is_fixed s (types.Component k n) = true
 is_fixed s (types.Array n) = is_fixed_array (array_at n s)
 is_fixed s _ = false
 
-abbrev pub place_of : Scopes → ValueType → Place
+abbrev pub place_of : Scopes → ValueType → OperandUse
 place_of s t = if is_fixed s t then Fixed else Assignable
 
 abbrev pub alone : Operand → List Operand → Judged Operand
 alone o [] = Ok o
 alone o (p ∷ ps) = broken o.at C5
 
-abbrev pub placed : ℕ → ValueType → Place → Use → Operand
+abbrev pub placed : ℕ → ValueType → OperandUse → Use → Operand
 placed at t p u = record { at = at; value_type = t; place = p; uses = u }
 
-abbrev pub value_named : Scopes → Context → ℕ → Designated → List Operand → Named → Judged Operand
+abbrev pub value_named : Scopes → Context → ℕ → DesignatedName → List Operand → Named → Judged Operand
 value_named s w at d os (Constant b) = alone (value at (values_of b) d.uses) os
 value_named s w at d os (Variable t) = alone (placed at t (place_of s t) d.uses) os
 value_named s w at d os (Parameter' t) = alone (placed at t Fixed d.uses) os
@@ -160,7 +160,7 @@ value_named s w at d os Kind = broken at C5
 value_named s w at d os Nothing = broken at C5
 
 -- a name with its arguments as a value
-unfoldable pub value_of : Scopes → Context → ℕ → Designated × List Operand → Judged Operand
+unfoldable pub value_of : Scopes → Context → ℕ → DesignatedName × List Operand → Judged Operand
 value_of s w at p = value_named s w at p.0 p.1 p.0.named
 
 abbrev pub is_own_of : Option ℕ → ℕ → Bool
@@ -177,7 +177,7 @@ is_other_function s w (Entry n) = is_some (heading_at n s).result
 is_other_function s w _ = false
 
 -- a name alone in the place of a `var` argument
-abbrev pub variable_of : Scopes → Context → ℕ → Designated → Judged Operand
+abbrev pub variable_of : Scopes → Context → ℕ → DesignatedName → Judged Operand
 variable_of s w at d =
     if is_other_function s w d.named
     then Ok (placed at types.Queue Function d.uses)

@@ -11,7 +11,7 @@ use Rattle.cp_scope.specs.Types.{same_base}
 use Rattle.cp_scope.specs.Counts.{both_uses}
 use Rattle.cp_scope.specs.Scopes.{Scopes}
 use Rattle.cp_scope.specs.Judged.{Judged, both, ◌>>=◌}
-use Rattle.cp_check.specs.declared.constant.Number.{Number}
+use Rattle.cp_check.specs.declared.constant.ConstantNumber.{ConstantNumber}
 use Rattle.cp_check.specs.declared.case.Label.{Label}
 use Rattle.cp_check.specs.declared.operand.Operand.{Operand}
 use Rattle.cp_check.specs.Constants.{constant, same_number}
@@ -19,7 +19,7 @@ use Rattle.cp_check.specs.Calls.{fault, unless}
 
 -- ---- labels
 
-abbrev pub to_label : ℕ → Number → Judged Label
+abbrev pub to_label : ℕ → ConstantNumber → Judged Label
 to_label at n = Ok (record { at = at; number = n })
 
 unfoldable pub one_label : Scopes → Constant → Judged Label

@@ -9,7 +9,7 @@ use Rattle.cp_scope.specs.declared.types.Meaning.{Meaning}
 use Rattle.cp_scope.specs.declared.types.Meaning.TheVariants as meaning
 use Rattle.cp_scope.specs.Scopes.{Scopes, is_declared, add, reserve, settle}
 use Rattle.cp_scope.specs.Judged.{Judged, ◌>>=◌, faults}
-use Rattle.cp_check.specs.declared.constant.Number.{Number}
+use Rattle.cp_check.specs.declared.constant.ConstantNumber.{ConstantNumber}
 use Rattle.cp_check.specs.declared.types.Spot.{Spot}
 use Rattle.cp_check.specs.declared.types.Spot.TheVariants.{Definition}
 use Rattle.cp_check.specs.Constants.{constant}
@@ -52,7 +52,7 @@ declared_all ns m s = record { faults = faults m; scopes = add_all s ns (as_decl
 
 -- ---- constants
 
-abbrev pub to_constant : Number → Judged Meaning
+abbrev pub to_constant : ConstantNumber → Judged Meaning
 to_constant n = Ok (meaning.Constant n.base n.value)
 
 unfoldable pub constant_step : Scopes → ConstantDefinition → Step

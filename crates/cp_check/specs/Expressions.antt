@@ -16,7 +16,7 @@ use Rattle.cp_scope.specs.Scopes.{Scopes}
 use Rattle.cp_scope.specs.Judged.{Judged, broken, both, ◌>>=◌}
 use Rattle.cp_check.specs.declared.operand.Context.{Context}
 use Rattle.cp_check.specs.declared.operand.Operand.{Operand}
-use Rattle.cp_check.specs.declared.operand.Designated.{Designated}
+use Rattle.cp_check.specs.declared.operand.DesignatedName.{DesignatedName}
 use Rattle.cp_check.specs.Operands.{value}
 use Rattle.cp_check.specs.Operations as operations
 use Rattle.cp_check.specs.Names.{begun, selected, indexed, known}
@@ -84,11 +84,11 @@ some_operand o = Ok (Some o)
 abbrev pub signed : ℕ → Option Sign → Operand → Judged (Option Operand)
 signed at s o = Ok (operations.signed at s o)
 
-abbrev pub at_index : Scopes → Designated × Operand → Judged Designated
+abbrev pub at_index : Scopes → DesignatedName × Operand → Judged DesignatedName
 at_index s p = Ok (indexed s p.0 p.1)
 
 -- a name with its arguments; alone in the place of a `var` argument
-abbrev pub named_value : Scopes → Context → Bool → ℕ → Judged Designated → Judged (List Operand) → Judged Operand
+abbrev pub named_value : Scopes → Context → Bool → ℕ → Judged DesignatedName → Judged (List Operand) → Judged Operand
 named_value s w v at d os = if v then d >>= variable_of s w at else both d os >>= value_of s w at
 
 -- In the place of a `var` argument a function's name alone is no call.
@@ -122,14 +122,14 @@ unfoldable mutual
   factor s w v (negated at f) = factor s w false f >>= operations.negated at
   factor s w v (set_of at es) = arguments s w [] 0 es >>= constructed at
 
-  pub designator : Scopes → Context → Designator → Judged Designated
+  pub designator : Scopes → Context → Designator → Judged DesignatedName
   designator s w (name_with n ss) = selectors s w (begun s n) ss >>= known n.at
 
-  pub selectors : Scopes → Context → Judged Designated → Selectors → Judged Designated
+  pub selectors : Scopes → Context → Judged DesignatedName → Selectors → Judged DesignatedName
   selectors s w j no_selectors = j
   selectors s w j (more_selectors x ss) = selectors s w (selector s w j x) ss
 
-  pub selector : Scopes → Context → Judged Designated → Selector → Judged Designated
+  pub selector : Scopes → Context → Judged DesignatedName → Selector → Judged DesignatedName
   selector s w j (field i) = j >>= selected s i
   selector s w j (index e) = both j (expression s w false e) >>= at_index s
 

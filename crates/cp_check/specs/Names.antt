@@ -15,7 +15,7 @@ use Rattle.cp_scope.specs.Judged.{Judged, broken, silent, ◌>>=◌}
 use Rattle.cp_check.specs.declared.operand.Operand.{Operand}
 use Rattle.cp_check.specs.declared.operand.Named.{Named}
 use Rattle.cp_check.specs.declared.operand.Named.TheVariants.{Nothing, Constant, Variable, Parameter, Kind, Routine, Entry, Predeclared}
-use Rattle.cp_check.specs.declared.operand.Designated.{Designated}
+use Rattle.cp_check.specs.declared.operand.DesignatedName.{DesignatedName}
 
 -- a name whose declaration has a fault breaks no rule
 abbrev pub found : ℕ → Option (Option Meaning) → Judged Meaning
@@ -35,13 +35,13 @@ named_of (meaning.Reference t) = Variable t
 named_of (meaning.Routine n) = Routine n
 named_of (meaning.Predeclared p) = Predeclared p
 
-abbrev pub designated : ℕ → Use → Named → Designated
+abbrev pub designated : ℕ → Use → Named → DesignatedName
 designated at u n = record { named = n; name_at = at; uses = u }
 
-abbrev pub unselected : ℕ → Meaning → Judged Designated
+abbrev pub unselected : ℕ → Meaning → Judged DesignatedName
 unselected at m = Ok (designated at no_use (named_of m))
 
-unfoldable pub begun : Scopes → Identifier → Judged Designated
+unfoldable pub begun : Scopes → Identifier → Judged DesignatedName
 begun s i = visible s i.at i.name >>= unselected i.at
 
 abbrev pub type_of : Named → Option ValueType
@@ -57,52 +57,52 @@ part_of _ t = Nothing
 
 -- ---- fields and routines
 
-abbrev pub with_field : ℕ → Designated → Option (Option Meaning) → Judged Designated
+abbrev pub with_field : ℕ → DesignatedName → Option (Option Meaning) → Judged DesignatedName
 with_field at d (Some (Some (meaning.Variable t))) = Ok (designated at d.uses (part_of d.named t))
 with_field at d _ = broken at C1
 
-abbrev pub field : Scopes → Identifier → Designated → ℕ → Judged Designated
+abbrev pub field : Scopes → Identifier → DesignatedName → ℕ → Judged DesignatedName
 field s i d n = with_field i.at d (field_at n i.name s)
 
-abbrev pub with_entry : ℕ → Designated → Option (Option Meaning) → Judged Designated
+abbrev pub with_entry : ℕ → DesignatedName → Option (Option Meaning) → Judged DesignatedName
 with_entry at d (Some (Some (meaning.Routine r))) = Ok (designated at d.uses (Entry r))
 with_entry at d _ = broken at C8
 
-abbrev pub entry : Scopes → Identifier → Designated → ℕ → Judged Designated
+abbrev pub entry : Scopes → Identifier → DesignatedName → ℕ → Judged DesignatedName
 entry s i d n = with_entry i.at d (member_at n i.name s)
 
 -- of parts that do not agree
-abbrev pub nothing : ℕ → Use → Designated
+abbrev pub nothing : ℕ → Use → DesignatedName
 nothing at u = designated at u Nothing
 
-abbrev pub selected_of : Scopes → Identifier → Designated → Option ValueType → Judged Designated
+abbrev pub selected_of : Scopes → Identifier → DesignatedName → Option ValueType → Judged DesignatedName
 selected_of s i d (Some (Record n)) = field s i d n
 selected_of s i d (Some (Component k n)) = entry s i d n
 selected_of s i d _ = Ok (nothing i.at d.uses)
 
-abbrev pub selected : Scopes → Identifier → Designated → Judged Designated
+abbrev pub selected : Scopes → Identifier → DesignatedName → Judged DesignatedName
 selected s i d = selected_of s i d (type_of d.named)
 
 -- ---- elements
 
-abbrev pub element_of : Designated → Operand → Option ArrayShape → Named
+abbrev pub element_of : DesignatedName → Operand → Option ArrayShape → Named
 element_of d o (Some a) = if agree (Ordinal a.index) o.value_type then part_of d.named a.element else Nothing
 element_of d o None = Nothing
 
-abbrev pub element : Scopes → Designated → Operand → ℕ → Named
+abbrev pub element : Scopes → DesignatedName → Operand → ℕ → Named
 element s d o n = element_of d o (array_at n s)
 
-abbrev pub indexed_of : Scopes → Designated → Operand → Option ValueType → Named
+abbrev pub indexed_of : Scopes → DesignatedName → Operand → Option ValueType → Named
 indexed_of s d o (Some (Array n)) = element s d o n
 indexed_of s d o _ = Nothing
 
-abbrev pub indexed : Scopes → Designated → Operand → Designated
+abbrev pub indexed : Scopes → DesignatedName → Operand → DesignatedName
 indexed s d o = designated d.name_at (both_uses d.uses o.uses) (indexed_of s d o (type_of d.named))
 
-abbrev pub known_named : ℕ → Designated → Named → Judged Designated
+abbrev pub known_named : ℕ → DesignatedName → Named → Judged DesignatedName
 known_named at d Nothing = broken at C5
 known_named at d _ = Ok d
 
 -- the selectors fit what they select from
-abbrev pub known : ℕ → Designated → Judged Designated
+abbrev pub known : ℕ → DesignatedName → Judged DesignatedName
 known at d = known_named at d d.named

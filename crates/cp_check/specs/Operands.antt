@@ -5,8 +5,8 @@ use Rattle.cp_scope.specs.declared.types.ValueType.TheVariants.{Queue}
 use Rattle.cp_scope.specs.declared.types.Base.{Base}
 use Rattle.cp_scope.specs.declared.count.Use.{Use}
 use Rattle.cp_scope.specs.Types.{values_of}
-use Rattle.cp_check.specs.declared.operand.Place.{Place}
-use Rattle.cp_check.specs.declared.operand.Place.TheVariants.{Value, Fixed, Assignable, Function}
+use Rattle.cp_check.specs.declared.operand.OperandUse.{OperandUse}
+use Rattle.cp_check.specs.declared.operand.OperandUse.TheVariants.{Value, Fixed, Assignable, Function}
 use Rattle.cp_check.specs.declared.operand.Operand.{Operand}
 
 abbrev pub of_base : Base → ValueType
@@ -15,15 +15,15 @@ of_base b = values_of b
 abbrev pub value : ℕ → ValueType → Use → Operand
 value at t u = record { at = at; value_type = t; place = Value; uses = u }
 
-abbrev pub is_assignable : Place → Bool
+abbrev pub is_assignable : OperandUse → Bool
 is_assignable Assignable = true
 is_assignable _ = false
 
-abbrev pub is_function : Place → Bool
+abbrev pub is_function : OperandUse → Bool
 is_function Function = true
 is_function _ = false
 
-abbrev pub is_queue_in : ValueType → Place → Bool
+abbrev pub is_queue_in : ValueType → OperandUse → Bool
 is_queue_in Queue Fixed = true
 is_queue_in _ _ = false
 

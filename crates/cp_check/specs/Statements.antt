@@ -20,7 +20,7 @@ use Rattle.cp_check.specs.declared.operand.Context.{Context}
 use Rattle.cp_check.specs.declared.operand.Operand.{Operand}
 use Rattle.cp_check.specs.declared.operand.Named.{Named}
 use Rattle.cp_check.specs.declared.operand.Named.TheVariants.{Nothing, Constant, Variable, Parameter, Kind, Routine, Entry, Predeclared as Predeclared'}
-use Rattle.cp_check.specs.declared.operand.Designated.{Designated}
+use Rattle.cp_check.specs.declared.operand.DesignatedName.{DesignatedName}
 use Rattle.cp_check.specs.declared.case.Label.{Label}
 use Rattle.cp_check.specs.declared.statement.Target.{Target}
 use Rattle.cp_check.specs.declared.statement.Target.TheVariants as target
@@ -66,7 +66,7 @@ assigned at target.Kind o u = broken at C5
 abbrev pub name_at : Designator → ℕ
 name_at (name_with n ss) = n.at
 
-abbrev pub with_target : Scopes → Context → ℕ → Designated → Judged (Target × Use)
+abbrev pub with_target : Scopes → Context → ℕ → DesignatedName → Judged (Target × Use)
 with_target s w at d = aimed at (target_of s w d.named) >>= (λ t. Ok (t, d.uses))
 
 abbrev pub finish_assignment : ℕ → (Target × Use) × Operand → Judged Use
@@ -116,13 +116,13 @@ procedure_of s w at name_at is_local n os u None = called s w at name_at is_loca
 unfoldable pub procedure_called : Scopes → Context → ℕ → ℕ → Bool → ℕ → List Operand → Use → Judged Use
 procedure_called s w at name_at is_local n os u = procedure_of s w at name_at is_local n os u (heading_at n s).result
 
-abbrev pub invoked_named : Scopes → Context → ℕ → Designated → List Operand → Named → Judged Use
+abbrev pub invoked_named : Scopes → Context → ℕ → DesignatedName → List Operand → Named → Judged Use
 invoked_named s w at d os (Predeclared' p) = performed s w at p os (total_use d.uses os)
 invoked_named s w at d os (Routine n) = procedure_called s w at d.name_at true n os d.uses
 invoked_named s w at d os (Entry n) = procedure_called s w at d.name_at false n os d.uses
 invoked_named s w at d os _ = broken at C5
 
-unfoldable pub invoked : Scopes → Context → ℕ → Designated × List Operand → Judged Use
+unfoldable pub invoked : Scopes → Context → ℕ → DesignatedName × List Operand → Judged Use
 invoked s w at p = invoked_named s w at p.0 p.1 p.0.named
 
 abbrev pub as_many : List parameter.Parameter → ℕ → Option ValueType → List parameter.Parameter
@@ -142,7 +142,7 @@ abbrev pub number_of : Expressions → ℕ
 number_of no_expressions = 0
 number_of (more_expressions e es) = 1 + number_of es
 
-abbrev pub parameters_named : Scopes → ℕ → Judged Designated → List parameter.Parameter
+abbrev pub parameters_named : Scopes → ℕ → Judged DesignatedName → List parameter.Parameter
 parameters_named s k (Ok d) = parameters_of s d.named k
 parameters_named s k (Err fs) = []
 
@@ -169,7 +169,7 @@ test_then at p = tested at p.0 (both_uses p.0.uses p.1)
 abbrev pub test_last : ℕ → Use × Operand → Judged Use
 test_last at p = tested at p.1 (both_uses p.0 p.1.uses)
 
-abbrev pub count_over : Scopes → Context → ℕ → ℕ → ((Designated × Operand) × Operand) × Use → Judged Use
+abbrev pub count_over : Scopes → Context → ℕ → ℕ → ((DesignatedName × Operand) × Operand) × Use → Judged Use
 count_over s w at n p = counted at n (target_of s w p.0.0.0.named) p.0.0.1 p.0.1 (both_uses (both_uses p.0.0.1.uses p.0.1.uses) p.1)
 
 abbrev pub together : Use × Use → Judged Use
@@ -184,11 +184,11 @@ start_need k need = need
 abbrev pub start_use : ℕ → Use
 start_use need = record { calls = 0; need = need; delays = false }
 
-abbrev pub started_named : Scopes → ℕ → Designated → List Operand → Named → Judged Use
+abbrev pub started_named : Scopes → ℕ → DesignatedName → List Operand → Named → Judged Use
 started_named s at d os (Variable (types.Component k n)) = unless (fit_faults at (heading_at n s).parameters os) (both_uses (total_use d.uses os) (start_use (start_need k (as_need (shape_in n s.shapes)))))
 started_named s at d os _ = broken at C17
 
-unfoldable pub started : Scopes → ℕ → Designated × List Operand → Judged Use
+unfoldable pub started : Scopes → ℕ → DesignatedName × List Operand → Judged Use
 started s at p = started_named s at p.0 p.1 p.0.named
 
 unfoldable pub start : Scopes → Context → Start → Judged Use

@@ -18,7 +18,7 @@ use Rattle.cp_scope.specs.Types.{same_base, whole}
 use Rattle.cp_scope.specs.Counts.{times}
 use Rattle.cp_scope.specs.Scopes.{Scope, new_scope, Scopes, Shape, array_shape, record_shape, array_at, cells_of, census, count_of, is_declared, add, keep}
 use Rattle.cp_scope.specs.Judged.{Judged, broken, both, ◌>>=◌, faults}
-use Rattle.cp_check.specs.declared.constant.Number.{Number}
+use Rattle.cp_check.specs.declared.constant.ConstantNumber.{ConstantNumber}
 use Rattle.cp_check.specs.declared.types.Spot.{Spot}
 use Rattle.cp_check.specs.declared.types.Spot.TheVariants as spot
 use Rattle.cp_check.specs.declared.types.Holding.{Holding}
@@ -119,7 +119,7 @@ type_spotted s p at n = type_named s at n >>= at_spot s p at
 
 -- ---- subranges and enumerations
 
-abbrev pub ranged : ℕ → Number × Number → Judged ValueType
+abbrev pub ranged : ℕ → ConstantNumber × ConstantNumber → Judged ValueType
 ranged at p =
     if same_base p.0.base p.1.base
     then (if int_lt p.1.value p.0.value then broken at C18 else Ok (Ordinal (record { base = p.0.base; low = p.0.value; high = p.1.value })))

@@ -5,9 +5,9 @@ ghost use Rattle.cp_scope.specs.Judged.{Judges, Finds};
 ghost use Rattle.cp_scope.specs.View.{scopes_of};
 ghost use Rattle.cp_check.specs.Calls as spec;
 
-use crate::operand::{Context, Designated, Named, Operand, Place, value};
+use crate::operand::{Context, DesignatedName, Named, Operand, OperandUse, value};
 use crate::operation::{is_function, standard_value};
-use cp_scope::{CheckFault, Parameter, Rule, Table, Use, ValueType, broken, values_of};
+use cp_scope::{CheckFault, Parameter, Rule, ScopeTable, Use, ValueType, broken, values_of};
 use cp_tree::SystemKind;
 
 /// Whether an argument fits a parameter.
@@ -141,7 +141,7 @@ fn check_delay(at: usize, context: Context, is_local: bool, body: Use) -> Result
 /// The rules of a call itself; what it takes.
 #[tactic(auto, unfolding(crate::specs::Calls::called), using(crate::proofs::Judging::first_append))]
 pub fn check_routine_call(
-    table: &Table,
+    table: &ScopeTable,
     context: Context,
     at: usize,
     name_at: usize,
@@ -170,7 +170,7 @@ pub fn check_routine_call(
 /// A call of a function as a value.
 #[tactic(auto, unfolding(crate::specs::Calls::function_value))]
 fn function_value(
-    table: &Table,
+    table: &ScopeTable,
     context: Context,
     at: usize,
     name_at: usize,
@@ -201,7 +201,7 @@ fn function_value(
 }
 
 /// Whether a type is a queue, a component or an array of such, which are not assignable.
-fn is_fixed(table: &Table, value_type: ValueType) -> bool
+fn is_fixed(table: &ScopeTable, value_type: ValueType) -> bool
     ensures { result ≡ spec.is_fixed (scopes_of table.now) value_type }
 {
     match value_type {
@@ -220,13 +220,13 @@ fn is_fixed(table: &Table, value_type: ValueType) -> bool
 }
 
 /// How a variable may be used.
-pub fn place_of(table: &Table, value_type: ValueType) -> Place
+pub fn place_of(table: &ScopeTable, value_type: ValueType) -> OperandUse
     ensures { result ≡ spec.place_of (scopes_of table.now) value_type }
 {
     if is_fixed(table, value_type) {
-        Place::Fixed
+        OperandUse::Fixed
     } else {
-        Place::Assignable
+        OperandUse::Assignable
     }
 }
 
@@ -243,10 +243,10 @@ fn check_alone(operand: Operand, operands: &[Operand]) -> Result<Operand, CheckF
 /// A name with selectors and arguments as a value.
 #[tactic(auto, unfolding(crate::specs::Calls::value_of))]
 pub fn value_of(
-    table: &Table,
+    table: &ScopeTable,
     context: Context,
     at: usize,
-    name: Designated,
+    name: DesignatedName,
     operands: &[Operand],
 ) -> Result<Operand, CheckFault>
     ensures { Judges (λ o. o) (spec.value_of (scopes_of table.now) context at (name, operands.now)) result }
@@ -267,7 +267,7 @@ pub fn value_of(
             Operand {
                 at,
                 value_type,
-                place: Place::Fixed,
+                place: OperandUse::Fixed,
                 uses,
             },
             operands,
@@ -313,7 +313,7 @@ pub fn is_own(context: Context, routine: usize) -> bool
 }
 
 /// Whether a name is that of a function, but not of the one around it.
-pub fn is_other_function(table: &Table, context: Context, named: Named) -> bool
+pub fn is_other_function(table: &ScopeTable, context: Context, named: Named) -> bool
     ensures { result ≡ spec.is_other_function (scopes_of table.now) context named }
 {
     match named {
@@ -328,10 +328,10 @@ pub fn is_other_function(table: &Table, context: Context, named: Named) -> bool
 
 /// A name alone in the place of a `var` argument.
 pub fn variable_of(
-    table: &Table,
+    table: &ScopeTable,
     context: Context,
     at: usize,
-    name: Designated,
+    name: DesignatedName,
 ) -> Result<Operand, CheckFault>
     ensures { Judges (λ o. o) (spec.variable_of (scopes_of table.now) context at name) result }
 {
@@ -339,7 +339,7 @@ pub fn variable_of(
         Ok(Operand {
             at,
             value_type: ValueType::Queue,
-            place: Place::Function,
+            place: OperandUse::Function,
             uses: name.uses,
         })
     } else {

@@ -5,9 +5,9 @@ ghost use Rattle.cp_scope.specs.Judged.{Judges, Finds};
 ghost use Rattle.cp_scope.specs.View.{scopes_of};
 ghost use Rattle.cp_check.specs.Cases as spec;
 
-use crate::constant::{Number, constant};
+use crate::constant::{ConstantNumber, constant};
 use crate::operand::Operand;
-use cp_scope::{Base, CheckFault, Rule, Table, Use, ValueType, broken};
+use cp_scope::{Base, CheckFault, Rule, ScopeTable, Use, ValueType, broken};
 use cp_tree::Constant;
 use indexmap::IndexSet;
 use std::alloc::Global;
@@ -16,11 +16,11 @@ use std::alloc::Global;
 #[derive(Clone, Copy)]
 pub struct Label {
     pub at: usize,
-    pub number: Number,
+    pub number: ConstantNumber,
 }
 
 #[tactic(auto, unfolding(crate::specs::Cases::one_label))]
-fn one_label(table: &Table, node: &Constant) -> Result<Label, CheckFault>
+fn one_label(table: &ScopeTable, node: &Constant) -> Result<Label, CheckFault>
     ensures { Judges (λ l. l) (spec.one_label (scopes_of table.now) node.now) result }
 {
     let number = constant(table, node)?;
@@ -32,7 +32,11 @@ fn one_label(table: &Table, node: &Constant) -> Result<Label, CheckFault>
 
 /// The labels of an arm.
 #[tactic(auto, using(crate::proofs::Labels::labels_passed, crate::proofs::Labels::labels_refused, crate::proofs::Labels::labels_none))]
-pub fn labels(alloc: Global, table: &Table, nodes: &[Constant]) -> Result<Vec<Label>, CheckFault>
+pub fn labels(
+    alloc: Global,
+    table: &ScopeTable,
+    nodes: &[Constant],
+) -> Result<Vec<Label>, CheckFault>
     ensures { Judges (λ v. v.items) (spec.labels (scopes_of table.now) nodes.now) result }
 {
     let mut labels = Vec::new(alloc);

@@ -13,7 +13,7 @@ use crate::routine::{need_of, routines};
 use crate::statement::statements;
 use crate::system::program_parts;
 use crate::types::MOST_CELLS;
-use cp_scope::{Census, CheckFault, Rule, Table, Use, broken};
+use cp_scope::{Census, CheckFault, Rule, ScopeTable, Use, broken};
 use cp_tree::{Program, Tree};
 use std::alloc::Global;
 
@@ -35,7 +35,7 @@ impl Checked {
 
 /// The declarations of a program.
 #[tactic(auto, unfolding(crate::specs::Faults::declarations), using(crate::proofs::Judging::first_append))]
-fn declarations(alloc: Global, table: &mut Table, node: &Program) -> Result<(), CheckFault>
+fn declarations(alloc: Global, table: &mut ScopeTable, node: &Program) -> Result<(), CheckFault>
     ensures faults { Finds (spec.declarations (scopes_of table.old) (program_view node.now)).faults result }
     ensures scopes { OnOk result (scopes_of table.new ≡ (spec.declarations (scopes_of table.old) (program_view node.now)).scopes) }
 {
@@ -47,7 +47,7 @@ fn declarations(alloc: Global, table: &mut Table, node: &Program) -> Result<(), 
 #[tactic(auto, unfolding(crate::specs::Faults::opened), using(crate::proofs::Judging::first_append))]
 fn declarations_and_body(
     alloc: Global,
-    table: &mut Table,
+    table: &mut ScopeTable,
     node: &Program,
 ) -> Result<Use, CheckFault>
     ensures judged { Judges (λ u. u) (spec.opened (scopes_of table.old) (program_view node.now)).uses result }
@@ -82,7 +82,7 @@ fn is_too_large(census: Census, uses: Use) -> bool
 }
 
 /// The rules of a program, and its limits.
-fn within_limits(alloc: Global, table: &mut Table, node: &Program) -> Result<(), CheckFault>
+fn within_limits(alloc: Global, table: &mut ScopeTable, node: &Program) -> Result<(), CheckFault>
     ensures { Finds (spec.with_limits (program_view node.now).period (spec.opened (scopes_of table.old) (program_view node.now))) result }
 {
     let uses = declarations_and_body(alloc, table, node)?;
@@ -97,7 +97,7 @@ fn within_limits(alloc: Global, table: &mut Table, node: &Program) -> Result<(),
 fn check_tree(alloc: Global, tree: &Tree) -> Result<(), CheckFault>
     ensures { Finds (faults_of (tree_view tree.now)) result }
 {
-    let mut table = Table::new(alloc)?;
+    let mut table = ScopeTable::new(alloc)?;
     within_limits(alloc, &mut table, &tree.program)
 }
 

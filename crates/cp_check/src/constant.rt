@@ -6,19 +6,19 @@ ghost use Rattle.cp_scope.specs.View.{scopes_of};
 ghost use Rattle.cp_check.specs.Constants as spec;
 
 use crate::name::meaning_of;
-use cp_scope::{Base, CheckFault, Meaning, Rule, Table, broken};
+use cp_scope::{Base, CheckFault, Meaning, Rule, ScopeTable, broken};
 use cp_tree::{Constant, ConstantKind, Identifier, Sign};
 
 /// A constant's base and number.
 #[derive(Clone, Copy)]
-pub struct Number {
+pub struct ConstantNumber {
     pub base: Base,
     pub value: i64,
 }
 
-impl Number {
+impl ConstantNumber {
     /// Whether two constants are one value.
-    pub fn is_same(self, other: Number) -> bool
+    pub fn is_same(self, other: ConstantNumber) -> bool
         ensures { result ≡ spec.same_number self other }
     {
         self.base.is_same(other.base) && self.value == other.value
@@ -26,14 +26,18 @@ impl Number {
 }
 
 /// A number with its sign.
-fn number_with_sign(at: usize, sign: Option<Sign>, number: Number) -> Result<Number, CheckFault>
+fn number_with_sign(
+    at: usize,
+    sign: Option<Sign>,
+    number: ConstantNumber,
+) -> Result<ConstantNumber, CheckFault>
     ensures { Judges (λ n. n) (spec.signed at sign number) result }
 {
     match sign {
         None => Ok(number),
         Some(sign) => {
             if number.base.is_same(Base::Integer) {
-                Ok(Number {
+                Ok(ConstantNumber {
                     base: number.base,
                     value: match sign {
                         Sign::Plus => number.value,
@@ -49,18 +53,18 @@ fn number_with_sign(at: usize, sign: Option<Sign>, number: Number) -> Result<Num
 
 /// A name in a constant's place.
 #[tactic(auto, unfolding(crate::specs::Constants::named))]
-fn constant_named(table: &Table, name: &Identifier) -> Result<Number, CheckFault>
+fn constant_named(table: &ScopeTable, name: &Identifier) -> Result<ConstantNumber, CheckFault>
     ensures { Judges (λ n. n) (spec.named (scopes_of table.now) name.now) result }
 {
     match meaning_of(table, name.at, &name.name)? {
-        Meaning::Constant(base, value) => Ok(Number { base, value }),
+        Meaning::Constant(base, value) => Ok(ConstantNumber { base, value }),
         _ => broken(name.at, Rule::C3),
     }
 }
 
 /// A constant.
 #[tactic(auto, unfolding(crate::specs::Constants::constant))]
-pub fn constant(table: &Table, node: &Constant) -> Result<Number, CheckFault>
+pub fn constant(table: &ScopeTable, node: &Constant) -> Result<ConstantNumber, CheckFault>
     ensures { Judges (λ n. n) (spec.constant (scopes_of table.now) node.now) result }
 {
     let at = node.at;
@@ -68,13 +72,13 @@ pub fn constant(table: &Table, node: &Constant) -> Result<Number, CheckFault>
         ConstantKind::Number(sign, value) => number_with_sign(
             at,
             *sign,
-            Number {
+            ConstantNumber {
                 base: Base::Integer,
                 value: *value as i64,
             },
         ),
         ConstantKind::Name(sign, name) => number_with_sign(at, *sign, constant_named(table, name)?),
-        ConstantKind::Character(code) => Ok(Number {
+        ConstantKind::Character(code) => Ok(ConstantNumber {
             base: Base::Char,
             value: *code as i64,
         }),

@@ -9,13 +9,17 @@ ghost use Rattle.cp_check.specs.Declarations as spec;
 
 use crate::constant::constant;
 use crate::types::{Spot, type_of};
-use cp_scope::{CheckFault, Meaning, Rule, Table, broken};
+use cp_scope::{CheckFault, Meaning, Rule, ScopeTable, broken};
 use cp_tree::{ConstantDefinition, Identifier, Part, PartKind, TypeDefinition, VariableGroup};
 use std::alloc::Global;
 
 /// A name is being declared.
 #[tactic(auto, unfolding(crate::specs::Declarations::reserve_name))]
-pub fn reserve_name(alloc: Global, table: &mut Table, name: &Identifier) -> Result<(), CheckFault>
+pub fn reserve_name(
+    alloc: Global,
+    table: &mut ScopeTable,
+    name: &Identifier,
+) -> Result<(), CheckFault>
     ensures faults { Finds (spec.reserve_name (scopes_of table.old) name.now).faults result }
     ensures scopes { OnOk result (scopes_of table.new ≡ (spec.reserve_name (scopes_of table.old) name.now).scopes) }
 {
@@ -29,7 +33,7 @@ pub fn reserve_name(alloc: Global, table: &mut Table, name: &Identifier) -> Resu
 #[tactic(auto, using(crate::proofs::Steps::names_passed, crate::proofs::Steps::names_refused, crate::proofs::Steps::names_none))]
 pub fn reserve_names(
     alloc: Global,
-    table: &mut Table,
+    table: &mut ScopeTable,
     names: &[Identifier],
 ) -> Result<(), CheckFault>
     ensures faults { Finds (spec.reserve_names (scopes_of table.old) names.now).faults result }
@@ -45,7 +49,7 @@ pub fn reserve_names(
 #[tactic(auto, unfolding(crate::specs::Declarations::add_all), using(crate::proofs::Steps::added_split, crate::proofs::Steps::added_none))]
 pub fn add_all(
     alloc: Global,
-    table: &mut Table,
+    table: &mut ScopeTable,
     names: &[Identifier],
     meaning: Meaning,
 ) -> Result<(), CheckFault>
@@ -63,7 +67,7 @@ pub fn add_all(
 #[tactic(auto, unfolding(crate::specs::Declarations::add_one))]
 pub fn add_one(
     alloc: Global,
-    table: &mut Table,
+    table: &mut ScopeTable,
     name: &Identifier,
     meaning: Meaning,
 ) -> Result<(), CheckFault>
@@ -78,7 +82,7 @@ pub fn add_one(
 #[tactic(auto, unfolding(crate::specs::Declarations::constant_step), using(crate::proofs::Judging::first_append))]
 fn constant_definition(
     alloc: Global,
-    table: &mut Table,
+    table: &mut ScopeTable,
     node: &ConstantDefinition,
 ) -> Result<(), CheckFault>
     ensures faults { Finds (spec.constant_step (scopes_of table.old) (constant_definition_view node.now)).faults result }
@@ -98,7 +102,7 @@ fn constant_definition(
 #[tactic(auto, using(crate::proofs::Steps::constants_passed, crate::proofs::Steps::constants_refused, crate::proofs::Steps::constants_none))]
 pub fn constant_definitions(
     alloc: Global,
-    table: &mut Table,
+    table: &mut ScopeTable,
     nodes: &[ConstantDefinition],
 ) -> Result<(), CheckFault>
     ensures faults { Finds (spec.constant_steps (scopes_of table.old) (map constant_definition_view nodes.now)).faults result }
@@ -113,7 +117,7 @@ pub fn constant_definitions(
 #[tactic(auto, unfolding(crate::specs::Declarations::type_step), using(crate::proofs::Judging::first_append))]
 fn type_definition(
     alloc: Global,
-    table: &mut Table,
+    table: &mut ScopeTable,
     node: &TypeDefinition,
 ) -> Result<(), CheckFault>
     ensures faults { Finds (spec.type_step (scopes_of table.old) (type_definition_view node.now)).faults result }
@@ -128,7 +132,7 @@ fn type_definition(
 #[tactic(auto, using(crate::proofs::Steps::types_passed, crate::proofs::Steps::types_refused, crate::proofs::Steps::types_none))]
 pub fn type_definitions(
     alloc: Global,
-    table: &mut Table,
+    table: &mut ScopeTable,
     nodes: &[TypeDefinition],
 ) -> Result<(), CheckFault>
     ensures faults { Finds (spec.type_steps (scopes_of table.old) (map type_definition_view nodes.now)).faults result }
@@ -143,7 +147,7 @@ pub fn type_definitions(
 #[tactic(auto, unfolding(crate::specs::Declarations::variable_step), using(crate::proofs::Judging::first_append))]
 fn variable_group(
     alloc: Global,
-    table: &mut Table,
+    table: &mut ScopeTable,
     spot: Spot,
     node: &VariableGroup,
 ) -> Result<(), CheckFault>
@@ -159,7 +163,7 @@ fn variable_group(
 #[tactic(auto, using(crate::proofs::Steps::variables_passed, crate::proofs::Steps::variables_refused, crate::proofs::Steps::variables_none))]
 pub fn variable_groups(
     alloc: Global,
-    table: &mut Table,
+    table: &mut ScopeTable,
     spot: Spot,
     nodes: &[VariableGroup],
 ) -> Result<(), CheckFault>
@@ -173,7 +177,7 @@ pub fn variable_groups(
 }
 
 #[tactic(auto, unfolding(crate::specs::Declarations::part_step))]
-fn part(alloc: Global, table: &mut Table, spot: Spot, node: &Part) -> Result<(), CheckFault>
+fn part(alloc: Global, table: &mut ScopeTable, spot: Spot, node: &Part) -> Result<(), CheckFault>
     ensures faults { Finds (spec.part_step spot (scopes_of table.old) (part_view node.now)).faults result }
     ensures scopes { OnOk result (scopes_of table.new ≡ (spec.part_step spot (scopes_of table.old) (part_view node.now)).scopes) }
 {
@@ -186,7 +190,12 @@ fn part(alloc: Global, table: &mut Table, spot: Spot, node: &Part) -> Result<(),
 
 /// The declarations of a system type or a routine, whose variables stand at a spot.
 #[tactic(auto, using(crate::proofs::Steps::parts_passed, crate::proofs::Steps::parts_refused, crate::proofs::Steps::parts_none))]
-pub fn parts(alloc: Global, table: &mut Table, spot: Spot, nodes: &[Part]) -> Result<(), CheckFault>
+pub fn parts(
+    alloc: Global,
+    table: &mut ScopeTable,
+    spot: Spot,
+    nodes: &[Part],
+) -> Result<(), CheckFault>
     ensures faults { Finds (spec.part_steps spot (scopes_of table.old) (map part_view nodes.now)).faults result }
     ensures scopes { OnOk result (scopes_of table.new ≡ (spec.part_steps spot (scopes_of table.old) (map part_view nodes.now)).scopes) }
 {

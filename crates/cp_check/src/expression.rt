@@ -9,11 +9,11 @@ ghost use Rattle.cp_check.specs.Expressions as spec;
 
 use crate::call::{total_use, value_of, variable_of};
 use crate::name::{check_selectors, element_of, member_of, name_meaning};
-use crate::operand::{Context, Designated, Operand, base_value, value};
+use crate::operand::{Context, DesignatedName, Operand, base_value, value};
 use crate::operation::{
     check_agreement, negation_of, product_of, relation_value, sum_of, with_sign,
 };
-use cp_scope::{Base, CheckFault, Parameter, Rule, Table, Use, ValueType, broken};
+use cp_scope::{Base, CheckFault, Parameter, Rule, ScopeTable, Use, ValueType, broken};
 use cp_tree::{
     Addition, Designator, Expression, Factor, FactorKind, Identifier, Multiplication, Selector,
     Sign, Sum, Term,
@@ -124,11 +124,11 @@ fn is_var_at(parameters: &[Parameter], place: usize) -> bool
 #[tactic(auto, using(crate::proofs::Expressions::selectors_passed, crate::proofs::Expressions::selectors_refused, crate::proofs::Expressions::selectors_none))]
 fn selectors(
     alloc: Global,
-    table: &Table,
+    table: &ScopeTable,
     context: Context,
-    start: Designated,
+    start: DesignatedName,
     nodes: &[Selector],
-) -> Result<Designated, CheckFault>
+) -> Result<DesignatedName, CheckFault>
     ensures { Judges (λ d. d) (spec.selectors (scopes_of table.now) context (Ok start) (selectors_of (selectors_view nodes.now))) result }
 {
     let mut whole = start;
@@ -142,11 +142,11 @@ fn selectors(
 #[tactic(auto, unfolding(crate::specs::Expressions::selector))]
 fn selector(
     alloc: Global,
-    table: &Table,
+    table: &ScopeTable,
     context: Context,
-    whole: Designated,
+    whole: DesignatedName,
     node: &Selector,
-) -> Result<Designated, CheckFault>
+) -> Result<DesignatedName, CheckFault>
     ensures { Judges (λ d. d) (spec.selector (scopes_of table.now) context (Ok whole) (selector_view node.now)) result }
 {
     match node {
@@ -162,11 +162,11 @@ fn selector(
 #[tactic(auto, using(crate::proofs::Expressions::selectors_refuse))]
 fn name_with_selectors(
     alloc: Global,
-    table: &Table,
+    table: &ScopeTable,
     context: Context,
     name: &Identifier,
     nodes: &[Selector],
-) -> Result<Designated, CheckFault>
+) -> Result<DesignatedName, CheckFault>
     ensures { Judges (λ d. d) (spec.selectors (scopes_of table.now) context (begun (scopes_of table.now) name.now) (selectors_of (selectors_view nodes.now))) result }
 {
     match name_meaning(table, name) {
@@ -180,10 +180,10 @@ fn name_with_selectors(
 #[tactic(auto, unfolding(crate::specs::Expressions::designator))]
 pub fn designator(
     alloc: Global,
-    table: &Table,
+    table: &ScopeTable,
     context: Context,
     node: &Designator,
-) -> Result<Designated, CheckFault>
+) -> Result<DesignatedName, CheckFault>
     ensures { Judges (λ d. d) (spec.designator (scopes_of table.now) context (designator_view node.now)) result }
 {
     let whole = name_with_selectors(alloc, table, context, &node.name, &node.selectors)?;
@@ -194,7 +194,7 @@ pub fn designator(
 #[tactic(auto, unfolding(crate::specs::Expressions::factor))]
 fn factor(
     alloc: Global,
-    table: &Table,
+    table: &ScopeTable,
     context: Context,
     is_var: bool,
     node: &Factor,
@@ -229,7 +229,7 @@ fn factor(
 #[tactic(auto, using(crate::proofs::Expressions::factors_passed, crate::proofs::Expressions::factors_refused, crate::proofs::Expressions::factors_none))]
 fn more_factors(
     alloc: Global,
-    table: &Table,
+    table: &ScopeTable,
     context: Context,
     at: usize,
     first: Operand,
@@ -249,7 +249,7 @@ fn more_factors(
 #[tactic(auto, using(crate::proofs::Expressions::term_first, crate::proofs::Expressions::term_more, crate::proofs::Expressions::term_passed))]
 fn term(
     alloc: Global,
-    table: &Table,
+    table: &ScopeTable,
     context: Context,
     is_var: bool,
     node: &Term,
@@ -268,7 +268,7 @@ fn term(
 #[tactic(auto, using(crate::proofs::Expressions::terms_passed, crate::proofs::Expressions::terms_refused, crate::proofs::Expressions::terms_none))]
 fn more_terms(
     alloc: Global,
-    table: &Table,
+    table: &ScopeTable,
     context: Context,
     at: usize,
     first: Option<Operand>,
@@ -288,7 +288,7 @@ fn more_terms(
 #[tactic(auto, using(crate::proofs::Expressions::sum_first, crate::proofs::Expressions::sum_more, crate::proofs::Expressions::sum_passed))]
 fn sum(
     alloc: Global,
-    table: &Table,
+    table: &ScopeTable,
     context: Context,
     is_var: bool,
     node: &Sum,
@@ -309,7 +309,7 @@ fn sum(
 #[tactic(auto, unfolding(crate::specs::Expressions::expression))]
 pub fn expression(
     alloc: Global,
-    table: &Table,
+    table: &ScopeTable,
     context: Context,
     is_var: bool,
     node: &Expression,
@@ -331,7 +331,7 @@ pub fn expression(
 #[tactic(auto, using(crate::proofs::Expressions::arguments_passed, crate::proofs::Expressions::arguments_refused, crate::proofs::Expressions::arguments_none))]
 pub fn arguments(
     alloc: Global,
-    table: &Table,
+    table: &ScopeTable,
     context: Context,
     parameters: &[Parameter],
     nodes: &[Expression],

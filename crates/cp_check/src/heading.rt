@@ -10,7 +10,7 @@ ghost use Rattle.cp_check.specs.Headings as spec;
 
 use crate::declaration::{add_all, reserve_name, reserve_names};
 use crate::types::{Holding, held_by, type_named};
-use cp_scope::{CheckFault, Heading, Meaning, Rule, Shape, Table, ValueType, broken};
+use cp_scope::{CheckFault, Heading, Meaning, Rule, ScopeTable, TokenShape, ValueType, broken};
 use cp_tree::{Group, Identifier, ParameterGroup, Routine, RoutineKind, SystemKind};
 use std::alloc::Global;
 
@@ -33,7 +33,7 @@ fn check_parameter_type(
 }
 
 #[tactic(auto, unfolding(crate::specs::Headings::parameter_type))]
-fn parameter_type(table: &Table, node: &Group) -> Result<ValueType, CheckFault>
+fn parameter_type(table: &ScopeTable, node: &Group) -> Result<ValueType, CheckFault>
     ensures { Judges (λ t. t) (spec.parameter_type (scopes_of table.now) (group_view node.now)) result }
 {
     let at = node.type_name.at;
@@ -42,7 +42,12 @@ fn parameter_type(table: &Table, node: &Group) -> Result<ValueType, CheckFault>
 }
 
 #[tactic(auto, unfolding(crate::specs::Headings::group_step), using(crate::proofs::Judging::first_append))]
-fn group(alloc: Global, table: &mut Table, is_var: bool, node: &Group) -> Result<(), CheckFault>
+fn group(
+    alloc: Global,
+    table: &mut ScopeTable,
+    is_var: bool,
+    node: &Group,
+) -> Result<(), CheckFault>
     ensures faults { Finds (spec.group_step is_var (scopes_of table.old) (group_view node.now)).faults result }
     ensures scopes { OnOk result (scopes_of table.new ≡ (spec.group_step is_var (scopes_of table.old) (group_view node.now)).scopes) }
 {
@@ -58,7 +63,7 @@ fn group(alloc: Global, table: &mut Table, is_var: bool, node: &Group) -> Result
 
 /// The parameters of a function.
 #[tactic(auto, using(crate::proofs::Routines::groups_passed, crate::proofs::Routines::groups_refused, crate::proofs::Routines::groups_none))]
-fn groups(alloc: Global, table: &mut Table, nodes: &[Group]) -> Result<(), CheckFault>
+fn groups(alloc: Global, table: &mut ScopeTable, nodes: &[Group]) -> Result<(), CheckFault>
     ensures faults { Finds (spec.group_steps (scopes_of table.old) (map group_view nodes.now)).faults result }
     ensures scopes { OnOk result (scopes_of table.new ≡ (spec.group_steps (scopes_of table.old) (map group_view nodes.now)).scopes) }
 {
@@ -70,7 +75,11 @@ fn groups(alloc: Global, table: &mut Table, nodes: &[Group]) -> Result<(), Check
 
 /// The parameters of a procedure.
 #[tactic(auto, using(crate::proofs::Routines::parameters_passed, crate::proofs::Routines::parameters_refused, crate::proofs::Routines::parameters_none))]
-fn parameters(alloc: Global, table: &mut Table, nodes: &[ParameterGroup]) -> Result<(), CheckFault>
+fn parameters(
+    alloc: Global,
+    table: &mut ScopeTable,
+    nodes: &[ParameterGroup],
+) -> Result<(), CheckFault>
     ensures faults { Finds (spec.parameter_steps (scopes_of table.old) (map parameter_group_view nodes.now)).faults result }
     ensures scopes { OnOk result (scopes_of table.new ≡ (spec.parameter_steps (scopes_of table.old) (map parameter_group_view nodes.now)).scopes) }
 {
@@ -98,7 +107,7 @@ fn check_result_type(
 }
 
 #[tactic(auto, unfolding(crate::specs::Headings::result_type), using(crate::proofs::Judging::refuses_bind, crate::proofs::Judging::refuses_twice))]
-fn result_type(table: &Table, name: &Identifier) -> Result<Option<ValueType>, CheckFault>
+fn result_type(table: &ScopeTable, name: &Identifier) -> Result<Option<ValueType>, CheckFault>
     ensures { Judges (λ t. t) (spec.result_type (scopes_of table.now) name.now) result }
 {
     let value_type = type_named(table, name.at, &name.name)?;
@@ -110,7 +119,7 @@ fn result_type(table: &Table, name: &Identifier) -> Result<Option<ValueType>, Ch
 #[tactic(auto, unfolding(crate::specs::Headings::written), using(crate::proofs::Judging::first_append))]
 fn parameters_and_result(
     alloc: Global,
-    table: &mut Table,
+    table: &mut ScopeTable,
     node: &RoutineKind,
 ) -> Result<Option<ValueType>, CheckFault>
     ensures judged { Judges (λ t. t) (spec.written (scopes_of table.old) (routine_kind_view node.now)).result result }
@@ -184,7 +193,7 @@ fn check_heading(
 #[tactic(auto, unfolding(crate::specs::Headings::heading), using(crate::proofs::Judging::refuses_bind))]
 pub fn heading(
     alloc: Global,
-    table: &mut Table,
+    table: &mut ScopeTable,
     owner: Option<SystemKind>,
     node: &Routine,
 ) -> Result<Option<ValueType>, CheckFault>
@@ -201,7 +210,7 @@ pub fn heading(
 #[tactic(auto, unfolding(crate::specs::Headings::announced))]
 pub fn announce(
     alloc: Global,
-    table: &mut Table,
+    table: &mut ScopeTable,
     node: &Routine,
     value_type: Option<ValueType>,
 ) -> Result<(), CheckFault>
@@ -213,7 +222,7 @@ pub fn announce(
         parameters: table.parameters(alloc)?,
         result: value_type,
     };
-    table.keep(node.name.at, Shape::Heading(heading, node.body.at))?;
+    table.keep(node.name.at, TokenShape::Heading(heading, node.body.at))?;
     table.add_around(
         alloc,
         node.name.name.as_str(),

@@ -5,14 +5,14 @@ ghost use Rattle.cp_scope.specs.Judged.{Judges};
 ghost use Rattle.cp_scope.specs.View.{scopes_of};
 ghost use Rattle.cp_check.specs.Names as spec;
 
-use crate::operand::{Designated, Named, Operand};
-use cp_scope::{CheckFault, Meaning, Rule, Table, Use, ValueType, broken};
+use crate::operand::{DesignatedName, Named, Operand};
+use cp_scope::{CheckFault, Meaning, Rule, ScopeTable, Use, ValueType, broken};
 use cp_text::Name;
 use cp_tree::Identifier;
 
 /// What a name stands for.
 #[tactic(auto, unfolding(crate::specs::Names::visible))]
-pub fn meaning_of(table: &Table, at: usize, name: &Name) -> Result<Meaning, CheckFault>
+pub fn meaning_of(table: &ScopeTable, at: usize, name: &Name) -> Result<Meaning, CheckFault>
     ensures { Judges (λ m. m) (spec.visible (scopes_of table.now) at name.now) result }
 {
     match table.look(name) {
@@ -38,11 +38,11 @@ fn without_selectors(meaning: Meaning) -> Named
 
 /// A name without selectors.
 #[tactic(auto, unfolding(crate::specs::Names::begun))]
-pub fn name_meaning(table: &Table, name: &Identifier) -> Result<Designated, CheckFault>
+pub fn name_meaning(table: &ScopeTable, name: &Identifier) -> Result<DesignatedName, CheckFault>
     ensures { Judges (λ d. d) (spec.begun (scopes_of table.now) name.now) result }
 {
     let meaning = meaning_of(table, name.at, &name.name)?;
-    Ok(Designated {
+    Ok(DesignatedName {
         named: without_selectors(meaning),
         name_at: name.at,
         uses: Use::nothing(),
@@ -75,15 +75,15 @@ impl Named {
 
 /// A field of a record.
 fn field(
-    table: &Table,
+    table: &ScopeTable,
     name: &Identifier,
-    whole: Designated,
+    whole: DesignatedName,
     written: usize,
-) -> Result<Designated, CheckFault>
+) -> Result<DesignatedName, CheckFault>
     ensures { Judges (λ d. d) (spec.field (scopes_of table.now) name.now whole written) result }
 {
     match table.shapes().field(written, &name.name) {
-        Some(Meaning::Variable(value_type)) => Ok(Designated {
+        Some(Meaning::Variable(value_type)) => Ok(DesignatedName {
             named: whole.named.part(value_type),
             name_at: name.at,
             uses: whole.uses,
@@ -94,15 +94,15 @@ fn field(
 
 /// A routine of a component.
 fn entry(
-    table: &Table,
+    table: &ScopeTable,
     name: &Identifier,
-    whole: Designated,
+    whole: DesignatedName,
     system: usize,
-) -> Result<Designated, CheckFault>
+) -> Result<DesignatedName, CheckFault>
     ensures { Judges (λ d. d) (spec.entry (scopes_of table.now) name.now whole system) result }
 {
     match table.shapes().member(system, &name.name) {
-        Some(Meaning::Routine(at)) => Ok(Designated {
+        Some(Meaning::Routine(at)) => Ok(DesignatedName {
             named: Named::Entry(at),
             name_at: name.at,
             uses: whole.uses,
@@ -111,10 +111,10 @@ fn entry(
     }
 }
 
-fn nothing(at: usize, uses: Use) -> Designated
+fn nothing(at: usize, uses: Use) -> DesignatedName
     ensures { result ≡ spec.nothing at uses }
 {
-    Designated {
+    DesignatedName {
         named: Named::Nothing,
         name_at: at,
         uses,
@@ -123,10 +123,10 @@ fn nothing(at: usize, uses: Use) -> Designated
 
 /// What follows a period.
 pub fn member_of(
-    table: &Table,
+    table: &ScopeTable,
     name: &Identifier,
-    whole: Designated,
-) -> Result<Designated, CheckFault>
+    whole: DesignatedName,
+) -> Result<DesignatedName, CheckFault>
     ensures { Judges (λ d. d) (spec.selected (scopes_of table.now) name.now whole) result }
 {
     match whole.named.value_type() {
@@ -137,7 +137,7 @@ pub fn member_of(
 }
 
 /// An element of an array.
-fn element(table: &Table, whole: Designated, index: Operand, array: usize) -> Named
+fn element(table: &ScopeTable, whole: DesignatedName, index: Operand, array: usize) -> Named
     ensures { result ≡ spec.element (scopes_of table.now) whole index array }
 {
     match table.shapes().array(array) {
@@ -153,14 +153,14 @@ fn element(table: &Table, whole: Designated, index: Operand, array: usize) -> Na
 }
 
 /// What an index selects.
-pub fn element_of(table: &Table, whole: Designated, index: Operand) -> Designated
+pub fn element_of(table: &ScopeTable, whole: DesignatedName, index: Operand) -> DesignatedName
     ensures { result ≡ spec.indexed (scopes_of table.now) whole index }
 {
     let named = match whole.named.value_type() {
         Some(ValueType::Array(array)) => element(table, whole, index, array),
         _ => Named::Nothing,
     };
-    Designated {
+    DesignatedName {
         named,
         name_at: whole.name_at,
         uses: whole.uses.and(index.uses),
@@ -168,7 +168,7 @@ pub fn element_of(table: &Table, whole: Designated, index: Operand) -> Designate
 }
 
 /// The selectors fit what they select from.
-pub fn check_selectors(at: usize, designated: Designated) -> Result<Designated, CheckFault>
+pub fn check_selectors(at: usize, designated: DesignatedName) -> Result<DesignatedName, CheckFault>
     ensures { Judges (λ d. d) (spec.known at designated) result }
 {
     match designated.named {

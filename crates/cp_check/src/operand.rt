@@ -15,7 +15,7 @@ pub struct Context {
 
 /// How an operand may be used.
 #[derive(Clone, Copy)]
-pub enum Place {
+pub enum OperandUse {
     /// A value alone.
     Value,
     /// A name that is not assignable, with its selectors.
@@ -31,7 +31,7 @@ pub enum Place {
 pub struct Operand {
     pub at: usize,
     pub value_type: ValueType,
-    pub place: Place,
+    pub place: OperandUse,
     pub uses: Use,
 }
 
@@ -53,7 +53,7 @@ pub enum Named {
 
 /// A name with its selectors: what it stands for, where the last name stands, and what it takes.
 #[derive(Clone, Copy)]
-pub struct Designated {
+pub struct DesignatedName {
     pub named: Named,
     pub name_at: usize,
     pub uses: Use,
@@ -66,7 +66,7 @@ pub fn value(at: usize, value_type: ValueType, uses: Use) -> Operand
     Operand {
         at,
         value_type,
-        place: Place::Value,
+        place: OperandUse::Value,
         uses,
     }
 }
@@ -78,13 +78,13 @@ pub fn base_value(at: usize, base: Base, uses: Use) -> Operand
     value(at, values_of(base), uses)
 }
 
-impl Place {
+impl OperandUse {
     /// Whether a value can be assigned.
     pub fn is_assignable(self) -> bool
         ensures { result ≡ spec.is_assignable self }
     {
         match self {
-            Place::Assignable => true,
+            OperandUse::Assignable => true,
             _ => false,
         }
     }
@@ -94,7 +94,7 @@ impl Place {
         ensures { result ≡ spec.is_function self }
     {
         match self {
-            Place::Function => true,
+            OperandUse::Function => true,
             _ => false,
         }
     }
@@ -106,7 +106,7 @@ impl Operand {
         ensures { result ≡ spec.is_queue self }
     {
         match (self.value_type, self.place) {
-            (ValueType::Queue, Place::Fixed) => true,
+            (ValueType::Queue, OperandUse::Fixed) => true,
             _ => false,
         }
     }

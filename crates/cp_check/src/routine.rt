@@ -12,7 +12,7 @@ use crate::heading::{announce, heading};
 use crate::operand::Context;
 use crate::statement::statements;
 use crate::types::Spot;
-use cp_scope::{CheckFault, Shape, Table, Use, ValueType, plus};
+use cp_scope::{CheckFault, ScopeTable, TokenShape, Use, ValueType, plus};
 use cp_tree::{Routine, SystemKind};
 use std::alloc::Global;
 
@@ -42,7 +42,7 @@ fn routine_use(cells: u32, value_type: Option<ValueType>, uses: Use) -> Use
 #[tactic(auto, unfolding(crate::specs::Routines::opened), using(crate::proofs::Judging::first_append))]
 fn enter_routine(
     alloc: Global,
-    table: &mut Table,
+    table: &mut ScopeTable,
     owner: Option<SystemKind>,
     node: &Routine,
 ) -> Result<Use, CheckFault>
@@ -61,7 +61,7 @@ fn enter_routine(
 #[tactic(auto, unfolding(crate::specs::Routines::closed))]
 fn close_routine(
     alloc: Global,
-    table: &mut Table,
+    table: &mut ScopeTable,
     node: &Routine,
     value_type: Option<ValueType>,
     uses: Use,
@@ -71,7 +71,7 @@ fn close_routine(
 {
     let uses = routine_use(table.census().cells, value_type, uses);
     let _ = table.leave(alloc);
-    table.keep(node.body.at, Shape::Body(uses))?;
+    table.keep(node.body.at, TokenShape::Body(uses))?;
     table.settle();
     Ok(())
 }
@@ -79,7 +79,7 @@ fn close_routine(
 #[tactic(auto, unfolding(crate::specs::Routines::routine_step), using(crate::proofs::Judging::first_append))]
 fn routine(
     alloc: Global,
-    table: &mut Table,
+    table: &mut ScopeTable,
     owner: Option<SystemKind>,
     node: &Routine,
 ) -> Result<(), CheckFault>
@@ -96,7 +96,7 @@ fn routine(
 #[tactic(auto, using(crate::proofs::Routines::routines_passed, crate::proofs::Routines::routines_refused, crate::proofs::Routines::routines_none))]
 pub fn routines(
     alloc: Global,
-    table: &mut Table,
+    table: &mut ScopeTable,
     owner: Option<SystemKind>,
     nodes: &[Routine],
 ) -> Result<(), CheckFault>

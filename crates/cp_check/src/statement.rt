@@ -11,10 +11,10 @@ use crate::call::{check_arguments, check_routine_call, is_own, place_of, total_u
 use crate::case::{Label, check_case, labels};
 use crate::expression::{arguments, designator, expression};
 use crate::name::name_meaning;
-use crate::operand::{Context, Designated, Named, Operand};
+use crate::operand::{Context, DesignatedName, Named, Operand};
 use crate::operation::is_function;
 use cp_scope::{
-    Base, CheckFault, Parameter, Predeclared, Rule, Table, Use, ValueType, broken, values_of,
+    Base, CheckFault, Parameter, Predeclared, Rule, ScopeTable, Use, ValueType, broken, values_of,
 };
 use cp_tree::{
     Arm, Designator, Expression, Identifier, Start, Statement, StatementKind, SystemKind,
@@ -33,7 +33,7 @@ pub enum Target {
 }
 
 /// What a function's name on the left stands for.
-fn function_target(table: &Table, context: Context, routine: usize, is_local: bool) -> Target
+fn function_target(table: &ScopeTable, context: Context, routine: usize, is_local: bool) -> Target
     ensures { result ≡ spec.function_target (scopes_of table.now) context routine is_local }
 {
     match table.shapes().result(routine) {
@@ -49,7 +49,7 @@ fn function_target(table: &Table, context: Context, routine: usize, is_local: bo
 }
 
 /// What a name on the left stands for.
-fn target_of(table: &Table, context: Context, named: Named) -> Target
+fn target_of(table: &ScopeTable, context: Context, named: Named) -> Target
     ensures { result ≡ spec.target_of (scopes_of table.now) context named }
 {
     match named {
@@ -112,7 +112,7 @@ fn check_assignment(at: usize, target: Target, value: Operand, uses: Use) -> Res
 #[tactic(auto, unfolding(crate::specs::Statements::assignment))]
 fn assignment(
     alloc: Global,
-    table: &Table,
+    table: &ScopeTable,
     context: Context,
     at: usize,
     left: &Designator,
@@ -127,7 +127,7 @@ fn assignment(
 }
 
 /// Whether `delay` or `continue` may stand here.
-fn may_wait(table: &Table, context: Context, routine: Predeclared) -> bool
+fn may_wait(table: &ScopeTable, context: Context, routine: Predeclared) -> bool
     ensures { result ≡ spec.may_wait (scopes_of table.now) context routine }
 {
     match (context.owner, context.routine) {
@@ -157,7 +157,7 @@ fn check_queue(at: usize, operands: &[Operand]) -> Result<(), CheckFault>
 
 /// A process waits only where it may.
 fn check_wait_place(
-    table: &Table,
+    table: &ScopeTable,
     context: Context,
     at: usize,
     routine: Predeclared,
@@ -190,7 +190,7 @@ fn check_display(at: usize, operands: &[Operand]) -> Result<(), CheckFault>
 /// The rules of `delay` and `continue`.
 #[tactic(auto, using(crate::proofs::Judging::first_append))]
 fn check_wait(
-    table: &Table,
+    table: &ScopeTable,
     context: Context,
     at: usize,
     routine: Predeclared,
@@ -204,7 +204,7 @@ fn check_wait(
 
 /// A call of a predeclared routine as a statement.
 fn check_standard_call(
-    table: &Table,
+    table: &ScopeTable,
     context: Context,
     at: usize,
     routine: Predeclared,
@@ -237,7 +237,7 @@ fn check_standard_call(
 /// A call of a routine as a statement.
 #[tactic(auto, unfolding(crate::specs::Statements::procedure_called))]
 fn check_procedure_call(
-    table: &Table,
+    table: &ScopeTable,
     context: Context,
     at: usize,
     name_at: usize,
@@ -259,10 +259,10 @@ fn check_procedure_call(
 /// The rules of a call statement itself.
 #[tactic(auto, unfolding(crate::specs::Statements::invoked))]
 fn check_call(
-    table: &Table,
+    table: &ScopeTable,
     context: Context,
     at: usize,
-    name: Designated,
+    name: DesignatedName,
     operands: &[Operand],
 ) -> Result<Use, CheckFault>
     ensures { Judges (λ u. u) (spec.invoked (scopes_of table.now) context at (name, operands.now)) result }
@@ -298,7 +298,7 @@ fn check_call(
 }
 
 /// The parameters of what is called, where as many arguments stand.
-fn parameters_of(table: &Table, named: Named, number: usize) -> &[Parameter]
+fn parameters_of(table: &ScopeTable, named: Named, number: usize) -> &[Parameter]
     ensures { result.now ≡ spec.parameters_of (scopes_of table.now) named number }
 {
     match named {
@@ -309,7 +309,7 @@ fn parameters_of(table: &Table, named: Named, number: usize) -> &[Parameter]
 }
 
 /// The parameters of a procedure, where as many arguments stand.
-fn procedure_parameters(table: &Table, routine: usize, number: usize) -> &[Parameter]
+fn procedure_parameters(table: &ScopeTable, routine: usize, number: usize) -> &[Parameter]
     ensures { result.now ≡ spec.procedure_parameters (scopes_of table.now) routine number }
 {
     let parameters = table.shapes().parameters(routine);
@@ -328,7 +328,7 @@ fn procedure_parameters(table: &Table, routine: usize, number: usize) -> &[Param
 #[tactic(auto, unfolding(crate::specs::Statements::call), using(crate::proofs::Statements::number_is))]
 fn call(
     alloc: Global,
-    table: &Table,
+    table: &ScopeTable,
     context: Context,
     at: usize,
     target: &Designator,
@@ -400,9 +400,9 @@ fn check_for(
 /// A start of a component variable.
 #[tactic(auto, unfolding(crate::specs::Statements::started), using(crate::proofs::Judging::first_append))]
 fn check_start(
-    table: &Table,
+    table: &ScopeTable,
     at: usize,
-    name: Designated,
+    name: DesignatedName,
     operands: &[Operand],
 ) -> Result<Use, CheckFault>
     ensures { Judges (λ u. u) (spec.started (scopes_of table.now) at (name, operands.now)) result }
@@ -426,7 +426,12 @@ fn check_start(
 }
 
 #[tactic(auto, unfolding(crate::specs::Statements::start))]
-fn start(alloc: Global, table: &Table, context: Context, node: &Start) -> Result<Use, CheckFault>
+fn start(
+    alloc: Global,
+    table: &ScopeTable,
+    context: Context,
+    node: &Start,
+) -> Result<Use, CheckFault>
     ensures { Judges (λ u. u) (spec.start (scopes_of table.now) context (start_view node.now)) result }
 {
     let name = designator(alloc, table, context, &node.target)?;
@@ -437,7 +442,7 @@ fn start(alloc: Global, table: &Table, context: Context, node: &Start) -> Result
 #[tactic(auto, using(crate::proofs::Statements::starts_passed, crate::proofs::Statements::starts_refused, crate::proofs::Statements::starts_none))]
 fn starts(
     alloc: Global,
-    table: &Table,
+    table: &ScopeTable,
     context: Context,
     nodes: &[Start],
 ) -> Result<Use, CheckFault>
@@ -464,7 +469,7 @@ fn check_init(at: usize, context: Context, uses: Use) -> Result<Use, CheckFault>
 #[tactic(auto, unfolding(crate::specs::Statements::statement), using(crate::proofs::Judging::refuses_both, crate::proofs::Branches::else_first, crate::proofs::Branches::else_second))]
 fn statement(
     alloc: Global,
-    table: &Table,
+    table: &ScopeTable,
     context: Context,
     node: &Statement,
 ) -> Result<Use, CheckFault>
@@ -525,7 +530,7 @@ fn statement(
 #[tactic(auto, unfolding(crate::specs::Statements::labelled))]
 fn arm(
     alloc: Global,
-    table: &Table,
+    table: &ScopeTable,
     context: Context,
     node: &Arm,
 ) -> Result<(Vec<Label>, Use), CheckFault>
@@ -541,7 +546,7 @@ fn arm(
 #[tactic(auto, using(crate::proofs::Arms::arms_passed, crate::proofs::Arms::arms_refused, crate::proofs::Arms::arms_none))]
 fn arms(
     alloc: Global,
-    table: &Table,
+    table: &ScopeTable,
     context: Context,
     nodes: &[Arm],
 ) -> Result<(Vec<Label>, Use), CheckFault>
@@ -562,7 +567,7 @@ fn arms(
 #[tactic(auto, using(crate::proofs::Statements::statements_passed, crate::proofs::Statements::statements_refused, crate::proofs::Statements::statements_none))]
 pub fn statements(
     alloc: Global,
-    table: &Table,
+    table: &ScopeTable,
     context: Context,
     nodes: &[Statement],
 ) -> Result<Use, CheckFault>

@@ -14,7 +14,9 @@ use crate::operand::Context;
 use crate::routine::{need_of, routines};
 use crate::statement::statements;
 use crate::types::{Holding, Spot, held_by, type_named, type_of};
-use cp_scope::{CheckFault, Heading, Meaning, Rule, Shape, Table, Use, ValueType, broken};
+use cp_scope::{
+    CheckFault, Heading, Meaning, Rule, ScopeTable, TokenShape, Use, ValueType, broken,
+};
 use cp_tree::{
     Definition, Group, ProgramPart, ProgramPartKind, System, SystemDefinition, SystemKind,
 };
@@ -46,7 +48,11 @@ fn check_parameter_type(
 }
 
 #[tactic(auto, unfolding(crate::specs::Systems::parameter_type))]
-fn parameter_type(table: &Table, owner: SystemKind, node: &Group) -> Result<ValueType, CheckFault>
+fn parameter_type(
+    table: &ScopeTable,
+    owner: SystemKind,
+    node: &Group,
+) -> Result<ValueType, CheckFault>
     ensures { Judges (λ t. t) (spec.parameter_type owner (scopes_of table.now) (group_view node.now)) result }
 {
     let at = node.type_name.at;
@@ -57,7 +63,7 @@ fn parameter_type(table: &Table, owner: SystemKind, node: &Group) -> Result<Valu
 #[tactic(auto, unfolding(crate::specs::Systems::group_step), using(crate::proofs::Judging::first_append))]
 fn group(
     alloc: Global,
-    table: &mut Table,
+    table: &mut ScopeTable,
     owner: SystemKind,
     node: &Group,
 ) -> Result<(), CheckFault>
@@ -73,7 +79,7 @@ fn group(
 #[tactic(auto, using(crate::proofs::Systems::groups_passed, crate::proofs::Systems::groups_refused, crate::proofs::Systems::groups_none))]
 fn groups(
     alloc: Global,
-    table: &mut Table,
+    table: &mut ScopeTable,
     owner: SystemKind,
     nodes: &[Group],
 ) -> Result<(), CheckFault>
@@ -88,7 +94,7 @@ fn groups(
 
 /// The declarations of a system type.
 #[tactic(auto, unfolding(crate::specs::Systems::inside), using(crate::proofs::Judging::first_append))]
-fn inside(alloc: Global, table: &mut Table, node: &System) -> Result<(), CheckFault>
+fn inside(alloc: Global, table: &mut ScopeTable, node: &System) -> Result<(), CheckFault>
     ensures faults { Finds (spec.inside (scopes_of table.old) (system_view node.now)).faults result }
     ensures scopes { OnOk result (scopes_of table.new ≡ (spec.inside (scopes_of table.old) (system_view node.now)).scopes) }
 {
@@ -99,7 +105,7 @@ fn inside(alloc: Global, table: &mut Table, node: &System) -> Result<(), CheckFa
 
 /// A system type in a scope of its own.
 #[tactic(auto, unfolding(crate::specs::Systems::opened), using(crate::proofs::Judging::first_append))]
-fn enter_system(alloc: Global, table: &mut Table, node: &System) -> Result<Use, CheckFault>
+fn enter_system(alloc: Global, table: &mut ScopeTable, node: &System) -> Result<Use, CheckFault>
     ensures judged { Judges (λ u. u) (spec.opened (scopes_of table.old) (system_view node.now)).uses result }
     ensures scopes { OnOk result (scopes_of table.new ≡ (spec.opened (scopes_of table.old) (system_view node.now)).scopes) }
 {
@@ -113,7 +119,12 @@ fn enter_system(alloc: Global, table: &mut Table, node: &System) -> Result<Use, 
 
 /// A system type is closed.
 #[tactic(auto, unfolding(crate::specs::Systems::closed))]
-fn close_system(alloc: Global, table: &mut Table, at: usize, uses: Use) -> Result<(), CheckFault>
+fn close_system(
+    alloc: Global,
+    table: &mut ScopeTable,
+    at: usize,
+    uses: Use,
+) -> Result<(), CheckFault>
     ensures ok { OnOk result (scopes_of table.new ≡ spec.closed (scopes_of table.old) at uses) }
     ensures memory { IfErr result (λ e. e ≡ check_fault.Memory) }
 {
@@ -124,12 +135,15 @@ fn close_system(alloc: Global, table: &mut Table, at: usize, uses: Use) -> Resul
     };
     let census = table.census();
     let members = table.leave(alloc);
-    table.keep(at, Shape::System(members, heading, census, need_of(uses)))
+    table.keep(
+        at,
+        TokenShape::System(members, heading, census, need_of(uses)),
+    )
 }
 
 /// A system type; the variables around it are not visible in it.
 #[tactic(auto, unfolding(crate::specs::Systems::system_typed))]
-fn system(alloc: Global, table: &mut Table, node: &System) -> Result<ValueType, CheckFault>
+fn system(alloc: Global, table: &mut ScopeTable, node: &System) -> Result<ValueType, CheckFault>
     ensures judged { Judges (λ t. t) (spec.system_typed (scopes_of table.old) (system_view node.now)).type result }
     ensures scopes { OnOk result (scopes_of table.new ≡ (spec.system_typed (scopes_of table.old) (system_view node.now)).scopes) }
 {
@@ -142,7 +156,7 @@ fn system(alloc: Global, table: &mut Table, node: &System) -> Result<ValueType, 
 #[tactic(auto, unfolding(crate::specs::Systems::defined))]
 fn type_of_definition(
     alloc: Global,
-    table: &mut Table,
+    table: &mut ScopeTable,
     node: &Definition,
 ) -> Result<ValueType, CheckFault>
     ensures judged { Judges (λ t. t) (spec.defined (scopes_of table.old) (definition_view node.now)).type result }
@@ -155,7 +169,11 @@ fn type_of_definition(
 }
 
 #[tactic(auto, unfolding(crate::specs::Systems::definition_step), using(crate::proofs::Judging::first_append))]
-fn definition(alloc: Global, table: &mut Table, node: &SystemDefinition) -> Result<(), CheckFault>
+fn definition(
+    alloc: Global,
+    table: &mut ScopeTable,
+    node: &SystemDefinition,
+) -> Result<(), CheckFault>
     ensures faults { Finds (spec.definition_step (scopes_of table.old) (system_definition_view node.now)).faults result }
     ensures scopes { OnOk result (scopes_of table.new ≡ (spec.definition_step (scopes_of table.old) (system_definition_view node.now)).scopes) }
 {
@@ -167,7 +185,7 @@ fn definition(alloc: Global, table: &mut Table, node: &SystemDefinition) -> Resu
 #[tactic(auto, using(crate::proofs::Systems::definitions_passed, crate::proofs::Systems::definitions_refused, crate::proofs::Systems::definitions_none))]
 fn definitions(
     alloc: Global,
-    table: &mut Table,
+    table: &mut ScopeTable,
     nodes: &[SystemDefinition],
 ) -> Result<(), CheckFault>
     ensures faults { Finds (spec.definition_steps (scopes_of table.old) (map system_definition_view nodes.now)).faults result }
@@ -180,7 +198,7 @@ fn definitions(
 }
 
 #[tactic(auto, unfolding(crate::specs::Systems::program_part_step))]
-fn program_part(alloc: Global, table: &mut Table, node: &ProgramPart) -> Result<(), CheckFault>
+fn program_part(alloc: Global, table: &mut ScopeTable, node: &ProgramPart) -> Result<(), CheckFault>
     ensures faults { Finds (spec.program_part_step (scopes_of table.old) (program_part_view node.now)).faults result }
     ensures scopes { OnOk result (scopes_of table.new ≡ (spec.program_part_step (scopes_of table.old) (program_part_view node.now)).scopes) }
 {
@@ -197,7 +215,7 @@ fn program_part(alloc: Global, table: &mut Table, node: &ProgramPart) -> Result<
 #[tactic(auto, using(crate::proofs::Systems::parts_passed, crate::proofs::Systems::parts_refused, crate::proofs::Systems::parts_none))]
 pub fn program_parts(
     alloc: Global,
-    table: &mut Table,
+    table: &mut ScopeTable,
     nodes: &[ProgramPart],
 ) -> Result<(), CheckFault>
     ensures faults { Finds (spec.program_part_steps (scopes_of table.old) (map program_part_view nodes.now)).faults result }

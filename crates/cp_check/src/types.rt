@@ -7,12 +7,12 @@ ghost use Rattle.cp_scope.specs.View.{scope_of, scopes_of, shape_view};
 ghost use Rattle.cp_tree.specs.View.{type_view, simple_view, field_group_view, field_groups_of, field_groups_view};
 ghost use Rattle.cp_check.specs.Types as spec;
 
-use crate::constant::{Number, constant};
+use crate::constant::{ConstantNumber, constant};
 use crate::name::meaning_of;
 use crate::record::{add_fields, reserve_fields};
 use cp_scope::{
-    ArrayShape, Base, CheckFault, Meaning, Range, Rule, Scope, Shape, Table, ValueType, broken,
-    times,
+    ArrayShape, Base, CheckFault, Meaning, Range, Rule, Scope, ScopeTable, TokenShape, ValueType,
+    broken, times,
 };
 use cp_text::Name;
 use cp_tree::{FieldGroup, Identifier, Simple, SimpleKind, SystemKind, Type, TypeKind};
@@ -43,7 +43,7 @@ pub enum Holding {
 }
 
 /// What queues and components a type holds.
-pub fn held_by(table: &Table, value_type: ValueType) -> Holding
+pub fn held_by(table: &ScopeTable, value_type: ValueType) -> Holding
     ensures { result ≡ spec.holding (scopes_of table.now) value_type }
 {
     match value_type {
@@ -170,7 +170,7 @@ fn check_spot(
 
 /// The type of a name.
 #[tactic(auto, unfolding(crate::specs::Types::type_named))]
-pub fn type_named(table: &Table, at: usize, name: &Name) -> Result<ValueType, CheckFault>
+pub fn type_named(table: &ScopeTable, at: usize, name: &Name) -> Result<ValueType, CheckFault>
     ensures { Judges (λ t. t) (spec.type_named (scopes_of table.now) at name.now) result }
 {
     match meaning_of(table, at, name)? {
@@ -182,7 +182,7 @@ pub fn type_named(table: &Table, at: usize, name: &Name) -> Result<ValueType, Ch
 /// The type of a name where it stands at a spot.
 #[tactic(auto, unfolding(crate::specs::Types::type_spotted))]
 pub fn type_at_spot(
-    table: &Table,
+    table: &ScopeTable,
     spot: Spot,
     at: usize,
     name: &Name,
@@ -194,7 +194,11 @@ pub fn type_at_spot(
 }
 
 /// A subrange.
-fn subrange_type(at: usize, low: Number, high: Number) -> Result<ValueType, CheckFault>
+fn subrange_type(
+    at: usize,
+    low: ConstantNumber,
+    high: ConstantNumber,
+) -> Result<ValueType, CheckFault>
     ensures { Judges (λ t. t) (spec.ranged at (low, high)) result }
 {
     if !low.base.is_same(high.base) {
@@ -214,7 +218,7 @@ fn subrange_type(at: usize, low: Number, high: Number) -> Result<ValueType, Chec
 #[tactic(auto, unfolding(crate::specs::Types::member))]
 fn member(
     alloc: Global,
-    table: &mut Table,
+    table: &mut ScopeTable,
     base: Base,
     number: usize,
     node: &Identifier,
@@ -237,7 +241,7 @@ fn member(
 #[tactic(auto, using(crate::proofs::Members::members_passed, crate::proofs::Members::members_refused, crate::proofs::Members::members_none))]
 fn members(
     alloc: Global,
-    table: &mut Table,
+    table: &mut ScopeTable,
     base: Base,
     nodes: &[Identifier],
 ) -> Result<(), CheckFault>
@@ -255,7 +259,7 @@ fn members(
 #[tactic(auto, unfolding(crate::specs::Types::simple_typed), using(crate::proofs::Judging::first_append))]
 fn simple(
     alloc: Global,
-    table: &mut Table,
+    table: &mut ScopeTable,
     spot: Spot,
     node: &Simple,
 ) -> Result<ValueType, CheckFault>
@@ -306,7 +310,7 @@ fn check_cells(at: usize, cells: u32) -> Result<(), CheckFault>
 /// The rules of an array type itself.
 #[tactic(auto, unfolding(crate::specs::Types::arrayed), using(crate::proofs::Judging::refuses_bind))]
 fn array_type(
-    table: &Table,
+    table: &ScopeTable,
     spot: Spot,
     at: usize,
     index: ValueType,
@@ -350,7 +354,7 @@ fn set_of(at: usize, base_at: usize, base: ValueType) -> Result<ValueType, Check
 #[tactic(auto, unfolding(crate::specs::Types::group_typed), using(crate::proofs::Judging::first_append))]
 fn field_group(
     alloc: Global,
-    table: &mut Table,
+    table: &mut ScopeTable,
     fields: &mut Scope,
     node: &FieldGroup,
 ) -> Result<(), CheckFault>
@@ -368,7 +372,7 @@ fn field_group(
 #[tactic(auto, using(crate::proofs::Fields::groups_passed, crate::proofs::Fields::groups_refused, crate::proofs::Fields::groups_none))]
 fn field_groups(
     alloc: Global,
-    table: &mut Table,
+    table: &mut ScopeTable,
     fields: &mut Scope,
     nodes: &[FieldGroup],
 ) -> Result<(), CheckFault>
@@ -387,10 +391,10 @@ fn field_groups(
 #[tactic(auto, using(crate::proofs::Fields::sound_refuses))]
 fn record(
     alloc: Global,
-    table: &mut Table,
+    table: &mut ScopeTable,
     at: usize,
     nodes: &[FieldGroup],
-) -> Result<Shape, CheckFault>
+) -> Result<TokenShape, CheckFault>
     ensures judged { Judges shape_view (spec.recorded at (spec.groups_typed new_scope (scopes_of table.old) (field_groups_of (field_groups_view nodes.now)))) result }
     ensures scopes { OnOk result (scopes_of table.new ≡ (spec.groups_typed new_scope (scopes_of table.old) (field_groups_of (field_groups_view nodes.now))).scopes) }
 {
@@ -398,7 +402,7 @@ fn record(
     field_groups(alloc, table, &mut fields, nodes)?;
     let cells = fields.census(table.shapes()).cells;
     check_cells(at, cells)?;
-    Ok(Shape::Record(fields, cells))
+    Ok(TokenShape::Record(fields, cells))
 }
 
 /// A type.
@@ -406,7 +410,7 @@ fn record(
 #[tactic(auto, unfolding(crate::specs::Types::typed))]
 pub fn type_of(
     alloc: Global,
-    table: &mut Table,
+    table: &mut ScopeTable,
     spot: Spot,
     node: &Type,
 ) -> Result<ValueType, CheckFault>
@@ -420,7 +424,7 @@ pub fn type_of(
             let index = simple(alloc, table, Spot::Other, index)?;
             let element = type_of(alloc, table, Spot::Element, element)?;
             let shape = array_type(table, spot, at, index, element)?;
-            table.keep(at, Shape::Array(shape))?;
+            table.keep(at, TokenShape::Array(shape))?;
             Ok(ValueType::Array(at))
         }
         TypeKind::Set(base) => {

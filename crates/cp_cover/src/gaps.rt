@@ -7,7 +7,7 @@ use crate::mark::CoverMark;
 use crate::marks::Marks;
 use crate::search::Coverage;
 use crate::statements::statements;
-use cp_legend::{Component, Legend};
+use cp_legend::{Legend, LegendComponent};
 use cp_slots::{ComponentKind, Resolved};
 use std::alloc::{AllocError, Global};
 
@@ -60,7 +60,7 @@ impl Gaps {
         &mut self,
         alloc: Global,
         legend: &Legend,
-        component: &Component,
+        component: &LegendComponent,
         marks: &Marks,
     ) -> Result<(), AllocError> {
         for variable in legend.variables_of(component) {
@@ -87,7 +87,7 @@ impl Gaps {
         program: &Resolved,
         legend: &Legend,
         entries: &Entries,
-        component: &Component,
+        component: &LegendComponent,
         marks: &Marks,
     ) -> Result<(), AllocError> {
         let ComponentKind::Monitor(monitor) = component.kind else {
@@ -110,6 +110,10 @@ impl Gaps {
 }
 
 // A name with that of its component before it.
-fn qualified_name(alloc: Global, component: &Component, name: &str) -> Result<String, AllocError> {
+fn qualified_name(
+    alloc: Global,
+    component: &LegendComponent,
+    name: &str,
+) -> Result<String, AllocError> {
     format!(in alloc; "{}.{name}", component.path.as_str())
 }

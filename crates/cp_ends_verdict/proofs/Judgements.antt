@@ -29,10 +29,10 @@ use Rattle.cp_ends_verdict.specs.Knowledge.{HasNoCut, IsKnown, KnowsWaits, Looke
 use Rattle.cp_ends_verdict.specs.declared.expectation.EndPattern.{EndPattern}
 use Rattle.cp_ends_verdict.specs.declared.expectation.Topic.{Topic}
 use Rattle.cp_ends_verdict.specs.declared.expectation.Topic.TheVariants as topic
-use Rattle.cp_ends_verdict.specs.declared.expectation.Expectation.{Expectation}
-use Rattle.cp_ends_verdict.specs.declared.expectation.Expectation.TheVariants.{Never, Sometimes, Only}
-use Rattle.cp_ends_verdict.specs.declared.judging.Judgement.{Judgement}
-use Rattle.cp_ends_verdict.specs.declared.known.Known.{Known}
+use Rattle.cp_ends_verdict.specs.declared.expectation.EndsExpectation.{EndsExpectation}
+use Rattle.cp_ends_verdict.specs.declared.expectation.EndsExpectation.TheVariants.{Never, Sometimes, Only}
+use Rattle.cp_ends_verdict.specs.declared.judging.EndsJudgement.{EndsJudgement}
+use Rattle.cp_ends_verdict.specs.declared.known.KnownEnds.{KnownEnds}
 use Rattle.cp_ends_verdict.specs.declared.known.KnownEnd.{KnownEnd}
 use Rattle.cp_ends_verdict.specs.declared.known.Witness.{Witness}
 use Rattle.cp_ends_verdict.proofs.Finding.{all_pass, at_map, find_same, found_at, found_none, map_at}
@@ -92,7 +92,7 @@ pair_none {A} f t (x ∷ xs) e = split (t (f x)) e (λ h. pair_none f t xs h)
     split true e on = absurd (cc)
     split false e on = on e
 
-module _ (r : Tables) (gates : Gates) (steps most : ℕ) (k : Known) (h : IsKnown r gates steps most k) where
+module _ (r : Tables) (gates : Gates) (steps most : ℕ) (k : KnownEnds) (h : IsKnown r gates steps most k) where
   abbrev b : Behaviour
   b = on_slots r gates steps
 
@@ -239,28 +239,28 @@ module _ (r : Tables) (gates : Gates) (steps most : ℕ) (k : Known) (h : IsKnow
 
   -- ---- expectations
 
-  settled_first : (x : Expectation) (f : Finding) → find (settles r.names x) (speaks_of x k) ≡ Some f → IsFirstAbout (settles r.names x) f
+  settled_first : (x : EndsExpectation) (f : Finding) → find (settles r.names x) (speaks_of x k) ≡ Some f → IsFirstAbout (settles r.names x) f
   settled_first (Never t) f e = about_first t f e
   settled_first (Sometimes t) f e = about_first t f e
   settled_first (Only ps) f e = ends_about (is_other ps.items) (settles r.names (Only ps)) (λ x. refl) (other_only r.names ps) f e
 
-  settled_none : (x : Expectation) → is_settled x k ≡ true → find (settles r.names x) (speaks_of x k) ≡ None → NoneIs (settles r.names x)
+  settled_none : (x : EndsExpectation) → is_settled x k ≡ true → find (settles r.names x) (speaks_of x k) ≡ None → NoneIs (settles r.names x)
   settled_none (Never t) s e = about_none t s e
   settled_none (Sometimes t) s e = about_none t s e
   settled_none (Only ps) s e = ends_not (is_other ps.items) (settles r.names (Only ps)) (λ x. refl) (other_only r.names ps) s e
 
   -- nothing forbids it
-  true_none : (x : Expectation) → asks_some x ≡ false → NoneIs (settles r.names x) → IsTrue r.names b x
+  true_none : (x : EndsExpectation) → asks_some x ≡ false → NoneIs (settles r.names x) → IsTrue r.names b x
   true_none (Never t) a none = λ s. none s.0 s.1 s.2
   true_none (Sometimes t) a none = absurd (cc)
   true_none (Only ps) a none = λ s. none s.0 s.1 s.2
 
-  true_some : (x : Expectation) (f : Finding) → asks_some x ≡ true → IsFirstAbout (settles r.names x) f → IsTrue r.names b x
+  true_some : (x : EndsExpectation) (f : Finding) → asks_some x ≡ true → IsFirstAbout (settles r.names x) f → IsTrue r.names b x
   true_some (Never t) f a first = absurd (cc)
   true_some (Sometimes t) f a first = (f, first.0, first.1)
   true_some (Only ps) f a first = absurd (cc)
 
-  module _ (x : Expectation) where
+  module _ (x : EndsExpectation) where
     by : (asks : Bool) (found : Option Witness) (settled : Bool) → asks_some x ≡ asks → option_map finding_of found ≡ find (settles r.names x) (speaks_of x k) → is_settled x k ≡ settled → IsJudged r.names b k x (judgement_of asks found settled)
     by true (Some w) settled a here s = (true_some x (finding_of w) a (settled_first x (finding_of w) (sym here)), inl a)
     by true None true a here s = (a, λ y. settled_none x s (sym here) y.0 y.1 y.2, s)
@@ -269,5 +269,5 @@ module _ (r : Tables) (gates : Gates) (steps most : ℕ) (k : Known) (h : IsKnow
     by false None true a here s = (true_none x a (settled_none x s (sym here)), inr s)
     by false None false a here s = (sym here, s)
 
-    pub judged : (j : Judgement) (found : Option Witness) (settled : Bool) → option_map finding_of found ≡ find (settles r.names x) (speaks_of x k) → settled ≡ is_settled x k → j ≡ judgement_of (asks_some x) found settled → IsJudged r.names b k x j
+    pub judged : (j : EndsJudgement) (found : Option Witness) (settled : Bool) → option_map finding_of found ≡ find (settles r.names x) (speaks_of x k) → settled ≡ is_settled x k → j ≡ judgement_of (asks_some x) found settled → IsJudged r.names b k x j
     judged j found settled here s is = subst (IsJudged r.names b k x) (sym is) (by (asks_some x) found settled refl here (sym s))

@@ -30,7 +30,7 @@ use Rattle.cp_at_once.specs.declared.found.ValueAtOnce.{ValueAtOnce}
 use Rattle.cp_ends_verdict.specs.AtOnce.{IsKnownAtOnce, knows_end, knows_value}
 use Rattle.cp_ends_verdict.specs.Expectations.{is_cut}
 use Rattle.cp_ends_verdict.specs.Knowledge.{HasTexts, end_pair, is_whole, value_pair}
-use Rattle.cp_ends_verdict.specs.declared.known.Known.{Known}
+use Rattle.cp_ends_verdict.specs.declared.known.KnownEnds.{KnownEnds}
 use Rattle.cp_ends_verdict.specs.declared.known.KnownEnd.{KnownEnd}
 use Rattle.cp_ends_verdict.specs.declared.known.KnownValue.{KnownValue}
 use Rattle.cp_ends_verdict.proofs.Judgements.{both}
@@ -140,10 +140,10 @@ more_known t known known' alone alone' spins spins' told told' k a s v h =
     }
 
 -- the words are so
-abbrev pub IsKnownWords : Tables → ℕ → Known → Type 0
+abbrev pub IsKnownWords : Tables → ℕ → KnownEnds → Type 0
 IsKnownWords r steps k = All (λ x. EndsSo (silent_slots r First) steps x.0 x.1) (map end_pair k.ends.items) × All (λ x. ShowsSo (slots r First) without_output steps x.0 x.1) (map value_pair k.values.items)
 
-module _ (found : FoundAtOnce) (k : Known) (ends : map (λ e. e.end) k.ends.items ≡ map (λ e. e.end) found.ends.items) (values : map (λ v. v.value) k.values.items ≡ map (λ v. v.value) found.values.items) where
+module _ (found : FoundAtOnce) (k : KnownEnds) (ends : map (λ e. e.end) k.ends.items ≡ map (λ e. e.end) found.ends.items) (values : map (λ v. v.value) k.values.items ≡ map (λ v. v.value) found.values.items) where
   same_end : (e : End) → found_spec.knows_end found e ≡ knows_end k e
   same_end e =
       sym (any_map (λ (x : EndAtOnce). x.end) (λ x. ends_tests.end x e) found.ends.items) ∙ ap (list_any (λ x. ends_tests.end x e)) (sym ends) ∙ any_map (λ (x : KnownEnd). x.end) (λ x. ends_tests.end x e) k.ends.items

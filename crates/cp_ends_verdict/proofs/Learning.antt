@@ -24,7 +24,7 @@ use Rattle.cp_states.specs.declared.row.StateRow.{StateRow}
 use Rattle.cp_ends.proofs.Keeping.{no_state}
 use Rattle.cp_ends_verdict.specs.Behaviour.{on_slots}
 use Rattle.cp_ends_verdict.specs.Knowledge.{HasMore, HasTexts, IsKnown, IsLookedAt, KnowsWaits, Looked, end_pair, is_looked_at, those_looked_at, value_pair}
-use Rattle.cp_ends_verdict.specs.declared.known.Known.{Known}
+use Rattle.cp_ends_verdict.specs.declared.known.KnownEnds.{KnownEnds}
 use Rattle.cp_ends_verdict.proofs.Finding.{at_map}
 
 -- ---- the word of a state
@@ -114,7 +114,7 @@ those_all : {A : Type 0} (xs : List (A × List ℕ)) → those_looked_at None xs
 those_all [] = refl
 those_all (x ∷ xs) = ap (λ l. x ∷ l) (those_all xs)
 
-module _ (r : Tables) (gates : Gates) (steps most : ℕ) (found : Found) (k : Known) where
+module _ (r : Tables) (gates : Gates) (steps most : ℕ) (found : Found) (k : KnownEnds) where
   module _ (f : SlotFindings) (ends : map end_pair k.ends.items ≡ those_looked_at k.looked f.ends) (values : map value_pair k.values.items ≡ those_looked_at k.looked f.values) (texts : HasTexts r.names k.values.items) (waits : KnowsWaits r gates steps k.waits) where
     whole : k.looked ≡ None → IsWhole (slots r gates) without_output steps most f → IsKnown r gates steps most k
     whole is w =

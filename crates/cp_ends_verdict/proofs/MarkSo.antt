@@ -7,15 +7,15 @@ use Rattle.cp_machine.specs.declared.gates.Gates.{Gates}
 use Rattle.cp_ends_verdict.specs.Behaviour.{on_slots}
 use Rattle.cp_ends_verdict.specs.Knowledge.{IsKnown}
 use Rattle.cp_ends_verdict.specs.Marked.{IsMarked, IsMarkOf, IsMeantMark, mark_of}
-use Rattle.cp_ends_verdict.specs.declared.expectation.Expectation.{Expectation}
-use Rattle.cp_ends_verdict.specs.declared.known.Known.{Known}
-use Rattle.cp_ends_verdict.specs.declared.saying.Marked.{Marked}
-use Rattle.cp_ends_verdict.specs.declared.verdict.Verdict.{Verdict}
+use Rattle.cp_ends_verdict.specs.declared.expectation.EndsExpectation.{EndsExpectation}
+use Rattle.cp_ends_verdict.specs.declared.known.KnownEnds.{KnownEnds}
+use Rattle.cp_ends_verdict.specs.declared.saying.MarkedEnds.{MarkedEnds}
+use Rattle.cp_ends_verdict.specs.declared.verdict.EndsVerdict.{EndsVerdict}
 use Rattle.cp_ends_verdict.proofs.MeantMarks.{meant}
 
-module _ {E : Type 0} (r : Tables) (gates : Gates) (steps most : ℕ) (es : List Expectation) (k : Known) (is_known : IsKnown r gates steps most k) (v : Verdict) (marked : IsMarked r.names (on_slots r gates steps) k es v) where
-  pub marked_so : (told : Result Marked E) → IfOk told (λ m. m.mark ≡ mark_of v k.looked) → IfOk told (λ m. IsMarkOf r gates steps most es m.mark)
+module _ {E : Type 0} (r : Tables) (gates : Gates) (steps most : ℕ) (es : List EndsExpectation) (k : KnownEnds) (is_known : IsKnown r gates steps most k) (v : EndsVerdict) (marked : IsMarked r.names (on_slots r gates steps) k es v) where
+  pub marked_so : (told : Result MarkedEnds E) → IfOk told (λ m. m.mark ≡ mark_of v k.looked) → IfOk told (λ m. IsMarkOf r gates steps most es m.mark)
   marked_so told h = IfOk-weaker told (λ m. m.mark ≡ mark_of v k.looked) (λ m. IsMarkOf r gates steps most es m.mark) (λ m is. record { known = k; is_known = is_known; verdict = v; is = is; marked = marked }) h
 
-  pub meant_so : (told : Result Marked E) → IfOk told (λ m. m.mark ≡ mark_of v k.looked) → IfOk told (λ m. IsMeantMark r gates steps es m.mark)
+  pub meant_so : (told : Result MarkedEnds E) → IfOk told (λ m. m.mark ≡ mark_of v k.looked) → IfOk told (λ m. IsMeantMark r gates steps es m.mark)
   meant_so told h = IfOk-weaker told (λ m. IsMarkOf r gates steps most es m.mark) (λ m. IsMeantMark r gates steps es m.mark) (λ m is. meant r gates steps most es m.mark is) (marked_so told h)

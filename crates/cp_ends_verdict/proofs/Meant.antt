@@ -44,9 +44,9 @@ use Rattle.cp_ends_verdict.specs.Knowledge.{IsKnown, end_pair, is_whole}
 use Rattle.cp_ends_verdict.specs.declared.expectation.EndPattern.{EndPattern}
 use Rattle.cp_ends_verdict.specs.declared.expectation.EndPattern.TheVariants as pattern
 use Rattle.cp_ends_verdict.specs.declared.expectation.Topic.TheVariants as topic
-use Rattle.cp_ends_verdict.specs.declared.expectation.Expectation.{Expectation}
-use Rattle.cp_ends_verdict.specs.declared.expectation.Expectation.TheVariants.{Never, Sometimes, Only}
-use Rattle.cp_ends_verdict.specs.declared.known.Known.{Known}
+use Rattle.cp_ends_verdict.specs.declared.expectation.EndsExpectation.{EndsExpectation}
+use Rattle.cp_ends_verdict.specs.declared.expectation.EndsExpectation.TheVariants.{Never, Sometimes, Only}
+use Rattle.cp_ends_verdict.specs.declared.known.KnownEnds.{KnownEnds}
 use Rattle.cp_ends_verdict.proofs.Judgements.{all_ends, no_cut, states_all}
 
 -- ---- a stretch does not call the kernel again and again, and from some step on never
@@ -116,7 +116,7 @@ record AreAlike (a b : End) : Type 0 where
   uncut_too : is_cut b ≡ false
 
 -- what settles an expectation is no stretch that was cut
-pub settling_uncut : (names : Spellings) (e : Expectation) (end : End) (word : List ℕ) → settles names e (Ends end word) ≡ true → is_cut end ≡ false
+pub settling_uncut : (names : Spellings) (e : EndsExpectation) (end : End) (word : List ℕ) → settles names e (Ends end word) ≡ true → is_cut end ≡ false
 settling_uncut names e (Over Finished) word h = refl
 settling_uncut names e (Over AllWaiting) word h = refl
 settling_uncut names e (Over (RunError name process line)) word h = refl
@@ -136,7 +136,7 @@ settling_uncut names (Only ps) (Over StepLimit) word h = other (is_named ps.item
     other true h = absurd (cc)
     other false h = absurd (cc)
 
-settling_alike : (names : Spellings) (e : Expectation) (a b : End) (word : List ℕ) → AreAlike a b → settles names e (Ends a word) ≡ settles names e (Ends b word)
+settling_alike : (names : Spellings) (e : EndsExpectation) (a b : End) (word : List ℕ) → AreAlike a b → settles names e (Ends a word) ≡ settles names e (Ends b word)
 settling_alike names (Never (topic.Ends ps)) a b word h = h.named ps.items
 settling_alike names (Never (topic.Waiting process)) a b word h = refl
 settling_alike names (Never (topic.Shown text)) a b word h = refl
@@ -205,7 +205,7 @@ module _ (t : Tree) (r : Tables) (g : Gates) (read : IsRead t.program) (ok : IsA
   there (Shows v word) so = shown_there v word so
   there (Waits q) so = waits_there q so
 
-  module _ (most : ℕ) (k : Known) (h : IsKnown r (gates_of g) steps most k) (whole : is_whole k ≡ true) where
+  module _ (most : ℕ) (k : KnownEnds) (h : IsKnown r (gates_of g) steps most k) (whole : is_whole k ≡ true) where
     uncut : (word : List ℕ) → EndsSo b steps (Over StepLimit) word → ⊥
     uncut word so = no_cut r (gates_of g) steps most k h whole word so
 
@@ -242,7 +242,7 @@ module _ (t : Tree) (r : Tables) (g : Gates) (read : IsRead t.program) (ok : IsA
         (λ w c. uncut w ((all_ends r (gates_of g) steps most k h whole).first (Over StepLimit) w c).is) steps v word ((means (steps + steps)).values.there word v x.1)
 
     -- what settles an expectation on names does so on slots
-    pub back : (names : Spellings) (e : Expectation) (f : Finding) → IsSo (on_names t g steps) f → settles names e f ≡ true → (h : Finding) × IsSo (on_slots r (gates_of g) steps) h × (settles names e h ≡ true)
+    pub back : (names : Spellings) (e : EndsExpectation) (f : Finding) → IsSo (on_names t g steps) f → settles names e f ≡ true → (h : Finding) × IsSo (on_slots r (gates_of g) steps) h × (settles names e h ≡ true)
     back names e (Ends end word) so is =
         let x = end_back end word (settling_uncut names e end word is) so in
         (Ends x.0 word, x.1, sym (settling_alike names e end x.0 word x.2) ∙ is)

@@ -33,19 +33,19 @@ use Rattle.cp_ends_verdict.specs.Judged.{IsJudgedBy, judgement_of}
 use Rattle.cp_ends_verdict.specs.Knowledge.{end_pair, ended, finding_of, is_kept, is_settled, is_whole, shown, speaks_of, value_pair}
 use Rattle.cp_ends_verdict.specs.Marked.{AreJudged, IsJudgedToFail, IsMarkOf, IsMeantMark, IsTrueMark, ask_waits, asks_waits, is_any, mark_of, open_mark}
 use Rattle.cp_ends_verdict.specs.declared.expectation.Topic.TheVariants as topic
-use Rattle.cp_ends_verdict.specs.declared.expectation.Expectation.{Expectation}
-use Rattle.cp_ends_verdict.specs.declared.expectation.Expectation.TheVariants.{Never, Sometimes, Only}
-use Rattle.cp_ends_verdict.specs.declared.judging.Judgement.{Judgement}
-use Rattle.cp_ends_verdict.specs.declared.judging.Judgement.TheVariants as judgement
-use Rattle.cp_ends_verdict.specs.declared.known.Known.{Known}
+use Rattle.cp_ends_verdict.specs.declared.expectation.EndsExpectation.{EndsExpectation}
+use Rattle.cp_ends_verdict.specs.declared.expectation.EndsExpectation.TheVariants.{Never, Sometimes, Only}
+use Rattle.cp_ends_verdict.specs.declared.judging.EndsJudgement.{EndsJudgement}
+use Rattle.cp_ends_verdict.specs.declared.judging.EndsJudgement.TheVariants as judgement
+use Rattle.cp_ends_verdict.specs.declared.known.KnownEnds.{KnownEnds}
 use Rattle.cp_ends_verdict.specs.declared.known.KnownEnd.{KnownEnd}
 use Rattle.cp_ends_verdict.specs.declared.known.KnownValue.{KnownValue}
 use Rattle.cp_ends_verdict.specs.declared.known.Witness.{Witness}
-use Rattle.cp_ends_verdict.specs.declared.saying.Marked.{Marked}
-use Rattle.cp_ends_verdict.specs.declared.verdict.Mark.{Mark}
-use Rattle.cp_ends_verdict.specs.declared.verdict.Mark.TheVariants.{TooMany}
-use Rattle.cp_ends_verdict.specs.declared.verdict.Verdict.{Verdict}
-use Rattle.cp_ends_verdict.specs.declared.verdict.Verdict.TheVariants as verdict
+use Rattle.cp_ends_verdict.specs.declared.saying.MarkedEnds.{MarkedEnds}
+use Rattle.cp_ends_verdict.specs.declared.verdict.EndsMark.{EndsMark}
+use Rattle.cp_ends_verdict.specs.declared.verdict.EndsMark.TheVariants.{TooMany}
+use Rattle.cp_ends_verdict.specs.declared.verdict.EndsVerdict.{EndsVerdict}
+use Rattle.cp_ends_verdict.specs.declared.verdict.EndsVerdict.TheVariants as verdict
 use Rattle.cp_ends_verdict.proofs.Finding.{at_map, found_at, found_none, map_at}
 use Rattle.cp_ends_verdict.proofs.Judgements.{both}
 use Rattle.cp_ends_verdict.proofs.Meant.{limit_cut, settling_uncut, there}
@@ -82,7 +82,7 @@ false_true b f t = absurd (cc)
 
 -- ---- of what an expectation speaks
 
-word_free : (names : Spellings) (e : Expectation) (end : End) (w v : List ℕ) → settles names e (Ends end w) ≡ settles names e (Ends end v)
+word_free : (names : Spellings) (e : EndsExpectation) (end : End) (w v : List ℕ) → settles names e (Ends end w) ≡ settles names e (Ends end v)
 word_free names (Never (topic.Ends ps)) end w v = refl
 word_free names (Never (topic.Waiting q)) end w v = refl
 word_free names (Never (topic.Shown s)) end w v = refl
@@ -91,7 +91,7 @@ word_free names (Sometimes (topic.Waiting q)) end w v = refl
 word_free names (Sometimes (topic.Shown s)) end w v = refl
 word_free names (Only ps) end w v = refl
 
-value_word_free : (names : Spellings) (e : Expectation) (x : Shown) (w v : List ℕ) → settles names e (Shows x w) ≡ settles names e (Shows x v)
+value_word_free : (names : Spellings) (e : EndsExpectation) (x : Shown) (w v : List ℕ) → settles names e (Shows x w) ≡ settles names e (Shows x v)
 value_word_free names (Never (topic.Ends ps)) x w v = refl
 value_word_free names (Never (topic.Waiting q)) x w v = refl
 value_word_free names (Never (topic.Shown s)) x w v = refl
@@ -100,7 +100,7 @@ value_word_free names (Sometimes (topic.Waiting q)) x w v = refl
 value_word_free names (Sometimes (topic.Shown s)) x w v = refl
 value_word_free names (Only ps) x w v = refl
 
-ends_list : (names : Spellings) (k : Known) (e : Expectation) (end : End) (w : List ℕ) → settles names e (Ends end w) ≡ true → speaks_of e k ≡ map ended (map end_pair k.ends.items)
+ends_list : (names : Spellings) (k : KnownEnds) (e : EndsExpectation) (end : End) (w : List ℕ) → settles names e (Ends end w) ≡ true → speaks_of e k ≡ map ended (map end_pair k.ends.items)
 ends_list names k (Never (topic.Ends ps)) end w h = refl
 ends_list names k (Never (topic.Waiting q)) end w h = absurd (cc)
 ends_list names k (Never (topic.Shown s)) end w h = absurd (cc)
@@ -109,7 +109,7 @@ ends_list names k (Sometimes (topic.Waiting q)) end w h = absurd (cc)
 ends_list names k (Sometimes (topic.Shown s)) end w h = absurd (cc)
 ends_list names k (Only ps) end w h = refl
 
-values_list : (names : Spellings) (k : Known) (e : Expectation) (v : Shown) (w : List ℕ) → settles names e (Shows v w) ≡ true → is_settled e k ≡ true → (speaks_of e k ≡ map shown (map value_pair k.values.items)) × (nat_le (vec_len k.values) MOST_VALUES ≡ true)
+values_list : (names : Spellings) (k : KnownEnds) (e : EndsExpectation) (v : Shown) (w : List ℕ) → settles names e (Shows v w) ≡ true → is_settled e k ≡ true → (speaks_of e k ≡ map shown (map value_pair k.values.items)) × (nat_le (vec_len k.values) MOST_VALUES ≡ true)
 values_list names k (Never (topic.Ends ps)) v w h s = absurd (cc)
 values_list names k (Never (topic.Waiting q)) v w h s = absurd (cc)
 values_list names k (Never (topic.Shown x)) v w h s = (refl, (both (is_kept (topic.Shown x) k) (is_whole k) s).0)
@@ -118,7 +118,7 @@ values_list names k (Sometimes (topic.Waiting q)) v w h s = absurd (cc)
 values_list names k (Sometimes (topic.Shown x)) v w h s = (refl, (both (is_kept (topic.Shown x) k) (is_whole k) s).0)
 values_list names k (Only ps) v w h s = absurd (cc)
 
-no_waits : (names : Spellings) (e : Expectation) (q : ℕ) → asks_waits e ≡ false → settles names e (Waits q) ≡ true → ⊥
+no_waits : (names : Spellings) (e : EndsExpectation) (q : ℕ) → asks_waits e ≡ false → settles names e (Waits q) ≡ true → ⊥
 no_waits names (Never (topic.Ends ps)) q a h = absurd (cc)
 no_waits names (Never (topic.Waiting p)) q a h = absurd (cc)
 no_waits names (Never (topic.Shown s)) q a h = absurd (cc)
@@ -133,7 +133,7 @@ few_values false n most h le = let more = ltb-true most n h in let few = leb-tru
 
 -- ---- true of the names
 
-module _ (t : Tree) (r : Tables) (read : IsRead t.program) (ok : IsAccepted t) (same : plain r ≡ laid t) (steps : ℕ) (k : Known) (h : IsKnownAtOnce r steps k) where
+module _ (t : Tree) (r : Tables) (read : IsRead t.program) (ok : IsAccepted t) (same : plain r ≡ laid t) (steps : ℕ) (k : KnownEnds) (h : IsKnownAtOnce r steps k) where
   abbrev b : Behaviour
   b = at_any_limit t
 
@@ -160,7 +160,7 @@ module _ (t : Tree) (r : Tables) (read : IsRead t.program) (ok : IsAccepted t) (
       subst (IsSo b) x.2 (shows_so x.0.0 x.0.1 (all_at (λ (y : Shown × List ℕ). ShowsSo (slots r First) without_output steps y.0 y.1) (map value_pair k.values.items) at x.0 h.values x.1))
 
   -- what is known is so
-  known_so : (e : Expectation) → asks_waits e ≡ false → (at : ℕ) (f : Finding) → slice_get (speaks_of e k) at ≡ Some f → IsSo b f
+  known_so : (e : EndsExpectation) → asks_waits e ≡ false → (at : ℕ) (f : Finding) → slice_get (speaks_of e k) at ≡ Some f → IsSo b f
   known_so (Never (topic.Ends ps)) a at f is = ends_so at f is
   known_so (Never (topic.Waiting q)) a at f is = absurd (cc)
   known_so (Never (topic.Shown s)) a at f is = values_so at f is
@@ -170,7 +170,7 @@ module _ (t : Tree) (r : Tables) (read : IsRead t.program) (ok : IsAccepted t) (
   known_so (Only ps) a at f is = ends_so at f is
 
   -- where all is known, what is so is known
-  module _ (e : Expectation) (s : is_settled e k ≡ true) (none : find (settles r.names e) (speaks_of e k) ≡ None) where
+  module _ (e : EndsExpectation) (s : is_settled e k ≡ true) (none : find (settles r.names e) (speaks_of e k) ≡ None) where
     all : LeavesNone t (λ kind. knows_end k (Over kind) ≡ true) (λ q. knows_end k (Alone q) ≡ true) (λ q. knows_end k (Spins q) ≡ true) (λ v. knows_value k v ≡ true)
     all = h.all (settled_whole e k s) t read ok same
 
@@ -201,33 +201,33 @@ module _ (t : Tree) (r : Tables) (read : IsRead t.program) (ok : IsAccepted t) (
 
   -- ---- judgements
 
-  abbrev IsRight : Expectation → Judgement → Type 0
+  abbrev IsRight : EndsExpectation → EndsJudgement → Type 0
   IsRight e judgement.Holds = IsTrue r.names b e
   IsRight e (judgement.Against w) = IsTrue r.names b e → ⊥
   IsRight e judgement.Missing = IsTrue r.names b e → ⊥
   IsRight e judgement.Open = Unit {0}
 
-  some_true : (e : Expectation) → asks_some e ≡ true → HasSettling r.names b e → IsTrue r.names b e
+  some_true : (e : EndsExpectation) → asks_some e ≡ true → HasSettling r.names b e → IsTrue r.names b e
   some_true (Never x) a s = absurd (cc)
   some_true (Sometimes x) a s = s
   some_true (Only ps) a s = absurd (cc)
 
-  some_false : (e : Expectation) → asks_some e ≡ true → (HasSettling r.names b e → ⊥) → IsTrue r.names b e → ⊥
+  some_false : (e : EndsExpectation) → asks_some e ≡ true → (HasSettling r.names b e → ⊥) → IsTrue r.names b e → ⊥
   some_false (Never x) a s is = absurd (cc)
   some_false (Sometimes x) a s is = s is
   some_false (Only ps) a s is = absurd (cc)
 
-  none_true : (e : Expectation) → asks_some e ≡ false → (HasSettling r.names b e → ⊥) → IsTrue r.names b e
+  none_true : (e : EndsExpectation) → asks_some e ≡ false → (HasSettling r.names b e → ⊥) → IsTrue r.names b e
   none_true (Never x) a s = s
   none_true (Sometimes x) a s = absurd (cc)
   none_true (Only ps) a s = s
 
-  none_false : (e : Expectation) → asks_some e ≡ false → HasSettling r.names b e → IsTrue r.names b e → ⊥
+  none_false : (e : EndsExpectation) → asks_some e ≡ false → HasSettling r.names b e → IsTrue r.names b e → ⊥
   none_false (Never x) a s is = is s
   none_false (Sometimes x) a s is = absurd (cc)
   none_false (Only ps) a s is = is s
 
-  module _ (e : Expectation) (waits : asks_waits e ≡ false) where
+  module _ (e : EndsExpectation) (waits : asks_waits e ≡ false) where
     has : (f : Finding) → Some f ≡ find (settles r.names e) (speaks_of e k) → HasSettling r.names b e
     has f is = let x = found_at (settles r.names e) (speaks_of e k) f (sym is) in (f, known_so e waits x.place f x.at, x.passes)
 
@@ -239,22 +239,22 @@ module _ (t : Tree) (r : Tables) (read : IsRead t.program) (ok : IsAccepted t) (
     by false None true a here s = none_true e a (none_settles e s (sym here) waits)
     by false None false a here s = tt
 
-    right : (j : Judgement) → IsJudgedBy r.names k e j → IsRight e j
+    right : (j : EndsJudgement) → IsJudgedBy r.names k e j → IsRight e j
     right j x = subst (IsRight e) (sym x.2) (by (asks_some e) x.0 (is_settled e k) refl x.1 refl)
 
-  module _ (es : List Expectation) (none : ask_waits es ≡ false) where
-    no_wait : (e : Expectation) → Contains es e → asks_waits e ≡ false
+  module _ (es : List EndsExpectation) (none : ask_waits es ≡ false) where
+    no_wait : (e : EndsExpectation) → Contains es e → asks_waits e ≡ false
     no_wait e c = let at = place_of es e c in none_at asks_waits es none at.0 e at.1
 
     open_true : (looked : Option ℕ) → IsTrueMark r.names b es (open_mark looked)
     open_true None = tt
     open_true (Some d) = tt
 
-    failed : (e : Expectation) (against : Option Witness) → asks_waits e ≡ false → IsJudgedToFail (IsJudgedBy r.names k) e against → IsTrue r.names b e → ⊥
+    failed : (e : EndsExpectation) (against : Option Witness) → asks_waits e ≡ false → IsJudgedToFail (IsJudgedBy r.names k) e against → IsTrue r.names b e → ⊥
     failed e (Some w) waits j = right e waits (judgement.Against w) j
     failed e None waits j = right e waits judgement.Missing j
 
-    pub true_mark : (v : Verdict) → AreJudged (IsJudgedBy r.names k) es v → IsTrueMark r.names b es (mark_of v k.looked)
+    pub true_mark : (v : EndsVerdict) → AreJudged (IsJudgedBy r.names k) es v → IsTrueMark r.names b es (mark_of v k.looked)
     true_mark verdict.Holds j = λ e c. right e (no_wait e c) judgement.Holds (j e c)
     true_mark (verdict.Fails e against) j = (e.now, j.0, failed e.now against (no_wait e.now j.0) j.1)
     true_mark (verdict.Open e) j = open_true k.looked
@@ -270,11 +270,11 @@ first_line : (gates : Gates) → is_any gates ≡ false → gates ≡ First
 first_line First h = refl
 first_line Any h = absurd (cc)
 
-pub of_first : (gates : Gates) (es : List Expectation) → can_be_at_once gates es ≡ true → gates ≡ First
+pub of_first : (gates : Gates) (es : List EndsExpectation) → can_be_at_once gates es ≡ true → gates ≡ First
 of_first gates es can = first_line gates (both_not (is_any gates) (ask_waits es) can).0
 
-pub marked_at_once : {E : Type 0} (r : Tables) (gates : Gates) (steps : ℕ) (es : List Expectation) (k : Known) (v : Verdict) → can_be_at_once gates es ≡ true → IsKnownAtOnce r steps k → AreJudged (IsJudgedBy r.names k) es v →
-    (told : Result Marked E) → IfOk told (λ m. m.mark ≡ mark_of v k.looked) → IfOk told (λ m. IsMarkAtOnce r steps es m.mark)
+pub marked_at_once : {E : Type 0} (r : Tables) (gates : Gates) (steps : ℕ) (es : List EndsExpectation) (k : KnownEnds) (v : EndsVerdict) → can_be_at_once gates es ≡ true → IsKnownAtOnce r steps k → AreJudged (IsJudgedBy r.names k) es v →
+    (told : Result MarkedEnds E) → IfOk told (λ m. m.mark ≡ mark_of v k.looked) → IfOk told (λ m. IsMarkAtOnce r steps es m.mark)
 marked_at_once r gates steps es k v can h j told is =
     IfOk-weaker told (λ m. m.mark ≡ mark_of v k.looked) (λ m. IsMarkAtOnce r steps es m.mark)
     (λ m same_mark.
@@ -290,22 +290,22 @@ marked_at_once r gates steps es k v can h j told is =
 
 -- ---- in turn
 
-module _ {E : Type 0} (r : Tables) (gates : Gates) (steps : ℕ) (es : List Expectation) (before : Mark) (told : Result Marked E) where
-  pub one : (again : Mark) → IfOk told (λ m. m.mark ≡ before) → IfOk told (λ m. (m.mark ≡ before) ⊎ (m.mark ≡ again))
+module _ {E : Type 0} (r : Tables) (gates : Gates) (steps : ℕ) (es : List EndsExpectation) (before : EndsMark) (told : Result MarkedEnds E) where
+  pub one : (again : EndsMark) → IfOk told (λ m. m.mark ≡ before) → IfOk told (λ m. (m.mark ≡ before) ⊎ (m.mark ≡ again))
   one again h = IfOk-weaker told (λ m. m.mark ≡ before) (λ m. (m.mark ≡ before) ⊎ (m.mark ≡ again)) (λ m is. inl is) h
 
-  pub other : (again : Mark) → IfOk told (λ m. m.mark ≡ again) → IfOk told (λ m. (m.mark ≡ before) ⊎ (m.mark ≡ again))
+  pub other : (again : EndsMark) → IfOk told (λ m. m.mark ≡ again) → IfOk told (λ m. (m.mark ≡ before) ⊎ (m.mark ≡ again))
   other again h = IfOk-weaker told (λ m. m.mark ≡ again) (λ m. (m.mark ≡ before) ⊎ (m.mark ≡ again)) (λ m is. inr is) h
 
-  pub settles_more : (again : Mark) → can_be_at_once gates es ≡ true → IsMarkAtOnce r steps es again → IfOk told (λ m. (m.mark ≡ before) ⊎ (m.mark ≡ again)) → IfOk told (λ m. IsAgain r gates steps es before m.mark)
+  pub settles_more : (again : EndsMark) → can_be_at_once gates es ≡ true → IsMarkAtOnce r steps es again → IfOk told (λ m. (m.mark ≡ before) ⊎ (m.mark ≡ again)) → IfOk told (λ m. IsAgain r gates steps es before m.mark)
   settles_more again can x h = IfOk-weaker told (λ m. (m.mark ≡ before) ⊎ (m.mark ≡ again)) (λ m. IsAgain r gates steps es before m.mark) (λ m y. by_one m.mark y) h
     where
-      by_one : (m : Mark) → (m ≡ before) ⊎ (m ≡ again) → IsAgain r gates steps es before m
+      by_one : (m : EndsMark) → (m ≡ before) ⊎ (m ≡ again) → IsAgain r gates steps es before m
       by_one m (inl is) = inl is
       by_one m (inr is) = inr (of_first gates es can, subst (IsMarkAtOnce r steps es) (sym is) x)
 
   module _ (most : ℕ) (is : IsMarkOf r gates steps most es before) (meant : IsMeantMark r gates steps es before) (many : before ≡ TooMany) where
-    by_turns : (m : Mark) → IsAgain r gates steps es before m → IsMarkInTurn r gates steps most es m
+    by_turns : (m : EndsMark) → IsAgain r gates steps es before m → IsMarkInTurn r gates steps most es m
     by_turns m (inl e) = inl (subst (IsMarkOf r gates steps most es) (sym e) is, subst (IsMeantMark r gates steps es) (sym e) meant)
     by_turns m (inr x) = inr (subst (IsMarkOf r gates steps most es) many is, x.0, x.1)
 

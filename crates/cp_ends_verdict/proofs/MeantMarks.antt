@@ -15,36 +15,36 @@ use Rattle.cp_ends_verdict.specs.Expectations.{HasSettling, IsTrue}
 use Rattle.cp_ends_verdict.specs.Judged.{HoldsOf, IsJudged}
 use Rattle.cp_ends_verdict.specs.Knowledge.{IsKnown, finding_of, is_kept, is_settled, is_whole}
 use Rattle.cp_ends_verdict.specs.Marked.{IsJudgedToFail, IsMarked, IsMarkOf, IsMeantMark, IsTrueMark, mark_of, open_mark}
-use Rattle.cp_ends_verdict.specs.declared.expectation.Expectation.{Expectation}
-use Rattle.cp_ends_verdict.specs.declared.expectation.Expectation.TheVariants.{Never, Sometimes, Only}
-use Rattle.cp_ends_verdict.specs.declared.known.Known.{Known}
+use Rattle.cp_ends_verdict.specs.declared.expectation.EndsExpectation.{EndsExpectation}
+use Rattle.cp_ends_verdict.specs.declared.expectation.EndsExpectation.TheVariants.{Never, Sometimes, Only}
+use Rattle.cp_ends_verdict.specs.declared.known.KnownEnds.{KnownEnds}
 use Rattle.cp_ends_verdict.specs.declared.known.Witness.{Witness}
-use Rattle.cp_ends_verdict.specs.declared.verdict.Mark.{Mark}
-use Rattle.cp_ends_verdict.specs.declared.verdict.Verdict.{Verdict}
-use Rattle.cp_ends_verdict.specs.declared.verdict.Verdict.TheVariants as verdict
+use Rattle.cp_ends_verdict.specs.declared.verdict.EndsMark.{EndsMark}
+use Rattle.cp_ends_verdict.specs.declared.verdict.EndsVerdict.{EndsVerdict}
+use Rattle.cp_ends_verdict.specs.declared.verdict.EndsVerdict.TheVariants as verdict
 use Rattle.cp_ends_verdict.proofs.Judgements.{both}
 use Rattle.cp_ends_verdict.proofs.Meant.{back, there}
 
-pub settled_whole : (e : Expectation) (k : Known) → is_settled e k ≡ true → is_whole k ≡ true
+pub settled_whole : (e : EndsExpectation) (k : KnownEnds) → is_settled e k ≡ true → is_whole k ≡ true
 settled_whole (Never t) k s = (both (is_kept t k) (is_whole k) s).1
 settled_whole (Sometimes t) k s = (both (is_kept t k) (is_whole k) s).1
 settled_whole (Only ps) k s = s
 
-module _ (t : Tree) (r : Tables) (g : Gates) (read : IsRead t.program) (ok : IsAccepted t) (same : plain r ≡ laid t) (steps most : ℕ) (k : Known) (h : IsKnown r (gates_of g) steps most k) where
-  abbrev On : Expectation → Type 0
+module _ (t : Tree) (r : Tables) (g : Gates) (read : IsRead t.program) (ok : IsAccepted t) (same : plain r ≡ laid t) (steps most : ℕ) (k : KnownEnds) (h : IsKnown r (gates_of g) steps most k) where
+  abbrev On : EndsExpectation → Type 0
   On e = HasSettling r.names (on_names t g steps) e
 
-  abbrev Below : Expectation → Type 0
+  abbrev Below : EndsExpectation → Type 0
   Below e = HasSettling r.names (on_slots r (gates_of g) steps) e
 
-  settling_there : (e : Expectation) → Below e → On e
+  settling_there : (e : EndsExpectation) → Below e → On e
   settling_there e s = (s.0, there t r g read ok same steps s.0 s.1, s.2)
 
-  settling_back : (e : Expectation) → is_settled e k ≡ true → On e → Below e
+  settling_back : (e : EndsExpectation) → is_settled e k ≡ true → On e → Below e
   settling_back e s x = back t r g read ok same steps most k h (settled_whole e k s) r.names e x.0 x.1 x.2
 
   -- what holds is true
-  holds : (e : Expectation) → HoldsOf r.names (on_slots r (gates_of g) steps) k e → IsTrue r.names (on_names t g steps) e
+  holds : (e : EndsExpectation) → HoldsOf r.names (on_slots r (gates_of g) steps) k e → IsTrue r.names (on_names t g steps) e
   holds (Sometimes topic) (is, why) = settling_there (Sometimes topic) is
   holds (Never topic) (is, inl asks) = absurd (cc)
   holds (Never topic) (is, inr all) = λ x. is (settling_back (Never topic) all x)
@@ -52,7 +52,7 @@ module _ (t : Tree) (r : Tables) (g : Gates) (read : IsRead t.program) (ok : IsA
   holds (Only ps) (is, inr all) = λ x. is (settling_back (Only ps) all x)
 
   -- what fails is not
-  fails : (e : Expectation) (against : Option Witness) → IsJudgedToFail (IsJudged r.names (on_slots r (gates_of g) steps) k) e against → IsTrue r.names (on_names t g steps) e → ⊥
+  fails : (e : EndsExpectation) (against : Option Witness) → IsJudgedToFail (IsJudged r.names (on_slots r (gates_of g) steps) k) e against → IsTrue r.names (on_names t g steps) e → ⊥
   fails (Never topic) (Some w) f is = is (settling_there (Never topic) (finding_of w, f.1.is_so, f.1.settling))
   fails (Sometimes topic) (Some w) f is = absurd (let e = f.0 in cc)
   fails (Only ps) (Some w) f is = is (settling_there (Only ps) (finding_of w, f.1.is_so, f.1.settling))
@@ -60,19 +60,19 @@ module _ (t : Tree) (r : Tables) (g : Gates) (read : IsRead t.program) (ok : IsA
   fails (Sometimes topic) None f is = f.1 (settling_back (Sometimes topic) f.2 is)
   fails (Only ps) None f is = absurd (let e = f.0 in cc)
 
-  module _ (es : List Expectation) where
+  module _ (es : List EndsExpectation) where
     open_true : (looked : Option ℕ) → IsTrueMark r.names (on_names t g steps) es (open_mark looked)
     open_true None = tt
     open_true (Some d) = tt
 
-    by : (v : Verdict) → IsMarked r.names (on_slots r (gates_of g) steps) k es v → IsTrueMark r.names (on_names t g steps) es (mark_of v k.looked)
+    by : (v : EndsVerdict) → IsMarked r.names (on_slots r (gates_of g) steps) k es v → IsTrueMark r.names (on_names t g steps) es (mark_of v k.looked)
     by verdict.Holds m = λ e c. holds e (m e c)
     by (verdict.Fails e against) m = (e.now, m.0, fails e.now against m.1)
     by (verdict.Open e) m = open_true k.looked
 
-true_mark : (t : Tree) (r : Tables) (g : Gates) (read : IsRead t.program) (ok : IsAccepted t) (same : plain r ≡ laid t) (steps most : ℕ) (es : List Expectation) (m : Mark) → IsMarkOf r (gates_of g) steps most es m → IsTrueMark r.names (on_names t g steps) es m
+true_mark : (t : Tree) (r : Tables) (g : Gates) (read : IsRead t.program) (ok : IsAccepted t) (same : plain r ≡ laid t) (steps most : ℕ) (es : List EndsExpectation) (m : EndsMark) → IsMarkOf r (gates_of g) steps most es m → IsTrueMark r.names (on_names t g steps) es m
 true_mark t r g read ok same steps most es m x = subst (IsTrueMark r.names (on_names t g steps) es) (sym x.is) (by t r g read ok same steps most x.known x.is_known es x.verdict x.marked)
 
-pub meant : (r : Tables) (gates : slot_gates.Gates) (steps most : ℕ) (es : List Expectation) (m : Mark) → IsMarkOf r gates steps most es m → IsMeantMark r gates steps es m
+pub meant : (r : Tables) (gates : slot_gates.Gates) (steps most : ℕ) (es : List EndsExpectation) (m : EndsMark) → IsMarkOf r gates steps most es m → IsMeantMark r gates steps es m
 meant r First steps most es m x = λ t read ok same. true_mark t r first_gates read ok same steps most es m x
 meant r Any steps most es m x = λ t read ok same. true_mark t r any_gates read ok same steps most es m x

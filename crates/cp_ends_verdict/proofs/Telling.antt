@@ -13,19 +13,19 @@ use Rattle.cp_ends_verdict.specs.Knowledge.{HasTexts, ended, end_pair, finding_o
 use Rattle.cp_ends_verdict.specs.declared.expectation.EndPattern.{EndPattern}
 use Rattle.cp_ends_verdict.specs.declared.expectation.Topic.{Topic}
 use Rattle.cp_ends_verdict.specs.declared.expectation.Topic.TheVariants as topic
-use Rattle.cp_ends_verdict.specs.declared.expectation.Expectation.{Expectation}
-use Rattle.cp_ends_verdict.specs.declared.expectation.Expectation.TheVariants.{Only}
-use Rattle.cp_ends_verdict.specs.declared.known.Known.{Known}
+use Rattle.cp_ends_verdict.specs.declared.expectation.EndsExpectation.{EndsExpectation}
+use Rattle.cp_ends_verdict.specs.declared.expectation.EndsExpectation.TheVariants.{Only}
+use Rattle.cp_ends_verdict.specs.declared.known.KnownEnds.{KnownEnds}
 use Rattle.cp_ends_verdict.specs.declared.known.KnownEnd.{KnownEnd}
 use Rattle.cp_ends_verdict.specs.declared.known.KnownValue.{KnownValue}
 use Rattle.cp_ends_verdict.specs.declared.known.Witness.{Witness}
 use Rattle.cp_ends_verdict.proofs.Finding.{map_map, text_found, told}
 
-module _ (names : Spellings) (k : Known) (result : Option Witness) where
+module _ (names : Spellings) (k : KnownEnds) (result : Option Witness) where
   abbrev Tells : Topic → Type 0
   Tells t = option_map finding_of result ≡ find (is_about names t) (told_of t k)
 
-  abbrev TellsOf : Expectation → Type 0
+  abbrev TellsOf : EndsExpectation → Type 0
   TellsOf e = option_map finding_of result ≡ find (settles names e) (speaks_of e k)
 
   -- ends of one list of kinds
@@ -39,7 +39,7 @@ module _ (names : Spellings) (k : Known) (result : Option Witness) where
       subst Tells (sym et)
       (told finding_of (λ e. ended (end_pair e)) (is_about names (topic.Ends ps)) k.ends.items found result (moved (λ l e. is_named l e.end) ps.items ps2 es found ex ep here) is ∙ ap (find (is_about names (topic.Ends ps))) (sym (map_map end_pair ended k.ends.items)))
 
-  pub only_told : (x : Expectation) (ps : Vec EndPattern Global) (ps2 : List EndPattern) (es : List KnownEnd) (found : Option (Bor KnownEnd)) → x ≡ Only ps → es ≡ k.ends.items → ps2 ≡ ps.items →
+  pub only_told : (x : EndsExpectation) (ps : Vec EndPattern Global) (ps2 : List EndPattern) (es : List KnownEnd) (found : Option (Bor KnownEnd)) → x ≡ Only ps → es ≡ k.ends.items → ps2 ≡ ps.items →
       option_map (λ e. e.now) found ≡ find (λ e. is_other ps2 e.end) es → option_map finding_of result ≡ option_map (λ e. ended (end_pair e.now)) found → TellsOf x
   only_told x ps ps2 es found et ex ep here is =
       subst TellsOf (sym et)

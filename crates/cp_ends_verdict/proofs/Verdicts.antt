@@ -5,30 +5,30 @@ use Rattle.std.specs.Borrow.{Bor}
 use Rattle.std.proofs.lemmas.List.{take_all, take_more}
 use Rattle.std.proofs.lemmas.List.Elements.{Contains-append_left, Contains-push, Contains-push_cases}
 use Rattle.cp_ends_verdict.specs.Marked.{AreJudged, joined}
-use Rattle.cp_ends_verdict.specs.declared.expectation.Expectation.{Expectation}
-use Rattle.cp_ends_verdict.specs.declared.judging.Judgement.{Judgement}
-use Rattle.cp_ends_verdict.specs.declared.judging.Judgement.TheVariants as judgement
-use Rattle.cp_ends_verdict.specs.declared.verdict.Verdict.{Verdict}
-use Rattle.cp_ends_verdict.specs.declared.verdict.Verdict.TheVariants as verdict
+use Rattle.cp_ends_verdict.specs.declared.expectation.EndsExpectation.{EndsExpectation}
+use Rattle.cp_ends_verdict.specs.declared.judging.EndsJudgement.{EndsJudgement}
+use Rattle.cp_ends_verdict.specs.declared.judging.EndsJudgement.TheVariants as judgement
+use Rattle.cp_ends_verdict.specs.declared.verdict.EndsVerdict.{EndsVerdict}
+use Rattle.cp_ends_verdict.specs.declared.verdict.EndsVerdict.TheVariants as verdict
 
-module _ (J : Expectation → Judgement → Type 0) (es : List Expectation) (e : Bor Expectation) where
-  abbrev more : List Expectation
+module _ (J : EndsExpectation → EndsJudgement → Type 0) (es : List EndsExpectation) (e : Bor EndsExpectation) where
+  abbrev more : List EndsExpectation
   more = es ++ e.now ∷ []
 
-  earlier : (x : Expectation) → Contains es x → Contains more x
+  earlier : (x : EndsExpectation) → Contains es x → Contains more x
   earlier x c = Contains-append_left es (e.now ∷ []) x c
 
   last : Contains more e.now
   last = Contains-push es e.now
 
   -- of all, from all before and the last
-  each_more : (P : Expectation → Type 0) → ((x : Expectation) → Contains es x → P x) → P e.now → (x : Expectation) → Contains more x → P x
+  each_more : (P : EndsExpectation → Type 0) → ((x : EndsExpectation) → Contains es x → P x) → P e.now → (x : EndsExpectation) → Contains more x → P x
   each_more P before here x c = ⊎_elim
       (λ (l : Contains es x). before x l)
       (λ (same : e.now ≡ x). subst P same here)
       (Contains-push_cases es e.now x c)
 
-  pub with_one : (v : Verdict) (j : Judgement) → AreJudged J es v → J e.now j → AreJudged J more (joined v e j)
+  pub with_one : (v : EndsVerdict) (j : EndsJudgement) → AreJudged J es v → J e.now j → AreJudged J more (joined v e j)
   with_one (verdict.Fails f against) j m h = (earlier f.now m.0, m.1)
   with_one verdict.Holds judgement.Holds m h = each_more (λ x. J x judgement.Holds) m h
   with_one verdict.Holds (judgement.Against w) m h = (last, h)
@@ -39,14 +39,14 @@ module _ (J : Expectation → Judgement → Type 0) (es : List Expectation) (e :
   with_one (verdict.Open f) judgement.Missing m h = (last, h)
   with_one (verdict.Open f) judgement.Open m h = (each_more (λ x. J x judgement.Holds ⊎ J x judgement.Open) m.0 (inr h), (earlier f.now m.1.0, m.1.1))
 
-module _ (J : Expectation → Judgement → Type 0) (list : List Expectation) where
-  pub verdict_more : (i : ℕ) (e : Bor Expectation) (v result : Verdict) (j : Judgement) → i < length list → e.now ≡ get_or list i e.now → result ≡ joined v e j → AreJudged J (take i list) v → J e.now j →
+module _ (J : EndsExpectation → EndsJudgement → Type 0) (list : List EndsExpectation) where
+  pub verdict_more : (i : ℕ) (e : Bor EndsExpectation) (v result : EndsVerdict) (j : EndsJudgement) → i < length list → e.now ≡ get_or list i e.now → result ≡ joined v e j → AreJudged J (take i list) v → J e.now j →
       AreJudged J (take (i + 1) list) result
   verdict_more i e v result j less item is m h =
       let longer : take (i + 1) list ≡ take i list ++ e.now ∷ [] = take_more list i e.now less ∙ ap (λ x. take i list ++ x ∷ []) (sym item) in
       subst (λ es. AreJudged J es result) (sym longer) (subst (AreJudged J (take i list ++ e.now ∷ [])) (sym is) (with_one J (take i list) e v j m h))
 
-  pub verdict_all : (i : ℕ) (v : Verdict) → length list ≤ i → AreJudged J (take i list) v → AreJudged J list v
+  pub verdict_all : (i : ℕ) (v : EndsVerdict) → length list ≤ i → AreJudged J (take i list) v → AreJudged J list v
   verdict_all i v le m = subst (λ es. AreJudged J es v) (take_all i list le) m
 
   pub verdict_none : AreJudged J (take 0 list) verdict.Holds

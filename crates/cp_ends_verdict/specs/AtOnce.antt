@@ -25,11 +25,11 @@ use Rattle.cp_ends_verdict.specs.Behaviour.{Behaviour, MayWait}
 use Rattle.cp_ends_verdict.specs.Judged.{IsJudgedBy}
 use Rattle.cp_ends_verdict.specs.Knowledge.{HasTexts, end_pair, is_whole, value_pair}
 use Rattle.cp_ends_verdict.specs.Marked.{AreJudged, IsMarkOf, IsMeantMark, IsTrueMark, ask_waits, is_any, mark_of}
-use Rattle.cp_ends_verdict.specs.declared.expectation.Expectation.{Expectation}
-use Rattle.cp_ends_verdict.specs.declared.known.Known.{Known}
-use Rattle.cp_ends_verdict.specs.declared.verdict.Mark.{Mark}
-use Rattle.cp_ends_verdict.specs.declared.verdict.Mark.TheVariants.{TooMany}
-use Rattle.cp_ends_verdict.specs.declared.verdict.Verdict.{Verdict}
+use Rattle.cp_ends_verdict.specs.declared.expectation.EndsExpectation.{EndsExpectation}
+use Rattle.cp_ends_verdict.specs.declared.known.KnownEnds.{KnownEnds}
+use Rattle.cp_ends_verdict.specs.declared.verdict.EndsMark.{EndsMark}
+use Rattle.cp_ends_verdict.specs.declared.verdict.EndsMark.TheVariants.{TooMany}
+use Rattle.cp_ends_verdict.specs.declared.verdict.EndsVerdict.{EndsVerdict}
 
 -- ---- what schedules of any length do on the program's own names, whatever the limit of steps
 
@@ -50,15 +50,15 @@ at_any_limit t =
 -- ---- what is known
 
 -- the end is known
-abbrev pub knows_end : Known → End → Bool
+abbrev pub knows_end : KnownEnds → End → Bool
 knows_end k end = list_any (λ e. ends_tests.end e.end end) k.ends.items
 
 -- the value is known, or there are more than are told
-abbrev pub knows_value : Known → Shown → Bool
+abbrev pub knows_value : KnownEnds → Shown → Bool
 knows_value k v = list_any (λ x. ends_tests.value x.value v) k.values.items || nat_lt MOST_VALUES (length k.values.items)
 
 -- Each end and each value is so by its word; and where all is gone through and no stretch was cut, no other is possible with any limit of steps.
-pub record IsKnownAtOnce (r : Tables) (steps : ℕ) (k : Known) : Type 0 where
+pub record IsKnownAtOnce (r : Tables) (steps : ℕ) (k : KnownEnds) : Type 0 where
   pub ends : All (λ x. EndsSo (silent_slots r First) steps x.0 x.1) (map end_pair k.ends.items)
   pub values : All (λ x. ShowsSo (slots r First) without_output steps x.0 x.1) (map value_pair k.values.items)
   pub texts : HasTexts r.names k.values.items
@@ -67,23 +67,23 @@ pub record IsKnownAtOnce (r : Tables) (steps : ℕ) (k : Known) : Type 0 where
 -- ---- marks
 
 -- who waits can't be asked then, nor who else may go into a monitor
-abbrev pub can_be_at_once : Gates → List Expectation → Bool
+abbrev pub can_be_at_once : Gates → List EndsExpectation → Bool
 can_be_at_once gates es = not (is_any gates) && not (ask_waits es)
 
 -- The mark is that of a verdict by what is known, and it is true of the program's own names, whatever the limit of steps.
-pub record IsMarkAtOnce (r : Tables) (steps : ℕ) (es : List Expectation) (m : Mark) : Type 0 where
-  pub known : Known
+pub record IsMarkAtOnce (r : Tables) (steps : ℕ) (es : List EndsExpectation) (m : EndsMark) : Type 0 where
+  pub known : KnownEnds
   pub is_known : IsKnownAtOnce r steps known
-  pub verdict : Verdict
+  pub verdict : EndsVerdict
   pub is : m ≡ mark_of verdict known.looked
   pub judged : AreJudged (IsJudgedBy r.names known) es verdict
   pub meaning : OfItsPrograms r (λ t. IsTrueMark r.names (at_any_limit t) es m)
 
 -- the mark stands, or there are too many states and kernel calls at once settle more
-abbrev pub IsAgain : Tables → Gates → ℕ → List Expectation → (before after : Mark) → Type 0
+abbrev pub IsAgain : Tables → Gates → ℕ → List EndsExpectation → (before after : EndsMark) → Type 0
 IsAgain r gates steps es before after = (after ≡ before) ⊎ ((gates ≡ First) × IsMarkAtOnce r steps es after)
 
 -- It is the mark by all states; or there are too many of them, and it is the mark by kernel calls at once.
-abbrev pub IsMarkInTurn : Tables → Gates → (steps most : ℕ) → List Expectation → Mark → Type 0
+abbrev pub IsMarkInTurn : Tables → Gates → (steps most : ℕ) → List EndsExpectation → EndsMark → Type 0
 IsMarkInTurn r gates steps most es m =
     (IsMarkOf r gates steps most es m × IsMeantMark r gates steps es m) ⊎ (IsMarkOf r gates steps most es TooMany × (gates ≡ First) × IsMarkAtOnce r steps es m)

@@ -13,8 +13,8 @@ use Rattle.cp_ends_verdict.specs.declared.expectation.EndPattern.{EndPattern}
 use Rattle.cp_ends_verdict.specs.declared.expectation.EndPattern.TheVariants as pattern
 use Rattle.cp_ends_verdict.specs.declared.expectation.Topic.{Topic}
 use Rattle.cp_ends_verdict.specs.declared.expectation.Topic.TheVariants as topic
-use Rattle.cp_ends_verdict.specs.declared.expectation.Expectation.{Expectation}
-use Rattle.cp_ends_verdict.specs.declared.expectation.Expectation.TheVariants.{Never, Sometimes, Only}
+use Rattle.cp_ends_verdict.specs.declared.expectation.EndsExpectation.{EndsExpectation}
+use Rattle.cp_ends_verdict.specs.declared.expectation.EndsExpectation.TheVariants.{Never, Sometimes, Only}
 
 abbrev pub is_same_error : ErrorName → ErrorName → Bool
 is_same_error Overflow Overflow = true
@@ -61,22 +61,22 @@ is_about names (topic.Shown text) (Shows v word) = pointwise nat_eq (output_text
 is_about names t f = false
 
 -- what settles an expectation: against `never` and `only`, for `some`
-abbrev pub settles : Spellings → Expectation → Finding → Bool
+abbrev pub settles : Spellings → EndsExpectation → Finding → Bool
 settles names (Never t) f = is_about names t f
 settles names (Sometimes t) f = is_about names t f
 settles names (Only ps) (Ends end word) = is_other ps.items end
 settles names (Only ps) f = false
 
-abbrev pub HasSettling : Spellings → Behaviour → Expectation → Type 0
+abbrev pub HasSettling : Spellings → Behaviour → EndsExpectation → Type 0
 HasSettling names b e = (f : Finding) × IsSo b f × (settles names e f ≡ true)
 
 -- An expectation is true where nothing is so that it forbids, or something that it asks for.
-abbrev pub IsTrue : Spellings → Behaviour → Expectation → Type 0
+abbrev pub IsTrue : Spellings → Behaviour → EndsExpectation → Type 0
 IsTrue names b (Never t) = HasSettling names b (Never t) → ⊥
 IsTrue names b (Sometimes t) = HasSettling names b (Sometimes t)
 IsTrue names b (Only ps) = HasSettling names b (Only ps) → ⊥
 
-abbrev pub asks_some : Expectation → Bool
+abbrev pub asks_some : EndsExpectation → Bool
 asks_some (Never t) = false
 asks_some (Sometimes t) = true
 asks_some (Only ps) = false

@@ -22,9 +22,9 @@ use Rattle.cp_ends_verdict.specs.Behaviour.{Finding, Ends, Shows, Waits, on_slot
 use Rattle.cp_ends_verdict.specs.Expectations.{is_cut}
 use Rattle.cp_ends_verdict.specs.declared.expectation.Topic.{Topic}
 use Rattle.cp_ends_verdict.specs.declared.expectation.Topic.TheVariants as topic
-use Rattle.cp_ends_verdict.specs.declared.expectation.Expectation.{Expectation}
-use Rattle.cp_ends_verdict.specs.declared.expectation.Expectation.TheVariants.{Never, Sometimes, Only}
-use Rattle.cp_ends_verdict.specs.declared.known.Known.{Known}
+use Rattle.cp_ends_verdict.specs.declared.expectation.EndsExpectation.{EndsExpectation}
+use Rattle.cp_ends_verdict.specs.declared.expectation.EndsExpectation.TheVariants.{Never, Sometimes, Only}
+use Rattle.cp_ends_verdict.specs.declared.known.KnownEnds.{KnownEnds}
 use Rattle.cp_ends_verdict.specs.declared.known.KnownEnd.{KnownEnd}
 use Rattle.cp_ends_verdict.specs.declared.known.KnownValue.{KnownValue}
 use Rattle.cp_ends_verdict.specs.declared.known.Witness.{Witness}
@@ -55,12 +55,12 @@ those_waiting None = []
 those_waiting (Some list) = list.items
 
 -- what is known of what a topic speaks of
-abbrev pub told_of : Topic → Known → List Finding
+abbrev pub told_of : Topic → KnownEnds → List Finding
 told_of (topic.Ends ps) k = map ended (map end_pair k.ends.items)
 told_of (topic.Waiting process) k = map waiting_for_ever (those_waiting k.waits)
 told_of (topic.Shown text) k = map shown (map value_pair k.values.items)
 
-abbrev pub speaks_of : Expectation → Known → List Finding
+abbrev pub speaks_of : EndsExpectation → KnownEnds → List Finding
 speaks_of (Never t) k = told_of t k
 speaks_of (Sometimes t) k = told_of t k
 speaks_of (Only ps) k = map ended (map end_pair k.ends.items)
@@ -68,17 +68,17 @@ speaks_of (Only ps) k = map ended (map end_pair k.ends.items)
 -- ---- whether it is all
 
 -- all schedules were looked at, and no stretch was cut
-abbrev pub is_whole : Known → Bool
+abbrev pub is_whole : KnownEnds → Bool
 is_whole k = is_none k.looked && list_all (λ e. not (is_cut e.end)) k.ends.items
 
 -- all is kept that a topic speaks of
-abbrev pub is_kept : Topic → Known → Bool
+abbrev pub is_kept : Topic → KnownEnds → Bool
 is_kept (topic.Ends ps) k = true
 is_kept (topic.Waiting process) k = is_some k.waits
 is_kept (topic.Shown text) k = nat_le (vec_len k.values) MOST_VALUES
 
 -- what is not known is not so
-abbrev pub is_settled : Expectation → Known → Bool
+abbrev pub is_settled : EndsExpectation → KnownEnds → Bool
 is_settled (Never t) k = is_kept t k && is_whole k
 is_settled (Sometimes t) k = is_kept t k && is_whole k
 is_settled (Only ps) k = is_whole k
@@ -126,7 +126,7 @@ abbrev pub HasTexts : Spellings → List KnownValue → Type 0
 HasTexts names values = map (λ v. string_bytes v.text) values ≡ map (λ v. output_text names (v.value ∷ [])) values
 
 -- Of the schedules that were looked at each end and each value is known, with its first word. Only where there are too many states were not all looked at.
-pub record IsKnown (r : Tables) (gates : Gates) (steps most : ℕ) (k : Known) : Type 0 where
+pub record IsKnown (r : Tables) (gates : Gates) (steps most : ℕ) (k : KnownEnds) : Type 0 where
   pub states : List (Machine × List ℕ)
   pub all_states : AreFirsts (Looked k.looked (LeadsToState (slots r gates) without_output steps)) states
   pub ends : AreFirsts (Looked k.looked (on_slots r gates steps).ends) (map end_pair k.ends.items)

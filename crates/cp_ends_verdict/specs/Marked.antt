@@ -14,34 +14,34 @@ use Rattle.cp_ends_verdict.specs.Judged.{IsJudged}
 use Rattle.cp_ends_verdict.specs.Knowledge.{IsKnown}
 use Rattle.cp_ends_verdict.specs.declared.expectation.Topic.{Topic}
 use Rattle.cp_ends_verdict.specs.declared.expectation.Topic.TheVariants as topic
-use Rattle.cp_ends_verdict.specs.declared.expectation.Expectation.{Expectation}
-use Rattle.cp_ends_verdict.specs.declared.expectation.Expectation.TheVariants.{Never, Sometimes, Only}
-use Rattle.cp_ends_verdict.specs.declared.judging.Judgement.{Judgement}
-use Rattle.cp_ends_verdict.specs.declared.judging.Judgement.TheVariants as judgement
-use Rattle.cp_ends_verdict.specs.declared.known.Known.{Known}
+use Rattle.cp_ends_verdict.specs.declared.expectation.EndsExpectation.{EndsExpectation}
+use Rattle.cp_ends_verdict.specs.declared.expectation.EndsExpectation.TheVariants.{Never, Sometimes, Only}
+use Rattle.cp_ends_verdict.specs.declared.judging.EndsJudgement.{EndsJudgement}
+use Rattle.cp_ends_verdict.specs.declared.judging.EndsJudgement.TheVariants as judgement
+use Rattle.cp_ends_verdict.specs.declared.known.KnownEnds.{KnownEnds}
 use Rattle.cp_ends_verdict.specs.declared.known.Witness.{Witness}
-use Rattle.cp_ends_verdict.specs.declared.verdict.Mark.{Mark}
-use Rattle.cp_ends_verdict.specs.declared.verdict.Mark.TheVariants as mark
-use Rattle.cp_ends_verdict.specs.declared.verdict.Verdict.{Verdict}
-use Rattle.cp_ends_verdict.specs.declared.verdict.Verdict.TheVariants as verdict
+use Rattle.cp_ends_verdict.specs.declared.verdict.EndsMark.{EndsMark}
+use Rattle.cp_ends_verdict.specs.declared.verdict.EndsMark.TheVariants as mark
+use Rattle.cp_ends_verdict.specs.declared.verdict.EndsVerdict.{EndsVerdict}
+use Rattle.cp_ends_verdict.specs.declared.verdict.EndsVerdict.TheVariants as verdict
 
 -- it is judged to fail: with a schedule against it, or none where it asks for one and there is none
-abbrev pub IsJudgedToFail : (Expectation → Judgement → Type 0) → Expectation → Option Witness → Type 0
+abbrev pub IsJudgedToFail : (EndsExpectation → EndsJudgement → Type 0) → EndsExpectation → Option Witness → Type 0
 IsJudgedToFail J e (Some w) = J e (judgement.Against w)
 IsJudgedToFail J e None = J e judgement.Missing
 
 -- The verdict is by judgements: each holds; or this one fails; or none fails, and this one is open.
-abbrev pub AreJudged : (Expectation → Judgement → Type 0) → List Expectation → Verdict → Type 0
-AreJudged J es verdict.Holds = (e : Expectation) → Contains es e → J e judgement.Holds
+abbrev pub AreJudged : (EndsExpectation → EndsJudgement → Type 0) → List EndsExpectation → EndsVerdict → Type 0
+AreJudged J es verdict.Holds = (e : EndsExpectation) → Contains es e → J e judgement.Holds
 AreJudged J es (verdict.Fails e against) = Contains es e.now × IsJudgedToFail J e.now against
-AreJudged J es (verdict.Open e) = ((x : Expectation) → Contains es x → J x judgement.Holds ⊎ J x judgement.Open) × (Contains es e.now × J e.now judgement.Open)
+AreJudged J es (verdict.Open e) = ((x : EndsExpectation) → Contains es x → J x judgement.Holds ⊎ J x judgement.Open) × (Contains es e.now × J e.now judgement.Open)
 
 -- by judgements of what a program does
-abbrev pub IsMarked : Spellings → Behaviour → Known → List Expectation → Verdict → Type 0
+abbrev pub IsMarked : Spellings → Behaviour → KnownEnds → List EndsExpectation → EndsVerdict → Type 0
 IsMarked names b k es v = AreJudged (IsJudged names b k) es v
 
 -- the verdict on some expectations and one more
-abbrev pub joined : Verdict → Bor Expectation → Judgement → Verdict
+abbrev pub joined : EndsVerdict → Bor EndsExpectation → EndsJudgement → EndsVerdict
 joined (verdict.Fails f against) e j = verdict.Fails f against
 joined verdict.Holds e judgement.Holds = verdict.Holds
 joined verdict.Holds e (judgement.Against w) = verdict.Fails e (Some w)
@@ -58,12 +58,12 @@ abbrev pub is_of_waiting : Topic → Bool
 is_of_waiting (topic.Waiting process) = true
 is_of_waiting t = false
 
-abbrev pub asks_waits : Expectation → Bool
+abbrev pub asks_waits : EndsExpectation → Bool
 asks_waits (Never t) = is_of_waiting t
 asks_waits (Sometimes t) = is_of_waiting t
 asks_waits (Only ps) = false
 
-abbrev pub ask_waits : List Expectation → Bool
+abbrev pub ask_waits : List EndsExpectation → Bool
 ask_waits es = list_any asks_waits es
 
 -- anybody in line may go into a monitor that becomes free
@@ -72,34 +72,34 @@ is_any First = false
 is_any Any = true
 
 -- who waits can't be asked then
-abbrev pub can_be_asked : Gates → List Expectation → Bool
+abbrev pub can_be_asked : Gates → List EndsExpectation → Bool
 can_be_asked gates es = not (ask_waits es && is_any gates)
 
 -- ---- marks
 
-abbrev pub open_mark : Option ℕ → Mark
+abbrev pub open_mark : Option ℕ → EndsMark
 open_mark None = mark.Open
 open_mark (Some d) = mark.TooMany
 
-abbrev pub mark_of : Verdict → Option ℕ → Mark
+abbrev pub mark_of : EndsVerdict → Option ℕ → EndsMark
 mark_of verdict.Holds looked = mark.Holds
 mark_of (verdict.Fails e against) looked = mark.Fails
 mark_of (verdict.Open e) looked = open_mark looked
 
 -- The mark is that of a verdict by what is known, which is all that words of any length lead to, or all that words of so many numbers do.
-pub record IsMarkOf (r : Tables) (gates : Gates) (steps most : ℕ) (es : List Expectation) (m : Mark) : Type 0 where
-  pub known : Known
+pub record IsMarkOf (r : Tables) (gates : Gates) (steps most : ℕ) (es : List EndsExpectation) (m : EndsMark) : Type 0 where
+  pub known : KnownEnds
   pub is_known : IsKnown r gates steps most known
-  pub verdict : Verdict
+  pub verdict : EndsVerdict
   pub is : m ≡ mark_of verdict known.looked
   pub marked : IsMarked r.names (on_slots r gates steps) known es verdict
 
 -- each holds, or one does not
-abbrev pub IsTrueMark : Spellings → Behaviour → List Expectation → Mark → Type 0
-IsTrueMark names b es mark.Holds = (e : Expectation) → Contains es e → IsTrue names b e
-IsTrueMark names b es mark.Fails = (e : Expectation) × Contains es e × (IsTrue names b e → ⊥)
+abbrev pub IsTrueMark : Spellings → Behaviour → List EndsExpectation → EndsMark → Type 0
+IsTrueMark names b es mark.Holds = (e : EndsExpectation) → Contains es e → IsTrue names b e
+IsTrueMark names b es mark.Fails = (e : EndsExpectation) × Contains es e × (IsTrue names b e → ⊥)
 IsTrueMark names b es m = Unit {0}
 
 -- of whatever program was read, is accepted, and has these tables: it is true of its meaning
-abbrev pub IsMeantMark : Tables → Gates → ℕ → List Expectation → Mark → Type 0
+abbrev pub IsMeantMark : Tables → Gates → ℕ → List EndsExpectation → EndsMark → Type 0
 IsMeantMark r gates steps es m = OfItsPrograms r (λ t. IsTrueMark r.names (on_names t (named_gates gates) steps) es m)

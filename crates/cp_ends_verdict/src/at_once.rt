@@ -3,15 +3,15 @@
 ghost use Rattle.std.specs.Prelude.{◌≡◌, ◌≤◌, ◌⊎◌, IfOk, false, true};
 ghost use Rattle.cp_ends_verdict.specs.AtOnce as spec;
 ghost use Rattle.cp_ends_verdict.specs.Marked.{can_be_asked, mark_of as spec_mark_of};
-ghost use Rattle.cp_ends_verdict.specs.declared.verdict.Mark.TheVariants.{Misread};
+ghost use Rattle.cp_ends_verdict.specs.declared.verdict.EndsMark.TheVariants.{Misread};
 
-use crate::expectation::Expectation;
+use crate::expectation::EndsExpectation;
 use crate::judging::is_whole;
 use crate::knowing_at_once::known_at_once;
-use crate::known::Known;
+use crate::known::KnownEnds;
 use crate::marking::{MarkSubject, ask_waits, is_any, mark_list};
-use crate::saying::{Marked, open_words, said_of_each};
-use crate::verdict::{Mark, Verdict, mark_of, verdict_on};
+use crate::saying::{MarkedEnds, open_words, said_of_each};
+use crate::verdict::{EndsMark, EndsVerdict, mark_of, verdict_on};
 use cp_at_once::search_at_once;
 use cp_machine::Gates;
 use std::alloc::{AllocError, Global};
@@ -21,13 +21,13 @@ use std::alloc::{AllocError, Global};
 pub fn mark_in_turn(
     alloc: Global,
     subject: MarkSubject<'_>,
-    list: &[Expectation],
-) -> Result<Marked, AllocError>
+    list: &[EndsExpectation],
+) -> Result<MarkedEnds, AllocError>
     ensures { 1 ≤ subject.entry.most → can_be_asked subject.entry.limits.gates list.now ≡ true → IfOk result (λ m. spec.IsMarkInTurn subject.entry.program.now subject.entry.limits.gates subject.entry.limits.steps subject.entry.most list.now m.mark) }
 {
     let marked = mark_list(alloc, subject, list)?;
     match marked.mark {
-        Mark::TooMany => marked_again(alloc, subject, list, marked),
+        EndsMark::TooMany => marked_again(alloc, subject, list, marked),
         _ => Ok(marked),
     }
 }
@@ -36,9 +36,9 @@ pub fn mark_in_turn(
 fn marked_again(
     alloc: Global,
     subject: MarkSubject<'_>,
-    list: &[Expectation],
-    marked: Marked,
-) -> Result<Marked, AllocError>
+    list: &[EndsExpectation],
+    marked: MarkedEnds,
+) -> Result<MarkedEnds, AllocError>
     ensures { IfOk result (λ m. spec.IsAgain subject.entry.program.now subject.entry.limits.gates subject.entry.limits.steps list.now marked.mark m.mark) }
 {
     if can_be_at_once(subject.limits.gates, list) {
@@ -53,13 +53,13 @@ fn marked_again(
 fn told_again(
     alloc: Global,
     subject: MarkSubject<'_>,
-    marked: Marked,
-    again: Marked,
-) -> Result<Marked, AllocError>
+    marked: MarkedEnds,
+    again: MarkedEnds,
+) -> Result<MarkedEnds, AllocError>
     ensures { IfOk result (λ m. (m.mark ≡ marked.mark) ⊎ (m.mark ≡ again.mark)) }
 {
     match again.mark {
-        Mark::TooMany => marked.with_line("so there are with kernel calls at once\n"),
+        EndsMark::TooMany => marked.with_line("so there are with kernel calls at once\n"),
         _ => {
             let most = subject.most;
             let line = format!(in alloc;
@@ -71,7 +71,7 @@ fn told_again(
 }
 
 // Whether kernel calls at once can settle it: not who waits, and not where anybody in line may go into a monitor.
-fn can_be_at_once(gates: Gates, list: &[Expectation]) -> bool
+fn can_be_at_once(gates: Gates, list: &[EndsExpectation]) -> bool
     ensures { result ≡ spec.can_be_at_once gates list.now }
 {
     !is_any(gates) && !ask_waits(list)
@@ -81,13 +81,13 @@ fn can_be_at_once(gates: Gates, list: &[Expectation]) -> bool
 pub fn mark_at_once(
     alloc: Global,
     subject: MarkSubject<'_>,
-    list: &[Expectation],
-) -> Result<Marked, AllocError>
+    list: &[EndsExpectation],
+) -> Result<MarkedEnds, AllocError>
     ensures mark { spec.can_be_at_once subject.entry.limits.gates list.now ≡ true → IfOk result (λ m. spec.IsMarkAtOnce subject.entry.program.now subject.entry.limits.steps list.now m.mark) }
     ensures refused { spec.can_be_at_once subject.entry.limits.gates list.now ≡ false → IfOk result (λ m. m.mark ≡ Misread) }
 {
     if !can_be_at_once(subject.limits.gates, list) {
-        return Marked::misread(alloc, "waiting can't be asked with --at-once\n");
+        return MarkedEnds::misread(alloc, "waiting can't be asked with --at-once\n");
     }
     let MarkSubject {
         program,
@@ -105,18 +105,18 @@ pub fn mark_at_once(
 fn tell(
     alloc: Global,
     subject: MarkSubject<'_>,
-    known: &Known,
-    list: &[Expectation],
-    verdict: Verdict<'_>,
-) -> Result<Marked, AllocError>
+    known: &KnownEnds,
+    list: &[EndsExpectation],
+    verdict: EndsVerdict<'_>,
+) -> Result<MarkedEnds, AllocError>
     ensures { IfOk result (λ m. m.mark ≡ spec_mark_of verdict.entry known.now.looked) }
 {
     let mark = mark_of(verdict, known);
     let mut note = String::new(alloc);
-    if mark == Mark::Holds {
+    if mark == EndsMark::Holds {
         note.push_str(held_words(known))?;
     }
-    if mark == Mark::TooMany {
+    if mark == EndsMark::TooMany {
         let most = subject.most;
         write!(
             note,
@@ -135,7 +135,7 @@ fn tell(
         "a schedule against it: ",
         open,
     )?;
-    Ok(Marked {
+    Ok(MarkedEnds {
         mark,
         note,
         each,
@@ -143,7 +143,7 @@ fn tell(
     })
 }
 
-fn held_words(known: &Known) -> &'static str {
+fn held_words(known: &KnownEnds) -> &'static str {
     if is_whole(known) {
         "for schedules of any length, by those in which kernel calls are made at once\n"
     } else {

@@ -28,7 +28,7 @@ pub enum Topic {
 
 /// What an expectation says.
 #[derive(Drop)]
-pub enum Expectation {
+pub enum EndsExpectation {
     /// No schedule is so.
     Never(Topic),
     /// Some schedule is so.

@@ -13,15 +13,15 @@ ghost use Rattle.cp_ends_verdict.specs.Expectations as match_spec;
 ghost use Rattle.cp_ends_verdict.specs.Judged as spec;
 ghost use Rattle.cp_ends_verdict.specs.Knowledge as known_spec;
 
-use crate::expectation::{EndPattern, Expectation, Topic};
-use crate::known::{Known, KnownEnd, KnownValue, Witness};
+use crate::expectation::{EndPattern, EndsExpectation, Topic};
+use crate::known::{KnownEnd, KnownEnds, KnownValue, Witness};
 use crate::matching::{is_cut, is_meant, is_named};
 use cp_ends::found::MOST_VALUES;
 use cp_waits::Waiting;
 
 /// What is known of an expectation.
 #[derive(Clone, Copy, Drop)]
-pub enum Judgement<'a> {
+pub enum EndsJudgement<'a> {
     Holds,
     /// A schedule is against it, and this is the first.
     Against(Witness<'a>),
@@ -107,7 +107,7 @@ fn waiting_witness<'a>(waiting: Option<&'a Waiting>) -> Option<Witness<'a>>
 }
 
 /// The first that a topic speaks of.
-fn first_about<'a>(known: &'a Known, topic: &Topic) -> Option<Witness<'a>>
+fn first_about<'a>(known: &'a KnownEnds, topic: &Topic) -> Option<Witness<'a>>
     ensures { (names : Spellings) → known_spec.HasTexts names known.entry.now.values.items → option_map known_spec.finding_of result ≡ find (is_about names topic.now) (known_spec.told_of topic.now known.entry.now) }
 {
     match topic {
@@ -121,13 +121,13 @@ fn first_about<'a>(known: &'a Known, topic: &Topic) -> Option<Witness<'a>>
 }
 
 /// The first that settles an expectation.
-fn first_settling<'a>(known: &'a Known, expectation: &Expectation) -> Option<Witness<'a>>
+fn first_settling<'a>(known: &'a KnownEnds, expectation: &EndsExpectation) -> Option<Witness<'a>>
     ensures { (names : Spellings) → known_spec.HasTexts names known.entry.now.values.items → option_map known_spec.finding_of result ≡ find (settles names expectation.now) (known_spec.speaks_of expectation.now known.entry.now) }
 {
     match expectation {
-        Expectation::Never(topic) => first_about(known, topic),
-        Expectation::Sometimes(topic) => first_about(known, topic),
-        Expectation::Only(patterns) => end_witness(first_other(&known.ends, patterns)),
+        EndsExpectation::Never(topic) => first_about(known, topic),
+        EndsExpectation::Sometimes(topic) => first_about(known, topic),
+        EndsExpectation::Only(patterns) => end_witness(first_other(&known.ends, patterns)),
     }
 }
 
@@ -144,14 +144,14 @@ fn has_no_cut(ends: &[KnownEnd]) -> bool
 }
 
 /// Whether all schedules were looked at, and no stretch was cut.
-pub fn is_whole(known: &Known) -> bool
+pub fn is_whole(known: &KnownEnds) -> bool
     ensures { result ≡ known_spec.is_whole known.now }
 {
     known.looked.is_none() && has_no_cut(&known.ends)
 }
 
 /// Whether all is kept that a topic speaks of.
-fn is_kept(topic: &Topic, known: &Known) -> bool
+fn is_kept(topic: &Topic, known: &KnownEnds) -> bool
     ensures { result ≡ known_spec.is_kept topic.now known.now }
 {
     match topic {
@@ -162,35 +162,35 @@ fn is_kept(topic: &Topic, known: &Known) -> bool
 }
 
 /// Whether what is not known of an expectation is not so.
-fn is_settled(expectation: &Expectation, known: &Known) -> bool
+fn is_settled(expectation: &EndsExpectation, known: &KnownEnds) -> bool
     ensures { result ≡ known_spec.is_settled expectation.now known.now }
 {
     match expectation {
-        Expectation::Never(topic) => is_kept(topic, known) && is_whole(known),
-        Expectation::Sometimes(topic) => is_kept(topic, known) && is_whole(known),
-        Expectation::Only(_) => is_whole(known),
+        EndsExpectation::Never(topic) => is_kept(topic, known) && is_whole(known),
+        EndsExpectation::Sometimes(topic) => is_kept(topic, known) && is_whole(known),
+        EndsExpectation::Only(_) => is_whole(known),
     }
 }
 
 fn judgement_from<'a>(
-    expectation: &Expectation,
+    expectation: &EndsExpectation,
     found: Option<Witness<'a>>,
     settled: bool,
-) -> Judgement<'a>
+) -> EndsJudgement<'a>
     ensures { result ≡ spec.judgement_of (asks_some expectation.now) found.entry settled }
 {
     match (expectation, found) {
-        (Expectation::Sometimes(_), Some(_)) => Judgement::Holds,
-        (Expectation::Sometimes(_), None) if settled => Judgement::Missing,
-        (Expectation::Sometimes(_), None) => Judgement::Open,
-        (_, Some(witness)) => Judgement::Against(witness),
-        (_, None) if settled => Judgement::Holds,
-        (_, None) => Judgement::Open,
+        (EndsExpectation::Sometimes(_), Some(_)) => EndsJudgement::Holds,
+        (EndsExpectation::Sometimes(_), None) if settled => EndsJudgement::Missing,
+        (EndsExpectation::Sometimes(_), None) => EndsJudgement::Open,
+        (_, Some(witness)) => EndsJudgement::Against(witness),
+        (_, None) if settled => EndsJudgement::Holds,
+        (_, None) => EndsJudgement::Open,
     }
 }
 
 /// What is known of an expectation.
-pub fn judge<'a>(known: &'a Known, expectation: &Expectation) -> Judgement<'a>
+pub fn judge<'a>(known: &'a KnownEnds, expectation: &EndsExpectation) -> EndsJudgement<'a>
     ensures slots { (r : Tables) (gates : Gates) (steps most : ℕ) → known_spec.IsKnown r gates steps most known.entry.now → spec.IsJudged r.names (on_slots r gates steps) known.entry.now expectation.now result }
     ensures known { (names : Spellings) → known_spec.HasTexts names known.entry.now.values.items → spec.IsJudgedBy names known.entry.now expectation.now result }
 {

@@ -8,7 +8,7 @@ ghost use Rattle.cp_ends.specs.Holds.{Holds, IsWordOf, SlotFindings};
 ghost use Rattle.cp_ends.specs.Whole.{IsAnswer};
 ghost use Rattle.cp_ends_verdict.specs.Knowledge as spec;
 
-use crate::known::{Known, KnownEnd, KnownValue};
+use crate::known::{KnownEnd, KnownEnds, KnownValue};
 use cp_ends::Found;
 use cp_ends::found::{FoundEnd, FoundValue};
 use cp_machine::Shown;
@@ -23,14 +23,14 @@ pub fn known_of(
     program: &Resolved,
     found: &Found,
     waits: Option<Vec<Waiting>>,
-) -> Result<Known, AllocError>
+) -> Result<KnownEnds, AllocError>
     ensures known { IfOk result (λ k. (gates : Gates) (steps most : ℕ) → IsAnswer program.now gates steps most found.now → spec.KnowsWaits program.now gates steps waits → spec.IsKnown program.now gates steps most k) }
     ensures waits { IfOk result (λ k. k.waits ≡ waits) }
 {
     let looked = looked_at(alloc, found)?;
     let ends = known_ends(alloc, found, looked)?;
     let values = known_values(alloc, program, found, looked)?;
-    Ok(Known {
+    Ok(KnownEnds {
         ends,
         values,
         waits,

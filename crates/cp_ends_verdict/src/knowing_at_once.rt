@@ -13,7 +13,7 @@ ghost use Rattle.cp_ends_verdict.specs.AtOnce as spec;
 ghost use Rattle.cp_ends_verdict.specs.Knowledge.{HasTexts, end_pair, value_pair};
 
 use crate::knowing::text_of;
-use crate::known::{Known, KnownEnd, KnownValue};
+use crate::known::{KnownEnd, KnownEnds, KnownValue};
 use cp_at_once::FoundAtOnce;
 use cp_slots::Resolved;
 use std::alloc::{AllocError, Global};
@@ -23,12 +23,12 @@ pub fn known_at_once(
     alloc: Global,
     program: &Resolved,
     found: &FoundAtOnce,
-) -> Result<Known, AllocError>
+) -> Result<KnownEnds, AllocError>
     ensures { IfOk result (λ k. (steps most : ℕ) → IsAnswer program.now First steps most found.now → spec.IsKnownAtOnce program.now steps k) }
 {
     let ends = known_ends(alloc, found)?;
     let values = known_values(alloc, program, found)?;
-    Ok(Known {
+    Ok(KnownEnds {
         ends,
         values,
         waits: None,

@@ -21,7 +21,7 @@ pub struct KnownValue {
 
 /// The ends and values of the schedules that were looked at, in the order of their words, and who may wait for ever.
 #[derive(Drop)]
-pub struct Known {
+pub struct KnownEnds {
     pub ends: Vec<KnownEnd>,
     pub values: Vec<KnownValue>,
     /// Who may wait for ever, where that was asked and is settled.

@@ -15,9 +15,9 @@ pub mod verdict;
 pub mod words;
 
 pub use at_once::{mark_at_once, mark_in_turn};
-pub use expectation::Expectation;
+pub use expectation::EndsExpectation;
 pub use marking::MarkSubject;
-pub use reading::{Reading, expectations};
-pub use saying::{Marked, Said, Standing};
-pub use verdict::Mark;
+pub use reading::{EndsReading, expectations};
+pub use saying::{MarkedEnds, Said, Standing};
+pub use verdict::EndsMark;
 pub use words::misread_text;

@@ -5,14 +5,14 @@ ghost use Rattle.cp_ends.specs.Holds.{HasFindings};
 ghost use Rattle.cp_ends.specs.Whole.{IsAnswer};
 ghost use Rattle.cp_ends_verdict.specs.Knowledge.{IsKnown, KnowsWaits};
 ghost use Rattle.cp_ends_verdict.specs.Marked as spec;
-ghost use Rattle.cp_ends_verdict.specs.declared.verdict.Mark.TheVariants.{Misread};
+ghost use Rattle.cp_ends_verdict.specs.declared.verdict.EndsMark.TheVariants.{Misread};
 
-use crate::expectation::{Expectation, Topic};
+use crate::expectation::{EndsExpectation, Topic};
 use crate::judging::is_whole;
 use crate::knowing::known_of;
-use crate::known::Known;
-use crate::saying::{Marked, open_words, said_of_each};
-use crate::verdict::{Mark, Verdict, mark_of, verdict_on};
+use crate::known::KnownEnds;
+use crate::saying::{MarkedEnds, open_words, said_of_each};
+use crate::verdict::{EndsMark, EndsVerdict, mark_of, verdict_on};
 use cp_ends::{Found, search_ends};
 use cp_legend::Legend;
 use cp_machine::Gates;
@@ -34,15 +34,15 @@ pub struct MarkSubject<'a> {
 pub fn mark_list(
     alloc: Global,
     subject: MarkSubject<'_>,
-    list: &[Expectation],
-) -> Result<Marked, AllocError>
+    list: &[EndsExpectation],
+) -> Result<MarkedEnds, AllocError>
     ensures mark { 1 ≤ subject.entry.most → spec.can_be_asked subject.entry.limits.gates list.now ≡ true → IfOk result (λ m. spec.IsMarkOf subject.entry.program.now subject.entry.limits.gates subject.entry.limits.steps subject.entry.most list.now m.mark) }
     ensures refused { spec.can_be_asked subject.entry.limits.gates list.now ≡ false → IfOk result (λ m. m.mark ≡ Misread) }
     ensures meaning { 1 ≤ subject.entry.most → spec.can_be_asked subject.entry.limits.gates list.now ≡ true → IfOk result (λ m. spec.IsMeantMark subject.entry.program.now subject.entry.limits.gates subject.entry.limits.steps list.now m.mark) }
 {
     let asks = ask_waits(list);
     if asks && is_any(subject.limits.gates) {
-        return Marked::misread(alloc, "waiting can't be asked with --gates any\n");
+        return MarkedEnds::misread(alloc, "waiting can't be asked with --gates any\n");
     }
     let known = knowledge(alloc, subject, asks)?;
     let verdict = verdict_on(&known, list);
@@ -68,18 +68,18 @@ fn is_of_waiting(topic: &Topic) -> bool
     }
 }
 
-fn asks_waits(expectation: &Expectation) -> bool
+fn asks_waits(expectation: &EndsExpectation) -> bool
     ensures { result ≡ spec.asks_waits expectation.now }
 {
     match expectation {
-        Expectation::Never(topic) => is_of_waiting(topic),
-        Expectation::Sometimes(topic) => is_of_waiting(topic),
-        Expectation::Only(_) => false,
+        EndsExpectation::Never(topic) => is_of_waiting(topic),
+        EndsExpectation::Sometimes(topic) => is_of_waiting(topic),
+        EndsExpectation::Only(_) => false,
     }
 }
 
 /// Whether one of some expectations asks who waits.
-pub fn ask_waits(list: &[Expectation]) -> bool
+pub fn ask_waits(list: &[EndsExpectation]) -> bool
     ensures { result ≡ spec.ask_waits list.now }
 {
     for expectation in list {
@@ -91,7 +91,7 @@ pub fn ask_waits(list: &[Expectation]) -> bool
 }
 
 // What is known of the schedules of a program, and of who may wait for ever where that is asked.
-fn knowledge(alloc: Global, subject: MarkSubject<'_>, asks: bool) -> Result<Known, AllocError>
+fn knowledge(alloc: Global, subject: MarkSubject<'_>, asks: bool) -> Result<KnownEnds, AllocError>
     ensures { 1 ≤ subject.entry.most → IfOk result (λ k. IsKnown subject.entry.program.now subject.entry.limits.gates subject.entry.limits.steps subject.entry.most k) }
 {
     let MarkSubject {
@@ -129,16 +129,16 @@ fn waits_of(
 fn tell(
     alloc: Global,
     subject: MarkSubject<'_>,
-    known: &Known,
-    list: &[Expectation],
-    verdict: Verdict<'_>,
-) -> Result<Marked, AllocError>
+    known: &KnownEnds,
+    list: &[EndsExpectation],
+    verdict: EndsVerdict<'_>,
+) -> Result<MarkedEnds, AllocError>
     ensures { IfOk result (λ m. m.mark ≡ spec.mark_of verdict.entry known.now.looked) }
 {
     let mark = mark_of(verdict, known);
     let mut note = String::new(alloc);
     let mut open = String::new(alloc);
-    if mark == Mark::Holds {
+    if mark == EndsMark::Holds {
         note.push_str(held_words(known))?;
     }
     match known.looked {
@@ -148,7 +148,7 @@ fn tell(
         )?,
         None => open.push_str(open_words(known))?,
     }
-    if mark == Mark::TooMany {
+    if mark == EndsMark::TooMany {
         let most = subject.most;
         write!(note, "too many states: there may be {most}\n")?;
     }
@@ -160,7 +160,7 @@ fn tell(
         "first against it: ",
         open.as_str(),
     )?;
-    Ok(Marked {
+    Ok(MarkedEnds {
         mark,
         note,
         each,
@@ -168,7 +168,7 @@ fn tell(
     })
 }
 
-fn held_words(known: &Known) -> &'static str {
+fn held_words(known: &KnownEnds) -> &'static str {
     if is_whole(known) {
         "for schedules of any length\n"
     } else {

@@ -1,6 +1,6 @@
 //! Expectations of schedules of any length, as they are written.
 
-use crate::expectation::{EndPattern, Expectation, Topic};
+use crate::expectation::{EndPattern, EndsExpectation, Topic};
 use cp_legend::Legend;
 use cp_machine::ErrorName;
 use cp_verdict::value_of;
@@ -8,7 +8,7 @@ use std::alloc::{AllocError, Global};
 
 /// What could have stood where a text of expectations goes wrong.
 #[derive(Clone, Copy, PartialEq, Eq)]
-pub enum Wanted {
+pub enum WantedEndsWord {
     Claim,
     /// An end, `waiting` or `shown`.
     Topic,
@@ -24,7 +24,7 @@ pub enum Wanted {
 
 // The word with which an expectation begins.
 #[derive(Clone, Copy, PartialEq, Eq)]
-enum Claim {
+enum EndsClaim {
     Never,
     Sometimes,
     Only,
@@ -32,25 +32,28 @@ enum Claim {
 
 /// What a text says.
 #[derive(Drop)]
-pub enum Reading {
-    Expectations(Vec<Expectation>),
+pub enum EndsReading {
+    Expectations(Vec<EndsExpectation>),
     /// This was wanted in place of the word with this number, counted from 0, or of the end.
-    Misread { wanted: Wanted, place: usize },
+    Misread {
+        wanted: WantedEndsWord,
+        place: usize,
+    },
 }
 
 // The words of a text, of which those before this place are read; and what went wrong.
 #[derive(Drop)]
-struct Reader<'a> {
+struct EndsReader<'a> {
     words: Vec<&'a str>,
     place: usize,
-    fault: Option<Wanted>,
+    fault: Option<WantedEndsWord>,
 }
 
-fn claim_of(word: &str) -> Option<Claim> {
+fn claim_of(word: &str) -> Option<EndsClaim> {
     match word {
-        "never" => Some(Claim::Never),
-        "some" => Some(Claim::Sometimes),
-        "only" => Some(Claim::Only),
+        "never" => Some(EndsClaim::Never),
+        "some" => Some(EndsClaim::Sometimes),
+        "only" => Some(EndsClaim::Only),
         _ => None,
     }
 }
@@ -94,7 +97,7 @@ fn process_of(legend: &Legend, word: &str) -> Option<u8> {
     None
 }
 
-impl<'a> Reader<'a> {
+impl<'a> EndsReader<'a> {
     fn word(&self) -> &'a str {
         match self.words.get(self.place) {
             Some(word) => word,
@@ -110,7 +113,7 @@ impl<'a> Reader<'a> {
         self.place = self.place.saturating_add(1);
     }
 
-    fn miss<T>(&mut self, wanted: Wanted) -> Option<T> {
+    fn miss<T>(&mut self, wanted: WantedEndsWord) -> Option<T> {
         self.fault = Some(wanted);
         None
     }
@@ -120,17 +123,21 @@ impl<'a> Reader<'a> {
         &mut self,
         alloc: Global,
         legend: &Legend,
-    ) -> Result<Option<Expectation>, AllocError> {
+    ) -> Result<Option<EndsExpectation>, AllocError> {
         let Some(claim) = claim_of(self.word()) else {
-            return Ok(self.miss(Wanted::Claim));
+            return Ok(self.miss(WantedEndsWord::Claim));
         };
         self.go_on();
         Ok(match claim {
-            Claim::Never => self.topic(alloc, legend, claim)?.map(Expectation::Never),
-            Claim::Sometimes => self
+            EndsClaim::Never => self
                 .topic(alloc, legend, claim)?
-                .map(Expectation::Sometimes),
-            Claim::Only => self.ends(alloc, Wanted::End)?.map(Expectation::Only),
+                .map(EndsExpectation::Never),
+            EndsClaim::Sometimes => self
+                .topic(alloc, legend, claim)?
+                .map(EndsExpectation::Sometimes),
+            EndsClaim::Only => self
+                .ends(alloc, WantedEndsWord::End)?
+                .map(EndsExpectation::Only),
         })
     }
 
@@ -139,7 +146,7 @@ impl<'a> Reader<'a> {
         &mut self,
         alloc: Global,
         legend: &Legend,
-        claim: Claim,
+        claim: EndsClaim,
     ) -> Result<Option<Topic>, AllocError> {
         match self.word() {
             "waiting" => {
@@ -150,24 +157,24 @@ impl<'a> Reader<'a> {
                 self.go_on();
                 self.shown(alloc)
             }
-            _ => Ok(self.ends(alloc, Wanted::Topic)?.map(Topic::Ends)),
+            _ => Ok(self.ends(alloc, WantedEndsWord::Topic)?.map(Topic::Ends)),
         }
     }
 
     // What follows `waiting`.
-    fn waiting(&mut self, legend: &Legend, claim: Claim) -> Option<Topic> {
+    fn waiting(&mut self, legend: &Legend, claim: EndsClaim) -> Option<Topic> {
         if self.is_over() || self.word() == "and" {
             return Some(Topic::Waiting(None));
         }
-        if claim == Claim::Never {
-            return self.miss(Wanted::And);
+        if claim == EndsClaim::Never {
+            return self.miss(WantedEndsWord::And);
         }
         let Some(process) = process_of(legend, self.word()) else {
-            return self.miss(Wanted::Process);
+            return self.miss(WantedEndsWord::Process);
         };
         self.go_on();
         if !self.is_over() && self.word() != "and" {
-            return self.miss(Wanted::And);
+            return self.miss(WantedEndsWord::And);
         }
         Some(Topic::Waiting(Some(process)))
     }
@@ -175,15 +182,15 @@ impl<'a> Reader<'a> {
     // What follows `shown`.
     fn shown(&mut self, alloc: Global) -> Result<Option<Topic>, AllocError> {
         if self.is_over() {
-            return Ok(self.miss(Wanted::Value));
+            return Ok(self.miss(WantedEndsWord::Value));
         }
         let Some(value) = value_of(self.word()) else {
-            return Ok(self.miss(Wanted::Value));
+            return Ok(self.miss(WantedEndsWord::Value));
         };
         let value = String::from_str(alloc, value)?;
         self.go_on();
         if !self.is_over() && self.word() != "and" {
-            return Ok(self.miss(Wanted::And));
+            return Ok(self.miss(WantedEndsWord::And));
         }
         Ok(Some(Topic::Shown(value)))
     }
@@ -192,7 +199,7 @@ impl<'a> Reader<'a> {
     fn ends(
         &mut self,
         alloc: Global,
-        wanted: Wanted,
+        wanted: WantedEndsWord,
     ) -> Result<Option<Vec<EndPattern>>, AllocError> {
         let mut ends = Vec::new(alloc);
         let mut wanted = wanted;
@@ -206,10 +213,10 @@ impl<'a> Reader<'a> {
             if self.is_over() || self.word() == "and" {
                 return Ok(Some(ends));
             }
-            wanted = Wanted::Joint;
+            wanted = WantedEndsWord::Joint;
             if self.word() == "or" {
                 self.go_on();
-                wanted = Wanted::End;
+                wanted = WantedEndsWord::End;
             }
         }
         Ok(self.miss(wanted))
@@ -228,10 +235,10 @@ impl<'a> Reader<'a> {
 }
 
 /// The expectations of a text, joined by `and`.
-pub fn expectations(alloc: Global, legend: &Legend, text: &str) -> Result<Reading, AllocError> {
+pub fn expectations(alloc: Global, legend: &Legend, text: &str) -> Result<EndsReading, AllocError> {
     let words: Vec<&str> = text.split_whitespace().collect(alloc)?;
     let count = words.len();
-    let mut reader = Reader {
+    let mut reader = EndsReader {
         words,
         place: 0,
         fault: None,
@@ -243,13 +250,13 @@ pub fn expectations(alloc: Global, legend: &Legend, text: &str) -> Result<Readin
             None => break,
         }
         if reader.is_over() {
-            return Ok(Reading::Expectations(list));
+            return Ok(EndsReading::Expectations(list));
         }
         // An expectation ends there or at `and`.
         reader.go_on();
     }
-    Ok(Reading::Misread {
-        wanted: reader.fault.unwrap_or(Wanted::Claim),
+    Ok(EndsReading::Misread {
+        wanted: reader.fault.unwrap_or(WantedEndsWord::Claim),
         place: reader.place,
     })
 }

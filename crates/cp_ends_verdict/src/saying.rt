@@ -1,12 +1,12 @@
 //! What is said with a mark.
 
 ghost use Rattle.std.specs.Prelude.{◌≡◌, IfOk};
-ghost use Rattle.cp_ends_verdict.specs.declared.verdict.Mark.TheVariants.{Misread};
+ghost use Rattle.cp_ends_verdict.specs.declared.verdict.EndsMark.TheVariants.{Misread};
 
-use crate::expectation::Expectation;
-use crate::judging::{Judgement, is_whole, judge};
-use crate::known::Known;
-use crate::verdict::Mark;
+use crate::expectation::EndsExpectation;
+use crate::judging::{EndsJudgement, is_whole, judge};
+use crate::known::KnownEnds;
+use crate::verdict::EndsMark;
 use crate::words::{missing_words, push_expectation, push_witness};
 use cp_legend::Legend;
 use std::alloc::{AllocError, Global};
@@ -31,8 +31,8 @@ pub struct Said {
 
 /// A mark, and what is said with it.
 #[derive(Drop)]
-pub struct Marked {
-    pub mark: Mark,
+pub struct MarkedEnds {
+    pub mark: EndsMark,
     /// Lines on all expectations.
     pub note: String,
     pub each: Vec<Said>,
@@ -40,13 +40,13 @@ pub struct Marked {
     pub last: String,
 }
 
-impl Marked {
+impl MarkedEnds {
     /// That nothing can be said, and why.
-    pub fn misread(alloc: Global, why: &str) -> Result<Marked, AllocError>
+    pub fn misread(alloc: Global, why: &str) -> Result<MarkedEnds, AllocError>
         ensures { IfOk result (λ m. m.mark ≡ Misread) }
     {
-        Ok(Marked {
-            mark: Mark::Misread,
+        Ok(MarkedEnds {
+            mark: EndsMark::Misread,
             note: String::from_str(alloc, why)?,
             each: Vec::new(alloc),
             last: String::new(alloc),
@@ -54,12 +54,12 @@ impl Marked {
     }
 
     /// Adds a line on how the mark was found.
-    pub fn with_line(self, line: &str) -> Result<Marked, AllocError>
+    pub fn with_line(self, line: &str) -> Result<MarkedEnds, AllocError>
         ensures { IfOk result (λ m. m.mark ≡ self.mark) }
     {
         let mut last = self.last;
         last.push_str(line)?;
-        Ok(Marked {
+        Ok(MarkedEnds {
             mark: self.mark,
             note: self.note,
             each: self.each,
@@ -70,7 +70,7 @@ impl Marked {
     /// The lines: first those that fail, then those that are not settled.
     pub fn text(&self, alloc: Global) -> Result<String, AllocError> {
         let mut text = String::new(alloc);
-        if self.mark == Mark::Holds {
+        if self.mark == EndsMark::Holds {
             text.push_str("holds\n")?;
         }
         text.push_str(self.note.as_str())?;
@@ -103,8 +103,8 @@ impl Marked {
 pub fn said_of_each(
     alloc: Global,
     legend: &Legend,
-    known: &Known,
-    list: &[Expectation],
+    known: &KnownEnds,
+    list: &[EndsExpectation],
     before: &str,
     open: &str,
 ) -> Result<Vec<Said>, AllocError> {
@@ -118,24 +118,24 @@ pub fn said_of_each(
 fn said_of(
     alloc: Global,
     legend: &Legend,
-    known: &Known,
-    expectation: &Expectation,
+    known: &KnownEnds,
+    expectation: &EndsExpectation,
     before: &str,
     open: &str,
 ) -> Result<Said, AllocError> {
     let mut reason = String::new(alloc);
     let standing = match judge(known, expectation) {
-        Judgement::Holds => Standing::Holds,
-        Judgement::Against(witness) => {
+        EndsJudgement::Holds => Standing::Holds,
+        EndsJudgement::Against(witness) => {
             reason.push_str(before)?;
             push_witness(legend, &mut reason, witness)?;
             Standing::Fails
         }
-        Judgement::Missing => {
+        EndsJudgement::Missing => {
             reason.push_str(missing_words(expectation))?;
             Standing::Fails
         }
-        Judgement::Open => {
+        EndsJudgement::Open => {
             reason.push_str(open)?;
             Standing::Open
         }
@@ -150,7 +150,7 @@ fn said_of(
 }
 
 /// What is said of an expectation that is not settled, where there are not too many states.
-pub fn open_words(known: &Known) -> &'static str {
+pub fn open_words(known: &KnownEnds) -> &'static str {
     if is_whole(known) {
         "it is not known to hold, and no schedule is known to be against it"
     } else {

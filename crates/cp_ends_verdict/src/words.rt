@@ -1,8 +1,8 @@
 //! Expectations and what is said of them, in words.
 
-use crate::expectation::{EndPattern, Expectation, Topic};
+use crate::expectation::{EndPattern, EndsExpectation, Topic};
 use crate::known::Witness;
-use crate::reading::Wanted;
+use crate::reading::WantedEndsWord;
 use cp_ends::End;
 use cp_legend::Legend;
 use cp_run::OutcomeKind;
@@ -16,18 +16,18 @@ use std::alloc::{AllocError, Global};
 pub fn push_expectation(
     legend: &Legend,
     text: &mut String,
-    expectation: &Expectation,
+    expectation: &EndsExpectation,
 ) -> Result<(), AllocError> {
     match expectation {
-        Expectation::Never(topic) => {
+        EndsExpectation::Never(topic) => {
             text.push_str("never ")?;
             push_topic(legend, text, topic)
         }
-        Expectation::Sometimes(topic) => {
+        EndsExpectation::Sometimes(topic) => {
             text.push_str("some ")?;
             push_topic(legend, text, topic)
         }
-        Expectation::Only(patterns) => {
+        EndsExpectation::Only(patterns) => {
             text.push_str("only ")?;
             push_patterns(text, patterns)
         }
@@ -127,11 +127,11 @@ fn push_waiting(legend: &Legend, text: &mut String, waiting: &Waiting) -> Result
 }
 
 /// What is said where no schedule is as an expectation asks.
-pub fn missing_words(expectation: &Expectation) -> &'static str {
+pub fn missing_words(expectation: &EndsExpectation) -> &'static str {
     match expectation {
-        Expectation::Sometimes(Topic::Waiting(None)) => "nobody may wait for ever",
-        Expectation::Sometimes(Topic::Waiting(Some(_))) => "it may not wait for ever",
-        Expectation::Sometimes(Topic::Shown(_)) => "no schedule of any length displays it",
+        EndsExpectation::Sometimes(Topic::Waiting(None)) => "nobody may wait for ever",
+        EndsExpectation::Sometimes(Topic::Waiting(Some(_))) => "it may not wait for ever",
+        EndsExpectation::Sometimes(Topic::Shown(_)) => "no schedule of any length displays it",
         _ => "no schedule of any length ends so",
     }
 }
@@ -140,19 +140,19 @@ pub fn missing_words(expectation: &Expectation) -> &'static str {
 pub fn misread_text(
     alloc: Global,
     text: &str,
-    wanted: Wanted,
+    wanted: WantedEndsWord,
     place: usize,
 ) -> Result<String, AllocError> {
     let mut said = String::new(alloc);
     said.push_str("expected ")?;
     said.push_str(match wanted {
-        Wanted::Claim => "never, some or only",
-        Wanted::Topic => "finished, all-waiting, run-error, alone, spins, waiting or shown",
-        Wanted::End => "finished, all-waiting, run-error, alone or spins",
-        Wanted::Value => "a value",
-        Wanted::Process => "the number or the name of a process, or and",
-        Wanted::And => "and",
-        Wanted::Joint => "and, or, finished, all-waiting, run-error, alone or spins",
+        WantedEndsWord::Claim => "never, some or only",
+        WantedEndsWord::Topic => "finished, all-waiting, run-error, alone, spins, waiting or shown",
+        WantedEndsWord::End => "finished, all-waiting, run-error, alone or spins",
+        WantedEndsWord::Value => "a value",
+        WantedEndsWord::Process => "the number or the name of a process, or and",
+        WantedEndsWord::And => "and",
+        WantedEndsWord::Joint => "and, or, finished, all-waiting, run-error, alone or spins",
     })?;
     let Some(word) = text.split_whitespace().nth(place) else {
         said.push_str(", found the end\n")?;
@@ -166,14 +166,16 @@ pub fn misread_text(
 }
 
 // What can't be asked of schedules of any length, where the word asks for it.
-fn push_advice(text: &mut String, wanted: Wanted, word: &str) -> Result<(), AllocError> {
+fn push_advice(text: &mut String, wanted: WantedEndsWord, word: &str) -> Result<(), AllocError> {
     match wanted {
-        Wanted::Value => match as_name(word) {
+        WantedEndsWord::Value => match as_name(word) {
             Some(name) => push_doubt(text, name),
             None => Ok(()),
         },
-        Wanted::Joint if word == "output" => text.push_str("outputs can't be asked with --ends\n"),
-        Wanted::End | Wanted::Joint if word == "shown" => text.push_str(
+        WantedEndsWord::Joint if word == "output" => text.push_str(
+            "outputs can't be asked with --ends\n",
+        ),
+        WantedEndsWord::End | WantedEndsWord::Joint if word == "shown" => text.push_str(
             "with --ends it can be asked whether one value is never shown, or in some schedule\n",
         ),
         _ => Ok(()),

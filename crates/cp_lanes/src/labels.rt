@@ -1,7 +1,7 @@
 //! The words beside the events.
 
-use crate::sheet::{Fold, Row};
-use cp_legend::{Legend, Value};
+use crate::sheet::{Fold, PictureRow};
+use cp_legend::{Legend, SourceValue};
 use cp_story::{Happening, OpenCall, Returned, Story, StoryEvent, push_returned, push_shown};
 use std::alloc::{AllocError, Global};
 
@@ -90,7 +90,7 @@ pub fn label_of(
     alloc: Global,
     legend: &Legend,
     story: &Story,
-    row: Row,
+    row: PictureRow,
 ) -> Result<Option<PictureLabel>, AllocError> {
     match row.fold {
         Fold::None => match story.events.get(row.first) {
@@ -186,7 +186,7 @@ pub fn push_routine(
     legend: &Legend,
     words: &mut String,
     call: OpenCall,
-    arguments: &[Value],
+    arguments: &[SourceValue],
 ) -> Result<(), AllocError> {
     words.push_str(legend.routine_name(call.routine))?;
     let mut before = "(";

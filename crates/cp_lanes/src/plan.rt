@@ -1,7 +1,7 @@
 //! Where everything stands in the picture.
 
 use crate::labels::{PictureLabel, bold_width, plain_width, points};
-use crate::sheet::Row;
+use crate::sheet::PictureRow;
 use cp_legend::Legend;
 use cp_story::{Happening, Story};
 use std::alloc::{AllocError, Global};
@@ -79,7 +79,7 @@ pub fn plan_of(
     alloc: Global,
     legend: &Legend,
     story: &Story,
-    rows: &[Row],
+    rows: &[PictureRow],
     labels: &[Option<PictureLabel>],
     widths: Widths,
 ) -> Result<Plan, AllocError> {
@@ -197,7 +197,7 @@ fn lane_widths(
     alloc: Global,
     legend: &Legend,
     story: &Story,
-    rows: &[Row],
+    rows: &[PictureRow],
     labels: &[Option<PictureLabel>],
 ) -> Result<Vec<f64>, AllocError> {
     let mut widths = Vec::new(alloc);

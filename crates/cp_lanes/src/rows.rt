@@ -6,7 +6,7 @@ use crate::labels::{Face, PictureLabel, cut_fixed, pill_width, points};
 use crate::palette::{GREY, INK, PALE, RED, hue_of};
 use crate::pictures::{Scene, Texts, changes_words, source_line};
 use crate::plan::{Plan, ROW};
-use crate::sheet::{Fold, LINE, Row, Sheet};
+use crate::sheet::{Fold, LINE, PictureRow, Sheet};
 use crate::spans::Spans;
 use crate::svg::{Block, Style, Svg};
 use crate::wrapping::label_lines;
@@ -41,7 +41,7 @@ fn draw_row(
     scene: Scene<'_>,
     plan: &Plan,
     spans: &Spans,
-    row: Row,
+    row: PictureRow,
     label: &Option<PictureLabel>,
     changes: &[String],
 ) {
@@ -67,7 +67,7 @@ fn draw_event(
     scene: Scene<'_>,
     plan: &Plan,
     spans: &Spans,
-    row: Row,
+    row: PictureRow,
     event: &StoryEvent,
     label: &PictureLabel,
 ) {
@@ -89,7 +89,14 @@ fn draw_event(
 }
 
 // How often a process was chosen whose events are folded, and a dot that stands for several.
-fn draw_folded(svg: &mut Svg, scene: Scene<'_>, plan: &Plan, row: Row, event: &StoryEvent, y: f64) {
+fn draw_folded(
+    svg: &mut Svg,
+    scene: Scene<'_>,
+    plan: &Plan,
+    row: PictureRow,
+    event: &StoryEvent,
+    y: f64,
+) {
     let process = event.plain.process;
     let mut count = 0u32;
     for event in row.events(scene.story) {
@@ -152,7 +159,7 @@ fn is_busy(spans: &Spans, process: u8, y: f64) -> bool {
 }
 
 // Begins a row with a title: what happened, and what changed.
-fn open_row(alloc: Global, svg: &mut Svg, scene: Scene<'_>, row: Row) {
+fn open_row(alloc: Global, svg: &mut Svg, scene: Scene<'_>, row: PictureRow) {
     let events = row.events(scene.story);
     svg.begin_title();
     let mut is_first = true;
@@ -191,7 +198,7 @@ fn write_changes(svg: &mut Svg, changes: &str) {
 }
 
 // The number of a row, or the first and the last of those that are folded.
-fn draw_number(alloc: Global, svg: &mut Svg, row: Row) {
+fn draw_number(alloc: Global, svg: &mut Svg, row: PictureRow) {
     let style = Style {
         size: 9.5,
         fill: PALE,
@@ -450,7 +457,7 @@ fn draw_stop(
     scene: Scene<'_>,
     plan: &Plan,
     spans: &Spans,
-    row: Row,
+    row: PictureRow,
     stop: &AbruptEnd,
 ) {
     let y = row.middle();

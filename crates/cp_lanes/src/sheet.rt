@@ -37,7 +37,7 @@ pub enum Fold {
 
 /// A row: an event, the stop after the last one, or some events that are folded.
 #[derive(Clone, Copy, Drop)]
-pub struct Row {
+pub struct PictureRow {
     /// The first of its events, counted from 0.
     pub first: usize,
     pub count: usize,
@@ -49,7 +49,7 @@ pub struct Row {
 /// The rows with their places.
 #[derive(Drop)]
 pub struct Sheet {
-    pub rows: Vec<Row>,
+    pub rows: Vec<PictureRow>,
     /// How many events are left out before and after these.
     pub before: usize,
     pub after: usize,
@@ -57,7 +57,7 @@ pub struct Sheet {
     pub end: f64,
 }
 
-impl Row {
+impl PictureRow {
     /// The middle.
     pub fn middle(self) -> f64 {
         self.top + self.height / 2.0
@@ -88,7 +88,7 @@ impl Sheet {
     }
 
     /// The row of an event, if it has one of its own.
-    pub fn row_of(&self, event: usize) -> Option<Row> {
+    pub fn row_of(&self, event: usize) -> Option<PictureRow> {
         for row in &self.rows {
             if row.first == event && row.count == 1 {
                 return Some(*row);
@@ -161,7 +161,7 @@ fn bounds(extent: SheetExtent, total: usize) -> (usize, usize) {
 
 // Appends the rows of the next events, and answers how many these are.
 fn push_rows(
-    rows: &mut Vec<Row>,
+    rows: &mut Vec<PictureRow>,
     story: &Story,
     at: usize,
     end: usize,
@@ -185,8 +185,8 @@ fn push_rows(
     Ok(length.saturating_mul(rounds))
 }
 
-fn new_row(first: usize, count: usize, fold: Fold) -> Row {
-    Row {
+fn new_row(first: usize, count: usize, fold: Fold) -> PictureRow {
+    PictureRow {
         first,
         count,
         fold,

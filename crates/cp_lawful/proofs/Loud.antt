@@ -19,11 +19,11 @@ use Rattle.cp_scope.specs.declared.count.Use.{Use}
 use Rattle.cp_scope.specs.Counts.{both_uses}
 use Rattle.cp_scope.specs.Scopes.{Scopes, field_at, member_at, heading_at}
 use Rattle.cp_scope.specs.Judged.{Judged, both, ◌>>=◌}
-use Rattle.cp_check.specs.declared.constant.Number.{Number}
+use Rattle.cp_check.specs.declared.constant.ConstantNumber.{ConstantNumber}
 use Rattle.cp_check.specs.declared.case.Label.{Label}
 use Rattle.cp_check.specs.declared.operand.Context.{Context}
 use Rattle.cp_check.specs.declared.operand.Operand.{Operand}
-use Rattle.cp_check.specs.declared.operand.Designated.{Designated}
+use Rattle.cp_check.specs.declared.operand.DesignatedName.{DesignatedName}
 use Rattle.cp_check.specs.declared.operand.Named.{Named}
 use Rattle.cp_check.specs.declared.operand.Named.TheVariants as name
 use Rattle.cp_check.specs.declared.statement.Target.{Target}
@@ -73,7 +73,7 @@ pub begun_loud : (s : Scopes) (i : Identifier) → Heard s → Loud (names.begun
 unfolding names.begun
 begun_loud s i h = loud_then _ _ (h i.at i.name) (λ m. tt)
 
-field_loud : (at : ℕ) (d : Designated) (o : Option (Option Meaning)) → Loud (names.with_field at d o)
+field_loud : (at : ℕ) (d : DesignatedName) (o : Option (Option Meaning)) → Loud (names.with_field at d o)
 field_loud at d None = tt
 field_loud at d (Some None) = tt
 field_loud at d (Some (Some (meaning.Constant b v))) = tt
@@ -84,7 +84,7 @@ field_loud at d (Some (Some (meaning.Reference t))) = tt
 field_loud at d (Some (Some (meaning.Routine n))) = tt
 field_loud at d (Some (Some (meaning.Predeclared p))) = tt
 
-entry_loud : (at : ℕ) (d : Designated) (o : Option (Option Meaning)) → Loud (names.with_entry at d o)
+entry_loud : (at : ℕ) (d : DesignatedName) (o : Option (Option Meaning)) → Loud (names.with_entry at d o)
 entry_loud at d None = tt
 entry_loud at d (Some None) = tt
 entry_loud at d (Some (Some (meaning.Constant b v))) = tt
@@ -95,7 +95,7 @@ entry_loud at d (Some (Some (meaning.Reference t))) = tt
 entry_loud at d (Some (Some (meaning.Routine n))) = tt
 entry_loud at d (Some (Some (meaning.Predeclared p))) = tt
 
-selected_loud : (s : Scopes) (i : Identifier) (d : Designated) (o : Option ValueType) → Loud (names.selected_of s i d o)
+selected_loud : (s : Scopes) (i : Identifier) (d : DesignatedName) (o : Option ValueType) → Loud (names.selected_of s i d o)
 selected_loud s i d None = tt
 selected_loud s i d (Some (value_type.Ordinal r)) = tt
 selected_loud s i d (Some value_type.Queue) = tt
@@ -104,7 +104,7 @@ selected_loud s i d (Some (value_type.Array n)) = tt
 selected_loud s i d (Some (value_type.Record n)) = field_loud i.at d (field_at n i.name s)
 selected_loud s i d (Some (value_type.Component k n)) = entry_loud i.at d (member_at n i.name s)
 
-known_loud : (at : ℕ) (d : Designated) (n : Named) → Loud (names.known_named at d n)
+known_loud : (at : ℕ) (d : DesignatedName) (n : Named) → Loud (names.known_named at d n)
 known_loud at d name.Nothing = tt
 known_loud at d (name.Constant b) = tt
 known_loud at d (name.Variable t) = tt
@@ -116,7 +116,7 @@ known_loud at d (name.Predeclared p) = tt
 
 -- ---- constants and labels
 
-sign_loud : (at : ℕ) (o : Option Sign) (n : Number) → Loud (constants.signed at o n)
+sign_loud : (at : ℕ) (o : Option Sign) (n : ConstantNumber) → Loud (constants.signed at o n)
 sign_loud at None n = tt
 sign_loud at (Some s) n = search loud_if
 
@@ -216,7 +216,7 @@ alone_loud : (o : Operand) (os : List Operand) → Loud (calls.alone o os)
 alone_loud o [] = tt
 alone_loud o (p ∷ ps) = tt
 
-value_named_loud : (s : Scopes) (w : Context) (at : ℕ) (d : Designated) (os : List Operand) (n : Named) → Loud (calls.value_named s w at d os n)
+value_named_loud : (s : Scopes) (w : Context) (at : ℕ) (d : DesignatedName) (os : List Operand) (n : Named) → Loud (calls.value_named s w at d os n)
 value_named_loud s w at d os name.Nothing = tt
 value_named_loud s w at d os (name.Constant b) = alone_loud _ os
 value_named_loud s w at d os (name.Variable t) = alone_loud _ os
@@ -226,11 +226,11 @@ value_named_loud s w at d os (name.Routine n) = function_value_loud s w at d.nam
 value_named_loud s w at d os (name.Entry n) = function_value_loud s w at d.name_at false n os d.uses
 value_named_loud s w at d os (name.Predeclared p) = applied_loud at p os _
 
-value_loud : (s : Scopes) (w : Context) (at : ℕ) (p : Designated × List Operand) → Loud (calls.value_of s w at p)
+value_loud : (s : Scopes) (w : Context) (at : ℕ) (p : DesignatedName × List Operand) → Loud (calls.value_of s w at p)
 unfolding calls.value_of
 value_loud s w at p = value_named_loud s w at p.0 p.1 p.0.named
 
-variable_loud : (s : Scopes) (w : Context) (at : ℕ) (d : Designated) → Loud (calls.variable_of s w at d)
+variable_loud : (s : Scopes) (w : Context) (at : ℕ) (d : DesignatedName) → Loud (calls.variable_of s w at d)
 variable_loud s w at d = search (loud_if, value_loud)
 
 -- ---- expressions
@@ -247,7 +247,7 @@ constructed_loud : (at : ℕ) (os : List Operand) → Loud (expressions.construc
 constructed_loud at [] = tt
 constructed_loud at (o ∷ os) = set_like_loud at (o ∷ os) o.value_type
 
-named_value_loud : (s : Scopes) (w : Context) (v : Bool) (at : ℕ) (d : Judged Designated) (os : Judged (List Operand)) → Loud d → Loud os → Loud (expressions.named_value s w v at d os)
+named_value_loud : (s : Scopes) (w : Context) (v : Bool) (at : ℕ) (d : Judged DesignatedName) (os : Judged (List Operand)) → Loud d → Loud os → Loud (expressions.named_value s w v at d os)
 named_value_loud s w v at d os h g = loud_if v _ _ (loud_then d _ h (variable_loud s w at)) (loud_then _ _ (loud_both d os h g) (value_loud s w at))
 
 mutual
@@ -282,11 +282,11 @@ mutual
   pub designator_loud : (s : Scopes) (w : Context) → Heard s → (d : Designator) → Loud (expressions.designator s w d)
   designator_loud s w h (name_with n ss) = loud_then _ _ (selectors_loud s w h ss _ (begun_loud s n h)) (λ d. known_loud n.at d d.named)
 
-  selectors_loud : (s : Scopes) (w : Context) → Heard s → (ss : Selectors) (j : Judged Designated) → Loud j → Loud (expressions.selectors s w j ss)
+  selectors_loud : (s : Scopes) (w : Context) → Heard s → (ss : Selectors) (j : Judged DesignatedName) → Loud j → Loud (expressions.selectors s w j ss)
   selectors_loud s w h no_selectors j g = g
   selectors_loud s w h (more_selectors x ss) j g = selectors_loud s w h ss _ (selector_loud s w h j x g)
 
-  selector_loud : (s : Scopes) (w : Context) → Heard s → (j : Judged Designated) (x : Selector) → Loud j → Loud (expressions.selector s w j x)
+  selector_loud : (s : Scopes) (w : Context) → Heard s → (j : Judged DesignatedName) (x : Selector) → Loud j → Loud (expressions.selector s w j x)
   selector_loud s w h j (field i) g = loud_then j _ g (λ d. selected_loud s i d (names.type_of d.named))
   selector_loud s w h j (index e) g = loud_then _ _ (loud_both j _ g (expression_loud s w h false e)) (λ p. tt)
 
@@ -307,7 +307,7 @@ assigned_loud at (target.Fixed (Some t)) o u = search loud_if
 assigned_loud at (target.Fixed None) o u = tt
 assigned_loud at target.Kind o u = tt
 
-target_loud : (s : Scopes) (w : Context) (at : ℕ) (d : Designated) → Loud (statements.with_target s w at d)
+target_loud : (s : Scopes) (w : Context) (at : ℕ) (d : DesignatedName) → Loud (statements.with_target s w at d)
 target_loud s w at d = loud_then (statements.aimed at (statements.target_of s w d.named)) (λ t. Ok (t, d.uses)) (aimed_loud at (statements.target_of s w d.named)) (λ t. tt)
 
 finish_loud : (at : ℕ) (p : (Target × Use) × Operand) → Loud (statements.finish_assignment at p)
@@ -337,7 +337,7 @@ procedure_called_loud : (s : Scopes) (w : Context) (at n_at : ℕ) (b : Bool) (n
 unfolding statements.procedure_called
 procedure_called_loud s w at n_at b n os u = procedure_loud s w at n_at b n os u (heading_at n s).result
 
-invoked_named_loud : (s : Scopes) (w : Context) (at : ℕ) (d : Designated) (os : List Operand) (n : Named) → Loud (statements.invoked_named s w at d os n)
+invoked_named_loud : (s : Scopes) (w : Context) (at : ℕ) (d : DesignatedName) (os : List Operand) (n : Named) → Loud (statements.invoked_named s w at d os n)
 invoked_named_loud s w at d os name.Nothing = tt
 invoked_named_loud s w at d os (name.Constant b) = tt
 invoked_named_loud s w at d os (name.Variable t) = tt
@@ -369,10 +369,10 @@ counted_loud at n (target.Assignable t) a b u = search loud_if
 counted_loud at n (target.Fixed (Some t)) a b u = search loud_if
 counted_loud at n (target.Fixed None) a b u = search loud_if
 
-count_over_loud : (s : Scopes) (w : Context) (at n : ℕ) (p : ((Designated × Operand) × Operand) × Use) → Loud (statements.count_over s w at n p)
+count_over_loud : (s : Scopes) (w : Context) (at n : ℕ) (p : ((DesignatedName × Operand) × Operand) × Use) → Loud (statements.count_over s w at n p)
 count_over_loud s w at n p = counted_loud at n (statements.target_of s w p.0.0.0.named) p.0.0.1 p.0.1 (both_uses (both_uses p.0.0.1.uses p.0.1.uses) p.1)
 
-started_loud : (s : Scopes) (at : ℕ) (d : Designated) (os : List Operand) (n : Named) → Loud (statements.started_named s at d os n)
+started_loud : (s : Scopes) (at : ℕ) (d : DesignatedName) (os : List Operand) (n : Named) → Loud (statements.started_named s at d os n)
 started_loud s at d os name.Nothing = tt
 started_loud s at d os (name.Constant b) = tt
 started_loud s at d os (name.Variable (value_type.Ordinal r)) = tt

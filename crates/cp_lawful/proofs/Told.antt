@@ -20,7 +20,7 @@ use Rattle.cp_scope.specs.Types.{is_open}
 use Rattle.cp_scope.specs.Counts.{no_use, times}
 use Rattle.cp_scope.specs.Judged.{Judged, both, ◌>>=◌, faults}
 use Rattle.cp_scope.specs.Scopes.{Names, Scope, new_scope, Scopes, Shape, record_shape, find, is_declared, through_seal, look_in, or_else, look_outer, look, with_name, sealed, add, reserve, settle, enter, Around, around, last_of, leave, add_around, keep, cells_of, count_of, start}
-use Rattle.cp_check.specs.declared.constant.Number.{Number}
+use Rattle.cp_check.specs.declared.constant.ConstantNumber.{ConstantNumber}
 use Rattle.cp_check.specs.declared.types.Spot.{Spot}
 use Rattle.cp_check.specs.declared.types.Spot.TheVariants as spot
 use Rattle.cp_check.specs.declared.types.Holding.{Holding}
@@ -217,7 +217,7 @@ unless_type_loud : (fs : List CheckFault) (t : ValueType) → Loud (typing.unles
 unless_type_loud [] t = tt
 unless_type_loud (f ∷ fs) t = tt
 
-ranged_loud : (at : ℕ) (p : Number × Number) → Loud (typing.ranged at p)
+ranged_loud : (at : ℕ) (p : ConstantNumber × ConstantNumber) → Loud (typing.ranged at p)
 ranged_loud at p = search loud_if
 
 simple_told : (s : Scopes) (p : Spot) (t : Simple) → Told s → Told (typing.simple_typed s p t).scopes × Loud (typing.simple_typed s p t).type

@@ -16,7 +16,7 @@ use Rattle.cp_tree.specs.declared.declaration.ProgramPart as tree_program_part
 use Rattle.cp_tree.specs.View.{field_group_view, field_groups_view, field_groups_of, constant_definition_view, type_definition_view, variable_group_view, part_view, group_view, parameter_group_view, routine_view, system_definition_view, program_part_view}
 use Rattle.cp_layout.specs.declared.kinds.CellBase.{CellBase}
 use Rattle.cp_layout.specs.declared.kinds.CellType.{CellType}
-use Rattle.cp_layout.specs.declared.names.Meaning.TheVariants as meaning
+use Rattle.cp_layout.specs.declared.names.LayoutMeaning.TheVariants as meaning
 use Rattle.cp_layout.specs.Kinds.{Fields, with_field}
 use Rattle.cp_layout.specs.Layers.{Layer}
 use Rattle.cp_layout.specs.LaidExpressions.{as_integer}

@@ -10,8 +10,8 @@ use Rattle.cp_layout.specs.declared.kinds.CellBase.{CellBase}
 use Rattle.cp_layout.specs.declared.kinds.CellType.{CellType}
 use Rattle.cp_layout.specs.declared.kinds.CellType.TheVariants as types
 use Rattle.cp_layout.specs.declared.kinds.ArrayType.{ArrayType}
-use Rattle.cp_layout.specs.declared.names.Meaning.{Meaning}
-use Rattle.cp_layout.specs.declared.names.Meaning.TheVariants as meaning
+use Rattle.cp_layout.specs.declared.names.LayoutMeaning.{LayoutMeaning}
+use Rattle.cp_layout.specs.declared.names.LayoutMeaning.TheVariants as meaning
 use Rattle.cp_layout.specs.declared.layer.Contained.{Contained}
 use Rattle.cp_layout.specs.declared.layer.Content.TheVariants as content
 use Rattle.cp_layout.specs.declared.layer.Passing.TheVariants as passing
@@ -26,7 +26,7 @@ use Rattle.cp_layout.specs.LaidStatements.{statements}
 
 -- ---- constants and types
 
-abbrev pub constant_meaning : CellBase × ℤ → Meaning
+abbrev pub constant_meaning : CellBase × ℤ → LayoutMeaning
 constant_meaning c = meaning.Constant c.0 c.1
 
 abbrev pub constant : Layer → ConstantDefinition → Layer

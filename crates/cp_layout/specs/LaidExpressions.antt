@@ -10,8 +10,8 @@ use Rattle.cp_layout.specs.declared.kinds.CellBase.TheVariants as base
 use Rattle.cp_layout.specs.declared.kinds.CellType.{CellType}
 use Rattle.cp_layout.specs.declared.kinds.CellType.TheVariants as types
 use Rattle.cp_layout.specs.declared.kinds.ArrayType.{ArrayType}
-use Rattle.cp_layout.specs.declared.names.Meaning.{Meaning}
-use Rattle.cp_layout.specs.declared.names.Meaning.TheVariants as meaning
+use Rattle.cp_layout.specs.declared.names.LayoutMeaning.{LayoutMeaning}
+use Rattle.cp_layout.specs.declared.names.LayoutMeaning.TheVariants as meaning
 use Rattle.cp_layout.specs.declared.layer.Passing.{Passing}
 use Rattle.cp_layout.specs.declared.layer.Passing.TheVariants as passing
 use Rattle.cp_layout.specs.declared.layer.ParameterLayout.{ParameterLayout}
@@ -25,7 +25,7 @@ use Rattle.cp_layout.specs.Layers.{find, Layer, Heading, System, parameter_of, r
 
 -- ---- names
 
-abbrev pub begun_as : Option Meaning → Designated
+abbrev pub begun_as : Option LayoutMeaning → Designated
 begun_as None = no_designated
 begun_as (Some (meaning.Constant b z)) = a_value (number_value z b)
 begun_as (Some (meaning.Kind t)) = no_designated

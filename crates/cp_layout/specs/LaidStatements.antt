@@ -11,8 +11,8 @@ use Rattle.cp_slots.specs.declared.place.PlaceOrigin.TheVariants as origin
 use Rattle.cp_layout.specs.declared.kinds.CellBase.TheVariants as base
 use Rattle.cp_layout.specs.declared.kinds.CellType.{CellType}
 use Rattle.cp_layout.specs.declared.kinds.CellType.TheVariants as types
-use Rattle.cp_layout.specs.declared.names.Predeclared.{Predeclared}
-use Rattle.cp_layout.specs.declared.names.Predeclared.TheVariants as predeclared
+use Rattle.cp_layout.specs.declared.names.PredeclaredRoutine.{PredeclaredRoutine}
+use Rattle.cp_layout.specs.declared.names.PredeclaredRoutine.TheVariants as predeclared
 use Rattle.cp_layout.specs.declared.layer.FunctionResult.{FunctionResult}
 use Rattle.cp_slots.specs.declared.place.ComponentPlace as code_component
 use Rattle.cp_layout.specs.declared.statement.StatementTarget as code_target
@@ -75,7 +75,7 @@ shown_kind v = shown.Integer
 abbrev pub displayed : Value → Action
 displayed v = code.display (ordinal_of v) (shown_kind v)
 
-abbrev pub performed : Predeclared → Value → Action
+abbrev pub performed : PredeclaredRoutine → Value → Action
 performed predeclared.Delay v = code.delay (place_of v)
 performed predeclared.Continue v = code.continue_at (place_of v)
 performed predeclared.Display v = displayed v
@@ -86,14 +86,14 @@ procedure l at c is_entry r es =
     let x = arguments l r es in
     added (with_room x.1 r) at (code.call r c is_entry x.0 None) (call_need x.1 r)
 
-unfoldable pub standard : Layer → ℕ → Predeclared → Expressions → Layer
+unfoldable pub standard : Layer → ℕ → PredeclaredRoutine → Expressions → Layer
 standard l at r es =
     let x = first_value l es in
     added x.1 at (performed r x.0) 0
 
 -- what a call statement calls
 pub data Callee : Type 0 where
-  a_standard_procedure : Predeclared → Callee
+  a_standard_procedure : PredeclaredRoutine → Callee
   -- of a component, by the component or by its name alone
   a_procedure : ComponentPlace → Bool → ℕ → Callee
   no_callee : Callee

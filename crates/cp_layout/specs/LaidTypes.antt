@@ -13,8 +13,8 @@ use Rattle.cp_layout.specs.declared.kinds.CellBase.TheVariants as base
 use Rattle.cp_layout.specs.declared.kinds.CellRange.{CellRange}
 use Rattle.cp_layout.specs.declared.kinds.CellType.{CellType}
 use Rattle.cp_layout.specs.declared.kinds.CellType.TheVariants as types
-use Rattle.cp_layout.specs.declared.names.Meaning.{Meaning}
-use Rattle.cp_layout.specs.declared.names.Meaning.TheVariants as meaning
+use Rattle.cp_layout.specs.declared.names.LayoutMeaning.{LayoutMeaning}
+use Rattle.cp_layout.specs.declared.names.LayoutMeaning.TheVariants as meaning
 use Rattle.cp_layout.specs.Kinds.{Compounds, whole, values_of, cells_of, with_array, Fields, no_fields, with_field, with_record}
 use Rattle.cp_layout.specs.Layers.{Names, find, find_type, Layer}
 use Rattle.cp_layout.specs.LaidExpressions.{as_integer}
@@ -29,7 +29,7 @@ abbrev pub signed_number : Option Sign → ℤ → ℤ
 signed_number (Some sign.Minus) z = opposite_number z
 signed_number s z = z
 
-abbrev pub constant_meant : Option Sign → Option Meaning → CellBase × ℤ
+abbrev pub constant_meant : Option Sign → Option LayoutMeaning → CellBase × ℤ
 constant_meant s (Some (meaning.Constant b z)) = (b, signed_number s z)
 constant_meant s m = (base.Integer, pos 0)
 
@@ -60,7 +60,7 @@ abbrev pub subrange : (low high : CellBase × ℤ) → CellType
 subrange low high = types.Ordinal (record { base = low.0; low = low.1; high = high.1 })
 
 -- one more constant of an enumeration
-abbrev pub with_constant : Layer → List ℕ → Meaning → Layer
+abbrev pub with_constant : Layer → List ℕ → LayoutMeaning → Layer
 with_constant l x m = record l { names = (x, m) ∷ l.names; constants = l.constants ++ x ∷ [] }
 
 -- the constants of an enumeration, from the one with this number on

@@ -7,19 +7,19 @@ use Rattle.cp_slots.specs.declared.tables.ComponentParameter.{ComponentParameter
 use Rattle.cp_layout.specs.declared.kinds.CellType.{CellType}
 use Rattle.cp_layout.specs.declared.kinds.CellType.TheVariants as types
 use Rattle.cp_layout.specs.declared.kinds.CellBase.TheVariants as base
-use Rattle.cp_layout.specs.declared.names.Meaning.{Meaning}
-use Rattle.cp_layout.specs.declared.names.Meaning.TheVariants as meaning
-use Rattle.cp_layout.specs.declared.names.Predeclared.TheVariants as predeclared
+use Rattle.cp_layout.specs.declared.names.LayoutMeaning.{LayoutMeaning}
+use Rattle.cp_layout.specs.declared.names.LayoutMeaning.TheVariants as meaning
+use Rattle.cp_layout.specs.declared.names.PredeclaredRoutine.TheVariants as predeclared
 use Rattle.cp_layout.specs.declared.names.Names as code_names
-use Rattle.cp_layout.specs.declared.names.Declared as code_declared
+use Rattle.cp_layout.specs.declared.names.DeclaredName as code_declared
 use Rattle.cp_layout.specs.declared.layer.ParameterLayout.{ParameterLayout}
 use Rattle.cp_layout.specs.declared.layer.FunctionResult.{FunctionResult}
 use Rattle.cp_layout.specs.declared.layer.Contained.{Contained}
 use Rattle.cp_layout.specs.declared.layer.Content.{Content}
 use Rattle.cp_layout.specs.declared.layer.HeadingLayout as code_heading
-use Rattle.cp_layout.specs.declared.frame.Frame as code_frame
+use Rattle.cp_layout.specs.declared.frame.RoutineFrame as code_frame
 use Rattle.cp_layout.specs.declared.layer.Owned as code_owned
-use Rattle.cp_layout.specs.declared.layer.System as code_system
+use Rattle.cp_layout.specs.declared.layer.SystemCells as code_system
 use Rattle.cp_layout.specs.declared.lists.Pending as code_pending
 use Rattle.cp_layout.specs.declared.surroundings.Surroundings as code_surroundings
 use Rattle.cp_layout.specs.declared.layer.Layouter as code_layer
@@ -31,9 +31,9 @@ use Rattle.cp_slots.specs.Code.{Action, action_seen, Item, item_seen}
 
 -- what each visible name stands for, the latest first
 abbrev pub Names : Type 0
-Names = List (List ℕ × Meaning)
+Names = List (List ℕ × LayoutMeaning)
 
-abbrev pub find : List ℕ → Names → Option Meaning
+abbrev pub find : List ℕ → Names → Option LayoutMeaning
 find x [] = None
 find x (d ∷ ds) = if bytes_eq d.0 x then Some d.1 else find x ds
 
@@ -44,11 +44,11 @@ find_type x [] = None
 find_type x ((n, meaning.Kind t) ∷ ds) = if bytes_eq n x then Some t else find_type x ds
 find_type x (d ∷ ds) = find_type x ds
 
-abbrev pub declared_seen : code_declared.Declared → List ℕ × Meaning
+abbrev pub declared_seen : code_declared.DeclaredName → List ℕ × LayoutMeaning
 declared_seen d = (d.name.now, d.meaning)
 
 -- the later ones before the earlier ones
-abbrev pub latest_first : List code_declared.Declared → Names → Names
+abbrev pub latest_first : List code_declared.DeclaredName → Names → Names
 latest_first [] before = before
 latest_first (d ∷ ds) before = latest_first ds (declared_seen d ∷ before)
 
@@ -56,13 +56,13 @@ abbrev pub no_names : Names
 no_names = []
 
 -- whether a system type sees it where it is the program's
-abbrev pub is_open : Meaning → Bool
+abbrev pub is_open : LayoutMeaning → Bool
 is_open (meaning.Constant b z) = true
 is_open (meaning.Kind t) = true
 is_open (meaning.Predeclared r) = true
 is_open m = false
 
-abbrev pub with_open : List ℕ × Meaning → Names → Names
+abbrev pub with_open : List ℕ × LayoutMeaning → Names → Names
 with_open d ds = if is_open d.1 then d ∷ ds else ds
 
 -- what a system type sees of the names around it: no variables and no routines
@@ -147,13 +147,13 @@ pub record Layer : Type 0 where
 abbrev pub heading_seen : code_heading.HeadingLayout → Heading
 heading_seen h = record { name = h.name.now; parameters = h.parameters.items; result = h.result }
 
-abbrev pub frame_seen : code_frame.Frame → Frame
+abbrev pub frame_seen : code_frame.RoutineFrame → Frame
 frame_seen f = record { image = f.image.items; extents = f.extents.items; room = f.room; reference_room = f.reference_room }
 
 abbrev pub owned_seen : code_owned.Owned → Owned
 owned_seen o = record { cells = o.cells; contents = o.contents.items; parameters = o.parameters.items; contained = o.contained.items; count = o.count }
 
-abbrev pub system_seen : code_system.System → System
+abbrev pub system_seen : code_system.SystemCells → System
 system_seen s = record { kind = s.kind; owned = owned_seen s.owned; first = s.first; initial = s.initial }
 
 abbrev pub pending_seen : code_pending.Pending → Pending
@@ -226,7 +226,7 @@ Leads laid new (Err e) = Unit {0}
 -- ---- parts of the state
 
 -- a name, declared
-abbrev pub with_name : Layer → List ℕ → Meaning → Layer
+abbrev pub with_name : Layer → List ℕ → LayoutMeaning → Layer
 with_name l x m = record l { names = (x, m) ∷ l.names }
 
 abbrev pub parameter_at : Option Heading → ℕ → Option ParameterLayout

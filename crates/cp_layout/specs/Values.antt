@@ -20,8 +20,8 @@ use Rattle.cp_layout.specs.declared.kinds.CellBase.{CellBase}
 use Rattle.cp_layout.specs.declared.kinds.CellBase.TheVariants as base
 use Rattle.cp_layout.specs.declared.kinds.CellType.{CellType}
 use Rattle.cp_layout.specs.declared.kinds.CellType.TheVariants as types
-use Rattle.cp_layout.specs.declared.names.Predeclared.{Predeclared}
-use Rattle.cp_layout.specs.declared.names.Predeclared.TheVariants as predeclared
+use Rattle.cp_layout.specs.declared.names.PredeclaredRoutine.{PredeclaredRoutine}
+use Rattle.cp_layout.specs.declared.names.PredeclaredRoutine.TheVariants as predeclared
 use Rattle.cp_layout.specs.declared.value.Value as code_value
 use Rattle.cp_layout.specs.declared.value.Value.TheVariants as value
 use Rattle.cp_layout.specs.declared.value.Designated as code_designated
@@ -52,7 +52,7 @@ pub data Designated : Type 0 where
   a_component : ComponentPlace → ℕ → Designated
   a_routine : ℕ → Designated
   an_entry : ComponentPlace → ℕ → Designated
-  a_standard : Predeclared → Designated
+  a_standard : PredeclaredRoutine → Designated
   no_designated : Designated
 
 abbrev pub designated_seen : code_designated.Designated → Designated
@@ -156,7 +156,7 @@ related relation.Greater v w = compared comparison.Greater v w
 related relation.AtMost v w = compared comparison.AtMost v w
 related relation.AtLeast v w = compared comparison.AtLeast v w
 
-abbrev pub applied_to : Predeclared → Expression → CellBase → Value
+abbrev pub applied_to : PredeclaredRoutine → Expression → CellBase → Value
 applied_to predeclared.Succ e b = ordinal_value (code.successor e (whole b).high) b
 applied_to predeclared.Pred e b = ordinal_value (code.predecessor e (whole b).low) b
 applied_to predeclared.Chr e b = ordinal_value (code.character e) base.Char
@@ -167,7 +167,7 @@ abbrev pub empty_queue : Place → Value
 empty_queue p = ordinal_value (code.is_empty p) base.Boolean
 
 -- what a standard function answers for an argument
-abbrev pub applied : Predeclared → Value → Value
+abbrev pub applied : PredeclaredRoutine → Value → Value
 applied r (ordinal_value e b) = applied_to r e b
 applied r (whole_value p t) = empty_queue p
 applied r v = no_value

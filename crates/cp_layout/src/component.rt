@@ -7,7 +7,7 @@ ghost use Rattle.cp_layout.specs.LaidComponents as spec;
 ghost use Rattle.cp_layout.specs.LaidComponents.{listing_seen, content_least, contents_least};
 
 use crate::kinds::Types;
-use crate::layer::{Contained, Content, Owned, System};
+use crate::layer::{Contained, Content, Owned, SystemCells};
 use crate::surroundings::Surroundings;
 use cp_slots::{Component, ComponentKind, Process};
 use cp_tree::SystemKind;
@@ -56,7 +56,7 @@ impl Components {
     fn add(
         &mut self,
         types: &Types<'_>,
-        systems: &[System],
+        systems: &[SystemCells],
         number: usize,
     ) -> Result<(), AllocError>
         ensures { OnOk result (listing_seen self.new ≡ spec.system_by (types_seen types.now) (spec.listed_below (types_seen types.now) (map system_seen systems.now) number) (slice_get (map system_seen systems.now) number) number (listing_seen self.old)) }
@@ -73,7 +73,7 @@ impl Components {
     fn add_owned(
         &mut self,
         types: &Types<'_>,
-        systems: &[System],
+        systems: &[SystemCells],
         kind: ComponentKind,
         owned: &Owned,
         number: usize,
@@ -89,7 +89,7 @@ impl Components {
     fn add_contained(
         &mut self,
         types: &Types<'_>,
-        systems: &[System],
+        systems: &[SystemCells],
         contained: &[Contained],
         bound: usize,
     ) -> Result<(), AllocError>
@@ -106,7 +106,7 @@ impl Components {
     fn add_each(
         &mut self,
         types: &Types<'_>,
-        systems: &[System],
+        systems: &[SystemCells],
         components: Contained,
         bound: usize,
     ) -> Result<(), AllocError>
@@ -124,7 +124,7 @@ impl Components {
     fn add_below(
         &mut self,
         types: &Types<'_>,
-        systems: &[System],
+        systems: &[SystemCells],
         number: usize,
         bound: usize,
     ) -> Result<(), AllocError>

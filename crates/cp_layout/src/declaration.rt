@@ -6,10 +6,10 @@ ghost use Rattle.cp_layout.specs.Layers.{layer_seen, heading_seen, Lays, Leads};
 ghost use Rattle.cp_layout.specs.LaidDeclarations as spec;
 ghost use Rattle.cp_layout.specs.LaidDeclarations.{outer_seen};
 
-use crate::frame::Frame;
+use crate::frame::RoutineFrame;
 use crate::kinds::CellType;
-use crate::layer::{HeadingLayout, Layouter, Owned, ParameterLayout, System};
-use crate::names::{Meaning, Names};
+use crate::layer::{HeadingLayout, Layouter, Owned, ParameterLayout, SystemCells};
+use crate::names::{LayoutMeaning, Names};
 use cp_tree::{
     Body, Definition, Program, ProgramPart, ProgramPartKind, Routine, System as WrittenSystem,
     SystemDefinition, SystemKind,
@@ -77,7 +77,7 @@ impl<'a> Layouter<'a> {
         ensures { Leads (spec.system_definition (layer_seen self.old) (system_definition_view node.now)) (layer_seen self.new) result }
     {
         let value_type = self.definition(alloc, &node.value)?;
-        self.declare(&node.name, Meaning::Kind(value_type))
+        self.declare(&node.name, LayoutMeaning::Kind(value_type))
     }
 
     fn definition(&mut self, alloc: Global, node: &'a Definition) -> Result<CellType, AllocError>
@@ -136,7 +136,7 @@ impl<'a> Layouter<'a> {
         self.around.names = outer.names;
         let owned = mem::replace(&mut self.around.owned, outer.owned);
         let number = self.around.systems.len();
-        self.around.systems.push(System {
+        self.around.systems.push(SystemCells {
             kind,
             owned,
             first,
@@ -172,8 +172,8 @@ impl<'a> Layouter<'a> {
         let number = self.lists.routines.len();
         self.around
             .names
-            .add(node.name.name.as_str(), Meaning::Routine(number))?;
-        self.frame = Frame::new(alloc);
+            .add(node.name.name.as_str(), LayoutMeaning::Routine(number))?;
+        self.frame = RoutineFrame::new(alloc);
         Ok(self.around.names.open())
     }
 
@@ -231,6 +231,6 @@ impl<'a> Layouter<'a> {
     fn begin_frame(&mut self, alloc: Global)
         ensures { layer_seen self.new ≡ spec.with_new_frame (layer_seen self.old) }
     {
-        self.frame = Frame::new(alloc);
+        self.frame = RoutineFrame::new(alloc);
     }
 }

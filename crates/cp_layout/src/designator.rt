@@ -7,8 +7,8 @@ ghost use Rattle.cp_layout.specs.Layers.{around_seen, find, names_seen, system_s
 ghost use Rattle.cp_layout.specs.LaidExpressions as spec;
 
 use crate::kinds::CellType;
-use crate::layer::{HeadingLayout, System};
-use crate::names::{Meaning, Names};
+use crate::layer::{HeadingLayout, SystemCells};
+use crate::names::{LayoutMeaning, Names};
 use crate::surroundings::Surroundings;
 use crate::value::{Designated, number, place_at};
 use cp_slots::{ComponentPlace, Expression, Index, Place};
@@ -24,20 +24,20 @@ impl<'a> Names<'a> {
             return Designated::Nothing;
         };
         match meaning {
-            Meaning::Constant(base, value) => Designated::Value(number(value, base)),
-            Meaning::Variable(origin, value_type) => {
+            LayoutMeaning::Constant(base, value) => Designated::Value(number(value, base)),
+            LayoutMeaning::Variable(origin, value_type) => {
                 Designated::Variable(place_at(alloc, origin), value_type)
             }
-            Meaning::Contained(first, CellType::System(system)) => {
+            LayoutMeaning::Contained(first, CellType::System(system)) => {
                 Designated::Component(ComponentPlace::Contained(first), system)
             }
-            Meaning::Contained(first, value_type) => Designated::Contained(first, value_type),
-            Meaning::Bound(slot, system) => {
+            LayoutMeaning::Contained(first, value_type) => Designated::Contained(first, value_type),
+            LayoutMeaning::Bound(slot, system) => {
                 Designated::Component(ComponentPlace::Parameter(slot), system)
             }
-            Meaning::Routine(routine) => Designated::Routine(routine),
-            Meaning::Predeclared(routine) => Designated::Predeclared(routine),
-            Meaning::Kind(_) => Designated::Nothing,
+            LayoutMeaning::Routine(routine) => Designated::Routine(routine),
+            LayoutMeaning::Predeclared(routine) => Designated::Predeclared(routine),
+            LayoutMeaning::Kind(_) => Designated::Nothing,
         }
     }
 }
@@ -160,7 +160,7 @@ fn with_index(place: Place, index: Index) -> Result<Place, AllocError>
 }
 
 // The number of a routine with this heading.
-fn entry_among(system: &System, headings: &[HeadingLayout<'_>], name: &str) -> Option<usize>
+fn entry_among(system: &SystemCells, headings: &[HeadingLayout<'_>], name: &str) -> Option<usize>
     ensures { result ≡ spec.entry_among (system_seen system.now) (map heading_seen headings.now) 0 name.now }
 {
     for number in 0..headings.len() {

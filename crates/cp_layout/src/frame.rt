@@ -12,7 +12,7 @@ use std::alloc::{AllocError, Global};
 
 /// The frame of the routine that is laid out.
 #[derive(Drop)]
-pub struct Frame {
+pub struct RoutineFrame {
     /// The cells as a call begins.
     pub image: Vec<i16>,
     /// The cells of each `var` parameter.
@@ -22,11 +22,11 @@ pub struct Frame {
     pub reference_room: usize,
 }
 
-impl Frame {
-    pub fn new(alloc: Global) -> Frame
+impl RoutineFrame {
+    pub fn new(alloc: Global) -> RoutineFrame
         ensures { frame_seen result ≡ spec.no_frame }
     {
-        Frame {
+        RoutineFrame {
             image: Vec::new(alloc),
             extents: Vec::new(alloc),
             room: 0,

@@ -7,7 +7,7 @@ ghost use Rattle.cp_layout.specs.LaidDeclarations as spec;
 
 use crate::kinds::CellType;
 use crate::layer::{FunctionResult, HeadingLayout, Layouter, ParameterLayout, Passing};
-use crate::names::Meaning;
+use crate::names::LayoutMeaning;
 use cp_slots::PlaceOrigin;
 use cp_tree::{Group, Identifier, ParameterGroup, RoutineKind};
 use std::alloc::{AllocError, Global};
@@ -175,7 +175,7 @@ impl<'a> Layouter<'a> {
         let slot = self.frame.add_extent(cells)?;
         self.declare(
             identifier,
-            Meaning::Variable(PlaceOrigin::Reference(slot), value_type),
+            LayoutMeaning::Variable(PlaceOrigin::Reference(slot), value_type),
         )?;
         let mut parameters = before;
         parameters.push(ParameterLayout {
@@ -253,7 +253,7 @@ impl<'a> Layouter<'a> {
         ensures { Lays (λ v. v.items) (spec.component_parameter (layer_seen self.old) before.items identifier.now.name system) (layer_seen self.new) result }
     {
         let slot = self.around.owned.add_component_cell(system)?;
-        self.declare(identifier, Meaning::Bound(slot, system))?;
+        self.declare(identifier, LayoutMeaning::Bound(slot, system))?;
         let mut parameters = before;
         parameters.push(ParameterLayout {
             slot,

@@ -8,10 +8,10 @@ ghost use Rattle.cp_layout.specs.Layers as spec;
 ghost use Rattle.cp_layout.specs.Layers.{layer_seen, owned_seen, pending_seen, Lays, Leads};
 ghost use Rattle.cp_layout.specs.LaidDeclarations.{component_cell};
 
-use crate::frame::Frame;
+use crate::frame::RoutineFrame;
 use crate::kinds::{CellType, Types};
 use crate::lists::{Lists, Pending};
-use crate::names::{Meaning, Names};
+use crate::names::{LayoutMeaning, Names};
 use crate::surroundings::Surroundings;
 use cp_slots::{Action, ComponentParameter, Item, ResolvedRoutine};
 use cp_tree::{Identifier, SystemKind, Tree};
@@ -79,7 +79,7 @@ pub struct Owned {
 
 /// A system type.
 #[derive(Drop)]
-pub struct System {
+pub struct SystemCells {
     pub kind: SystemKind,
     pub owned: Owned,
     /// The number of its first routine; the last is its initial statement.
@@ -93,7 +93,7 @@ pub struct Layouter<'a> {
     /// What expressions and types read.
     pub around: Surroundings<'a>,
     /// Of the routine that is laid out.
-    pub frame: Frame,
+    pub frame: RoutineFrame,
     pub lists: Lists,
 }
 
@@ -160,7 +160,7 @@ impl<'a> Layouter<'a> {
                 headings: Vec::new(alloc),
                 owned: Owned::new(alloc),
             },
-            frame: Frame::new(alloc),
+            frame: RoutineFrame::new(alloc),
             lists: Lists {
                 routines: Vec::new(alloc),
                 items: Vec::new(alloc),
@@ -173,7 +173,11 @@ impl<'a> Layouter<'a> {
 
     /// Declares a name.
     #[tactic(auto, unfolding(crate::specs::Layers::layer_seen))]
-    pub fn declare(&mut self, node: &'a Identifier, meaning: Meaning) -> Result<(), AllocError>
+    pub fn declare(
+        &mut self,
+        node: &'a Identifier,
+        meaning: LayoutMeaning,
+    ) -> Result<(), AllocError>
         ensures { Leads (spec.with_name (layer_seen self.old) node.now.name meaning) (layer_seen self.new) result }
     {
         self.around.names.add(node.name.as_str(), meaning)
@@ -269,7 +273,7 @@ impl<'a> Layouter<'a> {
         ensures { Leads (spec.with_routine (layer_seen self.old) body) (layer_seen self.new) result }
     {
         let result = self.result_slot();
-        let frame = mem::replace(&mut self.frame, Frame::new(alloc));
+        let frame = mem::replace(&mut self.frame, RoutineFrame::new(alloc));
         let references = frame.extents.len();
         self.lists.routines.push(ResolvedRoutine {
             body,

@@ -10,7 +10,7 @@ use std::alloc::{AllocError, Global};
 
 /// A routine that each program has.
 #[derive(Clone, Copy, Drop)]
-pub enum Predeclared {
+pub enum PredeclaredRoutine {
     Succ,
     Pred,
     Chr,
@@ -24,7 +24,7 @@ pub enum Predeclared {
 
 /// What a name stands for.
 #[derive(Clone, Copy, Drop)]
-pub enum Meaning {
+pub enum LayoutMeaning {
     Constant(CellBase, i16),
     Kind(CellType),
     /// A variable or a parameter.
@@ -34,31 +34,32 @@ pub enum Meaning {
     /// A component parameter, by its permanent cell, with its system type.
     Bound(usize, usize),
     Routine(usize),
-    Predeclared(Predeclared),
+    Predeclared(PredeclaredRoutine),
 }
 
-impl Meaning {
+impl LayoutMeaning {
     // Whether a system type sees it where it is the program's.
     fn is_open(self) -> bool
         ensures { result ≡ spec.is_open self }
     {
         match self {
-            Meaning::Constant(..) | Meaning::Kind(_) | Meaning::Predeclared(_) => true,
+            LayoutMeaning::Constant(..) | LayoutMeaning::Kind(_) | LayoutMeaning::Predeclared(_) =>
+                true,
             _ => false,
         }
     }
 }
 
 #[derive(Clone, Copy, Drop)]
-struct Declared<'a> {
+struct DeclaredName<'a> {
     name: &'a str,
-    meaning: Meaning,
+    meaning: LayoutMeaning,
 }
 
 /// The names that are visible, the latest last.
 #[derive(Drop)]
 pub struct Names<'a> {
-    items: Vec<Declared<'a>>,
+    items: Vec<DeclaredName<'a>>,
 }
 
 impl<'a> Names<'a> {
@@ -78,8 +79,8 @@ impl<'a> Names<'a> {
         let mut names = Names::empty(alloc);
         names.add_procedures()?;
         names.add_functions()?;
-        names.add("true", Meaning::Constant(CellBase::Boolean, 1))?;
-        names.add("false", Meaning::Constant(CellBase::Boolean, 0))?;
+        names.add("true", LayoutMeaning::Constant(CellBase::Boolean, 1))?;
+        names.add("false", LayoutMeaning::Constant(CellBase::Boolean, 0))?;
         names.add_types()?;
         Ok(names)
     }
@@ -87,43 +88,55 @@ impl<'a> Names<'a> {
     fn add_procedures(&mut self) -> Result<(), AllocError>
         ensures { OnOk result (names_seen self.new ≡ spec.with_procedures (names_seen self.old)) }
     {
-        self.add("display", Meaning::Predeclared(Predeclared::Display))?;
-        self.add("continue", Meaning::Predeclared(Predeclared::Continue))?;
-        self.add("delay", Meaning::Predeclared(Predeclared::Delay))
+        self.add(
+            "display",
+            LayoutMeaning::Predeclared(PredeclaredRoutine::Display),
+        )?;
+        self.add(
+            "continue",
+            LayoutMeaning::Predeclared(PredeclaredRoutine::Continue),
+        )?;
+        self.add(
+            "delay",
+            LayoutMeaning::Predeclared(PredeclaredRoutine::Delay),
+        )
     }
 
     fn add_functions(&mut self) -> Result<(), AllocError>
         ensures { OnOk result (names_seen self.new ≡ spec.with_functions (names_seen self.old)) }
     {
-        self.add("empty", Meaning::Predeclared(Predeclared::Empty))?;
-        self.add("abs", Meaning::Predeclared(Predeclared::Abs))?;
-        self.add("ord", Meaning::Predeclared(Predeclared::Ord))?;
-        self.add("chr", Meaning::Predeclared(Predeclared::Chr))?;
-        self.add("pred", Meaning::Predeclared(Predeclared::Pred))?;
-        self.add("succ", Meaning::Predeclared(Predeclared::Succ))
+        self.add(
+            "empty",
+            LayoutMeaning::Predeclared(PredeclaredRoutine::Empty),
+        )?;
+        self.add("abs", LayoutMeaning::Predeclared(PredeclaredRoutine::Abs))?;
+        self.add("ord", LayoutMeaning::Predeclared(PredeclaredRoutine::Ord))?;
+        self.add("chr", LayoutMeaning::Predeclared(PredeclaredRoutine::Chr))?;
+        self.add("pred", LayoutMeaning::Predeclared(PredeclaredRoutine::Pred))?;
+        self.add("succ", LayoutMeaning::Predeclared(PredeclaredRoutine::Succ))
     }
 
     fn add_types(&mut self) -> Result<(), AllocError>
         ensures { OnOk result (names_seen self.new ≡ spec.with_types (names_seen self.old)) }
     {
-        self.add("queue", Meaning::Kind(CellType::Queue))?;
-        self.add("char", Meaning::Kind(values_of(CellBase::Char)))?;
-        self.add("boolean", Meaning::Kind(values_of(CellBase::Boolean)))?;
-        self.add("integer", Meaning::Kind(values_of(CellBase::Integer)))
+        self.add("queue", LayoutMeaning::Kind(CellType::Queue))?;
+        self.add("char", LayoutMeaning::Kind(values_of(CellBase::Char)))?;
+        self.add("boolean", LayoutMeaning::Kind(values_of(CellBase::Boolean)))?;
+        self.add("integer", LayoutMeaning::Kind(values_of(CellBase::Integer)))
     }
 
     /// Declares a name.
     #[tactic(auto, unfolding(crate::specs::Layers::names_seen), using(crate::proofs::NamesSeen::seen_push))]
-    pub fn add(&mut self, name: &'a str, meaning: Meaning) -> Result<(), AllocError>
+    pub fn add(&mut self, name: &'a str, meaning: LayoutMeaning) -> Result<(), AllocError>
         ensures { OnOk result (names_seen self.new ≡ (name.now, meaning) ∷ names_seen self.old) }
     {
-        self.items.push(Declared { name, meaning })?;
+        self.items.push(DeclaredName { name, meaning })?;
         Ok(())
     }
 
     /// What a name stands for: its latest declaration.
     #[tactic(auto, unfolding(crate::specs::Layers::names_seen), using(crate::proofs::NamesSeen::seen_all, crate::proofs::NamesSeen::seen_none, crate::proofs::NamesSeen::seen_last))]
-    pub fn look(&self, name: &str) -> Option<Meaning>
+    pub fn look(&self, name: &str) -> Option<LayoutMeaning>
         ensures { result ≡ spec.find name.now (names_seen self.now) }
     {
         let mut left = self.items.len();
@@ -146,7 +159,7 @@ impl<'a> Names<'a> {
         while 0 < left {
             left -= 1;
             let declared = self.items[left];
-            if let Meaning::Kind(value_type) = declared.meaning {
+            if let LayoutMeaning::Kind(value_type) = declared.meaning {
                 if declared.name == name {
                     return Some(value_type);
                 }
@@ -172,7 +185,7 @@ impl<'a> Names<'a> {
     }
 
     // Declares a name again, if a system type sees it.
-    fn add_open(&mut self, declared: Declared<'a>) -> Result<(), AllocError>
+    fn add_open(&mut self, declared: DeclaredName<'a>) -> Result<(), AllocError>
         ensures { OnOk result (names_seen self.new ≡ spec.with_open (declared_seen declared.entry) (names_seen self.old)) }
     {
         if declared.meaning.is_open() {

@@ -8,7 +8,7 @@ ghost use Rattle.cp_layout.specs.LaidDeclarations as spec;
 
 use crate::kinds::{CellType, Types};
 use crate::layer::{Contained, Layouter};
-use crate::names::Meaning;
+use crate::names::LayoutMeaning;
 use cp_slots::PlaceOrigin;
 use cp_tree::{ConstantDefinition, Identifier, Part, PartKind, TypeDefinition, VariableGroup};
 use std::alloc::{AllocError, Global};
@@ -71,7 +71,10 @@ impl<'a> Layouter<'a> {
         ensures { Leads (spec.constant (layer_seen self.old) (constant_definition_view node.now)) (layer_seen self.new) result }
     {
         let number = self.around.names.constant(&node.value);
-        self.declare(&node.name, Meaning::Constant(number.base, number.value))
+        self.declare(
+            &node.name,
+            LayoutMeaning::Constant(number.base, number.value),
+        )
     }
 
     #[tactic(auto, using(crate::proofs::LaidParts::type_definitions_step, crate::proofs::LaidParts::type_definitions_none))]
@@ -92,7 +95,7 @@ impl<'a> Layouter<'a> {
         ensures { Leads (spec.type_definition (layer_seen self.old) (type_definition_view node.now)) (layer_seen self.new) result }
     {
         let value_type = self.value_type(alloc, &node.value)?;
-        self.declare(&node.name, Meaning::Kind(value_type))
+        self.declare(&node.name, LayoutMeaning::Kind(value_type))
     }
 
     /// Permanent variables.
@@ -160,7 +163,7 @@ impl<'a> Layouter<'a> {
     {
         let each = self.around.component_count(contained.system);
         let first = self.around.owned.add_components(contained, each)?;
-        self.declare(identifier, Meaning::Contained(first, value_type))
+        self.declare(identifier, LayoutMeaning::Contained(first, value_type))
     }
 
     /// A variable of permanent cells, by the first of them.
@@ -176,7 +179,7 @@ impl<'a> Layouter<'a> {
         let slot = self.around.owned.add_variable(value_type, cells)?;
         self.declare(
             identifier,
-            Meaning::Variable(PlaceOrigin::Permanent(slot), value_type),
+            LayoutMeaning::Variable(PlaceOrigin::Permanent(slot), value_type),
         )?;
         Ok(slot)
     }
@@ -224,7 +227,7 @@ impl<'a> Layouter<'a> {
         let slot = self.frame.add_cells(&self.around.types, value_type)?;
         self.declare(
             identifier,
-            Meaning::Variable(PlaceOrigin::Local(slot), value_type),
+            LayoutMeaning::Variable(PlaceOrigin::Local(slot), value_type),
         )?;
         Ok(slot)
     }

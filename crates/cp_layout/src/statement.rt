@@ -11,7 +11,7 @@ ghost use Rattle.cp_layout.specs.LaidStatements.{target_seen, callee_seen, place
 use crate::expression::byte_or;
 use crate::kinds::{CellBase, CellType, values_of};
 use crate::layer::Layouter;
-use crate::names::Predeclared;
+use crate::names::PredeclaredRoutine;
 use crate::surroundings::Surroundings;
 use crate::value::{Designated, Value, ordinal, place_at, place_of, set_expression};
 use cp_slots::{Action, ComponentPlace, Place, PlaceOrigin, ResolvedArm, ShownKind};
@@ -31,7 +31,7 @@ struct StatementTarget {
 /// What a call statement calls.
 #[derive(Drop)]
 enum CalledRoutine {
-    Predeclared(Predeclared),
+    Predeclared(PredeclaredRoutine),
     /// A routine of a component, and whether it is called by the component.
     Routine(ComponentPlace, bool, usize),
     Nothing,
@@ -263,7 +263,7 @@ impl<'a> Layouter<'a> {
         &mut self,
         alloc: Global,
         at: usize,
-        routine: Predeclared,
+        routine: PredeclaredRoutine,
         nodes: &[Written],
     ) -> Result<(), AllocError>
         ensures { Leads (spec.standard (layer_seen self.old) at routine (expressions_of (expressions_view nodes.now))) (layer_seen self.new) result }
@@ -564,13 +564,13 @@ fn is_down(direction: Direction) -> bool
 }
 
 // What a predeclared procedure does.
-fn standard_action(alloc: Global, routine: Predeclared, value: Value) -> Action
+fn standard_action(alloc: Global, routine: PredeclaredRoutine, value: Value) -> Action
     ensures { action_seen result ≡ spec.performed routine (value_seen value) }
 {
     match routine {
-        Predeclared::Delay => Action::Delay(place_of(alloc, value)),
-        Predeclared::Continue => Action::Continue(place_of(alloc, value)),
-        Predeclared::Display => display(value),
+        PredeclaredRoutine::Delay => Action::Delay(place_of(alloc, value)),
+        PredeclaredRoutine::Continue => Action::Continue(place_of(alloc, value)),
+        PredeclaredRoutine::Display => display(value),
         _ => Action::Empty,
     }
 }

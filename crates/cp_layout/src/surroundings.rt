@@ -7,7 +7,7 @@ ghost use Rattle.cp_layout.specs.LaidExpressions as expressions;
 ghost use Rattle.cp_layout.specs.LaidStatements as statements;
 
 use crate::kinds::Types;
-use crate::layer::{FunctionResult, HeadingLayout, Owned, ParameterLayout, System};
+use crate::layer::{FunctionResult, HeadingLayout, Owned, ParameterLayout, SystemCells};
 use crate::names::Names;
 
 /// What is declared around a statement.
@@ -17,7 +17,7 @@ pub struct Surroundings<'a> {
     pub lines: &'a [u32],
     pub types: Types<'a>,
     pub names: Names<'a>,
-    pub systems: Vec<System>,
+    pub systems: Vec<SystemCells>,
     /// Of each routine, and of the one that is laid out.
     pub headings: Vec<HeadingLayout<'a>>,
     /// The cells and components of the system type that is laid out, or of the program.

@@ -9,7 +9,7 @@ ghost use Rattle.cp_layout.specs.Laid as spec;
 ghost use Rattle.cp_layout.specs.Laid.{plain, laid};
 
 use crate::component::Components;
-use crate::layer::{Layouter, Owned, System};
+use crate::layer::{Layouter, Owned, SystemCells};
 use cp_slots::{Layout, Process, ResolvedRoutine, SystemType};
 use cp_tree::Tree;
 use std::alloc::{AllocError, Global};
@@ -53,7 +53,7 @@ fn tables(alloc: Global, layer: Layouter<'_>) -> Result<Layout, AllocError>
 // The system types, and the program as the last of them.
 fn system_types(
     alloc: Global,
-    systems: &[System],
+    systems: &[SystemCells],
     program: &Owned,
 ) -> Result<Vec<SystemType>, AllocError>
     ensures { IfOk result (λ v. map system_view v.items ≡ spec.system_types (map system_seen systems.now) (owned_seen program.now)) }
@@ -64,7 +64,7 @@ fn system_types(
 }
 
 #[tactic(auto, using(crate::proofs::Systems::types_step, crate::proofs::Systems::types_none))]
-fn all_types(alloc: Global, systems: &[System]) -> Result<Vec<SystemType>, AllocError>
+fn all_types(alloc: Global, systems: &[SystemCells]) -> Result<Vec<SystemType>, AllocError>
     ensures { IfOk result (λ v. map system_view v.items ≡ spec.types_of (map system_seen systems.now)) }
 {
     let mut types = Vec::new(alloc);

@@ -9,7 +9,7 @@ ghost use Rattle.cp_layout.specs.LaidTypes as spec;
 use crate::expression::{integer, integer_of};
 use crate::kinds::{CellBase, CellRange, CellType, RecordType, values_of};
 use crate::layer::Layouter;
-use crate::names::{Meaning, Names};
+use crate::names::{LayoutMeaning, Names};
 use cp_tree::{
     Constant, ConstantKind, FieldGroup, Identifier, Sign, Simple, SimpleKind, Type, TypeKind,
 };
@@ -66,7 +66,7 @@ impl<'a> Names<'a> {
         ensures { (result.base, result.value) ≡ spec.constant_meant sign (find name.now (names_seen self.now)) }
     {
         match self.look(name) {
-            Some(Meaning::Constant(base, number)) => Number {
+            Some(LayoutMeaning::Constant(base, number)) => Number {
                 base,
                 value: number_with_sign(sign, number),
             },
@@ -214,7 +214,7 @@ impl<'a> Layouter<'a> {
         ensures { Leads (spec.enumerated (layer_seen self.old) base 0 constants.now) (layer_seen self.new) result }
     {
         for (number, identifier) in constants.iter().enumerate() {
-            let meaning = Meaning::Constant(base, integer_of(number));
+            let meaning = LayoutMeaning::Constant(base, integer_of(number));
             self.add_constant(alloc, identifier, meaning)?;
         }
         Ok(())
@@ -225,7 +225,7 @@ impl<'a> Layouter<'a> {
         &mut self,
         alloc: Global,
         node: &'a Identifier,
-        meaning: Meaning,
+        meaning: LayoutMeaning,
     ) -> Result<(), AllocError>
         ensures { Leads (spec.with_constant (layer_seen self.old) node.now.name meaning) (layer_seen self.new) result }
     {

@@ -6,7 +6,7 @@ ghost use Rattle.cp_layout.specs.Values as spec;
 ghost use Rattle.cp_layout.specs.Values.{value_seen};
 
 use crate::kinds::{CellBase, CellType};
-use crate::names::Predeclared;
+use crate::names::PredeclaredRoutine;
 use cp_slots::{
     Arithmetic, Comparison, ComponentPlace, Expression, Logic, Place, PlaceOrigin, SetExpression,
     SetOperation,
@@ -35,7 +35,7 @@ pub enum Designated {
     Component(ComponentPlace, usize),
     Routine(usize),
     Entry(ComponentPlace, usize),
-    Predeclared(Predeclared),
+    Predeclared(PredeclaredRoutine),
     Nothing,
 }
 
@@ -267,7 +267,7 @@ pub fn comparison_of(
 /// What a predeclared function answers for an argument.
 pub fn standard_value(
     alloc: Global,
-    function: Predeclared,
+    function: PredeclaredRoutine,
     value: Value,
 ) -> Result<Value, AllocError>
     ensures { IfOk result (λ v. value_seen v ≡ spec.applied function (value_seen value)) }
@@ -279,21 +279,21 @@ pub fn standard_value(
     };
     let range = base.whole();
     Ok(match function {
-        Predeclared::Succ => Value::Ordinal(
+        PredeclaredRoutine::Succ => Value::Ordinal(
             Expression::Successor(Box::new(alloc, inner)?, range.high),
             base,
         ),
-        Predeclared::Pred => Value::Ordinal(
+        PredeclaredRoutine::Pred => Value::Ordinal(
             Expression::Predecessor(Box::new(alloc, inner)?, range.low),
             base,
         ),
-        Predeclared::Chr => {
+        PredeclaredRoutine::Chr => {
             Value::Ordinal(
                 Expression::Character(Box::new(alloc, inner)?),
                 CellBase::Char,
             )
         }
-        Predeclared::Abs => {
+        PredeclaredRoutine::Abs => {
             Value::Ordinal(
                 Expression::Absolute(Box::new(alloc, inner)?),
                 CellBase::Integer,

@@ -1,7 +1,7 @@
 //! The components of a program with their paths, each followed by those that it contains.
 
-use crate::legend::Component;
-use crate::reader::{Contained, Owned, Reader};
+use crate::legend::LegendComponent;
+use crate::reader::{ContainedComponents, LegendReader, OwnedCells};
 use crate::values::push_ordinal;
 use cp_slots::ComponentKind;
 use cp_tree::SystemKind;
@@ -9,16 +9,16 @@ use std::alloc::{AllocError, Global};
 
 /// The components so far.
 #[derive(Drop)]
-pub struct Components {
-    pub items: Vec<Component>,
+pub struct ComponentList {
+    pub items: Vec<LegendComponent>,
     processes: u8,
     monitors: u8,
     cells: usize,
 }
 
-impl Components {
-    pub fn new(alloc: Global) -> Components {
-        Components {
+impl ComponentList {
+    pub fn new(alloc: Global) -> ComponentList {
+        ComponentList {
             items: Vec::new(alloc),
             processes: 0,
             monitors: 0,
@@ -27,7 +27,11 @@ impl Components {
     }
 
     /// The program and all that it contains.
-    pub fn add_program(&mut self, alloc: Global, reader: &Reader<'_>) -> Result<(), AllocError> {
+    pub fn add_program(
+        &mut self,
+        alloc: Global,
+        reader: &LegendReader<'_>,
+    ) -> Result<(), AllocError> {
         let number = reader.systems.len().saturating_sub(1);
         let Some(owned) = reader.owners.get(number) else {
             return Ok(());
@@ -43,7 +47,7 @@ impl Components {
     fn add(
         &mut self,
         alloc: Global,
-        reader: &Reader<'_>,
+        reader: &LegendReader<'_>,
         path: String,
         number: usize,
         monitor: Option<u8>,
@@ -63,9 +67,9 @@ impl Components {
     fn add_contained(
         &mut self,
         alloc: Global,
-        reader: &Reader<'_>,
+        reader: &LegendReader<'_>,
         path: &str,
-        owned: &Owned,
+        owned: &OwnedCells,
         number: usize,
         monitor: Option<u8>,
     ) -> Result<(), AllocError> {
@@ -86,9 +90,9 @@ impl Components {
         kind: ComponentKind,
         system: usize,
         monitor: Option<u8>,
-        owned: &Owned,
+        owned: &OwnedCells,
     ) -> Result<(), AllocError> {
-        self.items.push(Component {
+        self.items.push(LegendComponent {
             path,
             kind,
             system,
@@ -117,7 +121,7 @@ impl Components {
     }
 }
 
-fn system_kind(reader: &Reader<'_>, number: usize) -> SystemKind {
+fn system_kind(reader: &LegendReader<'_>, number: usize) -> SystemKind {
     match reader.systems.get(number) {
         Some(system) => system.kind.unwrap_or(SystemKind::Process),
         None => SystemKind::Process,
@@ -133,7 +137,7 @@ fn part_of(kind: ComponentKind, outer: Option<u8>) -> Option<u8> {
     }
 }
 
-fn count_of(contained: &Contained) -> usize {
+fn count_of(contained: &ContainedComponents) -> usize {
     match contained.index {
         Some(index) => index.count(),
         None => 1,
@@ -142,9 +146,9 @@ fn count_of(contained: &Contained) -> usize {
 
 fn path_of(
     alloc: Global,
-    reader: &Reader<'_>,
+    reader: &LegendReader<'_>,
     outer: &str,
-    contained: &Contained,
+    contained: &ContainedComponents,
     place: usize,
 ) -> Result<String, AllocError> {
     let mut path = String::new(alloc);

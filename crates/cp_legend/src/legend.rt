@@ -1,8 +1,8 @@
 //! The legend of a program: what its numbers are called in the source.
 
-use crate::components::Components;
-use crate::reader::Reader;
-use crate::shape::{Shape, Shapes};
+use crate::components::ComponentList;
+use crate::reader::LegendReader;
+use crate::shape::{LegendShape, LegendShapes};
 use cp_slots::ComponentKind;
 use cp_tree::{SystemKind, Tree};
 use std::alloc::{AllocError, Global};
@@ -12,29 +12,29 @@ use std::alloc::{AllocError, Global};
 pub struct Variable {
     pub name: String,
     pub slot: usize,
-    pub shape: Shape,
+    pub shape: LegendShape,
 }
 
 /// How an argument is passed.
 #[derive(Clone, Copy, PartialEq, Eq)]
-pub enum Passing {
+pub enum LegendPassing {
     Value,
     Reference,
 }
 
 /// A parameter of a routine, by its first cell, or by its number among the `var` parameters.
 #[derive(Clone, Copy)]
-pub struct Parameter {
+pub struct LegendParameter {
     pub slot: usize,
-    pub shape: Shape,
-    pub passing: Passing,
+    pub shape: LegendShape,
+    pub passing: LegendPassing,
 }
 
 /// A routine, or an initial statement, whose name is empty.
 #[derive(Drop)]
-pub struct Routine {
+pub struct LegendRoutine {
     pub name: String,
-    pub parameters: Vec<Parameter>,
+    pub parameters: Vec<LegendParameter>,
     /// The parameters with values, the result and the local variables, by their cells of the frame.
     pub variables: Vec<Variable>,
     /// The place of a function's result among these.
@@ -43,14 +43,14 @@ pub struct Routine {
 
 /// A system type, or the program, which has no kind and no name.
 #[derive(Drop)]
-pub struct SystemType {
+pub struct LegendSystem {
     pub name: String,
     pub kind: Option<SystemKind>,
 }
 
 /// A component.
 #[derive(Drop)]
-pub struct Component {
+pub struct LegendComponent {
     /// As the source writes it; the program is `program`.
     pub path: String,
     pub kind: ComponentKind,
@@ -64,21 +64,21 @@ pub struct Component {
 /// The names of a program, by the numbers of its tables.
 #[derive(Drop)]
 pub struct Legend {
-    pub shapes: Shapes,
+    pub shapes: LegendShapes,
     /// The constants of all enumerations.
     pub constants: Vec<String>,
-    pub systems: Vec<SystemType>,
+    pub systems: Vec<LegendSystem>,
     /// The permanent variables of each system type.
     pub permanents: Vec<Vec<Variable>>,
-    pub routines: Vec<Routine>,
-    pub components: Vec<Component>,
+    pub routines: Vec<LegendRoutine>,
+    pub components: Vec<LegendComponent>,
 }
 
 /// The legend of a tree that is accepted.
 pub fn legend_of(alloc: Global, tree: &Tree) -> Result<Legend, AllocError> {
-    let mut reader = Reader::new(alloc)?;
+    let mut reader = LegendReader::new(alloc)?;
     reader.program(alloc, &tree.program)?;
-    let mut components = Components::new(alloc);
+    let mut components = ComponentList::new(alloc);
     components.add_program(alloc, &reader)?;
     let mut permanents = Vec::new(alloc);
     for owned in reader.owners {
@@ -164,13 +164,13 @@ impl Legend {
         }
     }
 
-    fn process(&self, process: u8) -> Option<&Component> {
+    fn process(&self, process: u8) -> Option<&LegendComponent> {
         self.components
             .iter()
             .find(|component| is_process(component.kind, process))
     }
 
-    fn monitor(&self, monitor: u8) -> Option<&Component> {
+    fn monitor(&self, monitor: u8) -> Option<&LegendComponent> {
         self.components
             .iter()
             .find(|component| is_monitor(component.kind, monitor))

@@ -12,6 +12,9 @@ pub mod shape;
 pub mod value;
 mod values;
 
-pub use legend::{Component, Legend, Parameter, Passing, Routine, SystemType, Variable, legend_of};
-pub use shape::{Base, Range, Shape, Shapes};
-pub use value::{Member, Value};
+pub use legend::{
+    Legend, LegendComponent, LegendParameter, LegendPassing, LegendRoutine, LegendSystem, Variable,
+    legend_of,
+};
+pub use shape::{LegendBase, LegendRange, LegendShape, LegendShapes};
+pub use value::{Member, SourceValue};

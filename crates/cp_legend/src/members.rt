@@ -1,9 +1,9 @@
 //! The program, its system types, and what they own.
 
-use crate::legend::{SystemType, Variable};
-use crate::reader::{Contained, Owned, Reader};
-use crate::scope::Meaning;
-use crate::shape::Shape;
+use crate::legend::{LegendSystem, Variable};
+use crate::reader::{ContainedComponents, LegendReader, OwnedCells};
+use crate::scope::LegendMeaning;
+use crate::shape::LegendShape;
 use cp_tree::{
     Definition, Group, Identifier, Part, PartKind, Program, ProgramPart, ProgramPartKind, System,
     SystemDefinition, VariableGroup,
@@ -11,7 +11,7 @@ use cp_tree::{
 use std::alloc::{AllocError, Global};
 use std::mem;
 
-impl<'a> Reader<'a> {
+impl<'a> LegendReader<'a> {
     /// The whole program, which is the last of the system types. The last routine is its initial statement.
     pub fn program(&mut self, alloc: Global, node: &'a Program) -> Result<(), AllocError> {
         for part in &node.parts {
@@ -21,7 +21,7 @@ impl<'a> Reader<'a> {
             self.routine(alloc, routine)?;
         }
         self.initial_statement(alloc)?;
-        let owned = mem::replace(&mut self.owned, Owned::new(alloc));
+        let owned = mem::replace(&mut self.owned, OwnedCells::new(alloc));
         self.add_system(String::new(alloc), None, owned)
     }
 
@@ -44,11 +44,16 @@ impl<'a> Reader<'a> {
             Definition::Type(written) => self.shape(alloc, written)?,
             Definition::System(system) => self.system(alloc, name, system)?,
         };
-        self.scope.add(name, Meaning::Kind(shape))
+        self.scope.add(name, LegendMeaning::Kind(shape))
     }
 
-    fn system(&mut self, alloc: Global, name: &str, node: &'a System) -> Result<Shape, AllocError> {
-        let outer = mem::replace(&mut self.owned, Owned::new(alloc));
+    fn system(
+        &mut self,
+        alloc: Global,
+        name: &str,
+        node: &'a System,
+    ) -> Result<LegendShape, AllocError> {
+        let outer = mem::replace(&mut self.owned, OwnedCells::new(alloc));
         let count = self.scope.open();
         self.scope.seal();
         self.system_parameters(alloc, &node.parameters)?;
@@ -65,16 +70,16 @@ impl<'a> Reader<'a> {
         let number = self.systems.len();
         let name = String::from_str(alloc, name)?;
         self.add_system(name, Some(node.kind), owned)?;
-        Ok(Shape::System(number))
+        Ok(LegendShape::System(number))
     }
 
     fn add_system(
         &mut self,
         name: String,
         kind: Option<cp_tree::SystemKind>,
-        owned: Owned,
+        owned: OwnedCells,
     ) -> Result<(), AllocError> {
-        self.systems.push(SystemType { name, kind })?;
+        self.systems.push(LegendSystem { name, kind })?;
         self.owners.push(owned)?;
         Ok(())
     }
@@ -94,11 +99,13 @@ impl<'a> Reader<'a> {
         &mut self,
         alloc: Global,
         identifier: &'a Identifier,
-        shape: Shape,
+        shape: LegendShape,
     ) -> Result<(), AllocError> {
-        if let Shape::System(_) = shape {
+        if let LegendShape::System(_) = shape {
             self.owned.cells = self.owned.cells.saturating_add(1);
-            return self.scope.add(identifier.name.as_str(), Meaning::Other);
+            return self
+                .scope
+                .add(identifier.name.as_str(), LegendMeaning::Other);
         }
         self.permanent(alloc, identifier, shape)
     }
@@ -125,12 +132,13 @@ impl<'a> Reader<'a> {
         &mut self,
         alloc: Global,
         identifier: &'a Identifier,
-        shape: Shape,
+        shape: LegendShape,
     ) -> Result<(), AllocError> {
         match self.contained(alloc, identifier, shape)? {
             Some(contained) => {
                 self.owned.contained.push(contained)?;
-                self.scope.add(identifier.name.as_str(), Meaning::Other)
+                self.scope
+                    .add(identifier.name.as_str(), LegendMeaning::Other)
             }
             None => self.permanent(alloc, identifier, shape),
         }
@@ -141,13 +149,13 @@ impl<'a> Reader<'a> {
         &self,
         alloc: Global,
         identifier: &Identifier,
-        shape: Shape,
-    ) -> Result<Option<Contained>, AllocError> {
+        shape: LegendShape,
+    ) -> Result<Option<ContainedComponents>, AllocError> {
         let (system, index) = match shape {
-            Shape::System(system) => (system, None),
-            Shape::Array(number) => match self.shapes.array(number) {
+            LegendShape::System(system) => (system, None),
+            LegendShape::Array(number) => match self.shapes.array(number) {
                 Some(array) => match array.element {
-                    Shape::System(system) => (system, Some(array.index)),
+                    LegendShape::System(system) => (system, Some(array.index)),
                     _ => return Ok(None),
                 },
                 None => return Ok(None),
@@ -155,7 +163,7 @@ impl<'a> Reader<'a> {
             _ => return Ok(None),
         };
         let name = String::from_str(alloc, identifier.name.as_str())?;
-        Ok(Some(Contained {
+        Ok(Some(ContainedComponents {
             name,
             system,
             index,
@@ -167,7 +175,7 @@ impl<'a> Reader<'a> {
         &mut self,
         alloc: Global,
         identifier: &'a Identifier,
-        shape: Shape,
+        shape: LegendShape,
     ) -> Result<(), AllocError> {
         let name = identifier.name.as_str();
         self.owned.variables.push(Variable {
@@ -177,6 +185,6 @@ impl<'a> Reader<'a> {
         })?;
         let cells = self.shapes.cells_of(shape);
         self.owned.cells = self.owned.cells.saturating_add(cells);
-        self.scope.add(name, Meaning::Other)
+        self.scope.add(name, LegendMeaning::Other)
     }
 }

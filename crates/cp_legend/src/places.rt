@@ -1,13 +1,13 @@
 //! Names of places: a variable or a part of one, by its first cell.
 
-use crate::legend::{Component, Legend, Variable};
-use crate::shape::Shape;
+use crate::legend::{Legend, LegendComponent, Variable};
+use crate::shape::LegendShape;
 use crate::values::push_ordinal;
 use std::alloc::{AllocError, Global};
 
 impl Legend {
     /// The permanent variables of a component.
-    pub fn variables_of(&self, component: &Component) -> &[Variable] {
+    pub fn variables_of(&self, component: &LegendComponent) -> &[Variable] {
         match self.permanents.get(component.system) {
             Some(variables) => variables.as_slice(),
             None => &[],
@@ -15,7 +15,7 @@ impl Legend {
     }
 
     /// The component that a permanent cell belongs to.
-    pub fn owner(&self, cell: usize) -> Option<&Component> {
+    pub fn owner(&self, cell: usize) -> Option<&LegendComponent> {
         let mut found = None;
         for component in &self.components {
             if component.base <= cell {
@@ -83,11 +83,11 @@ impl Legend {
     fn push_part(
         &self,
         text: &mut String,
-        whole: Shape,
+        whole: LegendShape,
         offset: usize,
         cells: usize,
     ) -> Result<(), AllocError> {
-        let mut part = Part {
+        let mut part = PlacePart {
             shape: whole,
             offset,
         };
@@ -101,9 +101,9 @@ impl Legend {
     }
 
     // Appends one index or field.
-    fn push_step(&self, text: &mut String, part: Part) -> Result<Part, AllocError> {
+    fn push_step(&self, text: &mut String, part: PlacePart) -> Result<PlacePart, AllocError> {
         match part.shape {
-            Shape::Array(number) => match self.shapes.array(number) {
+            LegendShape::Array(number) => match self.shapes.array(number) {
                 Some(array) => {
                     let place = part.offset.checked_div(array.element_cells).unwrap_or(0);
                     text.push('[')?;
@@ -115,14 +115,14 @@ impl Legend {
                     )?;
                     text.push(']')?;
                     let before = place.saturating_mul(array.element_cells);
-                    Ok(Part {
+                    Ok(PlacePart {
                         shape: array.element,
                         offset: part.offset.saturating_sub(before),
                     })
                 }
                 None => Ok(part),
             },
-            Shape::Record(number) => {
+            LegendShape::Record(number) => {
                 let mut found = None;
                 for field in self.shapes.fields(number) {
                     if field.offset <= part.offset {
@@ -134,7 +134,7 @@ impl Legend {
                 };
                 text.push('.')?;
                 text.push_str(field.name.as_str())?;
-                Ok(Part {
+                Ok(PlacePart {
                     shape: field.shape,
                     offset: part.offset.saturating_sub(field.offset),
                 })
@@ -145,7 +145,7 @@ impl Legend {
 }
 
 #[derive(Clone, Copy)]
-struct Part {
-    shape: Shape,
+struct PlacePart {
+    shape: LegendShape,
     offset: usize,
 }

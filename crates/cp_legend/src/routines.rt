@@ -1,9 +1,9 @@
 //! Routines and initial statements, with their parameters and local variables.
 
-use crate::legend::{Parameter, Passing, Routine, Variable};
-use crate::reader::Reader;
-use crate::scope::Meaning;
-use crate::shape::Shape;
+use crate::legend::{LegendParameter, LegendPassing, LegendRoutine, Variable};
+use crate::reader::LegendReader;
+use crate::scope::LegendMeaning;
+use crate::shape::LegendShape;
 use cp_tree::{
     Group, Identifier, ParameterGroup, Part, PartKind, Routine as Written, RoutineKind,
     VariableGroup,
@@ -12,16 +12,16 @@ use std::alloc::{AllocError, Global};
 
 // The routine that is read, and the cells of its frame so far.
 #[derive(Drop)]
-struct Draft {
-    routine: Routine,
+struct RoutineDraft {
+    routine: LegendRoutine,
     cells: usize,
     references: usize,
 }
 
-impl Draft {
-    fn new(alloc: Global, name: String) -> Draft {
-        Draft {
-            routine: Routine {
+impl RoutineDraft {
+    fn new(alloc: Global, name: String) -> RoutineDraft {
+        RoutineDraft {
+            routine: LegendRoutine {
                 name,
                 parameters: Vec::new(alloc),
                 variables: Vec::new(alloc),
@@ -32,7 +32,12 @@ impl Draft {
         }
     }
 
-    fn add_variable(&mut self, name: String, shape: Shape, cells: usize) -> Result<(), AllocError> {
+    fn add_variable(
+        &mut self,
+        name: String,
+        shape: LegendShape,
+        cells: usize,
+    ) -> Result<(), AllocError> {
         self.routine.variables.push(Variable {
             name,
             slot: self.cells,
@@ -43,10 +48,10 @@ impl Draft {
     }
 }
 
-impl<'a> Reader<'a> {
+impl<'a> LegendReader<'a> {
     /// The initial statement of a system type or of the program: a routine without a name.
     pub fn initial_statement(&mut self, alloc: Global) -> Result<(), AllocError> {
-        let draft = Draft::new(alloc, String::new(alloc));
+        let draft = RoutineDraft::new(alloc, String::new(alloc));
         self.routines.push(draft.routine)?;
         Ok(())
     }
@@ -54,9 +59,9 @@ impl<'a> Reader<'a> {
     /// A routine, whose name is declared for what comes after it.
     pub fn routine(&mut self, alloc: Global, node: &'a Written) -> Result<(), AllocError> {
         let name = node.name.name.as_str();
-        self.scope.add(name, Meaning::Other)?;
+        self.scope.add(name, LegendMeaning::Other)?;
         let count = self.scope.open();
-        let mut draft = Draft::new(alloc, String::from_str(alloc, name)?);
+        let mut draft = RoutineDraft::new(alloc, String::from_str(alloc, name)?);
         match &node.kind {
             RoutineKind::Procedure(groups) => self.procedure(alloc, &mut draft, groups)?,
             RoutineKind::Function(groups, type_name) => {
@@ -80,7 +85,7 @@ impl<'a> Reader<'a> {
     fn procedure(
         &mut self,
         alloc: Global,
-        draft: &mut Draft,
+        draft: &mut RoutineDraft,
         groups: &'a [ParameterGroup],
     ) -> Result<(), AllocError> {
         for group in groups {
@@ -96,31 +101,36 @@ impl<'a> Reader<'a> {
     fn value_parameters(
         &mut self,
         alloc: Global,
-        draft: &mut Draft,
+        draft: &mut RoutineDraft,
         group: &'a Group,
     ) -> Result<(), AllocError> {
         let shape = self.named(&group.type_name);
         for identifier in &group.names {
-            draft.routine.parameters.push(Parameter {
+            draft.routine.parameters.push(LegendParameter {
                 slot: draft.cells,
                 shape,
-                passing: Passing::Value,
+                passing: LegendPassing::Value,
             })?;
             self.local(alloc, draft, identifier, shape)?;
         }
         Ok(())
     }
 
-    fn var_parameters(&mut self, draft: &mut Draft, group: &'a Group) -> Result<(), AllocError> {
+    fn var_parameters(
+        &mut self,
+        draft: &mut RoutineDraft,
+        group: &'a Group,
+    ) -> Result<(), AllocError> {
         let shape = self.named(&group.type_name);
         for identifier in &group.names {
-            draft.routine.parameters.push(Parameter {
+            draft.routine.parameters.push(LegendParameter {
                 slot: draft.references,
                 shape,
-                passing: Passing::Reference,
+                passing: LegendPassing::Reference,
             })?;
             draft.references = draft.references.saturating_add(1);
-            self.scope.add(identifier.name.as_str(), Meaning::Other)?;
+            self.scope
+                .add(identifier.name.as_str(), LegendMeaning::Other)?;
         }
         Ok(())
     }
@@ -128,9 +138,9 @@ impl<'a> Reader<'a> {
     fn local(
         &mut self,
         alloc: Global,
-        draft: &mut Draft,
+        draft: &mut RoutineDraft,
         identifier: &'a Identifier,
-        shape: Shape,
+        shape: LegendShape,
     ) -> Result<(), AllocError> {
         let name = identifier.name.as_str();
         draft.add_variable(
@@ -138,13 +148,13 @@ impl<'a> Reader<'a> {
             shape,
             self.shapes.cells_of(shape),
         )?;
-        self.scope.add(name, Meaning::Other)
+        self.scope.add(name, LegendMeaning::Other)
     }
 
     fn local_part(
         &mut self,
         alloc: Global,
-        draft: &mut Draft,
+        draft: &mut RoutineDraft,
         node: &'a Part,
     ) -> Result<(), AllocError> {
         match &node.kind {
@@ -157,7 +167,7 @@ impl<'a> Reader<'a> {
     fn local_variables(
         &mut self,
         alloc: Global,
-        draft: &mut Draft,
+        draft: &mut RoutineDraft,
         groups: &'a [VariableGroup],
     ) -> Result<(), AllocError> {
         for group in groups {

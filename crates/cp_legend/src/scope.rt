@@ -1,55 +1,64 @@
 //! What names stand for where types and constants are read.
 
-use crate::shape::{Base, Shape, values_of};
+use crate::shape::{LegendBase, LegendShape, values_of};
 use std::alloc::{AllocError, Global};
 
 /// What a name stands for.
 #[derive(Clone, Copy)]
-pub enum Meaning {
-    Constant(Base, i16),
-    Kind(Shape),
+pub enum LegendMeaning {
+    Constant(LegendBase, i16),
+    Kind(LegendShape),
     /// A variable, a parameter or a routine.
     Other,
 }
 
 #[derive(Clone, Copy, Drop)]
-struct Declared<'a> {
+struct LegendName<'a> {
     name: &'a str,
-    meaning: Meaning,
+    meaning: LegendMeaning,
 }
 
 /// The names that are declared, the innermost last.
 #[derive(Drop)]
-pub struct Scope<'a> {
-    items: Vec<Declared<'a>>,
+pub struct LegendScope<'a> {
+    items: Vec<LegendName<'a>>,
     /// Variables and routines among the first of these are not visible.
     sealed: usize,
 }
 
-impl<'a> Scope<'a> {
+impl<'a> LegendScope<'a> {
     /// The predeclared constants and types.
-    pub fn new(alloc: Global) -> Result<Scope<'a>, AllocError> {
-        let mut scope = Scope {
+    pub fn new(alloc: Global) -> Result<LegendScope<'a>, AllocError> {
+        let mut scope = LegendScope {
             items: Vec::new(alloc),
             sealed: 0,
         };
-        scope.add("integer", Meaning::Kind(values_of(Base::Integer)))?;
-        scope.add("boolean", Meaning::Kind(values_of(Base::Boolean)))?;
-        scope.add("char", Meaning::Kind(values_of(Base::Character)))?;
-        scope.add("queue", Meaning::Kind(Shape::Queue))?;
-        scope.add("false", Meaning::Constant(Base::Boolean, 0))?;
-        scope.add("true", Meaning::Constant(Base::Boolean, 1))?;
+        scope.add(
+            "integer",
+            LegendMeaning::Kind(values_of(LegendBase::Integer)),
+        )?;
+        scope.add(
+            "boolean",
+            LegendMeaning::Kind(values_of(LegendBase::Boolean)),
+        )?;
+        scope.add(
+            "char",
+            LegendMeaning::Kind(values_of(LegendBase::Character)),
+        )?;
+        scope.add("queue", LegendMeaning::Kind(LegendShape::Queue))?;
+        scope.add("false", LegendMeaning::Constant(LegendBase::Boolean, 0))?;
+        scope.add("true", LegendMeaning::Constant(LegendBase::Boolean, 1))?;
         Ok(scope)
     }
 
     /// Declares a name.
-    pub fn add(&mut self, name: &'a str, meaning: Meaning) -> Result<(), AllocError> {
-        self.items.push(Declared { name, meaning })?;
+    pub fn add(&mut self, name: &'a str, meaning: LegendMeaning) -> Result<(), AllocError> {
+        self.items.push(LegendName { name, meaning })?;
         Ok(())
     }
 
     /// What a name stands for: its last declaration that is visible.
-    pub fn look(&self, name: &str) -> Option<Meaning> {
+    pub fn look(&self, name: &str) -> Option<LegendMeaning> {
         let mut found = None;
         for (number, declared) in self.items.iter().enumerate() {
             if declared.name == name && (number >= self.sealed || is_open(declared.meaning)) {
@@ -81,6 +90,6 @@ impl<'a> Scope<'a> {
 }
 
 // Whether a system type sees it where it is the program's.
-fn is_open(meaning: Meaning) -> bool {
-    !matches!(meaning, Meaning::Other)
+fn is_open(meaning: LegendMeaning) -> bool {
+    !matches!(meaning, LegendMeaning::Other)
 }

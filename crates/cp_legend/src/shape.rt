@@ -7,7 +7,7 @@ const SET_CELLS: usize = 8;
 
 /// What the values of an ordinal type are counted in.
 #[derive(Clone, Copy, PartialEq, Eq)]
-pub enum Base {
+pub enum LegendBase {
     Integer,
     Boolean,
     Character,
@@ -17,19 +17,19 @@ pub enum Base {
 
 /// The values of an ordinal type.
 #[derive(Clone, Copy, PartialEq, Eq)]
-pub struct Range {
-    pub base: Base,
+pub struct LegendRange {
+    pub base: LegendBase,
     pub low: i16,
     pub high: i16,
 }
 
 /// A type. Arrays and records are told apart by their numbers among the compound types, and system types by theirs.
 #[derive(Clone, Copy, PartialEq, Eq)]
-pub enum Shape {
-    Ordinal(Range),
+pub enum LegendShape {
+    Ordinal(LegendRange),
     Queue,
     /// By the values of the base.
-    Set(Range),
+    Set(LegendRange),
     Array(usize),
     Record(usize),
     System(usize),
@@ -37,42 +37,42 @@ pub enum Shape {
 
 /// An array, by its index and its elements.
 #[derive(Clone, Copy)]
-pub struct ArrayShape {
-    pub index: Range,
-    pub element: Shape,
+pub struct LegendArray {
+    pub index: LegendRange,
+    pub element: LegendShape,
     pub element_cells: usize,
 }
 
 /// A field of a record, with the cells before it.
 #[derive(Drop)]
-pub struct Field {
+pub struct LegendField {
     pub name: String,
-    pub shape: Shape,
+    pub shape: LegendShape,
     pub offset: usize,
 }
 
 #[derive(Drop)]
-enum Compound {
-    Array(ArrayShape, usize),
-    Record(Vec<Field>, usize),
+enum LegendCompound {
+    Array(LegendArray, usize),
+    Record(Vec<LegendField>, usize),
 }
 
 /// The arrays and records of a program. Each holds earlier ones alone.
 #[derive(Drop)]
-pub struct Shapes {
-    compounds: Vec<Compound>,
+pub struct LegendShapes {
+    compounds: Vec<LegendCompound>,
 }
 
-impl Base {
+impl LegendBase {
     /// All values.
-    pub fn whole(self) -> Range {
+    pub fn whole(self) -> LegendRange {
         let (low, high) = match self {
-            Base::Integer => (i16::MIN, i16::MAX),
-            Base::Boolean => (0, 1),
-            Base::Character => (0, 127),
-            Base::Enumeration(_, last) => (0, last),
+            LegendBase::Integer => (i16::MIN, i16::MAX),
+            LegendBase::Boolean => (0, 1),
+            LegendBase::Character => (0, 127),
+            LegendBase::Enumeration(_, last) => (0, last),
         };
-        Range {
+        LegendRange {
             base: self,
             low,
             high,
@@ -80,7 +80,7 @@ impl Base {
     }
 }
 
-impl Range {
+impl LegendRange {
     /// How many values there are.
     pub fn count(self) -> usize {
         let distance = i64::from(self.high) - i64::from(self.low) + 1;
@@ -95,13 +95,13 @@ impl Range {
 }
 
 /// The type of all values of a base.
-pub fn values_of(base: Base) -> Shape {
-    Shape::Ordinal(base.whole())
+pub fn values_of(base: LegendBase) -> LegendShape {
+    LegendShape::Ordinal(base.whole())
 }
 
-impl Shapes {
-    pub fn new(alloc: Global) -> Shapes {
-        Shapes {
+impl LegendShapes {
+    pub fn new(alloc: Global) -> LegendShapes {
+        LegendShapes {
             compounds: Vec::new(alloc),
         }
     }
@@ -112,61 +112,73 @@ impl Shapes {
     }
 
     /// How many cells a value has. A component has none.
-    pub fn cells_of(&self, shape: Shape) -> usize {
+    pub fn cells_of(&self, shape: LegendShape) -> usize {
         match shape {
-            Shape::Ordinal(_) | Shape::Queue => 1,
-            Shape::Set(_) => SET_CELLS,
-            Shape::Array(number) | Shape::Record(number) => match self.compounds.get(number) {
-                Some(Compound::Array(_, cells)) | Some(Compound::Record(_, cells)) => *cells,
+            LegendShape::Ordinal(_) | LegendShape::Queue => 1,
+            LegendShape::Set(_) => SET_CELLS,
+            LegendShape::Array(number) | LegendShape::Record(number) => match self
+                .compounds
+                .get(number)
+            {
+                Some(LegendCompound::Array(_, cells)) | Some(LegendCompound::Record(_, cells)) =>
+                    *cells,
                 None => 0,
             },
-            Shape::System(_) => 0,
+            LegendShape::System(_) => 0,
         }
     }
 
     /// The array of a number.
-    pub fn array(&self, number: usize) -> Option<ArrayShape> {
+    pub fn array(&self, number: usize) -> Option<LegendArray> {
         match self.compounds.get(number) {
-            Some(Compound::Array(array, _)) => Some(*array),
+            Some(LegendCompound::Array(array, _)) => Some(*array),
             _ => None,
         }
     }
 
     /// The fields of the record of a number.
-    pub fn fields(&self, number: usize) -> &[Field] {
+    pub fn fields(&self, number: usize) -> &[LegendField] {
         match self.compounds.get(number) {
-            Some(Compound::Record(fields, _)) => fields.as_slice(),
+            Some(LegendCompound::Record(fields, _)) => fields.as_slice(),
             _ => &[],
         }
     }
 
     /// A new array type.
-    pub fn add_array(&mut self, index: Range, element: Shape) -> Result<Shape, AllocError> {
+    pub fn add_array(
+        &mut self,
+        index: LegendRange,
+        element: LegendShape,
+    ) -> Result<LegendShape, AllocError> {
         let element_cells = self.cells_of(element);
         let cells = element_cells.saturating_mul(index.count());
-        let array = ArrayShape {
+        let array = LegendArray {
             index,
             element,
             element_cells,
         };
         let number = self.compounds.len();
-        self.compounds.push(Compound::Array(array, cells))?;
-        Ok(Shape::Array(number))
+        self.compounds.push(LegendCompound::Array(array, cells))?;
+        Ok(LegendShape::Array(number))
     }
 
     /// A new record type.
-    pub fn add_record(&mut self, fields: Vec<Field>, cells: usize) -> Result<Shape, AllocError> {
+    pub fn add_record(
+        &mut self,
+        fields: Vec<LegendField>,
+        cells: usize,
+    ) -> Result<LegendShape, AllocError> {
         let number = self.compounds.len();
-        self.compounds.push(Compound::Record(fields, cells))?;
-        Ok(Shape::Record(number))
+        self.compounds.push(LegendCompound::Record(fields, cells))?;
+        Ok(LegendShape::Record(number))
     }
 
     /// Whether a value is made of queues alone.
-    pub fn is_queues(&self, shape: Shape) -> bool {
+    pub fn is_queues(&self, shape: LegendShape) -> bool {
         match shape {
-            Shape::Queue => true,
-            Shape::Array(number) => match self.array(number) {
-                Some(array) => array.element == Shape::Queue,
+            LegendShape::Queue => true,
+            LegendShape::Array(number) => match self.array(number) {
+                Some(array) => array.element == LegendShape::Queue,
                 None => false,
             },
             _ => false,

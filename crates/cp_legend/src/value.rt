@@ -5,14 +5,14 @@ use std::alloc::{AllocError, Global};
 /// A value as a reader of the source knows it.
 #[cycle(value)]
 #[derive(Drop)]
-pub enum Value {
+pub enum SourceValue {
     Integer(i16),
     /// A truth value, a character, an enumeration constant, or the place that a `var` parameter names.
     Named(String),
     /// The elements of an array.
-    List(Vec<Value>),
+    List(Vec<SourceValue>),
     /// The members of a set.
-    Set(Vec<Value>),
+    Set(Vec<SourceValue>),
     /// The fields of a record.
     Record(Vec<Member>),
 }
@@ -22,27 +22,27 @@ pub enum Value {
 #[derive(Drop)]
 pub struct Member {
     pub name: String,
-    pub value: Value,
+    pub value: SourceValue,
 }
 
-impl Value {
+impl SourceValue {
     /// Appends the value: an array as `[1, 2]`, a set as `{1, 2}`, a record as `(x: 1, y: 2)`.
     #[cycle(value_text)]
     pub fn push_to(&self, text: &mut String) -> Result<(), AllocError> {
         match self {
-            Value::Integer(number) => write!(text, "{number}"),
-            Value::Named(name) => text.push_str(name.as_str()),
-            Value::List(items) => {
+            SourceValue::Integer(number) => write!(text, "{number}"),
+            SourceValue::Named(name) => text.push_str(name.as_str()),
+            SourceValue::List(items) => {
                 text.push('[')?;
                 push_all(items, text)?;
                 text.push(']')
             }
-            Value::Set(items) => {
+            SourceValue::Set(items) => {
                 text.push('{')?;
                 push_all(items, text)?;
                 text.push('}')
             }
-            Value::Record(members) => {
+            SourceValue::Record(members) => {
                 text.push('(')?;
                 push_members(members, text)?;
                 text.push(')')
@@ -59,7 +59,7 @@ impl Value {
 }
 
 #[cycle(value_text)]
-fn push_all(items: &[Value], text: &mut String) -> Result<(), AllocError> {
+fn push_all(items: &[SourceValue], text: &mut String) -> Result<(), AllocError> {
     let mut is_first = true;
     for item in items {
         if !is_first {

@@ -1,8 +1,8 @@
 //! Values, from cells.
 
 use crate::legend::Legend;
-use crate::shape::{ArrayShape, Base, Range, Shape};
-use crate::value::{Member, Value};
+use crate::shape::{LegendArray, LegendBase, LegendRange, LegendShape};
+use crate::value::{Member, SourceValue};
 use std::alloc::{AllocError, Global};
 
 /// The values that a cell of a set has a member or none of.
@@ -12,14 +12,14 @@ const MEMBERS_OF_A_CELL: u8 = 16;
 pub fn push_ordinal(
     constants: &[String],
     text: &mut String,
-    base: Base,
+    base: LegendBase,
     number: i16,
 ) -> Result<(), AllocError> {
     match base {
-        Base::Integer => write!(text, "{number}"),
-        Base::Boolean => text.push_str(if number == 0 { "false" } else { "true" }),
-        Base::Character => push_character(text, number),
-        Base::Enumeration(first, _) => {
+        LegendBase::Integer => write!(text, "{number}"),
+        LegendBase::Boolean => text.push_str(if number == 0 { "false" } else { "true" }),
+        LegendBase::Character => push_character(text, number),
+        LegendBase::Enumeration(first, _) => {
             let place = usize::from(first).saturating_add(usize::from(number.unsigned_abs()));
             match constants.get(place) {
                 Some(name) => text.push_str(name.as_str()),
@@ -48,10 +48,10 @@ impl Legend {
     pub fn value(
         &self,
         alloc: Global,
-        shape: Shape,
+        shape: LegendShape,
         cells: &[i16],
         at: usize,
-    ) -> Result<Value, AllocError> {
+    ) -> Result<SourceValue, AllocError> {
         self.value_below(alloc, shape, cells, at, self.shapes.count())
     }
 
@@ -60,26 +60,26 @@ impl Legend {
     fn value_below(
         &self,
         alloc: Global,
-        shape: Shape,
+        shape: LegendShape,
         cells: &[i16],
         at: usize,
         bound: usize,
-    ) -> Result<Value, AllocError> {
+    ) -> Result<SourceValue, AllocError> {
         match shape {
-            Shape::Ordinal(range) => self.ordinal(alloc, range.base, cell_at(cells, at)),
-            Shape::Queue => {
+            LegendShape::Ordinal(range) => self.ordinal(alloc, range.base, cell_at(cells, at)),
+            LegendShape::Queue => {
                 let is_waited = cell_at(cells, at) != 0;
                 let text = if is_waited { "waited in" } else { "empty" };
-                Ok(Value::Named(String::from_str(alloc, text)?))
+                Ok(SourceValue::Named(String::from_str(alloc, text)?))
             }
-            Shape::Set(range) => self.set(alloc, range, cells, at),
-            Shape::Array(number) | Shape::Record(number) => {
+            LegendShape::Set(range) => self.set(alloc, range, cells, at),
+            LegendShape::Array(number) | LegendShape::Record(number) => {
                 if number < bound {
                     return self.compound(alloc, number, cells, at);
                 }
-                Ok(Value::List(Vec::new(alloc)))
+                Ok(SourceValue::List(Vec::new(alloc)))
             }
-            Shape::System(_) => Ok(Value::Named(String::new(alloc))),
+            LegendShape::System(_) => Ok(SourceValue::Named(String::new(alloc))),
         }
     }
 
@@ -90,7 +90,7 @@ impl Legend {
         number: usize,
         cells: &[i16],
         at: usize,
-    ) -> Result<Value, AllocError> {
+    ) -> Result<SourceValue, AllocError> {
         if let Some(array) = self.shapes.array(number) {
             return self.elements(alloc, array, cells, at, number);
         }
@@ -102,44 +102,49 @@ impl Legend {
                 value: self.value_below(alloc, field.shape, cells, at, number)?,
             })?;
         }
-        Ok(Value::Record(members))
+        Ok(SourceValue::Record(members))
     }
 
     #[cycle(values)]
     fn elements(
         &self,
         alloc: Global,
-        array: ArrayShape,
+        array: LegendArray,
         cells: &[i16],
         at: usize,
         bound: usize,
-    ) -> Result<Value, AllocError> {
+    ) -> Result<SourceValue, AllocError> {
         let mut items = Vec::new(alloc);
         for place in 0..array.index.count() {
             let further = place.saturating_mul(array.element_cells);
             let at = at.saturating_add(further);
             items.push(self.value_below(alloc, array.element, cells, at, bound)?)?;
         }
-        Ok(Value::List(items))
+        Ok(SourceValue::List(items))
     }
 
-    fn ordinal(&self, alloc: Global, base: Base, number: i16) -> Result<Value, AllocError> {
-        if base == Base::Integer {
-            return Ok(Value::Integer(number));
+    fn ordinal(
+        &self,
+        alloc: Global,
+        base: LegendBase,
+        number: i16,
+    ) -> Result<SourceValue, AllocError> {
+        if base == LegendBase::Integer {
+            return Ok(SourceValue::Integer(number));
         }
         let mut text = String::new(alloc);
         push_ordinal(&self.constants, &mut text, base, number)?;
-        Ok(Value::Named(text))
+        Ok(SourceValue::Named(text))
     }
 
     // Bit number k of the cells is 1 where k is a member.
     fn set(
         &self,
         alloc: Global,
-        range: Range,
+        range: LegendRange,
         cells: &[i16],
         at: usize,
-    ) -> Result<Value, AllocError> {
+    ) -> Result<SourceValue, AllocError> {
         let mut members = Vec::new(alloc);
         for number in 0..128u8 {
             let further = usize::from(number / MEMBERS_OF_A_CELL);
@@ -148,6 +153,6 @@ impl Legend {
                 members.push(self.ordinal(alloc, range.base, i16::from(number))?)?;
             }
         }
-        Ok(Value::Set(members))
+        Ok(SourceValue::Set(members))
     }
 }

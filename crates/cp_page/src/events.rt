@@ -2,7 +2,7 @@
 
 use crate::json::Json;
 use crate::register::Register;
-use cp_legend::Value;
+use cp_legend::SourceValue;
 use cp_story::{Happening, OpenCall, Queue, StoryEvent, push_shown};
 use std::alloc::AllocError;
 
@@ -89,7 +89,7 @@ impl<'a> Register<'a> {
         &mut self,
         letter: &'static str,
         call: OpenCall,
-        arguments: &[Value],
+        arguments: &[SourceValue],
     ) -> Result<Happened, AllocError> {
         let mut text = String::from_str(self.alloc, self.legend.routine_name(call.routine))?;
         if !arguments.is_empty() {

@@ -1,6 +1,6 @@
 //! What a call gives back when it ends.
 
-use cp_legend::{Legend, Parameter, Passing, Routine, Value};
+use cp_legend::{Legend, LegendParameter, LegendPassing, LegendRoutine, SourceValue};
 use cp_machine::{Entry, ProcessState, State};
 use cp_store::Address;
 use cp_story::arguments;
@@ -27,7 +27,7 @@ pub fn values_returned(
     push_result(alloc, legend, going, routine, &mut text)?;
     let names = arguments(alloc, legend, state, process)?;
     for (parameter, name) in routine.parameters.iter().zip(&names) {
-        if parameter.passing == Passing::Reference {
+        if parameter.passing == LegendPassing::Reference {
             push_place(alloc, legend, state, going, *parameter, name, &mut text)?;
         }
     }
@@ -39,7 +39,7 @@ fn push_result(
     alloc: Global,
     legend: &Legend,
     process: &ProcessState,
-    routine: &Routine,
+    routine: &LegendRoutine,
     text: &mut String,
 ) -> Result<(), AllocError> {
     for variable in &routine.variables {
@@ -58,8 +58,8 @@ fn push_place(
     legend: &Legend,
     state: &State,
     process: &ProcessState,
-    parameter: Parameter,
-    name: &Value,
+    parameter: LegendParameter,
+    name: &SourceValue,
     text: &mut String,
 ) -> Result<(), AllocError> {
     let place = process.frame.references.saturating_add(parameter.slot);

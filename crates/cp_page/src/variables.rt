@@ -2,7 +2,7 @@
 
 use crate::json::Json;
 use crate::register::Register;
-use cp_legend::{Component, Legend, Shape};
+use cp_legend::{Legend, LegendComponent, LegendShape};
 use cp_slots::ComponentKind;
 use std::alloc::{AllocError, Global};
 
@@ -19,7 +19,7 @@ pub struct KeptVariables {
     pub owner: Owner,
     /// Its name in what it belongs to.
     pub name: String,
-    pub shape: Shape,
+    pub shape: LegendShape,
     pub at: usize,
     pub end: usize,
 }
@@ -40,7 +40,7 @@ pub fn kept_variables(alloc: Global, legend: &Legend) -> Result<Vec<KeptVariable
 
 // Whose the variables of a component are, where this process is the last one before it: components follow what contains them, and the
 // program contains all that is in no other process.
-fn owner_of(legend: &Legend, component: &Component, process: u8) -> Owner {
+fn owner_of(legend: &Legend, component: &LegendComponent, process: u8) -> Owner {
     match (component.kind, component.monitor) {
         (_, Some(monitor)) => Owner::Monitor(monitor),
         (ComponentKind::Process(number), None) => Owner::Process(number),
@@ -59,7 +59,7 @@ fn inner_path<'a>(outer: &str, path: &'a str) -> Option<&'a str> {
 fn push_kept(
     alloc: Global,
     legend: &Legend,
-    component: &Component,
+    component: &LegendComponent,
     owner: Owner,
     kept: &mut Vec<KeptVariables>,
 ) -> Result<(), AllocError> {
@@ -83,7 +83,7 @@ fn push_kept(
 fn name_of(
     alloc: Global,
     legend: &Legend,
-    component: &Component,
+    component: &LegendComponent,
     owner: Owner,
     variable: &str,
 ) -> Result<String, AllocError> {
@@ -107,14 +107,19 @@ fn name_of(
 
 impl<'a> Register<'a> {
     /// The place of the text of a value, whose cells begin at a place.
-    pub fn place_value(&mut self, shape: Shape, cells: &[i16], at: usize) -> usize {
+    pub fn place_value(&mut self, shape: LegendShape, cells: &[i16], at: usize) -> usize {
         match self.value_text(shape, cells, at) {
             Ok(text) => self.strings.place_text(text.as_str()),
             Err(_) => self.strings.refuse(),
         }
     }
 
-    fn value_text(&self, shape: Shape, cells: &[i16], at: usize) -> Result<String, AllocError> {
+    fn value_text(
+        &self,
+        shape: LegendShape,
+        cells: &[i16],
+        at: usize,
+    ) -> Result<String, AllocError> {
         let value = self.legend.value(self.alloc, shape, cells, at)?;
         value.text(self.alloc)
     }

@@ -7,10 +7,10 @@ use Rattle.cp_layout.specs.declared.kinds.CellBase.TheVariants as base
 use Rattle.cp_layout.specs.declared.kinds.CellRange.{CellRange}
 use Rattle.cp_layout.specs.declared.kinds.CellType.{CellType}
 use Rattle.cp_layout.specs.declared.kinds.CellType.TheVariants as types
-use Rattle.cp_layout.specs.declared.names.Meaning.{Meaning}
-use Rattle.cp_layout.specs.declared.names.Meaning.TheVariants as meaning
-use Rattle.cp_layout.specs.declared.names.Predeclared.{Predeclared}
-use Rattle.cp_layout.specs.declared.names.Predeclared.TheVariants as predeclared
+use Rattle.cp_layout.specs.declared.names.LayoutMeaning.{LayoutMeaning}
+use Rattle.cp_layout.specs.declared.names.LayoutMeaning.TheVariants as meaning
+use Rattle.cp_layout.specs.declared.names.PredeclaredRoutine.{PredeclaredRoutine}
+use Rattle.cp_layout.specs.declared.names.PredeclaredRoutine.TheVariants as predeclared
 use Rattle.cp_layout.specs.Kinds.{Compounds, array, record_with, Field, cells_of, array_type, plus}
 use Rattle.cp_layout.specs.Layers as layers
 use Rattle.cp_meaning.specs.Types as named
@@ -71,7 +71,7 @@ abbrev mutual
   FieldsAre k ts named.no_field_types fs n end = (fs ≡ []) × (n ≡ end)
   FieldsAre k ts (named.more_field_types x t us) fs n end = FieldIs (TypeIs k ts t) (λ rest m. FieldsAre k ts us rest m end) ts x fs n
 
-abbrev pub predeclared_as : Standard → Predeclared
+abbrev pub predeclared_as : Standard → PredeclaredRoutine
 predeclared_as scopes.succ_function = predeclared.Succ
 predeclared_as scopes.pred_function = predeclared.Pred
 predeclared_as scopes.chr_function = predeclared.Chr
@@ -92,7 +92,7 @@ IsInFrame (origin.Local n) = Unit {0}
 IsInFrame (origin.Reference n) = Unit {0}
 IsInFrame (origin.Permanent n) = ⊥
 
-pub record VariableIs (k : Numbering) (ts : Compounds) (t : Ty) (m : Meaning) : Type 0 where
+pub record VariableIs (k : Numbering) (ts : Compounds) (t : Ty) (m : LayoutMeaning) : Type 0 where
   pub origin : PlaceOrigin
   pub value_type : CellType
   pub is : m ≡ meaning.Variable origin value_type
@@ -100,7 +100,7 @@ pub record VariableIs (k : Numbering) (ts : Compounds) (t : Ty) (m : Meaning) : 
   pub belongs : TypeIs k ts t value_type
 
 -- a variable with permanent cells
-pub record CellsAre (k : Numbering) (ts : Compounds) (t : Ty) (m : Meaning) : Type 0 where
+pub record CellsAre (k : Numbering) (ts : Compounds) (t : Ty) (m : LayoutMeaning) : Type 0 where
   pub slot : ℕ
   pub value_type : CellType
   pub is : m ≡ meaning.Variable (origin.Permanent slot) value_type
@@ -108,7 +108,7 @@ pub record CellsAre (k : Numbering) (ts : Compounds) (t : Ty) (m : Meaning) : Ty
   pub without : has_components t ≡ false
 
 -- a component, or an array of components
-pub record PartsAre (k : Numbering) (ts : Compounds) (t : Ty) (m : Meaning) : Type 0 where
+pub record PartsAre (k : Numbering) (ts : Compounds) (t : Ty) (m : LayoutMeaning) : Type 0 where
   pub first : ℕ
   pub value_type : CellType
   pub is : m ≡ meaning.Contained first value_type
@@ -116,14 +116,14 @@ pub record PartsAre (k : Numbering) (ts : Compounds) (t : Ty) (m : Meaning) : Ty
   pub has : has_components t ≡ true
 
 -- a parameter that is a component
-pub record BoundIs (t : Ty) (m : Meaning) : Type 0 where
+pub record BoundIs (t : Ty) (m : LayoutMeaning) : Type 0 where
   pub slot : ℕ
   pub system : ℕ
   pub is : m ≡ meaning.Bound slot system
   pub component : t ≡ named.component_of system
 
 -- The scope is that in which the name is the latest.
-abbrev pub MeaningIs : Numbering → Compounds → Meaning → scopes.Meaning → Scope → Type 0
+abbrev pub MeaningIs : Numbering → Compounds → LayoutMeaning → scopes.Meaning → Scope → Type 0
 MeaningIs k ts m (scopes.constant_meaning b z) s = (m ≡ meaning.Constant (base_of k b) z) × IsSmall z
 MeaningIs k ts m (scopes.type_meaning t) s = (v : CellType) × (m ≡ meaning.Kind v) × TypeIs k ts t v
 MeaningIs k ts m (scopes.local_variable t) s = VariableIs k ts t m
@@ -138,7 +138,7 @@ InStep k ts [] (e ∷ es) = ⊥
 InStep k ts (d ∷ ds) [] = ⊥
 
 -- what the two find for a name
-abbrev pub FoundIs : Numbering → Compounds → Option Meaning → Option scopes.Meaning → Scope → Type 0
+abbrev pub FoundIs : Numbering → Compounds → Option LayoutMeaning → Option scopes.Meaning → Scope → Type 0
 FoundIs k ts None None s = Unit {0}
 FoundIs k ts (Some m) (Some n) s = MeaningIs k ts m n s
 FoundIs k ts None (Some n) s = ⊥

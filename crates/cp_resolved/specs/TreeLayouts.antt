@@ -3,8 +3,8 @@ use Rattle.std.specs.Prelude.{ℕ, ◌+◌, ◌-◌, Bool, true, false, if◌the
 use Rattle.cp_tree.specs.Syntax.{Definition, type_definition, system_definition, SystemDefinition, ProgramPart, program_constants, program_types, program_variables, Program, Tree}
 use Rattle.cp_slots.specs.declared.place.PlaceOrigin.{PlaceOrigin}
 use Rattle.cp_slots.specs.declared.place.PlaceOrigin.TheVariants.{Permanent, Local}
-use Rattle.cp_layout.specs.declared.names.Meaning.{Meaning}
-use Rattle.cp_layout.specs.declared.names.Meaning.TheVariants as meaning
+use Rattle.cp_layout.specs.declared.names.LayoutMeaning.{LayoutMeaning}
+use Rattle.cp_layout.specs.declared.names.LayoutMeaning.TheVariants as meaning
 use Rattle.cp_layout.specs.Layers as layers
 use Rattle.cp_layout.specs.Layers.{Layer, System, nothing_laid, own_result}
 use Rattle.cp_layout.specs.LaidExpressions.{component_count}
@@ -62,7 +62,7 @@ whole_laid t = laid.program (nothing_laid t.lines) t.program
 
 -- ---- frames
 
-abbrev pub origin_in : PlaceOrigin → Option Meaning → PlaceOrigin
+abbrev pub origin_in : PlaceOrigin → Option LayoutMeaning → PlaceOrigin
 origin_in other (Some (meaning.Variable o v)) = o
 origin_in other m = other
 
@@ -95,12 +95,12 @@ frame_layout p m l =
 
 -- ---- system types
 
-abbrev pub slot_in : Option Meaning → ℕ
+abbrev pub slot_in : Option LayoutMeaning → ℕ
 slot_in (Some (meaning.Variable (Permanent n) v)) = n
 slot_in (Some (meaning.Bound n k)) = n
 slot_in m = 0
 
-abbrev pub first_in : Option Meaning → ℕ
+abbrev pub first_in : Option LayoutMeaning → ℕ
 first_in (Some (meaning.Contained n v)) = n
 first_in m = 0
 

@@ -35,7 +35,7 @@ pub struct Heading {
 
 /// What is written at a token.
 #[derive(Drop)]
-pub enum Shape {
+pub enum TokenShape {
     Array(ArrayShape),
     /// Fields and cells.
     Record(Scope, u32),

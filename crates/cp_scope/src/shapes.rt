@@ -9,7 +9,7 @@ ghost use Rattle.cp_scope.specs.declared.fault.CheckFault.TheVariants as check_f
 
 use crate::count::{Use, plus, times};
 use crate::fault::CheckFault;
-use crate::shape::{ArrayShape, Census, Heading, Shape, plain};
+use crate::shape::{ArrayShape, Census, Heading, TokenShape, plain};
 use crate::types::{Meaning, Parameter, ValueType};
 use cp_text::Name;
 use cp_tree::SystemKind;
@@ -34,7 +34,7 @@ fn keep_first<T: Drop>(
 /// Arrays, records, system types, headings and bodies, by the tokens where they are written.
 #[derive(Drop)]
 pub struct Shapes {
-    items: IndexMap<usize, Shape>,
+    items: IndexMap<usize, TokenShape>,
 }
 
 impl Shapes {
@@ -50,14 +50,14 @@ impl Shapes {
 
     /// What is written at a token.
     #[tactic(auto, using(crate::proofs::Tokens::shape_seen))]
-    pub fn at(&self, at: usize) -> Option<&Shape>
+    pub fn at(&self, at: usize) -> Option<&TokenShape>
         ensures { option_map (λ s. shape_view s.now) result ≡ spec.shape_in at (shapes_of self.now) }
     {
         self.items.get(&at)
     }
 
     /// Keeps what is written at a token, where nothing was kept.
-    pub fn keep(&mut self, at: usize, shape: Shape) -> Result<(), CheckFault>
+    pub fn keep(&mut self, at: usize, shape: TokenShape) -> Result<(), CheckFault>
         ensures ok { OnOk result (shapes_of self.new ≡ spec.with_shape (shapes_of self.old) at (shape_view shape)) }
         ensures memory { IfErr result (λ e. e ≡ check_fault.Memory) }
     {
@@ -69,7 +69,7 @@ impl Shapes {
         ensures { result ≡ spec.as_array (spec.shape_in at (shapes_of self.now)) }
     {
         match self.at(at) {
-            Some(Shape::Array(array)) => Some(*array),
+            Some(TokenShape::Array(array)) => Some(*array),
             _ => None,
         }
     }
@@ -79,7 +79,7 @@ impl Shapes {
         ensures { option_map (λ m. Some m) result ≡ spec.as_field name.now (spec.shape_in at (shapes_of self.now)) }
     {
         match self.at(at) {
-            Some(Shape::Record(fields, _)) => fields.look(name.as_str()),
+            Some(TokenShape::Record(fields, _)) => fields.look(name.as_str()),
             _ => None,
         }
     }
@@ -89,7 +89,7 @@ impl Shapes {
         ensures { option_map (λ m. Some m) result ≡ spec.as_member name.now (spec.shape_in at (shapes_of self.now)) }
     {
         match self.at(at) {
-            Some(Shape::System(members, _, _, _)) => members.look(name.as_str()),
+            Some(TokenShape::System(members, _, _, _)) => members.look(name.as_str()),
             _ => None,
         }
     }
@@ -99,8 +99,8 @@ impl Shapes {
         ensures { result ≡ (spec.as_heading (spec.shape_in at (shapes_of self.now))).is_entry }
     {
         match self.at(at) {
-            Some(Shape::Heading(heading, _)) => heading.is_entry,
-            Some(Shape::System(_, heading, _, _)) => heading.is_entry,
+            Some(TokenShape::Heading(heading, _)) => heading.is_entry,
+            Some(TokenShape::System(_, heading, _, _)) => heading.is_entry,
             _ => false,
         }
     }
@@ -110,8 +110,8 @@ impl Shapes {
         ensures { result ≡ (spec.as_heading (spec.shape_in at (shapes_of self.now))).result }
     {
         match self.at(at) {
-            Some(Shape::Heading(heading, _)) => heading.result,
-            Some(Shape::System(_, heading, _, _)) => heading.result,
+            Some(TokenShape::Heading(heading, _)) => heading.result,
+            Some(TokenShape::System(_, heading, _, _)) => heading.result,
             _ => None,
         }
     }
@@ -121,8 +121,8 @@ impl Shapes {
         ensures { result.now ≡ (spec.as_heading (spec.shape_in at (shapes_of self.now))).parameters }
     {
         match self.at(at) {
-            Some(Shape::Heading(heading, _)) => &heading.parameters,
-            Some(Shape::System(_, heading, _, _)) => &heading.parameters,
+            Some(TokenShape::Heading(heading, _)) => &heading.parameters,
+            Some(TokenShape::System(_, heading, _, _)) => &heading.parameters,
             _ => &[],
         }
     }
@@ -132,7 +132,7 @@ impl Shapes {
         ensures { result ≡ spec.body_of (spec.shape_in at (shapes_of self.now)) (shapes_of self.now) }
     {
         match self.at(at) {
-            Some(Shape::Heading(_, body)) => self.body_written(*body),
+            Some(TokenShape::Heading(_, body)) => self.body_written(*body),
             _ => Use::nothing(),
         }
     }
@@ -141,7 +141,7 @@ impl Shapes {
         ensures { result ≡ spec.as_body (spec.shape_in at (shapes_of self.now)) }
     {
         match self.at(at) {
-            Some(Shape::Body(body)) => *body,
+            Some(TokenShape::Body(body)) => *body,
             _ => Use::nothing(),
         }
     }
@@ -151,7 +151,7 @@ impl Shapes {
         ensures { result ≡ spec.as_need (spec.shape_in at (shapes_of self.now)) }
     {
         match self.at(at) {
-            Some(Shape::System(_, _, _, need)) => *need,
+            Some(TokenShape::System(_, _, _, need)) => *need,
             _ => 0,
         }
     }
@@ -174,8 +174,8 @@ impl Shapes {
         ensures { result ≡ spec.shape_cells (spec.shape_in at (shapes_of self.now)) }
     {
         match self.at(at) {
-            Some(Shape::Array(array)) => array.cells,
-            Some(Shape::Record(_, cells)) => *cells,
+            Some(TokenShape::Array(array)) => array.cells,
+            Some(TokenShape::Record(_, cells)) => *cells,
             _ => 0,
         }
     }
@@ -185,7 +185,7 @@ impl Shapes {
         ensures { result ≡ spec.component_census number kind (spec.shape_in at (shapes_of self.now)) }
     {
         match self.at(at) {
-            Some(Shape::System(_, _, inside, need)) => match kind {
+            Some(TokenShape::System(_, _, inside, need)) => match kind {
                 SystemKind::Process => Census {
                     cells: times(number, inside.cells),
                     components: times(number, plus(inside.components, 1)),

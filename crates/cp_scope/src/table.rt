@@ -7,7 +7,7 @@ ghost use Rattle.cp_scope.specs.declared.fault.CheckFault.TheVariants as check_f
 
 use crate::fault::CheckFault;
 use crate::scope::Scope;
-use crate::shape::{Census, Shape};
+use crate::shape::{Census, TokenShape};
 use crate::shapes::Shapes;
 use crate::types::{Base, Meaning, Parameter, Predeclared, ValueType, values_of};
 use cp_text::Name;
@@ -16,19 +16,19 @@ use std::mem;
 
 /// The innermost scope, those around it, outermost first, and what is written at tokens.
 #[derive(Drop)]
-pub struct Table {
+pub struct ScopeTable {
     outer: Vec<Scope>,
     inner: Scope,
     shapes: Shapes,
 }
 
-impl Table {
+impl ScopeTable {
     /// No names at all.
     #[tactic(auto, unfolding(crate::specs::View::scopes_of))]
-    fn empty(alloc: Global) -> Table
+    fn empty(alloc: Global) -> ScopeTable
         ensures { scopes_of result ≡ spec.no_names }
     {
-        Table {
+        ScopeTable {
             outer: Vec::new(alloc),
             inner: Scope::new(alloc),
             shapes: Shapes::new(alloc),
@@ -44,11 +44,11 @@ impl Table {
     }
 
     /// The predeclared names alone.
-    pub fn new(alloc: Global) -> Result<Table, CheckFault>
+    pub fn new(alloc: Global) -> Result<ScopeTable, CheckFault>
         ensures ok { IfOk result (λ t. scopes_of t ≡ spec.start) }
         ensures memory { IfErr result (λ e. e ≡ check_fault.Memory) }
     {
-        let mut table = Table::empty(alloc);
+        let mut table = ScopeTable::empty(alloc);
         table.add_predeclared(alloc)?;
         Ok(table)
     }
@@ -210,7 +210,7 @@ impl Table {
 
     /// Keeps what is written at a token, where nothing was kept.
     #[tactic(auto, unfolding(crate::specs::View::scopes_of, crate::specs::Scopes::keep))]
-    pub fn keep(&mut self, at: usize, shape: Shape) -> Result<(), CheckFault>
+    pub fn keep(&mut self, at: usize, shape: TokenShape) -> Result<(), CheckFault>
         ensures ok { OnOk result (scopes_of self.new ≡ spec.keep (scopes_of self.old) at (shape_view shape)) }
         ensures memory { IfErr result (λ e. e ≡ check_fault.Memory) }
     {

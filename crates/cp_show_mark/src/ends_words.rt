@@ -2,7 +2,7 @@
 
 use crate::examinee::Examinee;
 use crate::mark_objects::{misread_json, object_line};
-use cp_ends_verdict::{Mark as EndsMark, Marked as EndsMarked, Said, Standing};
+use cp_ends_verdict::{EndsMark, MarkedEnds, Said, Standing};
 use cp_story::objects::Object;
 use serde_json::Value;
 use std::alloc::{AllocError, Global};
@@ -11,7 +11,7 @@ use std::alloc::{AllocError, Global};
 pub fn ends_told(
     alloc: Global,
     examinee: Examinee<'_>,
-    marked: &EndsMarked,
+    marked: &MarkedEnds,
 ) -> Result<String, AllocError> {
     if !examinee.as_json {
         return marked.text(alloc);
@@ -22,13 +22,13 @@ pub fn ends_told(
     }
 }
 
-fn ends_json(alloc: Global, marked: &EndsMarked) -> Result<String, AllocError> {
+fn ends_json(alloc: Global, marked: &MarkedEnds) -> Result<String, AllocError> {
     let mut object = Object::new(alloc);
     put_ends(alloc, &mut object, marked)?;
     object_line(alloc, object)
 }
 
-fn put_ends(alloc: Global, object: &mut Object, marked: &EndsMarked) -> Result<(), AllocError> {
+fn put_ends(alloc: Global, object: &mut Object, marked: &MarkedEnds) -> Result<(), AllocError> {
     object.text("verdict", ends_verdict_words(marked.mark))?;
     let items = said_objects(alloc, &marked.each)?;
     object.put("expectations", Value::Array(items))?;
@@ -59,7 +59,7 @@ fn put_said(item: &mut Object, said: &Said) -> Result<(), AllocError> {
     }
 }
 
-fn notes(alloc: Global, marked: &EndsMarked) -> Result<Vec<Value>, AllocError> {
+fn notes(alloc: Global, marked: &MarkedEnds) -> Result<Vec<Value>, AllocError> {
     let mut notes = Vec::new(alloc);
     push_lines(alloc, &mut notes, marked.note.as_str())?;
     push_lines(alloc, &mut notes, marked.last.as_str())?;

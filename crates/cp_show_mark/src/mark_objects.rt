@@ -8,7 +8,7 @@ use cp_prose::Prose;
 use cp_run::OutcomeKind;
 use cp_story::objects::{Object, numbers, put_kind, waits};
 use cp_story::output_words;
-use cp_verdict::{Expectation, Judgement, Mark, Marked, Reading, Row};
+use cp_verdict::{Expectation, Judgement, Marked, Reading, SeenRow, TableMark};
 use serde_json::Value;
 use std::alloc::{AllocError, Global};
 
@@ -56,11 +56,11 @@ fn put_told(
     }
 }
 
-fn mark_words(mark: Mark) -> &'static str {
+fn mark_words(mark: TableMark) -> &'static str {
     match mark {
-        Mark::Holds => "holds",
-        Mark::Fails => "fails",
-        Mark::Open => "not settled",
+        TableMark::Holds => "holds",
+        TableMark::Fails => "fails",
+        TableMark::Open => "not settled",
     }
 }
 
@@ -146,7 +146,7 @@ fn put_row(
     alloc: Global,
     examinee: Examinee<'_>,
     object: &mut Object,
-    row: &Row,
+    row: &SeenRow,
 ) -> Result<(), AllocError> {
     object.put("first", numbers(alloc, row.schedule.as_slice())?)?;
     put_kind(object, row.outcome.kind)?;
@@ -160,7 +160,7 @@ fn put_row(
 }
 
 // Who waits where at the end of a schedule.
-fn final_waits(alloc: Global, examinee: Examinee<'_>, row: &Row) -> Result<Value, AllocError> {
+fn final_waits(alloc: Global, examinee: Examinee<'_>, row: &SeenRow) -> Result<Value, AllocError> {
     let all = waits_of(alloc, examinee, row.schedule.as_slice())?;
     waits(alloc, examinee.legend, &all)
 }

@@ -2,7 +2,7 @@
 
 use crate::examinee::Examinee;
 use cp_prose::Prose;
-use cp_verdict::{Expectation, Judgement, Reading, Row, Stops, push_doubt, push_expectation};
+use cp_verdict::{Expectation, Judgement, Reading, SeenRow, Stops, push_doubt, push_expectation};
 use cp_walk::text::{push_outcome, push_word};
 use std::alloc::{AllocError, Global};
 
@@ -45,20 +45,24 @@ pub fn expectation_text(alloc: Global, expectation: &Expectation) -> Result<Stri
 }
 
 /// A schedule with its outcome.
-pub fn push_schedule(alloc: Global, examinee: Examinee<'_>, text: &mut Prose, row: &Row) {
+pub fn push_schedule(alloc: Global, examinee: Examinee<'_>, text: &mut Prose, row: &SeenRow) {
     text.put_made(word_text(alloc, row));
     text.put(" ");
     text.put_made(outcome_text(alloc, examinee, row));
     text.put("\n");
 }
 
-fn word_text(alloc: Global, row: &Row) -> Result<String, AllocError> {
+fn word_text(alloc: Global, row: &SeenRow) -> Result<String, AllocError> {
     let mut text = String::new(alloc);
     push_word(&mut text, row.schedule.as_slice())?;
     Ok(text)
 }
 
-fn outcome_text(alloc: Global, examinee: Examinee<'_>, row: &Row) -> Result<String, AllocError> {
+fn outcome_text(
+    alloc: Global,
+    examinee: Examinee<'_>,
+    row: &SeenRow,
+) -> Result<String, AllocError> {
     let mut text = String::new(alloc);
     push_outcome(&mut text, examinee.program, &row.outcome)?;
     Ok(text)

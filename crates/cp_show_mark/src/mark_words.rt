@@ -9,7 +9,7 @@ use crate::stories::waits_of;
 use cp_prose::Prose;
 use cp_run::{MOST_CHOICES, OutcomeKind};
 use cp_story::{Wait, wait_words};
-use cp_verdict::{Claim, Expectation, Judgement, Mark, Marked, Reading, Row};
+use cp_verdict::{Claim, Expectation, Judgement, Marked, Reading, SeenRow, TableMark};
 use std::alloc::{AllocError, Global};
 
 /// That there is no expectation, or why it is none.
@@ -42,7 +42,7 @@ fn told_as_text(
     marked: &Marked,
 ) -> Result<String, AllocError> {
     let mut text = Prose::new(alloc);
-    if marked.mark == Mark::Holds {
+    if marked.mark == TableMark::Holds {
         push_holds(alloc, &mut text, marked);
     }
     push_those(alloc, examinee, &mut text, reading, marked, "fails");
@@ -76,7 +76,7 @@ fn push_notes(
     marked: &Marked,
 ) {
     let is_longest = examinee.options.choices == MOST_CHOICES;
-    if marked.mark == Mark::Open && marked.stops.choices && is_longest {
+    if marked.mark == TableMark::Open && marked.stops.choices && is_longest {
         text.put("./show mark --ends says what holds of schedules of any length\n");
     }
     if let Some(name) = doubtful(examinee, reading) {
@@ -161,7 +161,7 @@ pub fn push_reason(
 }
 
 // The first schedule against an expectation; who waits where at its end, or the line of its error.
-fn push_row(alloc: Global, examinee: Examinee<'_>, text: &mut Prose, row: &Row) {
+fn push_row(alloc: Global, examinee: Examinee<'_>, text: &mut Prose, row: &SeenRow) {
     text.put("first against it: ");
     push_schedule(alloc, examinee, text, row);
     match row.outcome.kind {

@@ -20,15 +20,14 @@ use crate::examinee::Examinee;
 use crate::excess::{MarkExcess, excess_text};
 use crate::mark_words::{misread_text, told};
 use cp_ends_verdict::{
-    Expectation as EndsExpectation, Mark as EndsMark, MarkSubject as Endless, Marked as EndsMarked,
-    Reading as EndsReading, expectations as ends_expectations, mark_at_once, mark_in_turn,
-    misread_text as ends_reason,
+    EndsExpectation, EndsMark, EndsReading, MarkSubject, MarkedEnds,
+    expectations as ends_expectations, mark_at_once, mark_in_turn, misread_text as ends_reason,
 };
 use cp_outcomes::completing::greatest_known;
 use cp_outcomes::known::Known;
 use cp_show_options::{limits_of, longest_limits_of};
 use cp_verdict::{
-    Mark, MarkFault, Marked, Misread, Reading, expectations, expectations_in, mark_program,
+    MarkFault, Marked, Misread, Reading, TableMark, expectations, expectations_in, mark_program,
     mark_tallies, misread_text as reason,
 };
 use cp_walk::Job;
@@ -147,7 +146,7 @@ fn judged_in_turn(
         legend,
         ..
     } = examinee;
-    let subject = Endless {
+    let subject = MarkSubject {
         program,
         legend,
         limits: longest_limits_of(options),
@@ -171,7 +170,7 @@ fn judged_at_once(
         legend,
         ..
     } = examinee;
-    let subject = Endless {
+    let subject = MarkSubject {
         program,
         legend,
         limits: longest_limits_of(options),
@@ -184,7 +183,7 @@ fn judged_at_once(
 fn ends_answer(
     alloc: Global,
     examinee: Examinee<'_>,
-    marked: &EndsMarked,
+    marked: &MarkedEnds,
 ) -> Result<ShowAnswer, AllocError>
     ensures { IfOk result (λ a. a.verdict ≡ spec.ends_verdict_of marked.now.mark) }
 {
@@ -249,13 +248,13 @@ fn told_answer(
     })
 }
 
-fn verdict_of(mark: Mark) -> ShowVerdict
+fn verdict_of(mark: TableMark) -> ShowVerdict
     ensures { result ≡ spec.verdict_of mark }
 {
     match mark {
-        Mark::Holds => ShowVerdict::Reported,
-        Mark::Fails => ShowVerdict::Fails,
-        Mark::Open => ShowVerdict::Open,
+        TableMark::Holds => ShowVerdict::Reported,
+        TableMark::Fails => ShowVerdict::Fails,
+        TableMark::Open => ShowVerdict::Open,
     }
 }
 

@@ -1,7 +1,7 @@
 //! What changed in the monitors.
 
 use crate::event::Change;
-use cp_legend::{Component, Legend, Variable};
+use cp_legend::{Legend, LegendComponent, Variable};
 use std::alloc::{AllocError, Global};
 
 /// The variables of monitors whose cells were others before, with their values now.
@@ -23,7 +23,7 @@ pub fn changes(
 fn push_changes(
     alloc: Global,
     legend: &Legend,
-    component: &Component,
+    component: &LegendComponent,
     monitor: u8,
     before: &[i16],
     now: &[i16],
@@ -48,7 +48,7 @@ fn push_changes(
 fn name_of(
     alloc: Global,
     legend: &Legend,
-    component: &Component,
+    component: &LegendComponent,
     monitor: u8,
     variable: &Variable,
 ) -> Result<String, AllocError> {

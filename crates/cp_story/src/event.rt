@@ -1,7 +1,7 @@
 //! What a story is made of.
 
 use arrayvec::ArrayVec;
-use cp_legend::Value;
+use cp_legend::SourceValue;
 use cp_machine::{Shown, Status};
 use cp_run::TraceLine;
 
@@ -37,7 +37,7 @@ pub enum Happening {
     /// A call of a monitor's entry; where somebody is inside, its caller waits at the gate.
     Enter {
         call: OpenCall,
-        arguments: Vec<Value>,
+        arguments: Vec<SourceValue>,
         waits: bool,
     },
     /// A return from a monitor's entry.
@@ -60,7 +60,7 @@ pub struct Change {
     pub monitor: u8,
     /// Its name in the monitor.
     pub name: String,
-    pub value: Value,
+    pub value: SourceValue,
 }
 
 /// What a call gave back when it ended.
@@ -68,7 +68,7 @@ pub struct Change {
 pub struct Returned {
     /// The place that a `var` parameter named; empty for a function's result.
     pub name: String,
-    pub value: Value,
+    pub value: SourceValue,
 }
 
 /// A kernel call, a process end or an admission.

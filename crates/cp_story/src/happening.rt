@@ -1,6 +1,6 @@
 //! What the call was that a process is in, and what it is given.
 
-use cp_legend::{Legend, Parameter, Passing, Value};
+use cp_legend::{Legend, LegendParameter, LegendPassing, SourceValue};
 use cp_machine::{Entry, ProcessState, State};
 use cp_store::{Address, Frame};
 use std::alloc::{AllocError, Global};
@@ -11,7 +11,7 @@ pub fn arguments(
     legend: &Legend,
     state: &State,
     pid: u8,
-) -> Result<Vec<Value>, AllocError> {
+) -> Result<Vec<SourceValue>, AllocError> {
     let mut values = Vec::new(alloc);
     let Some(process) = state.processes.get(pid as usize) else {
         return Ok(values);
@@ -29,14 +29,14 @@ fn argument(
     alloc: Global,
     legend: &Legend,
     process: &ProcessState,
-    parameter: Parameter,
-) -> Result<Value, AllocError> {
+    parameter: LegendParameter,
+) -> Result<SourceValue, AllocError> {
     match parameter.passing {
-        Passing::Value => {
+        LegendPassing::Value => {
             let at = process.frame.base.saturating_add(parameter.slot);
             legend.value(alloc, parameter.shape, &process.room.cells, at)
         }
-        Passing::Reference => {
+        LegendPassing::Reference => {
             let place = process.frame.references.saturating_add(parameter.slot);
             let cells = legend.shapes.cells_of(parameter.shape);
             let name = match process.room.references.get(place) {
@@ -44,7 +44,7 @@ fn argument(
                 Some(Address::Local(cell)) => local_name(alloc, legend, process, *cell, cells)?,
                 None => String::new(alloc),
             };
-            Ok(Value::Named(name))
+            Ok(SourceValue::Named(name))
         }
     }
 }

@@ -3,7 +3,7 @@
 use crate::event::{Change, Choice, Happening, OpenCall, Returned, StoryEvent};
 use crate::story::{Story, Wait};
 use crate::words::{error_words, kind_words, output_words, push_shown};
-use cp_legend::{Legend, Member, Value as Written};
+use cp_legend::{Legend, Member, SourceValue as Written};
 use cp_machine::{Shown, Status};
 use cp_run::{OutcomeKind, RunEnd};
 use serde_json::{Map, Value};

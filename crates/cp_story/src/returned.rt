@@ -2,7 +2,7 @@
 
 use crate::event::Returned;
 use crate::happening::local_name;
-use cp_legend::{Legend, Parameter, Passing, Routine, Value};
+use cp_legend::{Legend, LegendParameter, LegendPassing, LegendRoutine, SourceValue};
 use cp_machine::{ProcessState, State};
 use cp_store::Address;
 use std::alloc::{AllocError, Global};
@@ -22,7 +22,7 @@ pub fn values_returned(
         return Ok(all);
     };
     for parameter in &routine.parameters {
-        if parameter.passing == Passing::Reference {
+        if parameter.passing == LegendPassing::Reference {
             all.push(place_of(alloc, legend, state, process, *parameter)?)?;
         }
     }
@@ -37,7 +37,7 @@ fn result_of(
     alloc: Global,
     legend: &Legend,
     process: &ProcessState,
-    routine: &Routine,
+    routine: &LegendRoutine,
 ) -> Result<Option<Returned>, AllocError> {
     let Some(place) = routine.result else {
         return Ok(None);
@@ -58,7 +58,7 @@ fn place_of(
     legend: &Legend,
     state: &State,
     process: &ProcessState,
-    parameter: Parameter,
+    parameter: LegendParameter,
 ) -> Result<Returned, AllocError> {
     let place = process.frame.references.saturating_add(parameter.slot);
     let shape = parameter.shape;
@@ -74,7 +74,7 @@ fn place_of(
         }),
         None => Ok(Returned {
             name: String::new(alloc),
-            value: Value::Integer(0),
+            value: SourceValue::Integer(0),
         }),
     }
 }

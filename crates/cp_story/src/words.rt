@@ -2,7 +2,7 @@
 
 use crate::event::{Choice, Happening, OpenCall, Queue, Returned, StoryEvent};
 use crate::story::{Story, Wait};
-use cp_legend::{Legend, Value};
+use cp_legend::{Legend, SourceValue};
 use cp_machine::{ErrorName, Shown, Status};
 use cp_run::{OutcomeKind, RunEnd};
 use std::alloc::{AllocError, Global};
@@ -53,7 +53,7 @@ pub fn push_call(
     legend: &Legend,
     text: &mut String,
     call: OpenCall,
-    arguments: &[Value],
+    arguments: &[SourceValue],
 ) -> Result<(), AllocError> {
     text.push_str(legend.monitor_name(call.monitor))?;
     text.push('.')?;

@@ -12,129 +12,129 @@ fn fault(rt: &HostRuntime, source: &str) -> Result<Option<CheckFault>, Fail> {
 }
 
 /// A program that breaks a rule, and the token that it is broken at.
-struct Broken {
+struct BrokenCheck {
     source: &'static str,
     at: usize,
     rule: Rule,
 }
 
-static BROKEN: [Broken; 24] = [
-    Broken {
+static BROKEN: [BrokenCheck; 24] = [
+    BrokenCheck {
         source: "begin x := 1; y := 2 end.",
         at: 1,
         rule: Rule::C1,
     },
-    Broken {
+    BrokenCheck {
         source: "var a, a: integer; begin end.",
         at: 3,
         rule: Rule::C2,
     },
-    Broken {
+    BrokenCheck {
         source: "type t = integer; const c = t; begin end.",
         at: 8,
         rule: Rule::C3,
     },
-    Broken {
+    BrokenCheck {
         source: "const c = 1; var x: c; begin end.",
         at: 8,
         rule: Rule::C4,
     },
-    Broken {
+    BrokenCheck {
         source: "var x: integer; begin x := true end.",
         at: 6,
         rule: Rule::C5,
     },
-    Broken {
+    BrokenCheck {
         source: "begin display('a' in [1]) end.",
         at: 3,
         rule: Rule::C5,
     },
-    Broken {
+    BrokenCheck {
         source: "const c = 1; begin c := 2 end.",
         at: 6,
         rule: Rule::C6,
     },
-    Broken {
+    BrokenCheck {
         source: "type m = monitor; var a, b: array [1..2] of queue; begin b := a end; begin end.",
         at: 20,
         rule: Rule::C6,
     },
-    Broken {
+    BrokenCheck {
         source: "type r = record a: integer end; var x: r; begin display(x) end.",
         at: 17,
         rule: Rule::C21,
     },
-    Broken {
+    BrokenCheck {
         source: "procedure f(a: integer); begin end; begin f end.",
         at: 12,
         rule: Rule::C7,
     },
-    Broken {
+    BrokenCheck {
         source: "type c = class; begin end; var k: c; begin k.go end.",
         at: 16,
         rule: Rule::C8,
     },
-    Broken {
+    BrokenCheck {
         source: "procedure entry f; begin end; begin end.",
         at: 1,
         rule: Rule::C9,
     },
-    Broken {
+    BrokenCheck {
         source: "procedure f; begin f end; begin f end.",
         at: 4,
         rule: Rule::C10,
     },
-    Broken {
+    BrokenCheck {
         source: "var q: queue; begin end.",
         at: 3,
         rule: Rule::C11,
     },
-    Broken {
+    BrokenCheck {
         source: "type m = monitor; var q: queue; begin delay(q) end; begin end.",
         at: 11,
         rule: Rule::C12,
     },
-    Broken {
+    BrokenCheck {
         source: "type p = process; begin end; m = monitor; var a: p; begin end; begin end.",
         at: 15,
         rule: Rule::C13,
     },
-    Broken {
+    BrokenCheck {
         source: "type c = class; begin end; p = process(x: c); begin end; var k: c; a: p; begin init k, a(k) end.",
         at: 14,
         rule: Rule::C14,
     },
-    Broken {
+    BrokenCheck {
         source: "type p = process; begin end; r = process(x: p); begin end; begin end.",
         at: 14,
         rule: Rule::C15,
     },
-    Broken {
+    BrokenCheck {
         source: "type c = class; begin end; var k: c; procedure f; begin init k end; begin end.",
         at: 17,
         rule: Rule::C16,
     },
-    Broken {
+    BrokenCheck {
         source: "var x: integer; begin init x end.",
         at: 7,
         rule: Rule::C17,
     },
-    Broken {
+    BrokenCheck {
         source: "var x: 2..1; begin end.",
         at: 3,
         rule: Rule::C18,
     },
-    Broken {
+    BrokenCheck {
         source: "begin case 1 of 1: ; 1: end end.",
         at: 7,
         rule: Rule::C19,
     },
-    Broken {
+    BrokenCheck {
         source: "var a: array [0..8192] of integer; begin end.",
         at: 3,
         rule: Rule::C20,
     },
-    Broken {
+    BrokenCheck {
         source: "var a: set of integer; begin end.",
         at: 3,
         rule: Rule::C20,

@@ -12,7 +12,7 @@ const BUFFER: &str =
 
 /// How the reading of a program ends.
 #[derive(Clone, Copy, PartialEq, Eq)]
-enum Ending {
+enum ParseEnding {
     Read,
     Unexpected(usize),
     OutsideProfile(usize),
@@ -20,20 +20,20 @@ enum Ending {
     Memory,
 }
 
-fn ending_after(rt: &HostRuntime, tokens: &Tokens) -> Ending {
+fn ending_after(rt: &HostRuntime, tokens: &Tokens) -> ParseEnding {
     match parse(rt.alloc(), tokens) {
         Ok(tree) => {
             drop_tree(tree);
-            Ending::Read
+            ParseEnding::Read
         }
-        Err(ParseFault::Unexpected(at)) => Ending::Unexpected(at),
-        Err(ParseFault::OutsideProfile(at)) => Ending::OutsideProfile(at),
-        Err(ParseFault::TooDeep(at)) => Ending::TooDeep(at),
-        Err(ParseFault::Memory) => Ending::Memory,
+        Err(ParseFault::Unexpected(at)) => ParseEnding::Unexpected(at),
+        Err(ParseFault::OutsideProfile(at)) => ParseEnding::OutsideProfile(at),
+        Err(ParseFault::TooDeep(at)) => ParseEnding::TooDeep(at),
+        Err(ParseFault::Memory) => ParseEnding::Memory,
     }
 }
 
-fn ending_of(rt: &HostRuntime, source: &str) -> Result<Ending, Fail> {
+fn ending_of(rt: &HostRuntime, source: &str) -> Result<ParseEnding, Fail> {
     Ok(ending_after(rt, &tokens_of(rt.alloc(), source)?))
 }
 
@@ -50,7 +50,7 @@ fn nested(rt: &HostRuntime, levels: usize) -> Result<String, Fail> {
     Ok(text)
 }
 
-fn ending_of_nested(rt: &HostRuntime, levels: usize) -> Result<Ending, Fail> {
+fn ending_of_nested(rt: &HostRuntime, levels: usize) -> Result<ParseEnding, Fail> {
     let text = nested(rt, levels)?;
     ending_of(rt, text.as_str())
 }
@@ -66,7 +66,7 @@ fn copied(rt: &HostRuntime, count: usize, at: usize) -> Result<Tokens, Fail> {
     tokens_of(rt.alloc(), text.as_str())
 }
 
-fn ending_of_copied(rt: &HostRuntime, count: usize, at: usize) -> Result<Ending, Fail> {
+fn ending_of_copied(rt: &HostRuntime, count: usize, at: usize) -> Result<ParseEnding, Fail> {
     Ok(ending_after(rt, &copied(rt, count, at)?))
 }
 
@@ -98,10 +98,10 @@ fn dangling_else(rt: HostRuntime) -> Result<(), Fail> {
 #[test]
 fn with_at_each_token(rt: HostRuntime) -> Result<(), Fail> {
     let tokens = tokens_of(rt.alloc(), BUFFER)?;
-    assert!(rt; ending_after(&rt, &tokens) == Ending::Read);
+    assert!(rt; ending_after(&rt, &tokens) == ParseEnding::Read);
     for at in 0..tokens.count() {
         let ending = ending_of_copied(&rt, tokens.count(), at)?;
-        assert!(rt; ending == Ending::OutsideProfile(at), "{at}");
+        assert!(rt; ending == ParseEnding::OutsideProfile(at), "{at}");
     }
     Ok(())
 }
@@ -111,40 +111,49 @@ fn cut_at_each_token(rt: HostRuntime) -> Result<(), Fail> {
     let tokens = tokens_of(rt.alloc(), BUFFER)?;
     for count in 0..tokens.count() {
         let ending = ending_of_copied(&rt, count, count)?;
-        assert!(rt; ending == Ending::Unexpected(count), "{count}");
+        assert!(rt; ending == ParseEnding::Unexpected(count), "{count}");
     }
     Ok(())
 }
 
 #[test]
 fn levels(rt: HostRuntime) -> Result<(), Fail> {
-    assert!(rt; ending_of_nested(&rt, 50)? == Ending::Read);
-    assert!(rt; ending_of_nested(&rt, 51)? == Ending::TooDeep(51));
+    assert!(rt; ending_of_nested(&rt, 50)? == ParseEnding::Read);
+    assert!(rt; ending_of_nested(&rt, 51)? == ParseEnding::TooDeep(51));
     Ok(())
 }
 
-static ENDINGS: [(&str, Ending); 21] = [
-    ("", Ending::Unexpected(0)),
-    ("begin with x do end.", Ending::OutsideProfile(1)),
-    ("begin cycle end.", Ending::Unexpected(3)),
-    ("begin end. with", Ending::OutsideProfile(3)),
-    ("const c = -'a'; begin end.", Ending::Unexpected(4)),
-    ("begin set end.", Ending::Unexpected(1)),
-    ("begin end. begin", Ending::Unexpected(3)),
-    ("begin x := 1 = 2 = 3 end.", Ending::Unexpected(6)),
-    ("begin x := - - 1 end.", Ending::Unexpected(4)),
-    ("begin if x then y; else z end.", Ending::Unexpected(6)),
-    ("begin case x of end end.", Ending::Unexpected(4)),
-    ("begin case x of 1: ; ; end end.", Ending::Unexpected(7)),
-    ("begin init end.", Ending::Unexpected(2)),
-    ("begin x.y[1, 2] := 1 end.", Ending::Unexpected(6)),
-    ("begin f() end.", Ending::Unexpected(3)),
-    ("type begin end.", Ending::Unexpected(1)),
-    ("type a = record end; begin end.", Ending::Unexpected(4)),
-    ("var x: +y; begin end.", Ending::Unexpected(5)),
-    ("var x: class; begin end.", Ending::Unexpected(3)),
-    ("procedure p begin end; begin end.", Ending::Unexpected(2)),
-    ("begin for i := 1 do end.", Ending::Unexpected(5)),
+static ENDINGS: [(&str, ParseEnding); 21] = [
+    ("", ParseEnding::Unexpected(0)),
+    ("begin with x do end.", ParseEnding::OutsideProfile(1)),
+    ("begin cycle end.", ParseEnding::Unexpected(3)),
+    ("begin end. with", ParseEnding::OutsideProfile(3)),
+    ("const c = -'a'; begin end.", ParseEnding::Unexpected(4)),
+    ("begin set end.", ParseEnding::Unexpected(1)),
+    ("begin end. begin", ParseEnding::Unexpected(3)),
+    ("begin x := 1 = 2 = 3 end.", ParseEnding::Unexpected(6)),
+    ("begin x := - - 1 end.", ParseEnding::Unexpected(4)),
+    ("begin if x then y; else z end.", ParseEnding::Unexpected(6)),
+    ("begin case x of end end.", ParseEnding::Unexpected(4)),
+    (
+        "begin case x of 1: ; ; end end.",
+        ParseEnding::Unexpected(7),
+    ),
+    ("begin init end.", ParseEnding::Unexpected(2)),
+    ("begin x.y[1, 2] := 1 end.", ParseEnding::Unexpected(6)),
+    ("begin f() end.", ParseEnding::Unexpected(3)),
+    ("type begin end.", ParseEnding::Unexpected(1)),
+    (
+        "type a = record end; begin end.",
+        ParseEnding::Unexpected(4),
+    ),
+    ("var x: +y; begin end.", ParseEnding::Unexpected(5)),
+    ("var x: class; begin end.", ParseEnding::Unexpected(3)),
+    (
+        "procedure p begin end; begin end.",
+        ParseEnding::Unexpected(2),
+    ),
+    ("begin for i := 1 do end.", ParseEnding::Unexpected(5)),
 ];
 
 #[test]
@@ -173,7 +182,7 @@ fn negates_a_group(tree: &Tree) -> bool {
 fn accepted_forms(rt: HostRuntime) -> Result<(), Fail> {
     let source =
         "const c = -1; d = 'a'; type t = (a, b); u = array [t] of set of 1..c; v = record x, y: t; z: 0..+9; end; var q: v; function f(n: t): t; begin end; begin case c of 1, -d: ; 'x': begin end; end; repeat until not [] = [1, 2] * [q.x]; for i := 1 downto 2 do while x in y do; if a then else begin end end.";
-    assert!(rt; ending_of(&rt, source)? == Ending::Read);
+    assert!(rt; ending_of(&rt, source)? == ParseEnding::Read);
     Ok(())
 }
 

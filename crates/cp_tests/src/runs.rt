@@ -7,7 +7,7 @@ use std::alloc::Global;
 use std::test::Fail;
 
 /// A source, the steps of a stretch, a word that its run uses wholly, and how it ends, with this many times 1 displayed.
-struct Ending {
+struct RunEnding {
     source: &'static str,
     steps: u32,
     word: &'static [u8],
@@ -15,43 +15,43 @@ struct Ending {
     ones: usize,
 }
 
-static ENDINGS: [Ending; 13] = [
-    Ending {
+static ENDINGS: [RunEnding; 13] = [
+    RunEnding {
         source: "begin end.",
         steps: 2,
         word: &[],
         kind: OutcomeKind::Finished,
         ones: 0,
     },
-    Ending {
+    RunEnding {
         source: "begin end.",
         steps: 1,
         word: &[],
         kind: OutcomeKind::StepLimit,
         ones: 0,
     },
-    Ending {
+    RunEnding {
         source: "begin cycle display(1) end end.",
         steps: 100,
         word: &[],
         kind: OutcomeKind::StepLimit,
         ones: 50,
     },
-    Ending {
+    RunEnding {
         source: "begin cycle display(1) end end.",
         steps: 2001,
         word: &[],
         kind: OutcomeKind::StepLimit,
         ones: 1000,
     },
-    Ending {
+    RunEnding {
         source: "begin cycle display(1) end end.",
         steps: 2002,
         word: &[],
         kind: OutcomeKind::OutputLimit,
         ones: 1000,
     },
-    Ending {
+    RunEnding {
         source: "begin\ndisplay(1 div 0) end.",
         steps: 1000,
         word: &[],
@@ -62,7 +62,7 @@ static ENDINGS: [Ending; 13] = [
         },
         ones: 0,
     },
-    Ending {
+    RunEnding {
         source: "begin\n\ndisplay(32767 + 1) end.",
         steps: 1000,
         word: &[],
@@ -73,7 +73,7 @@ static ENDINGS: [Ending; 13] = [
         },
         ones: 0,
     },
-    Ending {
+    RunEnding {
         source: "var a: set of 0..9;\nbegin\ndisplay(1);\na := [10]\nend.",
         steps: 1000,
         word: &[],
@@ -84,7 +84,7 @@ static ENDINGS: [Ending; 13] = [
         },
         ones: 1,
     },
-    Ending {
+    RunEnding {
         source: "type p = process(n: integer); begin\ncase n of\n1: end end;\nvar a: p; begin init a(2) end.",
         steps: 1000,
         word: &[1],
@@ -95,7 +95,7 @@ static ENDINGS: [Ending; 13] = [
         },
         ones: 0,
     },
-    Ending {
+    RunEnding {
         source: TWO_IN_A_QUEUE,
         steps: 1000,
         word: &[0, 0, 1, 1],
@@ -106,7 +106,7 @@ static ENDINGS: [Ending; 13] = [
         },
         ones: 0,
     },
-    Ending {
+    RunEnding {
         source: "type m = monitor; procedure entry e; begin end; begin end; var x: m; begin x.e end.",
         steps: 1000,
         word: &[],
@@ -117,7 +117,7 @@ static ENDINGS: [Ending; 13] = [
         },
         ones: 0,
     },
-    Ending {
+    RunEnding {
         source: "type c = class; begin end; var k: c; begin init k, k end.",
         steps: 1000,
         word: &[],
@@ -128,7 +128,7 @@ static ENDINGS: [Ending; 13] = [
         },
         ones: 0,
     },
-    Ending {
+    RunEnding {
         source: "type p = process; begin end; var a: p; begin init a,\na end.",
         steps: 1000,
         word: &[0],
@@ -145,7 +145,7 @@ fn are_ones(output: &[Shown], count: usize) -> bool {
     output.len() == count && output.iter().all(|shown| *shown == Shown::Integer(1))
 }
 
-fn is_as_wanted(end: &RunEnd, ending: &Ending) -> bool {
+fn is_as_wanted(end: &RunEnd, ending: &RunEnding) -> bool {
     match end {
         RunEnd::Ended { outcome, used } => {
             *used == ending.word.len()
@@ -156,7 +156,7 @@ fn is_as_wanted(end: &RunEnd, ending: &Ending) -> bool {
     }
 }
 
-fn ends_as_wanted(alloc: Global, ending: &Ending) -> Result<bool, Fail> {
+fn ends_as_wanted(alloc: Global, ending: &RunEnding) -> Result<bool, Fail> {
     let limits = Limits::new(8, ending.steps, Gates::First).ok_or("no such limits")?;
     let end = end_at(alloc, ending.source, limits, ending.word)?;
     Ok(is_as_wanted(&end, ending))

@@ -11,7 +11,7 @@ use std::test::Fail;
 
 /// A word that its run uses wholly, and what is displayed.
 #[derive(Drop)]
-struct Ending {
+struct ScheduleEnding {
     source: &'static str,
     choices: u8,
     gates: Gates,
@@ -19,36 +19,36 @@ struct Ending {
     output: &'static [Shown],
 }
 
-static ENDINGS: [Ending; 5] = [
-    Ending {
+static ENDINGS: [ScheduleEnding; 5] = [
+    ScheduleEnding {
         source: THREE_CALLERS,
         choices: 12,
         gates: Gates::First,
         word: "0.0.0.1.2.3.2.2.3.3.1.2",
         output: &[Shown::Integer(1), Shown::Integer(2), Shown::Integer(3)],
     },
-    Ending {
+    ScheduleEnding {
         source: THREE_CALLERS,
         choices: 12,
         gates: Gates::First,
         word: "0.0.0.1.3.2.3.3.2.2.1.3",
         output: &[Shown::Integer(1), Shown::Integer(3), Shown::Integer(2)],
     },
-    Ending {
+    ScheduleEnding {
         source: THREE_CALLERS,
         choices: 13,
         gates: Gates::Any,
         word: "0.0.0.1.2.3.2.2.2.3.3.1.2",
         output: &[Shown::Integer(1), Shown::Integer(2), Shown::Integer(3)],
     },
-    Ending {
+    ScheduleEnding {
         source: THREE_CALLERS,
         choices: 13,
         gates: Gates::Any,
         word: "0.0.0.1.2.3.3.3.3.2.2.1.2",
         output: &[Shown::Integer(1), Shown::Integer(3), Shown::Integer(2)],
     },
-    Ending {
+    ScheduleEnding {
         source: RESUMED,
         choices: 13,
         gates: Gates::First,
@@ -74,7 +74,7 @@ fn end_under(
 }
 
 /// Whether the run of a word uses it wholly, and ends as is told here.
-fn is_as_told(alloc: Global, ending: &Ending, kind: OutcomeKind) -> Result<bool, Fail> {
+fn is_as_told(alloc: Global, ending: &ScheduleEnding, kind: OutcomeKind) -> Result<bool, Fail> {
     let end = end_under(
         alloc,
         ending.source,
@@ -114,7 +114,7 @@ fn wanted_at_the_gate(rt: HostRuntime) -> Result<(), Fail> {
 fn delayed_forever(rt: HostRuntime) -> Result<(), Fail> {
     for gates in [Gates::First, Gates::Any] {
         for word in ["0", "1.0", "1.1"] {
-            let ending = Ending {
+            let ending = ScheduleEnding {
                 source: DELAYED,
                 choices: 2,
                 gates,

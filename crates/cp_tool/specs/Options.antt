@@ -9,7 +9,7 @@ use Rattle.cp_machine.specs.declared.gates.Gates.TheVariants.{First, Any}
 use Rattle.cp_tool.specs.Command.{faults_for, rows_for}
 use Rattle.cp_tool.specs.Numbers.{IsChosen}
 use Rattle.cp_tool.specs.Words.{IsWord, default_choices, most_choices, spelled}
-use Rattle.cp_tool.specs.declared.command_line.Kind.{Kind}
+use Rattle.cp_tool.specs.declared.command_line.CommandKind.{CommandKind}
 use Rattle.cp_tool.specs.declared.options.Options.{Options}
 use Rattle.cp_tool.specs.declared.options.OptionFault.{OptionFault}
 use Rattle.cp_tool.specs.declared.options.OptionFault.TheVariants.{Refused, Memory, Help}
@@ -57,7 +57,7 @@ abbrev pub clashes : List Row → Bool
 clashes rows = ((asks_merge rows && asks_ends rows) || (asks_first rows && not (asks_ends rows))) || (asks_waits rows && asks_at_once rows)
 
 -- so it is told: whether schedules are taken together, whether in any length, who may wait for ever, whether calls are made at once, and whether the words clash
-pub record IsKind (rows : List Row) (k : Kind) : Type 0 where
+pub record IsKind (rows : List Row) (k : CommandKind) : Type 0 where
   pub merge : k.merge ≡ (asks_merge rows || asks_ends rows)
   pub ends : k.ends ≡ asks_ends rows
   pub waits : k.waits ≡ asks_waits rows

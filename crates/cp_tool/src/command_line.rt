@@ -79,7 +79,7 @@ fn options_of(alloc: Global, matches: &ArgMatches<'_>) -> Result<Option<Options>
 // Whether schedules are taken together, whether in any length, whether it is asked who may wait for ever, whether calls are made at once, and whether
 // words stand there that can't stand together.
 #[derive(Clone, Copy)]
-struct Kind {
+struct CommandKind {
     merge: bool,
     ends: bool,
     waits: bool,
@@ -87,14 +87,14 @@ struct Kind {
     clash: bool,
 }
 
-fn kind_of(matches: &ArgMatches<'_>) -> Kind
+fn kind_of(matches: &ArgMatches<'_>) -> CommandKind
     ensures { IsKind (rows_of (found_of matches.now)) result }
 {
     let merge = is_asked(matches.get_str("merge"));
     let ends = is_asked(matches.get_str("ends"));
     let waits = is_asked(matches.get_str("waits"));
     let at_once = is_asked(matches.get_str("at-once"));
-    Kind {
+    CommandKind {
         merge: merge | ends,
         ends,
         waits,
@@ -105,7 +105,7 @@ fn kind_of(matches: &ArgMatches<'_>) -> Kind
 
 fn options_with(
     matches: &ArgMatches<'_>,
-    kind: Kind,
+    kind: CommandKind,
     schedule: Option<Option<ArrayVec<u8, 100>>>,
 ) -> Option<Options>
     requires kind { IsKind (rows_of (found_of matches.now)) kind }

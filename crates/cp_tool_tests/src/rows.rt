@@ -8,7 +8,7 @@ const TWO_DISPLAYS: &str =
     "type p = process(n: integer); begin display(n) end; var a, b: p; begin init a(1), b(2) end.";
 
 /// A source, the words of the call, and what is written, with which status.
-pub struct Row {
+pub struct WorkedRow {
     pub name: &'static str,
     pub words: &'static [&'static str],
     pub source: &'static str,
@@ -16,113 +16,113 @@ pub struct Row {
     pub text: &'static str,
 }
 
-static ROWS: [Row; 16] = [
-    Row {
+static ROWS: [WorkedRow; 16] = [
+    WorkedRow {
         name: "two-displays",
         words: &["cpx", "--choices", "5"],
         source: TWO_DISPLAYS,
         code: 0,
         text: "schedules 45\noutcomes 2\n30 first 0.0.1.1 finished output 1 2\n15 first 0.0.2.1.1 finished output 2 1\n",
     },
-    Row {
+    WorkedRow {
         name: "two-displays-default",
         words: &["cpx"],
         source: TWO_DISPLAYS,
         code: 0,
         text: "schedules 45\noutcomes 2\n30 first 0.0.1.1 finished output 1 2\n15 first 0.0.2.1.1 finished output 2 1\n",
     },
-    Row {
+    WorkedRow {
         name: "two-displays-no-choice",
         words: &["cpx", "--choices", "0"],
         source: TWO_DISPLAYS,
         code: 0,
         text: "schedules 1\noutcomes 1\n1 first - choice-limit output -\n",
     },
-    Row {
+    WorkedRow {
         name: "two-displays-rows",
         words: &["cpx", "--choices", "1", "--rows"],
         source: TWO_DISPLAYS,
         code: 0,
         text: "row 0 choice-limit output -\nrow 1 choice-limit output 1\nschedules 2\noutcomes 2\n1 first 0 choice-limit output -\n1 first 1 choice-limit output 1\n",
     },
-    Row {
+    WorkedRow {
         name: "two-process-types",
         words: &["cpx", "--choices", "5"],
         source: "type p = process; begin display(1) end; q = process; begin display(2) end; var a: p; b: q; begin init a, b end.",
         code: 0,
         text: "schedules 45\noutcomes 2\n30 first 0.0.1.1 finished output 1 2\n15 first 0.0.2.1.1 finished output 2 1\n",
     },
-    Row {
+    WorkedRow {
         name: "two-process-types-default",
         words: &["cpx"],
         source: "type p = process; begin display(1) end; q = process; begin display(2) end; var a: p; b: q; begin init a, b end.",
         code: 0,
         text: "schedules 45\noutcomes 2\n30 first 0.0.1.1 finished output 1 2\n15 first 0.0.2.1.1 finished output 2 1\n",
     },
-    Row {
+    WorkedRow {
         name: "two-process-types-one-choice",
         words: &["cpx", "--choices", "1"],
         source: "type p = process; begin display(1) end; q = process; begin display(2) end; var a: p; b: q; begin init a, b end.",
         code: 0,
         text: "schedules 2\noutcomes 2\n1 first 0 choice-limit output -\n1 first 1 choice-limit output 1\n",
     },
-    Row {
+    WorkedRow {
         name: "init-twice-process",
         words: &["cpx", "--choices", "5"],
         source: "type p = process; begin end; var a: p; begin init a, a end.",
         code: 0,
         text: "schedules 2\noutcomes 1\n2 first 0 run-error init-twice process 0 line 1 output -\n",
     },
-    Row {
+    WorkedRow {
         name: "two-cycles",
         words: &["cpx", "--choices", "2"],
         source: "type p = process; begin cycle display(1) end end; var a: p; begin init a; cycle display(2) end end.",
         code: 0,
         text: "schedules 4\noutcomes 4\n1 first 0.0 choice-limit output 2 2\n1 first 0.1 choice-limit output 2 1\n1 first 1.0 choice-limit output 1 2\n1 first 1.1 choice-limit output 1 1\n",
     },
-    Row {
+    WorkedRow {
         name: "two-cycles-too-many-rows",
         words: &["cpx", "--choices", "16"],
         source: "type p = process; begin cycle display(1) end end; var a: p; begin init a; cycle display(2) end end.",
         code: 5,
         text: "too many rows\n",
     },
-    Row {
+    WorkedRow {
         name: "empty-program",
         words: &["cpx", "--steps", "2"],
         source: "begin end.",
         code: 0,
         text: "schedules 1\noutcomes 1\n1 first - finished output -\n",
     },
-    Row {
+    WorkedRow {
         name: "empty-program-step-limit",
         words: &["cpx", "--steps", "1"],
         source: "begin end.",
         code: 0,
         text: "schedules 1\noutcomes 1\n1 first - step-limit output -\n",
     },
-    Row {
+    WorkedRow {
         name: "empty-source",
         words: &["cpx"],
         source: "",
         code: 1,
         text: "line 1 parse: unexpected\n",
     },
-    Row {
+    WorkedRow {
         name: "open-comment",
         words: &["cpx"],
         source: "begin \"abc",
         code: 1,
         text: "line 1 scan: open comment\n",
     },
-    Row {
+    WorkedRow {
         name: "with-left-out",
         words: &["cpx"],
         source: "begin with x do end.",
         code: 1,
         text: "line 1 parse: outside profile\n",
     },
-    Row {
+    WorkedRow {
         name: "gates-any-two-displays",
         words: &["cpx", "--choices", "5", "--gates", "any"],
         source: TWO_DISPLAYS,

@@ -10,7 +10,7 @@ use Rattle.cp_verdict.specs.Judged.{line_of, row_line, has_open, first_settling,
 use Rattle.cp_verdict.specs.declared.expectation.Claim.{Claim}
 use Rattle.cp_verdict.specs.declared.expectation.Claim.TheVariants.{Never, Sometimes, Only}
 use Rattle.cp_verdict.specs.declared.judging.Judgement.{Judgement}
-use Rattle.cp_verdict.specs.declared.seen.Row.{Row}
+use Rattle.cp_verdict.specs.declared.seen.SeenRow.{SeenRow}
 use Rattle.cp_verdict.specs.declared.seen.Seen.{Seen}
 use Rattle.cp_verdict.proofs.Exact.{exact}
 
@@ -102,7 +102,7 @@ unfolding is_sometimes
 only_apart h = absurd (let t : false ≡ true = ap is_sometimes h in cc)
 
 -- the judgement is that of all rows
-judged_by : (claim : Claim) (named : Outcome → Bool) (lines : List Line) (found : Option Row) (left : Bool) → first_settling claim named lines ≡ option_map row_line found → has_open claim named lines ≡ left → IsJudgedBy claim named lines (judgement_of claim found left)
+judged_by : (claim : Claim) (named : Outcome → Bool) (lines : List Line) (found : Option SeenRow) (left : Bool) → first_settling claim named lines ≡ option_map row_line found → has_open claim named lines ≡ left → IsJudgedBy claim named lines (judgement_of claim found left)
 judged_by Never named lines None false f w = (ap not (any_where named lines ∙ ap is_some f), w)
 judged_by Never named lines None true f w = (f, w)
 judged_by Never named lines (Some r) left f w = (never_apart, ap not (any_where named lines ∙ ap is_some f), f)
@@ -113,7 +113,7 @@ judged_by Only named lines None false f w = (only_all named lines (ap is_none f)
 judged_by Only named lines None true f w = (f, w)
 judged_by Only named lines (Some r) left f w = (only_apart, only_not named lines (ap is_some f), f)
 
-pub judged : (claim : Claim) (named : Outcome → Bool) (seen : List Seen) (found : Option Row) (left : Bool) (j : Judgement) → option_map row_line found ≡ first_settling claim named (map line_of seen) → left ≡ has_open claim named (map line_of seen) → j ≡ judgement_of claim found left → (lines : List Line) → map line_of seen ≡ outcomes_of lines → IsJudgedBy claim named lines j
+pub judged : (claim : Claim) (named : Outcome → Bool) (seen : List Seen) (found : Option SeenRow) (left : Bool) (j : Judgement) → option_map row_line found ≡ first_settling claim named (map line_of seen) → left ≡ has_open claim named (map line_of seen) → j ≡ judgement_of claim found left → (lines : List Line) → map line_of seen ≡ outcomes_of lines → IsJudgedBy claim named lines j
 judged claim named seen found left j f w is lines e =
     let first : first_settling claim named lines ≡ option_map row_line found = sym (found_in (settles_by claim named) lines) ∙ ap (first_settling claim named) (sym e) ∙ sym f in
     let rest : has_open claim named lines ≡ left = sym (open_of claim named lines) ∙ ap (has_open claim named) (sym e) ∙ sym w in

@@ -29,7 +29,7 @@ use Rattle.cp_verdict.specs.declared.expectation.OutcomePattern.{OutcomePattern}
 use Rattle.cp_verdict.specs.declared.expectation.OutcomePattern.TheVariants as outcome
 use Rattle.cp_verdict.specs.declared.expectation.Expectation.{Expectation}
 use Rattle.cp_verdict.specs.declared.judging.Judgement.TheVariants as judgement
-use Rattle.cp_verdict.specs.declared.seen.Row.{Row}
+use Rattle.cp_verdict.specs.declared.seen.SeenRow.{SeenRow}
 use Rattle.cp_verdict.proofs.Displayed.{any_on, chosen_keeps, output_at}
 use Rattle.cp_verdict.proofs.Finding.{never_apart, only_apart}
 
@@ -275,7 +275,7 @@ not_at_limit : (b : Bool) → (b && false) ≡ false
 not_at_limit true = refl
 not_at_limit false = refl
 
-stays_shown : {S : Type 0} (q : Outcome → Bool) (sys : System S) (choices steps more : ℕ) (claim : Claim) (r : Row) → ended_for_choices r.outcome.kind ≡ false →
+stays_shown : {S : Type 0} (q : Outcome → Bool) (sys : System S) (choices steps more : ℕ) (claim : Claim) (r : SeenRow) → ended_for_choices r.outcome.kind ≡ false →
     IsJudgedBy claim q (table sys choices steps) (judgement.Shown r) → is_true_by claim q (table sys (choices + more) steps) ≡ true
 stays_shown q sys choices steps more Never r k j = absurd (never_apart j.0)
 stays_shown q sys choices steps more Only r k j = absurd (only_apart j.0)
@@ -284,6 +284,6 @@ stays_shown q sys choices steps more Sometimes r k j =
     (some_lasts (Both q goes_by) sys choices steps more (λ output. not_at_limit (q (record { kind = ChoiceLimit; output = output })))
     (found_so q goes_by (table sys choices steps) (row_line r) (ap not k) j.2))
 
-pub stays : {S : Type 0} (names : Spellings) (sys : System S) (choices steps more : ℕ) (e : Expectation) (r : Row) → ended_for_choices r.outcome.kind ≡ false →
+pub stays : {S : Type 0} (names : Spellings) (sys : System S) (choices steps more : ℕ) (e : Expectation) (r : SeenRow) → ended_for_choices r.outcome.kind ≡ false →
     IsJudged names e (table sys choices steps) (judgement.Shown r) → is_true_of names e (table sys (choices + more) steps) ≡ true
 stays names sys choices steps more e r k j = stays_shown (is_one_of names e.outcomes.items) sys choices steps more e.claim r k j

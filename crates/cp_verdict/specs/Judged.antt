@@ -10,13 +10,13 @@ use Rattle.cp_verdict.specs.declared.expectation.Claim.TheVariants.{Never, Somet
 use Rattle.cp_verdict.specs.declared.expectation.Expectation.{Expectation}
 use Rattle.cp_verdict.specs.declared.judging.Judgement.{Judgement}
 use Rattle.cp_verdict.specs.declared.judging.Judgement.TheVariants.{Holds, Shown, Against, Missing, Unsettled}
-use Rattle.cp_verdict.specs.declared.seen.Row.{Row}
+use Rattle.cp_verdict.specs.declared.seen.SeenRow.{SeenRow}
 use Rattle.cp_verdict.specs.declared.seen.Seen.{Seen}
 
 abbrev pub line_of : Seen → Line
 line_of s = record { word = s.first.now.items; outcome = s.outcome.now }
 
-abbrev pub row_line : Row → Line
+abbrev pub row_line : SeenRow → Line
 row_line r = record { word = r.schedule.items; outcome = r.outcome }
 
 -- some run was stopped by a limit, and what it would come to might settle the expectation
@@ -38,7 +38,7 @@ abbrev pub IsJudged : Spellings → Expectation → List Line → Judgement → 
 IsJudged names e lines j = IsJudgedBy e.claim (is_one_of names e.outcomes.items) lines j
 
 -- the judgement from the first row that settles an expectation, and whether some other might
-abbrev pub judgement_of : Claim → Option Row → Bool → Judgement
+abbrev pub judgement_of : Claim → Option SeenRow → Bool → Judgement
 judgement_of Sometimes (Some r) left = Shown r
 judgement_of Sometimes None false = Missing
 judgement_of Sometimes None true = Unsettled

@@ -15,7 +15,7 @@ use Rattle.cp_verdict.specs.declared.expectation.Expectation.{Expectation}
 use Rattle.cp_verdict.specs.declared.expectation.OutcomePattern.{OutcomePattern}
 use Rattle.cp_verdict.specs.declared.expectation.OutcomePattern.TheVariants.{End, Shows}
 use Rattle.cp_verdict.specs.declared.judging.Judgement.TheVariants.{Shown as ShownBy}
-use Rattle.cp_verdict.specs.declared.seen.Row.{Row}
+use Rattle.cp_verdict.specs.declared.seen.SeenRow.{SeenRow}
 
 -- more was displayed, or as much
 abbrev pub GoesOn : List Shown → List Shown → Type 0
@@ -47,5 +47,5 @@ ended_for_choices kind = false
 -- What a row shows is shown in every table of more choices, unless the row ended for want of choices.
 abbrev pub StaysLaw : {S : Type 0} → System S → Type 0
 StaysLaw sys =
-    (names : Spellings) (choices steps more : ℕ) (e : Expectation) (r : Row) → ended_for_choices r.outcome.kind ≡ false →
+    (names : Spellings) (choices steps more : ℕ) (e : Expectation) (r : SeenRow) → ended_for_choices r.outcome.kind ≡ false →
     IsJudged names e (table sys choices steps) (ShownBy r) → is_true_of names e (table sys (choices + more) steps) ≡ true

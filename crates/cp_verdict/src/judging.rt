@@ -8,7 +8,7 @@ ghost use Rattle.cp_verdict.specs.Judged as spec;
 
 use crate::expectation::{Claim, Expectation};
 use crate::matching::{is_open, settles};
-use crate::seen::{Row, Seen};
+use crate::seen::{Seen, SeenRow};
 use cp_slots::Resolved;
 use std::alloc::{AllocError, Global};
 
@@ -18,9 +18,9 @@ pub enum Judgement {
     /// It is true of the whole table, and no schedule that a limit stopped could change that.
     Holds,
     /// Some schedule was to be so, and this is the first that is.
-    Shown(Row),
+    Shown(SeenRow),
     /// This is the first schedule against it.
-    Against(Row),
+    Against(SeenRow),
     /// Some schedule was to be so. None is, and no schedule ended at a limit.
     Missing,
     /// No schedule settles it, and some that ended at a limit might.
@@ -33,7 +33,7 @@ fn first_settling(
     program: &Resolved,
     expectation: &Expectation,
     seen: &[Seen],
-) -> Result<Option<Row>, AllocError>
+) -> Result<Option<SeenRow>, AllocError>
     ensures { IfOk result (λ found. option_map spec.row_line found ≡ spec.first_settling expectation.now.claim (is_one_of program.now.names expectation.now.outcomes.items) (map spec.line_of seen.now)) }
 {
     for one in seen {
@@ -62,7 +62,7 @@ fn has_open(
     Ok(false)
 }
 
-fn settle(claim: Claim, found: Option<Row>, left_open: bool) -> Judgement
+fn settle(claim: Claim, found: Option<SeenRow>, left_open: bool) -> Judgement
     ensures { result ≡ spec.judgement_of claim found left_open }
 {
     match (claim, found) {

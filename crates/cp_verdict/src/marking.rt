@@ -14,7 +14,7 @@ use std::alloc::{AllocError, Global};
 
 /// What is said of some expectations together.
 #[derive(Clone, Copy, PartialEq, Eq)]
-pub enum Mark {
+pub enum TableMark {
     /// Each of them is true of the whole table, and no run that a limit stopped could change that.
     Holds,
     /// One of them is not.
@@ -62,15 +62,15 @@ fn has_unsettled(judgements: &[Judgement]) -> bool
 }
 
 /// The mark by the judgement of each expectation.
-pub fn mark_of(judgements: &[Judgement]) -> Mark
+pub fn mark_of(judgements: &[Judgement]) -> TableMark
     ensures { result ≡ spec.mark_of judgements.now }
 {
     if has_against(judgements) {
-        Mark::Fails
+        TableMark::Fails
     } else if has_unsettled(judgements) {
-        Mark::Open
+        TableMark::Open
     } else {
-        Mark::Holds
+        TableMark::Holds
     }
 }
 

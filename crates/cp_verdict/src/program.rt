@@ -12,7 +12,7 @@ ghost use Rattle.cp_verdict.specs.Meant.{IsMeantMark};
 
 use crate::expectation::Expectation;
 use crate::judging::Judgement;
-use crate::marking::{Mark, judge_each, mark_of};
+use crate::marking::{TableMark, judge_each, mark_of};
 use crate::seen::Seen;
 use cp_merged::{MergeFault, Tallies, Tally, explore_merged};
 use cp_run::OutcomeKind;
@@ -52,7 +52,7 @@ pub struct Stops {
 #[derive(Drop)]
 pub struct Marked {
     pub judgements: Vec<Judgement>,
-    pub mark: Mark,
+    pub mark: TableMark,
     pub stops: Stops,
 }
 

@@ -9,7 +9,7 @@ use std::alloc::{AllocError, AllocFailed, Global};
 
 /// What could have stood where a text of expectations goes wrong.
 #[derive(Clone, Copy, PartialEq, Eq)]
-pub enum Wanted {
+pub enum WantedWord {
     /// `never`, `some` or `only`.
     Claim,
     /// An outcome.
@@ -30,7 +30,7 @@ pub enum Wanted {
 #[derive(Clone, Copy, PartialEq, Eq)]
 pub enum Misread {
     /// This was wanted in place of the word with this number, counted from 0, or of the end.
-    Unexpected { wanted: Wanted, place: usize },
+    Unexpected { wanted: WantedWord, place: usize },
     Memory,
 }
 
@@ -56,7 +56,7 @@ pub struct Reading {
 
 /// What may come next.
 #[derive(Clone, Copy, PartialEq, Eq)]
-enum Next {
+enum NextWord {
     Claim,
     Outcome,
     /// After `run-error`: its name, or what comes after a kind.
@@ -91,7 +91,7 @@ struct Reader {
     kind: KindPattern,
     output: Option<OutputPattern>,
     shown: Option<String>,
-    next: Next,
+    next: NextWord,
 }
 
 fn claim_of(word: &str) -> Option<Claim> {
@@ -146,16 +146,16 @@ fn error_of(word: &str) -> Option<ErrorName> {
 }
 
 /// What was wanted where a text ends too early, or a word does not fit.
-fn wanted_by(next: Next) -> Wanted {
+fn wanted_by(next: NextWord) -> WantedWord {
     match next {
-        Next::Claim => Wanted::Claim,
-        Next::Outcome => Wanted::Outcome,
-        Next::Name => Wanted::AfterKind,
-        Next::AfterKind => Wanted::AfterKind,
-        Next::Output => Wanted::Output,
-        Next::AfterValue => Wanted::AfterValue,
-        Next::Shown => Wanted::Value,
-        Next::Joint => Wanted::Joint,
+        NextWord::Claim => WantedWord::Claim,
+        NextWord::Outcome => WantedWord::Outcome,
+        NextWord::Name => WantedWord::AfterKind,
+        NextWord::AfterKind => WantedWord::AfterKind,
+        NextWord::Output => WantedWord::Output,
+        NextWord::AfterValue => WantedWord::AfterValue,
+        NextWord::Shown => WantedWord::Value,
+        NextWord::Joint => WantedWord::Joint,
     }
 }
 
@@ -170,14 +170,14 @@ impl Reader {
             kind: KindPattern::Finished,
             output: None,
             shown: None,
-            next: Next::Claim,
+            next: NextWord::Claim,
         }
     }
 
     /// Whether the text may end here.
     fn may_end(&self) -> bool {
         match self.next {
-            Next::Claim | Next::Outcome | Next::Output | Next::Shown => false,
+            NextWord::Claim | NextWord::Outcome | NextWord::Output | NextWord::Shown => false,
             _ => true,
         }
     }
@@ -207,12 +207,12 @@ impl Reader {
 
     fn begin_outcome(&mut self, beginning: Beginning) {
         self.next = match beginning {
-            Beginning::Shown => Next::Shown,
+            Beginning::Shown => NextWord::Shown,
             Beginning::Kind(kind) => {
                 self.kind = kind;
                 match kind {
-                    KindPattern::AnyError => Next::Name,
-                    _ => Next::AfterKind,
+                    KindPattern::AnyError => NextWord::Name,
+                    _ => NextWord::AfterKind,
                 }
             }
         };
@@ -233,18 +233,18 @@ impl Reader {
     fn joint(&mut self, word: &str) -> Result<bool, AllocError> {
         if word == "and" {
             self.end_expectation()?;
-            self.next = Next::Claim;
+            self.next = NextWord::Claim;
             return Ok(true);
         }
         if word == "or" {
             self.end_outcome()?;
-            self.next = Next::Outcome;
+            self.next = NextWord::Outcome;
             return Ok(true);
         }
         let Some(beginning) = beginning_of(word) else {
             return Ok(false);
         };
-        if self.next == Next::AfterValue
+        if self.next == NextWord::AfterValue
             && let Some(name) = as_name(word)
         {
             self.doubtful = Some(name);
@@ -259,7 +259,7 @@ impl Reader {
             self.output = Some(OutputPattern {
                 items: Vec::new(self.alloc),
             });
-            self.next = Next::Output;
+            self.next = NextWord::Output;
             return Ok(true);
         }
         self.joint(word)
@@ -275,7 +275,7 @@ impl Reader {
         if let Some(output) = &mut self.output {
             output.items.push(item)?;
         }
-        self.next = Next::AfterValue;
+        self.next = NextWord::AfterValue;
         Ok(true)
     }
 
@@ -285,44 +285,44 @@ impl Reader {
             return Ok(false);
         };
         self.shown = Some(String::from_str(self.alloc, value)?);
-        self.next = Next::Joint;
+        self.next = NextWord::Joint;
         Ok(true)
     }
 
     /// Reads a word. The answer tells whether it fits.
     fn read(&mut self, word: &str) -> Result<bool, AllocError> {
         match self.next {
-            Next::Claim => match claim_of(word) {
+            NextWord::Claim => match claim_of(word) {
                 Some(claim) => {
                     self.claim = claim;
-                    self.next = Next::Outcome;
+                    self.next = NextWord::Outcome;
                     Ok(true)
                 }
                 None => Ok(false),
             },
-            Next::Outcome => Ok(self.outcome(word)),
-            Next::Name => match error_of(word) {
+            NextWord::Outcome => Ok(self.outcome(word)),
+            NextWord::Name => match error_of(word) {
                 Some(name) => {
                     self.kind = KindPattern::Error(name);
-                    self.next = Next::AfterKind;
+                    self.next = NextWord::AfterKind;
                     Ok(true)
                 }
                 None => self.after_kind(word),
             },
-            Next::AfterKind => self.after_kind(word),
-            Next::Output if word == "-" => {
-                self.next = Next::Joint;
+            NextWord::AfterKind => self.after_kind(word),
+            NextWord::Output if word == "-" => {
+                self.next = NextWord::Joint;
                 Ok(true)
             }
-            Next::Output => self.item(word),
-            Next::AfterValue => {
+            NextWord::Output => self.item(word),
+            NextWord::AfterValue => {
                 if self.joint(word)? {
                     return Ok(true);
                 }
                 self.item(word)
             }
-            Next::Shown => self.shown(word),
-            Next::Joint => self.joint(word),
+            NextWord::Shown => self.shown(word),
+            NextWord::Joint => self.joint(word),
         }
     }
 }

@@ -16,18 +16,18 @@ pub struct Seen<'a> {
 
 /// A schedule and its outcome.
 #[derive(Drop)]
-pub struct Row {
+pub struct SeenRow {
     pub schedule: Word,
     pub outcome: Outcome,
 }
 
 impl Seen<'_> {
     /// The first schedule with its outcome, apart from the table.
-    pub fn row(self, alloc: Global) -> Result<Row, AllocError>
+    pub fn row(self, alloc: Global) -> Result<SeenRow, AllocError>
         ensures { IfOk result (λ r. row_line r ≡ line_of self.entry) }
     {
         let output = Output::of(alloc, self.outcome.output.as_slice())?;
-        Ok(Row {
+        Ok(SeenRow {
             schedule: word_of(self.first.as_slice()),
             outcome: Outcome {
                 kind: self.outcome.kind,

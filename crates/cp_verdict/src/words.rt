@@ -5,7 +5,7 @@ use crate::expectation::{
 };
 use crate::program::Stops;
 use crate::readable::push_readable;
-use crate::reading::{Wanted, as_name};
+use crate::reading::{WantedWord, as_name};
 use cp_walk::text::error_name;
 use std::alloc::{AllocError, Global};
 
@@ -100,15 +100,15 @@ impl Stops {
     }
 }
 
-fn wanted_words(wanted: Wanted) -> &'static str {
+fn wanted_words(wanted: WantedWord) -> &'static str {
     match wanted {
-        Wanted::Claim => "never, some or only",
-        Wanted::Outcome => "finished, all-waiting, run-error or shown",
-        Wanted::Output => "a value, - or ..",
-        Wanted::Value => "a value",
-        Wanted::AfterKind => "output, and, or, finished, all-waiting, run-error or shown",
-        Wanted::AfterValue => "a value, .., and, or, finished, all-waiting, run-error or shown",
-        Wanted::Joint => "and, or, finished, all-waiting, run-error or shown",
+        WantedWord::Claim => "never, some or only",
+        WantedWord::Outcome => "finished, all-waiting, run-error or shown",
+        WantedWord::Output => "a value, - or ..",
+        WantedWord::Value => "a value",
+        WantedWord::AfterKind => "output, and, or, finished, all-waiting, run-error or shown",
+        WantedWord::AfterValue => "a value, .., and, or, finished, all-waiting, run-error or shown",
+        WantedWord::Joint => "and, or, finished, all-waiting, run-error or shown",
     }
 }
 
@@ -116,7 +116,7 @@ fn wanted_words(wanted: Wanted) -> &'static str {
 pub fn misread_text(
     alloc: Global,
     text: &str,
-    wanted: Wanted,
+    wanted: WantedWord,
     place: usize,
 ) -> Result<String, AllocError> {
     let mut said = String::new(alloc);
@@ -129,7 +129,7 @@ pub fn misread_text(
     said.push_str(", found \"")?;
     push_readable(&mut said, word.as_bytes())?;
     said.push_str("\"\n")?;
-    if (wanted == Wanted::Output || wanted == Wanted::Value)
+    if (wanted == WantedWord::Output || wanted == WantedWord::Value)
         && let Some(name) = as_name(word)
     {
         push_doubt(&mut said, name)?;

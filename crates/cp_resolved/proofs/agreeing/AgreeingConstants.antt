@@ -18,7 +18,7 @@ use Rattle.cp_scope.specs.declared.types.Meaning.TheVariants as meaning
 use Rattle.cp_scope.specs.Types.{same_base}
 use Rattle.cp_scope.specs.Judged.{◌>>=◌}
 use Rattle.cp_scope.specs.Scopes.{Scopes, look}
-use Rattle.cp_check.specs.declared.constant.Number.{Number}
+use Rattle.cp_check.specs.declared.constant.ConstantNumber.{ConstantNumber}
 use Rattle.cp_check.specs.Names as names
 use Rattle.cp_check.specs.Constants as constants
 use Rattle.cp_meaning.specs.Names.{Name}
@@ -91,13 +91,13 @@ module _ (tokens : Tokens) where
 
   -- ---- constants
 
-  pub record NumberIs (q : named.Base × ℤ) (n : Number) : Type 0 where
+  pub record NumberIs (q : named.Base × ℤ) (n : ConstantNumber) : Type 0 where
     pub base : BaseIs tokens q.0 n.base
     pub value : n.value ≡ q.1
     pub small : IsSmall q.1
     pub within : is_within (range_of_base q.0) q.1 ≡ true
 
-  opposite_number : (at : ℕ) (q : named.Base × ℤ) (n : Number) → NumberIs q n → same_base n.base base.Integer ≡ true → NumberIs (q.0, neg_ℤ q.1) (record { base = n.base; value = int_wrapping_neg w64 n.value })
+  opposite_number : (at : ℕ) (q : named.Base × ℤ) (n : ConstantNumber) → NumberIs q n → same_base n.base base.Integer ≡ true → NumberIs (q.0, neg_ℤ q.1) (record { base = n.base; value = int_wrapping_neg w64 n.value })
   opposite_number at q n h e =
       record {
         base = h.base;
@@ -106,7 +106,7 @@ module _ (tokens : Tokens) where
         within = integers_within q.0 (neg_ℤ q.1) (integer_base tokens q.0 n.base h.base e) (opposite_small q.1 h.small);
       }
 
-  signed_number : (at : ℕ) (o : Option Sign) (q : named.Base × ℤ) (n : Number) → NumberIs q n → Good (NumberIs (q.0, meant.signed o q.1)) (constants.signed at o n)
+  signed_number : (at : ℕ) (o : Option Sign) (q : named.Base × ℤ) (n : ConstantNumber) → NumberIs q n → Good (NumberIs (q.0, meant.signed o q.1)) (constants.signed at o n)
   signed_number at None q n h = h
   signed_number at (Some sign.Plus) q n h = good_if (NumberIs q) (same_base n.base base.Integer) n (check_fault.Rule at C5) [] (λ e. h)
   signed_number at (Some sign.Minus) q n h =

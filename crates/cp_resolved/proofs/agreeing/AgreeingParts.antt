@@ -11,7 +11,7 @@ use Rattle.cp_scope.specs.Types.{is_open}
 use Rattle.cp_scope.specs.Judged.{Judged, ◌>>=◌, faults}
 use Rattle.cp_scope.specs.Scopes.{Scope, Scopes, Shapes, look, is_among, add, reserve, settle}
 use Rattle.cp_scope.specs.Scopes as checker
-use Rattle.cp_check.specs.declared.constant.Number.{Number}
+use Rattle.cp_check.specs.declared.constant.ConstantNumber.{ConstantNumber}
 use Rattle.cp_check.specs.declared.types.Spot.{Spot}
 use Rattle.cp_check.specs.declared.types.Spot.TheVariants as spot
 use Rattle.cp_check.specs.Constants.{constant}
@@ -166,7 +166,7 @@ module _ (tokens : Tokens) (p : Program) where
 
   -- ---- constants
 
-  constant_new : (u : Scopes) (n : Name) (q : named.Base × _) (k : Number) → NumberIs tokens q k → New tokens u n (meaning.Constant k.base k.value) (scopes.constant_meaning q.0 q.1)
+  constant_new : (u : Scopes) (n : Name) (q : named.Base × _) (k : ConstantNumber) → NumberIs tokens q k → New tokens u n (meaning.Constant k.base k.value) (scopes.constant_meaning q.0 q.1)
   constant_new u n q k h = record { means = λ r. (h.base, h.value, h.within); marked = tt; there = tt; fit = h.small }
 
   one_fresh : (t : Scopes) (n : Identifier) (ms : List Name) → t.inner.pending ≡ ms → Pends t.inner → AreAmong (n ∷ []) ms → is_some (checker.find n.name t.inner.names) ≡ false
@@ -180,7 +180,7 @@ module _ (tokens : Tokens) (p : Program) where
       let r : NamesResult b None s t (d.name ∷ []) m below ks = name_result b None s d.name m below ks (none_left (reserve_name s d.name).faults (faults (constant t d.value >>= to_constant)) e) empty h in
       let n : Sound (NumberIs tokens (meant.constant_of m d.value)) (constant t d.value) =
       good_sound (NumberIs tokens (meant.constant_of m d.value)) (constant t d.value) (constant_number_of tokens t m d.value small (λ x. sees tokens p b None t m below ks r.agree x tt)) (none_first (constant t d.value) to_constant (none_right (reserve_name s d.name).faults (faults (constant t d.value >>= to_constant)) e)) in
-      subst (λ (j : Judged Number). StepResult b None s (add_one t d.name (as_declared (j >>= to_constant))) ((d.name.name, scopes.constant_meaning (meant.constant_of m d.value).0 (meant.constant_of m d.value).1) ∷ m) below ks) (sym n.is)
+      subst (λ (j : Judged ConstantNumber). StepResult b None s (add_one t d.name (as_declared (j >>= to_constant))) ((d.name.name, scopes.constant_meaning (meant.constant_of m d.value).0 (meant.constant_of m d.value).1) ∷ m) below ks) (sym n.is)
       (one_declared b None s t d.name m below ks (meaning.Constant n.value.base n.value.value) (scopes.constant_meaning (meant.constant_of m d.value).0 (meant.constant_of m d.value).1)
       (one_fresh t d.name t.inner.pending refl r.reserved.pends r.reserved.all) (λ g. refl) (constant_new (add t d.name.name (Some (meaning.Constant n.value.base n.value.value))) d.name.name (meant.constant_of m d.value) n.value n.holds)
       r.outer (λ k g i. ap (checker.shape_in k) r.shapes ∙ i) (appends_none s.inner.names t.inner.names r.reserved.names) r.agree)

@@ -16,7 +16,7 @@ use Rattle.cp_scope.specs.declared.types.Meaning.TheVariants as meaning
 use Rattle.cp_scope.specs.Types.{same_base}
 use Rattle.cp_scope.specs.Judged.{Judged, both, ◌>>=◌}
 use Rattle.cp_scope.specs.Scopes.{Scopes, Shapes, shape_in, as_array, look, or_else, look_outer}
-use Rattle.cp_check.specs.declared.constant.Number.{Number}
+use Rattle.cp_check.specs.declared.constant.ConstantNumber.{ConstantNumber}
 use Rattle.cp_check.specs.declared.types.Spot.{Spot}
 use Rattle.cp_check.specs.declared.types.Spot.TheVariants as spot
 use Rattle.cp_check.specs.declared.types.Holding.{Holding}
@@ -334,7 +334,7 @@ module _ (tokens : Tokens) where
   in_order : (a c : ℤ) → int_lt c a ≡ false → int_le a c ≡ true
   in_order a c h = search (arith, h)
 
-  ranged_typed : (ss : Shapes) (at : ℕ) (p : Spot) (q r : named.Base × ℤ) (n k : Number) → NumberIs tokens q n → NumberIs tokens r k → Good (TypedAs ss p (named.ordinal (record { base = q.0; low = q.1; high = r.1 }))) (typing.ranged at (n, k))
+  ranged_typed : (ss : Shapes) (at : ℕ) (p : Spot) (q r : named.Base × ℤ) (n k : ConstantNumber) → NumberIs tokens q n → NumberIs tokens r k → Good (TypedAs ss p (named.ordinal (record { base = q.0; low = q.1; high = r.1 }))) (typing.ranged at (n, k))
   ranged_typed ss at p q r n k h g = go (same_base n.base k.base) refl
     where
       R : named.Range
@@ -363,6 +363,6 @@ module _ (tokens : Tokens) where
   pub subrange_typed : (s : Scopes) (m : scopes.Scope) (p : Spot) (at : ℕ) (c d : Constant) → IsSmallSimple (syntax.subrange at c d) → ((x : Name) → IsKnown tokens s m x (look x s)) →
       Good (TypedAs s.shapes p (meant.simple_in m (syntax.subrange at c d)).0) (both (constant s c) (constant s d) >>= typing.ranged at)
   subrange_typed s m p at c d h k =
-      good_then (λ (q : Number × Number). NumberIs tokens (meant.constant_of m c) q.0 × NumberIs tokens (meant.constant_of m d) q.1) (TypedAs s.shapes p (meant.simple_in m (syntax.subrange at c d)).0) (both (constant s c) (constant s d)) (typing.ranged at)
+      good_then (λ (q : ConstantNumber × ConstantNumber). NumberIs tokens (meant.constant_of m c) q.0 × NumberIs tokens (meant.constant_of m d) q.1) (TypedAs s.shapes p (meant.simple_in m (syntax.subrange at c d)).0) (both (constant s c) (constant s d)) (typing.ranged at)
       (good_both (NumberIs tokens (meant.constant_of m c)) (NumberIs tokens (meant.constant_of m d)) (constant s c) (constant s d) (constant_number_of tokens s m c h.0 k) (constant_number_of tokens s m d h.1 k))
       (λ q g. ranged_typed s.shapes at p (meant.constant_of m c) (meant.constant_of m d) q.0 q.1 g.0 g.1)

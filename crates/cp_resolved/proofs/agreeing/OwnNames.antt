@@ -26,8 +26,8 @@ use Rattle.cp_layout.specs.declared.kinds.CellBase.{CellBase}
 use Rattle.cp_layout.specs.declared.kinds.CellType.{CellType}
 use Rattle.cp_layout.specs.declared.kinds.CellType.TheVariants as types
 use Rattle.cp_layout.specs.declared.layer.Contained.{Contained}
-use Rattle.cp_layout.specs.declared.names.Meaning.{Meaning}
-use Rattle.cp_layout.specs.declared.names.Meaning.TheVariants as meaning
+use Rattle.cp_layout.specs.declared.names.LayoutMeaning.{LayoutMeaning}
+use Rattle.cp_layout.specs.declared.names.LayoutMeaning.TheVariants as meaning
 use Rattle.cp_layout.specs.Kinds.{Fields, no_fields}
 use Rattle.cp_layout.specs.LaidExpressions.{as_integer}
 use Rattle.cp_layout.specs.Layers as layers
@@ -38,7 +38,7 @@ use Rattle.cp_lawful.proofs.Classes as classes
 
 -- ---- one name
 
-abbrev IsNoRoutine : Meaning → Type 0
+abbrev IsNoRoutine : LayoutMeaning → Type 0
 IsNoRoutine (meaning.Routine n) = ⊥
 IsNoRoutine m = Unit {0}
 
@@ -77,7 +77,7 @@ module _ (Q : List ℕ → Type 0) (n : ℕ) where
   pub moved : (ns : layers.Names) (s u : Scopes) → u.inner.names ≡ s.inner.names → Inside ns s → Inside ns u
   moved ns s u e h y f = let r = h y f in (r.0, subst (λ ds. scopes.find y ds ≡ None) (sym e) r.1)
 
-  not_it : (m : Meaning) → IsNoRoutine m → Some m ≡ Some (meaning.Routine n) → ⊥
+  not_it : (m : LayoutMeaning) → IsNoRoutine m → Some m ≡ Some (meaning.Routine n) → ⊥
   not_it (meaning.Routine k) h e = h
   not_it (meaning.Constant b z) h e = cc
   not_it (meaning.Kind t) h e = cc
@@ -86,14 +86,14 @@ module _ (Q : List ℕ → Type 0) (n : ℕ) where
   not_it (meaning.Bound k j) h e = cc
   not_it (meaning.Predeclared p) h e = cc
 
-  hidden : (ns : layers.Names) (s : Scopes) (z : List ℕ) (m : Meaning) → IsNoRoutine m → Inside ns s → Inside ((z, m) ∷ ns) s
+  hidden : (ns : layers.Names) (s : Scopes) (z : List ℕ) (m : LayoutMeaning) → IsNoRoutine m → Inside ns s → Inside ((z, m) ∷ ns) s
   hidden ns s z m other h y = go (bytes_eq z y)
     where
       go : (b : Bool) → (if b then Some m else find y ns) ≡ Some (meaning.Routine n) → Q y × (scopes.find y s.inner.names ≡ None)
       go true f = absurd (not_it m other f)
       go false f = h y f
 
-  declared : (ns : layers.Names) (s : Scopes) (z : List ℕ) (m : Meaning) (o : Option checked.Meaning) → IsNoRoutine m → Inside ns s → Inside ((z, m) ∷ ns) (add s z o)
+  declared : (ns : layers.Names) (s : Scopes) (z : List ℕ) (m : LayoutMeaning) (o : Option checked.Meaning) → IsNoRoutine m → Inside ns s → Inside ((z, m) ∷ ns) (add s z o)
   unfolding add
   declared ns s z m o other h y = go (bytes_eq z y) refl
     where
@@ -152,7 +152,7 @@ module _ (Q : List ℕ → Type 0) (n : ℕ) where
   all_reserved : (ns : layers.Names) (s : Scopes) (is : List Identifier) → Inside ns s → Inside ns (reserve_names s is).scopes
   all_reserved ns s is h = moved ns s (reserve_names s is).scopes (names_reserved s is) h
 
-  pub one_inside : (ns : layers.Names) (s : Scopes) (i : Identifier) (m : Meaning) (o : Option checked.Meaning) → IsNoRoutine m → Inside ns s → Inside ((i.name, m) ∷ ns) (add_one s i o)
+  pub one_inside : (ns : layers.Names) (s : Scopes) (i : Identifier) (m : LayoutMeaning) (o : Option checked.Meaning) → IsNoRoutine m → Inside ns s → Inside ((i.name, m) ∷ ns) (add_one s i o)
   unfolding add_one settle
   one_inside ns s i m o other h = declared ns s i.name m o other h
 

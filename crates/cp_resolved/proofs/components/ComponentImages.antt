@@ -5,7 +5,7 @@ use Rattle.std.proofs.lemmas.Option.{none-some, same_Some}
 use Rattle.std.proofs.lemmas.Slice.Eq.{bytes_eq-Decides}
 use Rattle.cp_layout.specs.declared.layer.Content.{Content}
 use Rattle.cp_layout.specs.declared.layer.Content.TheVariants as content
-use Rattle.cp_layout.specs.declared.names.Meaning.{Meaning}
+use Rattle.cp_layout.specs.declared.names.LayoutMeaning.{LayoutMeaning}
 use Rattle.cp_layout.specs.Kinds as kinds
 use Rattle.cp_layout.specs.Kinds.{Compounds, most, plus}
 use Rattle.cp_layout.specs.Layers as layers
@@ -175,7 +175,7 @@ module _ (k : Numbering) (end : Layer) (earlier : HoldEarlier end.types) where
         let p : PermanentIs k end t (layers.find x around.names) = own.found x t there in
         go valued s.single p.meaning p.there p.is
       where
-        go : IsValued t → has_components t ≡ false → (q : Meaning) → layers.find x around.names ≡ Some q → CellsAre k end.types t q ⊎ (PartsAre k end.types t q ⊎ BoundIs t q) → Block x t
+        go : IsValued t → has_components t ≡ false → (q : LayoutMeaning) → layers.find x around.names ≡ Some q → CellsAre k end.types t q ⊎ (PartsAre k end.types t q ⊎ BoundIs t q) → Block x t
         go valued single q e (inl c) =
             let s : SlotIs end.types o.contents c.slot c.value_type = own.owns.slots x c.slot c.value_type (e ∙ ap (λ w. Some w) c.is) in
             let all : Each (ContentIs k end.types) s.before = each_left (ContentIs k end.types) s.before (content.Variable c.value_type ∷ s.after) (subst (Each (ContentIs k end.types)) s.is own.owns.contents) in

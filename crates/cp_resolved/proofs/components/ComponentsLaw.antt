@@ -5,8 +5,8 @@ use Rattle.std.proofs.lemmas.List.{length-map}
 use Rattle.std.proofs.lemmas.Option.{none-some}
 use Rattle.std.proofs.lemmas.Slice.Eq.{bytes_eq-Decides}
 use Rattle.cp_tree.specs.Syntax.{Program, Tree}
-use Rattle.cp_layout.specs.declared.names.Meaning.{Meaning}
-use Rattle.cp_layout.specs.declared.names.Meaning.TheVariants as meaning
+use Rattle.cp_layout.specs.declared.names.LayoutMeaning.{LayoutMeaning}
+use Rattle.cp_layout.specs.declared.names.LayoutMeaning.TheVariants as meaning
 use Rattle.cp_slots.specs.declared.tables.Component.{Component}
 use Rattle.cp_slots.specs.declared.tables.Process.{Process}
 use Rattle.cp_layout.specs.Kinds.{Compounds, most}
@@ -203,7 +203,7 @@ module _ (g : Ground) (t : Tree) (e : plain g.tables ≡ laid t) (h : HasCompone
           let mine = (each_right (IsVisible m) a.before (a.variable ∷ a.after) all).0 in
           one_type a.variable.ty u (sym mine ∙ ap (λ z. find z m.scope) a.name ∙ f)
 
-      with_meaning : (own : Own t h.plain y.system) (q : Meaning) → layers.find x (at_names y.system) ≡ Some q → CellsAre (numbering_of p) ts u q ⊎ (PartsAre (numbering_of p) ts u q ⊎ BoundIs u q) → Lies n (first_in (layers.find x (at_names y.system))) u (λ i. component_with (step_down y.path x i) (first_components p))
+      with_meaning : (own : Own t h.plain y.system) (q : LayoutMeaning) → layers.find x (at_names y.system) ≡ Some q → CellsAre (numbering_of p) ts u q ⊎ (PartsAre (numbering_of p) ts u q ⊎ BoundIs u q) → Lies n (first_in (layers.find x (at_names y.system))) u (λ i. component_with (step_down y.path x i) (first_components p))
       with_meaning own q w (inl c) = no_components n (first_in (layers.find x (at_names y.system))) u (λ i. component_with (step_down y.path x i) (first_components p)) c.without
       with_meaning own q w (inr (inl c)) =
           let there : layers.find x (at_names y.system) ≡ Some (meaning.Contained c.first c.value_type) = w ∙ ap (λ z. Some z) c.is in

@@ -9,7 +9,7 @@ use Rattle.cp_tree.specs.Spelling.{put_behind, put_all, put_parameters, put_iden
 use Rattle.cp_tree.proofs.Grows.{grows_all, grows_optional, grows_type, grows_constant_definition, grows_type_definition}
 use Rattle.cp_layout.specs.declared.kinds.CellBase.{CellBase}
 use Rattle.cp_layout.specs.declared.kinds.CellType.{CellType}
-use Rattle.cp_layout.specs.declared.names.Meaning.TheVariants as meaning
+use Rattle.cp_layout.specs.declared.names.LayoutMeaning.TheVariants as meaning
 use Rattle.cp_layout.specs.Kinds.{Fields, no_fields, least}
 use Rattle.cp_layout.specs.Layers.{Layer, Frame}
 use Rattle.cp_layout.specs.LaidExpressions.{as_integer}

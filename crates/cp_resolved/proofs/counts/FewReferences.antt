@@ -12,7 +12,7 @@ use Rattle.cp_slots.specs.declared.tables.Process.{Process}
 use Rattle.cp_resolved.proofs.counts.Rooms.{Room}
 use Rattle.cp_layout.specs.declared.kinds.CellBase.{CellBase}
 use Rattle.cp_layout.specs.declared.kinds.CellType.{CellType}
-use Rattle.cp_layout.specs.declared.names.Meaning.TheVariants as meaning
+use Rattle.cp_layout.specs.declared.names.LayoutMeaning.TheVariants as meaning
 use Rattle.cp_slots.specs.Tables.{RoutineView}
 use Rattle.cp_layout.specs.Kinds.{Fields, no_fields}
 use Rattle.cp_slots.specs.Code.{Action}

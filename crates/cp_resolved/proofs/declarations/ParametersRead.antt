@@ -14,7 +14,7 @@ use Rattle.cp_scope.specs.declared.types.Parameter.{Parameter}
 use Rattle.cp_scope.specs.declared.shape.ArrayShape.{ArrayShape}
 use Rattle.cp_scope.specs.Judged.{Judged, ◌>>=◌}
 use Rattle.cp_scope.specs.Scopes.{Names, Scope, new_scope, Scopes, Shape, or_else, find, is_declared, parameter_in, parameters_in, with_some, with_name, add, reserve, settle, keep}
-use Rattle.cp_check.specs.declared.constant.Number.{Number}
+use Rattle.cp_check.specs.declared.constant.ConstantNumber.{ConstantNumber}
 use Rattle.cp_check.specs.declared.types.Spot.{Spot}
 use Rattle.cp_check.specs.declared.types.Spot.TheVariants as spot
 use Rattle.cp_check.specs.Constants.{constant}
@@ -169,7 +169,7 @@ one_added_read s n o e = (let r : Reads s (add s n.name o) = added_read s n.name
 
 -- ---- what declarations declare
 
-no_constant : (j : Judged Number) → IsDeclared (as_declared (j >>= to_constant))
+no_constant : (j : Judged ConstantNumber) → IsDeclared (as_declared (j >>= to_constant))
 no_constant (Ok n) = tt
 no_constant (Err fs) = tt
 

@@ -4,8 +4,8 @@ use Rattle.std.specs.Prelude.{◌⊎◌}
 use Rattle.cp_slots.specs.declared.place.PlaceOrigin.TheVariants as origin
 use Rattle.cp_layout.specs.declared.kinds.CellType.{CellType}
 use Rattle.cp_layout.specs.declared.kinds.CellType.TheVariants as types
-use Rattle.cp_layout.specs.declared.names.Meaning.{Meaning}
-use Rattle.cp_layout.specs.declared.names.Meaning.TheVariants as meaning
+use Rattle.cp_layout.specs.declared.names.LayoutMeaning.{LayoutMeaning}
+use Rattle.cp_layout.specs.declared.names.LayoutMeaning.TheVariants as meaning
 use Rattle.cp_layout.specs.Kinds as kinds
 use Rattle.cp_layout.specs.Kinds.{as_array, array_of, most}
 use Rattle.cp_slots.specs.Code as code
@@ -39,7 +39,7 @@ at_zero n m h = omega (arith, h)
 module _ (k : Numbering) (h : Here) (l : Layer) (g : Knows k h l) where
   -- ---- names
 
-  local_begun : (x : Name) (m : Meaning) (t : Ty) → layers.find x l.names ≡ Some m → scopes.find x h.scope ≡ Some (scopes.local_variable t) → VariableIs k l.types t m →
+  local_begun : (x : Name) (m : LayoutMeaning) (t : Ty) → layers.find x l.names ≡ Some m → scopes.find x h.scope ≡ Some (scopes.local_variable t) → VariableIs k l.types t m →
       PlaceIs k l.types (code.place ((frame_here h).origins x) 0 code.no_indices) t (begun l x)
   local_begun x m t i j v =
       let there : layers.find x l.names ≡ Some (meaning.Variable v.origin v.value_type) = i ∙ ap (λ n. Some n) v.is in
@@ -65,7 +65,7 @@ module _ (k : Numbering) (h : Here) (l : Layer) (g : Knows k h l) where
   without_components x (named.record_with us) e = refl
   without_components x (named.component_of n) e = absurd (cc)
 
-  parts_begun_same : (x : Name) (m : Meaning) (t : Ty) → layers.find x l.names ≡ Some m → PartsAre k l.types t m → DesignatedIs k l.types (permanent_begun h x t) (begun l x)
+  parts_begun_same : (x : Name) (m : LayoutMeaning) (t : Ty) → layers.find x l.names ≡ Some m → PartsAre k l.types t m → DesignatedIs k l.types (permanent_begun h x t) (begun l x)
   parts_begun_same x m (named.component_of n) i v =
       let there : layers.find x l.names ≡ Some (meaning.Contained v.first v.value_type) = i ∙ ap (λ n. Some n) v.is in
       let f : ((system_here h).firsts x ≡ v.first) × (is_parameter x (system_of h.program h.system).parameters ≡ false) = g.first x v.first v.value_type there in
@@ -90,7 +90,7 @@ module _ (k : Numbering) (h : Here) (l : Layer) (g : Knows k h l) where
   parts_begun_same x m (named.array_over r (named.record_with us)) i v = absurd (let w : false ≡ true = v.has in cc)
   parts_begun_same x m (named.record_with us) i v = absurd (let w : false ≡ true = v.has in cc)
 
-  permanent_begun_same : (x : Name) (m : Meaning) (t : Ty) → layers.find x l.names ≡ Some m → scopes.find x h.scope ≡ Some (scopes.permanent_variable t) → CellsAre k l.types t m ⊎ (PartsAre k l.types t m ⊎ BoundIs t m) → DesignatedIs k l.types (permanent_begun h x t) (begun l x)
+  permanent_begun_same : (x : Name) (m : LayoutMeaning) (t : Ty) → layers.find x l.names ≡ Some m → scopes.find x h.scope ≡ Some (scopes.permanent_variable t) → CellsAre k l.types t m ⊎ (PartsAre k l.types t m ⊎ BoundIs t m) → DesignatedIs k l.types (permanent_begun h x t) (begun l x)
   permanent_begun_same x m t i j (inl v) =
       let there : layers.find x l.names ≡ Some (meaning.Variable (origin.Permanent v.slot) v.value_type) = i ∙ ap (λ n. Some n) v.is in
       let lies : (system_here h).slots x ≡ v.slot = g.slot x v.slot v.value_type there in
@@ -110,7 +110,7 @@ module _ (k : Numbering) (h : Here) (l : Layer) (g : Knows k h l) where
       let c : DesignatedIs k l.types (permanent_begun h x (named.component_of v.system)) (begun l x) = subst (λ p. DesignatedIs k l.types (component_begun h x v.system p) (begun l x)) (sym f.1) b in
       subst (λ u. DesignatedIs k l.types (permanent_begun h x u) (begun l x)) (sym v.component) c
 
-  found_begun : (x : Name) (p : Option Meaning) (q : Option scopes.Meaning) (s : scopes.Scope) (d : Designated) → layers.find x l.names ≡ p → scopes.find x h.scope ≡ q → FoundIs k l.types p q s → IsNoRoutine q → begun_form h x q ≡ Some d → DesignatedIs k l.types d (begun l x)
+  found_begun : (x : Name) (p : Option LayoutMeaning) (q : Option scopes.Meaning) (s : scopes.Scope) (d : Designated) → layers.find x l.names ≡ p → scopes.find x h.scope ≡ q → FoundIs k l.types p q s → IsNoRoutine q → begun_form h x q ≡ Some d → DesignatedIs k l.types d (begun l x)
   found_begun x (Some m) (Some (scopes.local_variable t)) s d i j f r e = subst (λ y. DesignatedIs k l.types y (begun l x)) (same_inside _ d e) (local_begun x m t i j f)
   found_begun x (Some m) (Some (scopes.permanent_variable t)) s d i j f r e = subst (λ y. DesignatedIs k l.types y (begun l x)) (same_inside _ d e) (permanent_begun_same x m t i j f)
   found_begun x (Some m) (Some (scopes.routine_meaning q)) s d i j f r e = absurd r

@@ -13,8 +13,8 @@ use Rattle.cp_scope.specs.Judged.{Judged, both, ◌>>=◌}
 use Rattle.cp_scope.specs.Scopes.{Scopes, heading_at, body_at}
 use Rattle.cp_check.specs.declared.operand.Context.{Context}
 use Rattle.cp_check.specs.declared.operand.Operand.{Operand}
-use Rattle.cp_check.specs.declared.operand.Place.{Place}
-use Rattle.cp_check.specs.declared.operand.Place.TheVariants as place
+use Rattle.cp_check.specs.declared.operand.OperandUse.{OperandUse}
+use Rattle.cp_check.specs.declared.operand.OperandUse.TheVariants as place
 use Rattle.cp_check.specs.Operands.{is_assignable, is_function}
 use Rattle.cp_check.specs.Calls as calls
 use Rattle.cp_check.specs.Calls.{fits, all_fit, fit_faults, fault, variable_faults, all_variable_faults, assignable_faults, unless}
@@ -142,7 +142,7 @@ module _ (tokens : Tokens) (s : Scopes) (h : Here) (w : Context) (agrees : Scope
   variable_expressed : (e : Expression) (o : Operand) (b : Bool) → IsSmallExpression e → expression s w b e ≡ Ok o → is_assignable o.place ≡ true → VariableForm W o.value_type (expression_form h e)
   variable_expressed e o b small is free = subst (λ (j : Judged Operand). HasVariable W j (expression_form h e)) is (expression_held tokens s h w agrees b e small) free
 
-  no_function : (p : Place) → is_assignable p ≡ true → is_function p ≡ false
+  no_function : (p : OperandUse) → is_assignable p ≡ true → is_function p ≡ false
   no_function place.Assignable e = refl
   no_function place.Value e = refl
   no_function place.Fixed e = refl

@@ -16,7 +16,7 @@ use Rattle.cp_scope.specs.Judged.{Judged, broken, both, ◌>>=◌}
 use Rattle.cp_scope.specs.Scopes.{Scopes}
 use Rattle.cp_check.specs.declared.operand.Context.{Context}
 use Rattle.cp_check.specs.declared.operand.Operand.{Operand}
-use Rattle.cp_check.specs.declared.operand.Designated as check_designated
+use Rattle.cp_check.specs.declared.operand.DesignatedName as check_designated
 use Rattle.cp_check.specs.Names as names
 use Rattle.cp_check.specs.Expressions.{expression, sum_value, more_terms, term_value, more_factors, factor, designator, selectors, selector, arguments, constructed, set_like, are_elements, has_none, has_no_terms, has_no_factors, is_unsigned}
 use Rattle.cp_check.specs.Expressions as expressions
@@ -165,7 +165,7 @@ module _ (tokens : Tokens) (s : Scopes) (h : Here) (w : Context) (agrees : Scope
     factor_typed (negated at f) m = negated_form W at (factor s w false f) (factor_form h f) (factor_typed f m)
     factor_typed (set_of at es) m = constructed_form at (arguments s w [] 0 es) (members_form h es) (members_typed 0 es m)
 
-    selectors_typed : (x0 : Name) (mean : Option scopes.Meaning) (ss : Selectors) → AreSmallSelectors ss → (x : Option Name) (j : Judged check_designated.Designated) (o : Option FormDesignated) → HasDesignated tokens s h x0 mean x j o →
+    selectors_typed : (x0 : Name) (mean : Option scopes.Meaning) (ss : Selectors) → AreSmallSelectors ss → (x : Option Name) (j : Judged check_designated.DesignatedName) (o : Option FormDesignated) → HasDesignated tokens s h x0 mean x j o →
         HasDesignated tokens s h x0 mean (last_or x ss) (selectors s w j ss) (then_form o (selected_form h ss))
     selectors_typed x0 mean no_selectors m x j o i = subst (HasDesignated tokens s h x0 mean x j) (only o) i
     selectors_typed x0 mean (more_selectors (field n) ss) m x j o i =

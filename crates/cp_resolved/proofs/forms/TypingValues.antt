@@ -13,10 +13,10 @@ use Rattle.cp_scope.specs.Types.{is_of, values_of, whole}
 use Rattle.cp_scope.specs.Judged.{Judged, broken, both, ◌>>=◌}
 use Rattle.cp_scope.specs.Scopes.{Scopes, heading_at}
 use Rattle.cp_check.specs.declared.operand.Context.{Context}
-use Rattle.cp_check.specs.declared.operand.Place.{Place}
-use Rattle.cp_check.specs.declared.operand.Place.TheVariants as place
+use Rattle.cp_check.specs.declared.operand.OperandUse.{OperandUse}
+use Rattle.cp_check.specs.declared.operand.OperandUse.TheVariants as place
 use Rattle.cp_check.specs.declared.operand.Operand.{Operand}
-use Rattle.cp_check.specs.declared.operand.Designated as check_designated
+use Rattle.cp_check.specs.declared.operand.DesignatedName as check_designated
 use Rattle.cp_check.specs.declared.operand.Named.{Named}
 use Rattle.cp_check.specs.declared.operand.Named.TheVariants as name
 use Rattle.cp_check.specs.Operands.{value, is_queue_in}
@@ -191,7 +191,7 @@ module _ (tokens : Tokens) (s : Scopes) (h : Here) (w : Context) where
       then_one (Expressed W (values_of b)) (applied_form q) f (formed (named.ordinal g.range) (as_ordinal g.code)) g.is
       (subst (λ (t : Bool). Expressed W (values_of b) (applied_ordinal q (named.ordinal g.range) t g.code)) (sym g.belongs) (k g.range g.code))
 
-  emptied : (v : ValueType) (p : Place) (f : Option Formed) → Expressed W v f → is_queue_in v p ≡ true → Expressed W (values_of base.Boolean) (then_form f (applied_form scopes.empty_function))
+  emptied : (v : ValueType) (p : OperandUse) (f : Option Formed) → Expressed W v f → is_queue_in v p ≡ true → Expressed W (values_of base.Boolean) (then_form f (applied_form scopes.empty_function))
   emptied types.Queue p f e i =
       let g : QueueForm f = queue_found W f e in
       then_one (Expressed W (values_of base.Boolean)) (applied_form scopes.empty_function) f (formed named.queue_type (as_place g.place)) g.is (a_truth W _)
@@ -268,7 +268,7 @@ module _ (tokens : Tokens) (s : Scopes) (h : Here) (w : Context) where
       subst (λ (t : Bool). HasForm W (calls.function_value s w at name_at b n os u) (named_form h at (designator i ss) t (find i.name h.scope) o f)) (sym c.is)
       (call_typed at name_at b n os u (routine_meant h.program h.scope i.name (find i.name h.scope) (last_field ss)) c.heading)
 
-  value_typed : (at : ℕ) (i : Identifier) (ss : Selectors) (d : check_designated.Designated) (n : Named) (os : List Operand) (o : Option Designated) (f : Option Formed) →
+  value_typed : (at : ℕ) (i : Identifier) (ss : Selectors) (d : check_designated.DesignatedName) (n : Named) (os : List Operand) (o : Option Designated) (f : Option Formed) →
       NamedIs tokens s h i.name (find i.name h.scope) (last_field ss) n o → ArgumentIs os f →
       HasForm W (calls.value_named s w at d os n) (named_form h at (designator i ss) (is_call_meant (find i.name h.scope) (last_field ss)) (find i.name h.scope) o f)
   value_typed at i ss d name.Nothing os o f e a = tt
@@ -287,7 +287,7 @@ module _ (tokens : Tokens) (s : Scopes) (h : Here) (w : Context) where
   AreArguments (Ok os) f = ArgumentIs os f
   AreArguments (Err fs) f = Unit {0}
 
-  pub name_typed : (at : ℕ) (i : Identifier) (ss : Selectors) (j : Judged check_designated.Designated) (k : Judged (List Operand)) (o : Option Designated) (f : Option Formed) →
+  pub name_typed : (at : ℕ) (i : Identifier) (ss : Selectors) (j : Judged check_designated.DesignatedName) (k : Judged (List Operand)) (o : Option Designated) (f : Option Formed) →
       HasDesignated tokens s h i.name (find i.name h.scope) (last_field ss) j o → AreArguments k f →
       HasForm W (both j k >>= calls.value_of s w at) (named_form h at (designator i ss) (is_call_meant (find i.name h.scope) (last_field ss)) (find i.name h.scope) o f)
   unfolding calls.value_of

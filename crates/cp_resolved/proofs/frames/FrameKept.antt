@@ -3,7 +3,7 @@ use Rattle.std.proofs.Common.{◌≡◌, ◌+◌, ℕ, List, [], ◌∷◌, leng
 use Rattle.cp_tree.specs.declared.constant.Identifier.{Identifier}
 use Rattle.cp_tree.specs.Syntax as syntax
 use Rattle.cp_layout.specs.declared.kinds.CellBase.{CellBase}
-use Rattle.cp_layout.specs.declared.names.Meaning.TheVariants as meaning
+use Rattle.cp_layout.specs.declared.names.LayoutMeaning.TheVariants as meaning
 use Rattle.cp_layout.specs.Kinds.{Fields, no_fields}
 use Rattle.cp_layout.specs.Layers.{Layer, Frame, Owned}
 use Rattle.cp_layout.specs.LaidExpressions.{as_integer}

@@ -4,8 +4,8 @@ use Rattle.std.proofs.lemmas.Option.{none-some}
 use Rattle.cp_tree.specs.Syntax as syntax
 use Rattle.cp_slots.specs.declared.place.PlaceOrigin.{PlaceOrigin}
 use Rattle.cp_slots.specs.declared.place.PlaceOrigin.TheVariants as origin
-use Rattle.cp_layout.specs.declared.names.Meaning.{Meaning}
-use Rattle.cp_layout.specs.declared.names.Meaning.TheVariants as meaning
+use Rattle.cp_layout.specs.declared.names.LayoutMeaning.{LayoutMeaning}
+use Rattle.cp_layout.specs.declared.names.LayoutMeaning.TheVariants as meaning
 use Rattle.cp_layout.specs.Layers as layers
 use Rattle.cp_layout.specs.Layers.{Layer, own_result}
 use Rattle.cp_meaning.specs.Names.{Name, same_name, temporary, result_name}
@@ -125,7 +125,7 @@ module _ (k : Numbering) (p : syntax.Program) (m : RoutineMeaning) (l : Layer) (
 
   -- ---- where names lie
 
-  not_found : (q : Option Meaning) (s : Scope) → FoundIs k l.types q None s → q ≡ None
+  not_found : (q : Option LayoutMeaning) (s : Scope) → FoundIs k l.types q None s → q ≡ None
   not_found None s h = refl
   not_found (Some n) s h = absurd h
 
@@ -144,7 +144,7 @@ module _ (k : Numbering) (p : syntax.Program) (m : RoutineMeaning) (l : Layer) (
     lies_at : (x : Name) (t : Ty) → find x m.scope ≡ Some (local_variable t) → (o : PlaceOrigin) × (f.origins x ≡ o) × IsInFrame o × Lies all refs x o
     lies_at x t e = go (layers.find x l.names) refl (subst (λ q. FoundIs k l.types (layers.find x l.names) q (scopes.since x m.scope)) e (found_in k l.types x l.names m.scope steps))
       where
-        go : (q : Option Meaning) → layers.find x l.names ≡ q → FoundIs k l.types q (Some (local_variable t)) (scopes.since x m.scope) → (o : PlaceOrigin) × (f.origins x ≡ o) × IsInFrame o × Lies all refs x o
+        go : (q : Option LayoutMeaning) → layers.find x l.names ≡ q → FoundIs k l.types q (Some (local_variable t)) (scopes.since x m.scope) → (o : PlaceOrigin) × (f.origins x ≡ o) × IsInFrame o × Lies all refs x o
         go None g h = absurd h
         go (Some n) g h =
             let there : layers.find x l.names ≡ Some (meaning.Variable h.origin h.value_type) = g ∙ ap (λ y. Some y) h.is in

@@ -6,8 +6,8 @@ use Rattle.cp_tree.specs.Syntax as syntax
 use Rattle.cp_slots.specs.declared.place.PlaceOrigin.{PlaceOrigin}
 use Rattle.cp_slots.specs.declared.place.PlaceOrigin.TheVariants as origin
 use Rattle.cp_layout.specs.declared.kinds.CellType.{CellType}
-use Rattle.cp_layout.specs.declared.names.Meaning.{Meaning}
-use Rattle.cp_layout.specs.declared.names.Meaning.TheVariants as meaning
+use Rattle.cp_layout.specs.declared.names.LayoutMeaning.{LayoutMeaning}
+use Rattle.cp_layout.specs.declared.names.LayoutMeaning.TheVariants as meaning
 use Rattle.cp_layout.specs.Kinds as kinds
 use Rattle.cp_layout.specs.Kinds.{Compound, Compounds, most}
 use Rattle.cp_layout.specs.Layers.{Names, find, Layer}
@@ -100,11 +100,11 @@ lies_more vs rs ws qs x (origin.Local n) h = (h.0, look_left x h.0 vs ws h.1, h.
 lies_more vs rs ws qs x (origin.Reference n) h = (h.0, look_left x h.0 rs qs h.1, h.2 ∙ sym (number_left x h.0 rs qs h.1))
 lies_more vs rs ws qs x (origin.Permanent n) h = tt
 
-abbrev IsNoVariable : Meaning → Type 0
+abbrev IsNoVariable : LayoutMeaning → Type 0
 IsNoVariable (meaning.Variable o v) = ⊥
 IsNoVariable m = Unit {0}
 
-lying_added : (vs rs : List Variable) (x : Name) (m : Meaning) (ns : Names) → IsNoVariable m → AreLying vs rs ns → AreLying vs rs ((x, m) ∷ ns)
+lying_added : (vs rs : List Variable) (x : Name) (m : LayoutMeaning) (ns : Names) → IsNoVariable m → AreLying vs rs ns → AreLying vs rs ((x, m) ∷ ns)
 lying_added vs rs x m ns i h y o v e = go (found_cases (x, m) ns y (meaning.Variable o v) e)
   where
     go : ((bytes_eq x y ≡ true) × (m ≡ meaning.Variable o v)) ⊎ (find y ns ≡ Some (meaning.Variable o v)) → Lies vs rs y o

@@ -1,7 +1,7 @@
 -- The routines and initial statements of the tables of a tree stand for those of the tree.
 use Rattle.std.proofs.Common.{◌≡◌, ◌+◌, ◌<◌, ◌≤◌, ℕ, true, false, List, ◌++◌, length, Option, Some, None, slice_get, refl, sym, ap, subst, ◌∙◌, arith, length-append}
 use Rattle.cp_tree.specs.Syntax as syntax
-use Rattle.cp_layout.specs.declared.names.Meaning.{Meaning}
+use Rattle.cp_layout.specs.declared.names.LayoutMeaning.{LayoutMeaning}
 use Rattle.cp_layout.specs.Kinds.{most}
 use Rattle.cp_layout.specs.Laid.{PlainTables, plain, laid}
 use Rattle.cp_layout.specs.Layers as layers
@@ -181,7 +181,7 @@ module _ (t : syntax.Tree) (r : Tables) (same : plain r ≡ laid t) (few : lengt
       let own : is_named x opens.opening.name ≡ true = with_own_name x opens.opening.name opens.opening.meaning.result (sym (ap (is_named x) name_is) ∙ h) in
       go own (layers.find x l.names) refl (subst (λ o. FoundIs k l.types (layers.find x l.names) o (scopes.since x m.scope)) f (found_in k l.types x l.names m.scope steps))
     where
-      go : is_named x opens.opening.name ≡ true → (o : Option Meaning) → layers.find x l.names ≡ o → FoundIs k l.types o (Some (scopes.routine_meaning y)) (scopes.since x m.scope) → (routine_in (scopes.since x m.scope) y).result ≡ m.result
+      go : is_named x opens.opening.name ≡ true → (o : Option LayoutMeaning) → layers.find x l.names ≡ o → FoundIs k l.types o (Some (scopes.routine_meaning y)) (scopes.since x m.scope) → (routine_in (scopes.since x m.scope) y).result ≡ m.result
       go own None g i = absurd i
       go own (Some q) g i =
           let last : i.0 ≡ n = opens.begins.own x own i.0 (g ∙ ap (λ z. Some z) i.1) ∙ begun.ends.number in

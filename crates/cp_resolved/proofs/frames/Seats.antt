@@ -5,8 +5,8 @@ use Rattle.cp_tree.specs.Syntax as syntax
 use Rattle.cp_slots.specs.declared.place.PlaceOrigin.{PlaceOrigin}
 use Rattle.cp_slots.specs.declared.place.PlaceOrigin.TheVariants as origin
 use Rattle.cp_layout.specs.declared.kinds.CellType.{CellType}
-use Rattle.cp_layout.specs.declared.names.Meaning.{Meaning}
-use Rattle.cp_layout.specs.declared.names.Meaning.TheVariants as meaning
+use Rattle.cp_layout.specs.declared.names.LayoutMeaning.{LayoutMeaning}
+use Rattle.cp_layout.specs.declared.names.LayoutMeaning.TheVariants as meaning
 use Rattle.cp_layout.specs.Kinds.{Compounds}
 use Rattle.cp_layout.specs.Laid.{system_types}
 use Rattle.cp_layout.specs.Layers as layers
@@ -64,7 +64,7 @@ module _ (k : Numbering) (ts : Compounds) where
   nothing_lies ps ns s i h x o v e =
       lying_found ps x s o v (scopes.find x s) (scopes.since x s) h refl (subst (λ m. FoundIs k ts m (scopes.find x s) (scopes.since x s)) e (found_in k ts x ns s i))
 
-  holding_found : (x : Name) (s : Scope) (m : Meaning) (n : Option scopes.Meaning) (u : Scope) → AreOf [] [] s → scopes.find x s ≡ n → FoundIs k ts (Some m) n u → Holds [] x m
+  holding_found : (x : Name) (s : Scope) (m : LayoutMeaning) (n : Option scopes.Meaning) (u : Scope) → AreOf [] [] s → scopes.find x s ≡ n → FoundIs k ts (Some m) n u → Holds [] x m
   holding_found x s m None u h e f = absurd f
   holding_found x s m (Some (scopes.local_variable t)) u h e f = absurd (of_local x t [] [] s h e)
   holding_found x s m (Some (scopes.permanent_variable t)) u h e f = absurd (of_permanent x t [] [] s h e)

@@ -4,8 +4,8 @@ use Rattle.cp_tree.specs.declared.constant.Identifier.{Identifier}
 use Rattle.cp_tree.specs.Syntax as syntax
 use Rattle.cp_slots.specs.declared.place.PlaceOrigin.TheVariants as origin
 use Rattle.cp_layout.specs.declared.kinds.CellBase.TheVariants as base
-use Rattle.cp_layout.specs.declared.names.Meaning.{Meaning}
-use Rattle.cp_layout.specs.declared.names.Meaning.TheVariants as meaning
+use Rattle.cp_layout.specs.declared.names.LayoutMeaning.{LayoutMeaning}
+use Rattle.cp_layout.specs.declared.names.LayoutMeaning.TheVariants as meaning
 use Rattle.cp_layout.specs.declared.layer.FunctionResult.{FunctionResult}
 use Rattle.cp_slots.specs.Code as code
 use Rattle.cp_layout.specs.Values as values
@@ -183,7 +183,7 @@ module _ (k : Numbering) (h : Here) (b : Layer) (g : Knows k h b) (calls : Knows
   number_is : (n : ℕ) (f : Formed) → constant_form named.integers (pos n) ≡ Some f → ValueIs k b.types f (number_value (as_integer n) base.Integer)
   number_is n f e = constant_is named.integers (pos n) f (number_value (as_integer n) base.Integer) (ap (λ z. number_value z base.Integer) (number_kept n (nat_le n 32767) refl f (record { ty = named.ordinal (range_of_base named.integers); form = as_ordinal (code.number (pos n)) }) e)) e
 
-  pub constant_found : (x : Name) (p : Option Meaning) (a : Base) (z : ℤ) (s : scopes.Scope) → layers.find x b.names ≡ p → FoundIs k b.types p (Some (scopes.constant_meaning a z)) s → begun b x ≡ values.a_value (number_value z (base_of k a))
+  pub constant_found : (x : Name) (p : Option LayoutMeaning) (a : Base) (z : ℤ) (s : scopes.Scope) → layers.find x b.names ≡ p → FoundIs k b.types p (Some (scopes.constant_meaning a z)) s → begun b x ≡ values.a_value (number_value z (base_of k a))
   constant_found x None a z s i f = absurd f
   constant_found x (Some m) a z s i f = ap begun_as i ∙ ap (λ n. begun_as (Some n)) f.0
 
@@ -223,7 +223,7 @@ module _ (k : Numbering) (h : Here) (b : Layer) (g : Knows k h b) (calls : Knows
   result_given r None w e i v = absurd i
   result_given r (Some t) w e i v = subst (λ u. ResultsAre k b.types (Some (result_type u)) w) (sym e) v
 
-  own_found : (x : Name) (p : Option Meaning) (r : syntax.Routine) → layers.find x b.names ≡ p → FoundIs k b.types p (Some (scopes.routine_meaning r)) (scopes.since x h.scope) →
+  own_found : (x : Name) (p : Option LayoutMeaning) (r : syntax.Routine) → layers.find x b.names ≡ p → FoundIs k b.types p (Some (scopes.routine_meaning r)) (scopes.since x h.scope) →
       (n : ℕ) × (begun b x ≡ values.a_routine n) × ResultsAre k b.types (routine_in (scopes.since x h.scope) r).result (result_of b n)
   own_found x None r i f = absurd f
   own_found x (Some m) r i f =
@@ -320,7 +320,7 @@ module _ (k : Numbering) (h : Here) (b : Layer) (g : Knows k h b) (calls : Knows
       subst (λ y. Is z n (named_as m at y first as') is) (sym i) (record { value = subst (λ y. ValueIs k b.types y (values.component_value c)) (same_inside _ z f) refl; taken = j })
   valued_is n m at (some_components c r o) x first as' is z i j f = absurd (cc)
 
-  pub standard_found : (x : Name) (p : Option Meaning) (q : scopes.Standard) (s : scopes.Scope) → layers.find x b.names ≡ p → FoundIs k b.types p (Some (scopes.standard_meaning q)) s → begun b x ≡ values.a_standard (predeclared_as q)
+  pub standard_found : (x : Name) (p : Option LayoutMeaning) (q : scopes.Standard) (s : scopes.Scope) → layers.find x b.names ≡ p → FoundIs k b.types p (Some (scopes.standard_meaning q)) s → begun b x ≡ values.a_standard (predeclared_as q)
   standard_found x None q s i f = absurd f
   standard_found x (Some m) q s i f = ap begun_as i ∙ ap (λ n. begun_as (Some n)) f
 
@@ -384,7 +384,7 @@ module _ (k : Numbering) (h : Here) (b : Layer) (g : Knows k h b) (calls : Knows
       valued_is (cells l) m at q.0 (selectors l (begun l x.name) ss).0 first as' (selectors_calls h.scope ss ++ []) z j.leads (takes_both (cells l) m m (selectors_calls h.scope ss) [] j.taken (takes_none m)) q.2
 
   -- a name in an expression
-  named_is : (l : Layer) (at : ℕ) (x : Identifier) (ss : syntax.Selectors) (es : syntax.Expressions) (z : Formed) (c : Bool) (m : Option scopes.Meaning) (p : Option Meaning) → is_call_meant m (last_field ss) ≡ c → scopes.find x.name h.scope ≡ m → layers.find x.name b.names ≡ p →
+  named_is : (l : Layer) (at : ℕ) (x : Identifier) (ss : syntax.Selectors) (es : syntax.Expressions) (z : Formed) (c : Bool) (m : Option scopes.Meaning) (p : Option LayoutMeaning) → is_call_meant m (last_field ss) ≡ c → scopes.find x.name h.scope ≡ m → layers.find x.name b.names ≡ p →
       FoundIs k b.types p m (scopes.since x.name h.scope) → Kept b l → Selects l ss → Enters l ss → Takes es → First l es → UsedAs h (syntax.designator x ss) es c m →
       AreNext h (cells l) (selectors_calls h.scope ss ++ (expressions_calls h.scope es ++ own_call c at (syntax.designator x ss) es)) →
       named_form h at (syntax.designator x ss) c m (designator_form h (syntax.designator x ss)) (first_form h es) ≡ Some z →

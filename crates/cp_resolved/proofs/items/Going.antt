@@ -4,8 +4,8 @@ use Rattle.std.specs.Prelude.{pos}
 use Rattle.std.proofs.lemmas.Option.{same_Some}
 use Rattle.cp_tree.specs.declared.constant.Identifier.{Identifier}
 use Rattle.cp_tree.specs.Syntax as syntax
-use Rattle.cp_layout.specs.declared.names.Meaning.{Meaning}
-use Rattle.cp_layout.specs.declared.names.Meaning.TheVariants as meaning
+use Rattle.cp_layout.specs.declared.names.LayoutMeaning.{LayoutMeaning}
+use Rattle.cp_layout.specs.declared.names.LayoutMeaning.TheVariants as meaning
 use Rattle.cp_layout.specs.declared.layer.FunctionResult.{FunctionResult}
 use Rattle.cp_layout.specs.declared.layer.ParameterLayout as code_parameter
 use Rattle.cp_slots.specs.Code as code
@@ -255,7 +255,7 @@ module _ (k : Numbering) (h : Here) (b : Layer) (g : Knows k h b) (calls : Knows
   entry_heading x t None routine n c e m i = absurd (let w : false ≡ true = c in cc)
   entry_heading x t (Some y) routine n c e m i = headings.entry x y t routine n e m i
 
-  own_goes : (l : Layer) (at : ℕ) (x : Identifier) (es : syntax.Expressions) (r : syntax.Routine) (p : Option Meaning) → scopes.find x.name h.scope ≡ Some (scopes.routine_meaning r) → layers.find x.name b.names ≡ p → FoundIs k b.types p (Some (scopes.routine_meaning r)) (scopes.since x.name h.scope) → Kept b l → Argues es →
+  own_goes : (l : Layer) (at : ℕ) (x : Identifier) (es : syntax.Expressions) (r : syntax.Routine) (p : Option LayoutMeaning) → scopes.find x.name h.scope ≡ Some (scopes.routine_meaning r) → layers.find x.name b.names ≡ p → FoundIs k b.types p (Some (scopes.routine_meaning r)) (scopes.since x.name h.scope) → Kept b l → Argues es →
       IsFunction (routine_called h.program h.scope (syntax.designator x syntax.no_selectors)) → AreReady h (cells l) (expressions_calls h.scope es ++ function_call at (syntax.designator x syntax.no_selectors) es ∷ []) →
       GoesOn l (factor l (syntax.named at (syntax.designator x syntax.no_selectors) es)).1 (expressions_calls h.scope es ++ function_call at (syntax.designator x syntax.no_selectors) es ∷ [])
   unfolding factor first_value arguments_from designator selectors
@@ -310,7 +310,7 @@ module _ (k : Numbering) (h : Here) (b : Layer) (g : Knows k h b) (calls : Knows
       goes_both lines h l m (named_as m at (selectors l (begun l x.name) ss).0 (λ m. first_value m es) as').1 (selectors_calls h.scope ss) rest moved all
 
   -- a name in an expression
-  named_goes : (l : Layer) (at : ℕ) (x : Identifier) (ss : syntax.Selectors) (es : syntax.Expressions) (z : Formed) (c : Bool) (m : Option scopes.Meaning) (p : Option Meaning) → is_call_meant m (last_field ss) ≡ c → scopes.find x.name h.scope ≡ m → layers.find x.name b.names ≡ p →
+  named_goes : (l : Layer) (at : ℕ) (x : Identifier) (ss : syntax.Selectors) (es : syntax.Expressions) (z : Formed) (c : Bool) (m : Option scopes.Meaning) (p : Option LayoutMeaning) → is_call_meant m (last_field ss) ≡ c → scopes.find x.name h.scope ≡ m → layers.find x.name b.names ≡ p →
       FoundIs k b.types p m (scopes.since x.name h.scope) → Kept b l → SelectorsUsed h ss → Selects l ss → Argues es → First l es → UsedAs h (syntax.designator x ss) es c m →
       AreReady h (cells l) (selectors_calls h.scope ss ++ (expressions_calls h.scope es ++ own_call c at (syntax.designator x ss) es)) →
       named_form h at (syntax.designator x ss) c m (designator_form h (syntax.designator x ss)) (first_form h es) ≡ Some z →

@@ -9,10 +9,10 @@ use Rattle.cp_tree.specs.Syntax as syntax
 use Rattle.cp_slots.specs.declared.place.PlaceOrigin.TheVariants as origin
 use Rattle.cp_slots.specs.declared.item.ShownKind.TheVariants as shown
 use Rattle.cp_layout.specs.declared.kinds.CellType.TheVariants as types
-use Rattle.cp_layout.specs.declared.names.Meaning.{Meaning}
-use Rattle.cp_layout.specs.declared.names.Meaning.TheVariants as meaning
-use Rattle.cp_layout.specs.declared.names.Predeclared.{Predeclared}
-use Rattle.cp_layout.specs.declared.names.Predeclared.TheVariants as predeclared
+use Rattle.cp_layout.specs.declared.names.LayoutMeaning.{LayoutMeaning}
+use Rattle.cp_layout.specs.declared.names.LayoutMeaning.TheVariants as meaning
+use Rattle.cp_layout.specs.declared.names.PredeclaredRoutine.{PredeclaredRoutine}
+use Rattle.cp_layout.specs.declared.names.PredeclaredRoutine.TheVariants as predeclared
 use Rattle.cp_slots.specs.Code as code
 use Rattle.cp_layout.specs.Kinds.{most}
 use Rattle.cp_layout.specs.Values as values
@@ -340,7 +340,7 @@ module _ (k : Numbering) (h : Here) (g : Ground) (few : length g.tables.items �
   shown_same c named.characters = refl
   shown_same c (named.enumerated at xs) = ap shown.Constant (sym (numbered at))
 
-  performed_does : (l : Layer) (at : ℕ) (q : Predeclared) (e : syntax.Expression) (z : Formed) (a : code.Action) (next : Option ℕ) → World l → l.pending ≡ [] → expression_form h e ≡ Some z → IsUsed h e → AreReady h (cells l) (expression_calls h.scope e ++ []) → (ValueIs k l.types z (expression l e).0 → laid.performed q (expression l e).0 ≡ a) → Means h a →
+  performed_does : (l : Layer) (at : ℕ) (q : PredeclaredRoutine) (e : syntax.Expression) (z : Formed) (a : code.Action) (next : Option ℕ) → World l → l.pending ≡ [] → expression_form h e ≡ Some z → IsUsed h e → AreReady h (cells l) (expression_calls h.scope e ++ []) → (ValueIs k l.types z (expression l e).0 → laid.performed q (expression l e).0 ≡ a) → Means h a →
       Does l (settled (standard l at q (syntax.more_expressions e syntax.no_expressions)) next).1 (expression_calls h.scope e ++ []) (Led g h (settled (standard l at q (syntax.more_expressions e syntax.no_expressions)) next).0 (expression_calls h.scope e ++ []) at a next)
   unfolding standard first_value
   performed_does l at q e z a next w none f u n same means =
@@ -420,7 +420,7 @@ module _ (k : Numbering) (h : Here) (g : Ground) (few : length g.tables.items �
   invoke_standard l at x syntax.no_selectors syntax.no_expressions q next w none me f n = absurd f.1
   invoke_standard l at x syntax.no_selectors (syntax.more_expressions e (syntax.more_expressions d es)) q next w none me f n = absurd f.1
 
-  invoke_own : (l : Layer) (at : ℕ) (x : Identifier) (ss : syntax.Selectors) (es : syntax.Expressions) (r : syntax.Routine) (p : Option Meaning) (next : Option ℕ) → World l → l.pending ≡ [] → scopes.find x.name h.scope ≡ Some (scopes.routine_meaning r) → layers.find x.name l.names ≡ p →
+  invoke_own : (l : Layer) (at : ℕ) (x : Identifier) (ss : syntax.Selectors) (es : syntax.Expressions) (r : syntax.Routine) (p : Option LayoutMeaning) (next : Option ℕ) → World l → l.pending ≡ [] → scopes.find x.name h.scope ≡ Some (scopes.routine_meaning r) → layers.find x.name l.names ≡ p →
       FoundIs k l.types p (Some (scopes.routine_meaning r)) (scopes.since x.name h.scope) → InvokeFormed h (Some (scopes.routine_meaning r)) (syntax.designator x ss) es → AreReady h (cells l) (selectors_calls h.scope ss ++ expressions_calls h.scope es) → InvokeDoes l at x ss es (Some (scopes.routine_meaning r)) next
   unfolding invoked designator selectors
   invoke_own l at x (syntax.more_selectors s ss) es r p next w none me pe fi f n = absurd f.0

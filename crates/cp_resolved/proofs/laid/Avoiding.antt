@@ -16,10 +16,10 @@ use Rattle.cp_scope.specs.Counts.{no_use}
 use Rattle.cp_scope.specs.Judged.{Judged, both, ◌>>=◌, faults}
 use Rattle.cp_scope.specs.Scopes.{Scopes, look, heading_at}
 use Rattle.cp_check.specs.declared.operand.Context.{Context}
-use Rattle.cp_check.specs.declared.operand.Designated.{Designated}
+use Rattle.cp_check.specs.declared.operand.DesignatedName.{DesignatedName}
 use Rattle.cp_check.specs.declared.operand.Operand.{Operand}
 use Rattle.cp_check.specs.declared.operand.Named.TheVariants as names_for
-use Rattle.cp_check.specs.declared.operand.Place.TheVariants.{Function}
+use Rattle.cp_check.specs.declared.operand.OperandUse.TheVariants.{Function}
 use Rattle.cp_check.specs.Calls as calls
 use Rattle.cp_check.specs.Expressions as expressions
 use Rattle.cp_check.specs.Names as names
@@ -137,7 +137,7 @@ own_refused at n h = go (nat_eq n n) (eq-eqb n n refl) h
     go true e k = let bad : check_fault.Rule at C10 ∷ [] ≡ [] = k in cc
     go false e k = let bad : false ≡ true = e in cc
 
-abbrev routine_at : ℕ → Designated
+abbrev routine_at : ℕ → DesignatedName
 routine_at n = record { named = names_for.Routine n; name_at = 0; uses = no_use }
 
 -- ---- what is called
@@ -172,11 +172,11 @@ module _ (s : Scopes) (w : Context) (heard : Heard s) (P : Name → Type 0) (own
   unfolding expressions.designator expressions.selectors names.begun names.visible
   own_designated i n e = ap (λ o. names.found i.at o >>= names.unselected i.at >>= names.known i.at) e
 
-  value_refused : (at : ℕ) (d : Designated) (os : List Operand) (n : ℕ) → d.named ≡ names_for.Routine n → w.routine ≡ Some n → faults (calls.value_of s w at (d, os)) ≡ [] → ⊥
+  value_refused : (at : ℕ) (d : DesignatedName) (os : List Operand) (n : ℕ) → d.named ≡ names_for.Routine n → w.routine ≡ Some n → faults (calls.value_of s w at (d, os)) ≡ [] → ⊥
   unfolding calls.value_of
   value_refused at d os n e is h = function_refused at d.name_at n os d.uses is (subst (λ m. faults (calls.value_named s w at d os m) ≡ []) e h)
 
-  variable_refused : (at : ℕ) (d : Designated) (n : ℕ) → d.named ≡ names_for.Routine n → w.routine ≡ Some n → faults (calls.variable_of s w at d) ≡ [] → ⊥
+  variable_refused : (at : ℕ) (d : DesignatedName) (n : ℕ) → d.named ≡ names_for.Routine n → w.routine ≡ Some n → faults (calls.variable_of s w at d) ≡ [] → ⊥
   variable_refused at d n e is h = go (calls.is_other_function s w d.named) not_other h
     where
       itself : (b : Bool) → calls.is_own_of w.routine n ≡ true → (b && not (calls.is_own_of w.routine n)) ≡ false
@@ -198,18 +198,18 @@ module _ (s : Scopes) (w : Context) (heard : Heard s) (P : Name → Type 0) (own
       go o.0 o.1.0 (own_designated i o.0 o.1.1) b h
     where
       go : (n : ℕ) → w.routine ≡ Some n → expressions.designator s w (designator i no_selectors) ≡ Ok (names.designated i.at no_use (names_for.Routine n)) → (b : Bool) → faults (expressions.named_value s w b at (expressions.designator s w (designator i no_selectors)) (expressions.arguments s w [] 0 es)) ≡ [] → ⊥
-      go n is e true k = variable_refused at (names.designated i.at no_use (names_for.Routine n)) n refl is (subst (λ (d : Judged Designated). faults (d >>= calls.variable_of s w at) ≡ []) e k)
+      go n is e true k = variable_refused at (names.designated i.at no_use (names_for.Routine n)) n refl is (subst (λ (d : Judged DesignatedName). faults (d >>= calls.variable_of s w at) ≡ []) e k)
       go n is e false k =
           let parts = both_none (expressions.designator s w (designator i no_selectors)) (expressions.arguments s w [] 0 es) (no_first (both (expressions.designator s w (designator i no_selectors)) (expressions.arguments s w [] 0 es)) (calls.value_of s w at) k) in
           let os = loud_ok (expressions.arguments s w [] 0 es) (arguments_loud s w heard [] 0 es) parts.1 in
-          let k' : faults (both (Ok (names.designated i.at no_use (names_for.Routine n))) (expressions.arguments s w [] 0 es) >>= calls.value_of s w at) ≡ [] = subst (λ (d : Judged Designated). faults (both d (expressions.arguments s w [] 0 es) >>= calls.value_of s w at) ≡ []) e k in
+          let k' : faults (both (Ok (names.designated i.at no_use (names_for.Routine n))) (expressions.arguments s w [] 0 es) >>= calls.value_of s w at) ≡ [] = subst (λ (d : Judged DesignatedName). faults (both d (expressions.arguments s w [] 0 es) >>= calls.value_of s w at) ≡ []) e k in
           value_refused at (names.designated i.at no_use (names_for.Routine n)) os.0 n refl is (subst (λ (j : Judged (List Operand)). faults (both (Ok (names.designated i.at no_use (names_for.Routine n))) j >>= calls.value_of s w at) ≡ []) os.1 k')
 
   name_avoided : (at : ℕ) (i : Identifier) (ss : Selectors) (b : Bool) (es : Expressions) → faults (expressions.named_value s w b at (expressions.designator s w (designator i ss)) (expressions.arguments s w [] 0 es)) ≡ [] → AvoidsName P i ss
   name_avoided at i no_selectors b es h = call_avoided at i b es h
   name_avoided at i (more_selectors x ss) b es h = tt
 
-  named_parts : (b : Bool) (at : ℕ) (d : Judged Designated) (os : Judged (List Operand)) → faults (expressions.named_value s w b at d os) ≡ [] → (faults d ≡ []) × (b ≡ false → faults os ≡ [])
+  named_parts : (b : Bool) (at : ℕ) (d : Judged DesignatedName) (os : Judged (List Operand)) → faults (expressions.named_value s w b at d os) ≡ [] → (faults d ≡ []) × (b ≡ false → faults os ≡ [])
   named_parts true at d os h = (no_first d (calls.variable_of s w at) h, λ e. absurd (let bad : true ≡ false = e in cc))
   named_parts false at d os h = let x = both_none d os (no_first (both d os) (calls.value_of s w at) h) in (x.0, λ e. x.1)
 
@@ -264,14 +264,14 @@ module _ (s : Scopes) (w : Context) (heard : Heard s) (P : Name → Type 0) (own
     factor_avoids v (negated at f) h = factor_avoids false f (no_first (expressions.factor s w false f) _ h)
     factor_avoids v (set_of at es) h = arguments_avoid [] 0 es (no_first (expressions.arguments s w [] 0 es) _ h)
 
-    selectors_avoid : (ss : Selectors) (j : Judged Designated) → faults (expressions.selectors s w j ss) ≡ [] → (faults j ≡ []) × AvoidSelectors P ss
+    selectors_avoid : (ss : Selectors) (j : Judged DesignatedName) → faults (expressions.selectors s w j ss) ≡ [] → (faults j ≡ []) × AvoidSelectors P ss
     selectors_avoid no_selectors j h = (h, tt)
     selectors_avoid (more_selectors x ss) j h =
         let y = selectors_avoid ss (expressions.selector s w j x) h in
         let z = selector_avoids x j y.0 in
         (z.0, (z.1, y.1))
 
-    selector_avoids : (x : Selector) (j : Judged Designated) → faults (expressions.selector s w j x) ≡ [] → (faults j ≡ []) × AvoidsSelector P x
+    selector_avoids : (x : Selector) (j : Judged DesignatedName) → faults (expressions.selector s w j x) ≡ [] → (faults j ≡ []) × AvoidsSelector P x
     selector_avoids (field i) j h = (no_first j (names.selected s i) h, tt)
     selector_avoids (index e) j h =
         let x = both_none j (expressions.expression s w false e) (no_first (both j (expressions.expression s w false e)) (expressions.at_index s) h) in
@@ -303,13 +303,13 @@ module _ (s : Scopes) (w : Context) (heard : Heard s) (P : Name → Type 0) (own
   unfolding statements.call statements.invoked
   procedure_avoided at i es h p =
       let o = own i.name p in
-      let d : Judged Designated = expressions.designator s w (designator i no_selectors) in
+      let d : Judged DesignatedName = expressions.designator s w (designator i no_selectors) in
       let ps : List Parameter = statements.parameters_named s (statements.number_of es) d in
       let os : Judged (List Operand) = expressions.arguments s w ps 0 es in
       let parts = both_none d os (no_first (both d os) (statements.invoked s w at) h) in
       let x = loud_ok os (arguments_loud s w heard ps 0 es) parts.1 in
       let h' : faults (both d (Ok x.0) >>= statements.invoked s w at) ≡ [] = subst (λ (j : Judged (List Operand)). faults (both d j >>= statements.invoked s w at) ≡ []) x.1 h in
-      let h'' : faults (both (Ok (names.designated i.at no_use (names_for.Routine o.0))) (Ok x.0) >>= statements.invoked s w at) ≡ [] = subst (λ (j : Judged Designated). faults (both j (Ok x.0) >>= statements.invoked s w at) ≡ []) (own_designated i o.0 o.1.1) h' in
+      let h'' : faults (both (Ok (names.designated i.at no_use (names_for.Routine o.0))) (Ok x.0) >>= statements.invoked s w at) ≡ [] = subst (λ (j : Judged DesignatedName). faults (both j (Ok x.0) >>= statements.invoked s w at) ≡ []) (own_designated i o.0 o.1.1) h' in
       procedure_refused at i.at o.0 x.0 no_use o.1.0 h''
 
   invoked_name : (at : ℕ) (i : Identifier) (ss : Selectors) (es : Expressions) → faults (statements.call s w at (designator i ss) es) ≡ [] → AvoidsName P i ss
@@ -319,7 +319,7 @@ module _ (s : Scopes) (w : Context) (heard : Heard s) (P : Name → Type 0) (own
   invoke_avoids : (at : ℕ) (d : Designator) (es : Expressions) → faults (statements.call s w at d es) ≡ [] → AvoidsCall P d × AvoidExpressions P es
   unfolding statements.call
   invoke_avoids at (designator i ss) es h =
-      let d : Judged Designated = expressions.designator s w (designator i ss) in
+      let d : Judged DesignatedName = expressions.designator s w (designator i ss) in
       let ps : List Parameter = statements.parameters_named s (statements.number_of es) d in
       let os : Judged (List Operand) = expressions.arguments s w ps 0 es in
       let x = both_none d os (no_first (both d os) (statements.invoked s w at) h) in
@@ -331,7 +331,7 @@ module _ (s : Scopes) (w : Context) (heard : Heard s) (P : Name → Type 0) (own
   starts_avoid (t ∷ ts) j h =
       let x = start_none ts (both j (statements.start s w t) >>= statements.together) h in
       let y = both_none j (statements.start s w t) (no_first (both j (statements.start s w t)) statements.together x) in
-      let d : Judged Designated = expressions.designator s w t.target in
+      let d : Judged DesignatedName = expressions.designator s w t.target in
       let os : Judged (List Operand) = expressions.arguments s w [] 0 t.arguments in
       let z = both_none d os (no_first (both d os) (statements.started s (statements.name_at t.target)) y.1) in
       (designator_avoids t.target z.0, arguments_avoid [] 0 t.arguments z.1, starts_avoid ts (both j (statements.start s w t) >>= statements.together) h)

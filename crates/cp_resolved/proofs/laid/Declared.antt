@@ -8,8 +8,8 @@ use Rattle.cp_layout.specs.declared.kinds.CellBase.{CellBase}
 use Rattle.cp_layout.specs.declared.kinds.CellRange.{CellRange}
 use Rattle.cp_layout.specs.declared.kinds.CellType.{CellType}
 use Rattle.cp_layout.specs.declared.kinds.CellType.TheVariants as types
-use Rattle.cp_layout.specs.declared.names.Meaning.{Meaning}
-use Rattle.cp_layout.specs.declared.names.Meaning.TheVariants as meaning
+use Rattle.cp_layout.specs.declared.names.LayoutMeaning.{LayoutMeaning}
+use Rattle.cp_layout.specs.declared.names.LayoutMeaning.TheVariants as meaning
 use Rattle.cp_layout.specs.declared.layer.Contained.{Contained}
 use Rattle.cp_layout.specs.declared.layer.Content.TheVariants as content
 use Rattle.cp_layout.specs.Kinds.{Compound, array, record_with, Fields, no_fields, cells_of, array_type}
@@ -52,7 +52,7 @@ record Grouped (l : Layer) (x : Fields × Layer) : Type 0 where
   declared : Declared l x.1
   fit : FieldsFit x.1 x.0
 
-pub name_declared : (l : Layer) (x : List ℕ) (m : Meaning) → IsMeaning (length l.systems) (length l.routines) m → Named l → Declared l (with_name l x m)
+pub name_declared : (l : Layer) (x : List ℕ) (m : LayoutMeaning) → IsMeaning (length l.systems) (length l.routines) m → Named l → Declared l (with_name l x m)
 name_declared l x m h n = record { same = refl; named = record { names = (h, n.names); types = n.types; systems = n.systems }; owned = step_same l.owned; sizes = resized_same l _ refl refl refl refl }
 
 -- ---- types

@@ -8,7 +8,7 @@ use Rattle.cp_layout.specs.declared.kinds.CellBase.{CellBase}
 use Rattle.cp_layout.specs.declared.kinds.CellType.{CellType}
 use Rattle.cp_layout.specs.declared.kinds.CellType.TheVariants as types
 use Rattle.cp_layout.specs.declared.layer.Contained.{Contained}
-use Rattle.cp_layout.specs.declared.names.Meaning.TheVariants as meaning
+use Rattle.cp_layout.specs.declared.names.LayoutMeaning.TheVariants as meaning
 use Rattle.cp_layout.specs.Kinds.{Compounds, Fields, no_fields}
 use Rattle.cp_layout.specs.Layers.{Names, Layer, Owned, Frame}
 use Rattle.cp_layout.specs.LaidExpressions.{as_integer}

@@ -8,8 +8,8 @@ use Rattle.cp_layout.specs.declared.kinds.CellBase.{CellBase}
 use Rattle.cp_layout.specs.declared.kinds.CellType.{CellType}
 use Rattle.cp_layout.specs.declared.kinds.CellType.TheVariants as types
 use Rattle.cp_layout.specs.declared.layer.Contained.{Contained}
-use Rattle.cp_layout.specs.declared.names.Meaning.{Meaning}
-use Rattle.cp_layout.specs.declared.names.Meaning.TheVariants as meaning
+use Rattle.cp_layout.specs.declared.names.LayoutMeaning.{LayoutMeaning}
+use Rattle.cp_layout.specs.declared.names.LayoutMeaning.TheVariants as meaning
 use Rattle.cp_layout.specs.Kinds.{Field, Compound, array, record_with, Compounds, array_type, Fields, no_fields, cells_of, with_field}
 use Rattle.cp_layout.specs.Layers.{Names, Layer, find_type, seen_inside, is_open, with_name, nothing_laid}
 use Rattle.cp_layout.specs.LaidExpressions.{as_integer}
@@ -24,7 +24,7 @@ use Rattle.cp_resolved.proofs.frames.EncodedCells.{IsBelow, AreBelow, HoldsBelow
 
 -- ---- names of types
 
-abbrev KindBelow : ℕ → Meaning → Type 0
+abbrev KindBelow : ℕ → LayoutMeaning → Type 0
 KindBelow n (meaning.Kind v) = IsBelow n v
 KindBelow n m = Unit {0}
 
@@ -62,7 +62,7 @@ fields_higher : (m n : ℕ) (fs : List Field) → m ≤ n → AreBelow m fs → 
 fields_higher m n [] le h = tt
 fields_higher m n (f ∷ fs) le h = (type_higher m n f.value_type le h.0, fields_higher m n fs le h.1)
 
-kind_higher : (m n : ℕ) (p : Meaning) → m ≤ n → KindBelow m p → KindBelow n p
+kind_higher : (m n : ℕ) (p : LayoutMeaning) → m ≤ n → KindBelow m p → KindBelow n p
 kind_higher m n (meaning.Kind v) le h = type_higher m n v le h
 kind_higher m n (meaning.Constant b z) le h = tt
 kind_higher m n (meaning.Variable o v) le h = tt
@@ -177,7 +177,7 @@ mutual
 
 -- ---- names
 
-orderly_name : (l : Layer) (x : List ℕ) (m : Meaning) → KindBelow (length l.types) m → Orderly l → Orderly (with_name l x m)
+orderly_name : (l : Layer) (x : List ℕ) (m : LayoutMeaning) → KindBelow (length l.types) m → Orderly l → Orderly (with_name l x m)
 orderly_name l x m h o = record { names = (h, o.names); types = o.types }
 
 constants_orderly : (l : Layer) (ds : List syntax.ConstantDefinition) → Orderly l → Orderly (constants l ds)

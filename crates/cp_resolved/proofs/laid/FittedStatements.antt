@@ -4,8 +4,8 @@ use Rattle.cp_tree.specs.declared.statement.Direction.{Direction}
 use Rattle.cp_tree.specs.Syntax as syntax
 use Rattle.cp_layout.specs.declared.kinds.CellType.{CellType}
 use Rattle.cp_layout.specs.declared.kinds.CellType.TheVariants as types
-use Rattle.cp_layout.specs.declared.names.Predeclared.{Predeclared}
-use Rattle.cp_layout.specs.declared.names.Predeclared.TheVariants as predeclared
+use Rattle.cp_layout.specs.declared.names.PredeclaredRoutine.{PredeclaredRoutine}
+use Rattle.cp_layout.specs.declared.names.PredeclaredRoutine.TheVariants as predeclared
 use Rattle.cp_slots.specs.Code as code
 use Rattle.cp_slots.specs.Code.{Action, Arm, Argument, ComponentPlace, Item, Place}
 use Rattle.cp_layout.specs.Values.{Value, Designated, a_value, a_variable, a_contained, a_component, a_routine, an_entry, a_standard, no_designated, ordinal_of}
@@ -55,13 +55,13 @@ assigned_ran l at d e g =
     let h = assigned_fits y.1 y.1 (length y.1.routines) t.place y.0 t.value_type in
     ran_trans l y.1 (assigned l at d e) (then_ran l x.1 y.1 (designator_ran l d g) (expression_ran x.1 e) g) (added_ran y.1 at (assignment y.1 t y.0) 0 h.0 h.1 (omega arith))
 
-performed_fits : (m : Layer) (r : ℕ) (p : Predeclared) (v : Value) → ActionFits m r 0 (performed p v) × IsNoLoop (performed p v)
+performed_fits : (m : Layer) (r : ℕ) (p : PredeclaredRoutine) (v : Value) → ActionFits m r 0 (performed p v) × IsNoLoop (performed p v)
 performed_fits m r predeclared.Delay v = (tt, tt)
 performed_fits m r predeclared.Continue v = (tt, tt)
 performed_fits m r predeclared.Display v = (tt, tt)
 performed_fits m r _ v = (tt, tt)
 
-standard_ran : (l : Layer) (at : ℕ) (p : Predeclared) (es : syntax.Expressions) → Ground l → Ran l (standard l at p es)
+standard_ran : (l : Layer) (at : ℕ) (p : PredeclaredRoutine) (es : syntax.Expressions) → Ground l → Ran l (standard l at p es)
 unfolding standard
 standard_ran l at p es g =
     let x = first_value l es in

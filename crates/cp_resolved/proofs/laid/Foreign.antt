@@ -6,10 +6,10 @@ use Rattle.cp_layout.specs.declared.kinds.CellType.{CellType}
 use Rattle.cp_layout.specs.declared.kinds.CellType.TheVariants as types
 use Rattle.cp_layout.specs.declared.kinds.ArrayType.{ArrayType}
 use Rattle.cp_layout.specs.declared.layer.FunctionResult.{FunctionResult}
-use Rattle.cp_layout.specs.declared.names.Meaning.{Meaning}
-use Rattle.cp_layout.specs.declared.names.Meaning.TheVariants as meaning
-use Rattle.cp_layout.specs.declared.names.Predeclared.{Predeclared}
-use Rattle.cp_layout.specs.declared.names.Predeclared.TheVariants as predeclared
+use Rattle.cp_layout.specs.declared.names.LayoutMeaning.{LayoutMeaning}
+use Rattle.cp_layout.specs.declared.names.LayoutMeaning.TheVariants as meaning
+use Rattle.cp_layout.specs.declared.names.PredeclaredRoutine.{PredeclaredRoutine}
+use Rattle.cp_layout.specs.declared.names.PredeclaredRoutine.TheVariants as predeclared
 use Rattle.cp_slots.specs.Code as code
 use Rattle.cp_slots.specs.Code.{Place, Expression, SetExpression, ComponentPlace, Argument, Arm, Action, Item}
 use Rattle.cp_layout.specs.Kinds.{Field, field_of, array_of}
@@ -52,7 +52,7 @@ contained_elsewhere n first (types.Set q) = tt
 contained_elsewhere n first (types.Array k) = tt
 contained_elsewhere n first (types.Record k) = tt
 
-begun_elsewhere : (n : ℕ) (o : Option Meaning) → (o ≡ Some (meaning.Routine n) → ⊥) → IsElsewhere n (begun_as o)
+begun_elsewhere : (n : ℕ) (o : Option LayoutMeaning) → (o ≡ Some (meaning.Routine n) → ⊥) → IsElsewhere n (begun_as o)
 begun_elsewhere n None h = tt
 begun_elsewhere n (Some (meaning.Contained first t)) h = contained_elsewhere n first t
 begun_elsewhere n (Some (meaning.Constant b z)) h = tt
@@ -278,13 +278,13 @@ module _ (P : List ℕ → Type 0) (n : ℕ) where
       let t : Target = target_of x.1 x.0 in
       fine_added y.1 at (assignment y.1 t y.0) 0 (assigned_foreign y.1 t.place y.0 t.value_type) (expression_fine x.1 e (designator_fine l d h a) b)
 
-  performed_foreign : (p : Predeclared) (v : Value) → IsForeign n (performed p v)
+  performed_foreign : (p : PredeclaredRoutine) (v : Value) → IsForeign n (performed p v)
   performed_foreign predeclared.Delay v = tt
   performed_foreign predeclared.Continue v = tt
   performed_foreign predeclared.Display v = tt
   performed_foreign _ v = tt
 
-  standard_fine : (l : Layer) (at : ℕ) (p : Predeclared) (es : syntax.Expressions) → Fine P n l → AvoidExpressions P es → Fine P n (standard l at p es)
+  standard_fine : (l : Layer) (at : ℕ) (p : PredeclaredRoutine) (es : syntax.Expressions) → Fine P n l → AvoidExpressions P es → Fine P n (standard l at p es)
   unfolding standard
   standard_fine l at p es h b = let x = first_value l es in fine_added x.1 at (performed p x.0) 0 (performed_foreign p x.0) (first_fine l es h b)
 

@@ -4,7 +4,7 @@ use Rattle.std.specs.Prelude.{max}
 use Rattle.std.proofs.lemmas.List.{append-nil}
 use Rattle.cp_tree.specs.declared.statement.Direction.{Direction}
 use Rattle.cp_tree.specs.Syntax as syntax
-use Rattle.cp_layout.specs.declared.names.Predeclared.{Predeclared}
+use Rattle.cp_layout.specs.declared.names.PredeclaredRoutine.{PredeclaredRoutine}
 use Rattle.cp_slots.specs.Code as code
 use Rattle.cp_slots.specs.Code.{ComponentPlace, Action, Arm, Item}
 use Rattle.cp_layout.specs.Layers.{Layer, Pending, with_item, settled_all, settled, without_pending, added, need_of}
@@ -76,7 +76,7 @@ for_kept l at x e d f body =
 
 -- ---- calls and starts
 
-standard_kept : (l : Layer) (at : ℕ) (r : Predeclared) (es : syntax.Expressions) → Kept l (standard l at r es)
+standard_kept : (l : Layer) (at : ℕ) (r : PredeclaredRoutine) (es : syntax.Expressions) → Kept l (standard l at r es)
 unfolding standard
 standard_kept l at r es = kept_trans l (first_value l es).1 (standard l at r es) (first_kept l es) refl
 

@@ -4,8 +4,8 @@ use Rattle.std.specs.Str.{bytes_eq}
 use Rattle.cp_layout.specs.declared.kinds.CellType.{CellType}
 use Rattle.cp_layout.specs.declared.kinds.CellType.TheVariants as types
 use Rattle.cp_layout.specs.declared.kinds.ArrayType.{ArrayType}
-use Rattle.cp_layout.specs.declared.names.Meaning.{Meaning}
-use Rattle.cp_layout.specs.declared.names.Meaning.TheVariants as meaning
+use Rattle.cp_layout.specs.declared.names.LayoutMeaning.{LayoutMeaning}
+use Rattle.cp_layout.specs.declared.names.LayoutMeaning.TheVariants as meaning
 use Rattle.cp_slots.specs.Code.{ComponentPlace, Expression, Place}
 use Rattle.cp_layout.specs.Kinds.{Compound, array, record_with, Compounds, array_of, as_array, field_of, Field}
 use Rattle.cp_layout.specs.Values.{Designated, a_value, a_variable, a_contained, a_component, a_routine, an_entry, a_standard, no_designated}
@@ -22,7 +22,7 @@ IsType s (types.System k) = k < s
 IsType s t = Unit {0}
 
 -- a routine may be named within itself
-abbrev pub IsMeaning : (systems routines : ℕ) → Meaning → Type 0
+abbrev pub IsMeaning : (systems routines : ℕ) → LayoutMeaning → Type 0
 IsMeaning s r (meaning.Kind t) = IsType s t
 IsMeaning s r (meaning.Contained n t) = IsType s t
 IsMeaning s r (meaning.Bound n k) = k < s
@@ -67,7 +67,7 @@ type_more s t (types.Set r) le h = tt
 type_more s t (types.Array n) le h = tt
 type_more s t (types.Record n) le h = tt
 
-meaning_more : (s t r q : ℕ) (m : Meaning) → s ≤ t → r ≤ q → IsMeaning s r m → IsMeaning t q m
+meaning_more : (s t r q : ℕ) (m : LayoutMeaning) → s ≤ t → r ≤ q → IsMeaning s r m → IsMeaning t q m
 meaning_more s t r q (meaning.Kind v) le lr h = type_more s t v le h
 meaning_more s t r q (meaning.Contained n v) le lr h = type_more s t v le h
 meaning_more s t r q (meaning.Bound n k) le lr h = omega arith
@@ -97,7 +97,7 @@ names_dropped s r ℕ.zero ds h = h
 names_dropped s r (suc n) [] h = tt
 names_dropped s r (suc n) (d ∷ ds) h = names_dropped s r n ds h.1
 
-open_more : (s r : ℕ) (d : List ℕ × Meaning) (ds : Names) → IsMeaning s r d.1 → AreNames s r ds → AreNames s r (with_open d ds)
+open_more : (s r : ℕ) (d : List ℕ × LayoutMeaning) (ds : Names) → IsMeaning s r d.1 → AreNames s r ds → AreNames s r (with_open d ds)
 open_more s r d ds h g = go (is_open d.1)
   where
     go : (b : Bool) → AreNames s r (if b then d ∷ ds else ds)
@@ -110,7 +110,7 @@ names_inside s r (d ∷ ds) h = open_more s r d (seen_inside ds) h.0 (names_insi
 
 -- ---- designators
 
-abbrev pub IsFound : (systems routines : ℕ) → Option Meaning → Type 0
+abbrev pub IsFound : (systems routines : ℕ) → Option LayoutMeaning → Type 0
 IsFound s r None = Unit {0}
 IsFound s r (Some m) = IsMeaning s r m
 
@@ -130,7 +130,7 @@ begun_contained s r n (types.Set q) h = tt
 begun_contained s r n (types.Array k) h = tt
 begun_contained s r n (types.Record k) h = tt
 
-begun_named : (s r : ℕ) (o : Option Meaning) → IsFound s r o → IsDesignated s r (begun_as o)
+begun_named : (s r : ℕ) (o : Option LayoutMeaning) → IsFound s r o → IsDesignated s r (begun_as o)
 begun_named s r None h = tt
 begun_named s r (Some (meaning.Contained n t)) h = begun_contained s r n t h
 begun_named s r (Some (meaning.Constant b z)) h = tt

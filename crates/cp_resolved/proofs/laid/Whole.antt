@@ -5,7 +5,7 @@ use Rattle.cp_tree.specs.declared.declaration.SystemKind.{SystemKind}
 use Rattle.cp_tree.specs.Syntax as syntax
 use Rattle.cp_tree.specs.Syntax.{Body, Routine, Definition, SystemDefinition, ProgramPart, Program}
 use Rattle.cp_layout.specs.declared.kinds.CellType.{CellType}
-use Rattle.cp_layout.specs.declared.names.Meaning.TheVariants as meaning
+use Rattle.cp_layout.specs.declared.names.LayoutMeaning.TheVariants as meaning
 use Rattle.cp_slots.specs.Code as code
 use Rattle.cp_slots.specs.Code.{Action, Item}
 use Rattle.cp_layout.specs.Kinds.{Compounds, most, plus}

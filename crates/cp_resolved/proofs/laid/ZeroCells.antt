@@ -3,7 +3,7 @@ use Rattle.std.proofs.Common.{◌≡◌, ℕ, ◌+◌, ℤ, pos, Bool, true, fal
 use Rattle.cp_tree.specs.declared.statement.Direction.{Direction}
 use Rattle.cp_tree.specs.Syntax as syntax
 use Rattle.cp_layout.specs.declared.layer.FunctionResult.{FunctionResult}
-use Rattle.cp_layout.specs.declared.names.Predeclared.{Predeclared}
+use Rattle.cp_layout.specs.declared.names.PredeclaredRoutine.{PredeclaredRoutine}
 use Rattle.cp_slots.specs.Code as code
 use Rattle.cp_slots.specs.Code.{SetExpression, ComponentPlace, Argument, Arm}
 use Rattle.cp_slots.specs.Tables.{RoutineView}
@@ -171,7 +171,7 @@ for_zeroed l at x e d f body =
 
 -- ---- calls and starts
 
-standard_zeroed : (l : Layer) (at : ℕ) (r : Predeclared) (es : syntax.Expressions) → Zeros l (standard l at r es)
+standard_zeroed : (l : Layer) (at : ℕ) (r : PredeclaredRoutine) (es : syntax.Expressions) → Zeros l (standard l at r es)
 unfolding standard
 standard_zeroed l at r es = zeros_trans l (first_value l es).1 (standard l at r es) (first_zeroed l es) nothing_zeroed
 

@@ -6,8 +6,8 @@ use Rattle.cp_tree.specs.declared.constant.Identifier.{Identifier}
 use Rattle.cp_tree.specs.Syntax as syntax
 use Rattle.cp_layout.specs.declared.kinds.CellType.{CellType}
 use Rattle.cp_layout.specs.declared.kinds.CellType.TheVariants as types
-use Rattle.cp_layout.specs.declared.names.Meaning.{Meaning}
-use Rattle.cp_layout.specs.declared.names.Meaning.TheVariants as meaning
+use Rattle.cp_layout.specs.declared.names.LayoutMeaning.{LayoutMeaning}
+use Rattle.cp_layout.specs.declared.names.LayoutMeaning.TheVariants as meaning
 use Rattle.cp_layout.specs.Layers as layers
 use Rattle.cp_layout.specs.Layers.{Names, Layer, Heading, System, is_open, seen_inside, outermost, nothing_laid}
 use Rattle.cp_layout.specs.LaidTypes.{named_type}
@@ -60,7 +60,7 @@ abbrev pub IsRoutine : Option Name → Type 0
 IsRoutine None = ⊥
 IsRoutine (Some x) = Unit {0}
 
-abbrev IsNoRoutine : Meaning → Type 0
+abbrev IsNoRoutine : LayoutMeaning → Type 0
 IsNoRoutine (meaning.Routine n) = ⊥
 IsNoRoutine m = Unit {0}
 
@@ -72,7 +72,7 @@ module _ (k : Numbering) (p : syntax.Program) (os : List Opening) (all : List La
     pub owner : opening.owner ≡ w
     pub routine : IsRoutine opening.name
 
-  abbrev pub IsOwned : ℕ → Meaning → Type 0
+  abbrev pub IsOwned : ℕ → LayoutMeaning → Type 0
   IsOwned w (meaning.Routine i) = OwnedBy w i
   IsOwned w m = Unit {0}
 
@@ -109,11 +109,11 @@ module _ (k : Numbering) (p : syntax.Program) (os : List Opening) (all : List La
 
   -- ---- names
 
-  plain_owned : (w : ℕ) (m : Meaning) → IsNoRoutine m → IsOwned w m
+  plain_owned : (w : ℕ) (m : LayoutMeaning) → IsNoRoutine m → IsOwned w m
   plain_owned w (meaning.Routine i) h = absurd h
   plain_owned w m h = tt
 
-  owned_added : (w : ℕ) (x : List ℕ) (m : Meaning) (ns : Names) → IsNoRoutine m → AreOwned w ns → AreOwned w ((x, m) ∷ ns)
+  owned_added : (w : ℕ) (x : List ℕ) (m : LayoutMeaning) (ns : Names) → IsNoRoutine m → AreOwned w ns → AreOwned w ((x, m) ∷ ns)
   owned_added w x m ns h g = (plain_owned w m h, g)
 
   begun_owned : (w : ℕ) (l : Layer) (r : syntax.Routine) → AreOwned w (opened l r.name.name).1.names → AreOwned w (routine_begun l r).names
@@ -123,7 +123,7 @@ module _ (k : Numbering) (p : syntax.Program) (os : List Opening) (all : List La
       kept.local_parts_keep (AreOwned w) IsNoRoutine (owned_added w) (λ b z. tt) (λ v. tt) (λ o v i. tt) (with_heading y.1 y.0) r.parts
       (kept.heading_keep (AreOwned w) IsNoRoutine (owned_added w) (λ b z. tt) (λ v. tt) (λ o v i. tt) x r.name.name r.kind h)
 
-  open_owned : (w : ℕ) (m : Meaning) → is_open m ≡ true → IsOwned w m
+  open_owned : (w : ℕ) (m : LayoutMeaning) → is_open m ≡ true → IsOwned w m
   open_owned w (meaning.Routine i) h = absurd (let bad : false ≡ true = h in cc)
   open_owned w m h = tt
 

@@ -9,8 +9,8 @@ use Rattle.cp_layout.specs.declared.kinds.CellType.{CellType}
 use Rattle.cp_layout.specs.declared.layer.Passing.{Passing}
 use Rattle.cp_layout.specs.declared.layer.Passing.TheVariants as passing
 use Rattle.cp_layout.specs.declared.layer.ParameterLayout as code_parameter
-use Rattle.cp_layout.specs.declared.names.Meaning.{Meaning}
-use Rattle.cp_layout.specs.declared.names.Meaning.TheVariants as meaning
+use Rattle.cp_layout.specs.declared.names.LayoutMeaning.{LayoutMeaning}
+use Rattle.cp_layout.specs.declared.names.LayoutMeaning.TheVariants as meaning
 use Rattle.cp_layout.specs.Kinds.{Compounds}
 use Rattle.cp_layout.specs.Layers.{Names, Layer, find}
 use Rattle.cp_layout.specs.LaidTypes.{named_type}
@@ -130,11 +130,11 @@ module _ (k : Numbering) where
   found_last ts ns (r ∷ qs) [] q p h g = absurd h
   found_last ts ns (r ∷ qs) (s ∷ ps) q p h g = (h.0, found_last ts ns qs ps q p h.1 g)
 
-  others_past : (qs : List Parameter) (n : Name) (m : Meaning) (ns : Names) → Each (λ (q : Parameter). same_name q.name n ≡ false) qs → Each (λ (q : Parameter). find q.name ((n, m) ∷ ns) ≡ find q.name ns) qs
+  others_past : (qs : List Parameter) (n : Name) (m : LayoutMeaning) (ns : Names) → Each (λ (q : Parameter). same_name q.name n ≡ false) qs → Each (λ (q : Parameter). find q.name ((n, m) ∷ ns) ≡ find q.name ns) qs
   others_past [] n m ns h = tt
   others_past (q ∷ qs) n m ns h = (find_past q.name n m ns h.0, others_past qs n m ns h.1)
 
-  pub find_itself : (n : Name) (m : Meaning) (ns : Names) → find n ((n, m) ∷ ns) ≡ Some m
+  pub find_itself : (n : Name) (m : LayoutMeaning) (ns : Names) → find n ((n, m) ∷ ns) ≡ Some m
   find_itself n m ns = ap (λ (b : Bool). if b then Some m else find n ns) (itself n)
 
   -- one parameter more

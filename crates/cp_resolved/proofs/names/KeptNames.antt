@@ -7,8 +7,8 @@ use Rattle.cp_slots.specs.declared.place.PlaceOrigin.TheVariants as origin
 use Rattle.cp_layout.specs.declared.kinds.CellBase.{CellBase}
 use Rattle.cp_layout.specs.declared.kinds.CellType.{CellType}
 use Rattle.cp_layout.specs.declared.layer.Contained.{Contained}
-use Rattle.cp_layout.specs.declared.names.Meaning.{Meaning}
-use Rattle.cp_layout.specs.declared.names.Meaning.TheVariants as meaning
+use Rattle.cp_layout.specs.declared.names.LayoutMeaning.{LayoutMeaning}
+use Rattle.cp_layout.specs.declared.names.LayoutMeaning.TheVariants as meaning
 use Rattle.cp_layout.specs.Kinds.{Fields, no_fields}
 use Rattle.cp_layout.specs.Layers.{Names, Layer}
 use Rattle.cp_layout.specs.LaidExpressions.{as_integer}
@@ -17,7 +17,7 @@ use Rattle.cp_layout.specs.LaidDeclarations.{constant, constants, type_definitio
 use Rattle.cp_resolved.specs.InStep.{IsInFrame}
 use Rattle.cp_resolved.proofs.laid.Extends.{system_names}
 
-module _ (Q : Names → Type 0) (A : Meaning → Type 0) (add : (x : List ℕ) (m : Meaning) (ns : Names) → A m → Q ns → Q ((x, m) ∷ ns)) (constant_may : (b : CellBase) (z : ℤ) → A (meaning.Constant b z)) (kind_may : (v : CellType) → A (meaning.Kind v)) where
+module _ (Q : Names → Type 0) (A : LayoutMeaning → Type 0) (add : (x : List ℕ) (m : LayoutMeaning) (ns : Names) → A m → Q ns → Q ((x, m) ∷ ns)) (constant_may : (b : CellBase) (z : ℤ) → A (meaning.Constant b z)) (kind_may : (v : CellType) → A (meaning.Kind v)) where
   -- ---- constants and types
 
   enumerated_keep : (l : Layer) (b : CellBase) (n : ℕ) (is : List Identifier) → Q l.names → Q (enumerated l b n is).names

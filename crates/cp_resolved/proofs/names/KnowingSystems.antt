@@ -3,8 +3,8 @@ use Rattle.std.proofs.Common.{◌≡◌, ◌+◌, ◌<◌, ℕ, suc, List, [], �
 use Rattle.std.specs.Prelude.{◌⊎◌}
 use Rattle.std.proofs.lemmas.Option.{none-some, same_Some, slice_get_within}
 use Rattle.cp_tree.specs.Syntax as syntax
-use Rattle.cp_layout.specs.declared.names.Meaning.TheVariants as meaning
-use Rattle.cp_layout.specs.declared.names.Meaning.{Meaning}
+use Rattle.cp_layout.specs.declared.names.LayoutMeaning.TheVariants as meaning
+use Rattle.cp_layout.specs.declared.names.LayoutMeaning.{LayoutMeaning}
 use Rattle.cp_layout.specs.Layers.{Layer, Heading, System, nothing_laid, with_name}
 use Rattle.cp_layout.specs.LaidExpressions.{entry_among, entry_in}
 use Rattle.cp_layout.specs.LaidTypes.{written_type}
@@ -181,7 +181,7 @@ module _ (k : Numbering) (p : syntax.Program) where
 
   -- ---- the declarations of the program
 
-  name_known : (l : Layer) (x : List ℕ) (m : Meaning) → IsMeaning (length l.systems) (length l.routines) m → Knowing k p l → Knowing k p (with_name l x m)
+  name_known : (l : Layer) (x : List ℕ) (m : LayoutMeaning) → IsMeaning (length l.systems) (length l.routines) m → Knowing k p l → Knowing k p (with_name l x m)
   name_known l x m i h = record { named = (declared_parts.name_declared l x m i h.named).named; headings = h.headings; entries = entries_more k p l (with_name l x m) refl ([], sym (append-nil l.headings)) h.entries }
 
   definition_longer : (d : Declared) (n : syntax.SystemDefinition) (v : syntax.Definition) → Longer d.systems (definition_in d n v).systems

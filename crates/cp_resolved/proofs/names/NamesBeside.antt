@@ -5,8 +5,8 @@ use Rattle.cp_tree.specs.Syntax as syntax
 use Rattle.cp_layout.specs.declared.kinds.CellBase.{CellBase}
 use Rattle.cp_layout.specs.declared.kinds.CellType.{CellType}
 use Rattle.cp_layout.specs.declared.layer.Contained.{Contained}
-use Rattle.cp_layout.specs.declared.names.Meaning.{Meaning}
-use Rattle.cp_layout.specs.declared.names.Meaning.TheVariants as meaning
+use Rattle.cp_layout.specs.declared.names.LayoutMeaning.{LayoutMeaning}
+use Rattle.cp_layout.specs.declared.names.LayoutMeaning.TheVariants as meaning
 use Rattle.cp_layout.specs.Kinds.{Fields, no_fields}
 use Rattle.cp_layout.specs.Layers.{Names, Layer, find}
 use Rattle.cp_layout.specs.LaidExpressions.{as_integer}
@@ -28,7 +28,7 @@ beside_none l x h = refl
 beside_then : (xs ys : List Name) (l k m : Layer) → Beside xs l k → Beside ys k m → Beside (xs ++ ys) l m
 beside_then xs ys l k m h g x o = g x (each_right (λ y. same_name x y ≡ false) xs ys o) ∙ h x (each_left (λ y. same_name x y ≡ false) xs ys o)
 
-pub find_past : (x n : Name) (m : Meaning) (ns : Names) → same_name x n ≡ false → find x ((n, m) ∷ ns) ≡ find x ns
+pub find_past : (x n : Name) (m : LayoutMeaning) (ns : Names) → same_name x n ≡ false → find x ((n, m) ∷ ns) ≡ find x ns
 find_past x n m ns h = ap (λ (b : Bool). if b then Some m else find x ns) (bytes_turned n x ∙ h)
 
 -- ---- constants and types

@@ -13,8 +13,8 @@ use Rattle.cp_slots.specs.declared.place.PlaceOrigin.TheVariants as origin
 use Rattle.cp_layout.specs.declared.kinds.CellType.{CellType}
 use Rattle.cp_layout.specs.declared.kinds.CellType.TheVariants as types
 use Rattle.cp_layout.specs.declared.layer.Contained.{Contained}
-use Rattle.cp_layout.specs.declared.names.Meaning.{Meaning}
-use Rattle.cp_layout.specs.declared.names.Meaning.TheVariants as meaning
+use Rattle.cp_layout.specs.declared.names.LayoutMeaning.{LayoutMeaning}
+use Rattle.cp_layout.specs.declared.names.LayoutMeaning.TheVariants as meaning
 use Rattle.cp_layout.specs.Layers.{Names, Layer, find, is_open, seen_inside, outermost, nothing_laid}
 use Rattle.cp_layout.specs.LaidTypes.{named_type, written_type}
 use Rattle.cp_layout.specs.LaidDeclarations.{components_of, variable, variable_with, variables_of, variable_group, variables, permanent_part, permanent_parts, Parameters, heading, with_heading, opened, routine, routines, entered, system_parameter, system_parameters_of, system_group, system_groups, program_parts}
@@ -31,7 +31,7 @@ use Rattle.cp_resolved.specs.Small.{Each}
 use Rattle.cp_resolved.proofs.laid.Extends.{routine_names}
 use Rattle.cp_resolved.proofs.names.KeptNames as kept
 
-pub found_cases : (d : List ℕ × Meaning) (ds : Names) (x : List ℕ) (m : Meaning) → find x (d ∷ ds) ≡ Some m → ((bytes_eq d.0 x ≡ true) × (d.1 ≡ m)) ⊎ (find x ds ≡ Some m)
+pub found_cases : (d : List ℕ × LayoutMeaning) (ds : Names) (x : List ℕ) (m : LayoutMeaning) → find x (d ∷ ds) ≡ Some m → ((bytes_eq d.0 x ≡ true) × (d.1 ≡ m)) ⊎ (find x ds ≡ Some m)
 found_cases d ds x m e = go (bytes_eq d.0 x) refl e
   where
     go : (b : Bool) → bytes_eq d.0 x ≡ b → (if b then Some d.1 else find x ds) ≡ Some m → ((bytes_eq d.0 x ≡ true) × (d.1 ≡ m)) ⊎ (find x ds ≡ Some m)
@@ -41,28 +41,28 @@ found_cases d ds x m e = go (bytes_eq d.0 x) refl e
 same_turned : (x y : List ℕ) → bytes_eq x y ≡ true → bytes_eq y x ≡ true
 same_turned x y h = (bytes_eq-Decides y x).1 (sym ((bytes_eq-Decides x y).0 h))
 
-pub no_name : (x : List ℕ) (m : Meaning) → find x [] ≡ Some m → ⊥
+pub no_name : (x : List ℕ) (m : LayoutMeaning) → find x [] ≡ Some m → ⊥
 no_name x m e = absurd (cc)
 
 -- ---- inside a routine
 
 -- a variable with permanent cells, a component that is contained, or one that is handed over
-abbrev pub IsPermanent : Meaning → Type 0
+abbrev pub IsPermanent : LayoutMeaning → Type 0
 IsPermanent (meaning.Variable (origin.Permanent n) v) = Unit {0}
 IsPermanent (meaning.Contained n v) = Unit {0}
 IsPermanent (meaning.Bound n k) = Unit {0}
 IsPermanent m = ⊥
 
 abbrev pub Under : Names → Names → Type 0
-Under outer inner = (x : List ℕ) (m : Meaning) → IsPermanent m → find x inner ≡ Some m → find x outer ≡ Some m
+Under outer inner = (x : List ℕ) (m : LayoutMeaning) → IsPermanent m → find x inner ≡ Some m → find x outer ≡ Some m
 
-abbrev pub IsOther : Meaning → Type 0
+abbrev pub IsOther : LayoutMeaning → Type 0
 IsOther m = IsPermanent m → ⊥
 
 pub under_same : (ns : Names) → Under ns ns
 under_same ns x m i e = e
 
-pub under_added : (outer : Names) (x : List ℕ) (m : Meaning) (ns : Names) → IsOther m → Under outer ns → Under outer ((x, m) ∷ ns)
+pub under_added : (outer : Names) (x : List ℕ) (m : LayoutMeaning) (ns : Names) → IsOther m → Under outer ns → Under outer ((x, m) ∷ ns)
 under_added outer x m ns o u y n i e = go (found_cases (x, m) ns y n e)
   where
     go : ((bytes_eq x y ≡ true) × (m ≡ n)) ⊎ (find y ns ≡ Some n) → find y outer ≡ Some n
@@ -96,7 +96,7 @@ under_routines outer l (r ∷ rs) u = under_routines outer (routine l r) rs (und
 
 -- ---- a routine's own name
 
-abbrev IsNoRoutine : Meaning → Type 0
+abbrev IsNoRoutine : LayoutMeaning → Type 0
 IsNoRoutine (meaning.Routine n) = ⊥
 IsNoRoutine m = Unit {0}
 
@@ -104,7 +104,7 @@ IsNoRoutine m = Unit {0}
 abbrev OnlyRoutine : ℕ → List ℕ → Names → Type 0
 OnlyRoutine n x ns = (i : ℕ) → find x ns ≡ Some (meaning.Routine i) → i ≡ n
 
-only_added : (n : ℕ) (x y : List ℕ) (m : Meaning) (ns : Names) → IsNoRoutine m → OnlyRoutine n x ns → OnlyRoutine n x ((y, m) ∷ ns)
+only_added : (n : ℕ) (x y : List ℕ) (m : LayoutMeaning) (ns : Names) → IsNoRoutine m → OnlyRoutine n x ns → OnlyRoutine n x ((y, m) ∷ ns)
 only_added n x y m ns o u i e = go (found_cases (y, m) ns x (meaning.Routine i) e)
   where
     go : ((bytes_eq y x ≡ true) × (m ≡ meaning.Routine i)) ⊎ (find x ns ≡ Some (meaning.Routine i)) → i ≡ n
@@ -127,7 +127,7 @@ own_number l r x same =
 
 -- ---- what a system type sees of the names around it
 
-pub open_found : (x : List ℕ) (m : Meaning) (ns : Names) → find x (seen_inside ns) ≡ Some m → is_open m ≡ true
+pub open_found : (x : List ℕ) (m : LayoutMeaning) (ns : Names) → find x (seen_inside ns) ≡ Some m → is_open m ≡ true
 open_found x m [] e = absurd (no_name x m e)
 open_found x m (d ∷ ds) e = go (is_open d.1) refl (open_found x m ds) e
   where
@@ -144,11 +144,11 @@ open_found x m (d ∷ ds) e = go (is_open d.1) refl (open_found x m ds) e
 abbrev pub BoundIn : List Parameter → Names → Type 0
 BoundIn qs ns = (x : List ℕ) (n k : ℕ) → find x ns ≡ Some (meaning.Bound n k) → is_parameter x qs ≡ true
 
-abbrev IsUnbound : Meaning → Type 0
+abbrev IsUnbound : LayoutMeaning → Type 0
 IsUnbound (meaning.Bound n k) = ⊥
 IsUnbound m = Unit {0}
 
-bound_added : (qs : List Parameter) (x : List ℕ) (m : Meaning) (ns : Names) → IsUnbound m → BoundIn qs ns → BoundIn qs ((x, m) ∷ ns)
+bound_added : (qs : List Parameter) (x : List ℕ) (m : LayoutMeaning) (ns : Names) → IsUnbound m → BoundIn qs ns → BoundIn qs ((x, m) ∷ ns)
 bound_added qs x m ns o u y n k e = go (found_cases (x, m) ns y (meaning.Bound n k) e)
   where
     go : ((bytes_eq x y ≡ true) × (m ≡ meaning.Bound n k)) ⊎ (find y ns ≡ Some (meaning.Bound n k)) → is_parameter y qs ≡ true
@@ -185,7 +185,7 @@ parameter_last x [] q rs h = left_true (same_name x q.name) (is_parameter x rs) 
 parameter_last x (p ∷ qs) q rs h = either_true (same_name x p.name) (is_parameter x (qs ++ q ∷ rs)) (parameter_last x qs q rs h)
 
 -- one more name that is a parameter
-bound_parameter : (qs : List Parameter) (q : Parameter) (m : Meaning) (ns : Names) → BoundIn qs ns → BoundIn (qs ++ q ∷ []) ((q.name, m) ∷ ns)
+bound_parameter : (qs : List Parameter) (q : Parameter) (m : LayoutMeaning) (ns : Names) → BoundIn qs ns → BoundIn (qs ++ q ∷ []) ((q.name, m) ∷ ns)
 bound_parameter qs q m ns u y n k e = go (found_cases (q.name, m) ns y (meaning.Bound n k) e)
   where
     go : ((bytes_eq q.name y ≡ true) × (m ≡ meaning.Bound n k)) ⊎ (find y ns ≡ Some (meaning.Bound n k)) → is_parameter y (qs ++ q ∷ []) ≡ true
@@ -232,11 +232,11 @@ is_variable x (v ∷ vs) = same_name x v.name || is_variable x vs
 abbrev pub ContainedIn : List Variable → Names → Type 0
 ContainedIn vs ns = (x : List ℕ) (n : ℕ) (v : CellType) → find x ns ≡ Some (meaning.Contained n v) → is_variable x vs ≡ true
 
-abbrev IsAlone : Meaning → Type 0
+abbrev IsAlone : LayoutMeaning → Type 0
 IsAlone (meaning.Contained n v) = ⊥
 IsAlone m = Unit {0}
 
-contained_added : (vs : List Variable) (x : List ℕ) (m : Meaning) (ns : Names) → IsAlone m → ContainedIn vs ns → ContainedIn vs ((x, m) ∷ ns)
+contained_added : (vs : List Variable) (x : List ℕ) (m : LayoutMeaning) (ns : Names) → IsAlone m → ContainedIn vs ns → ContainedIn vs ((x, m) ∷ ns)
 contained_added vs x m ns o u y n v e = go (found_cases (x, m) ns y (meaning.Contained n v) e)
   where
     go : ((bytes_eq x y ≡ true) × (m ≡ meaning.Contained n v)) ⊎ (find y ns ≡ Some (meaning.Contained n v)) → is_variable y vs ≡ true
@@ -255,7 +255,7 @@ variable_last : (x : Name) (vs : List Variable) (v : Variable) → same_name x v
 variable_last x [] v h = left_true (same_name x v.name) false h
 variable_last x (u ∷ vs) v h = either_true (same_name x u.name) (is_variable x (vs ++ v ∷ [])) (variable_last x vs v h)
 
-contained_variable : (vs : List Variable) (w : Variable) (m : Meaning) (ns : Names) → ContainedIn vs ns → ContainedIn (vs ++ w ∷ []) ((w.name, m) ∷ ns)
+contained_variable : (vs : List Variable) (w : Variable) (m : LayoutMeaning) (ns : Names) → ContainedIn vs ns → ContainedIn (vs ++ w ∷ []) ((w.name, m) ∷ ns)
 contained_variable vs w m ns u y n v e = go (found_cases (w.name, m) ns y (meaning.Contained n v) e)
   where
     go : ((bytes_eq w.name y ≡ true) × (m ≡ meaning.Contained n v)) ⊎ (find y ns ≡ Some (meaning.Contained n v)) → is_variable y (vs ++ w ∷ []) ≡ true

@@ -4,8 +4,8 @@ use Rattle.std.proofs.Math.Dec.{T, eqb_refl}
 use Rattle.cp_tree.specs.Syntax as syntax
 use Rattle.cp_slots.specs.declared.place.PlaceOrigin.TheVariants as origin
 use Rattle.cp_layout.specs.declared.layer.FunctionResult.{FunctionResult}
-use Rattle.cp_layout.specs.declared.names.Meaning.{Meaning}
-use Rattle.cp_layout.specs.declared.names.Meaning.TheVariants as meaning
+use Rattle.cp_layout.specs.declared.names.LayoutMeaning.{LayoutMeaning}
+use Rattle.cp_layout.specs.declared.names.LayoutMeaning.TheVariants as meaning
 use Rattle.cp_layout.specs.Kinds.{Compounds}
 use Rattle.cp_layout.specs.Layers as layers
 use Rattle.cp_layout.specs.Layers.{Layer, result_of, result_slot, own_result}
@@ -37,7 +37,7 @@ held k ts None f v i = absurd i
 held k ts (Some t) None v i = absurd v
 held k ts (Some t) (Some w) v i = record { result = w; is = refl; belongs = v }
 
-not_found : (k : Numbering) (ts : Compounds) (q : Option Meaning) (s : Scope) → FoundIs k ts q None s → q ≡ None
+not_found : (k : Numbering) (ts : Compounds) (q : Option LayoutMeaning) (s : Scope) → FoundIs k ts q None s → q ≡ None
 not_found k ts None s f = refl
 not_found k ts (Some m) s f = absurd f
 
@@ -79,7 +79,7 @@ module _ (t : syntax.Tree) (place : IsPlaced t) (n : ℕ) (l : Layer) (e : slice
       let o : Opening = (opens_of t place n l e).opening in
       with_own_name x o.name o.meaning.result (sym (ap (λ q. is_named x (name_in q)) (opens_of t place n l e).there) ∙ own)
 
-  result_for : (x : Name) (r : syntax.Routine) (q : Option Meaning) (s : Scope) → is_own h x ≡ true → layers.find x l.names ≡ q → FoundIs k l.types q (Some (scopes.routine_meaning r)) s → HasResult (meaning_at t.program n).result → OwnResult k h l x
+  result_for : (x : Name) (r : syntax.Routine) (q : Option LayoutMeaning) (s : Scope) → is_own h x ≡ true → layers.find x l.names ≡ q → FoundIs k l.types q (Some (scopes.routine_meaning r)) s → HasResult (meaning_at t.program n).result → OwnResult k h l x
   result_for x r None s own f i has = absurd i
   result_for x r (Some m) s own f i has =
       let number : ℕ = i.0 in

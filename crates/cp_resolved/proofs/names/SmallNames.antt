@@ -2,8 +2,8 @@
 use Rattle.std.proofs.Common.{ℕ, ◌≤◌, Bool, true, false, if◌then◌else◌, List, [], ◌∷◌, ◌++◌, length, Some, sym, ap, subst, ◌⊎◌, inl, inr, arith, le_trans}
 use Rattle.std.specs.Str.{bytes_eq}
 use Rattle.cp_layout.specs.declared.kinds.CellType.{CellType}
-use Rattle.cp_layout.specs.declared.names.Meaning.{Meaning}
-use Rattle.cp_layout.specs.declared.names.Meaning.TheVariants as meaning
+use Rattle.cp_layout.specs.declared.names.LayoutMeaning.{LayoutMeaning}
+use Rattle.cp_layout.specs.declared.names.LayoutMeaning.TheVariants as meaning
 use Rattle.cp_layout.specs.Kinds.{Compounds, least}
 use Rattle.cp_layout.specs.Layers.{Names, Layer, find_type}
 use Rattle.cp_layout.specs.LaidTypes.{named_type, type_meant}
@@ -21,7 +21,7 @@ use Rattle.cp_resolved.proofs.frames.LeastLengths.{least_cells, least_more}
 abbrev pub IsSmallIn : Compounds → CellType → Type 0
 IsSmallIn ts v = length (least ts v) ≤ 8192
 
-abbrev pub IsSmallMeaning : Compounds → Meaning → Type 0
+abbrev pub IsSmallMeaning : Compounds → LayoutMeaning → Type 0
 IsSmallMeaning ts (meaning.Kind v) = IsSmallIn ts v
 IsSmallMeaning ts (meaning.Variable o v) = IsSmallIn ts v
 IsSmallMeaning ts m = Unit {0}
@@ -36,12 +36,12 @@ module _ (k : Numbering) (ts : Compounds) where
   small_type : (t : Ty) (v : CellType) → TypeIs k ts t v → IsLimited t → IsSmallIn ts v
   small_type t v h le = le_trans (least_cells k ts t v h) le
 
-  permanent_small : (m : Meaning) (t : Ty) → CellsAre k ts t m ⊎ (PartsAre k ts t m ⊎ BoundIs t m) → IsLimited t → IsSmallMeaning ts m
+  permanent_small : (m : LayoutMeaning) (t : Ty) → CellsAre k ts t m ⊎ (PartsAre k ts t m ⊎ BoundIs t m) → IsLimited t → IsSmallMeaning ts m
   permanent_small m t (inl c) le = subst (IsSmallMeaning ts) (sym c.is) (small_type t c.value_type c.belongs le)
   permanent_small m t (inr (inl p)) le = subst (IsSmallMeaning ts) (sym p.is) tt
   permanent_small m t (inr (inr b)) le = subst (IsSmallMeaning ts) (sym b.is) tt
 
-  meaning_small : (m : Meaning) (n : scopes.Meaning) (s : Scope) → MeaningIs k ts m n s → IsLimitedMeaning n → IsSmallMeaning ts m
+  meaning_small : (m : LayoutMeaning) (n : scopes.Meaning) (s : Scope) → MeaningIs k ts m n s → IsLimitedMeaning n → IsSmallMeaning ts m
   meaning_small m (scopes.constant_meaning b z) s h le = subst (IsSmallMeaning ts) (sym h.0) tt
   meaning_small m (scopes.type_meaning t) s h le = subst (IsSmallMeaning ts) (sym h.1) (small_type t h.0 h.2 le)
   meaning_small m (scopes.local_variable t) s h le = subst (IsSmallMeaning ts) (sym h.is) (small_type t h.value_type h.belongs le)
@@ -57,7 +57,7 @@ module _ (k : Numbering) (ts : Compounds) where
 
 -- ---- fewer names
 
-meaning_earlier : (ts more : Compounds) (m : Meaning) → IsSmallMeaning (ts ++ more) m → IsSmallMeaning ts m
+meaning_earlier : (ts more : Compounds) (m : LayoutMeaning) → IsSmallMeaning (ts ++ more) m → IsSmallMeaning ts m
 meaning_earlier ts more (meaning.Kind v) h = le_trans (least_more ts more v) h
 meaning_earlier ts more (meaning.Variable o v) h = le_trans (least_more ts more v) h
 meaning_earlier ts more (meaning.Constant b z) h = tt
@@ -68,8 +68,8 @@ meaning_earlier ts more (meaning.Predeclared q) h = tt
 
 pub names_earlier : (ts more : Compounds) (before ns : Names) → AreSmallNames (ts ++ more) (before ++ ns) → AreSmallNames ts ns
 names_earlier ts more before ns h =
-    each_weaker (λ (d : List ℕ × Meaning). IsSmallMeaning (ts ++ more) d.1) (λ (d : List ℕ × Meaning). IsSmallMeaning ts d.1) (λ d e. meaning_earlier ts more d.1 e) ns
-    (each_right (λ (d : List ℕ × Meaning). IsSmallMeaning (ts ++ more) d.1) before ns h)
+    each_weaker (λ (d : List ℕ × LayoutMeaning). IsSmallMeaning (ts ++ more) d.1) (λ (d : List ℕ × LayoutMeaning). IsSmallMeaning ts d.1) (λ d e. meaning_earlier ts more d.1 e) ns
+    (each_right (λ (d : List ℕ × LayoutMeaning). IsSmallMeaning (ts ++ more) d.1) before ns h)
 
 pub earlier : (l m : Layer) → Declares l m → SmallNames m → SmallNames l
 earlier l m d h =

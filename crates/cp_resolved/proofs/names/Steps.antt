@@ -8,7 +8,7 @@ use Rattle.std.proofs.lemmas.Slice.Eq.{bytes_eq-Decides}
 use Rattle.std.proofs.lemmas.Option.{slice_get_within, slice_get-get_or, get_or_from_slice_get}
 use Rattle.std.proofs.lemmas.List.{get_or_append_left}
 use Rattle.cp_layout.specs.declared.kinds.CellType.{CellType}
-use Rattle.cp_layout.specs.declared.names.Meaning.{Meaning}
+use Rattle.cp_layout.specs.declared.names.LayoutMeaning.{LayoutMeaning}
 use Rattle.cp_layout.specs.Kinds.{Compounds, Field, array, compound_cells, cells_of, plus, times, count_of}
 use Rattle.cp_layout.specs.Layers as layers
 use Rattle.cp_layout.specs.Layers.{is_open, with_open}
@@ -32,7 +32,7 @@ slice_more xs ys n x h =
 -- ---- what is found
 
 module _ (k : Numbering) (ts : Compounds) where
-  either_found : (b : Bool) (m : Meaning) (n : scopes.Meaning) (s t : Scope) (o : Option Meaning) (p : Option scopes.Meaning) → MeaningIs k ts m n s → FoundIs k ts o p t → FoundIs k ts (if b then Some m else o) (if b then Some n else p) (if b then s else t)
+  either_found : (b : Bool) (m : LayoutMeaning) (n : scopes.Meaning) (s t : Scope) (o : Option LayoutMeaning) (p : Option scopes.Meaning) → MeaningIs k ts m n s → FoundIs k ts o p t → FoundIs k ts (if b then Some m else o) (if b then Some n else p) (if b then s else t)
   either_found true m n s t o p h i = h
   either_found false m n s t o p h i = i
 
@@ -46,12 +46,12 @@ module _ (k : Numbering) (ts : Compounds) where
 
   -- ---- what a system type sees
 
-  same_permanent : (m : Meaning) (t : Ty) → CellsAre k ts t m ⊎ (PartsAre k ts t m ⊎ BoundIs t m) → is_open m ≡ false
+  same_permanent : (m : LayoutMeaning) (t : Ty) → CellsAre k ts t m ⊎ (PartsAre k ts t m ⊎ BoundIs t m) → is_open m ≡ false
   same_permanent m t (inl h) = ap is_open h.is
   same_permanent m t (inr (inl h)) = ap is_open h.is
   same_permanent m t (inr (inr h)) = ap is_open h.is
 
-  same_open : (m : Meaning) (n : scopes.Meaning) (s : Scope) → MeaningIs k ts m n s → IsOuter n → is_open m ≡ is_seen n
+  same_open : (m : LayoutMeaning) (n : scopes.Meaning) (s : Scope) → MeaningIs k ts m n s → IsOuter n → is_open m ≡ is_seen n
   same_open m (scopes.constant_meaning b z) s h o = ap is_open h.0
   same_open m (scopes.type_meaning t) s h o = ap is_open h.1
   same_open m (scopes.local_variable t) s h o = absurd o
@@ -59,7 +59,7 @@ module _ (k : Numbering) (ts : Compounds) where
   same_open m (scopes.routine_meaning r) s h o = absurd o
   same_open m (scopes.standard_meaning q) s h o = ap is_open h
 
-  moved : (m : Meaning) (n : scopes.Meaning) (s t : Scope) → IsOuter n → MeaningIs k ts m n s → MeaningIs k ts m n t
+  moved : (m : LayoutMeaning) (n : scopes.Meaning) (s t : Scope) → IsOuter n → MeaningIs k ts m n s → MeaningIs k ts m n t
   moved m (scopes.constant_meaning b z) s t o h = h
   moved m (scopes.type_meaning u) s t o h = h
   moved m (scopes.local_variable u) s t o h = absurd o
@@ -67,7 +67,7 @@ module _ (k : Numbering) (ts : Compounds) where
   moved m (scopes.routine_meaning r) s t o h = absurd o
   moved m (scopes.standard_meaning q) s t o h = h
 
-  either_inside : (b : Bool) (d : List ℕ × Meaning) (e : List ℕ × scopes.Meaning) (ds : layers.Names) (es : Scope) → d.0 ≡ e.0 → MeaningIs k ts d.1 e.1 (e ∷ es) → InStep k ts ds es → InStep k ts (if b then d ∷ ds else ds) (if b then e ∷ es else es)
+  either_inside : (b : Bool) (d : List ℕ × LayoutMeaning) (e : List ℕ × scopes.Meaning) (ds : layers.Names) (es : Scope) → d.0 ≡ e.0 → MeaningIs k ts d.1 e.1 (e ∷ es) → InStep k ts ds es → InStep k ts (if b then d ∷ ds else ds) (if b then e ∷ es else es)
   either_inside true d e ds es h i j = (h, i, j)
   either_inside false d e ds es h i j = j
 
@@ -137,12 +137,12 @@ module _ (k : Numbering) (ts more : Compounds) where
           others = rw (cells_grown t h.value_type h.belongs) (fields_grown us h.rest (plus n (cells_of ts h.value_type)) end h.others);
         }
 
-  permanent_grown : (m : Meaning) (t : Ty) → CellsAre k ts t m ⊎ (PartsAre k ts t m ⊎ BoundIs t m) → CellsAre k (ts ++ more) t m ⊎ (PartsAre k (ts ++ more) t m ⊎ BoundIs t m)
+  permanent_grown : (m : LayoutMeaning) (t : Ty) → CellsAre k ts t m ⊎ (PartsAre k ts t m ⊎ BoundIs t m) → CellsAre k (ts ++ more) t m ⊎ (PartsAre k (ts ++ more) t m ⊎ BoundIs t m)
   permanent_grown m t (inl h) = inl (record { slot = h.slot; value_type = h.value_type; is = h.is; belongs = type_grown t h.value_type h.belongs; without = h.without })
   permanent_grown m t (inr (inl h)) = inr (inl (record { first = h.first; value_type = h.value_type; is = h.is; belongs = type_grown t h.value_type h.belongs; has = h.has }))
   permanent_grown m t (inr (inr h)) = inr (inr h)
 
-  pub meaning_grown : (m : Meaning) (n : scopes.Meaning) (s : Scope) → MeaningIs k ts m n s → MeaningIs k (ts ++ more) m n s
+  pub meaning_grown : (m : LayoutMeaning) (n : scopes.Meaning) (s : Scope) → MeaningIs k ts m n s → MeaningIs k (ts ++ more) m n s
   meaning_grown m (scopes.constant_meaning b z) s h = h
   meaning_grown m (scopes.type_meaning t) s h = (h.0, h.1, type_grown t h.0 h.2)
   meaning_grown m (scopes.local_variable t) s h = record { origin = h.origin; value_type = h.value_type; is = h.is; in_frame = h.in_frame; belongs = type_grown t h.value_type h.belongs }

@@ -20,8 +20,8 @@ use Rattle.cp_layout.specs.declared.kinds.CellBase.TheVariants as base
 use Rattle.cp_layout.specs.declared.kinds.CellRange.{CellRange}
 use Rattle.cp_layout.specs.declared.kinds.CellType.{CellType}
 use Rattle.cp_layout.specs.declared.kinds.CellType.TheVariants as types
-use Rattle.cp_layout.specs.declared.names.Meaning.{Meaning}
-use Rattle.cp_layout.specs.declared.names.Meaning.TheVariants as meaning
+use Rattle.cp_layout.specs.declared.names.LayoutMeaning.{LayoutMeaning}
+use Rattle.cp_layout.specs.declared.names.LayoutMeaning.TheVariants as meaning
 use Rattle.cp_layout.specs.Kinds as kinds
 use Rattle.cp_layout.specs.Kinds.{Compounds, Compound, Field, Fields, array, record_with, cells_of, array_type, plus, times, count_of}
 use Rattle.cp_layout.specs.Layers as layers
@@ -81,15 +81,15 @@ module _ (k : Numbering) where
   no_constant : (o : Option Sign) → ConstantIs (base.Integer, pos 0) (named.integers, meant.signed o (pos 0))
   no_constant o = rw (zero_signed o) (refl, omega arith)
 
-  no_permanent : (ts : Compounds) (o : Option Sign) (m : Meaning) (t : Ty) → CellsAre k ts t m ⊎ (PartsAre k ts t m ⊎ BoundIs t m) → laid.constant_meant o (Some m) ≡ (base.Integer, pos 0)
+  no_permanent : (ts : Compounds) (o : Option Sign) (m : LayoutMeaning) (t : Ty) → CellsAre k ts t m ⊎ (PartsAre k ts t m ⊎ BoundIs t m) → laid.constant_meant o (Some m) ≡ (base.Integer, pos 0)
   no_permanent ts o m t (inl h) = ap (λ n. laid.constant_meant o (Some n)) h.is
   no_permanent ts o m t (inr (inl h)) = ap (λ n. laid.constant_meant o (Some n)) h.is
   no_permanent ts o m t (inr (inr h)) = ap (λ n. laid.constant_meant o (Some n)) h.is
 
-  other_constant : (o : Option Sign) (m : Meaning) → laid.constant_meant o (Some m) ≡ (base.Integer, pos 0) → ConstantIs (laid.constant_meant o (Some m)) (named.integers, meant.signed o (pos 0))
+  other_constant : (o : Option Sign) (m : LayoutMeaning) → laid.constant_meant o (Some m) ≡ (base.Integer, pos 0) → ConstantIs (laid.constant_meant o (Some m)) (named.integers, meant.signed o (pos 0))
   other_constant o m h = subst (λ c. ConstantIs c (named.integers, meant.signed o (pos 0))) (sym h) (no_constant o)
 
-  name_same : (ts : Compounds) (o : Option Sign) (p : Option Meaning) (q : Option scopes.Meaning) (s : Scope) → FoundIs k ts p q s → ConstantIs (laid.constant_meant o p) ((meant.constant_meant q).0, meant.signed o (meant.constant_meant q).1)
+  name_same : (ts : Compounds) (o : Option Sign) (p : Option LayoutMeaning) (q : Option scopes.Meaning) (s : Scope) → FoundIs k ts p q s → ConstantIs (laid.constant_meant o p) ((meant.constant_meant q).0, meant.signed o (meant.constant_meant q).1)
   name_same ts o None None s h = no_constant o
   name_same ts o None (Some n) s h = absurd h
   name_same ts o (Some m) None s h = absurd h
@@ -121,10 +121,10 @@ module _ (k : Numbering) where
   either_type false ts t u v o h i = i
 
   -- what is no type is passed over
-  passed : (ts : Compounds) (s : Scope) (x n : List ℕ) (m p : Meaning) (ds : Names) → m ≡ p → layers.find_type x ((n, p) ∷ ds) ≡ layers.find_type x ds → Latest ts s x (layers.find_type x ds) → Latest ts s x (layers.find_type x ((n, m) ∷ ds))
+  passed : (ts : Compounds) (s : Scope) (x n : List ℕ) (m p : LayoutMeaning) (ds : Names) → m ≡ p → layers.find_type x ((n, p) ∷ ds) ≡ layers.find_type x ds → Latest ts s x (layers.find_type x ds) → Latest ts s x (layers.find_type x ((n, m) ∷ ds))
   passed ts s x n m p ds e same h = subst (Latest ts s x) (sym (ap (λ q. layers.find_type x ((n, q) ∷ ds)) e ∙ same)) h
 
-  passed_permanent : (ts : Compounds) (s : Scope) (x n : List ℕ) (m : Meaning) (t : Ty) (ds : Names) → CellsAre k ts t m ⊎ (PartsAre k ts t m ⊎ BoundIs t m) → Latest ts s x (layers.find_type x ds) → Latest ts s x (layers.find_type x ((n, m) ∷ ds))
+  passed_permanent : (ts : Compounds) (s : Scope) (x n : List ℕ) (m : LayoutMeaning) (t : Ty) (ds : Names) → CellsAre k ts t m ⊎ (PartsAre k ts t m ⊎ BoundIs t m) → Latest ts s x (layers.find_type x ds) → Latest ts s x (layers.find_type x ((n, m) ∷ ds))
   passed_permanent ts s x n m t ds (inl h) rest = passed ts s x n m (meaning.Variable (origin.Permanent h.slot) h.value_type) ds h.is refl rest
   passed_permanent ts s x n m t ds (inr (inl h)) rest = passed ts s x n m (meaning.Contained h.first h.value_type) ds h.is refl rest
   passed_permanent ts s x n m t ds (inr (inr h)) rest = passed ts s x n m (meaning.Bound h.slot h.system) ds h.is refl rest

@@ -7,8 +7,8 @@ use Rattle.cp_slots.specs.declared.place.PlaceOrigin.TheVariants as origin
 use Rattle.cp_layout.specs.declared.kinds.CellType.{CellType}
 use Rattle.cp_layout.specs.declared.kinds.CellType.TheVariants as types
 use Rattle.cp_layout.specs.declared.layer.ParameterLayout as code_parameter
-use Rattle.cp_layout.specs.declared.names.Meaning.{Meaning}
-use Rattle.cp_layout.specs.declared.names.Meaning.TheVariants as meaning
+use Rattle.cp_layout.specs.declared.names.LayoutMeaning.{LayoutMeaning}
+use Rattle.cp_layout.specs.declared.names.LayoutMeaning.TheVariants as meaning
 use Rattle.cp_layout.specs.Kinds.{Compounds}
 use Rattle.cp_layout.specs.Layers.{Names, Layer, find}
 use Rattle.cp_layout.specs.LaidTypes.{named_type}
@@ -55,7 +55,7 @@ module _ (k : Numbering) where
   parameters_last ts f (r ∷ qs) [] q p h e i = absurd h
   parameters_last ts f (r ∷ qs) (s ∷ ps) q p h e i = (h.0, h.1, parameters_last ts f qs ps q p h.2 e i)
 
-  slots_past : (qs : List Parameter) (n : Name) (m : Meaning) (ns : Names) → Each (λ (q : Parameter). same_name q.name n ≡ false) qs → Each (λ (q : Parameter). slots_in ns q.name ≡ slots_in ((n, m) ∷ ns) q.name) qs
+  slots_past : (qs : List Parameter) (n : Name) (m : LayoutMeaning) (ns : Names) → Each (λ (q : Parameter). same_name q.name n ≡ false) qs → Each (λ (q : Parameter). slots_in ns q.name ≡ slots_in ((n, m) ∷ ns) q.name) qs
   slots_past [] n m ns h = tt
   slots_past (q ∷ qs) n m ns h = (sym (ap slot_in (find_past q.name n m ns h.0)), slots_past qs n m ns h.1)
 
@@ -64,7 +64,7 @@ module _ (k : Numbering) where
   abbrev Slots : Compounds → Names → List Parameter → Parameters → Type 0
   Slots ts ns qs ps = ParametersAre k ts (slots_in ns) qs ps
 
-  one_slot : (ts : Compounds) (ns : Names) (qs : List Parameter) (ps : Parameters) (q : Parameter) (p : code_parameter.ParameterLayout) (m : Meaning) → p.slot ≡ slot_in (Some m) → PassedBy k ts q.is_var q.ty p.passing → Each (λ (r : Parameter). same_name r.name q.name ≡ false) qs → Slots ts ns qs ps →
+  one_slot : (ts : Compounds) (ns : Names) (qs : List Parameter) (ps : Parameters) (q : Parameter) (p : code_parameter.ParameterLayout) (m : LayoutMeaning) → p.slot ≡ slot_in (Some m) → PassedBy k ts q.is_var q.ty p.passing → Each (λ (r : Parameter). same_name r.name q.name ≡ false) qs → Slots ts ns qs ps →
       Slots ts ((q.name, m) ∷ ns) (qs ++ q ∷ []) (ps ++ p ∷ [])
   one_slot ts ns qs ps q p m slot passed others h =
       let ms : Names = (q.name, m) ∷ ns in

@@ -9,8 +9,8 @@ use Rattle.cp_slots.specs.declared.place.PlaceOrigin.TheVariants as origin
 use Rattle.cp_layout.specs.declared.kinds.ArrayType.{ArrayType}
 use Rattle.cp_layout.specs.declared.kinds.CellType.{CellType}
 use Rattle.cp_layout.specs.declared.kinds.CellType.TheVariants as types
-use Rattle.cp_layout.specs.declared.names.Meaning.{Meaning}
-use Rattle.cp_layout.specs.declared.names.Meaning.TheVariants as meaning
+use Rattle.cp_layout.specs.declared.names.LayoutMeaning.{LayoutMeaning}
+use Rattle.cp_layout.specs.declared.names.LayoutMeaning.TheVariants as meaning
 use Rattle.cp_layout.specs.Kinds.{array}
 use Rattle.cp_layout.specs.Layers as layers
 use Rattle.cp_layout.specs.Layers.{Layer, Heading, System, result_of, result_in}
@@ -89,7 +89,7 @@ module _ (t : syntax.Tree) (place : IsPlaced t) (n : ℕ) (l : Layer) (o : Openi
       let other : PlaceOrigin = hidden_origin (begun_at t n) (all_calls_laid (meaning_at t.program n).scope (meaning_at t.program n).body) x in
       ap (λ (m : Layer). origin_in other (layers.find x m.names)) begun_is ∙ ap (origin_in other) e
 
-  in_system : (A : Type 0) (f : Option Meaning → A) (x : Name) (m : Meaning) → layers.find x b.around.names ≡ Some m → f (layers.find x (parts_at t h.system).names) ≡ f (Some m)
+  in_system : (A : Type 0) (f : Option LayoutMeaning → A) (x : Name) (m : LayoutMeaning) → layers.find x b.around.names ≡ Some m → f (layers.find x (parts_at t h.system).names) ≡ f (Some m)
   in_system A f x m e = ap (λ (q : Layer). f (layers.find x q.names)) parts_is ∙ ap f e
 
   parameter_is : (x : Name) (c : Bool) → is_parameter x (system_of t.program o.owner).parameters ≡ c → is_parameter x (system_of t.program h.system).parameters ≡ c
@@ -121,7 +121,7 @@ module _ (t : syntax.Tree) (place : IsPlaced t) (n : ℕ) (l : Layer) (o : Openi
       let g : (g : Heading) × (slice_get l.headings number ≡ Some g) = there l.headings number low in
       subst (λ q. ResultsAre k l.types (k.routines number).result (result_in q)) (sym g.1) (b.knowing.headings number g.0 g.1)
 
-  pub found_known : (x : Name) (m : Meaning) → layers.find x l.names ≡ Some m → IsMeaning (length l.systems) (length l.routines) m
+  pub found_known : (x : Name) (m : LayoutMeaning) → layers.find x l.names ≡ Some m → IsMeaning (length l.systems) (length l.routines) m
   found_known x m e = subst (IsFound (length l.systems) (length l.routines)) e (found (length l.systems) (length l.routines) x l.names b.knowing.named.names)
 
   own_known : (x : Name) (number : ℕ) → layers.find x l.names ≡ Some (meaning.Routine number) → ResultsAre k l.types (k.routines number).result (result_of l number)
@@ -129,17 +129,17 @@ module _ (t : syntax.Tree) (place : IsPlaced t) (n : ℕ) (l : Layer) (o : Openi
       let low : number ≤ length l.routines = found_known x (meaning.Routine number) e in
       result_known number (omega (arith, low, b.count))
 
-  abbrev IsPart : Ty → Meaning → Type 0
+  abbrev IsPart : Ty → LayoutMeaning → Type 0
   IsPart u m = CellsAre k l.types u m ⊎ (PartsAre k l.types u m ⊎ BoundIs u m)
 
-  component_low : (j : ℕ) (m : Meaning) → IsMeaning (length l.systems) (length l.routines) m → IsPart (named.component_of j) m → j < length l.systems
+  component_low : (j : ℕ) (m : LayoutMeaning) → IsMeaning (length l.systems) (length l.routines) m → IsPart (named.component_of j) m → j < length l.systems
   component_low j m i (inl v) = absurd (let w : true ≡ false = v.without in cc)
   component_low j m i (inr (inl v)) = subst (IsType (length l.systems)) v.belongs (subst (IsMeaning (length l.systems) (length l.routines)) v.is i)
   component_low j m i (inr (inr v)) =
       let low : v.system < length l.systems = subst (IsMeaning (length l.systems) (length l.routines)) v.is i in
       subst (λ c. c < length l.systems) (let w : named.component_of j ≡ named.component_of v.system = v.component in let e : v.system ≡ j = cc in e) low
 
-  array_low : (r : named.Range) (j : ℕ) (m : Meaning) → IsPart (named.array_over r (named.component_of j)) m → j < length l.systems
+  array_low : (r : named.Range) (j : ℕ) (m : LayoutMeaning) → IsPart (named.array_over r (named.component_of j)) m → j < length l.systems
   array_low r j m (inl v) = absurd (let w : true ≡ false = v.without in cc)
   array_low r j m (inr (inl v)) = subst (IsType (length l.systems)) v.belongs.belongs (b.knowing.named.types v.belongs.number _ v.belongs.there)
   array_low r j m (inr (inr v)) = absurd (let w : named.array_over r (named.component_of j) ≡ named.component_of v.system = v.component in cc)
@@ -147,11 +147,11 @@ module _ (t : syntax.Tree) (place : IsPlaced t) (n : ℕ) (l : Layer) (o : Openi
   abbrev pub LowBy : Ty → Type 0
   LowBy u = (j : ℕ) → (u ≡ named.component_of j) ⊎ ((r : named.Range) × (u ≡ named.array_over r (named.component_of j))) → j < length l.systems
 
-  part_low : (u : Ty) (m : Meaning) → IsMeaning (length l.systems) (length l.routines) m → IsPart u m → LowBy u
+  part_low : (u : Ty) (m : LayoutMeaning) → IsMeaning (length l.systems) (length l.routines) m → IsPart u m → LowBy u
   part_low u m i v j (inl e) = component_low j m i (subst (λ w. IsPart w m) e v)
   part_low u m i v j (inr e) = array_low e.0 j m (subst (λ w. IsPart w m) e.1 v)
 
-  found_low : (x : Name) (u : Ty) (q : Option Meaning) (s : Scope) → layers.find x l.names ≡ q → FoundIs k l.types q (Some (scopes.permanent_variable u)) s → LowBy u
+  found_low : (x : Name) (u : Ty) (q : Option LayoutMeaning) (s : Scope) → layers.find x l.names ≡ q → FoundIs k l.types q (Some (scopes.permanent_variable u)) s → LowBy u
   found_low x u None s e f = absurd f
   found_low x u (Some m) s e f = part_low u m (found_known x m e) f
 
@@ -185,7 +185,7 @@ module _ (t : syntax.Tree) (place : IsPlaced t) (n : ℕ) (l : Layer) (o : Openi
   abbrev calls : List Item
   calls = all_calls_laid (meaning_at t.program n).scope (meaning_at t.program n).body
 
-  undeclared : (c : ℕ) (q : Option Meaning) (s : Scope) → FoundIs k l.types q None s → q ≡ None
+  undeclared : (c : ℕ) (q : Option LayoutMeaning) (s : Scope) → FoundIs k l.types q None s → q ≡ None
   undeclared c None s f = refl
   undeclared c (Some m) s f = absurd f
 

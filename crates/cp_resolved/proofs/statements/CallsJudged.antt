@@ -24,7 +24,7 @@ use Rattle.cp_scope.specs.Types.{agree, is_of, values_of}
 use Rattle.cp_scope.specs.Scopes.{Scopes, heading_at, body_at}
 use Rattle.cp_check.specs.declared.operand.Context.{Context}
 use Rattle.cp_check.specs.declared.operand.Operand.{Operand}
-use Rattle.cp_check.specs.declared.operand.Designated.{Designated}
+use Rattle.cp_check.specs.declared.operand.DesignatedName.{DesignatedName}
 use Rattle.cp_check.specs.declared.operand.Named.{Named}
 use Rattle.cp_check.specs.declared.operand.Named.TheVariants.{Nothing, Constant, Variable, Parameter, Kind, Routine, Entry, Predeclared as Predeclared'}
 use Rattle.cp_check.specs.Operands.{value, is_queue}
@@ -305,7 +305,7 @@ module _ (s : Scopes) (w : Context) (f : Bool) where
   IsValue Nothing = ⊥
   IsValue m = Unit {0}
 
-  pub record ValueSaid (n : Named) (d : Designated) (os : List Operand) : Type 0 where
+  pub record ValueSaid (n : Named) (d : DesignatedName) (os : List Operand) : Type 0 where
     pub kind : IsValue n
     pub called : CalledAs n
     pub result : GivesResult n
@@ -316,12 +316,12 @@ module _ (s : Scopes) (w : Context) (f : Bool) where
   alone_said o p [] e = (refl, ok_same o p e)
   alone_said o p (q ∷ os) e = absurd (cc)
 
-  plain_said : (n : Named) (d : Designated) (o p : Operand) (os : List Operand) → IsValue n → CalledAs n → GivesResult n → o.uses ≡ d.uses → calls.alone o os ≡ Ok p → Below f p.uses → ValueSaid n d os
+  plain_said : (n : Named) (d : DesignatedName) (o p : Operand) (os : List Operand) → IsValue n → CalledAs n → GivesResult n → o.uses ≡ d.uses → calls.alone o os ≡ Ok p → Below f p.uses → ValueSaid n d os
   plain_said n d o p os v c g same is h =
       let x = alone_said o p os is in
       record { kind = v; called = c; result = g; first = subst (Below f) same (subst (λ (z : Operand). Below f z.uses) (sym x.1) h); others = subst (AreBelow f) (sym x.0) tt }
 
-  pub value_said : (at : ℕ) (d : Designated) (os : List Operand) (n : Named) (p : Operand) → calls.value_named s w at d os n ≡ Ok p → Below f p.uses → ValueSaid n d os
+  pub value_said : (at : ℕ) (d : DesignatedName) (os : List Operand) (n : Named) (p : Operand) → calls.value_named s w at d os n ≡ Ok p → Below f p.uses → ValueSaid n d os
   value_said at d os (Constant b) p is h = plain_said (Constant b) d (value at (values_of b) d.uses) p os tt tt tt refl is h
   value_said at d os (Variable t) p is h = plain_said (Variable t) d (calls.placed at t (calls.place_of s t) d.uses) p os tt tt tt refl is h
   value_said at d os (Parameter t) p is h = plain_said (Parameter t) d (calls.placed at t _ d.uses) p os tt tt tt refl is h

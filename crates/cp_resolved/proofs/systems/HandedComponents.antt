@@ -7,8 +7,8 @@ use Rattle.cp_tree.specs.Syntax as syntax
 use Rattle.cp_slots.specs.declared.place.PlaceOrigin.TheVariants.{Permanent}
 use Rattle.cp_layout.specs.declared.kinds.CellType.{CellType}
 use Rattle.cp_layout.specs.declared.kinds.CellType.TheVariants as types
-use Rattle.cp_layout.specs.declared.names.Meaning.{Meaning}
-use Rattle.cp_layout.specs.declared.names.Meaning.TheVariants as meaning
+use Rattle.cp_layout.specs.declared.names.LayoutMeaning.{LayoutMeaning}
+use Rattle.cp_layout.specs.declared.names.LayoutMeaning.TheVariants as meaning
 use Rattle.cp_slots.specs.declared.tables.ComponentParameter.{ComponentParameter}
 use Rattle.cp_layout.specs.Layers.{Names, Layer, Owned, find}
 use Rattle.cp_layout.specs.LaidTypes.{named_type}
@@ -74,12 +74,12 @@ bound_more cs ds qs ps x n k h =
       there = still_there cs ds (handed_count h.before) (component_cell n k) h.there;
     }
 
-abbrev IsUnbound : Meaning → Type 0
+abbrev IsUnbound : LayoutMeaning → Type 0
 IsUnbound (meaning.Bound n k) = ⊥
 IsUnbound m = Unit {0}
 
 -- one more name that is no parameter
-bound_added : (cs : List ComponentParameter) (qs : List Parameter) (x : List ℕ) (m : Meaning) (ns : Names) → IsUnbound m → AreBound cs qs ns → AreBound cs qs ((x, m) ∷ ns)
+bound_added : (cs : List ComponentParameter) (qs : List Parameter) (x : List ℕ) (m : LayoutMeaning) (ns : Names) → IsUnbound m → AreBound cs qs ns → AreBound cs qs ((x, m) ∷ ns)
 bound_added cs qs x m ns o h = record { count = h.count; bound = λ y n k e. go y n k (found_cases (x, m) ns y (meaning.Bound n k) e) }
   where
     go : (y : Name) (n k : ℕ) → ((bytes_eq x y ≡ true) × (m ≡ meaning.Bound n k)) ⊎ (find y ns ≡ Some (meaning.Bound n k)) → BoundAt cs qs y n k
@@ -87,7 +87,7 @@ bound_added cs qs x m ns o h = record { count = h.count; bound = λ y n k e. go 
     go y n k (inr f) = h.bound y n k f
 
 -- one more parameter with cells
-value_bound : (cs : List ComponentParameter) (qs : List Parameter) (q : Parameter) (m : Meaning) (ns : Names) → IsUnbound m → one_handed q.ty ≡ 0 → AreBound cs qs ns → AreBound cs (qs ++ q ∷ []) ((q.name, m) ∷ ns)
+value_bound : (cs : List ComponentParameter) (qs : List Parameter) (q : Parameter) (m : LayoutMeaning) (ns : Names) → IsUnbound m → one_handed q.ty ≡ 0 → AreBound cs qs ns → AreBound cs (qs ++ q ∷ []) ((q.name, m) ∷ ns)
 value_bound cs qs q m ns o w h =
     let a = handed_append qs (q ∷ []) in
     let c = h.count in

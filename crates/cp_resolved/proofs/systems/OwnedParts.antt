@@ -7,8 +7,8 @@ use Rattle.cp_layout.specs.declared.kinds.CellType.{CellType}
 use Rattle.cp_layout.specs.declared.layer.Contained.{Contained}
 use Rattle.cp_layout.specs.declared.layer.Content.{Content}
 use Rattle.cp_layout.specs.declared.layer.Content.TheVariants as content
-use Rattle.cp_layout.specs.declared.names.Meaning.{Meaning}
-use Rattle.cp_layout.specs.declared.names.Meaning.TheVariants as meaning
+use Rattle.cp_layout.specs.declared.names.LayoutMeaning.{LayoutMeaning}
+use Rattle.cp_layout.specs.declared.names.LayoutMeaning.TheVariants as meaning
 use Rattle.cp_layout.specs.Kinds.{Compounds, cells_of, plus, times}
 use Rattle.cp_layout.specs.Layers.{Names, Layer, Owned, System, find}
 use Rattle.cp_layout.specs.LaidExpressions.{count_in}
@@ -189,7 +189,7 @@ module _ (k : Numbering) where
         record { before = g.before; after = g.after ++ c ∷ []; is = ap (λ cs. cs ++ c ∷ []) g.is ∙ append_assoc g.before (content.Variable v ∷ g.after) (c ∷ []); slot = g.slot }
 
     -- a name with other cells
-    other_cells : (x : Name) (m : Meaning) (c : Content) → ContentIs ts c → ((n : ℕ) (v : CellType) → m ≡ meaning.Variable (Permanent n) v → SlotIs ts (o.contents ++ c ∷ []) n v) → ((n : ℕ) (v : CellType) → m ≡ meaning.Contained n v → ⊥) → Owns ts ss ((x, m) ∷ ns) (more_cells c) vs
+    other_cells : (x : Name) (m : LayoutMeaning) (c : Content) → ContentIs ts c → ((n : ℕ) (v : CellType) → m ≡ meaning.Variable (Permanent n) v → SlotIs ts (o.contents ++ c ∷ []) n v) → ((n : ℕ) (v : CellType) → m ≡ meaning.Contained n v → ⊥) → Owns ts ss ((x, m) ∷ ns) (more_cells c) vs
     other_cells x m c i f g =
         record {
           contained = h.contained;

@@ -3,8 +3,8 @@ use Rattle.std.proofs.Common.{◌≡◌, ◌+◌, ◌*◌, ◌<◌, ◌≤◌, �
 use Rattle.std.specs.Prelude.{min}
 use Rattle.std.proofs.lemmas.Option.{none-some, slice_get_within}
 use Rattle.cp_tree.specs.Syntax.{Tree}
-use Rattle.cp_layout.specs.declared.names.Meaning.{Meaning}
-use Rattle.cp_layout.specs.declared.names.Meaning.TheVariants as meaning
+use Rattle.cp_layout.specs.declared.names.LayoutMeaning.{LayoutMeaning}
+use Rattle.cp_layout.specs.declared.names.LayoutMeaning.TheVariants as meaning
 use Rattle.cp_layout.specs.Kinds.{most}
 use Rattle.cp_layout.specs.Laid.{plain, laid}
 use Rattle.cp_layout.specs.Layers as layers
@@ -93,7 +93,7 @@ module _ (t : Tree) (r : Tables) (n : ℕ) (s : SystemStands t r n) (declares : 
       inside : taken_before x ws ≤ most
       inside = let i = taken_inside x u ws (part_taken x u p) in omega (arith, i, all_taken, few)
 
-      go : (o : Option Meaning) → layers.find x s.begun.names ≡ o → FoundIs (numbering_of t.program) s.begun.types o (Some (permanent_variable u)) (since x m.scope) → slot_in (layers.find x s.around.names) ≡ taken_before x ws
+      go : (o : Option LayoutMeaning) → layers.find x s.begun.names ≡ o → FoundIs (numbering_of t.program) s.begun.types o (Some (permanent_variable u)) (since x m.scope) → slot_in (layers.find x s.around.names) ≡ taken_before x ws
       go None f g = absurd g
       go (Some c) f (inl g) = absurd (let bad : true ≡ false = sym p.has ∙ g.without in cc)
       go (Some c) f (inr (inl g)) =

@@ -9,8 +9,8 @@ use Rattle.cp_slots.specs.declared.place.PlaceOrigin.TheVariants as origin
 use Rattle.cp_layout.specs.declared.kinds.CellType.{CellType}
 use Rattle.cp_layout.specs.declared.kinds.CellType.TheVariants as types
 use Rattle.cp_layout.specs.declared.layer.Contained.{Contained}
-use Rattle.cp_layout.specs.declared.names.Meaning.{Meaning}
-use Rattle.cp_layout.specs.declared.names.Meaning.TheVariants as meaning
+use Rattle.cp_layout.specs.declared.names.LayoutMeaning.{LayoutMeaning}
+use Rattle.cp_layout.specs.declared.names.LayoutMeaning.TheVariants as meaning
 use Rattle.cp_layout.specs.Kinds as kinds
 use Rattle.cp_layout.specs.Kinds.{most, plus}
 use Rattle.cp_layout.specs.Layers.{Names, find, Layer}
@@ -105,19 +105,19 @@ taken_apart x y t u (v ∷ vs) o h i = go (same_name x v.name) (same_name y v.na
 -- ---- where they lie
 
 -- the count of cells stops at the greatest word
-abbrev pub Holds : List Variable → Name → Meaning → Type 0
+abbrev pub Holds : List Variable → Name → LayoutMeaning → Type 0
 Holds ws x (meaning.Variable (origin.Permanent n) v) = (t : Ty) × (look x ws ≡ Some t) × (n ≡ min (taken_before x ws) most)
 Holds ws x (meaning.Bound n k) = (t : Ty) × (look x ws ≡ Some t) × (n ≡ min (taken_before x ws) most)
 Holds ws x m = Unit {0}
 
 abbrev pub AreHolding : List Variable → Names → Type 0
-AreHolding ws ns = (x : Name) (m : Meaning) → find x ns ≡ Some m → Holds ws x m
+AreHolding ws ns = (x : Name) (m : LayoutMeaning) → find x ns ≡ Some m → Holds ws x m
 
 pub record Owns (l : Layer) (ws : List Variable) : Type 0 where
   pub cells : l.owned.cells ≡ min (taken ws) most
   pub holding : AreHolding ws l.names
 
-holds_more : (ws vs : List Variable) (x : Name) (m : Meaning) → Holds ws x m → Holds (ws ++ vs) x m
+holds_more : (ws vs : List Variable) (x : Name) (m : LayoutMeaning) → Holds ws x m → Holds (ws ++ vs) x m
 holds_more ws vs x (meaning.Variable (origin.Permanent n) v) h = (h.0, look_left x h.0 ws vs h.1, h.2 ∙ ap (λ j. min j most) (sym (taken_left x h.0 ws vs h.1)))
 holds_more ws vs x (meaning.Variable (origin.Local n) v) h = tt
 holds_more ws vs x (meaning.Variable (origin.Reference n) v) h = tt
@@ -131,12 +131,12 @@ holds_more ws vs x (meaning.Predeclared p) h = tt
 holding_more : (ws vs : List Variable) (ns : Names) → AreHolding ws ns → AreHolding (ws ++ vs) ns
 holding_more ws vs ns h x m e = holds_more ws vs x m (h x m e)
 
-abbrev pub IsUnheld : Meaning → Type 0
+abbrev pub IsUnheld : LayoutMeaning → Type 0
 IsUnheld (meaning.Variable (origin.Permanent n) v) = ⊥
 IsUnheld (meaning.Bound n k) = ⊥
 IsUnheld m = Unit {0}
 
-unheld_holds : (ws : List Variable) (x : Name) (m : Meaning) → IsUnheld m → Holds ws x m
+unheld_holds : (ws : List Variable) (x : Name) (m : LayoutMeaning) → IsUnheld m → Holds ws x m
 unheld_holds ws x (meaning.Variable (origin.Permanent n) v) h = absurd h
 unheld_holds ws x (meaning.Variable (origin.Local n) v) h = tt
 unheld_holds ws x (meaning.Variable (origin.Reference n) v) h = tt
@@ -147,14 +147,14 @@ unheld_holds ws x (meaning.Bound n k) h = absurd h
 unheld_holds ws x (meaning.Routine n) h = tt
 unheld_holds ws x (meaning.Predeclared p) h = tt
 
-pub holding_added : (ws : List Variable) (x : Name) (m : Meaning) (ns : Names) → IsUnheld m → AreHolding ws ns → AreHolding ws ((x, m) ∷ ns)
+pub holding_added : (ws : List Variable) (x : Name) (m : LayoutMeaning) (ns : Names) → IsUnheld m → AreHolding ws ns → AreHolding ws ((x, m) ∷ ns)
 holding_added ws x m ns i h y n e = go (found_cases (x, m) ns y n e)
   where
     go : ((bytes_eq x y ≡ true) × (m ≡ n)) ⊎ (find y ns ≡ Some n) → Holds ws y n
     go (inl w) = unheld_holds ws y n (subst IsUnheld w.1 i)
     go (inr f) = h y n f
 
-holding_variable : (ws : List Variable) (x : Name) (m : Meaning) (ns : Names) → ((y : Name) → bytes_eq x y ≡ true → Holds ws y m) → AreHolding ws ns → AreHolding ws ((x, m) ∷ ns)
+holding_variable : (ws : List Variable) (x : Name) (m : LayoutMeaning) (ns : Names) → ((y : Name) → bytes_eq x y ≡ true → Holds ws y m) → AreHolding ws ns → AreHolding ws ((x, m) ∷ ns)
 holding_variable ws x m ns l h y n e = go (found_cases (x, m) ns y n e)
   where
     go : ((bytes_eq x y ≡ true) × (m ≡ n)) ⊎ (find y ns ≡ Some n) → Holds ws y n

@@ -7,8 +7,8 @@ use Rattle.cp_slots.specs.declared.place.PlaceOrigin.TheVariants.{Permanent}
 use Rattle.cp_layout.specs.declared.kinds.CellType.{CellType}
 use Rattle.cp_layout.specs.declared.kinds.CellType.TheVariants as types
 use Rattle.cp_layout.specs.declared.layer.Contained.{Contained}
-use Rattle.cp_layout.specs.declared.names.Meaning.{Meaning}
-use Rattle.cp_layout.specs.declared.names.Meaning.TheVariants as meaning
+use Rattle.cp_layout.specs.declared.names.LayoutMeaning.{LayoutMeaning}
+use Rattle.cp_layout.specs.declared.names.LayoutMeaning.TheVariants as meaning
 use Rattle.cp_layout.specs.Kinds.{Compounds, array, array_type, as_array}
 use Rattle.cp_layout.specs.Layers.{Names, Layer, find, seen_inside, is_open, outermost, nothing_laid}
 use Rattle.cp_layout.specs.LaidTypes.{named_type, written_type}
@@ -72,7 +72,7 @@ module _ (k : Numbering) (ts : Compounds) (s : ℕ) where
 
 -- ---- names of constants and types lead to no more
 
-constant_other : (m : Meaning) → IsOther m → IsOther m
+constant_other : (m : LayoutMeaning) → IsOther m → IsOther m
 constant_other m h = h
 
 module _ (ns : Names) where
@@ -209,7 +209,7 @@ module _ (k : Numbering) where
 
   -- ---- a system type
 
-  no_permanent : (ns : Names) (x : List ℕ) (m : Meaning) → is_open m ≡ false → find x (seen_inside ns) ≡ Some m → ⊥
+  no_permanent : (ns : Names) (x : List ℕ) (m : LayoutMeaning) → is_open m ≡ false → find x (seen_inside ns) ≡ Some m → ⊥
   no_permanent ns x m closed e = let w : false ≡ true = sym closed ∙ open_found x m ns e in cc
 
   entered_owns : (l : Layer) → OwnsAt k (entered l).1 []
@@ -251,10 +251,10 @@ module _ (k : Numbering) where
         firsts = λ x n v e. absurd (none_there x (meaning.Contained n v) tt e);
       }
     where
-      none_there : (x : List ℕ) (m : Meaning) → IsPermanent m → find x outermost ≡ Some m → ⊥
+      none_there : (x : List ℕ) (m : LayoutMeaning) → IsPermanent m → find x outermost ≡ Some m → ⊥
       none_there x m i e = absurd (no_permanent outermost x m (closed m i) e)
         where
-          closed : (m : Meaning) → IsPermanent m → is_open m ≡ false
+          closed : (m : LayoutMeaning) → IsPermanent m → is_open m ≡ false
           closed (meaning.Variable o v) i = refl
           closed (meaning.Contained n v) i = refl
           closed (meaning.Bound n j) i = refl

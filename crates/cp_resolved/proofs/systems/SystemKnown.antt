@@ -4,8 +4,8 @@ use Rattle.std.specs.Prelude.{min}
 use Rattle.std.proofs.lemmas.Option.{none-some, same_Some}
 use Rattle.cp_slots.specs.declared.place.PlaceOrigin.TheVariants as origin
 use Rattle.cp_layout.specs.declared.kinds.CellType.{CellType}
-use Rattle.cp_layout.specs.declared.names.Meaning.{Meaning}
-use Rattle.cp_layout.specs.declared.names.Meaning.TheVariants as meaning
+use Rattle.cp_layout.specs.declared.names.LayoutMeaning.{LayoutMeaning}
+use Rattle.cp_layout.specs.declared.names.LayoutMeaning.TheVariants as meaning
 use Rattle.cp_layout.specs.Kinds.{most}
 use Rattle.cp_layout.specs.Layers as layers
 use Rattle.cp_layout.specs.Layers.{Layer}
@@ -195,7 +195,7 @@ module _ (k : Numbering) where
         inside : taken_before x ws ≤ most
         inside = let i = taken_inside x t ws (held_taken x t e) in omega (arith, i, all, few)
 
-        go : (o : Option Meaning) → layers.find x l.names ≡ o → FoundIs k l.types o (Some (permanent_variable t)) (scopes.since x m.scope) → slot_in (layers.find x z.names) ≡ taken_before x ws
+        go : (o : Option LayoutMeaning) → layers.find x l.names ≡ o → FoundIs k l.types o (Some (permanent_variable t)) (scopes.since x m.scope) → slot_in (layers.find x z.names) ≡ taken_before x ws
         go None f g = absurd g
         go (Some n) f (inl c) =
             let there : layers.find x z.names ≡ Some (meaning.Variable (origin.Permanent c.slot) c.value_type) = under x c.slot c.value_type (f ∙ ap (λ y. Some y) c.is) in

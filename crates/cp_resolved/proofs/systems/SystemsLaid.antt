@@ -2,8 +2,8 @@
 use Rattle.std.proofs.Common.{◌≡◌, ℕ, zero, suc, ◌+◌, Bool, true, false, if◌then◌else◌, List, [], ◌∷◌, ◌++◌, length, Option, Some, None, slice_get, refl, sym, ap, subst, ◌∙◌, ◌⊎◌, append_assoc, append-nil, arith, length-append}
 use Rattle.std.proofs.lemmas.Option.{none-some, same_Some}
 use Rattle.cp_tree.specs.Syntax as syntax
-use Rattle.cp_layout.specs.declared.names.Meaning.{Meaning}
-use Rattle.cp_layout.specs.declared.names.Meaning.TheVariants as meaning
+use Rattle.cp_layout.specs.declared.names.LayoutMeaning.{LayoutMeaning}
+use Rattle.cp_layout.specs.declared.names.LayoutMeaning.TheVariants as meaning
 use Rattle.cp_layout.specs.Layers as layers
 use Rattle.cp_layout.specs.Layers.{Layer, Owned, System, nothing_laid}
 use Rattle.cp_layout.specs.LaidDeclarations.{type_named, constants, variables, heading_with, with_new_frame, with_heading, routines, initial_statement, system_of, system, definition, system_definition, system_definitions, program_part, program_parts, program}
@@ -47,8 +47,8 @@ routines_found x t s (r ∷ rs) e = go (same_name x r.name.name) (routines_found
 
 module _ (k : Numbering) (end : Layer) where
   -- what a name of a permanent variable stands for
-  pub record PermanentIs (t : Ty) (o : Option Meaning) : Type 0 where
-    pub meaning : Meaning
+  pub record PermanentIs (t : Ty) (o : Option LayoutMeaning) : Type 0 where
+    pub meaning : LayoutMeaning
     pub there : o ≡ Some meaning
     pub is : CellsAre k end.types t meaning ⊎ (PartsAre k end.types t meaning ⊎ BoundIs t meaning)
 
@@ -108,7 +108,7 @@ module _ (k : Numbering) (end : Layer) where
       let a : InStep k end.types l.names s = subst (λ ts. InStep k ts l.names s) (sym longer.1) (names_grown k l.types longer.0 l.names s i) in
       go (layers.find x l.names) refl (subst (λ o. FoundIs k end.types (layers.find x l.names) o (scopes.since x s)) (routines_found x t s rs e) (found_in k end.types x l.names s a))
     where
-      go : (o : Option Meaning) → layers.find x l.names ≡ o → FoundIs k end.types o (Some (permanent_variable t)) (scopes.since x s) → PermanentIs t (layers.find x l.names)
+      go : (o : Option LayoutMeaning) → layers.find x l.names ≡ o → FoundIs k end.types o (Some (permanent_variable t)) (scopes.since x s) → PermanentIs t (layers.find x l.names)
       go None f h = absurd h
       go (Some m) f h = record { meaning = m; there = f; is = h }
 

@@ -6,8 +6,8 @@ use Rattle.std.proofs.lemmas.Option.{none-some, same_Some}
 use Rattle.cp_tree.specs.Syntax as syntax
 use Rattle.cp_slots.specs.declared.place.PlaceOrigin.TheVariants as origin
 use Rattle.cp_layout.specs.declared.kinds.CellBase.TheVariants as base
-use Rattle.cp_layout.specs.declared.names.Meaning.{Meaning}
-use Rattle.cp_layout.specs.declared.names.Meaning.TheVariants as meaning
+use Rattle.cp_layout.specs.declared.names.LayoutMeaning.{LayoutMeaning}
+use Rattle.cp_layout.specs.declared.names.LayoutMeaning.TheVariants as meaning
 use Rattle.cp_slots.specs.Code as code
 use Rattle.cp_layout.specs.Kinds.{most, values_of, least, copies, compound_below}
 use Rattle.cp_layout.specs.Layers as layers
@@ -62,7 +62,7 @@ names_p = refl
 
 -- ---- routines that are visible
 
-abbrev OfRoutine : (ℕ → Type 0) → Meaning → Type 0
+abbrev OfRoutine : (ℕ → Type 0) → LayoutMeaning → Type 0
 OfRoutine P (meaning.Routine n) = P n
 OfRoutine P m = Unit {0}
 

@@ -1,5 +1,5 @@
 use Rattle.std.proofs.Common.{◌+◌, ◌*◌}
-use Rattle.cp_legend.proofs.components.Components.+components.Given as goal
+use Rattle.cp_legend.proofs.components.ComponentList.+components.Given as goal
 
 -- a type contains components of earlier types alone
 abbrev pub decreases-add : goal.decreases-add

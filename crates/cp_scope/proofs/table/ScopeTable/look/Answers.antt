@@ -3,7 +3,7 @@ use Rattle.cp_scope.specs.declared.types.Meaning.{Meaning}
 use Rattle.cp_scope.specs.Scopes.{look_outer, look_in, or_else}
 use Rattle.cp_scope.specs.View.{scopes_of, scope_of}
 use Rattle.cp_scope.proofs.Names.{shown, or_none, look_more, look_none, or_map}
-use Rattle.cp_scope.proofs.table.Table.look.Goals as goal
+use Rattle.cp_scope.proofs.table.ScopeTable.look.Goals as goal
 
 pub loop-scope-init : goal.loop-scope-init
 loop-scope-init c = record {

@@ -2,7 +2,7 @@ use Rattle.std.proofs.Common.{◌≡◌, drop, map, option_map}
 use Rattle.cp_scope.specs.Scopes.{look_outer, or_else}
 use Rattle.cp_scope.specs.View.{scope_of}
 use Rattle.cp_scope.proofs.Names.{shown}
-use Rattle.cp_scope.proofs.table.Table.look.Given as goal
+use Rattle.cp_scope.proofs.table.ScopeTable.look.Given as goal
 
 abbrev pub invariant-loop-scope : goal.invariant-loop-scope
 invariant-loop-scope l = record {
