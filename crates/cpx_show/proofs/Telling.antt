@@ -19,10 +19,10 @@ told_within o l r es verdict same h =
     let b = subst (λ (n : ℕ). TellsWithin o.choices n l.gates r es verdict) same.1 a in
     subst (λ (g : Gates). TellsWithin o.choices o.steps g r es verdict) same.2 b
 
-pub told_ends : (o : Options) (l : Limits) (r : Tables) (es : List ends_expectation.Expectation) (verdict : Verdict) {choices : ℕ} → (l.choices ≡ choices) × (l.steps ≡ o.steps) × (l.gates ≡ o.gates) → TellsEndsMark r l.gates l.steps o.states es verdict → TellsEndsMark r o.gates o.steps o.states es verdict
+pub told_ends : (o : Options) (l : Limits) (r : Tables) (es : List ends_expectation.EndsExpectation) (verdict : Verdict) {choices : ℕ} → (l.choices ≡ choices) × (l.steps ≡ o.steps) × (l.gates ≡ o.gates) → TellsEndsMark r l.gates l.steps o.states es verdict → TellsEndsMark r o.gates o.steps o.states es verdict
 told_ends o l r es verdict same h =
     let a = subst (λ (n : ℕ). TellsEndsMark r l.gates n o.states es verdict) same.1 h in
     subst (λ (g : Gates). TellsEndsMark r g o.steps o.states es verdict) same.2 a
 
-pub told_at_once : (o : Options) (l : Limits) (r : Tables) (es : List ends_expectation.Expectation) (verdict : Verdict) {choices : ℕ} → (l.choices ≡ choices) × (l.steps ≡ o.steps) × (l.gates ≡ o.gates) → TellsMarkAtOnce r l.steps es verdict → TellsMarkAtOnce r o.steps es verdict
+pub told_at_once : (o : Options) (l : Limits) (r : Tables) (es : List ends_expectation.EndsExpectation) (verdict : Verdict) {choices : ℕ} → (l.choices ≡ choices) × (l.steps ≡ o.steps) × (l.gates ≡ o.gates) → TellsMarkAtOnce r l.steps es verdict → TellsMarkAtOnce r o.steps es verdict
 told_at_once o l r es verdict same h = subst (λ (n : ℕ). TellsMarkAtOnce r n es verdict) same.1 h

@@ -51,7 +51,7 @@ verdict_of mark.Open = Open
 abbrev pub TellsMark : Spellings → List Expectation → List Line → Verdict → Type 0
 TellsMark names es lines verdict = (verdict ≡ TooMany) ⊎ ((m : TableMark) × (verdict ≡ verdict_of m) × IsMarkOf names es lines m)
 
-abbrev pub ends_verdict_of : ends_mark.Mark → Verdict
+abbrev pub ends_verdict_of : ends_mark.EndsMark → Verdict
 ends_verdict_of of_ends.Holds = Reported
 ends_verdict_of of_ends.Fails = Fails
 ends_verdict_of of_ends.Open = Open
@@ -59,9 +59,9 @@ ends_verdict_of of_ends.TooMany = TooMany
 ends_verdict_of of_ends.Misread = Misread
 
 -- The mark by schedules of any length is told, by all states or, where there are too many, with kernel calls at once; it is true of the program on its own names.
-abbrev pub TellsEndsMark : Tables → Gates → (steps most : ℕ) → List ends_expectation.Expectation → Verdict → Type 0
-TellsEndsMark r gates steps most es verdict = (m : ends_mark.Mark) × (verdict ≡ ends_verdict_of m) × IsMarkInTurn r gates steps most es m
+abbrev pub TellsEndsMark : Tables → Gates → (steps most : ℕ) → List ends_expectation.EndsExpectation → Verdict → Type 0
+TellsEndsMark r gates steps most es verdict = (m : ends_mark.EndsMark) × (verdict ≡ ends_verdict_of m) × IsMarkInTurn r gates steps most es m
 
 -- the mark with kernel calls at once from the first is told
-abbrev pub TellsMarkAtOnce : Tables → ℕ → List ends_expectation.Expectation → Verdict → Type 0
-TellsMarkAtOnce r steps es verdict = (m : ends_mark.Mark) × (verdict ≡ ends_verdict_of m) × IsMarkAtOnce r steps es m
+abbrev pub TellsMarkAtOnce : Tables → ℕ → List ends_expectation.EndsExpectation → Verdict → Type 0
+TellsMarkAtOnce r steps es verdict = (m : ends_mark.EndsMark) × (verdict ≡ ends_verdict_of m) × IsMarkAtOnce r steps es m
