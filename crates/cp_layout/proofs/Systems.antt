@@ -17,8 +17,8 @@ module _ (l : Layer) (r : RoomNeed) (xs : List Process) (i : ℕ) where
   unfolding room_from
   room_none h = rw (drop_all i xs h) refl
 
-module _ (xs : List code_system.System) (i : ℕ) where
-  pub types_step : (x : code_system.System) → i < length xs → x ≡ get_or xs i x → types_of (map system_seen (take (i + 1) xs)) ≡ types_of (map system_seen (take i xs)) ++ system_type (system_seen x).owned ∷ []
+module _ (xs : List code_system.SystemCells) (i : ℕ) where
+  pub types_step : (x : code_system.SystemCells) → i < length xs → x ≡ get_or xs i x → types_of (map system_seen (take (i + 1) xs)) ≡ types_of (map system_seen (take i xs)) ++ system_type (system_seen x).owned ∷ []
   types_step x within here = rw (add-one, take-suc xs i x within, ← here) (ap types_of (map-append system_seen (take i xs) (x ∷ [])) ∙ map-append (λ s. system_type s.owned) (map system_seen (take i xs)) (system_seen x ∷ []))
 
   pub types_none : length xs ≤ i → types_of (map system_seen (take i xs)) ≡ types_of (map system_seen xs)

@@ -44,11 +44,11 @@ find_type x [] = None
 find_type x ((n, meaning.Kind t) ∷ ds) = if bytes_eq n x then Some t else find_type x ds
 find_type x (d ∷ ds) = find_type x ds
 
-abbrev pub declared_seen : code_declared.Declared → List ℕ × LayoutMeaning
+abbrev pub declared_seen : code_declared.DeclaredName → List ℕ × LayoutMeaning
 declared_seen d = (d.name.now, d.meaning)
 
 -- the later ones before the earlier ones
-abbrev pub latest_first : List code_declared.Declared → Names → Names
+abbrev pub latest_first : List code_declared.DeclaredName → Names → Names
 latest_first [] before = before
 latest_first (d ∷ ds) before = latest_first ds (declared_seen d ∷ before)
 
@@ -147,13 +147,13 @@ pub record Layer : Type 0 where
 abbrev pub heading_seen : code_heading.HeadingLayout → Heading
 heading_seen h = record { name = h.name.now; parameters = h.parameters.items; result = h.result }
 
-abbrev pub frame_seen : code_frame.Frame → Frame
+abbrev pub frame_seen : code_frame.RoutineFrame → Frame
 frame_seen f = record { image = f.image.items; extents = f.extents.items; room = f.room; reference_room = f.reference_room }
 
 abbrev pub owned_seen : code_owned.Owned → Owned
 owned_seen o = record { cells = o.cells; contents = o.contents.items; parameters = o.parameters.items; contained = o.contained.items; count = o.count }
 
-abbrev pub system_seen : code_system.System → System
+abbrev pub system_seen : code_system.SystemCells → System
 system_seen s = record { kind = s.kind; owned = owned_seen s.owned; first = s.first; initial = s.initial }
 
 abbrev pub pending_seen : code_pending.Pending → Pending

@@ -11,45 +11,43 @@ use crate::page::{line_number, push_tokens};
 use crate::place::{ByteRange, Sought, find, is_coded};
 use crate::report::{ExplainedRefusal, Explanation};
 use crate::rules::{Broken, code, mark_at, sentence};
-use cp_check::{CheckFault, check};
-use cp_drops::{drop_checked, drop_tree};
+use cp_check::CheckFault;
+use cp_front::{Loaded, Refusal as LoadRefusal};
 use cp_prose::Prose;
-use cp_text::{ScanCause, ScanFault, Tokens, scan};
-use cp_tree::{ParseFault, Program, Tree, parse};
+use cp_text::{ScanCause, ScanFault, Tokens};
+use cp_tree::{ParseFault, Program, Tree};
 use std::alloc::{AllocError, Global};
 
-/// What is said of a source: where and why it is refused, or that it is accepted.
-pub fn refusal(alloc: Global, source: &[u8]) -> Result<Explanation, AllocError> {
-    match scan(alloc, source) {
-        Ok(tokens) => explain_parse(alloc, source, &tokens),
-        Err(fault) => scan_refused(alloc, source, fault),
-    }
-}
-
-fn explain_parse(alloc: Global, source: &[u8], tokens: &Tokens) -> Result<Explanation, AllocError> {
-    match parse(alloc, tokens) {
-        Ok(tree) => explain_check(alloc, source, tokens, tree),
-        Err(fault) => parse_refused(alloc, source, tokens, &fault),
-    }
-}
-
-fn explain_check(
+/// What is said of a source that was loaded, or not: where and why it is refused, or that it is accepted.
+pub fn refusal(
     alloc: Global,
     source: &[u8],
-    tokens: &Tokens,
-    tree: Tree,
+    loaded: Result<&Loaded, &LoadRefusal>,
 ) -> Result<Explanation, AllocError> {
-    match check(alloc, tree) {
-        Ok(checked) => {
-            let answer = answer_accepted(alloc, source, tokens, &checked.tree().program);
-            drop_checked(checked);
-            answer
+    match loaded {
+        Ok(loaded) => {
+            answer_accepted(
+                alloc,
+                source,
+                &loaded.tokens,
+                &loaded.checked.tree().program,
+            )
         }
-        Err((fault, tree)) => {
-            let answer = check_refused(alloc, source, tokens, &tree, &fault);
-            drop_tree(tree);
-            answer
-        }
+        Err(refusal) => explain(alloc, source, refusal),
+    }
+}
+
+// Why a source is refused.
+fn explain(alloc: Global, source: &[u8], refusal: &LoadRefusal) -> Result<Explanation, AllocError> {
+    match refusal {
+        LoadRefusal::Scan(fault) => scan_refused(alloc, source, *fault),
+        LoadRefusal::Parse { tokens, fault } => parse_refused(alloc, source, tokens, fault),
+        LoadRefusal::Check {
+            tokens,
+            tree,
+            fault,
+        } => check_refused(alloc, source, tokens, tree, fault),
+        LoadRefusal::Memory => Err(AllocError),
     }
 }
 

@@ -15,7 +15,7 @@ chosen : {A B : Type 0} (f : A → B) (b : Bool) (x : A) (y : Option A) → opti
 chosen f true x y = refl
 chosen f false x y = refl
 
-found_in : (n : ℕ) (es : List (ℕ × code_shape.Shape)) → option_map shape_view (lookup (nat_eq n) es) ≡ shape_in n (map shape_entry es)
+found_in : (n : ℕ) (es : List (ℕ × code_shape.TokenShape)) → option_map shape_view (lookup (nat_eq n) es) ≡ shape_in n (map shape_entry es)
 found_in n [] = refl
 found_in n (e ∷ es) = chosen shape_view (nat_eq n e.0) e.1 _ ∙ ap (cond (nat_eq n e.0) (Some (shape_view e.1))) (found_in n es)
 
@@ -23,14 +23,14 @@ pub found : (n : ℕ) (s : code_shapes.Shapes) → option_map shape_view (lookup
 unfolding shapes_of
 found n s = found_in n s.items.entries
 
-abbrev pub seen : Bor code_shape.Shape → Shape
+abbrev pub seen : Bor code_shape.TokenShape → Shape
 seen s = shape_view s.now
 
-seen_is : (o : Option (Bor code_shape.Shape)) → option_map seen o ≡ option_map shape_view (option_copied o)
+seen_is : (o : Option (Bor code_shape.TokenShape)) → option_map seen o ≡ option_map shape_view (option_copied o)
 seen_is (Some x) = refl
 seen_is None = refl
 
-pub shape_seen : (s : code_shapes.Shapes) (n : ℕ) (got : Option (Bor code_shape.Shape)) → option_copied got ≡ lookup (nat_eq n) s.items.entries → option_map seen got ≡ shape_in n (shapes_of s)
+pub shape_seen : (s : code_shapes.Shapes) (n : ℕ) (got : Option (Bor code_shape.TokenShape)) → option_copied got ≡ lookup (nat_eq n) s.items.entries → option_map seen got ≡ shape_in n (shapes_of s)
 shape_seen s n got e = seen_is got ∙ ap (option_map shape_view) e ∙ found n s
 
 some_map : {A B : Type 0} (f : A → B) (o : Option A) → is_some (option_map f o) ≡ is_some o
@@ -47,19 +47,19 @@ none_of None h = refl
 pub keep_again : (s : code_shapes.Shapes) (n : ℕ) (d : Shape) → is_some (lookup (nat_eq n) s.items.entries) ≡ true → shapes_of s ≡ with_shape (shapes_of s) n d
 keep_again s n d h = rw (kept_here s n, h) refl
 
-added : (s new : code_shapes.Shapes) (n : ℕ) (d : code_shape.Shape) → is_some (lookup (nat_eq n) s.items.entries) ≡ false → new.items.entries ≡ insert_entry nat_eq s.items.entries n d → shapes_of new ≡ shapes_of s ++ (n, shape_view d) ∷ []
+added : (s new : code_shapes.Shapes) (n : ℕ) (d : code_shape.TokenShape) → is_some (lookup (nat_eq n) s.items.entries) ≡ false → new.items.entries ≡ insert_entry nat_eq s.items.entries n d → shapes_of new ≡ shapes_of s ++ (n, shape_view d) ∷ []
 unfolding shapes_of
 added s new n d h i = ap (map shape_entry) (i ∙ insert_entry-new nat_eq s.items n d (none_of _ h)) ∙ map-append shape_entry s.items.entries ((n, d) ∷ [])
 
-pub keep_new : (s new : code_shapes.Shapes) (n : ℕ) (d : code_shape.Shape) → is_some (lookup (nat_eq n) s.items.entries) ≡ false → new.items.entries ≡ insert_entry nat_eq s.items.entries n d → shapes_of new ≡ with_shape (shapes_of s) n (shape_view d)
+pub keep_new : (s new : code_shapes.Shapes) (n : ℕ) (d : code_shape.TokenShape) → is_some (lookup (nat_eq n) s.items.entries) ≡ false → new.items.entries ≡ insert_entry nat_eq s.items.entries n d → shapes_of new ≡ with_shape (shapes_of s) n (shape_view d)
 keep_new s new n d h i = rw (kept_here s n, h) (added s new n d h i)
 
-kept_by : (s new : code_shapes.Shapes) (n : ℕ) (d : code_shape.Shape) (b : Bool) → is_some (lookup (nat_eq n) s.items.entries) ≡ b → new.items.entries ≡ (if b then s.items.entries else insert_entry nat_eq s.items.entries n d) → shapes_of new ≡ with_shape (shapes_of s) n (shape_view d)
+kept_by : (s new : code_shapes.Shapes) (n : ℕ) (d : code_shape.TokenShape) (b : Bool) → is_some (lookup (nat_eq n) s.items.entries) ≡ b → new.items.entries ≡ (if b then s.items.entries else insert_entry nat_eq s.items.entries n d) → shapes_of new ≡ with_shape (shapes_of s) n (shape_view d)
 unfolding shapes_of
 kept_by s new n d true h e = ap (map shape_entry) e ∙ keep_again s n (shape_view d) h
 kept_by s new n d false h e = keep_new s new n d h e
 
-pub kept_first : (s new : code_shapes.Shapes) (n : ℕ) (d : code_shape.Shape) → new.items.entries ≡ (if is_some (lookup (nat_eq n) s.items.entries) then s.items.entries else insert_entry nat_eq s.items.entries n d) → shapes_of new ≡ with_shape (shapes_of s) n (shape_view d)
+pub kept_first : (s new : code_shapes.Shapes) (n : ℕ) (d : code_shape.TokenShape) → new.items.entries ≡ (if is_some (lookup (nat_eq n) s.items.entries) then s.items.entries else insert_entry nat_eq s.items.entries n d) → shapes_of new ≡ with_shape (shapes_of s) n (shape_view d)
 kept_first s new n d e = kept_by s new n d (is_some (lookup (nat_eq n) s.items.entries)) refl e
 
 pub ok_on : {A E : Type 0} (P Q : Type 0) (r : Result A E) → (P → Q) → OnOk r P → OnOk r Q

@@ -30,14 +30,14 @@ scope_of s = record { names = names_of s.names; pending = keys_seen s.pending; i
 abbrev pub heading_view : code_heading.Heading → Heading
 heading_view h = record { is_entry = h.is_entry; parameters = h.parameters.items; result = h.result }
 
-abbrev pub shape_view : code_shape.Shape → Shape
+abbrev pub shape_view : code_shape.TokenShape → Shape
 shape_view (shape.Array a) = array_shape a
 shape_view (shape.Record fields cells) = record_shape (scope_of fields) cells
 shape_view (shape.System members h c u) = system_shape (scope_of members) (heading_view h) c u
 shape_view (shape.Heading h n) = heading_shape (heading_view h) n
 shape_view (shape.Body u) = body_shape u
 
-abbrev pub shape_entry : ℕ × code_shape.Shape → ℕ × Shape
+abbrev pub shape_entry : ℕ × code_shape.TokenShape → ℕ × Shape
 shape_entry e = (e.0, shape_view e.1)
 
 unfoldable pub shapes_of : code_shapes.Shapes → Shapes

@@ -1,39 +1,91 @@
 //! What no schedule comes to, after the outcomes.
 
-use crate::answering::Answer;
-use cp_cover::{Entries, cover_json, cover_text, find_coverage, gaps_of};
+use cp_cover::{
+    Coverage, Entries, Gaps, cover_json, cover_text, entries_of, find_coverage, gaps_of,
+};
+use cp_front::Loaded;
 use cp_legend::Legend;
-use cp_run::Limits;
-use cp_slots::Resolved;
+use cp_progress::ObserveProgress;
+use cp_show_mark::ShowAnswer;
+use cp_show_options::limits_of;
 use cp_tool::Options;
 use std::alloc::{AllocError, Global};
 
 /// An answer that has the outcomes, with what no schedule comes to after them.
-pub fn with_coverage(
+pub fn with_coverage<O: ObserveProgress>(
     alloc: Global,
     options: &Options,
-    program: &Resolved,
+    observer: &mut O,
+    loaded: &Loaded,
     legend: &Legend,
-    entries: &Entries,
-    answer: Answer,
+    answer: Result<ShowAnswer, AllocError>,
     as_json: bool,
-) -> Result<Answer, AllocError> {
-    let Some(limits) = Limits::new(options.choices, options.steps, options.gates) else {
-        unreachable!()
-    };
-    let coverage = find_coverage(alloc, program, limits, options.states)?;
-    let rest = gaps_of(alloc, program, legend, entries, &coverage)?;
-    let text = if as_json {
-        let cover = cover_json(alloc, &rest)?.to_string(alloc)?;
-        with_member(alloc, answer.text.as_str(), cover.as_str())?
-    } else {
-        let cover = cover_text(alloc, &rest)?;
-        format!(in alloc; "{}\n{cover}", answer.text)?
-    };
-    Ok(Answer {
+) -> Result<ShowAnswer, AllocError> {
+    let answer = answer?;
+    let text = text_with_gaps(
+        alloc,
+        options,
+        observer,
+        loaded,
+        legend,
+        answer.text.as_str(),
+        as_json,
+    )?;
+    Ok(ShowAnswer {
         verdict: answer.verdict,
         text,
     })
+}
+
+fn text_with_gaps<O: ObserveProgress>(
+    alloc: Global,
+    options: &Options,
+    observer: &mut O,
+    loaded: &Loaded,
+    legend: &Legend,
+    told: &str,
+    as_json: bool,
+) -> Result<String, AllocError> {
+    let gaps = gaps_within(alloc, options, observer, loaded, legend)?;
+    if as_json {
+        let cover = json_of(alloc, &gaps)?;
+        with_member(alloc, told, cover.as_str())
+    } else {
+        let cover = cover_text(alloc, &gaps)?;
+        format!(in alloc; "{told}\n{cover}")
+    }
+}
+
+// What no schedule within the limits of the options comes to.
+fn gaps_within<O: ObserveProgress>(
+    alloc: Global,
+    options: &Options,
+    observer: &mut O,
+    loaded: &Loaded,
+    legend: &Legend,
+) -> Result<Gaps, AllocError> {
+    let coverage = find_coverage(
+        alloc,
+        &loaded.program,
+        limits_of(options),
+        options.states,
+        observer,
+    )?;
+    gaps_beside(alloc, loaded, legend, &coverage)
+}
+
+fn gaps_beside(
+    alloc: Global,
+    loaded: &Loaded,
+    legend: &Legend,
+    coverage: &Coverage,
+) -> Result<Gaps, AllocError> {
+    let entries: Entries = entries_of(alloc, loaded.checked.tree())?;
+    gaps_of(alloc, &loaded.program, legend, &entries, coverage)
+}
+
+fn json_of(alloc: Global, gaps: &Gaps) -> Result<String, AllocError> {
+    cover_json(alloc, gaps)?.to_string(alloc)
 }
 
 // An object on a line of its own, with one member more.

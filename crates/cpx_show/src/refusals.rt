@@ -1,47 +1,55 @@
-//! Why a source is refused, as an answer.
+//! Why a source is refused, as a text.
 
-use crate::answering::{Answer, Verdict};
+use cp_front::{Loaded, Refusal as LoadRefusal};
 use cp_refusal::{
-    ByteRange, ExplainedRefusal, Explanation as Said, Hints, position_of, refusal, text,
+    ByteRange, ExplainedRefusal, Explanation as Said, Hint, Hints, position_of, refusal, text,
 };
 use cp_story::objects::Object;
 use serde_json::Value;
 use std::alloc::{AllocError, Global};
 
 /// Why the source is refused, or that it is accepted; places begin with the name of its file, if one is given.
-pub fn explanation_answer(
+pub fn explanation_text(
     alloc: Global,
     source: &[u8],
+    loaded: Result<&Loaded, &LoadRefusal>,
     as_json: bool,
     file: &Option<String>,
-) -> Result<Answer, AllocError> {
-    let said = refusal(alloc, source)?;
-    let verdict = match &said {
-        Said::Accepted(_) => Verdict::Reported,
-        Said::Refused(_) => Verdict::Refused,
-    };
-    let text = if as_json {
-        json(alloc, source, &said)?
+) -> Result<String, AllocError> {
+    let said = refusal(alloc, source, loaded)?;
+    if as_json {
+        json(alloc, source, &said)
     } else {
-        let file = match file {
-            Some(name) => Some(name.as_str()),
-            None => None,
-        };
-        text(alloc, source, &said, file)?
-    };
-    Ok(Answer { verdict, text })
+        text(alloc, source, &said, name_of(file))
+    }
+}
+
+fn name_of(file: &Option<String>) -> Option<&str> {
+    match file {
+        Some(name) => Some(name.as_str()),
+        None => None,
+    }
 }
 
 // The same as one JSON object.
 fn json(alloc: Global, source: &[u8], said: &Said) -> Result<String, AllocError> {
     let mut object = Object::new(alloc);
-    match said {
-        Said::Accepted(hints) => put_hints(alloc, &mut object, source, hints)?,
-        Said::Refused(refusal) => put_refusal(&mut object, source, refusal)?,
-    }
+    put_said(alloc, &mut object, source, said)?;
     let mut text = object.done().to_string(alloc)?;
     text.push('\n')?;
     Ok(text)
+}
+
+fn put_said(
+    alloc: Global,
+    object: &mut Object,
+    source: &[u8],
+    said: &Said,
+) -> Result<(), AllocError> {
+    match said {
+        Said::Accepted(hints) => put_hints(alloc, object, source, hints),
+        Said::Refused(refusal) => put_refusal(object, source, refusal),
+    }
 }
 
 fn put_position(object: &mut Object, source: &[u8], span: ByteRange) -> Result<(), AllocError> {
@@ -72,14 +80,29 @@ fn put_hints(
     source: &[u8],
     hints: &Hints,
 ) -> Result<(), AllocError> {
-    let mut all = Vec::new(alloc);
-    for hint in &hints.all {
-        let mut one = Object::new(alloc);
-        put_position(&mut one, source, hint.span)?;
-        one.text("sentence", hint.sentence.as_str())?;
-        all.push(one.done())?;
-    }
     object.put("accepted", Value::Bool(true))?;
-    object.put("hints", Value::Array(all))?;
+    object.put(
+        "hints",
+        Value::Array(hint_objects(alloc, source, &hints.all)?),
+    )?;
     object.number("more", hints.more as u64)
+}
+
+fn hint_objects(alloc: Global, source: &[u8], hints: &[Hint]) -> Result<Vec<Value>, AllocError> {
+    let mut all = Vec::new(alloc);
+    for hint in hints {
+        all.push(hint_object(alloc, source, hint)?)?;
+    }
+    Ok(all)
+}
+
+fn hint_object(alloc: Global, source: &[u8], hint: &Hint) -> Result<Value, AllocError> {
+    let mut one = Object::new(alloc);
+    put_hint(&mut one, source, hint)?;
+    Ok(one.done())
+}
+
+fn put_hint(object: &mut Object, source: &[u8], hint: &Hint) -> Result<(), AllocError> {
+    put_position(object, source, hint.span)?;
+    object.text("sentence", hint.sentence.as_str())
 }

@@ -86,7 +86,7 @@ module _ (tokens : Tokens) (s : Scopes) (h : Here) (w : Context) (agrees : Scope
       (subst (VariableForm W v) (sym (is.value at (name_with i ss) o f)) (held_variable (find i.name h.scope) (last_field ss) v o k (free_place v a)))))
   variable_held at u i ss v (p ∷ os) o f k = tt
 
-  value_held : (at : ℕ) (i : Identifier) (ss : Selectors) (d : check_designated.Designated) (n : Named) (os : List Operand) (o : Option Designated) (f : Option Formed) → NamedIs tokens s h i.name (find i.name h.scope) (last_field ss) n o →
+  value_held : (at : ℕ) (i : Identifier) (ss : Selectors) (d : check_designated.DesignatedName) (n : Named) (os : List Operand) (o : Option Designated) (f : Option Formed) → NamedIs tokens s h i.name (find i.name h.scope) (last_field ss) n o →
       HasVariable W (calls.value_named s w at d os n) (named_form h at (name_with i ss) (is_call_meant (find i.name h.scope) (last_field ss)) (find i.name h.scope) o f)
   value_held at i ss d (name.Variable v) os o f k = variable_held at d.uses i ss v os o f k
   value_held at i ss d name.Nothing os o f k = tt
@@ -97,7 +97,7 @@ module _ (tokens : Tokens) (s : Scopes) (h : Here) (w : Context) (agrees : Scope
   value_held at i ss d (name.Routine n) os o f k = made (calls.value_named s w at d os (name.Routine n)) _ (call_made s w at d.name_at true n os d.uses)
   value_held at i ss d (name.Entry n) os o f k = made (calls.value_named s w at d os (name.Entry n)) _ (call_made s w at d.name_at false n os d.uses)
 
-  name_held : (v : Bool) (at : ℕ) (i : Identifier) (ss : Selectors) (j : Judged check_designated.Designated) (k : Judged (List Operand)) (o : Option Designated) (f : Option Formed) → HasDesignated tokens s h i.name (find i.name h.scope) (last_field ss) j o →
+  name_held : (v : Bool) (at : ℕ) (i : Identifier) (ss : Selectors) (j : Judged check_designated.DesignatedName) (k : Judged (List Operand)) (o : Option Designated) (f : Option Formed) → HasDesignated tokens s h i.name (find i.name h.scope) (last_field ss) j o →
       HasVariable W (expressions.named_value s w v at j k) (named_form h at (name_with i ss) (is_call_meant (find i.name h.scope) (last_field ss)) (find i.name h.scope) o f)
   unfolding calls.value_of
   name_held false at i ss (Ok d) (Ok os) o f e = value_held at i ss d d.named os o f e

@@ -290,7 +290,7 @@ module _ (tokens : Tokens) (s : Scopes) (h : Here) (w : Context) (agrees : Scope
 
   -- what a designator without faults stands for
   record Pointed (i : Identifier) (ss : Selectors) : Type 0 where
-    pub value : check_designated.Designated
+    pub value : check_designated.DesignatedName
     pub is : designator s w (name_with i ss) ≡ Ok value
     pub holds : NamedIs tokens s h i.name (find i.name h.scope) (last_field ss) value.named (designator_form h (name_with i ss))
 
@@ -309,7 +309,7 @@ module _ (tokens : Tokens) (s : Scopes) (h : Here) (w : Context) (agrees : Scope
       let f : Found e = found e less parts.1 in
       let all : faults (both (statements.with_target s w i.at p.value) (Ok f.operand) >>= statements.finish_assignment at) ≡ [] =
       subst (λ (x : Judged Operand). faults (both (statements.with_target s w i.at p.value) x >>= statements.finish_assignment at) ≡ []) f.is
-      (subst (λ (x : Judged check_designated.Designated). faults (both (x >>= statements.with_target s w i.at) (expression s w false e) >>= statements.finish_assignment at) ≡ []) p.is none) in
+      (subst (λ (x : Judged check_designated.DesignatedName). faults (both (x >>= statements.with_target s w i.at) (expression s w false e) >>= statements.finish_assignment at) ≡ []) p.is none) in
       named_assigned d i.name e (find i.name h.scope) (last_field ss) p.value.named (designator_form h d) f.operand p.holds refl (takes at i.at (target_of s w p.value.named) f.operand p.value.uses all) f.typed
 
   -- ---- counts
@@ -516,7 +516,7 @@ module _ (tokens : Tokens) (s : Scopes) (h : Here) (w : Context) (agrees : Scope
   no_variable q x v (Some (a_component c n)) k = k.1
   no_variable q x v None k = k
 
-  standard_invoked : (at : ℕ) (q : scopes.Standard) (i : Name) (x : Option Name) (d : check_designated.Designated) (n : Named) (es : Expressions) (os : List Operand) (o : Option Designated) → NamedIs tokens s h i (Some (scopes.standard_meaning q)) x n o → AreSmallExpressions es → arguments s w (statements.parameters_of s n (statements.number_of es)) 0 es ≡ Ok os → faults (statements.invoked_named s w at d os n) ≡ [] → IsPerformed h q es
+  standard_invoked : (at : ℕ) (q : scopes.Standard) (i : Name) (x : Option Name) (d : check_designated.DesignatedName) (n : Named) (es : Expressions) (os : List Operand) (o : Option Designated) → NamedIs tokens s h i (Some (scopes.standard_meaning q)) x n o → AreSmallExpressions es → arguments s w (statements.parameters_of s n (statements.number_of es)) 0 es ≡ Ok os → faults (statements.invoked_named s w at d os n) ≡ [] → IsPerformed h q es
   standard_invoked at q i x d (name.Predeclared p) es os o k small a none =
       performed_formed at q es os (calls.total_use d.uses os) small a (subst (λ r. faults (statements.performed s w at r os (calls.total_use d.uses os)) ≡ []) (sym k) none)
   standard_invoked at q i x d (name.Constant b) es os o k small a none = absurd k.1
@@ -527,7 +527,7 @@ module _ (tokens : Tokens) (s : Scopes) (h : Here) (w : Context) (agrees : Scope
   standard_invoked at q i x d name.Kind es os o k small a none = absurd (cc)
   standard_invoked at q i x d name.Nothing es os o k small a none = absurd (cc)
 
-  any_invoked : (at : ℕ) (i : Name) (m : Option scopes.Meaning) (x : Option Name) (d : check_designated.Designated) (n : Named) (es : Expressions) (os : List Operand) (o : Option Designated) → NamedIs tokens s h i m x n o → AreSmallExpressions es → arguments s w (statements.parameters_of s n (statements.number_of es)) 0 es ≡ Ok os → faults (statements.invoked_named s w at d os n) ≡ [] → IsInvoked h es m
+  any_invoked : (at : ℕ) (i : Name) (m : Option scopes.Meaning) (x : Option Name) (d : check_designated.DesignatedName) (n : Named) (es : Expressions) (os : List Operand) (o : Option Designated) → NamedIs tokens s h i m x n o → AreSmallExpressions es → arguments s w (statements.parameters_of s n (statements.number_of es)) 0 es ≡ Ok os → faults (statements.invoked_named s w at d os n) ≡ [] → IsInvoked h es m
   any_invoked at i (Some (scopes.standard_meaning q)) x d n es os o k small a none = standard_invoked at q i x d n es os o k small a none
   any_invoked at i (Some (scopes.constant_meaning b z)) x d n es os o k small a none = tt
   any_invoked at i (Some (scopes.type_meaning t)) x d n es os o k small a none = tt
@@ -540,7 +540,7 @@ module _ (tokens : Tokens) (s : Scopes) (h : Here) (w : Context) (agrees : Scope
   unfolding statements.call statements.invoked
   invoke_formed at i ss es small less none =
       let d : Designator = name_with i ss in
-      let j : Judged check_designated.Designated = designator s w d in
+      let j : Judged check_designated.DesignatedName = designator s w d in
       let ps = statements.parameters_named s (statements.number_of es) j in
       let parts : (faults j ≡ []) × (faults (arguments s w ps 0 es) ≡ []) = none_of_both j (arguments s w ps 0 es) (none_first (both j (arguments s w ps 0 es)) (statements.invoked s w at) none) in
       let p : Pointed i ss = pointed i ss small parts.0 in
@@ -563,7 +563,7 @@ module _ (tokens : Tokens) (s : Scopes) (h : Here) (w : Context) (agrees : Scope
   component_started t m x k n (Some (a_variable p (named.record_with ts))) same i = absurd (let bad : types.Component k n ≡ types.Record i.0.token = i.0.is in cc)
   component_started t m x k n None same i = absurd i
 
-  variable_started : (at : ℕ) (t : Start) (m : Option scopes.Meaning) (x : Option Name) (d : check_designated.Designated) (os : List Operand) (v : ValueType) → Holds W m x v (designator_form h t.target) → faults (statements.started_named s at d os (name.Variable v)) ≡ [] → IsStarted h t
+  variable_started : (at : ℕ) (t : Start) (m : Option scopes.Meaning) (x : Option Name) (d : check_designated.DesignatedName) (os : List Operand) (v : ValueType) → Holds W m x v (designator_form h t.target) → faults (statements.started_named s at d os (name.Variable v)) ≡ [] → IsStarted h t
   variable_started at t m x d os (types.Component k n) i none = component_started t m x k n (designator_form h t.target) refl i
   variable_started at t m x d os (types.Ordinal r) i none = absurd (cc)
   variable_started at t m x d os types.Queue i none = absurd (cc)
@@ -571,7 +571,7 @@ module _ (tokens : Tokens) (s : Scopes) (h : Here) (w : Context) (agrees : Scope
   variable_started at t m x d os (types.Array n) i none = absurd (cc)
   variable_started at t m x d os (types.Record n) i none = absurd (cc)
 
-  named_started : (at : ℕ) (t : Start) (i : Name) (m : Option scopes.Meaning) (x : Option Name) (d : check_designated.Designated) (os : List Operand) (n : Named) → NamedIs tokens s h i m x n (designator_form h t.target) → faults (statements.started_named s at d os n) ≡ [] → IsStarted h t
+  named_started : (at : ℕ) (t : Start) (i : Name) (m : Option scopes.Meaning) (x : Option Name) (d : check_designated.DesignatedName) (os : List Operand) (n : Named) → NamedIs tokens s h i m x n (designator_form h t.target) → faults (statements.started_named s at d os n) ≡ [] → IsStarted h t
   named_started at t i m x d os (name.Variable v) k none = variable_started at t m x d os v k none
   named_started at t i m x d os (name.Parameter v) k none = absurd (cc)
   named_started at t i m x d os (name.Constant b) k none = absurd (cc)
@@ -584,9 +584,9 @@ module _ (tokens : Tokens) (s : Scopes) (h : Here) (w : Context) (agrees : Scope
   start_formed_of : (t : Start) (i : Identifier) (ss : Selectors) → t.target ≡ name_with i ss → IsSmallDesignator (name_with i ss) → faults (statements.start s w t) ≡ [] → IsStarted h t
   unfolding statements.start statements.started
   start_formed_of t i ss same small none =
-      let j : Judged check_designated.Designated = designator s w t.target in
+      let j : Judged check_designated.DesignatedName = designator s w t.target in
       let a : Judged (List Operand) = arguments s w [] 0 t.arguments in
-      let f : check_designated.Designated × List Operand → Judged Use = statements.started s (statements.name_at t.target) in
+      let f : check_designated.DesignatedName × List Operand → Judged Use = statements.started s (statements.name_at t.target) in
       let parts : (faults j ≡ []) × (faults a ≡ []) = none_of_both j a (none_first (both j a) f none) in
       let p : Pointed i ss = pointed i ss small (subst (λ (d : Designator). faults (designator s w d) ≡ []) same parts.0) in
       let r : Right a = right_of a (arguments_loud s w heard [] 0 t.arguments) parts.1 in

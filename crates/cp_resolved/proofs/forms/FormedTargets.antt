@@ -202,7 +202,7 @@ module _ (tokens : Tokens) (s : Scopes) (h : Here) (w : Context) (agrees : Scope
         named = routine_target (find i.name h.scope) (name_with i no_selectors) i.name n k tt (subst HasResult (sym o.1) tt);
       }
 
-  pub begun_routine : (i : Identifier) (c : check_designated.Designated) (n : ℕ) → names.begun s i ≡ Ok c → c.named ≡ name.Routine n → look i.name s ≡ Some (Some (meaning.Routine n))
+  pub begun_routine : (i : Identifier) (c : check_designated.DesignatedName) (n : ℕ) → names.begun s i ≡ Ok c → c.named ≡ name.Routine n → look i.name s ≡ Some (Some (meaning.Routine n))
   unfolding names.begun names.visible
   begun_routine i c n is e = go (look i.name s) refl is
     where
@@ -218,7 +218,7 @@ module _ (tokens : Tokens) (s : Scopes) (h : Here) (w : Context) (agrees : Scope
       go : (o : Option (Option Meaning)) → look i.name s ≡ o → (names.found i.at o >>= names.unselected i.at) ≡ Ok c → look i.name s ≡ Some (Some (meaning.Routine n))
       go None j k = absurd (cc)
       go (Some None) j k = absurd (cc)
-      go (Some (Some m)) j k = j ∙ ap (λ (z : Meaning). Some (Some z)) (routine m (ap (λ (d : check_designated.Designated). d.named) (ok_same _ c k) ∙ e))
+      go (Some (Some m)) j k = j ∙ ap (λ (z : Meaning). Some (Some z)) (routine m (ap (λ (d : check_designated.DesignatedName). d.named) (ok_same _ c k) ∙ e))
 
   record IsOwnHere (n : ℕ) (v : ValueType) : Type 0 where
     pub routine : w.routine ≡ Some n
@@ -271,7 +271,7 @@ module _ (tokens : Tokens) (s : Scopes) (h : Here) (w : Context) (agrees : Scope
       go false x = cc
 
   -- a name alone
-  pub begun_target : (own : (n : ℕ) → w.routine ≡ Some n → OwnRoutine n) (i : Identifier) (c : check_designated.Designated) (n : Named) (v : ValueType) → c.named ≡ n → names.begun s i ≡ Ok c → NamedIs tokens s h i.name (find i.name h.scope) None n (begun_form h i.name (find i.name h.scope)) → target_of s w n ≡ target.Assignable v → TargetFormed i no_selectors v (begun_form h i.name (find i.name h.scope))
+  pub begun_target : (own : (n : ℕ) → w.routine ≡ Some n → OwnRoutine n) (i : Identifier) (c : check_designated.DesignatedName) (n : Named) (v : ValueType) → c.named ≡ n → names.begun s i ≡ Ok c → NamedIs tokens s h i.name (find i.name h.scope) None n (begun_form h i.name (find i.name h.scope)) → target_of s w n ≡ target.Assignable v → TargetFormed i no_selectors v (begun_form h i.name (find i.name h.scope))
   begun_target own i c (name.Variable u) v same is k e = variable_aimed i no_selectors None u v (begun_form h i.name (find i.name h.scope)) k e
   begun_target own i c (name.Routine n) v same is k e = (let o : IsOwnHere n v = own_here n v e in own_target i n v (own n o.routine) (begun_routine i c n is same) k o.result)
   begun_target own i c (name.Entry n) v same is k e = absurd (no_entry n v e)
@@ -285,14 +285,14 @@ module _ (tokens : Tokens) (s : Scopes) (h : Here) (w : Context) (agrees : Scope
   only None = refl
   only (Some a) = refl
 
-  bare_target : (own : (n : ℕ) → w.routine ≡ Some n → OwnRoutine n) (i : Identifier) (ss : Selectors) (c : check_designated.Designated) (n : ℕ) (v : ValueType) → ss ≡ no_selectors → c.named ≡ name.Routine n → designator s w (name_with i ss) ≡ Ok c → RoutineIs W (heading_at n s) i.name h.scope (find i.name h.scope) → target_of s w (name.Routine n) ≡ target.Assignable v → TargetFormed i ss v (designator_form h (name_with i ss))
+  bare_target : (own : (n : ℕ) → w.routine ≡ Some n → OwnRoutine n) (i : Identifier) (ss : Selectors) (c : check_designated.DesignatedName) (n : ℕ) (v : ValueType) → ss ≡ no_selectors → c.named ≡ name.Routine n → designator s w (name_with i ss) ≡ Ok c → RoutineIs W (heading_at n s) i.name h.scope (find i.name h.scope) → target_of s w (name.Routine n) ≡ target.Assignable v → TargetFormed i ss v (designator_form h (name_with i ss))
   unfolding expression
   bare_target own i no_selectors c n v none same is k e =
       let t : Then (names.begun s i) (names.known i.at) c = then_of (names.begun s i) (names.known i.at) c is in
       let one : t.value ≡ c = known_is s w i.at t.value c t.rest in
       let o : IsOwnHere n v = own_here n v e in
       subst (TargetFormed i no_selectors v) (only (begun_form h i.name (find i.name h.scope)))
-      (own_target i n v (own n o.routine) (begun_routine i t.value n t.is (ap (λ (d : check_designated.Designated). d.named) one ∙ same)) k o.result)
+      (own_target i n v (own n o.routine) (begun_routine i t.value n t.is (ap (λ (d : check_designated.DesignatedName). d.named) one ∙ same)) k o.result)
   bare_target own i (more_selectors x ss) c n v none same is k e = absurd (cc)
 
   no_selector : (i : Identifier) (ss : Selectors) → IsBare (name_with i ss) → ss ≡ no_selectors
@@ -309,7 +309,7 @@ module _ (tokens : Tokens) (s : Scopes) (h : Here) (w : Context) (agrees : Scope
   routine_no_variable n x None k v = v
 
   -- a name with selectors
-  pub designated_target : (own : (n : ℕ) → w.routine ≡ Some n → OwnRoutine n) (i : Identifier) (ss : Selectors) (c : check_designated.Designated) (n : Named) (v : ValueType) → c.named ≡ n → designator s w (name_with i ss) ≡ Ok c → NamedIs tokens s h i.name (find i.name h.scope) (last_field ss) n (designator_form h (name_with i ss)) → target_of s w n ≡ target.Assignable v → TargetFormed i ss v (designator_form h (name_with i ss))
+  pub designated_target : (own : (n : ℕ) → w.routine ≡ Some n → OwnRoutine n) (i : Identifier) (ss : Selectors) (c : check_designated.DesignatedName) (n : Named) (v : ValueType) → c.named ≡ n → designator s w (name_with i ss) ≡ Ok c → NamedIs tokens s h i.name (find i.name h.scope) (last_field ss) n (designator_form h (name_with i ss)) → target_of s w n ≡ target.Assignable v → TargetFormed i ss v (designator_form h (name_with i ss))
   designated_target own i ss c (name.Variable u) v same is k e = variable_aimed i ss (last_field ss) u v (designator_form h (name_with i ss)) k e
   designated_target own i ss c (name.Routine n) v same is k e =
       bare_target own i ss c n v (no_selector i ss (other_bare tokens s h w agrees i ss c (routine_no_variable i.name n (find i.name h.scope) k) is)) same is k e

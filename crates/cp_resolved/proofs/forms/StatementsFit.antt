@@ -97,17 +97,17 @@ module _ (tokens : Tokens) (s : Scopes) (h : Here) (w : Context) (agrees : Scope
       let x : HasOrdinal h e = ordinal_formed tokens s h w agrees heard e o.value_type j.typed i in
       record { ty = named.ordinal x.range; cell = x.code; formed = x.formed; used = j.used }
 
-  record Pointed (i : Identifier) (ss : Selectors) (c : check_designated.Designated) : Type 0 where
+  record Pointed (i : Identifier) (ss : Selectors) (c : check_designated.DesignatedName) : Type 0 where
     pub holds : NamedIs tokens s h i.name (find i.name h.scope) (last_field ss) c.named (designator_form h (name_with i ss))
     pub chosen : SelectorsUsed h ss
     pub calls : CallsFormed h (selectors_calls h.scope ss)
 
-  pointed : (i : Identifier) (ss : Selectors) (c : check_designated.Designated) → AreSmallSelectors ss → designator s w (name_with i ss) ≡ Ok c → Pointed i ss c
+  pointed : (i : Identifier) (ss : Selectors) (c : check_designated.DesignatedName) → AreSmallSelectors ss → designator s w (name_with i ss) ≡ Ok c → Pointed i ss c
   unfolding expression
   pointed i ss c m is =
       let t : Then (selectors s w (names.begun s i) ss) (names.known i.at) c = then_of (selectors s w (names.begun s i) ss) (names.known i.at) c is in
       let x = selectors_used tokens s h w agrees ss m (names.begun s i) t.value t.is in
-      record { holds = subst (λ (j : Judged check_designated.Designated). HasDesignated tokens s h i.name (find i.name h.scope) (last_field ss) j (designator_form h (name_with i ss))) is (designator_typed tokens s h w agrees i ss m); chosen = x.0; calls = x.1 }
+      record { holds = subst (λ (j : Judged check_designated.DesignatedName). HasDesignated tokens s h i.name (find i.name h.scope) (last_field ss) j (designator_form h (name_with i ss))) is (designator_typed tokens s h w agrees i ss m); chosen = x.0; calls = x.1 }
 
   -- ---- assignments
 
@@ -139,7 +139,7 @@ module _ (tokens : Tokens) (s : Scopes) (h : Here) (w : Context) (agrees : Scope
       let t : Then (both j (expression s w false e)) (statements.finish_assignment at) r = then_of (both j (expression s w false e)) (statements.finish_assignment at) r is in
       let b = both_of j (expression s w false e) t.value t.is in
       let k : Then (designator s w d) (statements.with_target s w i.at) t.value.0 = then_of (designator s w d) (statements.with_target s w i.at) t.value.0 b.first in
-      let c : check_designated.Designated = k.value in
+      let c : check_designated.DesignatedName = k.value in
       let a : Then (statements.aimed i.at (target_of s w c.named)) (λ x. Ok (x, c.uses)) t.value.0 = then_of (statements.aimed i.at (target_of s w c.named)) (λ x. Ok (x, c.uses)) t.value.0 k.rest in
       let aim : target_of s w c.named ≡ t.value.0.0 = aimed_is i.at (target_of s w c.named) a.value a.is ∙ ap (λ (x : Target × Use). x.0) (ok_same (a.value, c.uses) t.value.0 a.rest) in
       let y : Assigns t.value.0.0 t.value.1 = assigns at t.value.0.0 t.value.1 (both_uses t.value.0.1 t.value.1.uses) r t.rest in
@@ -255,7 +255,7 @@ module _ (tokens : Tokens) (s : Scopes) (h : Here) (w : Context) (agrees : Scope
   entry_invoked i ss es r (Some (scopes.type_meaning t)) call bare u e c = absurd (cc)
   entry_invoked i ss es r None call bare u e c = absurd (cc)
 
-  named_invoked : (at : ℕ) (i : Identifier) (ss : Selectors) (es : Expressions) (c : check_designated.Designated) (n : Named) (os : List Operand) (r : Use) (o : Option Designated) → c.named ≡ n → NamedIs tokens s h i.name (find i.name h.scope) (last_field ss) n o → AreSmallSelectors ss → AreSmallExpressions es → SelectorsUsed h ss → designator s w (name_with i ss) ≡ Ok c → arguments s w (statements.parameters_of s n (statements.number_of es)) 0 es ≡ Ok os → statements.invoked_named s w at c os n ≡ Ok r → InvokeResult (name_with i ss) es (find i.name h.scope)
+  named_invoked : (at : ℕ) (i : Identifier) (ss : Selectors) (es : Expressions) (c : check_designated.DesignatedName) (n : Named) (os : List Operand) (r : Use) (o : Option Designated) → c.named ≡ n → NamedIs tokens s h i.name (find i.name h.scope) (last_field ss) n o → AreSmallSelectors ss → AreSmallExpressions es → SelectorsUsed h ss → designator s w (name_with i ss) ≡ Ok c → arguments s w (statements.parameters_of s n (statements.number_of es)) 0 es ≡ Ok os → statements.invoked_named s w at c os n ≡ Ok r → InvokeResult (name_with i ss) es (find i.name h.scope)
   named_invoked at i ss es c (name.Predeclared p) os r o same k small less u d a is =
       standard_invoked at (name_with i ss) es p os (calls.total_use c.uses os) r (find i.name h.scope) k (λ other. other_bare tokens s h w agrees i ss c other d) less a is
   named_invoked at i ss es c (name.Routine n) os r o same k small less u d a is =
@@ -278,7 +278,7 @@ module _ (tokens : Tokens) (s : Scopes) (h : Here) (w : Context) (agrees : Scope
       let t : Then (both (designator s w d) (arguments s w ps 0 es)) (statements.invoked s w at) r = then_of (both (designator s w d) (arguments s w ps 0 es)) (statements.invoked s w at) r is in
       let b = both_of (designator s w d) (arguments s w ps 0 es) t.value t.is in
       let p : Pointed i ss t.value.0 = pointed i ss t.value.0 small b.first in
-      let a : arguments s w (statements.parameters_of s t.value.0.named (statements.number_of es)) 0 es ≡ Ok t.value.1 = sym (ap (λ (j : Judged check_designated.Designated). arguments s w (statements.parameters_named s (statements.number_of es) j) 0 es) b.first) ∙ b.second in
+      let a : arguments s w (statements.parameters_of s t.value.0.named (statements.number_of es)) 0 es ≡ Ok t.value.1 = sym (ap (λ (j : Judged check_designated.DesignatedName). arguments s w (statements.parameters_named s (statements.number_of es) j) 0 es) b.first) ∙ b.second in
       let x = named_invoked at i ss es t.value.0 t.value.0.named t.value.1 r (designator_form h d) refl p.holds small less p.chosen b.first a t.rest in
       (x.0, calls_both h (selectors_calls h.scope ss) (expressions_calls h.scope es) p.calls x.1)
 
@@ -346,7 +346,7 @@ module _ (tokens : Tokens) (s : Scopes) (h : Here) (w : Context) (agrees : Scope
   component_started at i ss es x k n (Some (a_variable p (named.record_with ts))) os u r same e small a is = absurd (let bad : types.Component k n ≡ types.Record e.0.token = e.0.is in cc)
   component_started at i ss es x k n None os u r same e small a is = absurd e
 
-  variable_started : (at : ℕ) (i : Identifier) (ss : Selectors) (es : Expressions) (d : check_designated.Designated) (v : ValueType) (o : Option Designated) (os : List Operand) (r : Use) → Holds (written tokens s h) (find i.name h.scope) (last_field ss) v o → AreSmallExpressions es → arguments s w [] 0 es ≡ Ok os → statements.started_named s at d os (name.Variable v) ≡ Ok r → Started i ss es o
+  variable_started : (at : ℕ) (i : Identifier) (ss : Selectors) (es : Expressions) (d : check_designated.DesignatedName) (v : ValueType) (o : Option Designated) (os : List Operand) (r : Use) → Holds (written tokens s h) (find i.name h.scope) (last_field ss) v o → AreSmallExpressions es → arguments s w [] 0 es ≡ Ok os → statements.started_named s at d os (name.Variable v) ≡ Ok r → Started i ss es o
   variable_started at i ss es d (types.Component k n) o os r e small a is = component_started at i ss es (last_field ss) k n o os _ r refl e small a is
   variable_started at i ss es d (types.Ordinal q) o os r e small a is = absurd (cc)
   variable_started at i ss es d types.Queue o os r e small a is = absurd (cc)
@@ -354,7 +354,7 @@ module _ (tokens : Tokens) (s : Scopes) (h : Here) (w : Context) (agrees : Scope
   variable_started at i ss es d (types.Array q) o os r e small a is = absurd (cc)
   variable_started at i ss es d (types.Record q) o os r e small a is = absurd (cc)
 
-  named_started : (at : ℕ) (i : Identifier) (ss : Selectors) (es : Expressions) (d : check_designated.Designated) (n : Named) (o : Option Designated) (os : List Operand) (r : Use) → NamedIs tokens s h i.name (find i.name h.scope) (last_field ss) n o → AreSmallExpressions es → arguments s w [] 0 es ≡ Ok os → statements.started_named s at d os n ≡ Ok r → Started i ss es o
+  named_started : (at : ℕ) (i : Identifier) (ss : Selectors) (es : Expressions) (d : check_designated.DesignatedName) (n : Named) (o : Option Designated) (os : List Operand) (r : Use) → NamedIs tokens s h i.name (find i.name h.scope) (last_field ss) n o → AreSmallExpressions es → arguments s w [] 0 es ≡ Ok os → statements.started_named s at d os n ≡ Ok r → Started i ss es o
   named_started at i ss es d (name.Variable v) o os r e small a is = variable_started at i ss es d v o os r e small a is
   named_started at i ss es d (name.Parameter v) o os r e small a is = absurd (cc)
   named_started at i ss es d (name.Constant b) o os r e small a is = absurd (cc)
@@ -443,7 +443,7 @@ module _ (tokens : Tokens) (s : Scopes) (h : Here) (w : Context) (agrees : Scope
       let c : Counts (target_of s w t.value.0.0.0.named) t.value.0.0.1 t.value.0.1 = counts at i.at (target_of s w t.value.0.0.0.named) t.value.0.0.1 t.value.0.1 _ r t.rest in
       let x : Judgement a t.value.0.0.1 = judged a m t.value.0.0.1 o.second in
       let y : Judgement b t.value.0.1 = judged b n t.value.0.1 q.second in
-      let held : NamedIs tokens s h i.name (find i.name h.scope) None t.value.0.0.0.named (begun_form h i.name (find i.name h.scope)) = subst (λ (j : Judged check_designated.Designated). HasDesignated tokens s h i.name (find i.name h.scope) None j (begun_form h i.name (find i.name h.scope))) o.first (begun_typed tokens s h agrees i) in
+      let held : NamedIs tokens s h i.name (find i.name h.scope) None t.value.0.0.0.named (begun_form h i.name (find i.name h.scope)) = subst (λ (j : Judged check_designated.DesignatedName). HasDesignated tokens s h i.name (find i.name h.scope) None j (begun_form h i.name (find i.name h.scope))) o.first (begun_typed tokens s h agrees i) in
       let f : TargetFormed tokens s h w agrees i no_selectors c.value_type (begun_form h i.name (find i.name h.scope)) = begun_target tokens s h w agrees own i t.value.0.0.0 t.value.0.0.0.named c.value_type refl o.first held c.is in
       let z : Counter i = counter_of i c.value_type f.ty f.place f.is f.belongs c.ordinal f.named in (
         record { origin = z.origin; range = z.range; variable = z.variable; named = z.named; first = ordinal_of a t.value.0.0.1 x (agreeing_ordinal c.value_type t.value.0.0.1.value_type c.ordinal c.first); last = ordinal_of b t.value.0.1 y (agreeing_ordinal c.value_type t.value.0.1.value_type c.ordinal c.last) },

@@ -165,7 +165,7 @@ module _ (tokens : Tokens) (s : Scopes) (h : Here) (w : Context) (agrees : Scope
     factor_typed (negated at f) m = negated_form W at (factor s w false f) (factor_form h f) (factor_typed f m)
     factor_typed (set_of at es) m = constructed_form at (arguments s w [] 0 es) (members_form h es) (members_typed 0 es m)
 
-    selectors_typed : (x0 : Name) (mean : Option scopes.Meaning) (ss : Selectors) → AreSmallSelectors ss → (x : Option Name) (j : Judged check_designated.Designated) (o : Option FormDesignated) → HasDesignated tokens s h x0 mean x j o →
+    selectors_typed : (x0 : Name) (mean : Option scopes.Meaning) (ss : Selectors) → AreSmallSelectors ss → (x : Option Name) (j : Judged check_designated.DesignatedName) (o : Option FormDesignated) → HasDesignated tokens s h x0 mean x j o →
         HasDesignated tokens s h x0 mean (last_or x ss) (selectors s w j ss) (then_form o (selected_form h ss))
     selectors_typed x0 mean no_selectors m x j o i = subst (HasDesignated tokens s h x0 mean x j) (only o) i
     selectors_typed x0 mean (more_selectors (field n) ss) m x j o i =

@@ -116,7 +116,7 @@ module _ (tokens : Tokens) (s : Scopes) (h : Here) where
   NamedIs i m x (name.Entry n) d = IsCalled n i m x
   NamedIs i m x (name.Predeclared q) d = StandardIs q m
 
-  abbrev pub HasDesignated : Name → Option scopes.Meaning → Option Name → Judged check_designated.Designated → Option Designated → Type 0
+  abbrev pub HasDesignated : Name → Option scopes.Meaning → Option Name → Judged check_designated.DesignatedName → Option Designated → Type 0
   HasDesignated i m x (Ok d) o = NamedIs i m x d.named o
   HasDesignated i m x (Err fs) o = Unit {0}
 
@@ -321,7 +321,7 @@ module _ (tokens : Tokens) (s : Scopes) (h : Here) where
     field_step x i a u (name.Entry r) o d = tt
     field_step x i a u (name.Predeclared q) o d = tt
 
-    pub field_selected : (x : Option Name) (i : Identifier) (j : Judged check_designated.Designated) (o : Option Designated) → HasDesignated x0 m x j o → HasDesignated x0 m (Some i.name) (j >>= names.selected s i) (then_form o (λ c. with_field_form c i.name))
+    pub field_selected : (x : Option Name) (i : Identifier) (j : Judged check_designated.DesignatedName) (o : Option Designated) → HasDesignated x0 m x j o → HasDesignated x0 m (Some i.name) (j >>= names.selected s i) (then_form o (λ c. with_field_form c i.name))
     field_selected x i (Ok d) o e = field_step x i d.name_at d.uses d.named o e
     field_selected x i (Err fs) o e = tt
 
@@ -368,7 +368,7 @@ module _ (tokens : Tokens) (s : Scopes) (h : Here) where
     index_step x a u (name.Entry r) o v f i d = tt
     index_step x a u (name.Predeclared q) o v f i d = tt
 
-    pub index_selected : (x : Option Name) (j : Judged check_designated.Designated) (k : Judged Operand) (o : Option Designated) (f : Option Formed) → HasDesignated x0 m x j o → HasForm written k f → HasDesignated x0 m None (both j k >>= expressions.at_index s) (then_form o (λ c. then_form f (with_index_form h c)))
+    pub index_selected : (x : Option Name) (j : Judged check_designated.DesignatedName) (k : Judged Operand) (o : Option Designated) (f : Option Formed) → HasDesignated x0 m x j o → HasForm written k f → HasDesignated x0 m None (both j k >>= expressions.at_index s) (then_form o (λ c. then_form f (with_index_form h c)))
     index_selected x (Ok d) (Ok v) o f i e = index_step x d.name_at d.uses d.named o v f i e
     index_selected x (Ok d) (Err fs) o f i e = tt
     index_selected x (Err fs) (Ok v) o f i e = tt
@@ -384,7 +384,7 @@ module _ (tokens : Tokens) (s : Scopes) (h : Here) where
     known_step at a u (name.Entry r) x o d = d
     known_step at a u (name.Predeclared q) x o d = d
 
-    pub known_selected : (at : ℕ) (x : Option Name) (j : Judged check_designated.Designated) (o : Option Designated) → HasDesignated x0 m x j o → HasDesignated x0 m x (j >>= names.known at) o
+    pub known_selected : (at : ℕ) (x : Option Name) (j : Judged check_designated.DesignatedName) (o : Option Designated) → HasDesignated x0 m x j o → HasDesignated x0 m x (j >>= names.known at) o
     known_selected at x (Ok d) o e = known_step at d.name_at d.uses d.named x o e
     known_selected at x (Err fs) o e = tt
 

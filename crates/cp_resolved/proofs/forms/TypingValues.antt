@@ -268,7 +268,7 @@ module _ (tokens : Tokens) (s : Scopes) (h : Here) (w : Context) where
       subst (λ (t : Bool). HasForm W (calls.function_value s w at name_at b n os u) (named_form h at (designator i ss) t (find i.name h.scope) o f)) (sym c.is)
       (call_typed at name_at b n os u (routine_meant h.program h.scope i.name (find i.name h.scope) (last_field ss)) c.heading)
 
-  value_typed : (at : ℕ) (i : Identifier) (ss : Selectors) (d : check_designated.Designated) (n : Named) (os : List Operand) (o : Option Designated) (f : Option Formed) →
+  value_typed : (at : ℕ) (i : Identifier) (ss : Selectors) (d : check_designated.DesignatedName) (n : Named) (os : List Operand) (o : Option Designated) (f : Option Formed) →
       NamedIs tokens s h i.name (find i.name h.scope) (last_field ss) n o → ArgumentIs os f →
       HasForm W (calls.value_named s w at d os n) (named_form h at (designator i ss) (is_call_meant (find i.name h.scope) (last_field ss)) (find i.name h.scope) o f)
   value_typed at i ss d name.Nothing os o f e a = tt
@@ -287,7 +287,7 @@ module _ (tokens : Tokens) (s : Scopes) (h : Here) (w : Context) where
   AreArguments (Ok os) f = ArgumentIs os f
   AreArguments (Err fs) f = Unit {0}
 
-  pub name_typed : (at : ℕ) (i : Identifier) (ss : Selectors) (j : Judged check_designated.Designated) (k : Judged (List Operand)) (o : Option Designated) (f : Option Formed) →
+  pub name_typed : (at : ℕ) (i : Identifier) (ss : Selectors) (j : Judged check_designated.DesignatedName) (k : Judged (List Operand)) (o : Option Designated) (f : Option Formed) →
       HasDesignated tokens s h i.name (find i.name h.scope) (last_field ss) j o → AreArguments k f →
       HasForm W (both j k >>= calls.value_of s w at) (named_form h at (designator i ss) (is_call_meant (find i.name h.scope) (last_field ss)) (find i.name h.scope) o f)
   unfolding calls.value_of

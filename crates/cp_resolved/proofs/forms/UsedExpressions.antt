@@ -204,7 +204,7 @@ module _ (tokens : Tokens) (s : Scopes) (h : Here) (w : Context) (agrees : Scope
   entry_meant at i ss es r (Some (scopes.type_meaning t)) call bare e c = absurd (cc)
   entry_meant at i ss es r None call bare e c = absurd (cc)
 
-  value_used : (at : ℕ) (i : Identifier) (ss : Selectors) (es : Expressions) (d : check_designated.Designated) (n : Named) (os : List Operand) (o : Option Designated) (p : Operand) → d.named ≡ n → NamedIs tokens s h i.name (find i.name h.scope) (last_field ss) n o → AreSmallSelectors ss → AreSmallExpressions es →
+  value_used : (at : ℕ) (i : Identifier) (ss : Selectors) (es : Expressions) (d : check_designated.DesignatedName) (n : Named) (os : List Operand) (o : Option Designated) (p : Operand) → d.named ≡ n → NamedIs tokens s h i.name (find i.name h.scope) (last_field ss) n o → AreSmallSelectors ss → AreSmallExpressions es →
       designator s w (name_with i ss) ≡ Ok d → arguments s w [] 0 es ≡ Ok os → calls.value_named s w at d os n ≡ Ok p → NameUsed at (name_with i ss) es (is_call_meant (find i.name h.scope) (last_field ss)) (find i.name h.scope)
   value_used at i ss es d (Constant b) os o p same k small less is a g =
       constant_used at (name_with i ss) es b k.0 (find i.name h.scope) (last_field ss) k.1 (λ other. other_bare tokens s h w agrees i ss d other is) (none_given s w es (a ∙ ap (λ (z : List Operand). Ok z) (alone_none (value at (values_of b) d.uses) p os g)))
@@ -227,7 +227,7 @@ module _ (tokens : Tokens) (s : Scopes) (h : Here) (w : Context) (agrees : Scope
 
   -- a name alone or with its arguments
   record NameParts (d : Designator) (es : Expressions) (at : ℕ) (p : Operand) : Type 0 where
-    pub value : check_designated.Designated
+    pub value : check_designated.DesignatedName
     pub is : designator s w d ≡ Ok value
     pub operands : List Operand
     pub arguments : arguments s w [] 0 es ≡ Ok operands
@@ -247,7 +247,7 @@ module _ (tokens : Tokens) (s : Scopes) (h : Here) (w : Context) (agrees : Scope
       none : arguments s w [] 0 no_expressions ≡ Ok []
       none = refl
 
-      go : (c : check_designated.Designated) (b : Bool) → is_function p.place ≡ false → (if b then Ok (calls.placed at types.Queue place.Function c.uses) else calls.value_of s w at (c, [])) ≡ Ok p → calls.value_named s w at c [] c.named ≡ Ok p
+      go : (c : check_designated.DesignatedName) (b : Bool) → is_function p.place ≡ false → (if b then Ok (calls.placed at types.Queue place.Function c.uses) else calls.value_of s w at (c, [])) ≡ Ok p → calls.value_named s w at c [] c.named ≡ Ok p
       go c true k z = absurd (let one : calls.placed at types.Queue place.Function c.uses ≡ p = ok_same (calls.placed at types.Queue place.Function c.uses) p z in let bad : true ≡ false = ap (λ (x : Operand). is_function x.place) one ∙ k in cc)
       go c false k z = z
 
@@ -298,11 +298,11 @@ module _ (tokens : Tokens) (s : Scopes) (h : Here) (w : Context) (agrees : Scope
   never p i = absurd (cc)
 
   -- what selectors begin with is judged without a fault
-  record Begun (j : Judged check_designated.Designated) : Type 0 where
-    pub value : check_designated.Designated
+  record Begun (j : Judged check_designated.DesignatedName) : Type 0 where
+    pub value : check_designated.DesignatedName
     pub is : j ≡ Ok value
 
-  selectors_first : (ss : Selectors) (j : Judged check_designated.Designated) (d : check_designated.Designated) → selectors s w j ss ≡ Ok d → Begun j
+  selectors_first : (ss : Selectors) (j : Judged check_designated.DesignatedName) (d : check_designated.DesignatedName) → selectors s w j ss ≡ Ok d → Begun j
   unfolding expression
   selectors_first no_selectors j d is = record { value = d; is = is }
   selectors_first (more_selectors (field i) ss) j d is =
@@ -314,11 +314,11 @@ module _ (tokens : Tokens) (s : Scopes) (h : Here) (w : Context) (agrees : Scope
       let t : Then (both j (expression s w false e)) (expressions.at_index s) k.value = then_of (both j (expression s w false e)) (expressions.at_index s) k.value k.is in
       record { value = t.value.0; is = (both_of j (expression s w false e) t.value t.is).first }
 
-  record Chosen (j : Judged check_designated.Designated) (e : Expression) : Type 0 where
+  record Chosen (j : Judged check_designated.DesignatedName) (e : Expression) : Type 0 where
     pub operand : Operand
     pub is : expression s w false e ≡ Ok operand
 
-  chosen_index : (j : Judged check_designated.Designated) (e : Expression) → Begun (both j (expression s w false e) >>= expressions.at_index s) → Chosen j e
+  chosen_index : (j : Judged check_designated.DesignatedName) (e : Expression) → Begun (both j (expression s w false e) >>= expressions.at_index s) → Chosen j e
   chosen_index j e k =
       let t : Then (both j (expression s w false e)) (expressions.at_index s) k.value = then_of (both j (expression s w false e)) (expressions.at_index s) k.value k.is in
       record { operand = t.value.1; is = (both_of j (expression s w false e) t.value t.is).second }
@@ -381,7 +381,7 @@ module _ (tokens : Tokens) (s : Scopes) (h : Here) (w : Context) (agrees : Scope
         let t : Then (selectors s w (names.begun s i) ss) (names.known i.at) k.value = then_of (selectors s w (names.begun s i) ss) (names.known i.at) k.value k.is in
         let x = selectors_used ss m.0 (names.begun s i) t.value t.is in
         let y = arguments_used 0 es m.1 k.operands k.arguments in
-        let typed : NamedIs tokens s h i.name (find i.name h.scope) (last_field ss) k.value.named (designator_form h d) = subst (λ (j : Judged check_designated.Designated). HasDesignated tokens s h i.name (find i.name h.scope) (last_field ss) j (designator_form h d)) k.is (designator_typed tokens s h w agrees i ss m.0) in
+        let typed : NamedIs tokens s h i.name (find i.name h.scope) (last_field ss) k.value.named (designator_form h d) = subst (λ (j : Judged check_designated.DesignatedName). HasDesignated tokens s h i.name (find i.name h.scope) (last_field ss) j (designator_form h d)) k.is (designator_typed tokens s h w agrees i ss m.0) in
         let z = value_used at i ss es k.value k.value.named k.operands (designator_form h d) p refl typed m.0 m.1 k.is k.arguments k.rest in
         ((x.0, y.0, z.0), calls_both h (selectors_calls h.scope ss ++ expressions_calls h.scope es) (own_call (is_call_meant (find i.name h.scope) (last_field ss)) at d es) (calls_both h (selectors_calls h.scope ss) (expressions_calls h.scope es) x.1 y.1) z.1)
     factor_used v (group at e) m p only is =
@@ -404,7 +404,7 @@ module _ (tokens : Tokens) (s : Scopes) (h : Here) (w : Context) (agrees : Scope
         let y = arguments_used (k + 1) es m.1 t.value.1 q.second in
         ((x.0, y.0), calls_both h (expression_calls h.scope e) (expressions_calls h.scope es) x.1 y.1)
 
-    pub selectors_used : (ss : Selectors) → AreSmallSelectors ss → (j : Judged check_designated.Designated) (d : check_designated.Designated) → selectors s w j ss ≡ Ok d → SelectorsUsed h ss × CallsFormed h (selectors_calls h.scope ss)
+    pub selectors_used : (ss : Selectors) → AreSmallSelectors ss → (j : Judged check_designated.DesignatedName) (d : check_designated.DesignatedName) → selectors s w j ss ≡ Ok d → SelectorsUsed h ss × CallsFormed h (selectors_calls h.scope ss)
     selectors_used no_selectors m j d is = (tt, tt)
     selectors_used (more_selectors (field i) ss) m j d is =
         let x = selectors_used ss m.1 (j >>= names.selected s i) d is in

@@ -51,25 +51,25 @@ untyped_type (name.Routine n) h = refl
 untyped_type (name.Entry n) h = refl
 untyped_type (name.Predeclared q) h = refl
 
-abbrev pub IsNothing : Judged check_designated.Designated → Type 0
+abbrev pub IsNothing : Judged check_designated.DesignatedName → Type 0
 IsNothing (Ok d) = d.named ≡ name.Nothing
 IsNothing (Err fs) = Unit {0}
 
 module _ (s : Scopes) (w : Context) where
-  untyped_field : (i : Identifier) (d : check_designated.Designated) (o : Option ValueType) → o ≡ None → IsNothing (names.selected_of s i d o)
+  untyped_field : (i : Identifier) (d : check_designated.DesignatedName) (o : Option ValueType) → o ≡ None → IsNothing (names.selected_of s i d o)
   untyped_field i d None e = refl
   untyped_field i d (Some v) e = absurd (cc)
 
-  untyped_element : (d : check_designated.Designated) (v : Operand) (o : Option ValueType) → o ≡ None → names.indexed_of s d v o ≡ name.Nothing
+  untyped_element : (d : check_designated.DesignatedName) (v : Operand) (o : Option ValueType) → o ≡ None → names.indexed_of s d v o ≡ name.Nothing
   untyped_element d v None e = refl
   untyped_element d v (Some y) e = absurd (cc)
 
-  untyped_index : (d : check_designated.Designated) (k : Judged Operand) → names.type_of d.named ≡ None → IsNothing (both (Ok d) k >>= at_index s)
+  untyped_index : (d : check_designated.DesignatedName) (k : Judged Operand) → names.type_of d.named ≡ None → IsNothing (both (Ok d) k >>= at_index s)
   untyped_index d (Ok v) e = untyped_element d v (names.type_of d.named) e
   untyped_index d (Err fs) e = tt
 
   -- a selector after what has no type
-  untyped_selected : (d : check_designated.Designated) (c : Selector) → names.type_of d.named ≡ None → IsNothing (selector s w (Ok d) c)
+  untyped_selected : (d : check_designated.DesignatedName) (c : Selector) → names.type_of d.named ≡ None → IsNothing (selector s w (Ok d) c)
   unfolding expression
   untyped_selected d (field i) e = untyped_field i d (names.type_of d.named) e
   untyped_selected d (index x) e = untyped_index d (expression s w false x) e
@@ -83,17 +83,17 @@ module _ (s : Scopes) (w : Context) where
   failed_selected fs (field i) = tt
   failed_selected fs (index x) = failed_index fs (expression s w false x)
 
-  nothing_selected : (j : Judged check_designated.Designated) (c : Selector) → IsNothing j → IsNothing (selector s w j c)
+  nothing_selected : (j : Judged check_designated.DesignatedName) (c : Selector) → IsNothing j → IsNothing (selector s w j c)
   nothing_selected (Ok d) c e = untyped_selected d c (ap names.type_of e)
   nothing_selected (Err fs) c e = failed_selected fs c
 
-  pub nothing_stays : (ss : Selectors) (j : Judged check_designated.Designated) → IsNothing j → IsNothing (selectors s w j ss)
+  pub nothing_stays : (ss : Selectors) (j : Judged check_designated.DesignatedName) → IsNothing j → IsNothing (selectors s w j ss)
   unfolding expression
   nothing_stays no_selectors j e = e
   nothing_stays (more_selectors c ss) j e = nothing_stays ss (selector s w j c) (nothing_selected j c e)
 
   -- what is known is not nothing
-  pub nothing_known : (at : ℕ) (j : Judged check_designated.Designated) (d : check_designated.Designated) → IsNothing j → (j >>= names.known at) ≡ Ok d → ⊥
+  pub nothing_known : (at : ℕ) (j : Judged check_designated.DesignatedName) (d : check_designated.DesignatedName) → IsNothing j → (j >>= names.known at) ≡ Ok d → ⊥
   nothing_known at (Ok c) d e k = go c.named e k
     where
       go : (n : Named) → n ≡ name.Nothing → names.known_named at c n ≡ Ok d → ⊥
@@ -108,12 +108,12 @@ module _ (s : Scopes) (w : Context) where
   nothing_known at (Err fs) d e k = cc
 
   -- so what has no type has no selectors
-  pub untyped_bare : (at : ℕ) (ss : Selectors) (c d : check_designated.Designated) → IsUntyped c.named → (selectors s w (Ok c) ss >>= names.known at) ≡ Ok d → ss ≡ no_selectors
+  pub untyped_bare : (at : ℕ) (ss : Selectors) (c d : check_designated.DesignatedName) → IsUntyped c.named → (selectors s w (Ok c) ss >>= names.known at) ≡ Ok d → ss ≡ no_selectors
   unfolding expression
   untyped_bare at no_selectors c d h k = refl
   untyped_bare at (more_selectors x ss) c d h k = absurd (nothing_known at (selectors s w (selector s w (Ok c) x) ss) d (nothing_stays ss (selector s w (Ok c) x) (untyped_selected c x (untyped_type c.named h))) k)
 
-  pub known_is : (at : ℕ) (c d : check_designated.Designated) → names.known at c ≡ Ok d → c ≡ d
+  pub known_is : (at : ℕ) (c d : check_designated.DesignatedName) → names.known at c ≡ Ok d → c ≡ d
   known_is at c d k = go c.named k
     where
       go : (n : Named) → names.known_named at c n ≡ Ok d → c ≡ d
@@ -168,7 +168,7 @@ module _ (tokens : Tokens) (s : Scopes) (h : Here) (w : Context) (agrees : Scope
   other_untyped i m x (name.Entry n) o other k = tt
   other_untyped i m x (name.Predeclared q) o other k = tt
 
-  bare_of : (i : Identifier) (ss : Selectors) (j : Judged check_designated.Designated) (d : check_designated.Designated) → names.begun s i ≡ j → (IsVariableMeaning (find i.name h.scope) → ⊥) → (selectors s w j ss >>= names.known i.at) ≡ Ok d → ss ≡ no_selectors
+  bare_of : (i : Identifier) (ss : Selectors) (j : Judged check_designated.DesignatedName) (d : check_designated.DesignatedName) → names.begun s i ≡ j → (IsVariableMeaning (find i.name h.scope) → ⊥) → (selectors s w j ss >>= names.known i.at) ≡ Ok d → ss ≡ no_selectors
   bare_of i ss (Ok c) d is other k =
       untyped_bare s w i.at ss c d
       (other_untyped i.name (find i.name h.scope) None c.named (begun_form h i.name (find i.name h.scope)) other (subst (λ j. HasDesignated tokens s h i.name (find i.name h.scope) None j (begun_form h i.name (find i.name h.scope))) is (begun_typed tokens s h agrees i)))
@@ -176,7 +176,7 @@ module _ (tokens : Tokens) (s : Scopes) (h : Here) (w : Context) (agrees : Scope
   bare_of i ss (Err fs) d is other k = absurd (nothing_known s w i.at (selectors s w (Err fs) ss) d (nothing_stays s w ss (Err fs) tt) k)
 
   -- what stands for no variable has no selectors
-  pub other_bare : (i : Identifier) (ss : Selectors) (d : check_designated.Designated) → (IsVariableMeaning (find i.name h.scope) → ⊥) → designator s w (name_with i ss) ≡ Ok d → IsBare (name_with i ss)
+  pub other_bare : (i : Identifier) (ss : Selectors) (d : check_designated.DesignatedName) → (IsVariableMeaning (find i.name h.scope) → ⊥) → designator s w (name_with i ss) ≡ Ok d → IsBare (name_with i ss)
   unfolding expression
   other_bare i ss d other k = subst (λ (cs : Selectors). IsBare (name_with i cs)) (sym (bare_of i ss (names.begun s i) d refl other k)) tt
 
@@ -195,11 +195,11 @@ module _ (tokens : Tokens) (s : Scopes) (h : Here) (w : Context) (agrees : Scope
   last_after x (more_selectors (field i) ss) e = refl
   last_after x (more_selectors (index y) ss) e = refl
 
-  entry_type : (c d : check_designated.Designated) (r : ℕ) (v : ValueType) → c ≡ d → d.named ≡ name.Entry r → names.type_of c.named ≡ Some v → ⊥
-  entry_type c d r v same e t = (let bad : None ≡ Some v = sym (ap names.type_of (ap (λ (x : check_designated.Designated). x.named) same ∙ e)) ∙ t in cc)
+  entry_type : (c d : check_designated.DesignatedName) (r : ℕ) (v : ValueType) → c ≡ d → d.named ≡ name.Entry r → names.type_of c.named ≡ Some v → ⊥
+  entry_type c d r v same e t = (let bad : None ≡ Some v = sym (ap names.type_of (ap (λ (x : check_designated.DesignatedName). x.named) same ∙ e)) ∙ t in cc)
 
   -- of one component
-  single_entry : (at : ℕ) (ss : Selectors) (c d : check_designated.Designated) (part : code.ComponentPlace) (k r : ℕ) (kind : SystemKind) → names.type_of c.named ≡ Some (types.Component kind (tokens.systems k)) → d.named ≡ name.Entry r → (selectors s w (Ok c) ss >>= names.known at) ≡ Ok d → EntryFound ss (Some (a_component part k)) r k
+  single_entry : (at : ℕ) (ss : Selectors) (c d : check_designated.DesignatedName) (part : code.ComponentPlace) (k r : ℕ) (kind : SystemKind) → names.type_of c.named ≡ Some (types.Component kind (tokens.systems k)) → d.named ≡ name.Entry r → (selectors s w (Ok c) ss >>= names.known at) ≡ Ok d → EntryFound ss (Some (a_component part k)) r k
   unfolding expression
   single_entry at no_selectors c d part k r kind t e g = absurd (entry_type c d r (types.Component kind (tokens.systems k)) (known_is s w at c d g) e t)
   single_entry at (more_selectors (index x) ss) c d part k r kind t e g = absurd (nothing_known s w at (selectors s w (both (Ok c) (expression s w false x) >>= at_index s) ss) d (nothing_stays s w ss (both (Ok c) (expression s w false x) >>= at_index s) (go (expression s w false x))) g)
@@ -222,7 +222,7 @@ module _ (tokens : Tokens) (s : Scopes) (h : Here) (w : Context) (agrees : Scope
       after : (n : ℕ) (ts : Selectors) → member_at (tokens.systems k) i.name s ≡ Some (Some (meaning.Routine n)) → ts ≡ no_selectors → (selectors s w (Ok (names.designated i.at c.uses (name.Entry n))) ts >>= names.known at) ≡ Ok d → EntryFound (more_selectors (field i) ts) (Some (a_component part k)) r k
       after n no_selectors m none y =
           let same : names.designated i.at c.uses (name.Entry n) ≡ d = known_is s w at (names.designated i.at c.uses (name.Entry n)) d y in
-          let one : name.Entry n ≡ name.Entry r = ap (λ (z : check_designated.Designated). z.named) same ∙ e in
+          let one : name.Entry n ≡ name.Entry r = ap (λ (z : check_designated.DesignatedName). z.named) same ∙ e in
           let number : n ≡ r = cc in
           record { entry = tt; part = part; name = i.name; last = refl; formed = refl; member = m ∙ ap (λ z. Some (Some (meaning.Routine z))) number }
       after n (more_selectors x ts) m none y = absurd (cc)
@@ -252,7 +252,7 @@ module _ (tokens : Tokens) (s : Scopes) (h : Here) (w : Context) (agrees : Scope
   part_type (name.Predeclared q) v u e = absurd (cc)
 
   -- of one of an array
-  many_entry : (at : ℕ) (ss : Selectors) (c d : check_designated.Designated) (first : ℕ) (q : named.Range) (k r : ℕ) (v : ValueType) → AreSmallSelectors ss → names.type_of c.named ≡ Some v → TypeIs (written tokens s h) (named.array_over q (named.component_of k)) v → d.named ≡ name.Entry r → (selectors s w (Ok c) ss >>= names.known at) ≡ Ok d → EntryFound ss (Some (some_components first q k)) r k
+  many_entry : (at : ℕ) (ss : Selectors) (c d : check_designated.DesignatedName) (first : ℕ) (q : named.Range) (k r : ℕ) (v : ValueType) → AreSmallSelectors ss → names.type_of c.named ≡ Some v → TypeIs (written tokens s h) (named.array_over q (named.component_of k)) v → d.named ≡ name.Entry r → (selectors s w (Ok c) ss >>= names.known at) ≡ Ok d → EntryFound ss (Some (some_components first q k)) r k
   unfolding expression
   many_entry at no_selectors c d first q k r v small t a e g = absurd (entry_type c d r v (known_is s w at c d g) e t)
   many_entry at (more_selectors (field i) ss) c d first q k r v small t a e g =
@@ -268,7 +268,7 @@ module _ (tokens : Tokens) (s : Scopes) (h : Here) (w : Context) (agrees : Scope
       go None z = absurd (cc)
   many_entry at (more_selectors (index x) ss) c d first q k r v small t a e g = judged (expression s w false x) refl g
     where
-      typed : Option ValueType → Operand → check_designated.Designated
+      typed : Option ValueType → Operand → check_designated.DesignatedName
       typed o y = names.designated c.name_at (both_uses c.uses y.uses) (names.indexed_of s c y o)
 
       chosen : (y : Operand) (b : Bool) → agree (types.Ordinal a.shape.index) y.value_type ≡ b → HasForm (written tokens s h) (Ok y) (expression_form h x) → (selectors s w (Ok (names.designated c.name_at (both_uses c.uses y.uses) (if b then names.part_of c.named a.shape.element else name.Nothing))) ss >>= names.known at) ≡ Ok d →
@@ -299,7 +299,7 @@ module _ (tokens : Tokens) (s : Scopes) (h : Here) (w : Context) (agrees : Scope
 
   -- ---- a designator that is an entry
 
-  begun_entry : (i : Identifier) (c : check_designated.Designated) (r : ℕ) → names.begun s i ≡ Ok c → c.named ≡ name.Entry r → ⊥
+  begun_entry : (i : Identifier) (c : check_designated.DesignatedName) (r : ℕ) → names.begun s i ≡ Ok c → c.named ≡ name.Entry r → ⊥
   unfolding names.begun names.visible
   begun_entry i c r is e = go (look i.name s) is
     where
@@ -315,13 +315,13 @@ module _ (tokens : Tokens) (s : Scopes) (h : Here) (w : Context) (agrees : Scope
       go : (o : Option (Option Meaning)) → (names.found i.at o >>= names.unselected i.at) ≡ Ok c → ⊥
       go None k = cc
       go (Some None) k = cc
-      go (Some (Some m)) k = no_entry m (ap (λ (d : check_designated.Designated). d.named) (ok_same (names.designated i.at no_use (names.named_of m)) c k) ∙ e)
+      go (Some (Some m)) k = no_entry m (ap (λ (d : check_designated.DesignatedName). d.named) (ok_same (names.designated i.at no_use (names.named_of m)) c k) ∙ e)
 
-  bare_entry : (i : Identifier) (c d : check_designated.Designated) (r : ℕ) → names.begun s i ≡ Ok c → d.named ≡ name.Entry r → (selectors s w (Ok c) no_selectors >>= names.known i.at) ≡ Ok d → ⊥
+  bare_entry : (i : Identifier) (c d : check_designated.DesignatedName) (r : ℕ) → names.begun s i ≡ Ok c → d.named ≡ name.Entry r → (selectors s w (Ok c) no_selectors >>= names.known i.at) ≡ Ok d → ⊥
   unfolding expression
-  bare_entry i c d r b e g = begun_entry i c r b (ap (λ (x : check_designated.Designated). x.named) (known_is s w i.at c d g) ∙ e)
+  bare_entry i c d r b e g = begun_entry i c r b (ap (λ (x : check_designated.DesignatedName). x.named) (known_is s w i.at c d g) ∙ e)
 
-  untyped_entry : (i : Identifier) (ss : Selectors) (c d : check_designated.Designated) (r : ℕ) → names.begun s i ≡ Ok c → IsUntyped c.named → d.named ≡ name.Entry r → (selectors s w (Ok c) ss >>= names.known i.at) ≡ Ok d → ⊥
+  untyped_entry : (i : Identifier) (ss : Selectors) (c d : check_designated.DesignatedName) (r : ℕ) → names.begun s i ≡ Ok c → IsUntyped c.named → d.named ≡ name.Entry r → (selectors s w (Ok c) ss >>= names.known i.at) ≡ Ok d → ⊥
   untyped_entry i ss c d r b n e g =
       let none : ss ≡ no_selectors = untyped_bare s w i.at ss c d n g in
       bare_entry i c d r b e (subst (λ (cs : Selectors). (selectors s w (Ok c) cs >>= names.known i.at) ≡ Ok d) none g)
@@ -341,7 +341,7 @@ module _ (tokens : Tokens) (s : Scopes) (h : Here) (w : Context) (agrees : Scope
   plain_call (Some (scopes.standard_meaning q)) x p e = p
   plain_call None x p e = p
 
-  held_entry : (i : Identifier) (ss : Selectors) (c d : check_designated.Designated) (r : ℕ) (v : ValueType) (o : Option Designated) → begun_form h i.name (find i.name h.scope) ≡ o → AreSmallSelectors ss → names.type_of c.named ≡ Some v → Holds (written tokens s h) (find i.name h.scope) None v o → is_call_meant (find i.name h.scope) (last_field ss) ≡ true →
+  held_entry : (i : Identifier) (ss : Selectors) (c d : check_designated.DesignatedName) (r : ℕ) (v : ValueType) (o : Option Designated) → begun_form h i.name (find i.name h.scope) ≡ o → AreSmallSelectors ss → names.type_of c.named ≡ Some v → Holds (written tokens s h) (find i.name h.scope) None v o → is_call_meant (find i.name h.scope) (last_field ss) ≡ true →
       d.named ≡ name.Entry r → (selectors s w (Ok c) ss >>= names.known i.at) ≡ Ok d → EntryUsed i ss r
   held_entry i ss c d r v (Some (a_variable p t)) is small y k call e g = absurd (plain_call (find i.name h.scope) (last_field ss) k.2 call)
   held_entry i ss c d r v (Some (some_components first q n)) is small y k call e g =
@@ -350,7 +350,7 @@ module _ (tokens : Tokens) (s : Scopes) (h : Here) (w : Context) (agrees : Scope
       record { system = n; of = k.1; found = subst (λ (o : Option Designated). EntryFound ss o r n) (sym is) (single_entry i.at ss c d part n r k.0.kind (y ∙ ap (λ (u : ValueType). Some u) k.0.is) e g) }
   held_entry i ss c d r v None is small y k call e g = absurd k
 
-  named_entry : (i : Identifier) (ss : Selectors) (c d : check_designated.Designated) (r : ℕ) (n : Named) → c.named ≡ n → names.begun s i ≡ Ok c → AreSmallSelectors ss → NamedIs tokens s h i.name (find i.name h.scope) None n (begun_form h i.name (find i.name h.scope)) → is_call_meant (find i.name h.scope) (last_field ss) ≡ true →
+  named_entry : (i : Identifier) (ss : Selectors) (c d : check_designated.DesignatedName) (r : ℕ) (n : Named) → c.named ≡ n → names.begun s i ≡ Ok c → AreSmallSelectors ss → NamedIs tokens s h i.name (find i.name h.scope) None n (begun_form h i.name (find i.name h.scope)) → is_call_meant (find i.name h.scope) (last_field ss) ≡ true →
       d.named ≡ name.Entry r → (selectors s w (Ok c) ss >>= names.known i.at) ≡ Ok d → EntryUsed i ss r
   named_entry i ss c d r (name.Variable v) is b small k call e g = held_entry i ss c d r v (begun_form h i.name (find i.name h.scope)) refl small (ap names.type_of is) k call e g
   named_entry i ss c d r (name.Parameter v) is b small k call e g = held_entry i ss c d r v (begun_form h i.name (find i.name h.scope)) refl small (ap names.type_of is) k call e g
@@ -361,11 +361,11 @@ module _ (tokens : Tokens) (s : Scopes) (h : Here) (w : Context) (agrees : Scope
   named_entry i ss c d r (name.Entry n) is b small k call e g = absurd (begun_entry i c n b is)
   named_entry i ss c d r (name.Predeclared q) is b small k call e g = absurd (untyped_entry i ss c d r b (subst IsUntyped (sym is) tt) e g)
 
-  begun_is : (i : Identifier) (ss : Selectors) (j : Judged check_designated.Designated) (d : check_designated.Designated) (r : ℕ) → names.begun s i ≡ j → AreSmallSelectors ss → is_call_meant (find i.name h.scope) (last_field ss) ≡ true → d.named ≡ name.Entry r → (selectors s w j ss >>= names.known i.at) ≡ Ok d → EntryUsed i ss r
+  begun_is : (i : Identifier) (ss : Selectors) (j : Judged check_designated.DesignatedName) (d : check_designated.DesignatedName) (r : ℕ) → names.begun s i ≡ j → AreSmallSelectors ss → is_call_meant (find i.name h.scope) (last_field ss) ≡ true → d.named ≡ name.Entry r → (selectors s w j ss >>= names.known i.at) ≡ Ok d → EntryUsed i ss r
   begun_is i ss (Ok c) d r is small call e g =
-      named_entry i ss c d r c.named refl is small (subst (λ (j : Judged check_designated.Designated). HasDesignated tokens s h i.name (find i.name h.scope) None j (begun_form h i.name (find i.name h.scope))) is (begun_typed tokens s h agrees i)) call e g
+      named_entry i ss c d r c.named refl is small (subst (λ (j : Judged check_designated.DesignatedName). HasDesignated tokens s h i.name (find i.name h.scope) None j (begun_form h i.name (find i.name h.scope))) is (begun_typed tokens s h agrees i)) call e g
   begun_is i ss (Err fs) d r is small call e g = absurd (nothing_known s w i.at (selectors s w (Err fs) ss) d (nothing_stays s w ss (Err fs) tt) g)
 
-  pub entry_used : (i : Identifier) (ss : Selectors) (d : check_designated.Designated) (r : ℕ) → AreSmallSelectors ss → is_call_meant (find i.name h.scope) (last_field ss) ≡ true → d.named ≡ name.Entry r → designator s w (name_with i ss) ≡ Ok d → EntryUsed i ss r
+  pub entry_used : (i : Identifier) (ss : Selectors) (d : check_designated.DesignatedName) (r : ℕ) → AreSmallSelectors ss → is_call_meant (find i.name h.scope) (last_field ss) ≡ true → d.named ≡ name.Entry r → designator s w (name_with i ss) ≡ Ok d → EntryUsed i ss r
   unfolding expression
   entry_used i ss d r small call e g = begun_is i ss (names.begun s i) d r refl small call e g

@@ -58,11 +58,11 @@ nobody y = ⊥
 abbrev NoneInside : layers.Names → Scopes → Type 0
 NoneInside ns s = (n : ℕ) → Inside nobody n ns s
 
-if_other : (b : Bool) (m : laid_meaning.Meaning) (o : Option laid_meaning.Meaning) (n : ℕ) → (Some m ≡ Some (meaning.Routine n) → ⊥) → (o ≡ Some (meaning.Routine n) → ⊥) → (if b then Some m else o) ≡ Some (meaning.Routine n) → ⊥
+if_other : (b : Bool) (m : laid_meaning.LayoutMeaning) (o : Option laid_meaning.LayoutMeaning) (n : ℕ) → (Some m ≡ Some (meaning.Routine n) → ⊥) → (o ≡ Some (meaning.Routine n) → ⊥) → (if b then Some m else o) ≡ Some (meaning.Routine n) → ⊥
 if_other true m o n h g e = h e
 if_other false m o n h g e = g e
 
-open_no_routine : (y x : List ℕ) (m : laid_meaning.Meaning) (ds : layers.Names) (n : ℕ) → (find y (seen_inside ds) ≡ Some (meaning.Routine n) → ⊥) → find y (with_open (x, m) (seen_inside ds)) ≡ Some (meaning.Routine n) → ⊥
+open_no_routine : (y x : List ℕ) (m : laid_meaning.LayoutMeaning) (ds : layers.Names) (n : ℕ) → (find y (seen_inside ds) ≡ Some (meaning.Routine n) → ⊥) → find y (with_open (x, m) (seen_inside ds)) ≡ Some (meaning.Routine n) → ⊥
 open_no_routine y x (meaning.Routine k) ds n h e = h e
 open_no_routine y x (meaning.Variable o t) ds n h e = h e
 open_no_routine y x (meaning.Contained k t) ds n h e = h e
@@ -369,11 +369,11 @@ parts_outer l s (q ∷ qs) h e =
     parts_outer (program_part l q) middle qs (part_outer l s q h (no_left (systems.program_part_step s q).faults (systems.program_part_steps middle qs).faults e)) (no_right (systems.program_part_step s q).faults (systems.program_part_steps middle qs).faults e)
 
 -- whether a meaning is that of a routine
-abbrev is_routine : Option laid_meaning.Meaning → Bool
+abbrev is_routine : Option laid_meaning.LayoutMeaning → Bool
 is_routine (Some (meaning.Routine n)) = true
 is_routine o = false
 
-if_not_routine : (b : Bool) (m o : Option laid_meaning.Meaning) → is_routine m ≡ false → is_routine o ≡ false → is_routine (if b then m else o) ≡ false
+if_not_routine : (b : Bool) (m o : Option laid_meaning.LayoutMeaning) → is_routine m ≡ false → is_routine o ≡ false → is_routine (if b then m else o) ≡ false
 if_not_routine true m o h g = h
 if_not_routine false m o h g = g
 

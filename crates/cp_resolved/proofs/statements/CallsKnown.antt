@@ -182,8 +182,8 @@ module _ (t : Tree) (read : IsRead t.program) (accepted : IsAccepted t) (n : ℕ
   pub said : StatementsSaid s w f scope a.opening.meaning.body
   said = (let x = statements_said s w f scope a.opening.meaning.body a.small (Ok no_use) judged.value (λ e. e) judged.is in x.rest)
 
-  typed : (i : Identifier) (ss : Selectors) (c : check_designated.Designated) → AreSmallSelectors ss → designator s w (name_with i ss) ≡ Ok c → NamedIs tokens s h i.name (find i.name scope) (last_field ss) c.named (designator_form h (name_with i ss))
-  typed i ss c m is = subst (λ (j : Judged check_designated.Designated). HasDesignated tokens s h i.name (find i.name scope) (last_field ss) j (designator_form h (name_with i ss))) is (designator_typed tokens s h w agrees i ss m)
+  typed : (i : Identifier) (ss : Selectors) (c : check_designated.DesignatedName) → AreSmallSelectors ss → designator s w (name_with i ss) ≡ Ok c → NamedIs tokens s h i.name (find i.name scope) (last_field ss) c.named (designator_form h (name_with i ss))
+  typed i ss c m is = subst (λ (j : Judged check_designated.DesignatedName). HasDesignated tokens s h i.name (find i.name scope) (last_field ss) j (designator_form h (name_with i ss))) is (designator_typed tokens s h w agrees i ss m)
 
   -- ---- a routine of the component itself
 
@@ -196,12 +196,12 @@ module _ (t : Tree) (read : IsRead t.program) (accepted : IsAccepted t) (n : ℕ
   no_variable k y (Some (standard_meaning q)) i v = v
   no_variable k y None i v = v
 
-  visible_alone : (i : Identifier) (ss : Selectors) (c : check_designated.Designated) (k : ℕ) → ss ≡ no_selectors → designator s w (name_with i ss) ≡ Ok c → c.named ≡ name.Routine k → look i.name s ≡ Some (Some (meaning.Routine k))
+  visible_alone : (i : Identifier) (ss : Selectors) (c : check_designated.DesignatedName) (k : ℕ) → ss ≡ no_selectors → designator s w (name_with i ss) ≡ Ok c → c.named ≡ name.Routine k → look i.name s ≡ Some (Some (meaning.Routine k))
   unfolding expression
   visible_alone i no_selectors c k none is same =
       let z : Then (names.begun s i) (names.known i.at) c = then_of (names.begun s i) (names.known i.at) c is in
       let one : z.value ≡ c = known_is s w i.at z.value c z.rest in
-      begun_routine tokens s h w agrees i z.value k z.is (ap (λ (d : check_designated.Designated). d.named) one ∙ same)
+      begun_routine tokens s h w agrees i z.value k z.is (ap (λ (d : check_designated.DesignatedName). d.named) one ∙ same)
   visible_alone i (more_selectors x ss) c k none is same = absurd (cc)
 
   waits_here : waits_at p n ≡ (is_monitor w.owner && (is_some w.routine && f))
@@ -279,12 +279,12 @@ module _ (t : Tree) (read : IsRead t.program) (accepted : IsAccepted t) (n : ℕ
 
   -- ---- functions and procedures
 
-  own_callee : (i : Identifier) (ss : Selectors) (c : check_designated.Designated) (k : ℕ) (r : RoutineMeaning) → designator s w (name_with i ss) ≡ Ok c → c.named ≡ name.Routine k → RoutineIs (written tokens s h) (heading_at k s) i.name scope (find i.name scope) → OwnCall s w f k → routine_called p scope (name_with i ss) ≡ Some r → CalleeKnown p n (find i.name scope) r
+  own_callee : (i : Identifier) (ss : Selectors) (c : check_designated.DesignatedName) (k : ℕ) (r : RoutineMeaning) → designator s w (name_with i ss) ≡ Ok c → c.named ≡ name.Routine k → RoutineIs (written tokens s h) (heading_at k s) i.name scope (find i.name scope) → OwnCall s w f k → routine_called p scope (name_with i ss) ≡ Some r → CalleeKnown p n (find i.name scope) r
   own_callee i ss c k r is same x own e =
       let there : look i.name s ≡ Some (Some (meaning.Routine k)) = visible_alone i ss c k (bare i ss (other_bare tokens s h w agrees i ss c (no_variable k i.name (find i.name scope) x) is)) is same in
       own_known i.name (last_field ss) k (find i.name scope) r refl x (a.agreed.written i.name k there) own e
 
-  entry_callee : (i : Identifier) (ss : Selectors) (c : check_designated.Designated) (k : ℕ) (r : RoutineMeaning) → AreSmallSelectors ss → designator s w (name_with i ss) ≡ Ok c → c.named ≡ name.Entry k → IsCalled tokens s h k i.name (find i.name scope) (last_field ss) → (heading_at k s).is_entry ≡ true → routine_called p scope (name_with i ss) ≡ Some r → CalleeKnown p n (find i.name scope) r
+  entry_callee : (i : Identifier) (ss : Selectors) (c : check_designated.DesignatedName) (k : ℕ) (r : RoutineMeaning) → AreSmallSelectors ss → designator s w (name_with i ss) ≡ Ok c → c.named ≡ name.Entry k → IsCalled tokens s h k i.name (find i.name scope) (last_field ss) → (heading_at k s).is_entry ≡ true → routine_called p scope (name_with i ss) ≡ Some r → CalleeKnown p n (find i.name scope) r
   entry_callee i ss c k r m is same x entry e =
       let u : EntryUsed tokens s h w agrees i ss k = entry_used tokens s h w agrees i ss c k m x.is same is in
       entry_known i.name (last_field ss) k u.system (find i.name scope) r u.of x.heading entry e
@@ -301,7 +301,7 @@ module _ (t : Tree) (read : IsRead t.program) (accepted : IsAccepted t) (n : ℕ
   not_called : (U : Type 0) (i : Identifier) (ss : Selectors) (r : RoutineMeaning) → routine_called p scope (name_with i ss) ≡ Some r → is_call_meant (find i.name scope) (last_field ss) ≡ false → U
   not_called U i ss r e g = absurd (let bad : true ≡ false = sym (called_meant p scope i.name (find i.name scope) (last_field ss) r e) ∙ g in cc)
 
-  function_named : (i : Identifier) (ss : Selectors) (c : check_designated.Designated) (m : Named) (o : Option Designated) (r : RoutineMeaning) → AreSmallSelectors ss → designator s w (name_with i ss) ≡ Ok c → c.named ≡ m → NamedIs tokens s h i.name (find i.name scope) (last_field ss) m o → IsValue s w f m → CalledAs s w f m → GivesResult s w f m → routine_called p scope (name_with i ss) ≡ Some r →
+  function_named : (i : Identifier) (ss : Selectors) (c : check_designated.DesignatedName) (m : Named) (o : Option Designated) (r : RoutineMeaning) → AreSmallSelectors ss → designator s w (name_with i ss) ≡ Ok c → c.named ≡ m → NamedIs tokens s h i.name (find i.name scope) (last_field ss) m o → IsValue s w f m → CalledAs s w f m → GivesResult s w f m → routine_called p scope (name_with i ss) ≡ Some r →
       CalleeKnown p n (find i.name scope) r × (r.result ≡ None → ⊥)
   function_named i ss c (name.Routine k) o r small is same x v own g e = (own_callee i ss c k r is same x own e, result_known tokens (heading_at k s).result r g (own_heading k i.name (last_field ss) (find i.name scope) r x e).0)
   function_named i ss c (name.Entry k) o r small is same x v entry g e =
@@ -317,7 +317,7 @@ module _ (t : Tree) (read : IsRead t.program) (accepted : IsAccepted t) (n : ℕ
   pub function_callee : (d : Designator) (r : RoutineMeaning) → FunctionSaid s w f scope d → routine_called p scope d ≡ Some r → CalleeKnown p n (find (name_of d) scope) r × (r.result ≡ None → ⊥)
   function_callee (name_with i ss) r x e = function_named i ss x.value x.value.named (designator_form h (name_with i ss)) r x.small x.is refl (typed i ss x.value x.small x.is) x.kind x.called x.result e
 
-  procedure_named : (i : Identifier) (ss : Selectors) (c : check_designated.Designated) (m : Named) (o : Option Designated) (r : RoutineMeaning) → AreSmallSelectors ss → designator s w (name_with i ss) ≡ Ok c → c.named ≡ m → NamedIs tokens s h i.name (find i.name scope) (last_field ss) m o → IsInvoked s w f scope m → InvokedAs s w f scope m → routine_called p scope (name_with i ss) ≡ Some r → CalleeKnown p n (find i.name scope) r
+  procedure_named : (i : Identifier) (ss : Selectors) (c : check_designated.DesignatedName) (m : Named) (o : Option Designated) (r : RoutineMeaning) → AreSmallSelectors ss → designator s w (name_with i ss) ≡ Ok c → c.named ≡ m → NamedIs tokens s h i.name (find i.name scope) (last_field ss) m o → IsInvoked s w f scope m → InvokedAs s w f scope m → routine_called p scope (name_with i ss) ≡ Some r → CalleeKnown p n (find i.name scope) r
   procedure_named i ss c (name.Routine k) o r small is same x v own e = own_callee i ss c k r is same x own e
   procedure_named i ss c (name.Entry k) o r small is same x v entry e = entry_callee i ss c k r small is same x entry e
   procedure_named i ss c (name.Predeclared q) o r small is same x v d e = not_called _ i ss r e (standard_uncalled q (find i.name scope) (last_field ss) x)

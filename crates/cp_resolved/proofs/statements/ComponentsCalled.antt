@@ -183,8 +183,8 @@ module _ (t : Tree) (read : IsRead t.program) (accepted : IsAccepted t) (s : Sco
     entry_refused k y None x of i entry = of
 
     module _ (agrees : ScopesAgree tokens s h) where
-      typed : (i : Identifier) (ss : Selectors) (d : check_designated.Designated) → AreSmallSelectors ss → designator s w (name_with i ss) ≡ Ok d → NamedIs tokens s h i.name (find i.name scope) (last_field ss) d.named (designator_form h (name_with i ss))
-      typed i ss d m is = subst (λ (j : Judged check_designated.Designated). HasDesignated tokens s h i.name (find i.name scope) (last_field ss) j (designator_form h (name_with i ss))) is (designator_typed tokens s h w agrees i ss m)
+      typed : (i : Identifier) (ss : Selectors) (d : check_designated.DesignatedName) → AreSmallSelectors ss → designator s w (name_with i ss) ≡ Ok d → NamedIs tokens s h i.name (find i.name scope) (last_field ss) d.named (designator_form h (name_with i ss))
+      typed i ss d m is = subst (λ (j : Judged check_designated.DesignatedName). HasDesignated tokens s h i.name (find i.name scope) (last_field ss) j (designator_form h (name_with i ss))) is (designator_typed tokens s h w agrees i ss m)
 
       constant_other : (b : _) (z : _) (m : Option Meaning) → ConstantIs tokens b z m → IsComponentMeaning c m → ⊥
       constant_other b z (Some (constant_meaning d y)) k of = of

@@ -34,7 +34,7 @@ module _ (s : Scopes) (w : Context) (f : Bool) (scope : Scope) where
   -- what the designator of a call names, and that the call breaks no rule
   pub record FunctionSaid (d : Designator) : Type 0 where
     pub small : IsSmallDesignator d
-    pub value : check_designated.Designated
+    pub value : check_designated.DesignatedName
     pub is : designator s w d ≡ Ok value
     pub kind : IsValue s w f value.named
     pub called : CalledAs s w f value.named
@@ -63,8 +63,8 @@ module _ (s : Scopes) (w : Context) (f : Bool) (scope : Scope) where
 
   -- ---- designators
 
-  field_uses : (at : ℕ) (d e : check_designated.Designated) (o : Option (Option Meaning)) → names.with_field at d o ≡ Ok e → d.uses ≡ e.uses
-  field_uses at d e (Some (Some (meaning.Variable t))) is = ap (λ (z : check_designated.Designated). z.uses) (ok_same (names.designated at d.uses (names.part_of d.named t)) e is)
+  field_uses : (at : ℕ) (d e : check_designated.DesignatedName) (o : Option (Option Meaning)) → names.with_field at d o ≡ Ok e → d.uses ≡ e.uses
+  field_uses at d e (Some (Some (meaning.Variable t))) is = ap (λ (z : check_designated.DesignatedName). z.uses) (ok_same (names.designated at d.uses (names.part_of d.named t)) e is)
   field_uses at d e None is = absurd (cc)
   field_uses at d e (Some None) is = absurd (cc)
   field_uses at d e (Some (Some (meaning.Constant b z))) is = absurd (cc)
@@ -74,8 +74,8 @@ module _ (s : Scopes) (w : Context) (f : Bool) (scope : Scope) where
   field_uses at d e (Some (Some (meaning.Routine n))) is = absurd (cc)
   field_uses at d e (Some (Some (meaning.Predeclared q))) is = absurd (cc)
 
-  entry_uses : (at : ℕ) (d e : check_designated.Designated) (o : Option (Option Meaning)) → names.with_entry at d o ≡ Ok e → d.uses ≡ e.uses
-  entry_uses at d e (Some (Some (meaning.Routine n))) is = ap (λ (z : check_designated.Designated). z.uses) (ok_same (names.designated at d.uses (name.Entry n)) e is)
+  entry_uses : (at : ℕ) (d e : check_designated.DesignatedName) (o : Option (Option Meaning)) → names.with_entry at d o ≡ Ok e → d.uses ≡ e.uses
+  entry_uses at d e (Some (Some (meaning.Routine n))) is = ap (λ (z : check_designated.DesignatedName). z.uses) (ok_same (names.designated at d.uses (name.Entry n)) e is)
   entry_uses at d e None is = absurd (cc)
   entry_uses at d e (Some None) is = absurd (cc)
   entry_uses at d e (Some (Some (meaning.Constant b z))) is = absurd (cc)
@@ -85,16 +85,16 @@ module _ (s : Scopes) (w : Context) (f : Bool) (scope : Scope) where
   entry_uses at d e (Some (Some (meaning.Variable t))) is = absurd (cc)
   entry_uses at d e (Some (Some (meaning.Predeclared q))) is = absurd (cc)
 
-  selected_uses : (i : Identifier) (d e : check_designated.Designated) (o : Option ValueType) → names.selected_of s i d o ≡ Ok e → d.uses ≡ e.uses
+  selected_uses : (i : Identifier) (d e : check_designated.DesignatedName) (o : Option ValueType) → names.selected_of s i d o ≡ Ok e → d.uses ≡ e.uses
   selected_uses i d e (Some (types.Record n)) is = field_uses i.at d e (field_at n i.name s) is
   selected_uses i d e (Some (types.Component k n)) is = entry_uses i.at d e (member_at n i.name s) is
-  selected_uses i d e None is = ap (λ (z : check_designated.Designated). z.uses) (ok_same (names.nothing i.at d.uses) e is)
-  selected_uses i d e (Some (types.Ordinal r)) is = ap (λ (z : check_designated.Designated). z.uses) (ok_same (names.nothing i.at d.uses) e is)
-  selected_uses i d e (Some types.Queue) is = ap (λ (z : check_designated.Designated). z.uses) (ok_same (names.nothing i.at d.uses) e is)
-  selected_uses i d e (Some (types.Set r)) is = ap (λ (z : check_designated.Designated). z.uses) (ok_same (names.nothing i.at d.uses) e is)
-  selected_uses i d e (Some (types.Array n)) is = ap (λ (z : check_designated.Designated). z.uses) (ok_same (names.nothing i.at d.uses) e is)
+  selected_uses i d e None is = ap (λ (z : check_designated.DesignatedName). z.uses) (ok_same (names.nothing i.at d.uses) e is)
+  selected_uses i d e (Some (types.Ordinal r)) is = ap (λ (z : check_designated.DesignatedName). z.uses) (ok_same (names.nothing i.at d.uses) e is)
+  selected_uses i d e (Some types.Queue) is = ap (λ (z : check_designated.DesignatedName). z.uses) (ok_same (names.nothing i.at d.uses) e is)
+  selected_uses i d e (Some (types.Set r)) is = ap (λ (z : check_designated.DesignatedName). z.uses) (ok_same (names.nothing i.at d.uses) e is)
+  selected_uses i d e (Some (types.Array n)) is = ap (λ (z : check_designated.DesignatedName). z.uses) (ok_same (names.nothing i.at d.uses) e is)
 
-  known_uses : (at : ℕ) (d e : check_designated.Designated) (n : Named) → names.known_named at d n ≡ Ok e → d ≡ e
+  known_uses : (at : ℕ) (d e : check_designated.DesignatedName) (n : Named) → names.known_named at d n ≡ Ok e → d ≡ e
   known_uses at d e name.Nothing is = absurd (cc)
   known_uses at d e (name.Constant b) is = ok_same d e is
   known_uses at d e (name.Variable t) is = ok_same d e is
@@ -118,7 +118,7 @@ module _ (s : Scopes) (w : Context) (f : Bool) (scope : Scope) where
   -- ---- a name with its arguments
 
   record NameParts (d : Designator) (es : Expressions) (at : ℕ) (p : Operand) : Type 0 where
-    value : check_designated.Designated
+    value : check_designated.DesignatedName
     is : designator s w d ≡ Ok value
     operands : List Operand
     arguments : arguments s w [] 0 es ≡ Ok operands
@@ -138,7 +138,7 @@ module _ (s : Scopes) (w : Context) (f : Bool) (scope : Scope) where
       none : arguments s w [] 0 no_expressions ≡ Ok []
       none = refl
 
-      go : (c : check_designated.Designated) (b : Bool) → is_function p.place ≡ false → (if b then Ok (calls.placed at types.Queue place.Function c.uses) else calls.value_of s w at (c, [])) ≡ Ok p → calls.value_named s w at c [] c.named ≡ Ok p
+      go : (c : check_designated.DesignatedName) (b : Bool) → is_function p.place ≡ false → (if b then Ok (calls.placed at types.Queue place.Function c.uses) else calls.value_of s w at (c, [])) ≡ Ok p → calls.value_named s w at c [] c.named ≡ Ok p
       go c true k z = absurd (let one : calls.placed at types.Queue place.Function c.uses ≡ p = ok_same (calls.placed at types.Queue place.Function c.uses) p z in let bad : true ≡ false = ap (λ (x : Operand). is_function x.place) one ∙ k in cc)
       go c false k z = z
 
@@ -188,8 +188,8 @@ module _ (s : Scopes) (w : Context) (f : Bool) (scope : Scope) where
   never p i = absurd (cc)
 
   -- what selectors begin with, judged without a fault
-  pub record Begun (j : Judged check_designated.Designated) (U : Type 0) : Type 0 where
-    pub value : check_designated.Designated
+  pub record Begun (j : Judged check_designated.DesignatedName) (U : Type 0) : Type 0 where
+    pub value : check_designated.DesignatedName
     pub is : j ≡ Ok value
     pub below : Below f value.uses
     pub rest : U
@@ -253,7 +253,7 @@ module _ (s : Scopes) (w : Context) (f : Bool) (scope : Scope) where
         let k : NameParts d es at p = name_parts (v && has_none es) d es at p (name_only v es p only) is in
         let x : ValueSaid s w f k.value.named k.value k.operands = value_said s w f at k.value k.operands k.value.named p k.rest h in
         let t : Then (selectors s w (names.begun s i) ss) (names.known i.at) k.value = then_of (selectors s w (names.begun s i) ss) (names.known i.at) k.value k.is in
-        let y = selectors_said ss m.0 (names.begun s i) t.value (subst (λ (c : check_designated.Designated). Below f c.uses) (sym (known_uses i.at t.value k.value t.value.named t.rest)) x.first) t.is in
+        let y = selectors_said ss m.0 (names.begun s i) t.value (subst (λ (c : check_designated.DesignatedName). Below f c.uses) (sym (known_uses i.at t.value k.value t.value.named t.rest)) x.first) t.is in
         let z = arguments_said [] 0 es m.1 k.operands (none_functions 0 k.operands) x.others k.arguments in
         said_both (selectors_calls scope ss ++ expressions_calls scope es) (own_call (is_call scope d) at d es) (said_both (selectors_calls scope ss) (expressions_calls scope es) y.rest z)
         (own_said (is_call scope d) at d es (λ call. record { small = m.0; value = k.value; is = k.is; kind = x.kind; called = x.called; result = x.result; call = call }))
@@ -277,7 +277,7 @@ module _ (s : Scopes) (w : Context) (f : Bool) (scope : Scope) where
         let low : AreBelow f (t.value.0 ∷ t.value.1) = subst (AreBelow f) (sym same) h in
         said_both (expression_calls scope e) (expressions_calls scope es) (expression_said (is_var_at ps k) e m.0 t.value.0 fine.0 low.0 q.first) (arguments_said ps (k + 1) es m.1 t.value.1 fine.1 low.1 q.second)
 
-    pub selectors_said : (ss : Selectors) → AreSmallSelectors ss → (j : Judged check_designated.Designated) (d : check_designated.Designated) → Below f d.uses → selectors s w j ss ≡ Ok d → Begun j (AllSaid (selectors_calls scope ss))
+    pub selectors_said : (ss : Selectors) → AreSmallSelectors ss → (j : Judged check_designated.DesignatedName) (d : check_designated.DesignatedName) → Below f d.uses → selectors s w j ss ≡ Ok d → Begun j (AllSaid (selectors_calls scope ss))
     selectors_said no_selectors m j d h is = record { value = d; is = is; below = h; rest = tt }
     selectors_said (more_selectors (field i) ss) m j d h is =
         let r = selectors_said ss m.1 (j >>= names.selected s i) d h is in
@@ -287,7 +287,7 @@ module _ (s : Scopes) (w : Context) (f : Bool) (scope : Scope) where
         let r = selectors_said ss m.1 (both j (expression s w false e) >>= expressions.at_index s) d h is in
         let t : Then (both j (expression s w false e)) (expressions.at_index s) r.value = then_of (both j (expression s w false e)) (expressions.at_index s) r.value r.is in
         let q = both_of j (expression s w false e) t.value t.is in
-        let low = subst (λ (z : check_designated.Designated). Below f z.uses) (sym (ok_same (names.indexed s t.value.0 t.value.1) r.value t.rest)) r.below in
+        let low = subst (λ (z : check_designated.DesignatedName). Below f z.uses) (sym (ok_same (names.indexed s t.value.0 t.value.1) r.value t.rest)) r.below in
         record {
           value = t.value.0;
           is = q.first;
@@ -295,9 +295,9 @@ module _ (s : Scopes) (w : Context) (f : Bool) (scope : Scope) where
           rest = said_both (expression_calls scope e) (selectors_calls scope ss) (expression_said false e m.0 t.value.1 (never t.value.1) (second_below f t.value.0.uses t.value.1.uses low) q.second) r.rest;
         }
 
-  pub designator_said : (i : Identifier) (ss : Selectors) → AreSmallSelectors ss → (d : check_designated.Designated) → Below f d.uses → designator s w (name_with i ss) ≡ Ok d → AllSaid (selectors_calls scope ss)
+  pub designator_said : (i : Identifier) (ss : Selectors) → AreSmallSelectors ss → (d : check_designated.DesignatedName) → Below f d.uses → designator s w (name_with i ss) ≡ Ok d → AllSaid (selectors_calls scope ss)
   unfolding expression
   designator_said i ss m d h is =
       let t : Then (selectors s w (names.begun s i) ss) (names.known i.at) d = then_of (selectors s w (names.begun s i) ss) (names.known i.at) d is in
-      let r = selectors_said ss m (names.begun s i) t.value (subst (λ (z : check_designated.Designated). Below f z.uses) (sym (known_uses i.at t.value d t.value.named t.rest)) h) t.is in
+      let r = selectors_said ss m (names.begun s i) t.value (subst (λ (z : check_designated.DesignatedName). Below f z.uses) (sym (known_uses i.at t.value d t.value.named t.rest)) h) t.is in
       r.rest

@@ -211,7 +211,7 @@ module _ (tokens : Tokens) (s : Scopes) (h : Here) (w : Context) (agrees : Scope
   result_aimed i no_selectors n k bare spot t e = begun_type (is_own h i.name) spot t (sym (routine_begun (find i.name h.scope) i.name n k) ∙ (only (begun_form h i.name (find i.name h.scope)) ∙ e))
   result_aimed i (more_selectors x ss) n k bare spot t e = absurd bare
 
-  named_aimed : (i : Identifier) (ss : Selectors) (c : check_designated.Designated) (n : Named) → designator s w (name_with i ss) ≡ Ok c → NamedIs tokens s h i.name (find i.name h.scope) (last_field ss) n (designator_form h (name_with i ss)) → IsAimed n → AssignKnown h (name_with i ss)
+  named_aimed : (i : Identifier) (ss : Selectors) (c : check_designated.DesignatedName) (n : Named) → designator s w (name_with i ss) ≡ Ok c → NamedIs tokens s h i.name (find i.name h.scope) (last_field ss) n (designator_form h (name_with i ss)) → IsAimed n → AssignKnown h (name_with i ss)
   named_aimed i ss c (name.Variable u) is k a = λ spot t e. inl (held_movable (find i.name h.scope) (last_field ss) u (designator_form h (name_with i ss)) k (aimed_free u a) spot t e)
   named_aimed i ss c (name.Routine n) is k a = λ spot t e. inr (result_aimed i ss n k (other_bare tokens s h w agrees i ss c (routine_no_variable i.name n (find i.name h.scope) k) is) spot t e)
   named_aimed i ss c (name.Entry n) is k a = absurd (no_entry n a)
@@ -222,8 +222,8 @@ module _ (tokens : Tokens) (s : Scopes) (h : Here) (w : Context) (agrees : Scope
   named_aimed i ss c name.Nothing is k a = absurd (let bad = a.1 in cc)
 
   -- a name with selectors that is judged without a fault
-  pointed : (i : Identifier) (ss : Selectors) (c : check_designated.Designated) → AreSmallSelectors ss → designator s w (name_with i ss) ≡ Ok c → NamedIs tokens s h i.name (find i.name h.scope) (last_field ss) c.named (designator_form h (name_with i ss))
-  pointed i ss c m is = subst (λ (j : Judged check_designated.Designated). HasDesignated tokens s h i.name (find i.name h.scope) (last_field ss) j (designator_form h (name_with i ss))) is (designator_typed tokens s h w agrees i ss m)
+  pointed : (i : Identifier) (ss : Selectors) (c : check_designated.DesignatedName) → AreSmallSelectors ss → designator s w (name_with i ss) ≡ Ok c → NamedIs tokens s h i.name (find i.name h.scope) (last_field ss) c.named (designator_form h (name_with i ss))
+  pointed i ss c m is = subst (λ (j : Judged check_designated.DesignatedName). HasDesignated tokens s h i.name (find i.name h.scope) (last_field ss) j (designator_form h (name_with i ss))) is (designator_typed tokens s h w agrees i ss m)
 
   aimed_is : (at : ℕ) (t x : Target) → statements.aimed at t ≡ Ok x → t ≡ x
   aimed_is at (target.Assignable v) x e = ok_same (target.Assignable v) x e
@@ -251,7 +251,7 @@ module _ (tokens : Tokens) (s : Scopes) (h : Here) (w : Context) (agrees : Scope
       let t : Then (both j (expression s w false e)) (statements.finish_assignment at) r = then_of (both j (expression s w false e)) (statements.finish_assignment at) r is in
       let b = both_of j (expression s w false e) t.value t.is in
       let k : Then (designator s w d) (statements.with_target s w i.at) t.value.0 = then_of (designator s w d) (statements.with_target s w i.at) t.value.0 b.first in
-      let c : check_designated.Designated = k.value in
+      let c : check_designated.DesignatedName = k.value in
       let a : Then (statements.aimed i.at (target_of s w c.named)) (λ x. Ok (x, c.uses)) t.value.0 = then_of (statements.aimed i.at (target_of s w c.named)) (λ x. Ok (x, c.uses)) t.value.0 k.rest in
       let aim : target_of s w c.named ≡ t.value.0.0 = aimed_is i.at (target_of s w c.named) a.value a.is ∙ ap (λ (x : Target × Use). x.0) (ok_same (a.value, c.uses) t.value.0 a.rest) in
       let y = assigns at t.value.0.0 t.value.1 (both_uses t.value.0.1 t.value.1.uses) r t.rest in
@@ -460,7 +460,7 @@ module _ (tokens : Tokens) (s : Scopes) (h : Here) (w : Context) (agrees : Scope
   standard_known at i ss es p os u r (Some (scopes.routine_meaning f)) is k m a done = absurd k
   standard_known at i ss es p os u r None is k m a done = absurd k
 
-  named_known : (at : ℕ) (i : Identifier) (ss : Selectors) (es : Expressions) (c : check_designated.Designated) (n : Named) (os : List Operand) (r : Use) → NamedIs tokens s h i.name (find i.name h.scope) (last_field ss) n (designator_form h (name_with i ss)) → AreSmallExpressions es →
+  named_known : (at : ℕ) (i : Identifier) (ss : Selectors) (es : Expressions) (c : check_designated.DesignatedName) (n : Named) (os : List Operand) (r : Use) → NamedIs tokens s h i.name (find i.name h.scope) (last_field ss) n (designator_form h (name_with i ss)) → AreSmallExpressions es →
       arguments s w (statements.parameters_of s n (statements.number_of es)) 0 es ≡ Ok os → statements.invoked_named s w at c os n ≡ Ok r → Known (name_with i ss) es
   named_known at i ss es c (name.Predeclared p) os r k m a is = standard_known at i ss es p os (calls.total_use c.uses os) r (find i.name h.scope) refl k m a is
   named_known at i ss es c (name.Routine n) os r k m a is =
@@ -480,7 +480,7 @@ module _ (tokens : Tokens) (s : Scopes) (h : Here) (w : Context) (agrees : Scope
       let ps = statements.parameters_named s (statements.number_of es) (designator s w d) in
       let t : Then (both (designator s w d) (arguments s w ps 0 es)) (statements.invoked s w at) r = then_of (both (designator s w d) (arguments s w ps 0 es)) (statements.invoked s w at) r is in
       let b = both_of (designator s w d) (arguments s w ps 0 es) t.value t.is in
-      let a : arguments s w (statements.parameters_of s t.value.0.named (statements.number_of es)) 0 es ≡ Ok t.value.1 = sym (ap (λ (j : Judged check_designated.Designated). arguments s w (statements.parameters_named s (statements.number_of es) j) 0 es) b.first) ∙ b.second in
+      let a : arguments s w (statements.parameters_of s t.value.0.named (statements.number_of es)) 0 es ≡ Ok t.value.1 = sym (ap (λ (j : Judged check_designated.DesignatedName). arguments s w (statements.parameters_named s (statements.number_of es) j) 0 es) b.first) ∙ b.second in
       named_known at i ss es t.value.0 t.value.0.named t.value.1 r (pointed i ss t.value.0 small b.first) less a t.rest
 
   -- ---- starts
@@ -496,7 +496,7 @@ module _ (tokens : Tokens) (s : Scopes) (h : Here) (w : Context) (agrees : Scope
   held_only m x v (Some (some_components first q k)) i part n e j same = absurd (let bad : Some (some_components first q k) ≡ Some (a_component part n) = e in cc)
   held_only m x v None i part n e j same = absurd i
 
-  named_started : (at : ℕ) (i : Identifier) (ss : Selectors) (c : check_designated.Designated) (n : Named) (os : List Operand) (r : Use) → NamedIs tokens s h i.name (find i.name h.scope) (last_field ss) n (designator_form h (name_with i ss)) → statements.started_named s at c os n ≡ Ok r →
+  named_started : (at : ℕ) (i : Identifier) (ss : Selectors) (c : check_designated.DesignatedName) (n : Named) (os : List Operand) (r : Use) → NamedIs tokens s h i.name (find i.name h.scope) (last_field ss) n (designator_form h (name_with i ss)) → statements.started_named s at c os n ≡ Ok r →
       (part : code.ComponentPlace) (k : ℕ) → designator_form h (name_with i ss) ≡ Some (a_component part k) → (j : ℕ) → tokens.systems j ≡ tokens.systems k → j ≡ k
   named_started at i ss c (name.Variable v) os r k is = held_only (find i.name h.scope) (last_field ss) v (designator_form h (name_with i ss)) k
   named_started at i ss c (name.Parameter v) os r k is = absurd (cc)

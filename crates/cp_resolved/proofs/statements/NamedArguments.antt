@@ -71,7 +71,7 @@ module _ (tokens : Tokens) (s : Scopes) (h : Here) (w : Context) (agrees : Scope
   made (Ok o) d e = (λ i. (let bad : false ≡ true = sym (ap is_stored e) ∙ i in absurd cc))
   made (Err fs) d e = tt
 
-  value_name : (at : ℕ) (i : Identifier) (ss : Selectors) (d : check_designated.Designated) (n : Named) (o : Option Designated) → NamedIs tokens s h i.name (find i.name h.scope) (last_field ss) n o → HasName h (calls.value_named s w at d [] n) (Some (name_with i ss))
+  value_name : (at : ℕ) (i : Identifier) (ss : Selectors) (d : check_designated.DesignatedName) (n : Named) (o : Option Designated) → NamedIs tokens s h i.name (find i.name h.scope) (last_field ss) n o → HasName h (calls.value_named s w at d [] n) (Some (name_with i ss))
   value_name at i ss d (name.Variable v) o k = (λ a. record { designator = name_with i ss; is = refl; no_call = (let x : IsValue tokens s h w (find i.name h.scope) (last_field ss) = held_value tokens s h w (find i.name h.scope) (last_field ss) v o k in x.call) })
   value_name at i ss d name.Nothing o k = tt
   value_name at i ss d name.Kind o k = tt
@@ -81,7 +81,7 @@ module _ (tokens : Tokens) (s : Scopes) (h : Here) (w : Context) (agrees : Scope
   value_name at i ss d (name.Routine n) o k = made (calls.value_named s w at d [] (name.Routine n)) (Some (name_with i ss)) (call_made s w at d.name_at true n [] d.uses)
   value_name at i ss d (name.Entry n) o k = made (calls.value_named s w at d [] (name.Entry n)) (Some (name_with i ss)) (call_made s w at d.name_at false n [] d.uses)
 
-  name_alone : (v : Bool) (at : ℕ) (i : Identifier) (ss : Selectors) (j : Judged check_designated.Designated) (o : Option Designated) → HasDesignated tokens s h i.name (find i.name h.scope) (last_field ss) j o → HasName h (expressions.named_value s w v at j (Ok [])) (Some (name_with i ss))
+  name_alone : (v : Bool) (at : ℕ) (i : Identifier) (ss : Selectors) (j : Judged check_designated.DesignatedName) (o : Option Designated) → HasDesignated tokens s h i.name (find i.name h.scope) (last_field ss) j o → HasName h (expressions.named_value s w v at j (Ok [])) (Some (name_with i ss))
   unfolding calls.value_of
   name_alone false at i ss (Ok d) o e = value_name at i ss d d.named o e
   name_alone false at i ss (Err fs) o e = tt
@@ -93,7 +93,7 @@ module _ (tokens : Tokens) (s : Scopes) (h : Here) (w : Context) (agrees : Scope
       go false = value_name at i ss d d.named o e
 
   -- a name with arguments is no variable
-  value_called : (at : ℕ) (d : check_designated.Designated) (p : Operand) (ps : List Operand) (n : Named) → HasName h (calls.value_named s w at d (p ∷ ps) n) None
+  value_called : (at : ℕ) (d : check_designated.DesignatedName) (p : Operand) (ps : List Operand) (n : Named) → HasName h (calls.value_named s w at d (p ∷ ps) n) None
   value_called at d p ps (name.Variable v) = tt
   value_called at d p ps (name.Parameter v) = tt
   value_called at d p ps (name.Constant b) = tt
@@ -103,7 +103,7 @@ module _ (tokens : Tokens) (s : Scopes) (h : Here) (w : Context) (agrees : Scope
   value_called at d p ps (name.Routine n) = made (calls.value_named s w at d (p ∷ ps) (name.Routine n)) None (call_made s w at d.name_at true n (p ∷ ps) d.uses)
   value_called at d p ps (name.Entry n) = made (calls.value_named s w at d (p ∷ ps) (name.Entry n)) None (call_made s w at d.name_at false n (p ∷ ps) d.uses)
 
-  name_called : (at : ℕ) (j : Judged check_designated.Designated) (k : Judged Operand) (ks : Judged (List Operand)) → HasName h (expressions.named_value s w false at j (both k ks >>= expressions.before)) None
+  name_called : (at : ℕ) (j : Judged check_designated.DesignatedName) (k : Judged Operand) (ks : Judged (List Operand)) → HasName h (expressions.named_value s w false at j (both k ks >>= expressions.before)) None
   unfolding calls.value_of
   name_called at (Ok d) (Ok p) (Ok ps) = value_called at d p ps d.named
   name_called at (Ok d) (Ok p) (Err fs) = tt

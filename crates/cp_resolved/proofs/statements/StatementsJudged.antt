@@ -65,7 +65,7 @@ module _ (s : Scopes) (w : Context) (f : Bool) (scope : Scope) where
 
   pub record InvokeSaid (d : Designator) : Type 0 where
     pub small : IsSmallDesignator d
-    pub value : check_designated.Designated
+    pub value : check_designated.DesignatedName
     pub is : designator s w d ≡ Ok value
     pub kind : IsInvoked value.named
     pub invoked : InvokedAs value.named
@@ -126,7 +126,7 @@ module _ (s : Scopes) (w : Context) (f : Bool) (scope : Scope) where
       let t : Then (both j (expression s w false e)) (statements.finish_assignment at) r = then_of (both j (expression s w false e)) (statements.finish_assignment at) r is in
       let b = both_of j (expression s w false e) t.value t.is in
       let k : Then (designator s w d) (statements.with_target s w i.at) t.value.0 = then_of (designator s w d) (statements.with_target s w i.at) t.value.0 b.first in
-      let c : check_designated.Designated = k.value in
+      let c : check_designated.DesignatedName = k.value in
       let a : Then (statements.aimed i.at (statements.target_of s w c.named)) (λ x. Ok (x, c.uses)) t.value.0 = then_of (statements.aimed i.at (statements.target_of s w c.named)) (λ x. Ok (x, c.uses)) t.value.0 k.rest in
       let uses : c.uses ≡ t.value.0.1 = ap (λ (x : Target × Use). x.1) (ok_same (a.value, c.uses) t.value.0 a.rest) in
       let low : Below f (both_uses t.value.0.1 t.value.1.uses) = subst (Below f) (sym (assigned_same at t.value.0.0 t.value.1 (both_uses t.value.0.1 t.value.1.uses) r t.rest)) h in
@@ -227,14 +227,14 @@ module _ (s : Scopes) (w : Context) (f : Bool) (scope : Scope) where
   performed_ok at predeclared.Abs os u r h is = absurd (cc)
   performed_ok at predeclared.Empty os u r h is = absurd (cc)
 
-  record NamedOk (d : check_designated.Designated) (n : Named) (os : List Operand) (k : ℕ) : Type 0 where
+  record NamedOk (d : check_designated.DesignatedName) (n : Named) (os : List Operand) (k : ℕ) : Type 0 where
     kind : IsInvoked n
     invoked : InvokedAs n
     first : Below f d.uses
     others : AreBelow f os
     fine : NoneFunctions s w f scope (statements.parameters_of s n k) 0 os
 
-  named_ok : (at : ℕ) (d : check_designated.Designated) (os : List Operand) (n : Named) (r : Use) (k : ℕ) → Below f r → statements.invoked_named s w at d os n ≡ Ok r → NamedOk d n os k
+  named_ok : (at : ℕ) (d : check_designated.DesignatedName) (os : List Operand) (n : Named) (r : Use) (k : ℕ) → Below f r → statements.invoked_named s w at d os n ≡ Ok r → NamedOk d n os k
   named_ok at d os (name.Predeclared p) r k h is =
       let x : PerformedOk p os (calls.total_use d.uses os) = performed_ok at p os (calls.total_use d.uses os) r h is in
       let y = total_below f d.uses os x.below in
@@ -260,7 +260,7 @@ module _ (s : Scopes) (w : Context) (f : Bool) (scope : Scope) where
       let ps = statements.parameters_named s (statements.number_of es) (designator s w d) in
       let t : Then (both (designator s w d) (arguments s w ps 0 es)) (statements.invoked s w at) r = then_of (both (designator s w d) (arguments s w ps 0 es)) (statements.invoked s w at) r is in
       let b = both_of (designator s w d) (arguments s w ps 0 es) t.value t.is in
-      let a : arguments s w (statements.parameters_of s t.value.0.named (statements.number_of es)) 0 es ≡ Ok t.value.1 = sym (ap (λ (j : Judged check_designated.Designated). arguments s w (statements.parameters_named s (statements.number_of es) j) 0 es) b.first) ∙ b.second in
+      let a : arguments s w (statements.parameters_of s t.value.0.named (statements.number_of es)) 0 es ≡ Ok t.value.1 = sym (ap (λ (j : Judged check_designated.DesignatedName). arguments s w (statements.parameters_named s (statements.number_of es) j) 0 es) b.first) ∙ b.second in
       let x : NamedOk t.value.0 t.value.0.named t.value.1 (statements.number_of es) = named_ok at t.value.0 t.value.1 t.value.0.named r (statements.number_of es) h t.rest in (
         record { small = m; value = t.value.0; is = b.first; kind = x.kind; invoked = x.invoked },
         said_both s w f scope (selectors_calls scope ss) (expressions_calls scope es) (designator_said s w f scope i ss m t.value.0 x.first b.first)
@@ -269,7 +269,7 @@ module _ (s : Scopes) (w : Context) (f : Bool) (scope : Scope) where
 
   -- ---- starts
 
-  component_below : (at : ℕ) (d : check_designated.Designated) (os : List Operand) (v : ValueType) (r : Use) → Below f r → statements.started_named s at d os (name.Variable v) ≡ Ok r → Below f d.uses × AreBelow f os
+  component_below : (at : ℕ) (d : check_designated.DesignatedName) (os : List Operand) (v : ValueType) (r : Use) → Below f r → statements.started_named s at d os (name.Variable v) ≡ Ok r → Below f d.uses × AreBelow f os
   component_below at d os (types.Component k n) r h is =
       let x = unless_ok (calls.fit_faults at (heading_at n s).parameters os) (both_uses (calls.total_use d.uses os) (statements.start_use (statements.start_need k (as_need (shape_in n s.shapes))))) r is in
       total_below f d.uses os (first_below f (calls.total_use d.uses os) (statements.start_use (statements.start_need k (as_need (shape_in n s.shapes)))) (subst (Below f) (sym x.1) h))
@@ -279,7 +279,7 @@ module _ (s : Scopes) (w : Context) (f : Bool) (scope : Scope) where
   component_below at d os (types.Array n) r h is = absurd (cc)
   component_below at d os (types.Record n) r h is = absurd (cc)
 
-  started_below : (at : ℕ) (d : check_designated.Designated) (os : List Operand) (n : Named) (r : Use) → Below f r → statements.started_named s at d os n ≡ Ok r → Below f d.uses × AreBelow f os
+  started_below : (at : ℕ) (d : check_designated.DesignatedName) (os : List Operand) (n : Named) (r : Use) → Below f r → statements.started_named s at d os n ≡ Ok r → Below f d.uses × AreBelow f os
   started_below at d os (name.Variable v) r h is = component_below at d os v r h is
   started_below at d os (name.Parameter v) r h is = absurd (cc)
   started_below at d os (name.Constant b) r h is = absurd (cc)

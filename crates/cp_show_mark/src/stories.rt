@@ -1,0 +1,60 @@
+//! The story of a schedule within the limits of the options.
+
+ghost use Rattle.std.specs.Prelude.{◌≡◌, ◌≤◌, IfOk, length};
+ghost use Rattle.cp_walk.specs.Rows.{UsedWithin};
+
+use crate::examinee::Examinee;
+use cp_legend::Legend;
+use cp_machine::Ticks;
+use cp_show_options::limits_of;
+use cp_slots::Resolved;
+use cp_story::{Story, Wait, tell};
+use cp_tool::Options;
+use std::alloc::{AllocError, Global};
+use std::marker::Brand;
+use std::sync::ledger::{Blank, Ledger};
+
+/// The story of a word.
+pub fn story_of(
+    alloc: Global,
+    options: &Options,
+    program: &Resolved,
+    legend: &Legend,
+    word: &[u8],
+) -> Result<Story, AllocError>
+    requires { length word.now ≤ 100 }
+    ensures { IfOk result (λ story. UsedWithin story.end (length word.now)) }
+{
+    story_by::<Brand>(alloc, options, program, legend, word, Blank::new(1))
+}
+
+fn story_by<L: Ledger>(
+    alloc: Global,
+    options: &Options,
+    program: &Resolved,
+    legend: &Legend,
+    word: &[u8],
+    blank: Blank,
+) -> Result<Story, AllocError>
+    requires name { blank.name ≡ L.name }
+    requires parts { blank.parts ≡ L.parts }
+    requires one { L.parts ≡ 1 }
+    requires word { length word.now ≤ 100 }
+    ensures { IfOk result (λ story. UsedWithin story.end (length word.now)) }
+{
+    let mut ticks: Ticks<L> = Ticks::new(blank);
+    tell(alloc, program, legend, limits_of(options), word, &mut ticks)
+}
+
+/// Who waits where at the end of a word.
+pub fn waits_of(alloc: Global, examinee: Examinee<'_>, word: &[u8]) -> Result<Vec<Wait>, AllocError>
+    requires { length word.now ≤ 100 }
+{
+    let Examinee {
+        options,
+        program,
+        legend,
+        ..
+    } = examinee;
+    Ok(story_of(alloc, options, program, legend, word)?.waits)
+}

@@ -1,0 +1,324 @@
+//! The command of `cpx_show`, as `clap` knows it: a subcommand for each part.
+
+use clap::{Arg, ArgAction, Command};
+use std::alloc::{AllocError, Global};
+
+const ABOUT: &str =
+    "Reads a program in Concurrent Pascal from standard input, and shows what cpx finds\nin names, pictures and words.";
+
+const USAGE: &str = "cpx_show PART [OPTIONS] < PROGRAM";
+
+const NOTES: &str =
+    "Example: cpx_show trace --schedule 0.1 < program.cp\n\nStatus: 0 reported, 1 source refused, 2 options refused, 3 no memory, 4 read or write fault,\n5 too many states or outcomes, 6 an expectation fails, 7 one is not settled";
+
+const EXPECTATIONS: &str =
+    "OUTCOME: finished, all-waiting, run-error or run-error NAME; after it, if wanted,\noutput VALUES, where .. stands for any values at any place; or shown VALUE, for a schedule\nthat displays it, whatever it ends in. A constant that is named as an outcome begins is\nwritten in parentheses: shown (finished). Several expectations are joined by and.\nWithout words those in comments of the program are taken: (* expect never all-waiting *)\n\nWith --ends of schedules of any length, without outputs; END may be alone or spins as well, and\nwhat is expected may be never waiting, some waiting, some waiting PROCESS, never shown VALUE\nor some shown VALUE. With too many states kernel calls are made at once, but for waiting.\n\nStatus: 0 holds, 6 fails, 7 not settled; 1 to 5 as cpx";
+
+// An option as it is written, with what help says of it.
+#[derive(Clone, Copy)]
+enum OptionWords {
+    // Its name, what stands for its value, and what it does.
+    Valued(&'static str, &'static str, &'static str),
+    // Its name, and what it does.
+    Switch(&'static str, &'static str),
+}
+
+const JSON: OptionWords = OptionWords::Switch("json", "Write one JSON object");
+
+const OUTCOME: OptionWords = OptionWords::Valued(
+    "outcome",
+    "N",
+    "In place of --schedule: the first schedule of the outcome that `outcomes` tells with this number",
+);
+
+const SIMPLEST: OptionWords = OptionWords::Switch(
+    "simplest",
+    "With --outcome: its simplest schedule, in which processes are switched least",
+);
+
+// Which schedule is shown, where one is.
+const ONE_SCHEDULE: [OptionWords; 5] = [
+    OptionWords::Valued(
+        "schedule",
+        "WORD",
+        "The schedule: `none`, or up to 100 numbers 0 to 15 joined by periods",
+    ),
+    OUTCOME,
+    SIMPLEST,
+    OptionWords::Valued(
+        "again",
+        "WORD",
+        "A round after it that can be gone again and again; with it --ends is as good as given",
+    ),
+    ENDS,
+];
+
+const ENDS: OptionWords = OptionWords::Switch(
+    "ends",
+    "Take schedules as cpx does with --ends: of up to 100 choices, or for a mark of any length",
+);
+
+const CHOICES: OptionWords = OptionWords::Valued(
+    "choices",
+    "K",
+    "Choices of a schedule, 0 to 100 [default: 100]",
+);
+
+const STEPS: OptionWords = OptionWords::Valued(
+    "steps",
+    "L",
+    "Steps of a stretch between choices, 1 to 100000 [default: 1000]",
+);
+
+const GATES: OptionWords = OptionWords::Valued(
+    "gates",
+    "WHO",
+    "Who enters a monitor that becomes free: `first` in line, or `any` [default: first]",
+);
+
+// How far all schedules are looked at.
+const LIMITS: [OptionWords; 5] = [
+    CHOICES,
+    STEPS,
+    GATES,
+    OptionWords::Switch(
+        "merge",
+        "Changes nothing: schedules that come to one state are counted together in any case",
+    ),
+    OptionWords::Valued(
+        "states",
+        "N",
+        "States that a layer may have, 1 to 10000000 [default: 200000]",
+    ),
+];
+
+/// The command with all its parts; `clap` adds `--help` and `-h` to each.
+pub fn command<'a>(alloc: Global) -> Result<Command<'a>, AllocError> {
+    let command = with_part(Ok(described(alloc)), trace(alloc));
+    let command = with_part(command, lanes(alloc));
+    let command = with_part(command, page(alloc));
+    let command = with_part(command, outcomes(alloc));
+    let command = with_part(command, ends(alloc));
+    let command = with_part(command, refusal(alloc));
+    with_part(command, mark(alloc))
+}
+
+fn with_part<'a>(
+    command: Result<Command<'a>, AllocError>,
+    part: Result<Command<'a>, AllocError>,
+) -> Result<Command<'a>, AllocError> {
+    command?.subcommand(part?)
+}
+
+fn described<'a>(alloc: Global) -> Command<'a> {
+    Command::new(alloc, "cpx_show")
+        .about(ABOUT)
+        .override_usage(USAGE)
+        .after_help(NOTES)
+        .subcommand_required(true)
+        .disable_help_subcommand(true)
+}
+
+// A part that has no options yet.
+fn part<'a>(
+    alloc: Global,
+    name: &'static str,
+    about: &'static str,
+    usage: &'static str,
+) -> Command<'a> {
+    Command::new(alloc, name).about(about).override_usage(usage)
+}
+
+fn with_options<'a>(
+    alloc: Global,
+    command: Result<Command<'a>, AllocError>,
+    options: &[OptionWords],
+) -> Result<Command<'a>, AllocError> {
+    let mut command = command?;
+    for words in options {
+        command = command.arg(option(alloc, *words))?;
+    }
+    Ok(command)
+}
+
+fn option<'a>(alloc: Global, words: OptionWords) -> Arg<'a> {
+    match words {
+        OptionWords::Valued(name, value, help) => Arg::new(alloc, name)
+            .long(name)
+            .value_name(value)
+            .help(help),
+        OptionWords::Switch(name, help) => Arg::new(alloc, name)
+            .long(name)
+            .action(ArgAction::SetTrue)
+            .help(help),
+    }
+}
+
+fn trace<'a>(alloc: Global) -> Result<Command<'a>, AllocError> {
+    let command = part(
+        alloc,
+        "trace",
+        "Tells one schedule in names: a line for each kernel call",
+        "cpx_show trace --schedule WORD|--outcome N [OPTIONS] < PROGRAM",
+    );
+    let command = with_options(alloc, Ok(command), &ONE_SCHEDULE);
+    let command = with_options(alloc, command, &LIMITS);
+    with_options(alloc, command, &[JSON])
+}
+
+fn lanes<'a>(alloc: Global) -> Result<Command<'a>, AllocError> {
+    let command = part(
+        alloc,
+        "lanes",
+        "Draws one schedule as a picture: SVG with a lane for each process",
+        "cpx_show lanes --schedule WORD|--outcome N [OPTIONS] < PROGRAM > PICTURE.svg",
+    );
+    let command = with_options(alloc, Ok(command), &DRAWING);
+    let command = with_options(alloc, command, &ONE_SCHEDULE);
+    with_options(alloc, command, &LIMITS)
+}
+
+// What of a picture is drawn.
+const DRAWING: [OptionWords; 3] = [
+    OptionWords::Valued("rows", "A-B", "Draw these rows alone, counted from 1"),
+    OptionWords::Valued("last", "N", "Draw the last N rows alone"),
+    OptionWords::Switch(
+        "plain",
+        "Leave out source, schedule and key, with larger letters, for slides",
+    ),
+];
+
+fn page<'a>(alloc: Global) -> Result<Command<'a>, AllocError> {
+    let command = part(
+        alloc,
+        "page",
+        "Writes a page on which you play the scheduler: one file of HTML, which needs no network",
+        "cpx_show page [OPTIONS] < PROGRAM > PAGE.html",
+    );
+    Ok(with_options(alloc, Ok(command), &PLAYING)?.arg(page_states(alloc))?)
+}
+
+const PLAYING: [OptionWords; 8] = [
+    OptionWords::Valued(
+        "schedule",
+        "WORD",
+        "A schedule that is laid out at its beginning when the page is opened",
+    ),
+    OUTCOME,
+    SIMPLEST,
+    OptionWords::Switch(
+        "ends",
+        "Play schedules of any length: which ends can come, and rounds in which a process waits for ever",
+    ),
+    OptionWords::Valued(
+        "again",
+        "WORD",
+        "With --schedule: a round after it that can be gone again and again; with it --ends is as good as given",
+    ),
+    CHOICES,
+    STEPS,
+    GATES,
+];
+
+// It has a name of its own: of the other parts it limits the states that are counted.
+fn page_states<'a>(alloc: Global) -> Arg<'a> {
+    Arg::new(alloc, "page-states")
+        .long("states")
+        .value_name("N")
+        .help("States that the page goes on from, 1 to 100000 [default: 2000]")
+}
+
+fn outcomes<'a>(alloc: Global) -> Result<Command<'a>, AllocError> {
+    let command = part(
+        alloc,
+        "outcomes",
+        "Tells the outcomes of all schedules in words: shares, first schedules, and whether these are all",
+        "cpx_show outcomes [OPTIONS] < PROGRAM",
+    );
+    let command = with_options(alloc, Ok(command), &LIMITS);
+    with_options(alloc, command, &[JSON, COVER])
+}
+
+const COVER: OptionWords = OptionWords::Switch(
+    "cover",
+    "Tell as well which statements no schedule reaches, and in which queues and at which gates nobody ever waits",
+);
+
+fn ends<'a>(alloc: Global) -> Result<Command<'a>, AllocError> {
+    let command = part(
+        alloc,
+        "ends",
+        "Tells in words which ends are possible in schedules of any length, and who may wait for ever",
+        "cpx_show ends [OPTIONS] < PROGRAM",
+    );
+    with_options(alloc, Ok(command), &ENDING)
+}
+
+const ENDING: [OptionWords; 6] = [
+    OptionWords::Switch(
+        "waits",
+        "Tell as well who may wait for ever while others go on",
+    ),
+    OptionWords::Switch(
+        "at-once",
+        "Make kernel calls but enter at once: fewer states",
+    ),
+    STEPS,
+    GATES,
+    OptionWords::Valued(
+        "states",
+        "N",
+        "States that there may be in all, 1 to 10000000 [default: 200000]",
+    ),
+    JSON,
+];
+
+fn refusal<'a>(alloc: Global) -> Result<Command<'a>, AllocError> {
+    let command = part(
+        alloc,
+        "refusal",
+        "Says why a source is refused, in a sentence; or that it is accepted, with hints",
+        "cpx_show refusal [OPTIONS] < PROGRAM",
+    )
+    .after_help("The options of a run change nothing here.");
+    let command = with_options(alloc, Ok(command), &[JSON, WHERE]);
+    with_options(alloc, command, &LIMITS)
+}
+
+const WHERE: OptionWords = OptionWords::Valued(
+    "where",
+    "NAME",
+    "Begin places with NAME:LINE:COLUMN, as editors read them",
+);
+
+fn mark<'a>(alloc: Global) -> Result<Command<'a>, AllocError> {
+    let command = part(
+        alloc,
+        "mark",
+        "Says whether what is expected of all schedules holds: never OUTCOME, some OUTCOME, only OUTCOME..",
+        "cpx_show mark [OPTIONS] [EXPECTATION..] < PROGRAM",
+    )
+    .after_help(EXPECTATIONS);
+    let command = with_options(alloc, command.arg(expectation(alloc)), &MARKING);
+    with_options(alloc, command, &LIMITS)
+}
+
+fn expectation<'a>(alloc: Global) -> Arg<'a> {
+    Arg::new(alloc, "expectation")
+        .value_name("EXPECTATION")
+        .num_args(0..)
+        .help("What is expected, as never all-waiting")
+}
+
+const MARKING: [OptionWords; 4] = [
+    ENDS,
+    OptionWords::Switch(
+        "at-once",
+        "With --ends: make kernel calls but enter at once, so fewer states; not for waiting",
+    ),
+    OptionWords::Switch(
+        "own",
+        "Take the expectations in comments of the program as well",
+    ),
+    JSON,
+];

@@ -1,0 +1,11 @@
+//! What the words of a call of `cpx_show` ask for.
+#![tactic(auto)]
+
+mod command;
+mod faults;
+pub mod limits;
+pub mod parts;
+mod words;
+
+pub use limits::{limits_of, longest_limits_of};
+pub use parts::{Asked, ShowPart, read_parts, refused_part};

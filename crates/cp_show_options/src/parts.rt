@@ -1,0 +1,218 @@
+//! What the words of a call ask for.
+
+use crate::command::command;
+use crate::faults::{USUAL_STATES, choice_fault, extent_of, is_simplest, outcome_of, page_states};
+use crate::words::{numbers_of, shared_words, texts_of, words_given};
+use clap::ArgMatches;
+use clap::error::ErrorKind;
+use cp_lanes::{PictureView, SheetExtent};
+use cp_tool::{OptionFault, Options, SourceReading, read_options, reason_for, word_reason};
+use cp_verdict::{Misread, Reading, expectations};
+use std::alloc::{AllocError, Global};
+
+/// How the program is given its source.
+const READING: SourceReading<'static> = SourceReading {
+    program: "cpx_show PART",
+    script: "./show PART",
+};
+
+/// What is to be shown.
+#[derive(Drop)]
+pub enum ShowPart {
+    /// The schedule in names, as lines or as JSON.
+    Trace {
+        json: bool,
+    },
+    /// These rows of the schedule as a picture, or a plain one.
+    Lanes(PictureView),
+    /// A page on which the scheduler is played, which goes on from so many states.
+    Page {
+        states: u32,
+    },
+    /// The outcomes of all schedules, as lines or as JSON; and with `cover` what no schedule comes to.
+    Outcomes {
+        json: bool,
+        cover: bool,
+    },
+    /// The ends that are possible in schedules of any length, as lines or as JSON.
+    Ends {
+        json: bool,
+    },
+    /// Why the source is refused, as lines or as JSON; places begin with the name of its file, if one is given.
+    Refusal {
+        json: bool,
+        file: Option<String>,
+    },
+    /// Whether the expectations of these words hold, as lines or as JSON; with no words, or where they are asked for, those of the source.
+    Mark {
+        words: String,
+        /// What the words are read to expect, where that alone is to be marked by schedules of so many choices.
+        reading: Option<Reading>,
+        own: bool,
+        json: bool,
+    },
+}
+
+impl ShowPart {
+    /// Whether it is told why the source is refused.
+    pub fn tells_refusal(&self) -> bool {
+        matches!(self, ShowPart::Refusal { .. } | ShowPart::Mark { .. })
+    }
+}
+
+/// A part, and the options that are those of `cpx`.
+#[derive(Drop)]
+pub struct Asked {
+    pub part: ShowPart,
+    pub options: Options,
+    /// The outcome whose first schedule is shown, where none is given.
+    pub outcome: Option<usize>,
+    /// Whether it is the simplest in place of the first.
+    pub simplest: bool,
+    /// How many numbers at the end of the schedule are a round that can be gone again and again.
+    pub round: usize,
+}
+
+/// What the words ask for, of which the first is the program's name. The options of `cpx` are read as `cpx` reads them.
+pub fn read_parts<'a>(alloc: Global, words: &'a [&'a str]) -> Result<Asked, OptionFault> {
+    let command = command(alloc)?;
+    match command.try_get_matches_from(words) {
+        Ok(matches) => read_matches(alloc, &matches),
+        Err(error) => Err(match error.kind() {
+            ErrorKind::OutOfMemory => OptionFault::Memory,
+            ErrorKind::DisplayHelp => OptionFault::Help(format!(in alloc; "{error}")?),
+            _ => OptionFault::Refused,
+        }),
+    }
+}
+
+fn read_matches(alloc: Global, matches: &ArgMatches<'_>) -> Result<Asked, OptionFault> {
+    let Some((name, inner)) = matches.subcommand() else {
+        return Err(OptionFault::Refused);
+    };
+    if !choice_fault(name, inner).is_empty() {
+        return Err(OptionFault::Refused);
+    }
+    let options = options(alloc, inner, name == "ends")?;
+    Ok(Asked {
+        part: part_of(alloc, name, inner)?,
+        options,
+        outcome: outcome_of(inner),
+        simplest: is_simplest(name, inner),
+        round: numbers_of(inner.get_str("again")),
+    })
+}
+
+fn part_of(alloc: Global, name: &str, matches: &ArgMatches<'_>) -> Result<ShowPart, OptionFault> {
+    Ok(match name {
+        "trace" => ShowPart::Trace {
+            json: matches.get_flag("json"),
+        },
+        "lanes" => ShowPart::Lanes(view_of(matches)),
+        "page" => ShowPart::Page {
+            states: page_states(matches).unwrap_or(USUAL_STATES),
+        },
+        "outcomes" => ShowPart::Outcomes {
+            json: matches.get_flag("json"),
+            cover: matches.get_flag("cover"),
+        },
+        "ends" => ShowPart::Ends {
+            json: matches.get_flag("json"),
+        },
+        "refusal" => ShowPart::Refusal {
+            json: matches.get_flag("json"),
+            file: file_of(alloc, matches)?,
+        },
+        "mark" => return mark_part(alloc, matches),
+        _ => return Err(OptionFault::Refused),
+    })
+}
+
+fn view_of(matches: &ArgMatches<'_>) -> PictureView {
+    PictureView {
+        extent: extent_of(matches).unwrap_or(SheetExtent::All),
+        is_plain: matches.get_flag("plain"),
+    }
+}
+
+fn mark_part(alloc: Global, matches: &ArgMatches<'_>) -> Result<ShowPart, OptionFault> {
+    let words = words_given(alloc, matches)?;
+    let own = matches.get_flag("own");
+    let is_alone = !own && !words.is_empty() && !matches.get_flag("ends");
+    let reading = expected_by(alloc, words.as_str(), is_alone)?;
+    Ok(ShowPart::Mark {
+        words,
+        reading,
+        own,
+        json: matches.get_flag("json"),
+    })
+}
+
+// What words expect, if they stand alone and can be read.
+fn expected_by(alloc: Global, words: &str, is_alone: bool) -> Result<Option<Reading>, AllocError> {
+    if !is_alone {
+        return Ok(None);
+    }
+    match expectations(alloc, words) {
+        Ok(reading) => Ok(Some(reading)),
+        Err(Misread::Unexpected { .. }) => Ok(None),
+        Err(Misread::Memory) => Err(AllocError),
+    }
+}
+
+// The name of the file that the source is read from, if it is given.
+fn file_of(alloc: Global, matches: &ArgMatches<'_>) -> Result<Option<String>, AllocError> {
+    match matches.get_str("where") {
+        Some(name) => Ok(Some(String::from_str(alloc, name)?)),
+        None => Ok(None),
+    }
+}
+
+/// The first word of these that `read_parts` refuses, and why.
+pub fn refused_part<'a>(alloc: Global, words: &'a [&'a str]) -> Result<String, AllocError> {
+    let command = command(alloc)?;
+    match command.try_get_matches_from(words) {
+        Ok(matches) => refused_match(alloc, &matches),
+        Err(error) => match error.kind() {
+            ErrorKind::OutOfMemory => Err(AllocError),
+            _ => refused_word(alloc, format!(in alloc; "{error}")),
+        },
+    }
+}
+
+fn refused_match(alloc: Global, matches: &ArgMatches<'_>) -> Result<String, AllocError> {
+    match matches.subcommand() {
+        Some((name, inner)) => refused_option(alloc, inner, name),
+        None => String::from_str(alloc, "a part is wanted"),
+    }
+}
+
+fn refused_word(alloc: Global, message: Result<String, AllocError>) -> Result<String, AllocError> {
+    word_reason(alloc, message?.as_str(), READING)
+}
+
+// The first option of a part that `cpx` refuses, and why.
+fn refused_option(
+    alloc: Global,
+    matches: &ArgMatches<'_>,
+    name: &str,
+) -> Result<String, AllocError> {
+    let fault = choice_fault(name, matches);
+    if !fault.is_empty() {
+        return String::from_str(alloc, fault);
+    }
+    let words = shared_words(alloc, matches, name == "ends")?;
+    let texts = texts_of(alloc, &words)?;
+    reason_for(alloc, &texts, READING)
+}
+
+// The options of a part, read by `cpx`; some parts are always those of schedules of any length.
+fn options(
+    alloc: Global,
+    matches: &ArgMatches<'_>,
+    with_ends: bool,
+) -> Result<Options, OptionFault> {
+    let words = shared_words(alloc, matches, with_ends)?;
+    let texts = texts_of(alloc, &words)?;
+    read_options(alloc, &texts)
+}

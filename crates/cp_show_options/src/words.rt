@@ -1,0 +1,120 @@
+//! The words that are given, as one text, and as `cpx` reads them.
+
+use clap::ArgMatches;
+use cp_prose::Prose;
+use std::alloc::{AllocError, Global};
+
+/// The options that are those of `cpx`, but for `--choices`.
+const SHARED: [&str; 3] = ["steps", "gates", "states"];
+
+/// How many choices a schedule has where the words do not say so.
+const USUAL_CHOICES: &str = "100";
+
+/// The words of the expectations that are given, joined by spaces.
+pub fn words_given(alloc: Global, matches: &ArgMatches<'_>) -> Result<String, AllocError> {
+    let mut text = Prose::new(alloc);
+    if let Some(words) = matches.get_strs("expectation") {
+        for word in words {
+            text.put(if text.len() > 0 { " " } else { "" });
+            text.put(word);
+        }
+    }
+    text.finish()
+}
+
+/// How many numbers a word has, as it is written.
+pub fn numbers_of(word: Option<&str>) -> usize {
+    match word {
+        None => 0,
+        Some("none") => 0,
+        Some(word) => word.split('.').count(),
+    }
+}
+
+/// The words, to be read.
+pub fn texts_of<'a>(alloc: Global, words: &'a [String]) -> Result<Vec<&'a str>, AllocError> {
+    let mut texts = Vec::new(alloc);
+    for word in words {
+        texts.push(word.as_str())?;
+    }
+    Ok(texts)
+}
+
+// Words that are written one by one, and that tell at the end whether memory was refused.
+#[derive(Drop)]
+struct WordList {
+    words: Vec<String>,
+    is_refused: bool,
+}
+
+impl WordList {
+    fn new(alloc: Global) -> WordList {
+        WordList {
+            words: Vec::new(alloc),
+            is_refused: false,
+        }
+    }
+
+    fn add(&mut self, word: Result<String, AllocError>) {
+        match word {
+            Ok(word) => {
+                if self.words.push(word).is_err() {
+                    self.is_refused = true;
+                }
+            }
+            Err(_) => self.is_refused = true,
+        }
+    }
+
+    fn finish(self) -> Result<Vec<String>, AllocError> {
+        if self.is_refused {
+            return Err(AllocError);
+        }
+        Ok(self.words)
+    }
+}
+
+/// The options of `cpx` as its own words.
+pub fn shared_words(
+    alloc: Global,
+    matches: &ArgMatches<'_>,
+    with_ends: bool,
+) -> Result<Vec<String>, AllocError> {
+    let mut words = WordList::new(alloc);
+    words.add(String::from_str(alloc, "cpx"));
+    let choices = matches.get_str("choices").unwrap_or(USUAL_CHOICES);
+    words.add(format!(in alloc; "--choices={choices}"));
+    for name in SHARED {
+        if let Some(value) = matches.get_str(name) {
+            words.add(format!(in alloc; "--{name}={value}"));
+        }
+    }
+    if let Some(schedule) = matches.get_str("schedule") {
+        words.add(schedule_word(alloc, schedule, matches.get_str("again")));
+    }
+    add_switches(alloc, matches, with_ends, &mut words);
+    words.finish()
+}
+
+fn add_switches(alloc: Global, matches: &ArgMatches<'_>, with_ends: bool, words: &mut WordList) {
+    let has_ends = with_ends || matches.get_flag("ends") || matches.get_str("again").is_some();
+    let length = if has_ends { "--ends" } else { "--merge" };
+    words.add(String::from_str(alloc, length));
+    for name in ["waits", "at-once"] {
+        if matches.get_flag(name) {
+            words.add(format!(in alloc; "--{name}"));
+        }
+    }
+}
+
+// The option of a schedule, with a round after it if there is one.
+fn schedule_word(alloc: Global, schedule: &str, again: Option<&str>) -> Result<String, AllocError> {
+    let again = match again {
+        None | Some("none") => return format!(in alloc; "--schedule={schedule}"),
+        Some(again) => again,
+    };
+    match schedule {
+        "none" => format!(in alloc; "--schedule={again}"),
+        _ => format!(in alloc; "--schedule={schedule}.{again}"),
+    }
+}

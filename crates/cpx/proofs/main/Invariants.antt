@@ -1,7 +1,0 @@
-use Rattle.cpx.proofs.main.Given as goal
-
-abbrev pub ghosts-explored-A-Ledger : goal.ghosts-explored-A-Ledger
-ghosts-explored-A-Ledger g a = record { name = a.reads.name; parts = a.reads.parts }
-
-abbrev pub ghosts-explored-B-Ledger : goal.ghosts-explored-B-Ledger
-ghosts-explored-B-Ledger g a = record { name = a.writes.name; parts = a.writes.parts }

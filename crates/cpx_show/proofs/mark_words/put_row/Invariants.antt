@@ -1,4 +1,0 @@
-use Rattle.cpx_show.proofs.mark_words.put_row.Given as goal
-
-abbrev pub ghosts-told : goal.ghosts-told
-ghosts-told a = record { name = a.blank.name; parts = a.blank.parts }
