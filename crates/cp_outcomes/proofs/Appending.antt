@@ -15,3 +15,10 @@ three_pieces r a b c old one two new d e = IfOk-weaker r (λ _. new ≡ two ++ c
 pub four_pieces : {T E : Type 0} (r : Result T E) (a b c d old one two three new : List ℕ) → one ≡ old ++ a → two ≡ one ++ b → three ≡ two ++ c → IfOk r (λ _. new ≡ three ++ d) → IfOk r (λ _. new ≡ old ++ (((a ++ b) ++ c) ++ d))
 four_pieces r a b c d old one two three new e f g =
     three_pieces r (a ++ b) c d old two three new (f ∙ ap (λ l. l ++ b) e ∙ append_assoc old a b) g
+
+-- those of an outcome
+pub outcome_pieces : {T E : Type 0} (r : Result T E) (a b c d e f g h old one two three four five six seven new : List ℕ) → one ≡ old ++ a → two ≡ one ++ b → three ≡ two ++ c → four ≡ three ++ d → five ≡ four ++ e → six ≡ five ++ f → seven ≡ six ++ g → IfOk r (λ _. new ≡ seven ++ h) → IfOk r (λ _. new ≡ old ++ ((((a ++ b) ++ c) ++ ((d ++ (e ++ f)) ++ g)) ++ h))
+outcome_pieces r a b c d e f g h old one two three four five six seven new p1 p2 p3 p4 p5 p6 p7 =
+    let before : seven ≡ ((((((old ++ a) ++ b) ++ c) ++ d) ++ e) ++ f) ++ g = p7 ∙ ap (λ l. l ++ g) (p6 ∙ ap (λ l. l ++ f) (p5 ∙ ap (λ l. l ++ e) (p4 ∙ ap (λ l. l ++ d) (p3 ∙ ap (λ l. l ++ c) (p2 ∙ ap (λ l. l ++ b) p1))))) in
+    let regrouped : (((((((old ++ a) ++ b) ++ c) ++ d) ++ e) ++ f) ++ g) ++ h ≡ old ++ ((((a ++ b) ++ c) ++ ((d ++ (e ++ f)) ++ g)) ++ h) = simp append_assoc in
+    IfOk-weaker r (λ _. new ≡ seven ++ h) (λ _. new ≡ old ++ ((((a ++ b) ++ c) ++ ((d ++ (e ++ f)) ++ g)) ++ h)) (λ _ p. p ∙ ap (λ l. l ++ h) before ∙ regrouped)

@@ -3,6 +3,8 @@ pub mod Closing
 pub mod Forms
 pub mod Meant
 pub mod Numbering
+pub mod Ordering
+pub mod Rows
 pub mod Sharing
 pub mod Sums
 pub mod Tenths

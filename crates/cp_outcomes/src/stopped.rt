@@ -1,7 +1,10 @@
 //! Schedules that ended at a limit.
 
-ghost use Rattle.std.specs.Prelude.{◌≡◌, ◌<◌, ◌^◌, map, true};
+ghost use Rattle.std.specs.Prelude.{◌≡◌, ◌<◌, ◌^◌, List, count_by, map};
+ghost use Rattle.cp_run.specs.Table.{Line};
+ghost use Rattle.cp_walk.specs.Report.{same_outcome};
 ghost use Rattle.cp_merged.specs.Code.{tally_of};
+ghost use Rattle.cp_merged.specs.Tallies.{tally};
 ghost use Rattle.cp_merged.specs.Told.{rows_in};
 ghost use Rattle.cp_walk.specs.Text.{kind_text};
 ghost use Rattle.cp_outcomes.specs.Stops.{count_at, is_at, kind_at, rows_at};
@@ -71,7 +74,8 @@ pub fn schedules_in(tallies: &[Tally]) -> Natural
 /// How many schedules ended at a limit.
 pub fn stopped_at(limit: Limit, tallies: &[Tally]) -> Natural
     requires { rows_in (map tally_of tallies.now) < 10 ^ 126 }
-    ensures { result ≡ rows_at limit (map tally_of tallies.now) }
+    ensures rows { result ≡ rows_at limit (map tally_of tallies.now) }
+    ensures table { (lines : List Line) → map tally_of tallies.now ≡ tally same_outcome lines → result ≡ count_by (λ l. is_at limit l.outcome.kind) lines }
 {
     let mut sum = Natural::zero();
     for tally in tallies {

@@ -239,6 +239,13 @@ fn push_closing(text: &mut String, limits: Limits, tallies: &[Tally]) -> Result<
     text.push_str(last_words(begun))
 }
 
+// How the last line begins, or goes on.
+fn first_words(begun: bool) -> &'static str
+    ensures { result.now ≡ (if begun then codes ", " else codes "\nnot complete: ") }
+{
+    if begun { ", " } else { "\nnot complete: " }
+}
+
 // How the last line ends; where nothing began it, it says that these are all.
 fn last_words(begun: bool) -> &'static str
     ensures { result.now ≡ (if begun then codes "\n" else codes "\ncomplete: the same for every greater number of choices and of steps\n") }
@@ -266,7 +273,7 @@ fn push_stop(
     if count.is_zero() {
         return Ok(begun);
     }
-    text.push_str(if begun { ", " } else { "\nnot complete: " })?;
+    text.push_str(first_words(begun))?;
     push_stopped(text, limits, limit, &count)?;
     Ok(true)
 }

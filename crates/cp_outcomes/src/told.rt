@@ -56,11 +56,22 @@ fn push_told<'a, L: Ledger>(
     ensures each { IfOk result (λ _. AllByRecursion (λ o. IsTold (setting_of subject.entry subject.entry.limits.choices) (told_of o)) told.old.items → AllByRecursion (λ o. IsTold (setting_of subject.entry subject.entry.limits.choices) (told_of o)) told.new.items) }
 {
     for (place, tally) in tallies.iter().enumerate() {
-        if is_stopped(tally.outcome.kind) == stopped {
+        if is_among(stopped, tally) {
             told.push(told_outcome(alloc, subject, simples, place, tally, ticks)?)?;
         }
     }
     Ok(())
+}
+
+// Whether an outcome is one of those, or of the others.
+fn is_among(stopped: bool, tally: &Tally) -> bool
+    ensures { result ≡ is_of stopped (tally_of tally.now) }
+{
+    if stopped {
+        is_stopped(tally.outcome.kind)
+    } else {
+        !is_stopped(tally.outcome.kind)
+    }
 }
 
 // The outcome at a place.

@@ -6,7 +6,7 @@ use Rattle.cp_outcomes.specs.Text.{closing_text, stop_text}
 use Rattle.cp_outcomes.specs.declared.stopped.Limit.{Limit}
 use Rattle.cp_outcomes.specs.declared.stopped.Limit.TheVariants.{Choices, Steps, Output}
 use Rattle.cp_outcomes.proofs.Appending.{last_piece}
-use Rattle.cp_outcomes.proofs.Closing.{closed, last}
+use Rattle.cp_outcomes.proofs.Closing.{closed}
 use Rattle.cp_outcomes.proofs.texts.push_closing.Goals as goal
 
 pub returns : goal.returns
