@@ -24,7 +24,7 @@ noted_at limit (u ∷ us) l = by (same_outcome u.first.outcome l.outcome) refl (
   where
     by : (b : Bool) → same_outcome u.first.outcome l.outcome ≡ b → rows_at limit (noted same_outcome us (one l)) ≡ rows_at limit us + unit_at limit l → rows_at limit (if b then more u (one l) ∷ us else u ∷ noted same_outcome us (one l)) ≡ rows_at limit (u ∷ us) + unit_at limit l
     by true e g =
-        let kind = ap (λ o. if is_at limit o.kind then 1 else 0) (exact_outcomes.exact u.first.outcome l.outcome e) in
+        let kind = ap {B = ℕ} (λ o. if is_at limit o.kind then 1 else 0) (exact_outcomes.exact u.first.outcome l.outcome e) in
         let c = one_more (is_at limit u.first.outcome.kind) u.count in
         let d = sum_by-cons (count_at limit) (more u (one l)) us in
         let f = sum_by-cons (count_at limit) u us in

@@ -134,7 +134,7 @@ fn push_figures(
     whole: &Natural,
 ) -> Result<(), AllocError>
     requires { whole.now < 10 ^ 126 }
-    ensures { IfOk result (λ _. string_bytes text.new ≡ string_bytes text.old ++ spec.right_text width (number_text number) ++ codes "." ++ spec.right_text 8 (share_text (share_in count.now whole.now)) ++ codes "  ") }
+    ensures { IfOk result (λ _. string_bytes text.new ≡ string_bytes text.old ++ (spec.right_text width (number_text number) ++ codes "." ++ spec.right_text 8 (share_text (share_in count.now whole.now)) ++ codes "  ")) }
 {
     let mut digits = String::new(alloc);
     push_count(&mut digits, number)?;
@@ -148,7 +148,7 @@ fn push_figures(
 
 // How many schedules have an outcome, and the first of them.
 fn push_first(text: &mut String, tally: &Tally) -> Result<(), AllocError>
-    ensures { IfOk result (λ _. string_bytes text.new ≡ string_bytes text.old ++ spec.schedules_text tally.now.count ++ codes ", first " ++ word_text tally.now.first.items) }
+    ensures { IfOk result (λ _. string_bytes text.new ≡ string_bytes text.old ++ (spec.schedules_text tally.now.count ++ codes ", first " ++ word_text tally.now.first.items)) }
 {
     push_schedules(text, &tally.count)?;
     text.push_str(", first ")?;
@@ -193,7 +193,7 @@ fn push_simplest(text: &mut String, simple: &SimplestSchedule) -> Result<(), All
 
 // Begins a line below the first of an outcome, whose number is so wide.
 fn push_indent(text: &mut String, width: usize) -> Result<(), AllocError>
-    ensures { IfOk result (λ _. string_bytes text.new ≡ string_bytes text.old ++ spec.blanks width ++ spec.blanks 11) }
+    ensures { IfOk result (λ _. string_bytes text.new ≡ string_bytes text.old ++ (spec.blanks width ++ spec.blanks 11)) }
 {
     push_blanks(text, width)?;
     push_blanks(text, MARGIN)
