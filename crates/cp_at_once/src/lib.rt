@@ -12,4 +12,4 @@ pub mod search;
 
 pub use found::FoundAtOnce;
 pub use report::at_once_report;
-pub use search::search_at_once;
+pub use search::{search_at_once, search_at_once_with};

@@ -19,6 +19,7 @@ use cp_ends::choosing::{choose, open};
 use cp_ends::end::Arrival;
 use cp_ends::state_key::ReachedKey;
 use cp_machine::{Shown, State, Ticks};
+use cp_progress::{ObserveProgress, Progress, STATES_BETWEEN, Unobserved};
 use cp_run::{Limits, candidates};
 use cp_slots::Resolved;
 use std::alloc::{AllocError, Global};
@@ -44,14 +45,28 @@ pub fn search_at_once(
 ) -> Result<FoundAtOnce, AllocError>
     ensures { IfOk result (λ found. IsAnswer program.now limits.gates limits.steps most found) }
 {
-    search_with::<Brand>(alloc, program, limits, most, Blank::new(1))
+    search_at_once_with(alloc, program, limits, most, &mut Unobserved)
 }
 
-fn search_with<S: Ledger>(
+/// The same, where an observer is told how far the search has come.
+pub fn search_at_once_with<O: ObserveProgress>(
     alloc: Global,
     program: &Resolved,
     limits: Limits,
     most: u32,
+    observer: &mut O,
+) -> Result<FoundAtOnce, AllocError>
+    ensures { IfOk result (λ found. IsAnswer program.now limits.gates limits.steps most found) }
+{
+    search_with::<O, Brand>(alloc, program, limits, most, observer, Blank::new(1))
+}
+
+fn search_with<O: ObserveProgress, S: Ledger>(
+    alloc: Global,
+    program: &Resolved,
+    limits: Limits,
+    most: u32,
+    observer: &mut O,
     blank: Blank,
 ) -> Result<FoundAtOnce, AllocError>
     requires name { blank.name ≡ S.name }
@@ -62,7 +77,9 @@ fn search_with<S: Ledger>(
     let mut steps: Ticks<S> = Ticks::new(blank);
     let mut state = State::start(alloc, program, limits.gates)?;
     let mut search = SearchAtOnce::new(alloc, program, &state)?;
-    search.fill(alloc, program, limits, most, &mut state, &mut steps)?;
+    search.fill(
+        alloc, program, limits, most, observer, &mut state, &mut steps,
+    )?;
     Ok(search.found)
 }
 
@@ -86,13 +103,23 @@ impl SearchAtOnce {
         })
     }
 
+    // What is found with words of so many choices, or more where some were made at once.
+    fn progress(&self, choices: u32) -> Progress {
+        Progress {
+            choices,
+            states: self.found.kept.len(),
+            outcomes: Some(self.found.ends.len()),
+        }
+    }
+
     // Goes on from the opening state, and from each state that is kept. Notes whether these are all.
-    fn fill<S: Ledger>(
+    fn fill<O: ObserveProgress, S: Ledger>(
         &mut self,
         alloc: Global,
         program: &Resolved,
         limits: Limits,
         most: u32,
+        observer: &mut O,
         state: &mut State,
         steps: &mut Ticks<S>,
     ) -> Result<(), AllocError>
@@ -108,17 +135,18 @@ impl SearchAtOnce {
         let arrival = open(alloc, program, limits, state, &mut self.told, steps)?;
         let mut next = state.copy(alloc)?;
         self.go_through(
-            alloc, program, limits, most, state, &mut next, arrival, steps,
+            alloc, program, limits, most, observer, state, &mut next, arrival, steps,
         )
     }
 
     // The same, from where the opening stretch came to. Borrows both states, so that they are let go in one place.
-    fn go_through<S: Ledger>(
+    fn go_through<O: ObserveProgress, S: Ledger>(
         &mut self,
         alloc: Global,
         program: &Resolved,
         limits: Limits,
         most: u32,
+        observer: &mut O,
         state: &mut State,
         next: &mut State,
         arrival: Arrival,
@@ -149,18 +177,19 @@ impl SearchAtOnce {
             self.found.is_whole = false;
             return Ok(());
         }
-        let is_whole = self.go_on(alloc, program, limits, most, state, next, steps)?;
+        let is_whole = self.go_on(alloc, program, limits, most, observer, state, next, steps)?;
         self.found.is_whole = is_whole;
         Ok(())
     }
 
     // Goes on from each state that is kept. `false` where there is a state too many.
-    fn go_on<S: Ledger>(
+    fn go_on<O: ObserveProgress, S: Ledger>(
         &mut self,
         alloc: Global,
         program: &Resolved,
         limits: Limits,
         most: u32,
+        observer: &mut O,
         state: &mut State,
         next: &mut State,
         steps: &mut Ticks<S>,
@@ -171,7 +200,16 @@ impl SearchAtOnce {
         requires begun { (states : List (Machine × List ℕ)) × Holds program.now (slot_graph program.now limits.gates limits.steps) most self.old.found states × IsGoneThrough (slot_graph program.now limits.gates limits.steps) (HasLeg program.now limits.gates) 8 0 self.old.found states }
         ensures { IfOk result (λ is_whole. Answers program.now (slot_graph program.now limits.gates limits.steps) (HasLeg program.now limits.gates) most 8 self.new.found is_whole) }
     {
+        let mut choices: u32 = 0;
+        let mut layer_end = self.found.kept.len();
         for number in 0..most {
+            if number as usize == layer_end {
+                choices = choices.saturating_add(1);
+                layer_end = self.found.kept.len();
+            }
+            if number % STATES_BETWEEN == 0 {
+                observer.observe_progress(self.progress(choices));
+            }
             if !self.found.kept.thaw_at(number, state) {
                 return Ok(true);
             }

@@ -13,6 +13,7 @@ use crate::layer::Layer;
 use crate::marks::Marks;
 use crate::noting::{note_choice, note_opening};
 use cp_machine::{State, Ticks};
+use cp_progress::{ObserveProgress, Progress, STATES_BETWEEN};
 use cp_run::{Halt, Limits, OutcomeKind, candidates};
 use cp_slots::Resolved;
 use std::alloc::{AllocError, Global};
@@ -38,24 +39,27 @@ struct CoverSearch {
     is_stopped: bool,
 }
 
-/// What all schedules of a table come to, by its layers, each of which may have `most` states. A layer of more ends the search.
-pub fn find_coverage(
+/// What all schedules of a table come to, by its layers, each of which may have `most` states. A layer of more ends the search. An observer is
+/// told how far the search has come.
+pub fn find_coverage<O: ObserveProgress>(
     alloc: Global,
     program: &Resolved,
     limits: Limits,
     most: u32,
+    observer: &mut O,
 ) -> Result<Coverage, AllocError>
     ensures reached { IfOk result (λ c. AreReached (slots program.now limits.gates) limits.steps c.choices c.marks.known.keys) }
     ensures choices { IfOk result (λ c. c.choices ≤ limits.choices) }
 {
-    find_with::<Brand>(alloc, program, limits, most, Blank::new(1))
+    find_with::<O, Brand>(alloc, program, limits, most, observer, Blank::new(1))
 }
 
-fn find_with<S: Ledger>(
+fn find_with<O: ObserveProgress, S: Ledger>(
     alloc: Global,
     program: &Resolved,
     limits: Limits,
     most: u32,
+    observer: &mut O,
     blank: Blank,
 ) -> Result<Coverage, AllocError>
     requires name { blank.name ≡ S.name }
@@ -73,7 +77,8 @@ fn find_with<S: Ledger>(
         let before = search.marks.copy(alloc)?;
         let layer = search.take_layer(alloc);
         let is_room = search.next_layer(
-            alloc, program, limits, most, depth, &layer, &mut state, &mut next, &mut steps,
+            alloc, program, limits, most, observer, depth, &layer, &mut state, &mut next,
+            &mut steps,
         )?;
         if !is_room {
             return Ok(Coverage {
@@ -135,12 +140,13 @@ impl CoverSearch {
 
     // Goes on from each state of the layer of `depth` choices, with each number that may be chosen there. `false` where the next layer
     // has more than `most`; then not all is done.
-    fn next_layer<S: Ledger>(
+    fn next_layer<O: ObserveProgress, S: Ledger>(
         &mut self,
         alloc: Global,
         program: &Resolved,
         limits: Limits,
         most: u32,
+        observer: &mut O,
         depth: u8,
         layer: &Layer,
         state: &mut State,
@@ -156,9 +162,15 @@ impl CoverSearch {
         ensures next { IsStateOf program.now next.new }
         ensures after { IfOk result (λ is_room. IsAfter program.now (slots program.now limits.gates) limits.steps depth self.new.marks.known.keys self.new.layer.known.keys is_room) }
     {
-        let _ = depth;
         let count = layer.len();
         for number in 0..count {
+            if number % STATES_BETWEEN as usize == 0 {
+                observer.observe_progress(Progress {
+                    choices: u32::from(depth),
+                    states: self.layer.len(),
+                    outcomes: None,
+                });
+            }
             if !layer.thaw_at(number, state) {
                 return Ok(false);
             }

@@ -17,7 +17,7 @@ use crate::end::Arrival;
 use crate::found::Found;
 use crate::origin::Origin;
 use cp_machine::{Shown, State, Ticks};
-use cp_progress::{ObserveLayers, Progress, Unobserved};
+use cp_progress::{ObserveProgress, Progress, STATES_BETWEEN, Unobserved};
 use cp_run::{Limits, candidates};
 use cp_slots::Resolved;
 use std::alloc::{AllocError, Global};
@@ -46,8 +46,8 @@ pub fn search_ends(
     search_ends_with(alloc, program, limits, most, &mut Unobserved)
 }
 
-/// The same, where an observer is told of each layer.
-pub fn search_ends_with<O: ObserveLayers>(
+/// The same, where an observer is told how far the search has come.
+pub fn search_ends_with<O: ObserveProgress>(
     alloc: Global,
     program: &Resolved,
     limits: Limits,
@@ -61,7 +61,7 @@ pub fn search_ends_with<O: ObserveLayers>(
     search_with::<O, Brand>(alloc, program, limits, states, observer, Blank::new(1))
 }
 
-fn search_with<O: ObserveLayers, S: Ledger>(
+fn search_with<O: ObserveProgress, S: Ledger>(
     alloc: Global,
     program: &Resolved,
     limits: Limits,
@@ -111,12 +111,12 @@ impl Search {
         Progress {
             choices,
             states: self.found.states.len(),
-            outcomes: self.found.ends.len(),
+            outcomes: Some(self.found.ends.len()),
         }
     }
 
     // Goes on from each state. Answers the one from which there is a state too many.
-    fn go_on<O: ObserveLayers, S: Ledger>(
+    fn go_on<O: ObserveProgress, S: Ledger>(
         &mut self,
         alloc: Global,
         program: &Resolved,
@@ -137,8 +137,10 @@ impl Search {
         for number in 0..most {
             if number as usize == layer_end {
                 choices = choices.saturating_add(1);
-                observer.observe_layer(self.progress(choices));
                 layer_end = self.found.states.len();
+            }
+            if number % STATES_BETWEEN == 0 {
+                observer.observe_progress(self.progress(choices));
             }
             if !self.found.states.thaw_at(number, state) {
                 return Ok(None);

@@ -3,20 +3,25 @@
 ghost use Rattle.std.specs.Prelude.{◌≡◌};
 
 use crate::subject::{EndsSubject, Findings, Reach, ToldEnd, ToldValue};
-use cp_at_once::search_at_once;
-use cp_ends::{Found, search_ends};
+use cp_at_once::search_at_once_with;
+use cp_ends::{Found, search_ends_with};
 use cp_machine::Gates;
-use cp_waits::{Waits, find_waits};
+use cp_progress::ObserveProgress;
+use cp_waits::{Waits, find_waits_with};
 use std::alloc::{AllocError, Global};
 
 /// What is found by following each state, or, where that was asked for or there are too many of them, with kernel calls at once.
-pub fn findings(alloc: Global, subject: EndsSubject<'_>) -> Result<Findings, AllocError> {
+pub fn findings<O: ObserveProgress>(
+    alloc: Global,
+    subject: EndsSubject<'_>,
+    observer: &mut O,
+) -> Result<Findings, AllocError> {
     if subject.at_once {
-        return found_at_once(alloc, subject, false);
+        return found_at_once(alloc, subject, false, observer);
     }
-    let mut plain = found_by_states(alloc, subject)?;
+    let mut plain = found_by_states(alloc, subject, observer)?;
     if is_too_many(&plain) && is_first_in_line(subject) {
-        let second = found_at_once(alloc, subject, true)?;
+        let second = found_at_once(alloc, subject, true, observer)?;
         if let Reach::StatesAtOnce(_) = second.reach {
             return Ok(second);
         }
@@ -36,10 +41,20 @@ fn is_first_in_line(subject: EndsSubject<'_>) -> bool {
     }
 }
 
-fn found_by_states(alloc: Global, subject: EndsSubject<'_>) -> Result<Findings, AllocError> {
-    let found = search_ends(alloc, subject.program, subject.limits, subject.most)?;
+fn found_by_states<O: ObserveProgress>(
+    alloc: Global,
+    subject: EndsSubject<'_>,
+    observer: &mut O,
+) -> Result<Findings, AllocError> {
+    let EndsSubject {
+        program,
+        limits,
+        most,
+        ..
+    } = subject;
+    let found = search_ends_with(alloc, program, limits, most, observer)?;
     let waits = if subject.waits && found.stopped.is_none() {
-        Some(find_waits(alloc, subject.program, subject.limits, &found)?)
+        Some(find_waits_with(alloc, program, limits, &found, observer)?)
     } else {
         None
     };
@@ -96,12 +111,19 @@ fn values_within(alloc: Global, found: &Found, most: usize) -> Result<Vec<ToldVa
 }
 
 // What is found with kernel calls at once.
-fn found_at_once(
+fn found_at_once<O: ObserveProgress>(
     alloc: Global,
     subject: EndsSubject<'_>,
     is_second: bool,
+    observer: &mut O,
 ) -> Result<Findings, AllocError> {
-    let found = search_at_once(alloc, subject.program, subject.limits, subject.most)?;
+    let EndsSubject {
+        program,
+        limits,
+        most,
+        ..
+    } = subject;
+    let found = search_at_once_with(alloc, program, limits, most, observer)?;
     let mut ends = Vec::new(alloc);
     for end in &found.ends {
         let word = found.kept.word(alloc, &end.origin)?;

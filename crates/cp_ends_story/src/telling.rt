@@ -7,18 +7,21 @@ use crate::objects::json;
 use crate::subject::{EndsFormat, EndsSubject, EndsSummary, Findings, Reach};
 use crate::texts::text;
 use cp_machine::Ticks;
+use cp_progress::ObserveProgress;
 use cp_waits::Waits;
 use std::alloc::{AllocError, Global};
 use std::marker::Brand;
 use std::sync::ledger::{Blank, Ledger};
 
-/// The ends that are possible in schedules of any length, the values that can be displayed, and who may wait for ever, in words.
-pub fn ends_story(
+/// The ends that are possible in schedules of any length, the values that can be displayed, and who may wait for ever, in words. An observer is
+/// told how far each search has come.
+pub fn ends_story<O: ObserveProgress>(
     alloc: Global,
     subject: EndsSubject<'_>,
     form: EndsFormat,
+    observer: &mut O,
 ) -> Result<EndsSummary, AllocError> {
-    let findings = findings(alloc, subject)?;
+    let findings = findings(alloc, subject, observer)?;
     Ok(EndsSummary {
         is_whole: is_whole(subject, &findings),
         text: write_findings::<Brand>(alloc, subject, form, &findings, Blank::new(1))?,

@@ -9,19 +9,21 @@ ghost use Rattle.cp_ends_tool.specs.AtOnce.{IsAtOnceReport};
 ghost use Rattle.cp_ends_tool.specs.OfTables.{OfPrograms};
 ghost use Rattle.cp_ends_tool.specs.Waits.{IsWaitsReport, verdict_on};
 
-use cp_at_once::{at_once_report, search_at_once};
-use cp_ends::{Found, ends_report, search_ends};
+use cp_at_once::{at_once_report, search_at_once_with};
+use cp_ends::{Found, ends_report, search_ends_with};
+use cp_progress::ObserveProgress;
 use cp_run::Limits;
 use cp_slots::Resolved;
 use cp_tool::Options;
 use cp_tool::answering::{Answer, Verdict};
-use cp_waits::{Waits, find_waits, waits_report};
+use cp_waits::{Waits, find_waits_with, waits_report};
 use std::alloc::{AllocError, Global};
 
-/// What is answered to a program.
-pub fn answer_for(
+/// What is answered to a program. An observer is told how far the searches have come.
+pub fn answer_for<O: ObserveProgress>(
     alloc: Global,
     options: &Options,
+    observer: &mut O,
     program: &Resolved,
 ) -> Result<Answer, AllocError>
     ensures { IfOk result (λ a. OfPrograms program.now (λ t. spec.AreEndsBy options.now t program.now a.verdict a.text)) }
@@ -30,16 +32,17 @@ pub fn answer_for(
         unreachable!()
     };
     if options.at_once {
-        at_once_answer(alloc, options, program, limits)
+        at_once_answer(alloc, options, observer, program, limits)
     } else {
-        ends_answer(alloc, options, program, limits)
+        ends_answer(alloc, options, observer, program, limits)
     }
 }
 
 // By a search that goes on from each state.
-fn ends_answer(
+fn ends_answer<O: ObserveProgress>(
     alloc: Global,
     options: &Options,
+    observer: &mut O,
     program: &Resolved,
     limits: Limits,
 ) -> Result<Answer, AllocError>
@@ -47,14 +50,15 @@ fn ends_answer(
     requires gates { limits.gates ≡ options.now.gates }
     ensures { IfOk result (λ a. OfPrograms program.now (λ t. spec.AreTold options.now t program.now a.verdict a.text)) }
 {
-    let found = search_ends(alloc, program, limits, options.states)?;
-    report_of(alloc, options, program, limits, &found)
+    let found = search_ends_with(alloc, program, limits, options.states, observer)?;
+    report_of(alloc, options, observer, program, limits, &found)
 }
 
 // The report of what was found.
-fn report_of(
+fn report_of<O: ObserveProgress>(
     alloc: Global,
     options: &Options,
+    observer: &mut O,
     program: &Resolved,
     limits: Limits,
     found: &Found,
@@ -71,7 +75,7 @@ fn report_of(
         }),
         None => {
             if options.waits {
-                waits_answer(alloc, options, program, limits, found)
+                waits_answer(alloc, options, observer, program, limits, found)
             } else {
                 Ok(Answer {
                     verdict: Verdict::Reported,
@@ -83,9 +87,10 @@ fn report_of(
 }
 
 // The report of what was found, and who may wait for ever.
-fn waits_answer(
+fn waits_answer<O: ObserveProgress>(
     alloc: Global,
     options: &Options,
+    observer: &mut O,
     program: &Resolved,
     limits: Limits,
     found: &Found,
@@ -97,7 +102,7 @@ fn waits_answer(
     ensures { IfOk result (λ a. OfPrograms program.now (λ t. (x : IsAnswer program.now limits.gates limits.steps options.now.states found.now) → IsWaitsReport options.now t program.now x.findings a.verdict a.text)) }
 {
     let _ = options;
-    let waits = find_waits(alloc, program, limits, found)?;
+    let waits = find_waits_with(alloc, program, limits, found, observer)?;
     Ok(Answer {
         verdict: verdict_on(&waits),
         text: waits_report(alloc, program, found, &waits)?.text,
@@ -114,15 +119,16 @@ fn verdict_on(waits: &Waits) -> Verdict
 }
 
 // By a search with kernel calls at once.
-fn at_once_answer(
+fn at_once_answer<O: ObserveProgress>(
     alloc: Global,
     options: &Options,
+    observer: &mut O,
     program: &Resolved,
     limits: Limits,
 ) -> Result<Answer, AllocError>
     ensures { IfOk result (λ a. OfPrograms program.now (λ t. IsAtOnceReport options.now t program.now a.verdict a.text)) }
 {
-    let found = search_at_once(alloc, program, limits, options.states)?;
+    let found = search_at_once_with(alloc, program, limits, options.states, observer)?;
     Ok(Answer {
         verdict: if found.is_whole {
             Verdict::Reported

@@ -12,37 +12,40 @@ use crate::known::KnownEnds;
 use crate::marking::{MarkSubject, ask_waits, is_any, mark_list};
 use crate::saying::{MarkedEnds, open_words, said_of_each};
 use crate::verdict::{EndsMark, EndsVerdict, mark_of, verdict_on};
-use cp_at_once::search_at_once;
+use cp_at_once::search_at_once_with;
 use cp_machine::Gates;
+use cp_progress::ObserveProgress;
 use std::alloc::{AllocError, Global};
 
 /// What all schedules of any length say of some expectations; where there are too many states, what kernel calls at once say, if these may be made and there are
-/// not too many states then as well.
-pub fn mark_in_turn(
+/// not too many states then as well. An observer is told how far the searches have come.
+pub fn mark_in_turn<O: ObserveProgress>(
     alloc: Global,
     subject: MarkSubject<'_>,
     list: &[EndsExpectation],
+    observer: &mut O,
 ) -> Result<MarkedEnds, AllocError>
     ensures { 1 ≤ subject.entry.most → can_be_asked subject.entry.limits.gates list.now ≡ true → IfOk result (λ m. spec.IsMarkInTurn subject.entry.program.now subject.entry.limits.gates subject.entry.limits.steps subject.entry.most list.now m.mark) }
 {
-    let marked = mark_list(alloc, subject, list)?;
+    let marked = mark_list(alloc, subject, list, observer)?;
     match marked.mark {
-        EndsMark::TooMany => marked_again(alloc, subject, list, marked),
+        EndsMark::TooMany => marked_again(alloc, subject, list, marked, observer),
         _ => Ok(marked),
     }
 }
 
 // The same, where there are too many states.
-fn marked_again(
+fn marked_again<O: ObserveProgress>(
     alloc: Global,
     subject: MarkSubject<'_>,
     list: &[EndsExpectation],
     marked: MarkedEnds,
+    observer: &mut O,
 ) -> Result<MarkedEnds, AllocError>
     ensures { IfOk result (λ m. spec.IsAgain subject.entry.program.now subject.entry.limits.gates subject.entry.limits.steps list.now marked.mark m.mark) }
 {
     if can_be_at_once(subject.limits.gates, list) {
-        let again = mark_at_once(alloc, subject, list)?;
+        let again = mark_at_once(alloc, subject, list, observer)?;
         told_again(alloc, subject, marked, again)
     } else {
         Ok(marked)
@@ -77,11 +80,12 @@ fn can_be_at_once(gates: Gates, list: &[EndsExpectation]) -> bool
     !is_any(gates) && !ask_waits(list)
 }
 
-/// What schedules of any length say of some expectations, where kernel calls are made at once.
-pub fn mark_at_once(
+/// What schedules of any length say of some expectations, where kernel calls are made at once. An observer is told how far the search has come.
+pub fn mark_at_once<O: ObserveProgress>(
     alloc: Global,
     subject: MarkSubject<'_>,
     list: &[EndsExpectation],
+    observer: &mut O,
 ) -> Result<MarkedEnds, AllocError>
     ensures mark { spec.can_be_at_once subject.entry.limits.gates list.now ≡ true → IfOk result (λ m. spec.IsMarkAtOnce subject.entry.program.now subject.entry.limits.steps list.now m.mark) }
     ensures refused { spec.can_be_at_once subject.entry.limits.gates list.now ≡ false → IfOk result (λ m. m.mark ≡ Misread) }
@@ -95,7 +99,7 @@ pub fn mark_at_once(
         most,
         ..
     } = subject;
-    let found = search_at_once(alloc, program, limits, most)?;
+    let found = search_at_once_with(alloc, program, limits, most, observer)?;
     let known = known_at_once(alloc, program, &found)?;
     let verdict = verdict_on(&known, list);
     tell(alloc, subject, &known, list, verdict)

@@ -13,12 +13,13 @@ use crate::knowing::known_of;
 use crate::known::KnownEnds;
 use crate::saying::{MarkedEnds, open_words, said_of_each};
 use crate::verdict::{EndsMark, EndsVerdict, mark_of, verdict_on};
-use cp_ends::{Found, search_ends};
+use cp_ends::{Found, search_ends_with};
 use cp_legend::Legend;
 use cp_machine::Gates;
+use cp_progress::ObserveProgress;
 use cp_run::Limits;
 use cp_slots::Resolved;
-use cp_waits::{Waiting, Waits, find_waits};
+use cp_waits::{Waiting, Waits, find_waits_with};
 use std::alloc::{AllocError, Global};
 
 /// The program that is marked, and how many states there may be.
@@ -30,11 +31,12 @@ pub struct MarkSubject<'a> {
     pub most: u32,
 }
 
-/// What all schedules of any length say of some expectations.
-pub fn mark_list(
+/// What all schedules of any length say of some expectations. An observer is told how far the searches have come.
+pub fn mark_list<O: ObserveProgress>(
     alloc: Global,
     subject: MarkSubject<'_>,
     list: &[EndsExpectation],
+    observer: &mut O,
 ) -> Result<MarkedEnds, AllocError>
     ensures mark { 1 ≤ subject.entry.most → spec.can_be_asked subject.entry.limits.gates list.now ≡ true → IfOk result (λ m. spec.IsMarkOf subject.entry.program.now subject.entry.limits.gates subject.entry.limits.steps subject.entry.most list.now m.mark) }
     ensures refused { spec.can_be_asked subject.entry.limits.gates list.now ≡ false → IfOk result (λ m. m.mark ≡ Misread) }
@@ -44,7 +46,7 @@ pub fn mark_list(
     if asks && is_any(subject.limits.gates) {
         return MarkedEnds::misread(alloc, "waiting can't be asked with --gates any\n");
     }
-    let known = knowledge(alloc, subject, asks)?;
+    let known = knowledge(alloc, subject, asks, observer)?;
     let verdict = verdict_on(&known, list);
     tell(alloc, subject, &known, list, verdict)
 }
@@ -91,7 +93,12 @@ pub fn ask_waits(list: &[EndsExpectation]) -> bool
 }
 
 // What is known of the schedules of a program, and of who may wait for ever where that is asked.
-fn knowledge(alloc: Global, subject: MarkSubject<'_>, asks: bool) -> Result<KnownEnds, AllocError>
+fn knowledge<O: ObserveProgress>(
+    alloc: Global,
+    subject: MarkSubject<'_>,
+    asks: bool,
+    observer: &mut O,
+) -> Result<KnownEnds, AllocError>
     ensures { 1 ≤ subject.entry.most → IfOk result (λ k. IsKnown subject.entry.program.now subject.entry.limits.gates subject.entry.limits.steps subject.entry.most k) }
 {
     let MarkSubject {
@@ -100,18 +107,19 @@ fn knowledge(alloc: Global, subject: MarkSubject<'_>, asks: bool) -> Result<Know
         most,
         ..
     } = subject;
-    let found = search_ends(alloc, program, limits, most)?;
-    let waits = waits_of(alloc, program, limits, &found, asks)?;
+    let found = search_ends_with(alloc, program, limits, most, observer)?;
+    let waits = waits_of(alloc, program, limits, &found, asks, observer)?;
     known_of(alloc, program, &found, waits)
 }
 
 // Who may wait for ever, where that is asked, all states are found, and it is settled.
-fn waits_of(
+fn waits_of<O: ObserveProgress>(
     alloc: Global,
     program: &Resolved,
     limits: Limits,
     found: &Found,
     asks: bool,
+    observer: &mut O,
 ) -> Result<Option<Vec<Waiting>>, AllocError>
     requires kept { HasFindings program.now found.now }
     ensures { IfOk result (λ waits. (most : ℕ) → most < 2 ^ 32 → IsAnswer program.now limits.gates limits.steps most found.now → KnowsWaits program.now limits.gates limits.steps waits) }
@@ -119,7 +127,7 @@ fn waits_of(
     if !asks || found.stopped.is_some() {
         return Ok(None);
     }
-    match find_waits(alloc, program, limits, found)? {
+    match find_waits_with(alloc, program, limits, found, observer)? {
         Waits::Known(list) => Ok(Some(list)),
         Waits::NotSettled(_) => Ok(None),
     }

@@ -199,6 +199,7 @@ fn resumed_lines(
     let label = PictureLabel {
         words,
         face: Face::Plain,
+        brief: None,
         pill: None,
     };
     label_lines(alloc, &label, room, room)

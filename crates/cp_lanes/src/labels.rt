@@ -27,6 +27,8 @@ pub enum Face {
 #[derive(Drop)]
 pub struct PictureLabel {
     pub words: String,
+    /// The words where these have no room: one value alone that comes back has no name, which the row of the call has already.
+    pub brief: Option<String>,
     pub face: Face,
     pub pill: Option<String>,
 }
@@ -111,6 +113,7 @@ pub fn label_of(
 fn plain_label(words: String) -> Result<Option<PictureLabel>, AllocError> {
     Ok(Some(PictureLabel {
         words,
+        brief: None,
         face: Face::Faint,
         pill: None,
     }))
@@ -123,7 +126,8 @@ fn event_label(
 ) -> Result<PictureLabel, AllocError> {
     let mut words = String::new(alloc);
     push_words(legend, &mut words, event)?;
-    push_values(&mut words, &event.returned)?;
+    let brief = brief_words(&words, &event.returned)?;
+    push_returned(&mut words, &event.returned)?;
     let face = face_of(event);
     let mut pill = None;
     if let Happening::Display(value) = &event.happening {
@@ -131,16 +135,23 @@ fn event_label(
         push_shown(legend, &mut shown, *value)?;
         pill = Some(shown);
     }
-    Ok(PictureLabel { words, face, pill })
+    Ok(PictureLabel {
+        words,
+        brief,
+        face,
+        pill,
+    })
 }
 
-// What comes back; one value alone has no name, which the row of the call has already.
-fn push_values(words: &mut String, returned: &[Returned]) -> Result<(), AllocError> {
-    if let (1, Some(one)) = (returned.len(), returned.first()) {
-        words.push_str(", = ")?;
-        return one.value.push_to(words);
-    }
-    push_returned(words, returned)
+// What happened, and one value that comes back without its name; none where there are more values, or none.
+fn brief_words(words: &String, returned: &[Returned]) -> Result<Option<String>, AllocError> {
+    let (1, Some(one)) = (returned.len(), returned.first()) else {
+        return Ok(None);
+    };
+    let mut brief = words.clone()?;
+    brief.push_str(", = ")?;
+    one.value.push_to(&mut brief)?;
+    Ok(Some(brief))
 }
 
 fn face_of(event: &StoryEvent) -> Face {

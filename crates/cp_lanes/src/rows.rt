@@ -492,6 +492,7 @@ fn stop_lines(
 ) -> Result<Vec<String>, AllocError> {
     let label = PictureLabel {
         words: stop.words.clone()?,
+        brief: None,
         face: Face::Bold,
         pill: None,
     };

@@ -146,10 +146,10 @@ impl Svg {
     }
 
     fn lines(&mut self, x: f64, y: f64, style: Style<'_>, lines: &[String]) {
-        let mut at = if lines.len() > 1 { y - 2.0 } else { y + 4.0 };
+        let mut at = if lines.len() > 1 { y - 2.5 } else { y + 4.0 };
         for line in lines {
             self.words(x, at, style, line.as_str());
-            at += 12.0;
+            at += 11.0;
         }
     }
 

@@ -84,16 +84,55 @@ pub fn label_lines(
     beside: f64,
 ) -> Result<Vec<String>, AllocError> {
     let each = LETTERS * label.factor();
-    let narrow = wrap(alloc, label.words.as_str(), room, each)?;
-    if are_within(&narrow, room, each) {
-        return Ok(narrow);
+    let words = label.words.as_str();
+    if let Some(lines) = whole_lines(alloc, words, room, beside, each)? {
+        return Ok(lines);
+    }
+    let words = match &label.brief {
+        Some(brief) => brief.as_str(),
+        None => words,
+    };
+    if let Some(lines) = whole_lines(alloc, words, room, beside, each)? {
+        return Ok(lines);
+    }
+    let lines = trim_all(alloc, break_lines(alloc, words, '(', beside, each)?)?;
+    if are_within(&lines, beside, each) {
+        return Ok(lines);
     }
     let mut kept = Vec::new(alloc);
-    for line in wrap_in_lines(alloc, label.words.as_str(), beside, each, 2)? {
+    for line in wrap_in_lines(alloc, words, beside, each, 2)? {
         let line = line.as_str().trim();
         kept.push(cut_to_fit(alloc, line, beside, LETTERS, label.factor())?)?;
     }
     Ok(kept)
+}
+
+// The words in two lines at most, where nothing has to be cut for that.
+fn whole_lines(
+    alloc: Global,
+    words: &str,
+    room: f64,
+    beside: f64,
+    each: f64,
+) -> Result<Option<Vec<String>>, AllocError> {
+    let narrow = wrap(alloc, words, room, each)?;
+    if are_within(&narrow, room, each) {
+        return Ok(Some(narrow));
+    }
+    let broad = trim_all(alloc, wrap(alloc, words, beside, each)?)?;
+    if are_within(&broad, beside, each) {
+        return Ok(Some(broad));
+    }
+    Ok(None)
+}
+
+// The lines without what is blank at their ends.
+fn trim_all(alloc: Global, lines: Vec<String>) -> Result<Vec<String>, AllocError> {
+    let mut trimmed = Vec::new(alloc);
+    for line in lines {
+        trimmed.push(String::from_str(alloc, line.as_str().trim())?)?;
+    }
+    Ok(trimmed)
 }
 
 // Whether there are two lines at most, each with room.

@@ -16,14 +16,14 @@ ghost use Rattle.cp_merged.specs.TooMany.{FitsBefore, IsDueFault};
 
 use crate::fault::MergeFault;
 use crate::frontier::{Ends, Frontier, MOST_OUTCOMES};
-use crate::layering::{end_layer, next_layer};
+use crate::layering::{end_layer, next_layer, progress_of};
 use crate::ordered::sort_tallies;
 use crate::prefixes::Prefixes;
 use crate::tallies::Tallies;
 use crate::word::Word;
 use cp_machine::{Moved, State, Ticks};
 use cp_natural::Natural;
-use cp_progress::{ObserveLayers, Progress, Unobserved};
+use cp_progress::{ObserveProgress, Unobserved};
 use cp_run::{Limits, open};
 use cp_slots::Resolved;
 use cp_states::StateRow;
@@ -41,8 +41,8 @@ pub fn explore_merged(alloc: Global, job: Job, states: usize) -> Result<Tallies,
     explore_merged_with(alloc, job, states, &mut Unobserved)
 }
 
-/// The same, where an observer is told of each layer.
-pub fn explore_merged_with<O: ObserveLayers>(
+/// The same, where an observer is told how far the search has come.
+pub fn explore_merged_with<O: ObserveProgress>(
     alloc: Global,
     job: Job,
     states: usize,
@@ -68,7 +68,7 @@ pub fn explore_merged_with<O: ObserveLayers>(
 }
 
 /// The outcomes in the order in which they are found.
-fn ends_of<O: ObserveLayers, S: Ledger, C: Ledger>(
+fn ends_of<O: ObserveProgress, S: Ledger, C: Ledger>(
     alloc: Global,
     program: &Resolved,
     limits: Limits,
@@ -109,6 +109,7 @@ fn ends_of<O: ObserveLayers, S: Ledger, C: Ledger>(
             program,
             limits,
             most,
+            observer,
             depth,
             &mut state,
             &mut row,
@@ -117,11 +118,7 @@ fn ends_of<O: ObserveLayers, S: Ledger, C: Ledger>(
             &mut steps,
             &mut calls,
         )?;
-        observer.observe_layer(Progress {
-            choices: u32::from(depth) + 1,
-            states: frontier.layer.len(),
-            outcomes: frontier.ended.len(),
-        });
+        observer.observe_progress(progress_of(&frontier, u32::from(depth) + 1));
     }
     last_layer(alloc, program, limits, most, &mut state, &mut frontier)?;
     Ok(frontier.into_ends())
@@ -165,11 +162,12 @@ fn first_layer<S: Ledger, C: Ledger>(
 }
 
 /// The layer after that of `depth` choices.
-fn one_layer<S: Ledger, C: Ledger>(
+fn one_layer<O: ObserveProgress, S: Ledger, C: Ledger>(
     alloc: Global,
     program: &Resolved,
     limits: Limits,
     most: usize,
+    observer: &mut O,
     depth: u8,
     state: &mut State,
     row: &mut StateRow,
@@ -194,7 +192,8 @@ fn one_layer<S: Ledger, C: Ledger>(
     }
     let layer = frontier.take_layer(alloc);
     next_layer(
-        alloc, program, limits, most, depth, &layer, state, row, next, frontier, steps, calls,
+        alloc, program, limits, most, observer, depth, &layer, state, row, next, frontier, steps,
+        calls,
     )
 }
 

@@ -17,6 +17,7 @@ use crate::frontier::{Frontier, Layer};
 use crate::prefixes::Prefixes;
 use crate::word::longer;
 use cp_machine::{Moved, State, Ticks};
+use cp_progress::{ObserveProgress, Progress, STATES_BETWEEN};
 use cp_run::{Limits, OutcomeKind, candidates, choose};
 use cp_slots::Resolved;
 use cp_states::StateRow;
@@ -95,12 +96,22 @@ fn take_choices<S: Ledger, C: Ledger>(
     Ok(())
 }
 
+/// How far a search has come with so many choices done.
+pub fn progress_of(frontier: &Frontier, choices: u32) -> Progress {
+    Progress {
+        choices,
+        states: frontier.layer.len(),
+        outcomes: Some(frontier.ended.len()),
+    }
+}
+
 /// Each lead of layer `depth` goes one choice on. A layer of more than `most` states is not made to its end.
-pub fn next_layer<S: Ledger, C: Ledger>(
+pub fn next_layer<O: ObserveProgress, S: Ledger, C: Ledger>(
     alloc: Global,
     program: &Resolved,
     limits: Limits,
     most: usize,
+    observer: &mut O,
     depth: u8,
     layer: &Layer,
     state: &mut State,
@@ -123,9 +134,13 @@ pub fn next_layer<S: Ledger, C: Ledger>(
     ensures few { IfOk result (λ _. length frontier.new.layer.entries ≤ most) }
     ensures many { IfErr result (λ e. IsStates e (HasTooManyStates (slots program.now limits.gates) limits.steps most (depth + 1))) }
 {
-    let _ = depth;
     let mut moved = Moved::everybody();
+    let mut gone_on: u32 = 0;
     for (key, prefixes) in layer.iter() {
+        gone_on = gone_on.wrapping_add(1);
+        if gone_on % STATES_BETWEEN == 0 {
+            observer.observe_progress(progress_of(frontier, u32::from(depth)));
+        }
         frontier.store.take(key, row, state, &mut moved);
         *row = *key;
         let Ok(()) = take_choices(

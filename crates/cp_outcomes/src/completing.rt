@@ -5,14 +5,20 @@ ghost use Rattle.cp_run.specs.Slots.{slots};
 ghost use Rattle.cp_outcomes.specs.Findings.{IsKnownOf};
 
 use crate::known::Known;
-use cp_merged::{MergeFault, explore_merged};
+use cp_merged::{MergeFault, explore_merged_with};
+use cp_progress::ObserveProgress;
 use cp_run::Limits;
 use cp_walk::Job;
 use std::alloc::{AllocError, Global};
 
 /// The outcomes for the greatest number of choices, less than those of the job, for which there is not too much; none where there is
-/// too much without a choice. With more choices there is never less.
-pub fn greatest_known(alloc: Global, job: Job, most: u32) -> Result<Option<Known>, AllocError>
+/// too much without a choice. With more choices there is never less. An observer is told how far each search has come.
+pub fn greatest_known<O: ObserveProgress>(
+    alloc: Global,
+    job: Job,
+    most: u32,
+    observer: &mut O,
+) -> Result<Option<Known>, AllocError>
     ensures { IfOk result (λ known. IfSome known (IsKnownOf (slots job.entry.program.now job.entry.limits.gates) job.entry.limits.choices job.entry.limits.steps)) }
 {
     let mut known = None;
@@ -24,7 +30,7 @@ pub fn greatest_known(alloc: Global, job: Job, most: u32) -> Result<Option<Known
         }
         // Few choices are tried first, since many take long.
         let choices = (low + (high - low) / 2).min(low.saturating_mul(2));
-        match known_with(alloc, job, most, choices)? {
+        match known_with(alloc, job, most, choices, observer)? {
             Some(found) => {
                 known = Some(found);
                 low = choices.saturating_add(1);
@@ -36,7 +42,13 @@ pub fn greatest_known(alloc: Global, job: Job, most: u32) -> Result<Option<Known
 }
 
 // The outcomes for so many choices, if there is not too much.
-fn known_with(alloc: Global, job: Job, most: u32, choices: u8) -> Result<Option<Known>, AllocError>
+fn known_with<O: ObserveProgress>(
+    alloc: Global,
+    job: Job,
+    most: u32,
+    choices: u8,
+    observer: &mut O,
+) -> Result<Option<Known>, AllocError>
     requires { choices < job.limits.choices }
     ensures { IfOk result (λ known. IfSome known (IsKnownOf (slots job.entry.program.now job.entry.limits.gates) job.entry.limits.choices job.entry.limits.steps)) }
 {
@@ -47,7 +59,7 @@ fn known_with(alloc: Global, job: Job, most: u32, choices: u8) -> Result<Option<
         program: job.program,
         limits,
     };
-    match explore_merged(alloc, fewer, most as usize) {
+    match explore_merged_with(alloc, fewer, most as usize, observer) {
         Ok(tallies) => Ok(Some(Known { choices, tallies })),
         Err(MergeFault::Memory) => Err(AllocError),
         Err(_) => Ok(None),

@@ -6,6 +6,7 @@ ghost use Rattle.cp_simplest.specs.Simple.{IsScheduleOf};
 
 use cp_machine::Ticks;
 use cp_merged::{Tallies, Tally};
+use cp_progress::ObserveProgress;
 use cp_simplest::{Searched, SimplestSchedule, is_schedule_of, simplest};
 use cp_walk::Job;
 use std::alloc::{AllocError, Global};
@@ -19,18 +20,19 @@ pub struct Simples {
 
 impl Simples {
     /// Those of these outcomes, by a search through so many states at most.
-    pub fn of<L: Ledger>(
+    pub fn of<O: ObserveProgress, L: Ledger>(
         alloc: Global,
         job: Job,
         states: u32,
         tallies: &Tallies,
+        observer: &mut O,
         ticks: &mut Ticks<L>,
     ) -> Result<Simples, AllocError> {
         let mut outcomes = Vec::new(alloc);
         for tally in tallies.as_slice() {
             outcomes.push(&tally.outcome)?;
         }
-        match simplest(alloc, job, states as usize, &outcomes)? {
+        match simplest(alloc, job, states as usize, &outcomes, observer)? {
             Searched::Found(found) => Ok(Simples {
                 words: Some(confirm_words(alloc, job, found, tallies.as_slice(), ticks)?),
             }),

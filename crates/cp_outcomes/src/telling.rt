@@ -14,7 +14,8 @@ use crate::subject::{Excess, Format, Subject, Summary};
 use crate::texts::{excess_text, text};
 use cp_machine::Ticks;
 use cp_merged::word::{Word, word_of};
-use cp_merged::{MergeFault, Tallies, Tally, explore_merged};
+use cp_merged::{MergeFault, Tallies, Tally, explore_merged_with};
+use cp_progress::ObserveProgress;
 use cp_run::Limits;
 use cp_walk::Job;
 use std::alloc::{AllocError, Global};
@@ -29,27 +30,41 @@ enum Finding {
     TooMany(Excess, Option<Known>),
 }
 
-/// The outcomes of all schedules of a program in words: their shares, counts and first schedules, and whether these are all.
-pub fn outcomes(alloc: Global, subject: Subject<'_>, form: Format) -> Result<Summary, AllocError> {
-    match find_outcomes(alloc, subject)? {
+/// The outcomes of all schedules of a program in words: their shares, counts and first schedules, and whether these are all. An observer is
+/// told how far each search has come.
+pub fn outcomes<O: ObserveProgress>(
+    alloc: Global,
+    subject: Subject<'_>,
+    form: Format,
+    observer: &mut O,
+) -> Result<Summary, AllocError> {
+    match find_outcomes(alloc, subject, observer)? {
         Finding::Whole(tallies) => Ok(Summary {
             is_whole: true,
-            text: write_findings::<Brand>(alloc, subject, form, &tallies, Blank::new(1))?,
+            text: write_findings::<O, Brand>(
+                alloc,
+                subject,
+                form,
+                &tallies,
+                observer,
+                Blank::new(1),
+            )?,
         }),
         Finding::TooMany(excess, known) => Ok(Summary {
             is_whole: false,
-            text: excess_written(alloc, subject, form, excess, &known)?,
+            text: excess_written(alloc, subject, form, excess, &known, observer)?,
         }),
     }
 }
 
 // What there is too much of, and what is known of schedules of fewer choices.
-fn excess_written(
+fn excess_written<O: ObserveProgress>(
     alloc: Global,
     subject: Subject<'_>,
     form: Format,
     excess: Excess,
     known: &Option<Known>,
+    observer: &mut O,
 ) -> Result<String, AllocError> {
     let Some(known) = known else {
         return match form {
@@ -61,7 +76,14 @@ fn excess_written(
         unreachable!()
     };
     let fewer = Subject { limits, ..subject };
-    let told = write_findings::<Brand>(alloc, fewer, form, &known.tallies, Blank::new(1))?;
+    let told = write_findings::<O, Brand>(
+        alloc,
+        fewer,
+        form,
+        &known.tallies,
+        observer,
+        Blank::new(1),
+    )?;
     let known = Some((known.choices, told.as_str()));
     match form {
         Format::Text => excess_text(alloc, excess, known),
@@ -80,13 +102,14 @@ pub enum First {
 }
 
 /// The first schedule of the outcome with this number, counted from 1 in the order in which `outcomes` tells them.
-pub fn first_of_outcome(
+pub fn first_of_outcome<O: ObserveProgress>(
     alloc: Global,
     job: Job,
     states: u32,
     number: usize,
+    observer: &mut O,
 ) -> Result<First, AllocError> {
-    match found_by_states(alloc, job, states)? {
+    match found_by_states(alloc, job, states, observer)? {
         Finding::Whole(tallies) | Finding::TooMany(_, Some(Known { tallies, .. })) => {
             Ok(first_among(tallies.as_slice(), number))
         }
@@ -121,26 +144,34 @@ fn place_of(tallies: &[Tally], number: usize) -> Option<usize> {
 }
 
 /// The simplest schedule of the outcome with this number.
-pub fn simplest_of_outcome(
+pub fn simplest_of_outcome<O: ObserveProgress>(
     alloc: Global,
     job: Job,
     states: u32,
     number: usize,
+    observer: &mut O,
 ) -> Result<First, AllocError> {
-    match found_by_states(alloc, job, states)? {
-        Finding::Whole(tallies) => {
-            simplest_among::<Brand>(alloc, job, states, &tallies, number, Blank::new(1))
-        }
+    match found_by_states(alloc, job, states, observer)? {
+        Finding::Whole(tallies) => simplest_among::<O, Brand>(
+            alloc,
+            job,
+            states,
+            &tallies,
+            number,
+            observer,
+            Blank::new(1),
+        ),
         Finding::TooMany(..) => Ok(First::NotSearched),
     }
 }
 
-fn simplest_among<L: Ledger>(
+fn simplest_among<O: ObserveProgress, L: Ledger>(
     alloc: Global,
     job: Job,
     states: u32,
     tallies: &Tallies,
     number: usize,
+    observer: &mut O,
     blank: Blank,
 ) -> Result<First, AllocError>
     requires name { blank.name ≡ L.name }
@@ -151,18 +182,19 @@ fn simplest_among<L: Ledger>(
         return Ok(First::None(tallies.as_slice().len()));
     };
     let mut ticks: Ticks<L> = Ticks::new(blank);
-    let simples = Simples::of(alloc, job, states, tallies, &mut ticks)?;
+    let simples = Simples::of(alloc, job, states, tallies, observer, &mut ticks)?;
     match simples.at(place) {
         Some(simple) => Ok(First::Word(word_of(simple.word.as_slice()))),
         None => Ok(First::NotSearched),
     }
 }
 
-fn write_findings<L: Ledger>(
+fn write_findings<O: ObserveProgress, L: Ledger>(
     alloc: Global,
     subject: Subject<'_>,
     form: Format,
     tallies: &Tallies,
+    observer: &mut O,
     blank: Blank,
 ) -> Result<String, AllocError>
     requires name { blank.name ≡ L.name }
@@ -174,7 +206,7 @@ fn write_findings<L: Ledger>(
         program: subject.program,
         limits: subject.limits,
     };
-    let simples = Simples::of(alloc, job, subject.states, tallies, &mut ticks)?;
+    let simples = Simples::of(alloc, job, subject.states, tallies, observer, &mut ticks)?;
     match form {
         Format::Text => text(alloc, subject, tallies, &simples, &mut ticks),
         Format::Json => json(alloc, subject, tallies, &simples, &mut ticks),
@@ -182,7 +214,11 @@ fn write_findings<L: Ledger>(
 }
 
 // The outcomes, or what there is too much of.
-fn find_outcomes(alloc: Global, subject: Subject<'_>) -> Result<Finding, AllocError>
+fn find_outcomes<O: ObserveProgress>(
+    alloc: Global,
+    subject: Subject<'_>,
+    observer: &mut O,
+) -> Result<Finding, AllocError>
     ensures found { IfOk result (λ f. IsFoundOf (slots subject.entry.program.now subject.entry.limits.gates) subject.entry.limits.choices subject.entry.limits.steps f) }
     ensures meaning { IfOk result (λ f. IsMeantFinding subject.entry.program.now subject.entry.limits.gates subject.entry.limits.choices subject.entry.limits.steps f) }
 {
@@ -190,25 +226,40 @@ fn find_outcomes(alloc: Global, subject: Subject<'_>) -> Result<Finding, AllocEr
         program: subject.program,
         limits: subject.limits,
     };
-    found_by_states(alloc, job, subject.states)
+    found_by_states(alloc, job, subject.states, observer)
 }
 
-fn found_by_states(alloc: Global, job: Job, most: u32) -> Result<Finding, AllocError>
+fn found_by_states<O: ObserveProgress>(
+    alloc: Global,
+    job: Job,
+    most: u32,
+    observer: &mut O,
+) -> Result<Finding, AllocError>
     ensures { IfOk result (λ f. IsFoundOf (slots job.entry.program.now job.entry.limits.gates) job.entry.limits.choices job.entry.limits.steps f) }
 {
-    match explore_merged(alloc, job, most as usize) {
+    match explore_merged_with(alloc, job, most as usize, observer) {
         Ok(tallies) => Ok(Finding::Whole(tallies)),
-        Err(MergeFault::TooManyStates) => found_too_many(alloc, job, most, Excess::States(most)),
-        Err(MergeFault::TooManyOutcomes) => found_too_many(alloc, job, most, Excess::Outcomes),
+        Err(MergeFault::TooManyStates) => {
+            found_too_many(alloc, job, most, Excess::States(most), observer)
+        }
+        Err(MergeFault::TooManyOutcomes) => {
+            found_too_many(alloc, job, most, Excess::Outcomes, observer)
+        }
         Err(MergeFault::Memory) => Err(AllocError),
     }
 }
 
 // What there is too much of, and what is known then.
-fn found_too_many(alloc: Global, job: Job, most: u32, excess: Excess) -> Result<Finding, AllocError>
+fn found_too_many<O: ObserveProgress>(
+    alloc: Global,
+    job: Job,
+    most: u32,
+    excess: Excess,
+    observer: &mut O,
+) -> Result<Finding, AllocError>
     requires { IsExcessOf (slots job.program.now job.limits.gates) job.limits.choices job.limits.steps excess }
     ensures { IfOk result (λ f. IsFoundOf (slots job.entry.program.now job.entry.limits.gates) job.entry.limits.choices job.entry.limits.steps f) }
 {
-    let known = greatest_known(alloc, job, most)?;
+    let known = greatest_known(alloc, job, most, observer)?;
     Ok(Finding::TooMany(excess, known))
 }

@@ -16,6 +16,7 @@ use crate::variables::kept_variables;
 use cp_legend::Legend;
 use cp_machine::{Gates, State, Ticks};
 use cp_merged::{Tallies, Tally};
+use cp_progress::ObserveProgress;
 use cp_run::Limits;
 use cp_slots::Resolved;
 use cp_walk::Job;
@@ -30,7 +31,11 @@ const MOST_IN_A_LAYER: usize = 200_000;
 const MOST_LAID_OUT: usize = 500;
 
 /// The data of a page.
-pub fn data(alloc: Global, subject: PageSubject<'_>) -> Result<Json, AllocError> {
+pub fn data<O: ObserveProgress>(
+    alloc: Global,
+    subject: PageSubject<'_>,
+    observer: &mut O,
+) -> Result<Json, AllocError> {
     let mut json = Json::new(alloc);
     json.begin();
     put_limits(&mut json, subject);
@@ -38,20 +43,25 @@ pub fn data(alloc: Global, subject: PageSubject<'_>) -> Result<Json, AllocError>
     json.name("source");
     json.value(&source_lines(alloc, subject.source)?);
     match subject.length {
-        Length::Limited => put_counted(alloc, &mut json, subject)?,
-        Length::Any => put_endless(alloc, &mut json, subject)?,
+        Length::Limited => put_counted(alloc, &mut json, subject, observer)?,
+        Length::Any => put_endless(alloc, &mut json, subject, observer)?,
     }
     json.end();
     Ok(json)
 }
 
 // The graph, and the outcomes of all schedules with their counts.
-fn put_counted(alloc: Global, json: &mut Json, subject: PageSubject<'_>) -> Result<(), AllocError> {
+fn put_counted<O: ObserveProgress>(
+    alloc: Global,
+    json: &mut Json,
+    subject: PageSubject<'_>,
+    observer: &mut O,
+) -> Result<(), AllocError> {
     let job = Job {
         program: subject.program,
         limits: subject.limits,
     };
-    let found = survey(alloc, job, MOST_IN_A_LAYER)?;
+    let found = survey(alloc, job, MOST_IN_A_LAYER, observer)?;
     put_tallies(alloc, json, subject, rows_of(&found), found.is_some())
 }
 
@@ -81,8 +91,13 @@ fn put_tallies(
 }
 
 // The graph, the ends that are possible in schedules of any length, and who may wait for ever.
-fn put_endless(alloc: Global, json: &mut Json, subject: PageSubject<'_>) -> Result<(), AllocError> {
-    let endless = endless_of(alloc, subject)?;
+fn put_endless<O: ObserveProgress>(
+    alloc: Global,
+    json: &mut Json,
+    subject: PageSubject<'_>,
+    observer: &mut O,
+) -> Result<(), AllocError> {
+    let endless = endless_of(alloc, subject, observer)?;
     let words = endless.words(alloc)?;
     put_graph(alloc, json, subject, Merging::WithoutOutput, &words)?;
     endless.put(alloc, json, subject.legend)

@@ -7,9 +7,10 @@ ghost use Rattle.cp_waits.specs.Named.{TellOfAll};
 use crate::ends::plain_row;
 use crate::json::Json;
 use crate::subject::PageSubject;
-use cp_ends::{Found, search_ends};
+use cp_ends::{Found, search_ends_with};
 use cp_legend::Legend;
-use cp_waits::{How, Waiting, Waits, find_waits};
+use cp_progress::ObserveProgress;
+use cp_waits::{How, Waiting, Waits, find_waits_with};
 use std::alloc::{AllocError, Global};
 
 /// How many states there may be in all.
@@ -24,7 +25,11 @@ pub struct Endless {
 }
 
 /// Which ends are possible, and who may wait for ever.
-pub fn endless_of(alloc: Global, subject: PageSubject<'_>) -> Result<Endless, AllocError>
+pub fn endless_of<O: ObserveProgress>(
+    alloc: Global,
+    subject: PageSubject<'_>,
+    observer: &mut O,
+) -> Result<Endless, AllocError>
     ensures ends { IfOk result (λ e. IsAnswer subject.entry.program.now subject.entry.limits.gates subject.entry.limits.steps 200000 e.found) }
     ensures waits { IfOk result (λ e. IfSome e.waits (λ waits. TellOfAll subject.entry.program.now subject.entry.limits.gates subject.entry.limits.steps e.found waits)) }
 {
@@ -33,9 +38,9 @@ pub fn endless_of(alloc: Global, subject: PageSubject<'_>) -> Result<Endless, Al
         limits,
         ..
     } = subject;
-    let found = search_ends(alloc, program, limits, MOST)?;
+    let found = search_ends_with(alloc, program, limits, MOST, observer)?;
     let waits = match found.stopped {
-        None => Some(find_waits(alloc, program, limits, &found)?),
+        None => Some(find_waits_with(alloc, program, limits, &found, observer)?),
         Some(_) => None,
     };
     Ok(Endless { found, waits })

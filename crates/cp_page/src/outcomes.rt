@@ -12,8 +12,9 @@ use crate::json::Json;
 use cp_ends::End;
 use cp_legend::Legend;
 use cp_machine::Shown;
-use cp_merged::{MergeFault, Tallies, Tally, explore_merged};
+use cp_merged::{MergeFault, Tallies, Tally, explore_merged_with};
 use cp_natural::push_natural;
+use cp_progress::ObserveProgress;
 use cp_run::OutcomeKind;
 use cp_story::push_shown;
 use cp_walk::Job;
@@ -23,10 +24,15 @@ use std::alloc::{AllocError, Global};
 pub const MOST_OUTCOMES: usize = 2000;
 
 /// The outcomes of all schedules, if there are not too many states or outcomes.
-pub fn survey(alloc: Global, job: Job, states: usize) -> Result<Option<Tallies>, AllocError>
+pub fn survey<O: ObserveProgress>(
+    alloc: Global,
+    job: Job,
+    states: usize,
+    observer: &mut O,
+) -> Result<Option<Tallies>, AllocError>
     ensures { IfOk result (λ found. IfSome found (λ ts. map tally_of ts ≡ tally same_outcome (table (slots job.entry.program.now job.entry.limits.gates) job.entry.limits.choices job.entry.limits.steps))) }
 {
-    match explore_merged(alloc, job, states) {
+    match explore_merged_with(alloc, job, states, observer) {
         Ok(tallies) => Ok(Some(tallies)),
         Err(MergeFault::Memory) => Err(AllocError),
         Err(_) => Ok(None),

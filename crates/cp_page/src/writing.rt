@@ -11,11 +11,16 @@ use crate::script_play::PLAY;
 use crate::script_rounds::ROUNDS;
 use crate::style::STYLE;
 use crate::subject::PageSubject;
+use cp_progress::ObserveProgress;
 use std::alloc::{AllocError, Global};
 
 /// The page on which a program is played: one file of HTML, which loads nothing.
-pub fn page(alloc: Global, subject: PageSubject<'_>) -> Result<String, AllocError> {
-    let data = data(alloc, subject)?;
+pub fn page<O: ObserveProgress>(
+    alloc: Global,
+    subject: PageSubject<'_>,
+    observer: &mut O,
+) -> Result<String, AllocError> {
+    let data = data(alloc, subject, observer)?;
     with_data(alloc, &data)
 }
 

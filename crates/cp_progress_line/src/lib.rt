@@ -5,4 +5,4 @@ mod line;
 #[cfg(test)]
 mod tests;
 
-pub use line::{ObserveWork, ProgressLine};
+pub use line::{ObserveWork, ProgressLine, terminal_of};

@@ -3,18 +3,24 @@
 ghost use Rattle.std.specs.Duration.{as_nanos};
 ghost use Rattle.std.specs.Prelude.{◌≡◌, ◌<◌, false, IfSome};
 
-use cp_progress::{ObserveLayers, Progress, Unobserved};
+use cp_progress::{ObserveProgress, Progress, Unobserved};
 use std::alloc::{AllocError, Global};
-use std::io::Write;
+use std::io::{IsTerminal, Write};
 use std::time::{Clock, Duration};
 
-/// Whoever is told of each layer, and of the end of the work.
-pub trait ObserveWork: ObserveLayers {
+/// Whoever is told how far searches have come, and when the work that they belong to begins and ends.
+pub trait ObserveWork: ObserveProgress {
+    /// What the work is done on was read.
+    fn observe_begin(&mut self);
+
     /// The work is done, or given up, and its answer is not yet written.
     fn observe_end(&mut self);
 }
 
 impl ObserveWork for Unobserved {
+    #[inline(always)]
+    fn observe_begin(&mut self) {}
+
     #[inline(always)]
     fn observe_end(&mut self) {}
 }
@@ -29,29 +35,25 @@ pub struct ProgressLine<C: Drop, W: Drop> {
     terminal: Option<W>,
     // What is counted beside choices and states.
     counted: &'static str,
-    began: Duration,
+    began: Option<Duration>,
     written: Option<Duration>,
     width: usize,
 }
 
 impl<C: Clock + Drop, W: Write + Drop> ProgressLine<C, W> {
-    /// The work begins now.
-    pub fn begin(
+    /// No work has begun.
+    pub fn new(
         alloc: Global,
         clock: C,
         terminal: Option<W>,
         counted: &'static str,
     ) -> ProgressLine<C, W> {
-        let (began, terminal) = match (terminal, clock.monotonic()) {
-            (Some(terminal), Ok(now)) => (now, Some(terminal)),
-            (_, _) => (Duration::ZERO, None),
-        };
         ProgressLine {
             alloc,
             clock,
             terminal,
             counted,
-            began,
+            began: None,
             written: None,
             width: 0,
         }
@@ -64,9 +66,9 @@ impl<C: Clock + Drop, W: Write + Drop> ProgressLine<C, W> {
 
     // The time, if the line is to be written now.
     fn time_to_write(&self) -> Option<Duration> {
-        if self.terminal.is_none() {
+        let Some(began) = self.began else {
             return None;
-        }
+        };
         let Ok(now) = self.clock.monotonic() else {
             return None;
         };
@@ -74,7 +76,7 @@ impl<C: Clock + Drop, W: Write + Drop> ProgressLine<C, W> {
             Some(written) => Some(now.saturating_sub(written)),
             None => None,
         };
-        if is_due(now.saturating_sub(self.began), since_written) {
+        if is_due(now.saturating_sub(began), since_written) {
             Some(now)
         } else {
             None
@@ -91,8 +93,8 @@ impl<C: Clock + Drop, W: Write + Drop> ProgressLine<C, W> {
     }
 }
 
-impl<C: Clock + Drop, W: Write + Drop> ObserveLayers for ProgressLine<C, W> {
-    fn observe_layer(&mut self, progress: Progress) {
+impl<C: Clock + Drop, W: Write + Drop> ObserveProgress for ProgressLine<C, W> {
+    fn observe_progress(&mut self, progress: Progress) {
         let Some(now) = self.time_to_write() else {
             return;
         };
@@ -109,6 +111,16 @@ impl<C: Clock + Drop, W: Write + Drop> ObserveLayers for ProgressLine<C, W> {
 }
 
 impl<C: Clock + Drop, W: Write + Drop> ObserveWork for ProgressLine<C, W> {
+    fn observe_begin(&mut self) {
+        if self.terminal.is_none() {
+            return;
+        }
+        self.began = match self.clock.monotonic() {
+            Ok(now) => Some(now),
+            Err(_) => None,
+        };
+    }
+
     fn observe_end(&mut self) {
         if self.width == 0 {
             return;
@@ -122,6 +134,15 @@ impl<C: Clock + Drop, W: Write + Drop> ObserveWork for ProgressLine<C, W> {
             Err(_) => self.write("\r\x1b[K"),
         }
         self.width = 0;
+    }
+}
+
+/// A stream, where it is a terminal.
+pub fn terminal_of<W: IsTerminal + Drop>(stream: W) -> Option<W> {
+    if stream.is_terminal() {
+        Some(stream)
+    } else {
+        None
     }
 }
 
@@ -145,7 +166,14 @@ fn text_of(alloc: Global, counted: &'static str, progress: Progress) -> Result<S
         states,
         outcomes,
     } = progress;
-    format!(in alloc; "choices done: {choices}, states: {states}, {counted} so far: {outcomes}")
+    match outcomes {
+        Some(found) => {
+            format!(in alloc;
+                "choices done: {choices}, states: {states}, {counted} so far: {found}"
+            )
+        }
+        None => format!(in alloc; "choices done: {choices}, states: {states}"),
+    }
 }
 
 // A text at the beginning of the line, with blanks over what else stood there.

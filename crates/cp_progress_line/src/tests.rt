@@ -1,7 +1,7 @@
 //! When the line is written, what it says, and that it goes.
 
 use crate::{ObserveWork, ProgressLine};
-use cp_progress::{ObserveLayers, Progress};
+use cp_progress::{ObserveProgress, Progress};
 use std::alloc::Global;
 use std::cell::Cell;
 use std::io::{Error, ErrorKind, Result as IoResult, Write};
@@ -63,17 +63,18 @@ fn told(alloc: Global, layers: u32, is_broken: bool) -> FakeTerminal {
     let clock = TickingClock {
         reads: Cell::new(0),
     };
-    let mut line = ProgressLine::begin(
+    let mut line = ProgressLine::new(
         alloc,
         clock,
         Some(FakeTerminal::new(alloc, is_broken)),
         "outcomes",
     );
+    line.observe_begin();
     for layer in 0..layers {
-        line.observe_layer(Progress {
+        line.observe_progress(Progress {
             choices: layer,
             states: if layer < 21 { 1_000_000 } else { 7 },
-            outcomes: 3,
+            outcomes: Some(3),
         });
     }
     line.observe_end();
@@ -115,14 +116,55 @@ fn without_a_terminal_nothing_is_told(rt: HostRuntime) {
         reads: Cell::new(0),
     };
     let nowhere: Option<FakeTerminal> = None;
-    let mut line = ProgressLine::begin(rt.alloc(), clock, nowhere, "ends");
+    let mut line = ProgressLine::new(rt.alloc(), clock, nowhere, "ends");
+    line.observe_begin();
     for choices in 0..30 {
-        line.observe_layer(Progress {
+        line.observe_progress(Progress {
             choices,
             states: 7,
-            outcomes: 3,
+            outcomes: Some(3),
         });
     }
     line.observe_end();
     assert!(rt; line.into_terminal().is_none());
+}
+
+#[test]
+fn time_before_the_work_does_not_count(rt: HostRuntime) {
+    let clock = TickingClock {
+        reads: Cell::new(0),
+    };
+    let terminal = FakeTerminal::new(rt.alloc(), false);
+    let mut line = ProgressLine::new(rt.alloc(), clock, Some(terminal), "ends");
+    for choices in 0..30 {
+        line.observe_progress(Progress {
+            choices,
+            states: 7,
+            outcomes: Some(3),
+        });
+    }
+    line.observe_end();
+    let taken = line.into_terminal().map(|terminal| terminal.taken.len());
+    assert!(rt; taken == Some(0));
+}
+
+#[test]
+fn what_is_not_looked_for_is_not_told(rt: HostRuntime) {
+    let clock = TickingClock {
+        reads: Cell::new(0),
+    };
+    let terminal = FakeTerminal::new(rt.alloc(), false);
+    let mut line = ProgressLine::new(rt.alloc(), clock, Some(terminal), "outcomes");
+    line.observe_begin();
+    for _layer in 0..20 {
+        line.observe_progress(Progress {
+            choices: 4,
+            states: 7,
+            outcomes: None,
+        });
+    }
+    let terminal = line
+        .into_terminal()
+        .unwrap_or(FakeTerminal::new(rt.alloc(), false));
+    assert!(rt; terminal.taken.as_slice() == "\rchoices done: 4, states: 7".as_bytes());
 }

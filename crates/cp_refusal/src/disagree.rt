@@ -73,11 +73,12 @@ fn operation(
     true
 }
 
-/// A level of an expression: its operands are factors, or else terms.
+/// A level of an expression: its operands are factors, terms, or expressions that commas part.
 #[derive(Clone, Copy, PartialEq, Eq)]
 enum OperandLevel {
     Term,
     Sum,
+    Elements,
 }
 
 impl OperandLevel {
@@ -86,6 +87,7 @@ impl OperandLevel {
         match self {
             OperandLevel::Term => is_multiplying(mark),
             OperandLevel::Sum => is_adding(mark),
+            OperandLevel::Elements => mark == Some(Mark::Comma),
         }
     }
 
@@ -93,6 +95,7 @@ impl OperandLevel {
         match self {
             OperandLevel::Term => after_factor(tokens, at),
             OperandLevel::Sum => after_term(tokens, at),
+            OperandLevel::Elements => expression_at(tokens, at).to,
         }
     }
 
@@ -101,6 +104,7 @@ impl OperandLevel {
         match self {
             OperandLevel::Term => after_factor(tokens, at),
             OperandLevel::Sum => after_term(tokens, after_sign(tokens, at)),
+            OperandLevel::Elements => expression_at(tokens, at).to,
         }
     }
 
@@ -328,6 +332,9 @@ fn push_beginning(asker: &Asker, text: &mut Prose, beginning: SentenceBeginning)
     text.put(beginning.words);
 }
 
+/// How many values of a list are told of.
+const MOST_TOLD: usize = 12;
+
 /// Says of which sorts some values are, that commas part. Nothing is said where none has a sort.
 fn push_values(
     asker: &Asker,
@@ -337,7 +344,7 @@ fn push_values(
 ) -> bool {
     let mut from = values.from;
     let mut is_first = true;
-    for _ in 0..asker.tokens.count() {
+    for _ in 0..MOST_TOLD {
         if from >= values.to {
             return !is_first;
         }
@@ -352,6 +359,9 @@ fn push_values(
             is_first = false;
         }
         from = value.to.saturating_add(1);
+    }
+    if from < values.to && !is_first {
+        text.put(", and so on");
     }
     !is_first
 }
@@ -469,7 +479,35 @@ fn elements(asker: &Asker, text: &mut Prose, at: usize) -> bool {
         named: None,
         words: "the elements of a set have to be ordinal and of one type, but ",
     };
-    push_values(asker, text, beginning, values)
+    if OperandLevel::Elements.count(asker.tokens, values.from) < MOST_TOLD {
+        return push_values(asker, text, beginning, values);
+    }
+    first_other(asker, text, beginning, values)
+}
+
+/// The first of many elements, and the first one that does not agree with those before it.
+fn first_other(
+    asker: &Asker,
+    text: &mut Prose,
+    beginning: SentenceBeginning,
+    values: Extent,
+) -> bool {
+    let level = OperandLevel::Elements;
+    let first = expression_at(asker.tokens, values.from);
+    let number = sound_operators(asker, text, values.from, level);
+    let comma = level.after_operators(asker.tokens, values.from, number);
+    let other = expression_at(asker.tokens, comma.saturating_add(1));
+    if asker.may_share_set(text, first, other) {
+        return false;
+    }
+    let (Some(f), Some(o)) = (asker.sort_of(text, first), asker.sort_of(text, other)) else {
+        return false;
+    };
+    push_beginning(asker, text, beginning);
+    push_sort(asker, text, first, f);
+    text.put(", ");
+    push_sort(asker, text, other, o);
+    true
 }
 
 /// The selector of a `case`, or else its labels.

@@ -70,7 +70,7 @@ struct Gathering<'a> {
 }
 
 impl<'a> Gathering<'a> {
-    /// Adds a hint at a token; only counts it where there are many.
+    /// Adds a hint at a token.
     fn add(&mut self, at: usize, sentence: Result<String, AllocError>) {
         match sentence {
             Ok(sentence) => self.push_hint(at, sentence),
@@ -78,11 +78,16 @@ impl<'a> Gathering<'a> {
         }
     }
 
-    fn push_hint(&mut self, at: usize, sentence: String) {
-        if self.hints.all.len() >= MOST_HINTS {
-            self.hints.more = self.hints.more.saturating_add(1);
-            return;
+    /// Whether one hint more is only counted.
+    fn is_full(&mut self) -> bool {
+        if self.hints.all.len() < MOST_HINTS {
+            return false;
         }
+        self.hints.more = self.hints.more.saturating_add(1);
+        true
+    }
+
+    fn push_hint(&mut self, at: usize, sentence: String) {
         if let Some(span) = find(self.source, Sought::Token(at)) {
             if self.hints.all.push(Hint { sentence, span }).is_err() {
                 self.is_refused = true;
@@ -91,6 +96,9 @@ impl<'a> Gathering<'a> {
     }
 
     fn add_words(&mut self, at: usize, words: &str) {
+        if self.is_full() {
+            return;
+        }
         self.add(at, String::from_str(self.alloc, words));
     }
 
@@ -106,6 +114,9 @@ impl<'a> Gathering<'a> {
     }
 
     fn add_inner(&mut self, inner: Inner) {
+        if self.is_full() {
+            return;
+        }
         let mut sentence = Prose::new(self.alloc);
         sentence.put("whoever waits in ");
         push_tokens(&mut sentence, self.source, inner.call);

@@ -129,6 +129,22 @@ impl<'a> Asker<'a> {
         ])
     }
 
+    /// Whether a set may have both of two expressions as elements.
+    fn are_elements(&self, one: Extent, other: Extent) -> Result<bool, AllocError> {
+        self.accepts(&[
+            Insertion::Mark(Mark::If),
+            Insertion::Mark(Mark::OpenBracket),
+            Insertion::Copied(one),
+            Insertion::Mark(Mark::Comma),
+            Insertion::Copied(other),
+            Insertion::Mark(Mark::CloseBracket),
+            Insertion::Mark(Mark::Equal),
+            Insertion::Mark(Mark::OpenBracket),
+            Insertion::Mark(Mark::CloseBracket),
+            Insertion::Mark(Mark::Then),
+        ])
+    }
+
     fn is_queue(&self, value: Extent) -> Result<bool, AllocError> {
         self.accepts(&[
             Insertion::Mark(Mark::If),
@@ -220,6 +236,17 @@ impl<'a> Asker<'a> {
             Err(_) => {
                 text.refuse();
                 None
+            }
+        }
+    }
+
+    /// Whether two values may be elements of one set. It is asked for a text, as `sort_of` is.
+    pub fn may_share_set(&self, text: &mut Prose, one: Extent, other: Extent) -> bool {
+        match self.are_elements(one, other) {
+            Ok(is_fine) => is_fine,
+            Err(_) => {
+                text.refuse();
+                true
             }
         }
     }

@@ -25,6 +25,7 @@ use cp_ends_verdict::{
 };
 use cp_outcomes::completing::greatest_known;
 use cp_outcomes::known::Known;
+use cp_progress::ObserveProgress;
 use cp_show_options::{limits_of, longest_limits_of};
 use cp_verdict::{
     MarkFault, Marked, Misread, Reading, TableMark, expectations, expectations_in, mark_program,
@@ -34,9 +35,10 @@ use cp_walk::Job;
 use std::alloc::{AllocError, Global};
 
 /// What is said of a program by the expectations of the words; by those of the source where they are asked for, or where there are no words.
-pub fn mark_answer(
+pub fn mark_answer<O: ObserveProgress>(
     alloc: Global,
     examinee: Examinee<'_>,
+    observer: &mut O,
     words: &str,
     with_own: bool,
     source: &[u8],
@@ -49,7 +51,7 @@ pub fn mark_answer(
             "no expectation: none was given, and the source has no comment that begins (* expect\n",
         );
     }
-    marked_by(alloc, examinee, text.as_str())
+    marked_by(alloc, examinee, observer, text.as_str())
 }
 
 // The expectations as they are written.
@@ -85,12 +87,17 @@ fn misread(alloc: Global, examinee: Examinee<'_>, said: &str) -> Result<ShowAnsw
 }
 
 // What is said by the expectations of a text.
-fn marked_by(alloc: Global, examinee: Examinee<'_>, text: &str) -> Result<ShowAnswer, AllocError> {
+fn marked_by<O: ObserveProgress>(
+    alloc: Global,
+    examinee: Examinee<'_>,
+    observer: &mut O,
+    text: &str,
+) -> Result<ShowAnswer, AllocError> {
     if examinee.options.ends {
-        return marked_ends(alloc, examinee, text);
+        return marked_ends(alloc, examinee, observer, text);
     }
     match expectations(alloc, text) {
-        Ok(reading) => mark_of(alloc, examinee, &reading),
+        Ok(reading) => mark_of(alloc, examinee, observer, &reading),
         Err(Misread::Unexpected { wanted, place }) => misread(
             alloc,
             examinee,
@@ -101,13 +108,14 @@ fn marked_by(alloc: Global, examinee: Examinee<'_>, text: &str) -> Result<ShowAn
 }
 
 // The same of schedules of any length.
-fn marked_ends(
+fn marked_ends<O: ObserveProgress>(
     alloc: Global,
     examinee: Examinee<'_>,
+    observer: &mut O,
     text: &str,
 ) -> Result<ShowAnswer, AllocError> {
     match ends_expectations(alloc, examinee.legend, text)? {
-        EndsReading::Expectations(list) => judged_ends(alloc, examinee, &list),
+        EndsReading::Expectations(list) => judged_ends(alloc, examinee, observer, &list),
         EndsReading::Misread { wanted, place } => misread(
             alloc,
             examinee,
@@ -117,25 +125,27 @@ fn marked_ends(
 }
 
 // What schedules of any length say of the expectations.
-fn judged_ends(
+fn judged_ends<O: ObserveProgress>(
     alloc: Global,
     examinee: Examinee<'_>,
+    observer: &mut O,
     list: &[EndsExpectation],
 ) -> Result<ShowAnswer, AllocError>
     ensures in_turn { examinee.entry.options.now.at_once ≡ false → 1 ≤ examinee.entry.options.now.states → can_be_asked examinee.entry.options.now.gates list.now ≡ true → IfOk result (λ a. spec.TellsEndsMark examinee.entry.program.now examinee.entry.options.now.gates examinee.entry.options.now.steps examinee.entry.options.now.states list.now a.verdict) }
     ensures at_once { examinee.entry.options.now.at_once ≡ true → can_be_at_once examinee.entry.options.now.gates list.now ≡ true → IfOk result (λ a. spec.TellsMarkAtOnce examinee.entry.program.now examinee.entry.options.now.steps list.now a.verdict) }
 {
     if examinee.options.at_once {
-        judged_at_once(alloc, examinee, list)
+        judged_at_once(alloc, examinee, observer, list)
     } else {
-        judged_in_turn(alloc, examinee, list)
+        judged_in_turn(alloc, examinee, observer, list)
     }
 }
 
 // The same without calls at once, but where there are too many states.
-fn judged_in_turn(
+fn judged_in_turn<O: ObserveProgress>(
     alloc: Global,
     examinee: Examinee<'_>,
+    observer: &mut O,
     list: &[EndsExpectation],
 ) -> Result<ShowAnswer, AllocError>
     ensures { 1 ≤ examinee.entry.options.now.states → can_be_asked examinee.entry.options.now.gates list.now ≡ true → IfOk result (λ a. spec.TellsEndsMark examinee.entry.program.now examinee.entry.options.now.gates examinee.entry.options.now.steps examinee.entry.options.now.states list.now a.verdict) }
@@ -152,14 +162,15 @@ fn judged_in_turn(
         limits: longest_limits_of(options),
         most: options.states,
     };
-    let marked = mark_in_turn(alloc, subject, list)?;
+    let marked = mark_in_turn(alloc, subject, list, observer)?;
     ends_answer(alloc, examinee, &marked)
 }
 
 // The same with calls at once.
-fn judged_at_once(
+fn judged_at_once<O: ObserveProgress>(
     alloc: Global,
     examinee: Examinee<'_>,
+    observer: &mut O,
     list: &[EndsExpectation],
 ) -> Result<ShowAnswer, AllocError>
     ensures { can_be_at_once examinee.entry.options.now.gates list.now ≡ true → IfOk result (λ a. spec.TellsMarkAtOnce examinee.entry.program.now examinee.entry.options.now.steps list.now a.verdict) }
@@ -176,7 +187,7 @@ fn judged_at_once(
         limits: longest_limits_of(options),
         most: options.states,
     };
-    let marked = mark_at_once(alloc, subject, list)?;
+    let marked = mark_at_once(alloc, subject, list, observer)?;
     ends_answer(alloc, examinee, &marked)
 }
 
@@ -207,9 +218,10 @@ fn ends_verdict_of(mark: EndsMark) -> ShowVerdict
 }
 
 /// What the table within the limits of the options says of the expectations.
-pub fn mark_of(
+pub fn mark_of<O: ObserveProgress>(
     alloc: Global,
     examinee: Examinee<'_>,
+    observer: &mut O,
     reading: &Reading,
 ) -> Result<ShowAnswer, AllocError>
     ensures mark { IfOk result (λ a. spec.TellsMark examinee.entry.program.now.names reading.now.expectations.items (table (slots examinee.entry.program.now examinee.entry.options.now.gates) examinee.entry.options.now.choices examinee.entry.options.now.steps) a.verdict) }
@@ -221,14 +233,21 @@ pub fn mark_of(
         limits,
     };
     let list = reading.expectations.as_slice();
-    match mark_program(alloc, job, examinee.options.states, list) {
+    match mark_program(alloc, job, examinee.options.states, list, observer) {
         Ok(marked) => told_answer(alloc, examinee, reading, &marked),
         Err(MarkFault::Memory) => Err(AllocError),
         Err(MarkFault::TooManyStates) => {
-            too_many(alloc, examinee, job, reading, MarkExcess::States)
+            too_many(alloc, examinee, observer, job, reading, MarkExcess::States)
         }
         Err(MarkFault::TooManyOutcomes) => {
-            too_many(alloc, examinee, job, reading, MarkExcess::Outcomes)
+            too_many(
+                alloc,
+                examinee,
+                observer,
+                job,
+                reading,
+                MarkExcess::Outcomes,
+            )
         }
     }
 }
@@ -259,30 +278,32 @@ fn verdict_of(mark: TableMark) -> ShowVerdict
 }
 
 // What there is too much of, and the mark by schedules of fewer choices.
-fn too_many(
+fn too_many<O: ObserveProgress>(
     alloc: Global,
     examinee: Examinee<'_>,
+    observer: &mut O,
     job: Job,
     reading: &Reading,
     excess: MarkExcess,
 ) -> Result<ShowAnswer, AllocError>
     ensures { IfOk result (λ a. a.verdict ≡ TooMany) }
 {
-    let text = too_many_text(alloc, examinee, job, reading, excess)?;
+    let text = too_many_text(alloc, examinee, observer, job, reading, excess)?;
     Ok(ShowAnswer {
         verdict: ShowVerdict::TooMany,
         text,
     })
 }
 
-fn too_many_text(
+fn too_many_text<O: ObserveProgress>(
     alloc: Global,
     examinee: Examinee<'_>,
+    observer: &mut O,
     job: Job,
     reading: &Reading,
     excess: MarkExcess,
 ) -> Result<String, AllocError> {
-    match greatest_known(alloc, job, examinee.options.states)? {
+    match greatest_known(alloc, job, examinee.options.states, observer)? {
         Some(known) => known_text(alloc, examinee, reading, excess, &known),
         None => excess_text(alloc, examinee, excess, None),
     }

@@ -8,6 +8,7 @@ use crate::keys::outcome_key;
 use crate::levels::Word;
 use crate::search::SimplestSearch;
 use cp_machine::Ticks;
+use cp_progress::ObserveProgress;
 use cp_run::{Limits, Outcome, OutcomeKind, RunEnd, run};
 use cp_slots::Resolved;
 use cp_walk::Job;
@@ -35,21 +36,32 @@ pub enum Searched {
 
 /// The simplest schedule of each of these outcomes, by a search through so many states at most: of those with as many choices as the job
 /// allows it has the fewest switches, of these the fewest numbers, and of these it is the first in dictionary order. A switch is a choice
-/// of a process other than the one that made the last step, while that one could be chosen; a choice at a gate is none.
-pub fn simplest(
+/// of a process other than the one that made the last step, while that one could be chosen; a choice at a gate is none. An observer is told
+/// how far the search has come.
+pub fn simplest<O: ObserveProgress>(
     alloc: Global,
     job: Job,
     most: usize,
     outcomes: &[&Outcome],
+    observer: &mut O,
 ) -> Result<Searched, AllocError> {
-    search_counted::<Brand, Brand>(alloc, job, most, outcomes, Blank::new(1), Blank::new(1))
+    search_counted::<O, Brand, Brand>(
+        alloc,
+        job,
+        most,
+        outcomes,
+        observer,
+        Blank::new(1),
+        Blank::new(1),
+    )
 }
 
-fn search_counted<S: Ledger, C: Ledger>(
+fn search_counted<O: ObserveProgress, S: Ledger, C: Ledger>(
     alloc: Global,
     job: Job,
     most: usize,
     outcomes: &[&Outcome],
+    observer: &mut O,
     steps: Blank,
     calls: Blank,
 ) -> Result<Searched, AllocError>
@@ -71,7 +83,15 @@ fn search_counted<S: Ledger, C: Ledger>(
     let mut search = SimplestSearch::new(alloc, limits, ends, has_limit(outcomes), most)?;
     let mut states = Vec::new(alloc);
     search.begin(alloc, program, limits, &mut states, &mut steps, &mut calls)?;
-    search.explore(alloc, program, limits, &mut states, &mut steps, &mut calls)?;
+    search.explore(
+        alloc,
+        program,
+        limits,
+        observer,
+        &mut states,
+        &mut steps,
+        &mut calls,
+    )?;
     if search.is_full {
         return Ok(Searched::TooMany);
     }

@@ -11,6 +11,7 @@ use crate::levels::{Level, LevelLabel, LevelTarget, Word, extend_word, merge_lab
 use crate::watching::LastMoved;
 use arrayvec::ArrayVec;
 use cp_machine::{State, Ticks};
+use cp_progress::{ObserveProgress, Progress, STATES_BETWEEN};
 use cp_run::choice::{choose, open};
 use cp_run::{Halt, Limits, OutcomeKind, candidates, may};
 use cp_slots::Resolved;
@@ -172,11 +173,12 @@ impl SimplestSearch {
     }
 
     /// Goes on until each outcome has a word, or there are too many states.
-    pub fn explore<S: Ledger, C: Ledger>(
+    pub fn explore<O: ObserveProgress, S: Ledger, C: Ledger>(
         &mut self,
         alloc: Global,
         program: &Resolved,
         limits: Limits,
+        observer: &mut O,
         states: &mut Vec<State>,
         steps: &mut Ticks<S>,
         calls: &mut Ticks<C>,
@@ -185,7 +187,9 @@ impl SimplestSearch {
         ensures { IfOk result (λ _. All (λ s. IsStateOf program.now s) states.new.items) }
     {
         for switches in 0..101u8 {
-            self.explore_level(alloc, program, limits, states, switches, steps, calls)?;
+            self.explore_level(
+                alloc, program, limits, observer, states, switches, steps, calls,
+            )?;
             let next = Level::new(alloc, limits.choices)?;
             self.came = mem::replace(&mut self.next, next);
             if self.is_over() || self.came.is_empty() {
@@ -200,11 +204,12 @@ impl SimplestSearch {
     }
 
     // Goes on from all words of one number of switches.
-    fn explore_level<S: Ledger, C: Ledger>(
+    fn explore_level<O: ObserveProgress, S: Ledger, C: Ledger>(
         &mut self,
         alloc: Global,
         program: &Resolved,
         limits: Limits,
+        observer: &mut O,
         states: &mut Vec<State>,
         switches: u8,
         steps: &mut Ticks<S>,
@@ -218,20 +223,31 @@ impl SimplestSearch {
             let here = self.here.take(alloc, length);
             let labels = merge_labels(alloc, came, here)?;
             self.explore_labels(
-                alloc, program, limits, states, switches, &labels, steps, calls,
+                alloc, program, limits, observer, states, switches, length, &labels, steps, calls,
             )?;
         }
         Ok(())
     }
 
+    // What is found by words of so many numbers, and of as many switches as are looked at.
+    fn progress(&self, length: usize) -> Progress {
+        Progress {
+            choices: u32::try_from(length).unwrap_or(u32::MAX),
+            states: self.known.len(),
+            outcomes: Some(self.found.len().saturating_sub(self.missing)),
+        }
+    }
+
     // Goes on from words of one length.
-    fn explore_labels<S: Ledger, C: Ledger>(
+    fn explore_labels<O: ObserveProgress, S: Ledger, C: Ledger>(
         &mut self,
         alloc: Global,
         program: &Resolved,
         limits: Limits,
+        observer: &mut O,
         states: &mut Vec<State>,
         switches: u8,
+        length: usize,
         labels: &[LevelLabel],
         steps: &mut Ticks<S>,
         calls: &mut Ticks<C>,
@@ -239,7 +255,12 @@ impl SimplestSearch {
         requires { All (λ s. IsStateOf program.now s) states.old.items }
         ensures { IfOk result (λ _. All (λ s. IsStateOf program.now s) states.new.items) }
     {
+        let mut gone_on: u32 = 0;
         for label in labels {
+            if gone_on % STATES_BETWEEN == 0 {
+                observer.observe_progress(self.progress(length));
+            }
+            gone_on = gone_on.wrapping_add(1);
             self.explore_label(
                 alloc, program, limits, states, switches, label, steps, calls,
             )?;

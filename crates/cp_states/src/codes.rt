@@ -1,5 +1,6 @@
 //! What states hold is hashed.
 
+ghost use Rattle.std.specs.Prelude.{◌≡◌, true};
 ghost use Rattle.cp_states.specs.Codes.{address_code, entry_code, phase_code, shown_code};
 
 use crate::hashing::{Compared, Hashed, are_one};
@@ -98,17 +99,29 @@ impl Hashed for Entry {
     fn is(self, other: Entry) -> bool {
         match (self, other) {
             (Entry::Rest(item), Entry::Rest(same)) => item == same,
-            (Entry::Successor(item, value, last), Entry::Successor(same, number, end)) => {
-                item == same && value == number && last == end
-            }
-            (Entry::Return(frame, result, monitor), Entry::Return(same, cell, left)) => {
-                frame == same && result == cell && monitor == left
-            }
-            (Entry::InitEnd(frame, component), Entry::InitEnd(same, number)) => {
-                frame == same && component == number
-            }
-            _ => false,
+            _ => is_entry(&self, &other),
         }
+    }
+}
+
+// Whether two entries are one. It stands apart from `is`, which then reads no more of the rest of a list than its item.
+#[inline(never)]
+fn is_entry(entry: &Entry, other: &Entry) -> bool
+    ensures one { result ≡ true → entry.now ≡ other.now }
+    ensures same { entry.now ≡ other.now → result ≡ true }
+{
+    match (entry, other) {
+        (Entry::Rest(item), Entry::Rest(same)) => item == same,
+        (Entry::Successor(item, value, last), Entry::Successor(same, number, end)) => {
+            item == same && value == number && last == end
+        }
+        (Entry::Return(frame, result, monitor), Entry::Return(same, cell, left)) => {
+            frame == same && result == cell && monitor == left
+        }
+        (Entry::InitEnd(frame, component), Entry::InitEnd(same, number)) => {
+            frame == same && component == number
+        }
+        _ => false,
     }
 }
 

@@ -48,6 +48,8 @@ pub struct Story {
     pub end: RunEnd,
     /// How it stopped, where no event tells of it.
     pub stop: Option<AbruptEnd>,
+    /// How many numbers of the word were not used, since the run had ended.
+    pub left: usize,
 }
 
 /// For each monitor the process inside it.
@@ -346,7 +348,16 @@ pub fn tell<L: Ledger>(
         &mut observer,
         &mut events,
     )?;
-    finish_story(alloc, program, legend, &state, observer, events, end)
+    let left = count_left(word, &end);
+    finish_story(alloc, program, legend, &state, observer, events, end, left)
+}
+
+// How many numbers of a word stand after those that a run used until it ended.
+fn count_left(word: &[u8], end: &RunEnd) -> usize {
+    match end {
+        RunEnd::Ended { used, .. } => word.len().saturating_sub(*used),
+        _ => 0,
+    }
 }
 
 // The whole story, where a run has stopped.
@@ -358,6 +369,7 @@ fn finish_story(
     observer: Observer<'_>,
     events: Vec<StoryEvent>,
     end: RunEnd,
+    left: usize,
 ) -> Result<Story, AllocError>
     requires { IsStateOf program.now state.now }
     ensures lines { IfOk result (λ s. lines_of s.events.items ≡ lines_of events.items) }
@@ -371,5 +383,6 @@ fn finish_story(
         waits,
         end,
         stop,
+        left,
     })
 }

@@ -9,8 +9,8 @@ use cp_legend::Legend;
 use cp_run::RunEnd;
 use std::alloc::{AllocError, Global};
 
-/// The lines of a story: one for each event, one for each process that waits, one that says why a number can't be taken, and `end`, the
-/// last line of the plain trace.
+/// The lines of a story: one for each event, one for each process that waits, one that says why a number can't be taken or that numbers are left, and
+/// `end`, the last line of the plain trace.
 pub fn text(
     alloc: Global,
     legend: &Legend,
@@ -31,6 +31,7 @@ pub fn text(
         text.push('\n')?;
     }
     push_refused(alloc, &mut text, story)?;
+    push_left(&mut text, story.left)?;
     text.push_str(end)?;
     Ok(text)
 }
@@ -42,6 +43,18 @@ fn push_refused(alloc: Global, text: &mut String, story: &Story) -> Result<(), A
         text.push('\n')?;
     }
     Ok(())
+}
+
+// That numbers of the schedule were not used, if there are some.
+fn push_left(text: &mut String, left: usize) -> Result<(), AllocError> {
+    match left {
+        0 => Ok(()),
+        1 => text.push_str("the last number is not used: the run has ended before it\n"),
+        _ => write!(
+            text,
+            "the last {left} numbers are not used: the run has ended before them\n"
+        ),
+    }
 }
 
 fn event_row(alloc: Global, legend: &Legend, event: &StoryEvent) -> Result<TableRow, AllocError> {

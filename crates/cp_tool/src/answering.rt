@@ -24,6 +24,8 @@ use cp_front::{
     refusal_line, write_text,
 };
 use cp_machine::Ticks;
+use cp_progress::ObserveProgress;
+use cp_progress_line::ObserveWork;
 use cp_run::{Limits, trace};
 use cp_slots::Resolved;
 use std::alloc::{AllocError, Global};
@@ -88,11 +90,12 @@ pub fn status_of(ending: Result<Verdict, StreamFault>) -> ExitStatus
 /// Reads a source, explores it as the options say, and writes the answer.
 ///
 /// The whole text is built before the first write. Nothing is written after a failed read or where memory is refused, and a prefix of
-/// the text after a failed write.
-pub fn explore_stream<X: Threads + Sync, R: Source, W: Sink>(
+/// the text after a failed write. An observer is told how far the exploration has come.
+pub fn explore_stream<X: Threads + Sync, O: ObserveWork, R: Source, W: Sink>(
     rt: &X,
     alloc: Global,
     options: &Options,
+    observer: &mut O,
     source: &mut R,
     sink: &mut W,
 ) -> ExitStatus
@@ -100,13 +103,14 @@ pub fn explore_stream<X: Threads + Sync, R: Source, W: Sink>(
     ensures told { (ending : Result Verdict StreamFault) × (result.code ≡ code_by spec.code_of ending) × spec.Tells (spec.IsExploredAlone options.now) (R.remaining source.old) (W.contents sink.old) (W.contents sink.new) ending × (R.failed_reads source.new + (W.failed_writes sink.new + W.empty_writes sink.new) ≡ R.failed_reads source.old + (W.failed_writes sink.old + W.empty_writes sink.old) + faults_in ending) }
     ensures reads { R.reads source.new ≤ R.reads source.old + 65536 }
 {
-    status_of(serve(rt, alloc, options, source, sink))
+    status_of(serve(rt, alloc, options, observer, source, sink))
 }
 
-fn serve<X: Threads + Sync, R: Source, W: Sink>(
+fn serve<X: Threads + Sync, O: ObserveWork, R: Source, W: Sink>(
     rt: &X,
     alloc: Global,
     options: &Options,
+    observer: &mut O,
     source: &mut R,
     sink: &mut W,
 ) -> Result<Verdict, StreamFault>
@@ -115,7 +119,7 @@ fn serve<X: Threads + Sync, R: Source, W: Sink>(
     ensures reads { R.reads source.new ≤ R.reads source.old + 65536 }
 {
     match read_source(alloc, source, MOST_BYTES) {
-        Ok(bytes) => match answer_to(rt, alloc, options, &bytes) {
+        Ok(bytes) => match answer_to(rt, alloc, options, observer, &bytes) {
             Ok(answer) => write_answer(sink, &answer),
             Err(_) => Err(StreamFault::Memory),
         },
@@ -136,10 +140,11 @@ pub fn write_answer<W: Sink>(sink: &mut W, answer: &Answer) -> Result<Verdict, S
 }
 
 // What is answered to a source.
-fn answer_to<X: Threads + Sync>(
+fn answer_to<X: Threads + Sync, O: ObserveWork>(
     rt: &X,
     alloc: Global,
     options: &Options,
+    observer: &mut O,
     source: &[u8],
 ) -> Result<Answer, AllocError>
     ensures { IfOk result (λ a. spec.AnswersSource (spec.IsExploredAlone options.now) source.now a.verdict a.text) }
@@ -147,7 +152,9 @@ fn answer_to<X: Threads + Sync>(
     match load(alloc, source) {
         Ok(loaded) => {
             let program = loaded.into_program();
-            let answer = answer_program(rt, alloc, options, &program);
+            observer.observe_begin();
+            let answer = answer_program(rt, alloc, options, observer, &program);
+            observer.observe_end();
             drop_program(program);
             answer
         }
@@ -169,10 +176,11 @@ pub fn answer_refusal(alloc: Global, refusal: Refusal) -> Result<Answer, AllocEr
 }
 
 /// The trace of the schedule that the options name, or the report of all schedules.
-fn answer_program<X: Threads + Sync>(
+fn answer_program<X: Threads + Sync, O: ObserveProgress>(
     rt: &X,
     alloc: Global,
     options: &Options,
+    observer: &mut O,
     program: &Resolved,
 ) -> Result<Answer, AllocError>
     ensures { IfOk result (λ a. on_slots.IsExploredOn options.now program.now a.verdict a.text) }
@@ -187,7 +195,7 @@ fn answer_program<X: Threads + Sync>(
         ),
         None => {
             if options.merge {
-                report_merged(alloc, options, program)
+                report_merged(alloc, options, observer, program)
             } else {
                 report_table(rt, alloc, options, program)
             }
@@ -221,13 +229,19 @@ fn trace_schedule<L: Ledger>(
 }
 
 /// The report of a program's table by its outcomes alone, or what there are too many of.
-fn report_merged(alloc: Global, options: &Options, program: &Resolved) -> Result<Answer, AllocError>
+fn report_merged<O: ObserveProgress>(
+    alloc: Global,
+    options: &Options,
+    observer: &mut O,
+    program: &Resolved,
+) -> Result<Answer, AllocError>
     ensures { IfOk result (λ a. merging.IsMerged options.now (on_slots.machine options.now program.now) program.now.names (on_slots.machine_rows options.now program.now) a.verdict a.text) }
 {
     let Some(limits) = Limits::new(options.choices, options.steps, options.gates) else {
         unreachable!()
     };
-    match explore_merged(alloc, Job { program, limits }, options.states as usize) {
+    let job = Job { program, limits };
+    match explore_merged(alloc, job, options.states as usize, observer) {
         Ok(tallies) => Ok(Answer {
             verdict: Verdict::Reported,
             text: merged_report(alloc, program, &tallies)?.text,

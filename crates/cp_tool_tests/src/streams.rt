@@ -2,6 +2,7 @@
 ghost use Rattle.std.specs.Prelude.{◌≡◌};
 
 use crate::fakes::{EndlessReader, FakeRefusal, OneByteReader, OneByteWriter};
+use cp_progress::Unobserved;
 use cp_tool::{ExitStatus, Options, Wrapped, explore_stream, read_options};
 use std::alloc::Global;
 use std::io::Read;
@@ -91,7 +92,7 @@ fn told_by<X: Threads + Sync, R: Read + Drop, A: Ledger, B: Ledger>(
 {
     let mut source: Wrapped<R, A> = Wrapped::new(reader, reads);
     let mut sink: Wrapped<OneByteWriter, B> = Wrapped::new(writer, writes);
-    let status = explore_stream(rt, alloc, options, &mut source, &mut sink);
+    let status = explore_stream(rt, alloc, options, &mut Unobserved, &mut source, &mut sink);
     Told {
         status,
         text: sink.into_inner().taken,

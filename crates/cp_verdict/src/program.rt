@@ -14,7 +14,8 @@ use crate::expectation::Expectation;
 use crate::judging::Judgement;
 use crate::marking::{TableMark, judge_each, mark_of};
 use crate::seen::Seen;
-use cp_merged::{MergeFault, Tallies, Tally, explore_merged};
+use cp_merged::{MergeFault, Tallies, Tally, explore_merged_with};
+use cp_progress::ObserveProgress;
 use cp_run::OutcomeKind;
 use cp_slots::Resolved;
 use cp_walk::Job;
@@ -83,10 +84,15 @@ fn seen_of<'a>(alloc: Global, tallies: &'a [Tally]) -> Result<Vec<Seen<'a>>, All
 }
 
 /// The outcomes of a job, or what there is too much of. A layer may have so many states.
-fn outcomes_of(alloc: Global, job: Job, states: u32) -> Result<Tallies, MarkFault>
+fn outcomes_of<O: ObserveProgress>(
+    alloc: Global,
+    job: Job,
+    states: u32,
+    observer: &mut O,
+) -> Result<Tallies, MarkFault>
     ensures { IfOk result (λ ts. map tally_of ts ≡ tally same_outcome (table (slots job.entry.program.now job.entry.limits.gates) job.entry.limits.choices job.entry.limits.steps)) }
 {
-    match explore_merged(alloc, job, states as usize) {
+    match explore_merged_with(alloc, job, states as usize, observer) {
         Ok(tallies) => Ok(tallies),
         Err(MergeFault::Memory) => Err(MarkFault::Memory),
         Err(MergeFault::TooManyStates) => Err(MarkFault::TooManyStates),
@@ -114,20 +120,22 @@ pub fn mark_tallies(
     })
 }
 
-/// What the outcomes of all schedules of a job say of some expectations. A layer may have so many states.
+/// What the outcomes of all schedules of a job say of some expectations. A layer may have so many states. An observer is told how far the
+/// search has come.
 ///
 /// # Errors
 /// What there is too much of; or memory was refused.
-pub fn mark_program(
+pub fn mark_program<O: ObserveProgress>(
     alloc: Global,
     job: Job,
     states: u32,
     expectations: &[Expectation],
+    observer: &mut O,
 ) -> Result<Marked, MarkFault>
     ensures mark { IfOk result (λ m. spec.IsMarked job.entry.program.now.names expectations.entry.now (table (slots job.entry.program.now job.entry.limits.gates) job.entry.limits.choices job.entry.limits.steps) m) }
     ensures meaning { IfOk result (λ m. IsMeantMark job.entry.program.now job.entry.limits.gates job.entry.limits.choices job.entry.limits.steps expectations.entry.now m) }
 {
-    let tallies = outcomes_of(alloc, job, states)?;
+    let tallies = outcomes_of(alloc, job, states, observer)?;
     let marked = mark_tallies(alloc, job.program, expectations, tallies.as_slice())?;
     Ok(marked)
 }

@@ -20,6 +20,7 @@ use crate::watching::{Came, choose, open};
 use cp_ends::Found;
 use cp_ends::origin::Origin;
 use cp_machine::{State, Ticks};
+use cp_progress::{ObserveProgress, Progress, STATES_BETWEEN};
 use cp_run::{Limits, candidates};
 use cp_slots::Resolved;
 use std::alloc::{AllocError, Global};
@@ -32,24 +33,26 @@ struct Builder {
     graph: Graph,
 }
 
-/// The choices of each state that was found, with what happens on the way to the next one.
-pub fn graph_of(
+/// The choices of each state that was found, with what happens on the way to the next one. An observer is told how far this has come.
+pub fn graph_of<O: ObserveProgress>(
     alloc: Global,
     program: &Resolved,
     limits: Limits,
     found: &Found,
+    observer: &mut O,
 ) -> Result<Graph, AllocError>
     requires kept { HasFindings program.now found.now }
     ensures { IfOk result (λ graph. IsGraphOfAll program.now limits.gates limits.steps found.now graph) }
 {
-    build_graph::<Brand>(alloc, program, limits, found, Blank::new(1))
+    build_graph::<O, Brand>(alloc, program, limits, found, observer, Blank::new(1))
 }
 
-fn build_graph<S: Ledger>(
+fn build_graph<O: ObserveProgress, S: Ledger>(
     alloc: Global,
     program: &Resolved,
     limits: Limits,
     found: &Found,
+    observer: &mut O,
     blank: Blank,
 ) -> Result<Graph, AllocError>
     requires kept { HasFindings program.now found.now }
@@ -63,18 +66,21 @@ fn build_graph<S: Ledger>(
         graph: Graph::new(alloc, program.processes()),
     };
     let mut state = State::start(alloc, program, limits.gates)?;
-    builder.fill(alloc, program, limits, found, &mut state, &mut steps)?;
+    builder.fill(
+        alloc, program, limits, found, observer, &mut state, &mut steps,
+    )?;
     Ok(builder.graph)
 }
 
 impl Builder {
     // Follows the opening stretch, and takes the choices of each state.
-    fn fill<S: Ledger>(
+    fn fill<O: ObserveProgress, S: Ledger>(
         &mut self,
         alloc: Global,
         program: &Resolved,
         limits: Limits,
         found: &Found,
+        observer: &mut O,
         state: &mut State,
         steps: &mut Ticks<S>,
     ) -> Result<(), AllocError>
@@ -91,16 +97,19 @@ impl Builder {
         let came = open(alloc, program, limits, state, &mut passing, steps)?;
         self.note_standstill(came, Origin::Start)?;
         let mut next = state.copy(alloc)?;
-        self.go_on(alloc, program, limits, found, state, &mut next, steps)
+        self.go_on(
+            alloc, program, limits, found, observer, state, &mut next, steps,
+        )
     }
 
     // Takes the choices of each state.
-    fn go_on<S: Ledger>(
+    fn go_on<O: ObserveProgress, S: Ledger>(
         &mut self,
         alloc: Global,
         program: &Resolved,
         limits: Limits,
         found: &Found,
+        observer: &mut O,
         state: &mut State,
         next: &mut State,
         steps: &mut Ticks<S>,
@@ -110,7 +119,15 @@ impl Builder {
         requires kept { HasFindings program.now found.now }
         ensures { IfOk result (λ _. (states : List (Machine × List ℕ)) → AreAll program.now limits.gates limits.steps found.now states → IsSlotGraphTo program.now limits.gates limits.steps states 0 self.old.graph → IsSlotGraphOf program.now limits.gates limits.steps states self.new.graph) }
     {
+        let choices = most_choices(found);
         for number in 0..u32::MAX {
+            if number % STATES_BETWEEN == 0 {
+                observer.observe_progress(Progress {
+                    choices,
+                    states: number as usize,
+                    outcomes: Some(found.ends.len()),
+                });
+            }
             if !found.states.thaw_at(number, state) {
                 return Ok(());
             }
@@ -226,4 +243,20 @@ impl Builder {
         }
         Ok(())
     }
+}
+
+// How many choices lead to the last state, and so at most to each.
+fn most_choices(found: &Found) -> u32 {
+    let mut choices: u32 = 0;
+    let Ok(mut state) = u32::try_from(found.states.len().saturating_sub(1)) else {
+        return choices;
+    };
+    for _ in 0..found.states.len() {
+        let Origin::Choice { state: before, .. } = found.states.origin(state) else {
+            break;
+        };
+        choices = choices.saturating_add(1);
+        state = before;
+    }
+    choices
 }

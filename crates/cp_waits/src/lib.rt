@@ -17,7 +17,7 @@ pub mod traps;
 pub mod waiting;
 pub mod watching;
 
-pub use finding::find_waits;
+pub use finding::{find_waits, find_waits_with};
 pub use laws::law_lines_mean;
 pub use report::waits_report;
 pub use set::Set;

@@ -4,12 +4,13 @@
 ghost use Rattle.std.specs.Prelude.{◌≡◌};
 
 use cp_ends_tool::answer_stream;
+use cp_progress_line::{ObserveWork, ProgressLine, terminal_of};
 use cp_tool::{
     OptionFault, Options, SourceReading, VERSION, Wrapped, asks_version, read_options, reason_for,
 };
 use std::alloc::{AllocError, Global};
 use std::env;
-use std::io::{ErrorKind, Stdin, Stdout};
+use std::io::{ErrorKind, Stderr, Stdin, Stdout};
 use std::marker::Brand;
 use std::process::ExitCode;
 use std::sync::ledger::{Blank, Ledger};
@@ -32,15 +33,7 @@ enum RequestedWork {
 
 fn main(rt: HostRuntime) -> ExitCode {
     let code = match read_words(&rt) {
-        Ok(RequestedWork::Options(options)) => explored::<HostRuntime, Brand, Brand>(
-            &rt,
-            rt.alloc(),
-            &options,
-            rt.stdin(),
-            Blank::new(3),
-            rt.stdout(),
-            Blank::new(3),
-        ),
+        Ok(RequestedWork::Options(options)) => explore_input(&rt, &options),
         Ok(RequestedWork::Version) => printed(print!(rt; "cpx {VERSION}\n")),
         Ok(RequestedWork::Refused(why)) => {
             let _ = eprintln!(rt; "options refused");
@@ -106,11 +99,28 @@ fn read<'a>(alloc: Global, words: &'a [&'a str]) -> Result<RequestedWork, AllocE
     }
 }
 
+// The status of answering what standard input has. What long work is at is told on standard error, where that is a terminal.
+fn explore_input(rt: &HostRuntime, options: &Options) -> u8 {
+    let counted = if options.ends { "ends" } else { "outcomes" };
+    let mut line = ProgressLine::new(rt.alloc(), rt, terminal_of(rt.stderr()), counted);
+    explored::<HostRuntime, ProgressLine<&HostRuntime, Stderr>, Brand, Brand>(
+        rt,
+        rt.alloc(),
+        options,
+        &mut line,
+        rt.stdin(),
+        Blank::new(3),
+        rt.stdout(),
+        Blank::new(3),
+    )
+}
+
 /// The status of answering what standard input has; the blanks are for the counts of the streams' calls.
-fn explored<X: Threads + Sync, A: Ledger, B: Ledger>(
+fn explored<X: Threads + Sync, O: ObserveWork, A: Ledger, B: Ledger>(
     rt: &X,
     alloc: Global,
     options: &Options,
+    observer: &mut O,
     input: Stdin,
     reads: Blank,
     output: Stdout,
@@ -123,5 +133,5 @@ fn explored<X: Threads + Sync, A: Ledger, B: Ledger>(
 {
     let mut source: Wrapped<Stdin, A> = Wrapped::new(input, reads);
     let mut sink: Wrapped<Stdout, B> = Wrapped::new(output, writes);
-    answer_stream(rt, alloc, options, &mut source, &mut sink).code
+    answer_stream(rt, alloc, options, observer, &mut source, &mut sink).code
 }

@@ -19,6 +19,8 @@ use cp_front::{
     load, read_source, refusal_line, write_text,
 };
 use cp_legend::{Legend, legend_of};
+use cp_progress::ObserveProgress;
+use cp_progress_line::ObserveWork;
 use cp_show_mark::{Examinee, ShowAnswer, ShowVerdict, mark_answer, mark_of};
 use cp_show_options::{Asked, ShowPart};
 use std::alloc::{AllocError, Global};
@@ -26,10 +28,11 @@ use std::alloc::{AllocError, Global};
 /// Reads a source, shows what is asked for, and answers the exit code: 0 reported, 1 source refused, 2 no expectation or one
 /// that can't be read, 3 memory refused, 4 read or write fault, 5 too many rows, states or outcomes, 6 an expectation fails, 7 one
 /// is not settled. The whole text is built before the first write, and nothing is written after a failed read or where memory
-/// is refused.
-pub fn show_stream<R: Source, W: Sink>(
+/// is refused. An observer is told how far each search has come.
+pub fn show_stream<O: ObserveWork, R: Source, W: Sink>(
     alloc: Global,
     asked: &Asked,
+    observer: &mut O,
     source: &mut R,
     sink: &mut W,
 ) -> u8
@@ -37,15 +40,16 @@ pub fn show_stream<R: Source, W: Sink>(
     ensures told { (ending : Result ShowVerdict StreamFault) × (result ≡ code_by code_of ending) × Tells asked.now (R.remaining source.old) ending × (IsSilent ending → W.writes sink.new ≡ W.writes sink.old) × (R.failed_reads source.new + (W.failed_writes sink.new + W.empty_writes sink.new) ≡ R.failed_reads source.old + (W.failed_writes sink.old + W.empty_writes sink.old) + faults_in ending) }
     ensures reads { R.reads source.new ≤ R.reads source.old + 65536 }
 {
-    match serve(alloc, asked, source, sink) {
+    match serve(alloc, asked, observer, source, sink) {
         Ok(verdict) => verdict.code(),
         Err(fault) => fault.code(),
     }
 }
 
-fn serve<R: Source, W: Sink>(
+fn serve<O: ObserveWork, R: Source, W: Sink>(
     alloc: Global,
     asked: &Asked,
+    observer: &mut O,
     source: &mut R,
     sink: &mut W,
 ) -> Result<ShowVerdict, StreamFault>
@@ -55,7 +59,7 @@ fn serve<R: Source, W: Sink>(
     ensures reads { R.reads source.new ≤ R.reads source.old + 65536 }
 {
     match read_source(alloc, source, MOST_BYTES) {
-        Ok(bytes) => match answer_source(alloc, asked, &bytes) {
+        Ok(bytes) => match answer_source(alloc, asked, observer, &bytes) {
             Ok(answer) => write_answer(sink, &answer),
             Err(_) => Err(StreamFault::Memory),
         },
@@ -77,12 +81,19 @@ fn write_answer<W: Sink>(sink: &mut W, answer: &ShowAnswer) -> Result<ShowVerdic
 }
 
 // What is shown of a source, or why it is refused.
-fn answer_source(alloc: Global, asked: &Asked, source: &[u8]) -> Result<ShowAnswer, AllocError>
+fn answer_source<O: ObserveWork>(
+    alloc: Global,
+    asked: &Asked,
+    observer: &mut O,
+    source: &[u8],
+) -> Result<ShowAnswer, AllocError>
     ensures { IfOk result (λ a. IsOfSource asked.now source.now a.verdict) }
 {
     match load(alloc, source) {
         Ok(loaded) => {
-            let answer = show_loaded(alloc, asked, &loaded, source);
+            observer.observe_begin();
+            let answer = show_loaded(alloc, asked, observer, &loaded, source);
+            observer.observe_end();
             drop_loaded(loaded);
             answer
         }
@@ -126,22 +137,24 @@ fn refused_text(
 }
 
 // What is shown of a source that is accepted.
-fn show_loaded(
+fn show_loaded<O: ObserveProgress>(
     alloc: Global,
     asked: &Asked,
+    observer: &mut O,
     loaded: &Loaded,
     source: &[u8],
 ) -> Result<ShowAnswer, AllocError>
     ensures { IsProgramOf (tree_view loaded.now.checked.tree) loaded.now.program → IfOk result (λ a. IsOfProgram asked.now.part asked.now.options (tree_view loaded.now.checked.tree) a.verdict) }
 {
     let legend = legend_of(alloc, loaded.checked.tree())?;
-    show_named(alloc, asked, loaded, &legend, source)
+    show_named(alloc, asked, observer, loaded, &legend, source)
 }
 
 // The same with its names.
-fn show_named(
+fn show_named<O: ObserveProgress>(
     alloc: Global,
     asked: &Asked,
+    observer: &mut O,
     loaded: &Loaded,
     legend: &Legend,
     source: &[u8],
@@ -149,13 +162,14 @@ fn show_named(
     ensures { IsProgramOf (tree_view loaded.now.checked.tree) loaded.now.program → IfOk result (λ a. IsOfProgram asked.now.part asked.now.options (tree_view loaded.now.checked.tree) a.verdict) }
 {
     let lines = lines_of(alloc, source)?;
-    show_part(alloc, asked, loaded, legend, &lines, source)
+    show_part(alloc, asked, observer, loaded, legend, &lines, source)
 }
 
 // The part that is asked for.
-fn show_part(
+fn show_part<O: ObserveProgress>(
     alloc: Global,
     asked: &Asked,
+    observer: &mut O,
     loaded: &Loaded,
     legend: &Legend,
     lines: &[String],
@@ -167,17 +181,21 @@ fn show_part(
     let program = &loaded.program;
     match &asked.part {
         ShowPart::Trace { .. } | ShowPart::Lanes(_) => {
-            one_schedule(alloc, asked, program, legend, lines)
+            one_schedule(alloc, asked, observer, program, legend, lines)
         }
-        ShowPart::Page { states } => page_answer(alloc, asked, program, legend, *states, source),
+        ShowPart::Page { states } => page_answer(
+            alloc, asked, observer, program, legend, *states, source,
+        ),
         ShowPart::Outcomes { json, cover: false } => {
-            outcomes_answer(alloc, options, program, legend, lines, *json)
+            outcomes_answer(alloc, options, observer, program, legend, lines, *json)
         }
         ShowPart::Outcomes { json, cover: true } => {
-            let answer = outcomes_answer(alloc, options, program, legend, lines, *json);
-            with_coverage(alloc, options, loaded, legend, answer, *json)
+            let answer = outcomes_answer(alloc, options, observer, program, legend, lines, *json);
+            with_coverage(alloc, options, observer, loaded, legend, answer, *json)
         }
-        ShowPart::Ends { json } => ends_answer(alloc, options, program, legend, lines, *json),
+        ShowPart::Ends { json } => ends_answer(
+            alloc, options, observer, program, legend, lines, *json,
+        ),
         ShowPart::Mark {
             words,
             reading,
@@ -192,8 +210,8 @@ fn show_part(
                 as_json: *json,
             };
             match reading {
-                Some(reading) => mark_of(alloc, examinee, reading),
-                None => mark_answer(alloc, examinee, words.as_str(), *own, source),
+                Some(reading) => mark_of(alloc, examinee, observer, reading),
+                None => mark_answer(alloc, examinee, observer, words.as_str(), *own, source),
             }
         }
         ShowPart::Refusal { json, file } => show_accepted(alloc, loaded, *json, file, source),

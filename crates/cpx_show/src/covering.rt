@@ -5,15 +5,17 @@ use cp_cover::{
 };
 use cp_front::Loaded;
 use cp_legend::Legend;
+use cp_progress::ObserveProgress;
 use cp_show_mark::ShowAnswer;
 use cp_show_options::limits_of;
 use cp_tool::Options;
 use std::alloc::{AllocError, Global};
 
 /// An answer that has the outcomes, with what no schedule comes to after them.
-pub fn with_coverage(
+pub fn with_coverage<O: ObserveProgress>(
     alloc: Global,
     options: &Options,
+    observer: &mut O,
     loaded: &Loaded,
     legend: &Legend,
     answer: Result<ShowAnswer, AllocError>,
@@ -23,6 +25,7 @@ pub fn with_coverage(
     let text = text_with_gaps(
         alloc,
         options,
+        observer,
         loaded,
         legend,
         answer.text.as_str(),
@@ -34,15 +37,16 @@ pub fn with_coverage(
     })
 }
 
-fn text_with_gaps(
+fn text_with_gaps<O: ObserveProgress>(
     alloc: Global,
     options: &Options,
+    observer: &mut O,
     loaded: &Loaded,
     legend: &Legend,
     told: &str,
     as_json: bool,
 ) -> Result<String, AllocError> {
-    let gaps = gaps_within(alloc, options, loaded, legend)?;
+    let gaps = gaps_within(alloc, options, observer, loaded, legend)?;
     if as_json {
         let cover = json_of(alloc, &gaps)?;
         with_member(alloc, told, cover.as_str())
@@ -53,13 +57,20 @@ fn text_with_gaps(
 }
 
 // What no schedule within the limits of the options comes to.
-fn gaps_within(
+fn gaps_within<O: ObserveProgress>(
     alloc: Global,
     options: &Options,
+    observer: &mut O,
     loaded: &Loaded,
     legend: &Legend,
 ) -> Result<Gaps, AllocError> {
-    let coverage = find_coverage(alloc, &loaded.program, limits_of(options), options.states)?;
+    let coverage = find_coverage(
+        alloc,
+        &loaded.program,
+        limits_of(options),
+        options.states,
+        observer,
+    )?;
     gaps_beside(alloc, loaded, legend, &coverage)
 }
 

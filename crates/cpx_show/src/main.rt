@@ -11,11 +11,12 @@ mod summaries;
 ghost use Rattle.std.specs.Prelude.{◌≡◌};
 
 use crate::answering::show_stream;
+use cp_progress_line::{ObserveWork, ProgressLine, terminal_of};
 use cp_show_options::{Asked, read_parts, refused_part};
 use cp_tool::{OptionFault, VERSION, Wrapped, asks_version};
 use std::alloc::{AllocError, Global};
 use std::env;
-use std::io::{ErrorKind, Stdin, Stdout};
+use std::io::{ErrorKind, Stderr, Stdin, Stdout};
 use std::marker::Brand;
 use std::process::ExitCode;
 use std::sync::ledger::{Blank, Ledger};
@@ -33,14 +34,7 @@ enum Wish {
 fn main(rt: HostRuntime) -> ExitCode {
     let code = match read_words(&rt) {
         Ok(Wish::Part(asked)) => {
-            let code = show::<Brand, Brand>(
-                rt.alloc(),
-                &asked,
-                rt.stdin(),
-                Blank::new(3),
-                rt.stdout(),
-                Blank::new(3),
-            );
+            let code = show_input(&rt, &asked);
             if code == 1 && !asked.part.tells_refusal() {
                 let _ = eprintln!(rt; "./show refusal says why");
             }
@@ -108,10 +102,30 @@ fn wish_of<'a>(alloc: Global, words: &'a [&'a str]) -> Result<Wish, AllocError> 
     }
 }
 
+// The status of showing standard input. What long work is at is told on standard error, where that is a terminal.
+fn show_input(rt: &HostRuntime, asked: &Asked) -> u8 {
+    let counted = if asked.options.ends {
+        "ends"
+    } else {
+        "outcomes"
+    };
+    let mut line = ProgressLine::new(rt.alloc(), rt, terminal_of(rt.stderr()), counted);
+    show::<ProgressLine<&HostRuntime, Stderr>, Brand, Brand>(
+        rt.alloc(),
+        asked,
+        &mut line,
+        rt.stdin(),
+        Blank::new(3),
+        rt.stdout(),
+        Blank::new(3),
+    )
+}
+
 /// The status of showing standard input; the blanks are for the counts of the streams' calls.
-fn show<A: Ledger, B: Ledger>(
+fn show<O: ObserveWork, A: Ledger, B: Ledger>(
     alloc: Global,
     asked: &Asked,
+    observer: &mut O,
     input: Stdin,
     reads: Blank,
     output: Stdout,
@@ -124,5 +138,5 @@ fn show<A: Ledger, B: Ledger>(
 {
     let mut source: Wrapped<Stdin, A> = Wrapped::new(input, reads);
     let mut sink: Wrapped<Stdout, B> = Wrapped::new(output, writes);
-    show_stream(alloc, asked, &mut source, &mut sink)
+    show_stream(alloc, asked, observer, &mut source, &mut sink)
 }

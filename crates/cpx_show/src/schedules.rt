@@ -7,6 +7,7 @@ use cp_lanes::{PictureSubject, PictureView, picture_in};
 use cp_legend::Legend;
 use cp_merged::word::word_of;
 use cp_outcomes::{First, first_of_outcome, simplest_of_outcome};
+use cp_progress::ObserveProgress;
 use cp_prose::Prose;
 use cp_show_mark::{ShowAnswer, ShowVerdict, story_of};
 use cp_show_options::{Asked, ShowPart, limits_of};
@@ -17,14 +18,15 @@ use cp_walk::{Job, trace_report};
 use std::alloc::{AllocError, Global};
 
 /// A part of one schedule.
-pub fn one_schedule(
+pub fn one_schedule<O: ObserveProgress>(
     alloc: Global,
     asked: &Asked,
+    observer: &mut O,
     program: &Resolved,
     legend: &Legend,
     source: &[String],
 ) -> Result<ShowAnswer, AllocError> {
-    match schedule_asked(alloc, asked, program)? {
+    match schedule_asked(alloc, asked, observer, program)? {
         First::Word(word) => {
             let text = schedule_part(alloc, asked, program, legend, source, word.as_slice());
             reported(text)
@@ -43,9 +45,10 @@ pub fn reported(text: Result<String, AllocError>) -> Result<ShowAnswer, AllocErr
 }
 
 /// The schedule that is given, or the first or the simplest one of the outcome that is.
-pub fn schedule_asked(
+pub fn schedule_asked<O: ObserveProgress>(
     alloc: Global,
     asked: &Asked,
+    observer: &mut O,
     program: &Resolved,
 ) -> Result<First, AllocError> {
     let options = &asked.options;
@@ -57,9 +60,9 @@ pub fn schedule_asked(
         limits: limits_of(options),
     };
     if asked.simplest {
-        simplest_of_outcome(alloc, job, options.states, number)
+        simplest_of_outcome(alloc, job, options.states, number, observer)
     } else {
-        first_of_outcome(alloc, job, options.states, number)
+        first_of_outcome(alloc, job, options.states, number, observer)
     }
 }
 

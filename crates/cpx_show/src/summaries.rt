@@ -7,6 +7,7 @@ use cp_ends_story::{EndsFormat, EndsSubject, ends_story};
 use cp_legend::Legend;
 use cp_outcomes::{First, Format, Subject, outcomes};
 use cp_page::{Length, PageSubject, page};
+use cp_progress::ObserveProgress;
 use cp_show_mark::{ShowAnswer, ShowVerdict};
 use cp_show_options::{Asked, limits_of, longest_limits_of};
 use cp_slots::Resolved;
@@ -14,15 +15,16 @@ use cp_tool::Options;
 use std::alloc::{AllocError, Global};
 
 /// A page on which the scheduler is played.
-pub fn page_answer(
+pub fn page_answer<O: ObserveProgress>(
     alloc: Global,
     asked: &Asked,
+    observer: &mut O,
     program: &Resolved,
     legend: &Legend,
     states: u32,
     source: &[u8],
 ) -> Result<ShowAnswer, AllocError> {
-    match schedule_asked(alloc, asked, program)? {
+    match schedule_asked(alloc, asked, observer, program)? {
         First::Word(word) => {
             let subject = PageSubject {
                 program,
@@ -34,7 +36,7 @@ pub fn page_answer(
                 word: word.as_slice(),
                 round: asked.round,
             };
-            reported(page(alloc, subject))
+            reported(page(alloc, subject, observer))
         }
         First::None(count) => no_outcome(alloc, count),
         First::NotSearched => not_searched(alloc, asked),
@@ -50,9 +52,10 @@ fn length_of(options: &Options) -> Length {
 }
 
 /// The outcomes of all schedules.
-pub fn outcomes_answer(
+pub fn outcomes_answer<O: ObserveProgress>(
     alloc: Global,
     options: &Options,
+    observer: &mut O,
     program: &Resolved,
     legend: &Legend,
     source: &[String],
@@ -66,7 +69,7 @@ pub fn outcomes_answer(
         source,
     };
     let form = if as_json { Format::Json } else { Format::Text };
-    let told = outcomes(alloc, subject, form)?;
+    let told = outcomes(alloc, subject, form, observer)?;
     Ok(ShowAnswer {
         verdict: verdict_on(told.is_whole),
         text: told.text,
@@ -82,9 +85,10 @@ fn verdict_on(is_whole: bool) -> ShowVerdict {
 }
 
 /// The ends of schedules of any length.
-pub fn ends_answer(
+pub fn ends_answer<O: ObserveProgress>(
     alloc: Global,
     options: &Options,
+    observer: &mut O,
     program: &Resolved,
     legend: &Legend,
     source: &[String],
@@ -104,7 +108,7 @@ pub fn ends_answer(
     } else {
         EndsFormat::Text
     };
-    let told = ends_story(alloc, subject, form)?;
+    let told = ends_story(alloc, subject, form, observer)?;
     Ok(ShowAnswer {
         verdict: verdict_on(told.is_whole),
         text: told.text,

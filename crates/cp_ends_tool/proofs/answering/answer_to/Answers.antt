@@ -10,7 +10,7 @@ use Rattle.cp_refine.specs.Named.{named, named_gates}
 use Rattle.cp_ends_tool.proofs.answering.answer_to.Goals as goal
 
 pub returns-in-Ok : goal.returns-in-Ok
-returns-in-Ok c =
+returns-in-Ok g c =
     let o = c.args.options.now in
     let l = c.in-Ok.loaded in
     let t = tree_view l.checked.tree in
@@ -21,4 +21,4 @@ returns-in-Ok c =
     IfOk-weaker c.answer_for-answer.result _ _ (λ a h. inl (l.tokens, t, loads, ((program, is, h t (read_by c.args.source.now l.tokens t loads) loads.accepted is), alone))) c.answer_for-answer.ensures
 
 pub returns-in-Err : goal.returns-in-Err
-returns-in-Err c = IfOk-weaker c.answer_refusal.result _ _ (λ a h. inr (h.0, (c.in-Err.refusal, c.in-Err.ensures.refused, h.1))) c.answer_refusal.ensures
+returns-in-Err g c = IfOk-weaker c.answer_refusal.result _ _ (λ a h. inr (h.0, (c.in-Err.refusal, c.in-Err.ensures.refused, h.1))) c.answer_refusal.ensures

@@ -3,7 +3,7 @@ use Rattle.cp_ends_tool.proofs.Finding.{told_by}
 use Rattle.cp_ends_tool.proofs.searching.ends_answer.Goals as goal
 
 pub returns : goal.returns
-returns c =
+returns g c =
     let o = c.args.options.now in
     let r = c.args.program.now in
     let l = c.args.limits in

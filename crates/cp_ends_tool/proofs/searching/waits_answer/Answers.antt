@@ -6,7 +6,7 @@ use Rattle.cp_ends_tool.proofs.Finding.{waits_told}
 use Rattle.cp_ends_tool.proofs.searching.waits_answer.Goals as goal
 
 pub returns : goal.returns
-returns c = λ t read ok is x.
+returns g c = λ t read ok is x.
     let o = c.args.options.now in
     let r = c.args.program.now in
     let f = x.findings in

@@ -6,7 +6,7 @@ use Rattle.cp_ends_verdict.proofs.MeantAtOnce.{marked_at_once, of_first}
 use Rattle.cp_ends_verdict.proofs.at_once.mark_at_once.Goals as goal
 
 pub returns-clause-mark : goal.returns-clause-mark
-returns-clause-mark c = λ can.
+returns-clause-mark g c = λ can.
     let r = c.args.subject.program.now in
     let steps = c.args.subject.limits.steps in
     let k = c.in_ok-known.known in

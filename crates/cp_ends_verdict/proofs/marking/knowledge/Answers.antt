@@ -4,7 +4,7 @@ use Rattle.cp_ends_verdict.specs.Knowledge.{IsKnown}
 use Rattle.cp_ends_verdict.proofs.marking.knowledge.Goals as goal
 
 pub returns : goal.returns
-returns c = λ some.
+returns g c = λ some.
     let r = c.args.subject.program.now in
     let gates = c.args.subject.limits.gates in
     let steps = c.args.subject.limits.steps in

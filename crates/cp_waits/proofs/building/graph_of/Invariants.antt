@@ -1,4 +1,4 @@
 use Rattle.cp_waits.proofs.building.graph_of.Given as goal
 
 abbrev pub ghosts-build_graph : goal.ghosts-build_graph
-ghosts-build_graph a = record { name = a.blank.name; parts = a.blank.parts }
+ghosts-build_graph g a = record { name = a.blank.name; parts = a.blank.parts }

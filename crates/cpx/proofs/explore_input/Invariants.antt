@@ -1,4 +1,4 @@
-use Rattle.cpx.proofs.main.Given as goal
+use Rattle.cpx.proofs.explore_input.Given as goal
 
 abbrev pub ghosts-explored-A-Ledger : goal.ghosts-explored-A-Ledger
 ghosts-explored-A-Ledger g a = record { name = a.reads.name; parts = a.reads.parts }

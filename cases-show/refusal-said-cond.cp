@@ -1,0 +1,1 @@
+type m = monitor; var q: cond; begin end; begin end.

@@ -1,0 +1,1 @@
+type p = process; begin end; var a: p; x: integer; begin x := 1; case x of 1: init a; 2: init a end end.

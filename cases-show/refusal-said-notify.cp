@@ -1,0 +1,1 @@
+begin notify(q) end.

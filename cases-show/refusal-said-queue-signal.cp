@@ -1,0 +1,1 @@
+type m = monitor; var q: queue; procedure entry e; begin q.signal end; begin end; begin end.

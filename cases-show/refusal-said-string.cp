@@ -1,0 +1,1 @@
+var s: string; begin end.
