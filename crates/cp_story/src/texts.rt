@@ -50,7 +50,10 @@ fn push_left(text: &mut String, left: usize) -> Result<(), AllocError> {
     match left {
         0 => Ok(()),
         1 => text.push_str("the last number is not used: the run has ended before it\n"),
-        _ => write!(text, "the last {left} numbers are not used: the run has ended before them\n"),
+        _ => write!(
+            text,
+            "the last {left} numbers are not used: the run has ended before them\n"
+        ),
     }
 }
 
