@@ -1,4 +1,4 @@
-use Rattle.std.proofs.Common.{◌≡◌, ◌++◌, ◌∷◌, [], ◌∙◌, ◌-◌, length, take, ap, subst, arith}
+use Rattle.std.proofs.Common.{◌≡◌, ◌++◌, ◌∷◌, [], ◌∙◌, ◌-◌, ℕ, List, length, take, ap, subst, arith}
 use Rattle.std.proofs.lemmas.List.{length-append, take_at}
 use Rattle.cp_machine.specs.Bodies.{has_moved, KeepBodies}
 use Rattle.cp_machine.specs.System.{Machine, machine_of}
@@ -8,6 +8,7 @@ use Rattle.cp_run.specs.Slots.{slots}
 use Rattle.cp_walk.specs.Report.{same_outcome}
 use Rattle.cp_merged.specs.Layers as layers
 use Rattle.cp_merged.specs.Holds.{same_key, Holds}
+use Rattle.cp_merged.specs.declared.prefixes.Prefixes as code
 use Rattle.cp_merged.proofs.Arriving.{choice_holds}
 use Rattle.cp_merged.proofs.Choosing.{ok_to}
 use Rattle.cp_merged.proofs.layering.take_choice.Goals as goal
@@ -45,4 +46,5 @@ returns-clause-same g c =
     let all = ap length more in
     let long = length-append word (c.args.process ∷ []) in
     let back : c.pop.new.self.items ≡ word = c.pop.ensures.rest ∙ ap (take (length longer - 1)) more ∙ take_at word (c.args.process ∷ []) (length longer - 1) (omega (arith, all, long)) in
-    grind back
+    let whole : List ℕ → code.Prefixes = λ items. record { count = c.args.prefixes.now.count; first = record { items = items } } in
+    ap whole back
