@@ -90,8 +90,18 @@ fn take_choices<S: Ledger, C: Ledger>(
         next.take_moved(state, moved);
         *moved = Moved::nobody();
         take_choice(
-            alloc, program, limits, next, &mut arriving, *process, state, known, moved, frontier,
-            steps, calls,
+            alloc,
+            program,
+            limits,
+            next,
+            &mut arriving,
+            *process,
+            state,
+            known,
+            moved,
+            frontier,
+            steps,
+            calls,
         )?;
     }
     Ok(())
