@@ -146,6 +146,8 @@ impl Frontier {
     }
 
     /// Words arrive at a state, where the run stands still.
+    // Else its call is made at each arrival.
+    #[inline(always)]
     pub fn add(
         &mut self,
         alloc: Global,
