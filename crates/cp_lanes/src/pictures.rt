@@ -56,7 +56,7 @@ pub struct Texts {
     /// None beside a stop.
     pub labels: Vec<Option<PictureLabel>>,
     /// What changed, in lines.
-    pub changes: Vec<Vec<String>>,
+    pub changes: Vec<Vec<ChangeWords>>,
 }
 
 /// How much larger a plain picture is.
@@ -221,21 +221,32 @@ pub fn source_line(source: &[String], line: u32) -> &str {
     }
 }
 
-// What changed in each row, in lines that are as wide as their column.
+/// What changed in a monitor, or a line of that.
+#[derive(Drop)]
+pub struct ChangeWords {
+    pub monitor: u8,
+    pub words: String,
+}
+
+// What changed in each row, in lines that are as wide as their column. Each monitor begins a line.
 fn changes_in_lines(
     alloc: Global,
     scene: Scene<'_>,
     sheet: &Sheet,
     width: f64,
-) -> Result<Vec<Vec<String>>, AllocError> {
+) -> Result<Vec<Vec<ChangeWords>>, AllocError> {
     let mut all = Vec::new(alloc);
     for row in &sheet.rows {
-        let words = changes_words(alloc, scene.legend, row.events(scene.story))?;
-        all.push(if words.is_empty() {
-            Vec::new(alloc)
-        } else {
-            wrap(alloc, words.as_str(), width, 10.5 * WIDTH)?
-        })?;
+        let mut lines = Vec::new(alloc);
+        for part in &changes_by_monitor(alloc, scene.legend, row.events(scene.story))? {
+            for words in wrap(alloc, part.words.as_str(), width, 10.5 * WIDTH)? {
+                lines.push(ChangeWords {
+                    monitor: part.monitor,
+                    words,
+                })?;
+            }
+        }
+        all.push(lines)?;
     }
     Ok(all)
 }
@@ -247,17 +258,31 @@ pub fn changes_words(
     events: &[StoryEvent],
 ) -> Result<String, AllocError> {
     let mut text = String::new(alloc);
-    let mut named = None;
+    for part in &changes_by_monitor(alloc, legend, events)? {
+        if !text.is_empty() {
+            text.push_str(", ")?;
+        }
+        text.push_str(part.words.as_str())?;
+    }
+    Ok(text)
+}
+
+// What changed in some events, in each monitor that follows another one.
+fn changes_by_monitor(
+    alloc: Global,
+    legend: &Legend,
+    events: &[StoryEvent],
+) -> Result<Vec<ChangeWords>, AllocError> {
+    let mut all = Vec::new(alloc);
     for (place, event) in events.iter().enumerate() {
         let later = events.get(place.saturating_add(1)..).unwrap_or(&[]);
         for change in &event.changes {
             if !is_changed(later, change) {
-                push_change(legend, &mut text, change, named)?;
-                named = Some(change.monitor);
+                push_change(alloc, legend, &mut all, change)?;
             }
         }
     }
-    Ok(text)
+    Ok(all)
 }
 
 // Whether the same variable is changed in one of these events.
@@ -273,19 +298,33 @@ fn is_changed(events: &[StoryEvent], change: &Change) -> bool {
 }
 
 fn push_change(
+    alloc: Global,
     legend: &Legend,
-    text: &mut String,
+    all: &mut Vec<ChangeWords>,
     change: &Change,
-    named: Option<u8>,
 ) -> Result<(), AllocError> {
-    if !text.is_empty() {
-        text.push_str(", ")?;
+    let last = all.len().saturating_sub(1);
+    if let Some(part) = all.get_mut(last) {
+        if part.monitor == change.monitor {
+            part.words.push_str(", ")?;
+            return push_new_value(&mut part.words, change);
+        }
     }
-    if legend.monitors() > 1 && named != Some(change.monitor) {
-        text.push_str(legend.monitor_name(change.monitor))?;
-        text.push_str(": ")?;
+    let mut words = String::new(alloc);
+    if legend.monitors() > 1 {
+        words.push_str(legend.monitor_name(change.monitor))?;
+        words.push_str(": ")?;
     }
-    text.push_str(change.name.as_str())?;
-    text.push_str(" := ")?;
-    change.value.push_to(text)
+    push_new_value(&mut words, change)?;
+    all.push(ChangeWords {
+        monitor: change.monitor,
+        words,
+    })?;
+    Ok(())
+}
+
+fn push_new_value(words: &mut String, change: &Change) -> Result<(), AllocError> {
+    words.push_str(change.name.as_str())?;
+    words.push_str(" := ")?;
+    change.value.push_to(words)
 }

@@ -4,7 +4,7 @@ use crate::draw::draw_resumed;
 use crate::key::draw_lost;
 use crate::labels::{Face, PictureLabel, cut_fixed, pill_width, points};
 use crate::palette::{GREY, INK, PALE, RED, hue_of};
-use crate::pictures::{Scene, Texts, changes_words, source_line};
+use crate::pictures::{ChangeWords, Scene, Texts, changes_words, source_line};
 use crate::plan::{Plan, ROW};
 use crate::sheet::{Fold, LINE, PictureRow, Sheet};
 use crate::spans::Spans;
@@ -43,13 +43,13 @@ fn draw_row(
     spans: &Spans,
     row: PictureRow,
     label: &Option<PictureLabel>,
-    changes: &[String],
+    changes: &[ChangeWords],
 ) {
     if let (Some(first), Some(label)) = (row.events(scene.story).first(), label) {
         open_row(alloc, svg, scene, row);
         draw_number(alloc, svg, row);
         draw_event(alloc, svg, scene, plan, spans, row, first, label);
-        draw_changes(svg, plan, first, changes, row.middle());
+        draw_changes(svg, plan, changes, row.middle());
         draw_source(alloc, svg, scene, plan, first.line, row.middle());
         svg.close();
         return;
@@ -400,19 +400,15 @@ fn draw_arrow(
     }
 }
 
-fn draw_changes(svg: &mut Svg, plan: &Plan, event: &StoryEvent, lines: &[String], y: f64) {
-    let monitor = match event.changes.first() {
-        Some(change) => change.monitor,
-        None => 0,
-    };
-    let style = Style {
-        size: 10.5,
-        fill: hue_of(monitor).strong,
-        more: "",
-    };
+fn draw_changes(svg: &mut Svg, plan: &Plan, lines: &[ChangeWords], y: f64) {
     let mut at = y + 4.0 - points(lines.len().saturating_sub(1)) * LINE / 2.0;
     for line in lines {
-        svg.words(plan.changes.left, at, style, line.as_str());
+        let style = Style {
+            size: 10.5,
+            fill: hue_of(line.monitor).strong,
+            more: "",
+        };
+        svg.words(plan.changes.left, at, style, line.words.as_str());
         at += LINE;
     }
 }

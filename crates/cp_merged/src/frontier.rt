@@ -18,8 +18,7 @@ ghost use Rattle.cp_merged.specs.Code.{keyed, end_of};
 ghost use Rattle.cp_merged.specs.Holds.{same_key, AreLeads, AreEnds, Holds, words_of, counts, total};
 
 use crate::end_key::EndKey;
-use crate::prefixes::Prefixes;
-use crate::word::word_of;
+use crate::prefixes::{Prefixes, copy_of};
 use cp_machine::{Moved, State};
 use cp_run::{Halt, OutcomeKind, outcome_at};
 use cp_states::{StateRow, Store};
@@ -63,15 +62,6 @@ fn add_end(ended: &mut Ends, key: EndKey, prefixes: &Prefixes) -> Result<(), All
         }
     }
     Ok(())
-}
-
-fn copy_of(prefixes: &Prefixes) -> Prefixes
-    ensures { result ≡ prefixes.now }
-{
-    Prefixes {
-        count: prefixes.count,
-        first: word_of(prefixes.first.as_slice()),
-    }
 }
 
 /// Where words have arrived: the outcomes of those that have ended, and the layer that is made.
@@ -156,6 +146,8 @@ impl Frontier {
     }
 
     /// Words arrive at a state, where the run stands still.
+    // Else its call is made at each arrival.
+    #[inline(always)]
     pub fn add(
         &mut self,
         alloc: Global,

@@ -14,8 +14,7 @@ ghost use Rattle.cp_merged.specs.TooMany.{HasTooManyStates};
 
 use crate::fault::MergeFault;
 use crate::frontier::{Frontier, Layer};
-use crate::prefixes::Prefixes;
-use crate::word::longer;
+use crate::prefixes::{Prefixes, copy_of};
 use cp_machine::{Moved, State, Ticks};
 use cp_progress::{ObserveProgress, Progress, STATES_BETWEEN};
 use cp_run::{Limits, OutcomeKind, candidates, choose};
@@ -24,13 +23,14 @@ use cp_states::StateRow;
 use std::alloc::{AllocError, Global};
 use std::sync::ledger::Ledger;
 
-/// A lead goes one choice on with a process that may be chosen, in a copy of the state before.
+/// A lead goes one choice on with a process that may be chosen, in a copy of the state before. The first word becomes longer and then
+/// shorter again, so that it is copied once for all choices.
 fn take_choice<S: Ledger, C: Ledger>(
     alloc: Global,
     program: &Resolved,
     limits: Limits,
     state: &mut State,
-    prefixes: &Prefixes,
+    prefixes: &mut Prefixes,
     process: u8,
     before: &State,
     known: &StateRow,
@@ -41,21 +41,21 @@ fn take_choice<S: Ledger, C: Ledger>(
 ) -> Result<(), AllocError>
     requires own { IsStateOf program.now state.old }
     requires may { may (slots program.now limits.gates) (machine_of state.old) process ≡ true }
-    requires room { length prefixes.now.first.items < 100 }
-    requires small { (f : layers.Front Machine) × Holds program.now frontier.old.store frontier.old.ended.entries frontier.old.layer.entries f × (total f + prefixes.now.count < 10 ^ 126) }
+    requires room { length prefixes.old.first.items < 100 }
+    requires small { (f : layers.Front Machine) × Holds program.now frontier.old.store frontier.old.ended.entries frontier.old.layer.entries f × (total f + prefixes.old.count < 10 ^ 126) }
     requires copied { machine_of state.old ≡ machine_of before.now }
     requires known { IsRowOf frontier.old.store known.now.numbers (machine_of before.now) }
     ensures own { IsStateOf program.now state.new }
     ensures moved { KeepBodies (has_moved moved.new) (machine_of state.old) (machine_of state.new) }
     ensures kept { IfOk result (λ _. KeepParts frontier.old.store frontier.new.store) }
-    ensures front { IfOk result (λ _. (f : layers.Front Machine) → Holds program.now frontier.old.store frontier.old.ended.entries frontier.old.layer.entries f → Holds program.now frontier.new.store frontier.new.ended.entries frontier.new.layer.entries (layers.after_choice (slots program.now limits.gates) same_outcome same_key limits.steps (record { state = machine_of state.old; first = prefixes.now.first.items; count = prefixes.now.count }) process f)) }
+    ensures same { prefixes.new ≡ prefixes.old }
+    ensures front { IfOk result (λ _. (f : layers.Front Machine) → Holds program.now frontier.old.store frontier.old.ended.entries frontier.old.layer.entries f → Holds program.now frontier.new.store frontier.new.ended.entries frontier.new.layer.entries (layers.after_choice (slots program.now limits.gates) same_outcome same_key limits.steps (record { state = machine_of state.old; first = prefixes.old.first.items; count = prefixes.old.count }) process f)) }
 {
     let halt = choose(program, limits, state, process, moved, steps, calls);
-    let arriving = Prefixes {
-        count: prefixes.count,
-        first: longer(prefixes.first.as_slice(), process),
-    };
-    frontier.add(alloc, state, halt, before, known, moved, &arriving)
+    prefixes.first.push(process);
+    let added = frontier.add(alloc, state, halt, before, known, moved, prefixes);
+    let _ = prefixes.first.pop();
+    added
 }
 
 /// A lead goes one choice on with each process that may be chosen, in a copy of its state. `moved` are the processes whose bodies the
@@ -85,11 +85,22 @@ fn take_choices<S: Ledger, C: Ledger>(
     ensures front { IfOk result (λ _. (f : layers.Front Machine) → Holds program.now frontier.old.store frontier.old.ended.entries frontier.old.layer.entries f → Holds program.now frontier.new.store frontier.new.ended.entries frontier.new.layer.entries (layers.after_choices (slots program.now limits.gates) same_outcome same_key limits.steps (record { state = machine_of state.now; first = prefixes.now.first.items; count = prefixes.now.count }) (processes_of program.now) f)) }
 {
     let numbers = candidates(program, limits, state);
+    let mut arriving = copy_of(prefixes);
     for process in numbers.as_slice() {
         next.take_moved(state, moved);
         *moved = Moved::nobody();
         take_choice(
-            alloc, program, limits, next, prefixes, *process, state, known, moved, frontier, steps,
+            alloc,
+            program,
+            limits,
+            next,
+            &mut arriving,
+            *process,
+            state,
+            known,
+            moved,
+            frontier,
+            steps,
             calls,
         )?;
     }

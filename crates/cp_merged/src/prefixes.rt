@@ -27,6 +27,16 @@ impl Prefixes {
     }
 }
 
+/// The same words once more.
+pub fn copy_of(prefixes: &Prefixes) -> Prefixes
+    ensures { result ≡ prefixes.now }
+{
+    Prefixes {
+        count: prefixes.count,
+        first: word_of(prefixes.first.as_slice()),
+    }
+}
+
 // Whether a word comes after another one in dictionary order. Words are short, and most differ soon.
 fn is_after(word: &[u8], other: &[u8]) -> bool
     ensures { result ≡ not (up_to word.now other.now) }

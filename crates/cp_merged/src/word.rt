@@ -1,6 +1,6 @@
 //! Words of up to 100 numbers.
 
-ghost use Rattle.std.specs.Prelude.{◌≡◌, ◌≤◌, ◌<◌, ◌++◌, ◌∷◌, [], length};
+ghost use Rattle.std.specs.Prelude.{◌≡◌, ◌≤◌, length};
 
 use arrayvec::ArrayVec;
 
@@ -15,14 +15,4 @@ pub fn word_of(numbers: &[u8]) -> Word
     let mut word = ArrayVec::new();
     let _ = word.try_extend_from_slice(numbers);
     word
-}
-
-/// A word, one number longer.
-pub fn longer(word: &[u8], number: u8) -> Word
-    requires { length word.now < 100 }
-    ensures { result.items ≡ word.now ++ number ∷ [] }
-{
-    let mut longer = word_of(word);
-    longer.push(number);
-    longer
 }

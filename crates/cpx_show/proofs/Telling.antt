@@ -1,4 +1,4 @@
--- What is told of a source.
+-- From what was read to what is told of it.
 use Rattle.std.proofs.Common.{◌≡◌, ℕ, List, Option, None, Some, Result, Ok, Err, IfOk, IfSome, take, subst, sym}
 use Rattle.cp_front.specs.declared.transfer.StreamFault.{StreamFault}
 use Rattle.cp_show_mark.specs.declared.answer.ShowVerdict.{ShowVerdict}

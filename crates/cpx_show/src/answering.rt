@@ -40,7 +40,14 @@ pub fn show_stream<O: ObserveWork, R: Source, W: Sink>(
     ensures told { (ending : Result ShowVerdict StreamFault) × (result ≡ code_by code_of ending) × Tells asked.now (R.remaining source.old) ending × (IsSilent ending → W.writes sink.new ≡ W.writes sink.old) × (R.failed_reads source.new + (W.failed_writes sink.new + W.empty_writes sink.new) ≡ R.failed_reads source.old + (W.failed_writes sink.old + W.empty_writes sink.old) + faults_in ending) }
     ensures reads { R.reads source.new ≤ R.reads source.old + 65536 }
 {
-    match serve(alloc, asked, observer, source, sink) {
+    status_of(serve(alloc, asked, observer, source, sink))
+}
+
+// The exit code of what was told, or of what came in between.
+fn status_of(ending: Result<ShowVerdict, StreamFault>) -> u8
+    ensures { result ≡ code_by code_of ending }
+{
+    match ending {
         Ok(verdict) => verdict.code(),
         Err(fault) => fault.code(),
     }

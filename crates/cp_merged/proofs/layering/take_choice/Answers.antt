@@ -1,4 +1,5 @@
-use Rattle.std.proofs.Common.{◌≡◌, ◌++◌, ◌∷◌, [], ◌∙◌, ap, subst}
+use Rattle.std.proofs.Common.{◌≡◌, ◌++◌, ◌∷◌, [], ◌∙◌, ◌-◌, ℕ, List, length, take, ap, subst, arith}
+use Rattle.std.proofs.lemmas.List.{length-append, take_at}
 use Rattle.cp_machine.specs.Bodies.{has_moved, KeepBodies}
 use Rattle.cp_machine.specs.System.{Machine, machine_of}
 use Rattle.cp_machine.proofs.Unmoved.{keep_refl}
@@ -7,31 +8,43 @@ use Rattle.cp_run.specs.Slots.{slots}
 use Rattle.cp_walk.specs.Report.{same_outcome}
 use Rattle.cp_merged.specs.Layers as layers
 use Rattle.cp_merged.specs.Holds.{same_key, Holds}
+use Rattle.cp_merged.specs.declared.prefixes.Prefixes as code
 use Rattle.cp_merged.proofs.Arriving.{choice_holds}
 use Rattle.cp_merged.proofs.Choosing.{ok_to}
 use Rattle.cp_merged.proofs.layering.take_choice.Goals as goal
 
-pub add-requires-clause-moved : goal.add-requires-clause-moved
-add-requires-clause-moved g c =
+pub add-added-requires-clause-moved : goal.add-added-requires-clause-moved
+add-added-requires-clause-moved g c =
     let m = machine_of c.args.state.now in
     subst (λ before. KeepBodies (has_moved c.choose-halt.new.watch) before (machine_of c.choose-halt.new.state)) c.requires.copied (c.choose-halt.ensures.kept m (keep_refl (has_moved c.args.moved.now) m))
 
 pub returns-clause-moved : goal.returns-clause-moved
 returns-clause-moved g c = let m = machine_of c.args.state.now in c.choose-halt.ensures.kept m (keep_refl (has_moved c.args.moved.now) m)
 
-pub add-requires-clause-small : goal.add-requires-clause-small
-add-requires-clause-small g c = (c.args.program.now, c.requires.small.0, c.requires.small.1, c.requires.small.2)
+pub add-added-requires-clause-small : goal.add-added-requires-clause-small
+add-added-requires-clause-small g c = (c.args.program.now, c.requires.small.0, c.requires.small.1, c.requires.small.2)
 
 pub returns-clause-front : goal.returns-clause-front
 returns-clause-front g c =
     let r = c.args.program.now in
     let l = c.args.limits in
     let old = c.args.frontier.now in
-    let new = c.add.new.self in
+    let new = c.add-added.new.self in
     let m = machine_of c.args.state.now in
     let node = node_of c.choose-halt.result (machine_of c.choose-halt.new.state) in
     let word = c.args.prefixes.now.first.items in
     let count = c.args.prefixes.now.count in
-    let long : c.longer.result.items ≡ word ++ c.args.process ∷ [] = c.longer.ensures ∙ ap (λ w. w ++ c.args.process ∷ []) c.as_slice.ensures.value in
-    choice_holds c.add.result r l.gates l.steps old.store new.store old.ended.entries new.ended.entries old.layer.entries new.layer.entries m word c.longer.result.items count c.args.process node c.requires.may c.choose-halt.ensures.node long
-    (ok_to c.add.result _ (λ _. (f : layers.Front Machine) → Holds r old.store old.ended.entries old.layer.entries f → Holds r new.store new.ended.entries new.layer.entries (layers.arrived (slots r l.gates) same_outcome same_key c.longer.result.items count node f)) c.add.ensures.front (λ a on f h. on r l.gates f c.choose-halt.ensures.own h))
+    let long : c.push.new.self.items ≡ word ++ c.args.process ∷ [] = c.push.ensures.items in
+    choice_holds c.add-added.result r l.gates l.steps old.store new.store old.ended.entries new.ended.entries old.layer.entries new.layer.entries m word c.push.new.self.items count c.args.process node c.requires.may c.choose-halt.ensures.node long
+    (ok_to c.add-added.result _ (λ _. (f : layers.Front Machine) → Holds r old.store old.ended.entries old.layer.entries f → Holds r new.store new.ended.entries new.layer.entries (layers.arrived (slots r l.gates) same_outcome same_key c.push.new.self.items count node f)) c.add-added.ensures.front (λ a on f h. on r l.gates f c.choose-halt.ensures.own h))
+
+pub returns-clause-same : goal.returns-clause-same
+returns-clause-same g c =
+    let word = c.args.prefixes.now.first.items in
+    let longer = c.push.new.self.items in
+    let more : longer ≡ word ++ c.args.process ∷ [] = c.push.ensures.items in
+    let all = ap length more in
+    let long = length-append word (c.args.process ∷ []) in
+    let back : c.pop.new.self.items ≡ word = c.pop.ensures.rest ∙ ap (take (length longer - 1)) more ∙ take_at word (c.args.process ∷ []) (length longer - 1) (omega (arith, all, long)) in
+    let whole : List ℕ → code.Prefixes = λ items. record { count = c.args.prefixes.now.count; first = record { items = items } } in
+    ap whole back

@@ -1,4 +1,4 @@
-use Rattle.std.proofs.Common.{rules, ◌≡◌, ◌∙◌, ◌<◌, true, get_or, length, take, sym, ap, subst, arith}
+use Rattle.std.proofs.Common.{rules, ◌≡◌, ◌∙◌, ◌<◌, ◌+◌, ◌^◌, true, get_or, length, take, sym, ap, subst, arith}
 use Rattle.std.proofs.lemmas.List.{length-take-le, take_all, take_more}
 use Rattle.cp_machine.specs.Bodies.{has_moved, KeepBodies}
 use Rattle.cp_machine.specs.System.{Machine, machine_of}
@@ -7,7 +7,8 @@ use Rattle.cp_run.specs.Slots.{slots}
 use Rattle.cp_states.proofs.Following.{parts_on, parts_same, row_on}
 use Rattle.cp_walk.specs.Report.{same_outcome}
 use Rattle.cp_merged.specs.Layers as layers
-use Rattle.cp_merged.specs.Holds.{same_key, Holds}
+use Rattle.cp_merged.specs.Holds.{same_key, Holds, total}
+use Rattle.cp_merged.specs.declared.prefixes.Prefixes as code
 use Rattle.cp_merged.proofs.Choosing.{after_list, length_those, list_more, list_those, may_those, room_for_one}
 use Rattle.cp_merged.proofs.layering.take_choices.Goals as goal
 
@@ -36,7 +37,12 @@ take_choice-requires-clause-small g c =
     let all = ap length listed in
     let few = length_those sys.processes (may sys s) in
     let sixteen = c.requires.own.sound.few in
+    let old = c.loop-process.frontier in
+    subst (λ (y : code.Prefixes). (f : layers.Front Machine) × Holds c.args.program.now old.store old.ended.entries old.layer.entries f × (total f + y.count < 10 ^ 126)) (sym c.loop-process.invariant.arriving)
     (after_list sys same_outcome same_key c.args.limits.steps x (take i numbers) f, c.loop-process.invariant.front f c.requires.small.1, room_for_one sys same_outcome same_key c.args.limits.steps x (take i numbers) f (omega (arith, taken, lt, all, few, sixteen)) c.requires.small.2)
+
+pub take_choice-requires-clause-room : goal.take_choice-requires-clause-room
+take_choice-requires-clause-room g c = subst (λ (y : code.Prefixes). length y.first.items < 100) (sym c.loop-process.invariant.arriving) c.requires.room
 
 pub take_choice-requires-clause-own : goal.take_choice-requires-clause-own
 take_choice-requires-clause-own g c = c.take_moved.ensures.own c.args.program.now c.loop-process.invariant.next c.requires.own
@@ -45,6 +51,7 @@ pub loop-process-init : goal.loop-process-init
 loop-process-init g c =
     record {
       next = c.requires.next;
+      arriving = c.copy_of-arriving.ensures;
       moved = c.requires.moved;
       known = c.requires.known;
       kept = parts_same c.args.frontier.now.store;
@@ -67,13 +74,15 @@ loop-process-preserved g c =
     let new = c.take_choice.new.frontier in
     record {
       next = c.take_choice.ensures.own;
+      arriving = c.take_choice.ensures.same ∙ c.loop-process.invariant.arriving;
       moved = subst (λ m. KeepBodies (has_moved c.take_choice.new.moved) m (machine_of c.take_choice.new.state)) c.take_moved.ensures.same c.take_choice.ensures.moved;
       known = row_on c.loop-process.frontier.store new.store c.args.known.now.numbers s c.in_ok-take_choice.ensures.kept c.loop-process.invariant.known;
       kept = parts_on c.args.frontier.now.store c.loop-process.frontier.store new.store c.loop-process.invariant.kept c.in_ok-take_choice.ensures.kept;
       front = λ f h.
           (let g : layers.Front Machine = after_list sys same_outcome same_key steps x (take i numbers) f in
           let on = c.in_ok-take_choice.ensures.front g (c.loop-process.invariant.front f h) in
-          let here = subst (λ m. Holds r new.store new.ended.entries new.layer.entries (layers.after_choice sys same_outcome same_key steps (record { state = m; first = word; count = count }) p g)) c.take_moved.ensures.same on in
+          let one = subst (λ (y : code.Prefixes). Holds r new.store new.ended.entries new.layer.entries (layers.after_choice sys same_outcome same_key steps (record { state = machine_of c.take_moved.new.self; first = y.first.items; count = y.count }) p g)) c.loop-process.invariant.arriving on in
+          let here = subst (λ m. Holds r new.store new.ended.entries new.layer.entries (layers.after_choice sys same_outcome same_key steps (record { state = m; first = word; count = count }) p g)) c.take_moved.ensures.same one in
           subst (Holds r new.store new.ended.entries new.layer.entries) (sym (list_more sys same_outcome same_key steps x (take i numbers) p f) ∙ ap (λ ps. after_list sys same_outcome same_key steps x ps f) (sym (take_more numbers i 0 lt))) here);
     }
 

@@ -1,4 +1,4 @@
-use Rattle.std.proofs.Common.{take}
+use Rattle.std.proofs.Common.{◌≡◌, take}
 use Rattle.cp_machine.specs.Bodies.{has_moved, KeepBodies}
 use Rattle.cp_machine.specs.System.{Machine, machine_of, IsStateOf}
 use Rattle.cp_run.specs.Slots.{slots}
@@ -13,6 +13,7 @@ abbrev pub invariant-loop-process : goal.invariant-loop-process
 invariant-loop-process g l =
     record {
       next : IsStateOf l.program l.next;
+      arriving : l.arriving ≡ l.prefixes;
       moved : KeepBodies (has_moved l.moved) (machine_of l.state) (machine_of l.next);
       known : IsRowOf l.frontier.store l.known.numbers (machine_of l.state);
       kept : KeepParts l.initial.frontier.store l.frontier.store;

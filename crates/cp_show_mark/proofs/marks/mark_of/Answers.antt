@@ -6,29 +6,29 @@ use Rattle.cp_run.specs.Slots.{slots}
 use Rattle.cp_run.specs.Table.{table}
 use Rattle.cp_walk.specs.Text.{Spellings}
 use Rattle.cp_verdict.specs.Marked.{IsMarkOf}
-use Rattle.cpx_show.proofs.Telling.{meant_within, told_within}
-use Rattle.cpx_show.proofs.marks.mark_of.Goals as goal
+use Rattle.cp_show_mark.proofs.Telling.{meant_within, told_within}
+use Rattle.cp_show_mark.proofs.marks.mark_of.Goals as goal
 
-pub returns-in_ok-text-in-Ok-clause-mark : goal.returns-in_ok-text-in-Ok-clause-mark
-returns-in_ok-text-in-Ok-clause-mark c =
-    let limits = c.in-Some.limits in
+pub returns-in-Ok-clause-mark : goal.returns-in-Ok-clause-mark
+returns-in-Ok-clause-mark g c =
+    let limits = c.limits_of-limits.result in
     let program = c.args.examinee.program.now in
     let mark = c.in-Ok.marked.mark in
     let is_mark = subst (λ es. IsMarkOf program.names es (table (slots program limits.gates) limits.choices limits.steps) mark) c.as_slice-list.ensures.value c.in-Ok.ensures.mark.1 in
-    told_within c.args.examinee.options.now limits program c.args.reading.now.expectations.items _ c.in-Some.ensures.these (inr (mark, c.verdict_of-verdict.ensures, is_mark))
+    IfOk-weaker c.told_answer.result _ _ (λ a e. told_within c.args.examinee.options.now limits program c.args.reading.now.expectations.items _ c.limits_of-limits.ensures (inr (mark, e, is_mark))) c.told_answer.ensures
 
-pub returns-in_ok-text-in-Ok-clause-meaning : goal.returns-in_ok-text-in-Ok-clause-meaning
-returns-in_ok-text-in-Ok-clause-meaning c = λ t read ok is.
-    (let limits = c.in-Some.limits in
+pub returns-in-Ok-clause-meaning : goal.returns-in-Ok-clause-meaning
+returns-in-Ok-clause-meaning g c = λ t read ok is.
+    (let limits = c.limits_of-limits.result in
     let program = c.args.examinee.program.now in
     let mark = c.in-Ok.marked.mark in
     let meant = c.in-Ok.ensures.meaning t read ok is.laid in
     let is_mark = subst (λ es. IsMarkOf program.names es (table (named t (named_gates limits.gates)) limits.choices limits.steps) mark) c.as_slice-list.ensures.value meant.1 in
     let by_names = subst (λ (names : Spellings). IsMarkOf names c.args.reading.now.expectations.items (table (named t (named_gates limits.gates)) limits.choices limits.steps) mark) (read_names t program read ok is.laid) is_mark in
-    meant_within c.args.examinee.options.now limits t _ c.args.reading.now.expectations.items _ c.in-Some.ensures.these (inr (mark, c.verdict_of-verdict.ensures, by_names)))
+    IfOk-weaker c.told_answer.result _ _ (λ a e. meant_within c.args.examinee.options.now limits t _ c.args.reading.now.expectations.items _ c.limits_of-limits.ensures (inr (mark, e, by_names))) c.told_answer.ensures)
 
 pub returns-in-Err-TooManyStates-clause-meaning : goal.returns-in-Err-TooManyStates-clause-meaning
-returns-in-Err-TooManyStates-clause-meaning c = λ t read ok is. IfOk-weaker c.too_many-in-Err-TooManyStates.result _ _ (λ a e. inl e) c.too_many-in-Err-TooManyStates.ensures
+returns-in-Err-TooManyStates-clause-meaning g c = λ t read ok is. IfOk-weaker c.too_many-in-Err-TooManyStates.result _ _ (λ a e. inl e) c.too_many-in-Err-TooManyStates.ensures
 
 pub returns-in-Err-TooManyOutcomes-clause-meaning : goal.returns-in-Err-TooManyOutcomes-clause-meaning
-returns-in-Err-TooManyOutcomes-clause-meaning c = λ t read ok is. IfOk-weaker c.too_many-in-Err-TooManyOutcomes.result _ _ (λ a e. inl e) c.too_many-in-Err-TooManyOutcomes.ensures
+returns-in-Err-TooManyOutcomes-clause-meaning g c = λ t read ok is. IfOk-weaker c.too_many-in-Err-TooManyOutcomes.result _ _ (λ a e. inl e) c.too_many-in-Err-TooManyOutcomes.ensures
