@@ -1,6 +1,5 @@
 pub mod Appending
 pub mod Closing
-pub mod Forms
 pub mod Meant
 pub mod Numbering
 pub mod Ordering

@@ -5,7 +5,7 @@ use Rattle.std.proofs.lemmas.List.{append_assoc, append-nil, map-append}
 use Rattle.cp_walk.specs.Groups.{Tally}
 use Rattle.cp_merged.specs.Code.{tally_of}
 use Rattle.cp_merged.specs.declared.tally.Tally as code
-use Rattle.cp_outcomes.specs.Told.{Setting, Told, IsTold, AreTold, told_of, is_of, in_order}
+use Rattle.cp_outcomes.specs.Told.{Setting, Told, IsTold, AreTold, told_of, is_of}
 use Rattle.cp_outcomes.specs.declared.told.ToldOutcome.{ToldOutcome}
 
 abbrev pub tally_in : ToldOutcome → Tally
@@ -52,5 +52,5 @@ each_told s (o ∷ os) h = (h.0, each_told s os h.1)
 pub all_told : (s : Setting) (ts : List Tally) (none first all : List ToldOutcome) → none ≡ [] → map tally_in first ≡ map tally_in none ++ filter (is_of false) ts → map tally_in all ≡ map tally_in first ++ filter (is_of true) ts → (AreSo s none → AreSo s first) → (AreSo s first → AreSo s all) → AreTold s ts (map told_of all)
 all_told s ts none first all e f g h k = record {
   order = tallies_told all ∙ g ∙ ap (λ l. l ++ filter (is_of true) ts) (f ∙ ap (λ l. map tally_in l ++ filter (is_of false) ts) e);
-  each = each_told s all (k (h (subst (AreSo s) (sym e) tt)))
+  each = each_told s all (k (h (subst (AreSo s) (sym e) tt)));
 }

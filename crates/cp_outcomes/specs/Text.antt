@@ -1,5 +1,5 @@
 -- The text of the outcomes that were found.
-use Rattle.std.specs.Prelude.{ℕ, ◌+◌, ◌-◌, ◌==◌, List, [], ◌∷◌, ◌++◌, length, replicate, map, Bool, Option, Some, None, nat_eq, nat_lt, codes, if◌then◌else◌}
+use Rattle.std.specs.Prelude.{ℕ, ◌+◌, ◌-◌, ◌==◌, List, [], ◌∷◌, ◌++◌, length, replicate, Bool, Option, Some, None, nat_eq, nat_lt, codes, if◌then◌else◌}
 use lib.Pointwise.{pointwise}
 use Rattle.cp_natural.specs.Decimal.{number_text}
 use Rattle.cp_run.specs.Table.{each}

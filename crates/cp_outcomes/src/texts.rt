@@ -169,11 +169,7 @@ fn push_simple(
     }
 }
 
-fn push_other(
-    text: &mut String,
-    first: &[u8],
-    simple: &SimplestSchedule,
-) -> Result<(), AllocError>
+fn push_other(text: &mut String, first: &[u8], simple: &SimplestSchedule) -> Result<(), AllocError>
     ensures { IfOk result (λ _. string_bytes text.new ≡ string_bytes text.old ++ spec.other_text first.now simple.now) }
 {
     if simple.word.as_slice() == first {

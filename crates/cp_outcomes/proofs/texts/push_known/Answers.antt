@@ -1,4 +1,4 @@
-use Rattle.std.proofs.Common.{◌++◌, codes, string_bytes}
+use Rattle.std.proofs.Common.{codes, string_bytes}
 use Rattle.cp_natural.specs.Decimal.{number_text}
 use Rattle.cp_outcomes.proofs.Appending.{last_piece, four_pieces}
 use Rattle.cp_outcomes.proofs.texts.push_known.Goals as goal

@@ -1,4 +1,4 @@
-use Rattle.std.proofs.Common.{◌∙◌, ◌++◌, ◌==◌, ap, sym, map, string_bytes}
+use Rattle.std.proofs.Common.{◌∙◌, ◌++◌, ap, sym, map, string_bytes}
 use Rattle.cp_merged.specs.Code.{tally_of}
 use Rattle.cp_outcomes.specs.Stops.{rows_at}
 use Rattle.cp_outcomes.specs.Text.{stop_text}
