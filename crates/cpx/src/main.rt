@@ -33,7 +33,7 @@ enum RequestedWork {
 
 fn main(rt: HostRuntime) -> ExitCode {
     let code = match read_words(&rt) {
-        Ok(RequestedWork::Options(options)) => explore_input(&rt, &options),
+        Ok(RequestedWork::Options(options)) => explore_input::<HostRuntime>(&rt, &rt, &options),
         Ok(RequestedWork::Version) => printed(print!(rt; "cpx {VERSION}\n")),
         Ok(RequestedWork::Refused(why)) => {
             let _ = eprintln!(rt; "options refused");
@@ -100,11 +100,11 @@ fn read<'a>(alloc: Global, words: &'a [&'a str]) -> Result<RequestedWork, AllocE
 }
 
 // The status of answering what standard input has. What long work is at is told on standard error, where that is a terminal.
-fn explore_input(rt: &HostRuntime, options: &Options) -> u8 {
+fn explore_input<X: Threads + Sync>(threads: &X, rt: &HostRuntime, options: &Options) -> u8 {
     let counted = if options.ends { "ends" } else { "outcomes" };
     let mut line = ProgressLine::new(rt.alloc(), rt, terminal_of(rt.stderr()), counted);
-    explored::<HostRuntime, ProgressLine<&HostRuntime, Stderr>, Brand, Brand>(
-        rt,
+    explored::<X, ProgressLine<&HostRuntime, Stderr>, Brand, Brand>(
+        threads,
         rt.alloc(),
         options,
         &mut line,
