@@ -10,7 +10,8 @@ use Rattle.cp_front.specs.declared.refusal.Refusal.{Refusal}
 use Rattle.cp_front.specs.declared.transfer.StreamFault.{StreamFault}
 use Rattle.cp_front.specs.declared.transfer.StreamFault.TheVariants as fault
 use Rattle.cp_tool.specs.declared.options.Options.{Options}
-use Rattle.cp_show_mark.specs.Showing.{TellsMark, ShowVerdict}
+use Rattle.cp_show_mark.specs.Showing.{TellsMark}
+use Rattle.cp_show_mark.specs.declared.answer.ShowVerdict.{ShowVerdict}
 use Rattle.cp_show_mark.specs.declared.answer.ShowVerdict.TheVariants.{Reported, Refused}
 use Rattle.cp_show_options.specs.declared.parts.Asked.{Asked}
 use Rattle.cp_show_options.specs.declared.parts.ShowPart.{ShowPart}

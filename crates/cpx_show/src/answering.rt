@@ -5,7 +5,8 @@ ghost use Rattle.cp_tree.specs.TreeView.{tree_view};
 ghost use Rattle.cp_front.specs.Transfer.{code_by, faults_in};
 ghost use Rattle.cp_front.specs.declared.transfer.StreamFault.{StreamFault};
 ghost use Rattle.cp_resolved.specs.Resolving.{IsProgramOf};
-ghost use Rattle.cp_show_mark.specs.Showing.{ShowVerdict, code_of};
+ghost use Rattle.cp_show_mark.specs.Showing.{code_of};
+ghost use Rattle.cp_show_mark.specs.declared.answer.ShowVerdict.{ShowVerdict};
 ghost use Rattle.cp_show_mark.specs.declared.answer.ShowVerdict.TheVariants.{Reported, Refused};
 ghost use Rattle.cpx_show.specs.Told.{IsOfProgram, IsOfSource, IsSilent, Tells};
 
