@@ -8,7 +8,7 @@ pub mod stream;
 pub mod transfer;
 pub mod wrapped;
 
-pub use loading::{Loaded, drop_loaded, load};
+pub use loading::{Loaded, drop_loaded, load, load_with_symbols};
 pub use refusal::{Refusal, drop_refusal, refusal_line};
 pub use stream::{Failed, Sink, Source};
 pub use transfer::{MOST_BYTES, ReadFault, StreamFault, read_source, write_text};

@@ -9,7 +9,8 @@ ghost use Rattle.cp_front.specs.Loading.{IsTreeOf, IsRefusalOf, Loads};
 use crate::refusal::Refusal;
 use cp_check::{CheckFault, Checked, check};
 use cp_drops::{drop_checked, drop_program, drop_tree};
-use cp_resolved::resolve;
+use cp_layout::Symbols;
+use cp_resolved::{resolve, resolve_with_symbols};
 use cp_slots::Resolved;
 use cp_text::{ScanCause, Tokens, scan};
 use cp_tree::{ParseFault, Tree, parse};
@@ -49,8 +50,34 @@ pub fn load(alloc: Global, source: &[u8]) -> Result<Loaded, Refusal>
     ensures stands { IfOk result (λ l. IsProgramOf (tree_view l.checked.tree) l.program) }
     ensures refused { IfErr result (λ r. IsRefusalOf source.now r) }
 {
+    match load_checked(alloc, source) {
+        Ok((tokens, checked)) => resolve_checked(alloc, tokens, checked),
+        Err(refusal) => Err(refusal),
+    }
+}
+
+/// The same, and what its names stand for in the program.
+///
+/// # Errors
+/// Those of [`load`].
+pub fn load_with_symbols(alloc: Global, source: &[u8]) -> Result<(Loaded, Symbols), Refusal>
+    ensures loaded { IfOk result (λ l. Loads source.now l.0.tokens (tree_view l.0.checked.tree)) }
+    ensures stands { IfOk result (λ l. IsProgramOf (tree_view l.0.checked.tree) l.0.program) }
+    ensures refused { IfErr result (λ r. IsRefusalOf source.now r) }
+{
+    match load_checked(alloc, source) {
+        Ok((tokens, checked)) => resolve_checked_with_symbols(alloc, tokens, checked),
+        Err(refusal) => Err(refusal),
+    }
+}
+
+// The checked tree of a source, with its tokens.
+fn load_checked(alloc: Global, source: &[u8]) -> Result<(Tokens, Checked), Refusal>
+    ensures loaded { IfOk result (λ c. Loads source.now c.0 (tree_view c.1.tree)) }
+    ensures refused { IfErr result (λ r. IsRefusalOf source.now r) }
+{
     match scan(alloc, source) {
-        Ok(tokens) => load_tokens(alloc, tokens),
+        Ok(tokens) => check_tokens(alloc, tokens),
         Err(fault) => match fault.cause {
             ScanCause::Memory => Err(Refusal::Memory),
             _ => Err(Refusal::Scan(fault)),
@@ -58,14 +85,13 @@ pub fn load(alloc: Global, source: &[u8]) -> Result<Loaded, Refusal>
     }
 }
 
-// The program of the tokens of a source.
-fn load_tokens(alloc: Global, tokens: Tokens) -> Result<Loaded, Refusal>
-    ensures loaded { IfOk result (λ l. (source : List ℕ) → HasTokens source tokens → Loads source l.tokens (tree_view l.checked.tree)) }
-    ensures stands { IfOk result (λ l. IsProgramOf (tree_view l.checked.tree) l.program) }
+// The checked tree of the tokens of a source.
+fn check_tokens(alloc: Global, tokens: Tokens) -> Result<(Tokens, Checked), Refusal>
+    ensures loaded { IfOk result (λ c. (source : List ℕ) → HasTokens source tokens → Loads source c.0 (tree_view c.1.tree)) }
     ensures refused { IfErr result (λ r. (source : List ℕ) → HasTokens source tokens → IsRefusalOf source r) }
 {
     match parse(alloc, &tokens) {
-        Ok(tree) => load_tree(alloc, tokens, tree),
+        Ok(tree) => check_tree(alloc, tokens, tree),
         Err(fault) => match fault {
             ParseFault::Memory => Err(Refusal::Memory),
             _ => Err(Refusal::Parse { tokens, fault }),
@@ -73,15 +99,14 @@ fn load_tokens(alloc: Global, tokens: Tokens) -> Result<Loaded, Refusal>
     }
 }
 
-// The program of the tree of these tokens.
-fn load_tree(alloc: Global, tokens: Tokens, tree: Tree) -> Result<Loaded, Refusal>
+// The checked tree of the tree of these tokens.
+fn check_tree(alloc: Global, tokens: Tokens, tree: Tree) -> Result<(Tokens, Checked), Refusal>
     requires { IsTreeOf tokens (tree_view tree) }
-    ensures loaded { IfOk result (λ l. (source : List ℕ) → HasTokens source tokens → Loads source l.tokens (tree_view l.checked.tree)) }
-    ensures stands { IfOk result (λ l. IsProgramOf (tree_view l.checked.tree) l.program) }
+    ensures loaded { IfOk result (λ c. (source : List ℕ) → HasTokens source tokens → Loads source c.0 (tree_view c.1.tree)) }
     ensures refused { IfErr result (λ r. (source : List ℕ) → HasTokens source tokens → IsRefusalOf source r) }
 {
     match check(alloc, tree) {
-        Ok(checked) => resolve_checked(alloc, tokens, checked),
+        Ok(checked) => Ok((tokens, checked)),
         Err((CheckFault::Memory, tree)) => {
             drop_tree(tree);
             Err(Refusal::Memory)
@@ -106,6 +131,31 @@ fn resolve_checked(alloc: Global, tokens: Tokens, checked: Checked) -> Result<Lo
             checked,
             program,
         }),
+        Err(_) => {
+            drop_checked(checked);
+            Err(Refusal::Memory)
+        }
+    }
+}
+
+fn resolve_checked_with_symbols(
+    alloc: Global,
+    tokens: Tokens,
+    checked: Checked,
+) -> Result<(Loaded, Symbols), Refusal>
+    ensures loaded { IfOk result (λ l. (l.0.tokens ≡ tokens) × (tree_view l.0.checked.tree ≡ tree_view checked.tree)) }
+    ensures stands { IfOk result (λ l. IsProgramOf (tree_view l.0.checked.tree) l.0.program) }
+    ensures refused { IfErr result (λ r. r ≡ Refusal.Memory) }
+{
+    match resolve_with_symbols(alloc, &checked) {
+        Ok((program, symbols)) => {
+            let loaded = Loaded {
+                tokens,
+                checked,
+                program,
+            };
+            Ok((loaded, symbols))
+        }
         Err(_) => {
             drop_checked(checked);
             Err(Refusal::Memory)

@@ -10,6 +10,7 @@ use crate::frame::RoutineFrame;
 use crate::kinds::CellType;
 use crate::layer::{HeadingLayout, Layouter, Owned, ParameterLayout, SystemCells};
 use crate::names::{LayoutMeaning, Names};
+use crate::symbols::DeclaredSymbols;
 use cp_tree::{
     Body, Definition, Program, ProgramPart, ProgramPartKind, Routine, System as WrittenSystem,
     SystemDefinition, SystemKind,
@@ -116,6 +117,7 @@ impl<'a> Layouter<'a> {
         ensures { Lays outer_seen (spec.entered (layer_seen self.old)) (layer_seen self.new) result }
     {
         let inside = self.around.names.inside(alloc)?;
+        note_inside(&mut self.symbols, true);
         Ok(Outer {
             names: mem::replace(&mut self.around.names, inside),
             owned: mem::replace(&mut self.around.owned, Owned::new(alloc)),
@@ -133,6 +135,7 @@ impl<'a> Layouter<'a> {
     ) -> Result<CellType, AllocError>
         ensures { Lays (λ t. t) (spec.left (layer_seen self.old) (outer_seen outer.entry) kind first initial) (layer_seen self.new) result }
     {
+        note_inside(&mut self.symbols, false);
         self.around.names = outer.names;
         let owned = mem::replace(&mut self.around.owned, outer.owned);
         let number = self.around.systems.len();
@@ -232,5 +235,12 @@ impl<'a> Layouter<'a> {
         ensures { layer_seen self.new ≡ spec.with_new_frame (layer_seen self.old) }
     {
         self.frame = RoutineFrame::new(alloc);
+    }
+}
+
+// A system type begins, or is whole.
+fn note_inside(symbols: &mut Option<DeclaredSymbols>, is_inside: bool) {
+    if let Some(symbols) = symbols {
+        symbols.set_inside(is_inside);
     }
 }

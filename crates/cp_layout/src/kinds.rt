@@ -4,6 +4,7 @@ ghost use Rattle.std.specs.Prelude.{◌≡◌, ◌++◌, [], map, option_map, sl
 ghost use Rattle.cp_layout.specs.Kinds as spec;
 ghost use Rattle.cp_layout.specs.Kinds.{types_seen, compound_seen, field_seen, fields_seen};
 
+use crate::symbols::{FieldSymbol, TypeSymbol};
 use cp_text::Name;
 use std::alloc::{AllocError, Global};
 
@@ -120,6 +121,28 @@ fn field_named<'a>(fields: &[Field<'a>], name: &Name) -> Option<Field<'a>>
         }
     }
     None
+}
+
+fn type_symbol(alloc: Global, compound: &Compound<'_>) -> Result<TypeSymbol, AllocError> {
+    match compound {
+        Compound::Array(array) => Ok(TypeSymbol::Array(*array)),
+        Compound::Record(record) => {
+            let fields = field_symbols(alloc, &record.fields)?;
+            Ok(TypeSymbol::Record(fields, record.cells))
+        }
+    }
+}
+
+fn field_symbols(alloc: Global, fields: &[Field<'_>]) -> Result<Vec<FieldSymbol>, AllocError> {
+    let mut symbols = Vec::new(alloc);
+    for field in fields {
+        symbols.push(FieldSymbol {
+            name: String::from_str(alloc, field.name.as_str())?,
+            value_type: field.value_type,
+            offset: field.offset,
+        })?;
+    }
+    Ok(symbols)
 }
 
 /// The arrays and records of a program. Each holds earlier ones alone.
@@ -279,6 +302,15 @@ impl<'a> Types<'a> {
         ensures { option_map (λ c. compound_seen c.now) result ≡ slice_get (types_seen self.now) number }
     {
         self.compounds.get(number)
+    }
+
+    /// The arrays and records, with names of their own.
+    pub fn symbols(&self, alloc: Global) -> Result<Vec<TypeSymbol>, AllocError> {
+        let mut types = Vec::new(alloc);
+        for compound in &self.compounds {
+            types.push(type_symbol(alloc, compound)?)?;
+        }
+        Ok(types)
     }
 
     #[cycle(least)]

@@ -13,6 +13,7 @@ use crate::kinds::{CellType, Types};
 use crate::lists::{Lists, Pending};
 use crate::names::{LayoutMeaning, Names};
 use crate::surroundings::Surroundings;
+use crate::symbols::{DeclaredSymbols, Symbol, Symbols};
 use cp_slots::{Action, ComponentParameter, Item, ResolvedRoutine};
 use cp_tree::{Identifier, SystemKind, Tree};
 use std::alloc::{AllocError, Global};
@@ -95,6 +96,8 @@ pub struct Layouter<'a> {
     /// Of the routine that is laid out.
     pub frame: RoutineFrame,
     pub lists: Lists,
+    /// Where they are asked for.
+    pub symbols: Option<DeclaredSymbols>,
 }
 
 impl Owned {
@@ -168,6 +171,35 @@ impl<'a> Layouter<'a> {
                 pending: Vec::new(alloc),
                 arguments: 0,
             },
+            symbols: None,
+        })
+    }
+
+    /// From here on the names that are declared are noted.
+    #[tactic(auto, unfolding(crate::specs::Layers::layer_seen))]
+    pub fn ask_for_symbols(&mut self, alloc: Global)
+        ensures { layer_seen self.new ≡ layer_seen self.old }
+    {
+        self.symbols = Some(DeclaredSymbols::new(alloc));
+    }
+
+    /// The symbols of what is laid out.
+    #[tactic(auto, unfolding(crate::specs::Layers::layer_seen))]
+    pub fn take_symbols(&mut self, alloc: Global) -> Result<Symbols, AllocError>
+        ensures { layer_seen self.new ≡ layer_seen self.old }
+    {
+        let noted = mem::replace(&mut self.symbols, None);
+        self.symbols_with(alloc, items_of(alloc, noted))
+    }
+
+    // The symbols of what is laid out, with the names that are declared.
+    fn symbols_with(&self, alloc: Global, declared: Vec<Symbol>) -> Result<Symbols, AllocError> {
+        Ok(Symbols {
+            declared,
+            routines: self.around.routine_symbols(alloc)?,
+            systems: self.around.system_symbols(alloc)?,
+            types: self.around.types.symbols(alloc)?,
+            constants: self.lists.constant_symbols(alloc)?,
         })
     }
 
@@ -180,7 +212,20 @@ impl<'a> Layouter<'a> {
     ) -> Result<(), AllocError>
         ensures { Leads (spec.with_name (layer_seen self.old) node.now.name meaning) (layer_seen self.new) result }
     {
+        self.note(node.name.as_str(), meaning)?;
         self.around.names.add(node.name.as_str(), meaning)
+    }
+
+    #[tactic(auto, unfolding(crate::specs::Layers::layer_seen))]
+    fn note(&mut self, name: &str, meaning: LayoutMeaning) -> Result<(), AllocError>
+        ensures { layer_seen self.new ≡ layer_seen self.old }
+    {
+        let routines = self.lists.routines.len();
+        let systems = self.around.systems.len();
+        match &mut self.symbols {
+            Some(symbols) => symbols.add(name, meaning, routines, systems),
+            None => Ok(()),
+        }
     }
 
     /// Whether it is the routine that is laid out.
@@ -298,5 +343,12 @@ impl<'a> Layouter<'a> {
             Some(result) => result.slot,
             None => 0,
         }
+    }
+}
+
+fn items_of(alloc: Global, noted: Option<DeclaredSymbols>) -> Vec<Symbol> {
+    match noted {
+        Some(symbols) => symbols.into_items(),
+        None => Vec::new(alloc),
     }
 }

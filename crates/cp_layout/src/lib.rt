@@ -14,8 +14,13 @@ mod names;
 mod part;
 mod statement;
 mod surroundings;
+mod symbols;
 mod tables;
 mod types;
 mod value;
 
-pub use tables::lay_out;
+pub use kinds::{ArrayType, CellBase, CellRange, CellType};
+pub use layer::FunctionResult;
+pub use names::LayoutMeaning;
+pub use symbols::{FieldSymbol, RoutineSymbol, Symbol, Symbols, SystemSymbol, TypeSymbol};
+pub use tables::{lay_out, lay_out_with_symbols};

@@ -7,6 +7,7 @@ ghost use Rattle.cp_layout.specs.Layers as spec;
 ghost use Rattle.cp_layout.specs.Layers.{pending_seen};
 
 use cp_slots::{Action, Item, ResolvedRoutine};
+use std::alloc::{AllocError, Global};
 
 /// An item that is not in the tables yet.
 #[derive(Drop)]
@@ -66,6 +67,15 @@ impl Lists {
         ensures { result ≡ plus (length (map item_seen self.now.items.items)) (length (map pending_seen self.now.pending.items)) }
     {
         self.items.len().saturating_add(self.pending.len())
+    }
+
+    /// The constants of the enumerations.
+    pub fn constant_symbols(&self, alloc: Global) -> Result<Vec<String>, AllocError> {
+        let mut names = Vec::new(alloc);
+        for name in &self.constants {
+            names.push(String::from_str(alloc, name.as_str())?)?;
+        }
+        Ok(names)
     }
 
     /// A call or a start has this many arguments.

@@ -9,6 +9,8 @@ ghost use Rattle.cp_layout.specs.LaidStatements as statements;
 use crate::kinds::Types;
 use crate::layer::{FunctionResult, HeadingLayout, Owned, ParameterLayout, SystemCells};
 use crate::names::Names;
+use crate::symbols::{RoutineSymbol, SystemSymbol};
+use std::alloc::{AllocError, Global};
 
 /// What is declared around a statement.
 #[derive(Drop)]
@@ -65,5 +67,30 @@ impl<'a> Surroundings<'a> {
             Some(system) => system.initial,
             None => 0,
         }
+    }
+
+    /// The headings of all routines.
+    pub fn routine_symbols(&self, alloc: Global) -> Result<Vec<RoutineSymbol>, AllocError> {
+        let mut symbols = Vec::new(alloc);
+        for heading in &self.headings {
+            symbols.push(RoutineSymbol {
+                name: String::from_str(alloc, heading.name)?,
+                parameters: heading.parameters.len(),
+                result: heading.result,
+            })?;
+        }
+        Ok(symbols)
+    }
+
+    /// The system types.
+    pub fn system_symbols(&self, alloc: Global) -> Result<Vec<SystemSymbol>, AllocError> {
+        let mut symbols = Vec::new(alloc);
+        for system in &self.systems {
+            symbols.push(SystemSymbol {
+                kind: system.kind,
+                components: system.owned.count,
+            })?;
+        }
+        Ok(symbols)
     }
 }

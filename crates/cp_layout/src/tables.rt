@@ -10,6 +10,7 @@ ghost use Rattle.cp_layout.specs.Laid.{plain, laid};
 
 use crate::component::Components;
 use crate::layer::{Layouter, Owned, SystemCells};
+use crate::symbols::Symbols;
 use cp_slots::{Layout, Process, ResolvedRoutine, SystemType};
 use cp_tree::Tree;
 use std::alloc::{AllocError, Global};
@@ -22,6 +23,19 @@ pub fn lay_out(alloc: Global, tree: &Tree) -> Result<Layout, AllocError>
     let mut layer = Layouter::new(alloc, tree)?;
     layer.program(alloc, &tree.program)?;
     tables(alloc, layer)
+}
+
+/// The tables of a tree, and what its names stand for in them.
+#[tactic(auto, unfolding(crate::specs::Laid::laid))]
+pub fn lay_out_with_symbols(alloc: Global, tree: &Tree) -> Result<(Layout, Symbols), AllocError>
+    ensures { IfOk result (λ l. plain (tables_of l.0) ≡ laid (tree_view tree.now)) }
+{
+    let mut layer = Layouter::new(alloc, tree)?;
+    layer.ask_for_symbols(alloc);
+    layer.program(alloc, &tree.program)?;
+    let symbols = layer.take_symbols(alloc)?;
+    let layout = tables(alloc, layer)?;
+    Ok((layout, symbols))
 }
 
 // The tables of what is laid out. The last routine is the program's initial statement.

@@ -1,10 +1,11 @@
 //! The legend of a program: what its numbers are called in the source.
 
-use crate::components::ComponentList;
-use crate::reader::LegendReader;
-use crate::shape::{LegendShape, LegendShapes};
-use cp_slots::ComponentKind;
-use cp_tree::{SystemKind, Tree};
+use crate::components::components_of;
+use crate::sorting::SortedSymbols;
+use crate::types::LegendTypes;
+use cp_layout::{CellType, Symbols};
+use cp_slots::{ComponentKind, Resolved};
+use cp_tree::SystemKind;
 use std::alloc::{AllocError, Global};
 
 /// A variable, by its first cell.
@@ -12,7 +13,7 @@ use std::alloc::{AllocError, Global};
 pub struct Variable {
     pub name: String,
     pub slot: usize,
-    pub shape: LegendShape,
+    pub shape: CellType,
 }
 
 /// How an argument is passed.
@@ -26,7 +27,7 @@ pub enum LegendPassing {
 #[derive(Clone, Copy)]
 pub struct LegendParameter {
     pub slot: usize,
-    pub shape: LegendShape,
+    pub shape: CellType,
     pub passing: LegendPassing,
 }
 
@@ -64,7 +65,7 @@ pub struct LegendComponent {
 /// The names of a program, by the numbers of its tables.
 #[derive(Drop)]
 pub struct Legend {
-    pub shapes: LegendShapes,
+    pub shapes: LegendTypes,
     /// The constants of all enumerations.
     pub constants: Vec<String>,
     pub systems: Vec<LegendSystem>,
@@ -74,23 +75,35 @@ pub struct Legend {
     pub components: Vec<LegendComponent>,
 }
 
-/// The legend of a tree that is accepted.
-pub fn legend_of(alloc: Global, tree: &Tree) -> Result<Legend, AllocError> {
-    let mut reader = LegendReader::new(alloc)?;
-    reader.program(alloc, &tree.program)?;
-    let mut components = ComponentList::new(alloc);
-    components.add_program(alloc, &reader)?;
+/// The legend of a program, from its symbols.
+pub fn legend_of(
+    alloc: Global,
+    program: &Resolved,
+    symbols: Symbols,
+) -> Result<Legend, AllocError> {
+    let Symbols {
+        declared,
+        routines,
+        systems,
+        types,
+        constants,
+    } = symbols;
+    let shapes = LegendTypes { compounds: types };
+    let sorted = SortedSymbols::of(alloc, &shapes, &systems, &routines, declared)?;
+    let components = components_of(alloc, program, &sorted.systems, &constants)?;
+    let mut systems = Vec::new(alloc);
     let mut permanents = Vec::new(alloc);
-    for owned in reader.owners {
-        permanents.push(owned.variables)?;
+    for symbols in sorted.systems {
+        systems.push(symbols.system)?;
+        permanents.push(symbols.permanents)?;
     }
     Ok(Legend {
-        shapes: reader.shapes,
-        constants: reader.constants,
-        systems: reader.systems,
+        shapes,
+        constants,
+        systems,
         permanents,
-        routines: reader.routines,
-        components: components.items,
+        routines: sorted.routines,
+        components,
     })
 }
 

@@ -3,12 +3,9 @@
 
 mod components;
 pub mod legend;
-mod members;
 mod places;
-mod reader;
-mod routines;
-mod scope;
-pub mod shape;
+mod sorting;
+pub mod types;
 pub mod value;
 mod values;
 
@@ -16,5 +13,5 @@ pub use legend::{
     Legend, LegendComponent, LegendParameter, LegendPassing, LegendRoutine, LegendSystem, Variable,
     legend_of,
 };
-pub use shape::{LegendBase, LegendRange, LegendShape, LegendShapes};
+pub use types::LegendTypes;
 pub use value::{Member, SourceValue};

@@ -1,8 +1,9 @@
 //! Names of places: a variable or a part of one, by its first cell.
 
 use crate::legend::{Legend, LegendComponent, Variable};
-use crate::shape::LegendShape;
+use crate::types::nth;
 use crate::values::push_ordinal;
+use cp_layout::CellType;
 use std::alloc::{AllocError, Global};
 
 impl Legend {
@@ -83,7 +84,7 @@ impl Legend {
     fn push_part(
         &self,
         text: &mut String,
-        whole: LegendShape,
+        whole: CellType,
         offset: usize,
         cells: usize,
     ) -> Result<(), AllocError> {
@@ -103,7 +104,7 @@ impl Legend {
     // Appends one index or field.
     fn push_step(&self, text: &mut String, part: PlacePart) -> Result<PlacePart, AllocError> {
         match part.shape {
-            LegendShape::Array(number) => match self.shapes.array(number) {
+            CellType::Array(number) => match self.shapes.array(number) {
                 Some(array) => {
                     let place = part.offset.checked_div(array.element_cells).unwrap_or(0);
                     text.push('[')?;
@@ -111,7 +112,7 @@ impl Legend {
                         &self.constants,
                         text,
                         array.index.base,
-                        array.index.nth(place),
+                        nth(array.index, place),
                     )?;
                     text.push(']')?;
                     let before = place.saturating_mul(array.element_cells);
@@ -122,7 +123,7 @@ impl Legend {
                 }
                 None => Ok(part),
             },
-            LegendShape::Record(number) => {
+            CellType::Record(number) => {
                 let mut found = None;
                 for field in self.shapes.fields(number) {
                     if field.offset <= part.offset {
@@ -135,7 +136,7 @@ impl Legend {
                 text.push('.')?;
                 text.push_str(field.name.as_str())?;
                 Ok(PlacePart {
-                    shape: field.shape,
+                    shape: field.value_type,
                     offset: part.offset.saturating_sub(field.offset),
                 })
             }
@@ -146,6 +147,6 @@ impl Legend {
 
 #[derive(Clone, Copy)]
 struct PlacePart {
-    shape: LegendShape,
+    shape: CellType,
     offset: usize,
 }

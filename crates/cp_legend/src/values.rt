@@ -1,8 +1,8 @@
 //! Values, from cells.
 
 use crate::legend::Legend;
-use crate::shape::{LegendArray, LegendBase, LegendRange, LegendShape};
 use crate::value::{Member, SourceValue};
+use cp_layout::{ArrayType, CellBase, CellRange, CellType};
 use std::alloc::{AllocError, Global};
 
 /// The values that a cell of a set has a member or none of.
@@ -12,14 +12,14 @@ const MEMBERS_OF_A_CELL: u8 = 16;
 pub fn push_ordinal(
     constants: &[String],
     text: &mut String,
-    base: LegendBase,
+    base: CellBase,
     number: i16,
 ) -> Result<(), AllocError> {
     match base {
-        LegendBase::Integer => write!(text, "{number}"),
-        LegendBase::Boolean => text.push_str(if number == 0 { "false" } else { "true" }),
-        LegendBase::Character => push_character(text, number),
-        LegendBase::Enumeration(first, _) => {
+        CellBase::Integer => write!(text, "{number}"),
+        CellBase::Boolean => text.push_str(if number == 0 { "false" } else { "true" }),
+        CellBase::Char => push_character(text, number),
+        CellBase::Enumeration(first, _) => {
             let place = usize::from(first).saturating_add(usize::from(number.unsigned_abs()));
             match constants.get(place) {
                 Some(name) => text.push_str(name.as_str()),
@@ -48,7 +48,7 @@ impl Legend {
     pub fn value(
         &self,
         alloc: Global,
-        shape: LegendShape,
+        shape: CellType,
         cells: &[i16],
         at: usize,
     ) -> Result<SourceValue, AllocError> {
@@ -60,26 +60,26 @@ impl Legend {
     fn value_below(
         &self,
         alloc: Global,
-        shape: LegendShape,
+        shape: CellType,
         cells: &[i16],
         at: usize,
         bound: usize,
     ) -> Result<SourceValue, AllocError> {
         match shape {
-            LegendShape::Ordinal(range) => self.ordinal(alloc, range.base, cell_at(cells, at)),
-            LegendShape::Queue => {
+            CellType::Ordinal(range) => self.ordinal(alloc, range.base, cell_at(cells, at)),
+            CellType::Queue => {
                 let is_waited = cell_at(cells, at) != 0;
                 let text = if is_waited { "waited in" } else { "empty" };
                 Ok(SourceValue::Named(String::from_str(alloc, text)?))
             }
-            LegendShape::Set(range) => self.set(alloc, range, cells, at),
-            LegendShape::Array(number) | LegendShape::Record(number) => {
+            CellType::Set(range) => self.set(alloc, range, cells, at),
+            CellType::Array(number) | CellType::Record(number) => {
                 if number < bound {
                     return self.compound(alloc, number, cells, at);
                 }
                 Ok(SourceValue::List(Vec::new(alloc)))
             }
-            LegendShape::System(_) => Ok(SourceValue::Named(String::new(alloc))),
+            CellType::System(_) => Ok(SourceValue::Named(String::new(alloc))),
         }
     }
 
@@ -99,7 +99,7 @@ impl Legend {
             let at = at.saturating_add(field.offset);
             members.push(Member {
                 name: field.name.clone()?,
-                value: self.value_below(alloc, field.shape, cells, at, number)?,
+                value: self.value_below(alloc, field.value_type, cells, at, number)?,
             })?;
         }
         Ok(SourceValue::Record(members))
@@ -109,7 +109,7 @@ impl Legend {
     fn elements(
         &self,
         alloc: Global,
-        array: LegendArray,
+        array: ArrayType,
         cells: &[i16],
         at: usize,
         bound: usize,
@@ -126,10 +126,10 @@ impl Legend {
     fn ordinal(
         &self,
         alloc: Global,
-        base: LegendBase,
+        base: CellBase,
         number: i16,
     ) -> Result<SourceValue, AllocError> {
-        if base == LegendBase::Integer {
+        if let CellBase::Integer = base {
             return Ok(SourceValue::Integer(number));
         }
         let mut text = String::new(alloc);
@@ -141,7 +141,7 @@ impl Legend {
     fn set(
         &self,
         alloc: Global,
-        range: LegendRange,
+        range: CellRange,
         cells: &[i16],
         at: usize,
     ) -> Result<SourceValue, AllocError> {

@@ -2,7 +2,8 @@
 
 use crate::json::Json;
 use crate::register::Register;
-use cp_legend::{Legend, LegendComponent, LegendShape};
+use cp_layout::CellType;
+use cp_legend::{Legend, LegendComponent};
 use cp_slots::ComponentKind;
 use std::alloc::{AllocError, Global};
 
@@ -19,7 +20,7 @@ pub struct KeptVariables {
     pub owner: Owner,
     /// Its name in what it belongs to.
     pub name: String,
-    pub shape: LegendShape,
+    pub shape: CellType,
     pub at: usize,
     pub end: usize,
 }
@@ -107,19 +108,14 @@ fn name_of(
 
 impl<'a> Register<'a> {
     /// The place of the text of a value, whose cells begin at a place.
-    pub fn place_value(&mut self, shape: LegendShape, cells: &[i16], at: usize) -> usize {
+    pub fn place_value(&mut self, shape: CellType, cells: &[i16], at: usize) -> usize {
         match self.value_text(shape, cells, at) {
             Ok(text) => self.strings.place_text(text.as_str()),
             Err(_) => self.strings.refuse(),
         }
     }
 
-    fn value_text(
-        &self,
-        shape: LegendShape,
-        cells: &[i16],
-        at: usize,
-    ) -> Result<String, AllocError> {
+    fn value_text(&self, shape: CellType, cells: &[i16], at: usize) -> Result<String, AllocError> {
         let value = self.legend.value(self.alloc, shape, cells, at)?;
         value.text(self.alloc)
     }

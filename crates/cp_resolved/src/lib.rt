@@ -5,4 +5,4 @@ pub mod laws;
 pub mod resolver;
 
 pub use laws::law_resolved;
-pub use resolver::resolve;
+pub use resolver::{resolve, resolve_with_symbols};

@@ -7,7 +7,7 @@ ghost use Rattle.cp_slots.specs.Tables.{tables_of};
 ghost use Rattle.cp_resolved.specs.Resolving.{IsProgramOf};
 
 use cp_check::Checked;
-use cp_layout::lay_out;
+use cp_layout::{Symbols, lay_out, lay_out_with_symbols};
 use cp_slots::{Layout, Resolved};
 use std::alloc::{AllocError, Global};
 
@@ -17,6 +17,17 @@ pub fn resolve(alloc: Global, checked: &Checked) -> Result<Resolved, AllocError>
 {
     let layout = lay_out(alloc, checked.tree())?;
     Ok(program_of(checked, layout))
+}
+
+/// The same, and what the names of the tree stand for in the tables.
+pub fn resolve_with_symbols(
+    alloc: Global,
+    checked: &Checked,
+) -> Result<(Resolved, Symbols), AllocError>
+    ensures { IfOk result (λ r. IsProgramOf (tree_view checked.now.tree) r.0) }
+{
+    let (layout, symbols) = lay_out_with_symbols(alloc, checked.tree())?;
+    Ok((program_of(checked, layout), symbols))
 }
 
 // The tables of a checked tree are sound. Only the contract speaks of the tree.

@@ -17,8 +17,9 @@ use crate::schedules::one_schedule;
 use crate::summaries::{ends_answer, outcomes_answer, page_answer};
 use cp_front::{
     Loaded, MOST_BYTES, ReadFault, Refusal, Sink, Source, StreamFault, drop_loaded, drop_refusal,
-    load, read_source, refusal_line, write_text,
+    load_with_symbols, read_source, refusal_line, write_text,
 };
+use cp_layout::Symbols;
 use cp_legend::{Legend, legend_of};
 use cp_progress::ObserveProgress;
 use cp_progress_line::ObserveWork;
@@ -97,10 +98,10 @@ fn answer_source<O: ObserveWork>(
 ) -> Result<ShowAnswer, AllocError>
     ensures { IfOk result (λ a. IsOfSource asked.now source.now a.verdict) }
 {
-    match load(alloc, source) {
-        Ok(loaded) => {
+    match load_with_symbols(alloc, source) {
+        Ok((loaded, symbols)) => {
             observer.observe_begin();
-            let answer = show_loaded(alloc, asked, observer, &loaded, source);
+            let answer = show_loaded(alloc, asked, observer, &loaded, symbols, source);
             observer.observe_end();
             drop_loaded(loaded);
             answer
@@ -150,11 +151,12 @@ fn show_loaded<O: ObserveProgress>(
     asked: &Asked,
     observer: &mut O,
     loaded: &Loaded,
+    symbols: Symbols,
     source: &[u8],
 ) -> Result<ShowAnswer, AllocError>
     ensures { IsProgramOf (tree_view loaded.now.checked.tree) loaded.now.program → IfOk result (λ a. IsOfProgram asked.now.part asked.now.options (tree_view loaded.now.checked.tree) a.verdict) }
 {
-    let legend = legend_of(alloc, loaded.checked.tree())?;
+    let legend = legend_of(alloc, &loaded.program, symbols)?;
     show_named(alloc, asked, observer, loaded, &legend, source)
 }
 

@@ -1,0 +1,69 @@
+//! The types of a program, as far as its values are to be written.
+
+use cp_layout::{ArrayType, CellRange, CellType, FieldSymbol, TypeSymbol};
+
+/// The cells of a set.
+const SET_CELLS: usize = 8;
+
+/// The arrays and records of a program. Each holds earlier ones alone.
+#[derive(Drop)]
+pub struct LegendTypes {
+    pub compounds: Vec<TypeSymbol>,
+}
+
+/// The value that comes so many after the least.
+pub fn nth(range: CellRange, number: usize) -> i16 {
+    let number = i16::try_from(number).unwrap_or(i16::MAX);
+    range.low.saturating_add(number)
+}
+
+impl LegendTypes {
+    /// How many arrays and records there are.
+    pub fn count(&self) -> usize {
+        self.compounds.len()
+    }
+
+    /// How many cells a value has. A component has none.
+    pub fn cells_of(&self, value_type: CellType) -> usize {
+        match value_type {
+            CellType::Ordinal(_) | CellType::Queue => 1,
+            CellType::Set(_) => SET_CELLS,
+            CellType::Array(number) | CellType::Record(number) => {
+                match self.compounds.get(number) {
+                    Some(TypeSymbol::Array(array)) => array.cells,
+                    Some(TypeSymbol::Record(_, cells)) => *cells,
+                    None => 0,
+                }
+            }
+            CellType::System(_) => 0,
+        }
+    }
+
+    /// The array of a number.
+    pub fn array(&self, number: usize) -> Option<ArrayType> {
+        match self.compounds.get(number) {
+            Some(TypeSymbol::Array(array)) => Some(*array),
+            _ => None,
+        }
+    }
+
+    /// The fields of the record of a number.
+    pub fn fields(&self, number: usize) -> &[FieldSymbol] {
+        match self.compounds.get(number) {
+            Some(TypeSymbol::Record(fields, _)) => fields.as_slice(),
+            _ => &[],
+        }
+    }
+
+    /// Whether a value is made of queues alone.
+    pub fn is_queues(&self, value_type: CellType) -> bool {
+        match value_type {
+            CellType::Queue => true,
+            CellType::Array(number) => match self.array(number) {
+                Some(array) => matches!(array.element, CellType::Queue),
+                None => false,
+            },
+            _ => false,
+        }
+    }
+}
