@@ -6,6 +6,7 @@ use cp_layout::{
     CellRange, CellType, FunctionResult, LayoutMeaning, RoutineSymbol, Symbol, SystemSymbol,
 };
 use cp_slots::PlaceOrigin;
+use cp_tree::SystemKind;
 use std::alloc::{AllocError, Global};
 
 /// Component variables of one name.
@@ -36,7 +37,7 @@ pub struct SortedSymbols {
 }
 
 impl SystemSymbols {
-    fn new(alloc: Global, kind: Option<cp_tree::SystemKind>) -> SystemSymbols {
+    fn new(alloc: Global, kind: Option<SystemKind>) -> SystemSymbols {
         SystemSymbols {
             system: LegendSystem {
                 name: String::new(alloc),
@@ -72,12 +73,12 @@ impl LegendRoutine {
     }
 
     // A function's result stands behind its parameters.
-    fn add_result(&mut self, result: FunctionResult) -> Result<(), AllocError> {
+    fn add_result(&mut self, returned: FunctionResult) -> Result<(), AllocError> {
         let at = self.parameters.len().min(self.variables.len());
         let variable = Variable {
             name: self.name.clone()?,
-            slot: result.slot,
-            shape: result.value_type,
+            slot: returned.slot,
+            shape: returned.value_type,
         };
         self.variables.insert(at, variable)?;
         self.result = Some(at);
@@ -199,9 +200,9 @@ impl SortedSymbols {
 
     fn add_results(&mut self, routines: &[RoutineSymbol]) -> Result<(), AllocError> {
         for (number, routine) in routines.iter().enumerate() {
-            if let Some(result) = routine.result {
+            if let Some(returned) = routine.result {
                 if let Some(drawn) = self.routines.get_mut(number) {
-                    drawn.add_result(result)?;
+                    drawn.add_result(returned)?;
                 }
             }
         }
