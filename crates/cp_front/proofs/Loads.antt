@@ -12,3 +12,6 @@ loads_by source tokens own t u text tree accepted e f = subst (λ (x : List Toke
 
 pub read_by : (source : List ℕ) (tokens : List Token) (t : Tree) → Loads source tokens t → IsRead t.program
 read_by source tokens t l = record { tokens = tokens; text = record { text = source; reads = l.text }; spelled = l.tree.spelled; proper = l.tree.proper }
+
+pub loads_again : (source : List ℕ) (tokens own : List Token) (t u : Tree) → Loads source tokens t → own ≡ tokens → u ≡ t → Loads source own u
+loads_again source tokens own t u l e f = loads_by source tokens own t u l.text l.tree l.accepted e f

@@ -1,12 +1,15 @@
+use Rattle.std.proofs.Common.{sym, subst}
 use Rattle.std.proofs.lemmas.Result.{IfErr-weaker, IfOk-weaker}
-use Rattle.cp_front.proofs.Scanning.{known_fault}
+use Rattle.cp_tree.specs.TreeView.{tree_view}
+use Rattle.cp_front.proofs.Loads.{loads_again}
+use Rattle.cp_front.specs.Loading.{IsRefusalOf}
+use Rattle.cp_front.specs.declared.refusal.Refusal.{Refusal}
 use Rattle.cp_front.proofs.loading.load.Goals as goal
 
 pub returns-in-Ok-clause-loaded : goal.returns-in-Ok-clause-loaded
-returns-in-Ok-clause-loaded c = IfOk-weaker c.load_tokens.result _ _ (λ l h. h c.args.source.now (c.in-Ok.ensures.reads (λ e. cc))) c.load_tokens.ensures.loaded
+returns-in-Ok-clause-loaded c =
+    IfOk-weaker c.resolve_checked.result _ _ (λ l h. loads_again c.args.source.now c.in-Ok.tokens l.tokens (tree_view c.in-Ok.checked.tree) (tree_view l.checked.tree) c.in-Ok.ensures.loaded h.0 h.1) c.resolve_checked.ensures.loaded
 
 pub returns-in-Ok-clause-refused : goal.returns-in-Ok-clause-refused
-returns-in-Ok-clause-refused c = IfErr-weaker c.load_tokens.result _ _ (λ r h. h c.args.source.now (c.in-Ok.ensures.reads (λ e. cc))) c.load_tokens.ensures.refused
-
-pub returns-in_default : goal.returns-in_default
-returns-in_default c = record { loaded = tt; stands = tt; refused = c.in-Err.ensures.reads (known_fault c.in-Err.fault c.in_default.not-Memory) }
+returns-in-Ok-clause-refused c =
+    IfErr-weaker c.resolve_checked.result _ _ (λ r e. subst (λ (x : Refusal). IsRefusalOf c.args.source.now x) (sym e) tt) c.resolve_checked.ensures.refused

@@ -1,8 +1,8 @@
 use Rattle.cp_front.proofs.Parsing.{without_tree}
-use Rattle.cp_front.proofs.loading.load_tokens.Goals as goal
+use Rattle.cp_front.proofs.loading.check_tokens.Goals as goal
 
-pub load_tree-requires : goal.load_tree-requires
-load_tree-requires c = let it = c.in-Ok in record { proper = it.ensures.proper.0; spelled = it.ensures.proper.1; lines = it.ensures.lines }
+pub check_tree-requires : goal.check_tree-requires
+check_tree-requires c = let it = c.in-Ok in record { proper = it.ensures.proper.0; spelled = it.ensures.proper.1; lines = it.ensures.lines }
 
 pub returns-in_default-clause-refused : goal.returns-in_default-clause-refused
 returns-in_default-clause-refused c = λ source text.
