@@ -20,8 +20,8 @@ impl Hashed for Phase {
     }
 
     #[inline(always)]
-    fn is(self, other: Phase) -> bool {
-        self == other
+    fn is(&self, other: &Phase) -> bool {
+        *self == *other
     }
 }
 
@@ -46,8 +46,8 @@ impl Hashed for Shown {
     }
 
     #[inline(always)]
-    fn is(self, other: Shown) -> bool {
-        self == other
+    fn is(&self, other: &Shown) -> bool {
+        *self == *other
     }
 }
 
@@ -69,8 +69,8 @@ impl Hashed for Address {
     }
 
     #[inline(always)]
-    fn is(self, other: Address) -> bool {
-        self == other
+    fn is(&self, other: &Address) -> bool {
+        *self == *other
     }
 }
 
@@ -96,10 +96,10 @@ impl Hashed for Entry {
     }
 
     #[inline(always)]
-    fn is(self, other: Entry) -> bool {
+    fn is(&self, other: &Entry) -> bool {
         match (self, other) {
             (Entry::Rest(item), Entry::Rest(same)) => item == same,
-            _ => is_entry(&self, &other),
+            _ => is_entry(self, other),
         }
     }
 }

@@ -119,6 +119,18 @@ pub fn take_guards(mine: &mut Vec<Gate>, theirs: &[Gate])
     ensures { map monitor_of mine.new.items ≡ map monitor_of theirs.now }
 {
     for at in 0..mine.len() {
-        mine[at] = copy_of_guard(&theirs[at]);
+        take_guard(&mut mine[at], &theirs[at]);
+    }
+}
+
+// A monitor becomes another one. At most gates nobody waits.
+#[inline(always)]
+fn take_guard(to: &mut Gate, from: &Gate)
+    ensures { monitor_of to.new ≡ monitor_of from.now }
+{
+    if to.line.is_empty() && from.line.is_empty() {
+        to.holder = from.holder;
+    } else {
+        *to = copy_of_guard(from);
     }
 }

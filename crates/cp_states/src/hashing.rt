@@ -14,9 +14,9 @@ pub trait Hashed: Copy + Drop {
         ensures { result ≡ code self };
 
     /// Whether it is another one.
-    fn is(self, other: Self) -> bool
-        ensures one { result ≡ true → self ≡ other }
-        ensures same { self ≡ other → result ≡ true };
+    fn is(&self, other: &Self) -> bool
+        ensures one { result ≡ true → self.now ≡ other.now }
+        ensures same { self.now ≡ other.now → result ≡ true };
 }
 
 /// What lists that are compared hold.
@@ -36,8 +36,8 @@ impl Hashed for u32 {
     }
 
     #[inline(always)]
-    fn is(self, other: u32) -> bool {
-        self == other
+    fn is(&self, other: &u32) -> bool {
+        *self == *other
     }
 }
 
@@ -57,8 +57,8 @@ impl Hashed for u8 {
     }
 
     #[inline(always)]
-    fn is(self, other: u8) -> bool {
-        self == other
+    fn is(&self, other: &u8) -> bool {
+        *self == *other
     }
 }
 
@@ -78,8 +78,8 @@ impl Hashed for usize {
     }
 
     #[inline(always)]
-    fn is(self, other: usize) -> bool {
-        self == other
+    fn is(&self, other: &usize) -> bool {
+        *self == *other
     }
 }
 
@@ -99,8 +99,8 @@ impl Hashed for i16 {
     }
 
     #[inline(always)]
-    fn is(self, other: i16) -> bool {
-        self == other
+    fn is(&self, other: &i16) -> bool {
+        *self == *other
     }
 }
 
@@ -160,7 +160,7 @@ pub fn are_one<T: Hashed>(list: &[T], other: &[T]) -> bool
         return false;
     }
     for at in 0..list.len() {
-        if !list[at].is(other[at]) {
+        if !list[at].is(&other[at]) {
             return false;
         }
     }

@@ -76,8 +76,12 @@ pub fn take_list<T: Copy>(to: &mut Vec<T>, from: &[T])
     ensures items { to.new.items ≡ from.now }
     ensures room { vec_capacity to.old ≤ vec_capacity to.new }
 {
-    to.clear();
-    if !from.is_empty() {
+    if from.is_empty() {
+        to.clear();
+    } else if to.len() == from.len() {
+        to.copy_from_slice(from);
+    } else {
+        to.clear();
         let _ = to.extend_from_slice(from);
     }
 }
