@@ -1,4 +1,4 @@
-//! How far a search by layers has come, told to whoever looks.
+//! How far work has come, told to whoever looks.
 #![tactic(auto)]
 
 /// What a search by layers has done.
@@ -15,10 +15,27 @@ pub struct Progress {
 /// A search goes on from so many states of a layer before it tells how far it has come. So a layer that takes long is told of too.
 pub const STATES_BETWEEN: u32 = 64;
 
-/// Whoever is told how far a search has come: after each layer, and within one now and then.
+/// What a walk over all schedules has done.
+#[derive(Clone, Copy, Drop)]
+pub struct WalkProgress {
+    /// How many schedules were found, by all threads.
+    pub schedules: usize,
+    /// From how many beginnings all schedules were found.
+    pub done: u32,
+    /// How many beginnings of schedules are dealt out to the threads.
+    pub beginnings: u32,
+}
+
+/// Whoever is told how far work has come: a search by layers after each layer, and within one now and then; a walk now and then.
 pub trait ObserveProgress {
+    /// Whether anything comes of what is told.
+    fn is_listening(&self) -> bool;
+
     /// What it does changes nothing in the search.
     fn observe_progress(&mut self, progress: Progress);
+
+    /// What it does changes nothing in the walk.
+    fn observe_walk(&mut self, progress: WalkProgress);
 }
 
 /// Nobody is told.
@@ -27,7 +44,17 @@ pub struct Unobserved;
 
 impl ObserveProgress for Unobserved {
     #[inline(always)]
+    fn is_listening(&self) -> bool {
+        false
+    }
+
+    #[inline(always)]
     fn observe_progress(&mut self, progress: Progress) {
+        let _ = progress;
+    }
+
+    #[inline(always)]
+    fn observe_walk(&mut self, progress: WalkProgress) {
         let _ = progress;
     }
 }

@@ -3,7 +3,7 @@
 ghost use Rattle.std.specs.Duration.{as_nanos};
 ghost use Rattle.std.specs.Prelude.{◌≡◌, ◌<◌, false, IfSome};
 
-use cp_progress::{ObserveProgress, Progress, Unobserved};
+use cp_progress::{ObserveProgress, Progress, Unobserved, WalkProgress};
 use std::alloc::{AllocError, Global};
 use std::io::{IsTerminal, Write};
 use std::time::{Clock, Duration};
@@ -83,6 +83,19 @@ impl<C: Clock + Drop, W: Write + Drop> ProgressLine<C, W> {
         }
     }
 
+    // Where a text is due, and there is one, it stands on the line from now on.
+    fn show(&mut self, now: Duration, text: Result<String, AllocError>) {
+        let Ok(text) = text else {
+            return;
+        };
+        let Ok(line) = line_over(self.alloc, text.as_str(), self.width) else {
+            return;
+        };
+        self.write(line.as_str());
+        self.width = text.len();
+        self.written = Some(now);
+    }
+
     fn write(&mut self, text: &str) {
         match &mut self.terminal {
             Some(terminal) => {
@@ -94,19 +107,20 @@ impl<C: Clock + Drop, W: Write + Drop> ProgressLine<C, W> {
 }
 
 impl<C: Clock + Drop, W: Write + Drop> ObserveProgress for ProgressLine<C, W> {
+    fn is_listening(&self) -> bool {
+        self.began.is_some()
+    }
+
     fn observe_progress(&mut self, progress: Progress) {
-        let Some(now) = self.time_to_write() else {
-            return;
-        };
-        let Ok(text) = text_of(self.alloc, self.counted, progress) else {
-            return;
-        };
-        let Ok(line) = line_over(self.alloc, text.as_str(), self.width) else {
-            return;
-        };
-        self.write(line.as_str());
-        self.width = text.len();
-        self.written = Some(now);
+        if let Some(now) = self.time_to_write() {
+            self.show(now, text_of(self.alloc, self.counted, progress));
+        }
+    }
+
+    fn observe_walk(&mut self, progress: WalkProgress) {
+        if let Some(now) = self.time_to_write() {
+            self.show(now, walk_text(self.alloc, progress));
+        }
     }
 }
 
@@ -173,6 +187,20 @@ fn text_of(alloc: Global, counted: &'static str, progress: Progress) -> Result<S
             )
         }
         None => format!(in alloc; "choices done: {choices}, states: {states}"),
+    }
+}
+
+// One beginning is the whole, and is done when all is.
+fn walk_text(alloc: Global, progress: WalkProgress) -> Result<String, AllocError> {
+    let WalkProgress {
+        schedules,
+        done,
+        beginnings,
+    } = progress;
+    if beginnings > 1 {
+        format!(in alloc; "schedules so far: {schedules}, beginnings done: {done} of {beginnings}")
+    } else {
+        format!(in alloc; "schedules so far: {schedules}")
     }
 }
 

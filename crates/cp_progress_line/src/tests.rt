@@ -1,7 +1,7 @@
 //! When the line is written, what it says, and that it goes.
 
 use crate::{ObserveWork, ProgressLine};
-use cp_progress::{ObserveProgress, Progress};
+use cp_progress::{ObserveProgress, Progress, WalkProgress};
 use std::alloc::Global;
 use std::cell::Cell;
 use std::io::{Error, ErrorKind, Result as IoResult, Write};
@@ -167,4 +167,48 @@ fn what_is_not_looked_for_is_not_told(rt: HostRuntime) {
         .into_terminal()
         .unwrap_or(FakeTerminal::new(rt.alloc(), false));
     assert!(rt; terminal.taken.as_slice() == "\rchoices done: 4, states: 7".as_bytes());
+}
+
+// What a terminal is told last of a walk from so many beginnings.
+fn told_of_walk(alloc: Global, beginnings: u32) -> FakeTerminal {
+    let clock = TickingClock {
+        reads: Cell::new(0),
+    };
+    let terminal = FakeTerminal::new(alloc, false);
+    let mut line = ProgressLine::new(alloc, clock, Some(terminal), "outcomes");
+    line.observe_begin();
+    for done in 0..20 {
+        line.observe_walk(WalkProgress {
+            schedules: 1_200,
+            done,
+            beginnings,
+        });
+    }
+    line.into_terminal()
+        .unwrap_or(FakeTerminal::new(alloc, false))
+}
+
+#[test]
+fn a_walk_tells_its_schedules(rt: HostRuntime) {
+    let terminal = told_of_walk(rt.alloc(), 1);
+    assert!(rt; terminal.taken.as_slice() == "\rschedules so far: 1200".as_bytes());
+}
+
+#[test]
+fn a_walk_from_beginnings_tells_how_many_are_done(rt: HostRuntime) {
+    let terminal = told_of_walk(rt.alloc(), 40);
+    let wanted = "\rschedules so far: 1200, beginnings done: 19 of 40";
+    assert!(rt; terminal.taken.as_slice() == wanted.as_bytes());
+}
+
+#[test]
+fn only_work_at_a_terminal_is_listened_to(rt: HostRuntime) {
+    let clock = TickingClock {
+        reads: Cell::new(0),
+    };
+    let terminal = FakeTerminal::new(rt.alloc(), false);
+    let mut line = ProgressLine::new(rt.alloc(), clock, Some(terminal), "outcomes");
+    assert!(rt; !line.is_listening());
+    line.observe_begin();
+    assert!(rt; line.is_listening());
 }
