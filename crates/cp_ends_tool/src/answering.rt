@@ -20,7 +20,7 @@ use std::thread::Threads;
 ///
 /// The whole text is built before the first write. Nothing is written after a failed read or where memory is refused, and a prefix of
 /// the text after a failed write. An observer is told how far a search has come.
-pub fn answer_stream<X: Threads + Sync, O: ObserveWork, R: Source, W: Sink>(
+pub fn answer_stream<X: Threads + Sync, O: ObserveWork + Send, R: Source, W: Sink>(
     rt: &X,
     alloc: Global,
     options: &Options,

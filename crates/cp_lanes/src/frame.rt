@@ -1,14 +1,15 @@
 //! What stands around the lanes: patterns, ground, heads, the end and the key.
 
 use crate::draw::all_wait;
-use crate::labels::{bold_width, cut_bold, cut_plain, plain_width};
+use crate::labels::{WIDTH, bold_width, cut_bold, cut_plain, plain_width};
 use crate::palette::{GREEN, GREY, HUES, INK, PALE, RED, SLATE, hue_of};
 use crate::pictures::Scene;
 use crate::plan::{Column, Plan, TOP};
 use crate::sheet::{EDGE, Sheet};
 use crate::svg::{Block, Style, Svg};
+use crate::wrapping::wrap;
 use cp_run::{OutcomeKind, RunEnd};
-use cp_story::{Story, end_words, wait_words};
+use cp_story::{Story, end_words, unused_words, wait_words};
 use std::alloc::{AllocError, Global};
 
 const FAINT: Style<'static> = Style {
@@ -173,6 +174,14 @@ fn bold(size: f64, fill: &'static str) -> Style<'static> {
     }
 }
 
+fn ink(size: f64) -> Style<'static> {
+    Style {
+        size,
+        fill: INK,
+        more: "",
+    }
+}
+
 fn light(size: f64) -> Style<'static> {
     Style {
         size,
@@ -325,8 +334,15 @@ fn draw_edge_with(svg: &mut Svg, plan: &Plan, top: f64, words: &str) {
     svg.close();
 }
 
-/// How the run stops, and who waits then.
-pub fn draw_end(alloc: Global, svg: &mut Svg, scene: Scene<'_>, plan: &Plan, top: f64) {
+/// What stands below the rows: how the run stops, who waits then, and that numbers of the schedule are not used.
+pub fn draw_end(
+    alloc: Global,
+    svg: &mut Svg,
+    scene: Scene<'_>,
+    plan: &Plan,
+    top: f64,
+    unused: &[String],
+) {
     match end_words(alloc, scene.story) {
         Ok(words) => draw_outcome(alloc, svg, scene, plan, top, words.as_str()),
         Err(_) => svg.refuse(),
@@ -340,6 +356,18 @@ pub fn draw_end(alloc: Global, svg: &mut Svg, scene: Scene<'_>, plan: &Plan, top
     for wait in &scene.story.waits {
         svg.words_made(26.0, y, style, wait_words(alloc, scene.legend, wait));
         y += 20.0;
+    }
+    for line in unused {
+        svg.words(26.0, y, ink(12.0), line.as_str().trim());
+        y += 20.0;
+    }
+}
+
+/// What says that numbers of the schedule are not used, in lines of a picture of this width.
+pub fn unused_lines(alloc: Global, story: &Story, width: f64) -> Result<Vec<String>, AllocError> {
+    match unused_words(alloc, story.left)? {
+        Some(words) => wrap(alloc, words.as_str(), width - 46.0, 12.0 * WIDTH),
+        None => Ok(Vec::new(alloc)),
     }
 }
 

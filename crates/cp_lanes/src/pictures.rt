@@ -1,7 +1,9 @@
 //! The whole picture.
 
 use crate::draw::spans_drawn;
-use crate::frame::{draw_again, draw_edges, draw_end, draw_ground, draw_heads, draw_patterns};
+use crate::frame::{
+    draw_again, draw_edges, draw_end, draw_ground, draw_heads, draw_patterns, unused_lines,
+};
 use crate::heading::{PictureHeading, draw_heading, heading_of};
 use crate::key::{draw_key, signs_of};
 use crate::labels::{PictureLabel, WIDTH, fixed_width, label_of, plain_width, points};
@@ -131,7 +133,8 @@ fn draw_parts(
 ) -> Result<String, AllocError> {
     let heading = heading_of(alloc, scene, plan.width)?;
     let bottom = sheet.bottom() + 34.0;
-    let key = bottom + 54.0 + points(scene.story.waits.len()) * 20.0;
+    let unused = unused_lines(alloc, scene.story, plan.width)?;
+    let key = bottom + 54.0 + points(scene.story.waits.len().saturating_add(unused.len())) * 20.0;
     let signs = signs_of(scene, sheet, spans);
     let height = key
         + if scene.is_plain {
@@ -147,7 +150,7 @@ fn draw_parts(
     spans_drawn(alloc, &mut svg, scene, plan, spans);
     draw_rows(alloc, &mut svg, scene, plan, sheet, spans, texts);
     draw_around(alloc, &mut svg, scene, plan, sheet);
-    draw_end(alloc, &mut svg, scene, plan, bottom);
+    draw_end(alloc, &mut svg, scene, plan, bottom, &unused);
     if !scene.is_plain {
         draw_key(&mut svg, signs, plan.width, key);
     }

@@ -24,5 +24,5 @@ pub use story::{MOST_NUMBERS, Story, Wait, tell};
 pub use texts::text;
 pub use words::{
     Stop, end_words, error_words, happening_words, kind_words, output_words, push_call,
-    push_returned, push_shown, refused_words, stop_words, wait_words,
+    push_returned, push_shown, refused_words, stop_words, unused_words, wait_words,
 };

@@ -4,7 +4,7 @@ use crate::event::{Change, Choice, StoryEvent};
 use crate::stopping::AbruptEnd;
 use crate::story::Story;
 use crate::tables::{TableRow, push_rows};
-use crate::words::{happening_words, push_process, refused_words, wait_words};
+use crate::words::{happening_words, push_process, refused_words, unused_words, wait_words};
 use cp_legend::Legend;
 use cp_run::RunEnd;
 use std::alloc::{AllocError, Global};
@@ -31,7 +31,7 @@ pub fn text(
         text.push('\n')?;
     }
     push_refused(alloc, &mut text, story)?;
-    push_left(&mut text, story.left)?;
+    push_unused(alloc, &mut text, story)?;
     text.push_str(end)?;
     Ok(text)
 }
@@ -46,15 +46,12 @@ fn push_refused(alloc: Global, text: &mut String, story: &Story) -> Result<(), A
 }
 
 // That numbers of the schedule were not used, if there are some.
-fn push_left(text: &mut String, left: usize) -> Result<(), AllocError> {
-    match left {
-        0 => Ok(()),
-        1 => text.push_str("the last number is not used: the run has ended before it\n"),
-        _ => write!(
-            text,
-            "the last {left} numbers are not used: the run has ended before them\n"
-        ),
+fn push_unused(alloc: Global, text: &mut String, story: &Story) -> Result<(), AllocError> {
+    if let Some(words) = unused_words(alloc, story.left)? {
+        text.push_str(words.as_str())?;
+        text.push('\n')?;
     }
+    Ok(())
 }
 
 fn event_row(alloc: Global, legend: &Legend, event: &StoryEvent) -> Result<TableRow, AllocError> {

@@ -246,6 +246,20 @@ pub fn output_words(
     Ok(text)
 }
 
+/// That so many last numbers of a schedule are not used, if there are some.
+pub fn unused_words(alloc: Global, left: usize) -> Result<Option<String>, AllocError> {
+    let words = match left {
+        0 => return Ok(None),
+        1 => "the last number is not used: the run has ended before it".to_string(alloc)?,
+        _ => {
+            format!(in alloc;
+                "the last {left} numbers are not used: the run has ended before them"
+            )?
+        }
+    };
+    Ok(Some(words))
+}
+
 /// Who can't be chosen, and who can: `9 can't go on here: 1 or 2`.
 pub fn refused_words(alloc: Global, choice: &Choice) -> Result<String, AllocError> {
     let number = choice.number;

@@ -13,6 +13,7 @@ use cp_explore::{
     gather,
 };
 use cp_machine::{Gates, Ticks};
+use cp_progress::Unobserved;
 use cp_run::{Limits, Outcome, OutcomeKind, Output};
 use cp_slots::Resolved;
 use std::alloc::{AllocError, Global};
@@ -112,7 +113,7 @@ pub static MEMBERS: [&[u8]; 5] = [&[0, 0], &[0, 1], &[0, 2], &[1, 0], &[1, 1]];
 /// Whether a cutting to depth 2 has these members.
 fn has_members_of_two(alloc: Global, program: &Resolved) -> Result<bool, Fail> {
     let mut cutting = whole(alloc, program, 5)?;
-    cutting.to_depth(alloc, 2)?;
+    cutting.to_depth(alloc, 2, &mut Unobserved)?;
     Ok(are_members(&cutting, &MEMBERS))
 }
 

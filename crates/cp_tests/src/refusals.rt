@@ -16,6 +16,7 @@ use cp_explore::{
     gather, report,
 };
 use cp_machine::{Gates, Shown, Ticks};
+use cp_progress::Unobserved;
 use cp_resolved::resolve;
 use cp_run::{Limits, OutcomeKind, RunEnd, run, trace};
 use cp_scope::{CheckFault, Rule};
@@ -290,7 +291,7 @@ fn refused_growth_of_a_split(rt: HostRuntime) -> Result<(), Fail> {
 
 /// A cutting's members are split to a depth.
 fn deepened(alloc: Global, cutting: &mut Cutting) -> CallAnswer {
-    match cutting.to_depth(alloc, 2) {
+    match cutting.to_depth(alloc, 2, &mut Unobserved) {
         Ok(()) => unrefused(are_members(cutting, &MEMBERS)),
         Err(_) => CallAnswer::Memory,
     }
@@ -298,7 +299,7 @@ fn deepened(alloc: Global, cutting: &mut Cutting) -> CallAnswer {
 
 /// The table of a cutting, by two workers.
 fn explored_by_two<X: Threads + Sync>(rt: &X, alloc: Global, cutting: &Cutting) -> CallAnswer {
-    match explore(rt, alloc, cutting, 2, &NoGate) {
+    match explore(rt, alloc, cutting, 2, &NoGate, &mut Unobserved) {
         Ok(table) => reported(alloc, cutting.job.program, &table),
         Err(ExploreFault::Memory) => CallAnswer::Memory,
         Err(ExploreFault::TooManyRows) => CallAnswer::Other,

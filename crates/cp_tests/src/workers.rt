@@ -5,6 +5,7 @@ use crate::programs::{TWO_DISPLAYS, program_of};
 use cp_drops::drop_program;
 use cp_explore::{Cutting, Job, NoGate, Report, StartGate, explore, report};
 use cp_machine::Gates;
+use cp_progress::Unobserved;
 use cp_run::Limits;
 use std::alloc::Global;
 use std::sync::atomic::{AtomicBool, AtomicU64, Ordering};
@@ -50,8 +51,8 @@ fn reported<X: Threads + Sync, G: StartGate + Sync>(
     requires workers { (0 < workers) × (workers ≤ 16) }
 {
     let mut cutting = Cutting::whole(alloc, job)?;
-    cutting.to_depth(alloc, depth)?;
-    let table = explore(rt, alloc, &cutting, workers, gate)?;
+    cutting.to_depth(alloc, depth, &mut Unobserved)?;
+    let table = explore(rt, alloc, &cutting, workers, gate, &mut Unobserved)?;
     Ok(report(alloc, job.program, &table, false)?)
 }
 

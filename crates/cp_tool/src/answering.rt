@@ -91,7 +91,7 @@ pub fn status_of(ending: Result<Verdict, StreamFault>) -> ExitStatus
 ///
 /// The whole text is built before the first write. Nothing is written after a failed read or where memory is refused, and a prefix of
 /// the text after a failed write. An observer is told how far the exploration has come.
-pub fn explore_stream<X: Threads + Sync, O: ObserveWork, R: Source, W: Sink>(
+pub fn explore_stream<X: Threads + Sync, O: ObserveWork + Send, R: Source, W: Sink>(
     rt: &X,
     alloc: Global,
     options: &Options,
@@ -106,7 +106,7 @@ pub fn explore_stream<X: Threads + Sync, O: ObserveWork, R: Source, W: Sink>(
     status_of(serve(rt, alloc, options, observer, source, sink))
 }
 
-fn serve<X: Threads + Sync, O: ObserveWork, R: Source, W: Sink>(
+fn serve<X: Threads + Sync, O: ObserveWork + Send, R: Source, W: Sink>(
     rt: &X,
     alloc: Global,
     options: &Options,
@@ -140,7 +140,7 @@ pub fn write_answer<W: Sink>(sink: &mut W, answer: &Answer) -> Result<Verdict, S
 }
 
 // What is answered to a source.
-fn answer_to<X: Threads + Sync, O: ObserveWork>(
+fn answer_to<X: Threads + Sync, O: ObserveWork + Send>(
     rt: &X,
     alloc: Global,
     options: &Options,
@@ -176,7 +176,7 @@ pub fn answer_refusal(alloc: Global, refusal: Refusal) -> Result<Answer, AllocEr
 }
 
 /// The trace of the schedule that the options name, or the report of all schedules.
-fn answer_program<X: Threads + Sync, O: ObserveProgress>(
+fn answer_program<X: Threads + Sync, O: ObserveProgress + Send>(
     rt: &X,
     alloc: Global,
     options: &Options,
@@ -197,7 +197,7 @@ fn answer_program<X: Threads + Sync, O: ObserveProgress>(
             if options.merge {
                 report_merged(alloc, options, observer, program)
             } else {
-                report_table(rt, alloc, options, program)
+                report_table(rt, alloc, options, observer, program)
             }
         }
     }
@@ -259,10 +259,11 @@ fn report_merged<O: ObserveProgress>(
 }
 
 /// The report of a program's table, or that it has too many rows.
-fn report_table<X: Threads + Sync>(
+fn report_table<X: Threads + Sync, O: ObserveProgress + Send>(
     rt: &X,
     alloc: Global,
     options: &Options,
+    observer: &mut O,
     program: &Resolved,
 ) -> Result<Answer, AllocError>
     requires { options.now.merge ≡ false }
@@ -271,7 +272,7 @@ fn report_table<X: Threads + Sync>(
     let Some(limits) = Limits::new(options.choices, options.steps, options.gates) else {
         unreachable!()
     };
-    match tabulate(rt, alloc, options, program, limits) {
+    match tabulate(rt, alloc, options, observer, program, limits) {
         Ok(table) => Ok(Answer {
             verdict: Verdict::Reported,
             text: report(alloc, program, &table, options.rows)?.text,
@@ -285,10 +286,11 @@ fn report_table<X: Threads + Sync>(
 }
 
 /// The table of a program. The threads draw the members of a cutting.
-fn tabulate<X: Threads + Sync>(
+fn tabulate<X: Threads + Sync, O: ObserveProgress + Send>(
     rt: &X,
     alloc: Global,
     options: &Options,
+    observer: &mut O,
     program: &Resolved,
     limits: Limits,
 ) -> Result<Table, ExploreFault>
@@ -300,11 +302,11 @@ fn tabulate<X: Threads + Sync>(
     let Ok(mut cutting) = Cutting::whole(alloc, Job { program, limits }) else {
         return Err(ExploreFault::Memory);
     };
-    let Ok(()) = deal(alloc, &mut cutting, options) else {
+    let Ok(()) = deal(alloc, &mut cutting, options, observer) else {
         return Err(ExploreFault::Memory);
     };
     let workers = workers_needed(options.workers, cutting.members().len());
-    explore(rt, alloc, &cutting, workers, &NoGate)
+    explore(rt, alloc, &cutting, workers, &NoGate, observer)
 }
 
 /// No more workers than there are members to draw: starting a thread costs more than a small exploration.

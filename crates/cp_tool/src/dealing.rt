@@ -4,6 +4,7 @@ ghost use Rattle.std.specs.Prelude.{◌≡◌, false};
 
 use crate::options::Options;
 use cp_explore::Cutting;
+use cp_progress::ObserveProgress;
 use std::alloc::{AllocError, Global};
 
 /// This many members for each worker are enough: who is done with a small one finds another to draw.
@@ -11,21 +12,36 @@ const MEMBERS_EACH: usize = 4;
 
 /// Cuts to the depth that the words ask for; where they ask for none, for the workers. A single worker draws the whole, so that nothing
 /// is run twice.
-pub fn deal(alloc: Global, cutting: &mut Cutting<'_>, options: &Options) -> Result<(), AllocError>
+pub fn deal<O: ObserveProgress>(
+    alloc: Global,
+    cutting: &mut Cutting<'_>,
+    options: &Options,
+    observer: &mut O,
+) -> Result<(), AllocError>
     ensures job { cutting.new.job ≡ cutting.old.job }
     ensures alone { options.now.cut_is_given ≡ false → options.now.workers ≡ 1 → cutting.new.words ≡ cutting.old.words }
 {
     if options.cut_is_given {
-        return cutting.to_depth(alloc, options.cut);
+        return cutting.to_depth(alloc, options.cut, observer);
     }
     if options.workers == 1 {
         return Ok(());
     }
-    spread(alloc, cutting, MEMBERS_EACH * usize::from(options.workers))
+    spread(
+        alloc,
+        cutting,
+        MEMBERS_EACH * usize::from(options.workers),
+        observer,
+    )
 }
 
 // Cuts level by level until there are enough members, or none is left to be split.
-fn spread(alloc: Global, cutting: &mut Cutting<'_>, enough: usize) -> Result<(), AllocError>
+fn spread<O: ObserveProgress>(
+    alloc: Global,
+    cutting: &mut Cutting<'_>,
+    enough: usize,
+    observer: &mut O,
+) -> Result<(), AllocError>
     ensures job { cutting.new.job ≡ cutting.old.job }
 {
     for depth in 1..=cutting.job.limits.choices {
@@ -33,7 +49,7 @@ fn spread(alloc: Global, cutting: &mut Cutting<'_>, enough: usize) -> Result<(),
         if before >= enough {
             return Ok(());
         }
-        cutting.to_depth(alloc, depth)?;
+        cutting.to_depth(alloc, depth, observer)?;
         if cutting.members().len() == before {
             return Ok(());
         }

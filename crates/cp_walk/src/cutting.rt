@@ -12,6 +12,7 @@ use crate::fault::SplitFault;
 use crate::job::Job;
 use crate::wanting::wanted_after;
 use arrayvec::ArrayVec;
+use cp_progress::{ObserveProgress, WalkProgress};
 use std::alloc::{AllocError, Global};
 
 /// The most members of a cutting.
@@ -69,14 +70,24 @@ impl<'a> Cutting<'a> {
     }
 
     /// Splits, again and again, the leftmost member that is shorter than `depth` and no leaf, until there is none or a split would be
-    /// Full.
-    pub fn to_depth(&mut self, alloc: Global, depth: u8) -> Result<(), AllocError>
+    /// Full. An observer is told how many there are.
+    pub fn to_depth<O: ObserveProgress>(
+        &mut self,
+        alloc: Global,
+        depth: u8,
+        observer: &mut O,
+    ) -> Result<(), AllocError>
         ensures job { self.new.job ≡ self.old.job }
         ensures splits { (n : ℕ) × (deepened (slots self.old.job.program.now self.old.job.limits.gates) self.old.job.limits.choices self.old.job.limits.steps depth n (words_of self.old.words.items) ≡ Some (words_of self.new.words.items)) }
         ensures done { OnOk result (deeper (slots self.old.job.program.now self.old.job.limits.gates) self.old.job.limits.choices self.old.job.limits.steps depth (words_of self.new.words.items) ≡ None) }
     {
         let mut at = 0;
         while at < self.words.len() {
+            observer.observe_walk(WalkProgress {
+                schedules: 0,
+                done: 0,
+                beginnings: self.words.len() as u32,
+            });
             match self.deepen_at(alloc, depth, at)? {
                 Some(next) => at = next,
                 None => return Ok(()),

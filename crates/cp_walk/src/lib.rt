@@ -12,6 +12,7 @@ mod key;
 mod member;
 mod memo;
 pub mod numbers;
+mod observer;
 pub mod one_thread;
 pub mod pieces;
 pub mod printed;

@@ -6,6 +6,7 @@ ghost use Rattle.cp_walk.specs.Cutting.{rows_behind};
 ghost use Rattle.cp_walk.specs.Rows.{line_of, IsTooMany};
 
 use crate::fault::ExploreFault;
+use crate::observer::ObserveWalk;
 use crate::one_thread::walk_on;
 use crate::row::Row;
 use cp_machine::{State, Ticks, Unwatched};
@@ -15,13 +16,14 @@ use std::alloc::Global;
 use std::sync::ledger::{Blank, Ledger};
 
 /// The rows of a table that begin with a word, which is replayed once.
-pub fn member_rows<S: Ledger, C: Ledger>(
+pub fn member_rows<S: Ledger, C: Ledger, N: ObserveWalk>(
     alloc: Global,
     program: &Resolved,
     limits: Limits,
     word: &[u8],
     blank: Blank,
     other: Blank,
+    observer: &N,
 ) -> Result<Vec<Row>, ExploreFault>
     requires name { blank.name ≡ S.name }
     requires parts { blank.parts ≡ S.parts }
@@ -62,6 +64,7 @@ pub fn member_rows<S: Ledger, C: Ledger>(
     let left = limits.choices - word.len() as u8;
     walk_on(
         alloc, program, limits, &mut state, halt, word, left, &mut rows, &mut steps, &mut calls,
+        observer,
     )?;
     Ok(rows)
 }

@@ -12,10 +12,12 @@ ghost use Rattle.cp_walk.specs.Walk.{behind, walk, IsDue};
 use crate::fault::ExploreFault;
 use crate::job::Job;
 use crate::memo::Walked;
+use crate::observer::ObserveWalk;
 use crate::row::{Row, Rows, Table};
 use crate::walk::walk_from;
 use crate::word::word_of;
 use cp_machine::{State, Ticks};
+use cp_progress::Unobserved;
 use cp_run::{Halt, Limits, open};
 use cp_slots::Resolved;
 use std::alloc::{AllocError, Global};
@@ -70,6 +72,7 @@ fn explore_counted<S: Ledger, C: Ledger>(
         &mut rows,
         &mut steps,
         calls,
+        &Unobserved,
     )?;
     Ok(Table {
         rows: Rows::new(rows),
@@ -77,7 +80,7 @@ fn explore_counted<S: Ledger, C: Ledger>(
 }
 
 /// Walks from a node on, of which no states are known: the rows that begin with `word`, after those that are there.
-pub fn walk_on<S: Ledger, C: Ledger>(
+pub fn walk_on<S: Ledger, C: Ledger, N: ObserveWalk>(
     alloc: Global,
     program: &Resolved,
     limits: Limits,
@@ -88,6 +91,7 @@ pub fn walk_on<S: Ledger, C: Ledger>(
     rows: &mut Vec<Row>,
     steps: &mut Ticks<S>,
     calls: &mut Ticks<C>,
+    observer: &N,
 ) -> Result<(), ExploreFault>
     requires own { IsStateOf program.now state.old }
     requires room { length word.now + left ≤ 20 }
@@ -118,6 +122,7 @@ pub fn walk_on<S: Ledger, C: Ledger>(
         &mut walked,
         steps,
         calls,
+        observer,
     )
 }
 

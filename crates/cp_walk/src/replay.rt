@@ -56,6 +56,7 @@ fn row_with_prefix(
 }
 
 /// Appends rows that are there already, with another beginning of their words and of what was displayed: that of a node like theirs.
+#[inline(never)]
 pub fn add_replayed(
     alloc: Global,
     state: &State,

@@ -6,16 +6,18 @@ ghost use Rattle.cp_board.specs.Seats.{IsSeatOf, view_of, tasks_of};
 ghost use Rattle.cp_walk.specs.Ends.{HasWorked};
 
 use crate::fault::ExploreFault;
+use crate::observer::ObserveWalk;
 use crate::worker::{EXCESS, MOST_NOTED, StartGate, TaskRows, Work, Worked, WorkerEnd};
 use cp_board::{Board, Seat};
 use std::alloc::Global;
 
 /// Draws until there is nothing more, until there are too many rows, or until memory is refused.
-pub fn draw_tasks<W: Work, G: StartGate>(
+pub fn draw_tasks<W: Work, G: StartGate, N: ObserveWalk>(
     alloc: Global,
     board: &Board,
     work: &W,
     gate: &G,
+    observer: &N,
     mut seat: Seat,
 ) -> Worked
     requires { IsSeatOf board.now seat × (view_of seat ≡ view 1 (tasks_of board.now) [] [] 0) }
@@ -24,7 +26,7 @@ pub fn draw_tasks<W: Work, G: StartGate>(
     let mut parts = Vec::new(alloc);
     while let Some(task) = board.claim(&mut seat) {
         gate.pass(task);
-        let rows = match work.rows_of(alloc, task) {
+        let rows = match work.rows_of(alloc, task, observer) {
             Ok(rows) => rows,
             Err(ExploreFault::TooManyRows) => {
                 board.note(&mut seat, EXCESS);
@@ -42,6 +44,7 @@ pub fn draw_tasks<W: Work, G: StartGate>(
                 };
             }
         };
+        observer.observe_task();
         let count = rows.len() as u32;
         if parts.push(TaskRows { task, rows }).is_err() {
             return Worked {

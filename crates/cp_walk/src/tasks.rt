@@ -5,6 +5,7 @@ ghost use Rattle.cp_walk.specs.Members.{member_rows};
 use crate::cutting::Cutting;
 use crate::fault::ExploreFault;
 use crate::member::member_rows;
+use crate::observer::ObserveWalk;
 use crate::row::Row;
 use crate::worker::Work;
 use std::alloc::Global;
@@ -14,17 +15,23 @@ use std::sync::ledger::Blank;
 impl Work for Cutting<'_> {
     ghost rows = { λ c i. member_rows c.job.program.now c.job.limits c.words.items i };
 
-    fn rows_of(&self, alloc: Global, task: u32) -> Result<Vec<Row>, ExploreFault> {
+    fn rows_of<N: ObserveWalk>(
+        &self,
+        alloc: Global,
+        task: u32,
+        observer: &N,
+    ) -> Result<Vec<Row>, ExploreFault> {
         let Some(word) = self.words.get(task as usize) else {
             return Ok(Vec::new(alloc));
         };
-        member_rows::<Brand, Brand>(
+        member_rows::<Brand, Brand, N>(
             alloc,
             self.job.program,
             self.job.limits,
             word.as_slice(),
             Blank::new(1),
             Blank::new(1),
+            observer,
         )
     }
 }

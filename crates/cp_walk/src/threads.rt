@@ -7,25 +7,30 @@ ghost use Rattle.cp_walk.specs.Rows.{line_of};
 
 use crate::cutting::Cutting;
 use crate::fault::ExploreFault;
+use crate::observer::SharedObserver;
 use crate::row::{Rows, Table};
 use crate::worker::StartGate;
 use crate::workers::explore_tasks;
+use cp_progress::ObserveProgress;
 use std::alloc::Global;
 use std::thread::Threads;
 
-/// The table of a cutting's job, by workers that draw its members. Each worker calls `gate` after it drew a member and before its runs.
-pub fn walk_on_threads<X: Threads + Sync, G: StartGate + Sync>(
+/// The table of a cutting's job, by workers that draw its members. Each worker calls `gate` after it drew a member and before its runs. An observer
+/// is told how far they have come.
+pub fn walk_on_threads<X: Threads + Sync, G: StartGate + Sync, O: ObserveProgress + Send>(
     rt: &X,
     alloc: Global,
     cutting: &Cutting,
     workers: u8,
     gate: &G,
+    observer: &mut O,
 ) -> Result<Table, ExploreFault>
     requires workers { (0 < workers) × (workers ≤ 16) }
     ensures table { IfOk result (λ t. map line_of t.rows ≡ table (slots cutting.now.job.program.now cutting.now.job.limits.gates) cutting.now.job.limits.choices cutting.now.job.limits.steps) }
     ensures few { IfOk result (λ t. length t.rows ≤ 50000) }
     ensures many { result ≡ Err ExploreFault.TooManyRows → 50000 < length (table (slots cutting.now.job.program.now cutting.now.job.limits.gates) cutting.now.job.limits.choices cutting.now.job.limits.steps) }
 {
+    let shared = SharedObserver::new(observer, cutting.words.len() as u32);
     match explore_tasks(
         rt,
         alloc,
@@ -33,6 +38,7 @@ pub fn walk_on_threads<X: Threads + Sync, G: StartGate + Sync>(
         cutting.words.len() as u32,
         workers,
         gate,
+        &shared,
     ) {
         Ok(rows) => Ok(Table {
             rows: Rows::new(rows),

@@ -13,6 +13,7 @@ ghost use Rattle.cp_walk.specs.Rows.{line_of, IsTooMany};
 
 use crate::fault::ExploreFault;
 use crate::memo::{Span, Walked};
+use crate::observer::ObserveWalk;
 use crate::replay::add_replayed;
 use crate::row::Row;
 use crate::word::word_of;
@@ -26,12 +27,13 @@ use std::sync::ledger::Ledger;
 /// The most rows of a table.
 pub const MOST_ROWS: usize = 50_000;
 
-fn add_row(
+fn add_row<N: ObserveWalk>(
     alloc: Global,
     state: &State,
     kind: OutcomeKind,
     word: &ArrayVec<u8, 20>,
     rows: &mut Vec<Row>,
+    observer: &N,
 ) -> Result<(), ExploreFault>
     ensures row { IfOk result (λ _. map line_of rows.new.items ≡ map line_of rows.old.items ++ record { word = word.now.items; outcome = record { kind = kind; output = output_of (machine_of state.now) } } ∷ []) }
     ensures few { IfOk result (λ _. length rows.new.items ≤ 50000) }
@@ -50,13 +52,14 @@ fn add_row(
         word: word_of(word.as_slice()),
         outcome,
     });
+    observer.observe_rows(1);
     Ok(())
 }
 
 /// Walks from a node, at the end of `word`; there is a kept state for each choice left. The node's state goes on with the last number
 /// that may be chosen, so that it is copied once less than there are numbers.
 #[cycle(walk_from)]
-pub fn walk_from<S: Ledger, C: Ledger>(
+pub fn walk_from<S: Ledger, C: Ledger, N: ObserveWalk>(
     alloc: Global,
     program: &Resolved,
     limits: Limits,
@@ -68,6 +71,7 @@ pub fn walk_from<S: Ledger, C: Ledger>(
     walked: &mut Walked,
     steps: &mut Ticks<S>,
     calls: &mut Ticks<C>,
+    observer: &N,
 ) -> Result<(), ExploreFault>
     requires own { IsStateOf program.now state.old }
     requires kept { All (IsStateOf program.now) kept.old }
@@ -87,10 +91,10 @@ pub fn walk_from<S: Ledger, C: Ledger>(
     ensures calls { IfOk result (λ _. calls.new + 1 ≤ calls.old + beginnings (words_in (walk (slots program.now limits.gates) limits.steps (length kept.old) (node_of halt (machine_of state.old))))) }
 {
     if let Halt::Ended(kind) = halt {
-        return add_row(alloc, state, kind, word, rows);
+        return add_row(alloc, state, kind, word, rows, observer);
     }
     let Some((next, deeper)) = kept.split_first_mut() else {
-        return add_row(alloc, state, OutcomeKind::ChoiceLimit, word, rows);
+        return add_row(alloc, state, OutcomeKind::ChoiceLimit, word, rows, observer);
     };
     let numbers = candidates(program, limits, state);
     let Some((last, others)) = numbers.as_slice().split_last() else {
@@ -100,16 +104,17 @@ pub fn walk_from<S: Ledger, C: Ledger>(
         next.take_from(state);
         walk_child(
             alloc, program, limits, next, *process, deeper, word, rows, walked, steps, calls,
+            observer,
         )?;
     }
     walk_child(
-        alloc, program, limits, state, *last, deeper, word, rows, walked, steps, calls,
+        alloc, program, limits, state, *last, deeper, word, rows, walked, steps, calls, observer,
     )
 }
 
 /// The same. Where a node like this one was walked, its rows are taken once more, with another beginning.
 #[cycle(walk_from)]
-fn walk_once<S: Ledger, C: Ledger>(
+fn walk_once<S: Ledger, C: Ledger, N: ObserveWalk>(
     alloc: Global,
     program: &Resolved,
     limits: Limits,
@@ -121,6 +126,7 @@ fn walk_once<S: Ledger, C: Ledger>(
     walked: &mut Walked,
     steps: &mut Ticks<S>,
     calls: &mut Ticks<C>,
+    observer: &N,
 ) -> Result<(), ExploreFault>
     requires own { IsStateOf program.now state.old }
     requires kept { All (IsStateOf program.now) kept.old }
@@ -141,12 +147,12 @@ fn walk_once<S: Ledger, C: Ledger>(
 {
     if let Halt::Ended(_) = halt {
         return walk_from(
-            alloc, program, limits, state, halt, kept, word, rows, walked, steps, calls,
+            alloc, program, limits, state, halt, kept, word, rows, walked, steps, calls, observer,
         );
     }
     if kept.is_empty() {
         return walk_from(
-            alloc, program, limits, state, halt, kept, word, rows, walked, steps, calls,
+            alloc, program, limits, state, halt, kept, word, rows, walked, steps, calls, observer,
         );
     }
     let Ok(key) = walked.key_of(state, kept.len() as u8) else {
@@ -154,15 +160,16 @@ fn walk_once<S: Ledger, C: Ledger>(
     };
     let Some(key) = key else {
         return walk_from(
-            alloc, program, limits, state, halt, kept, word, rows, walked, steps, calls,
+            alloc, program, limits, state, halt, kept, word, rows, walked, steps, calls, observer,
         );
     };
     if let Some(span) = walked.find(&key) {
+        observer.observe_rows(span.end.saturating_sub(span.first));
         return add_replayed(alloc, state, span, word.as_slice(), rows);
     }
     let first = rows.len();
     walk_from(
-        alloc, program, limits, state, halt, kept, word, rows, walked, steps, calls,
+        alloc, program, limits, state, halt, kept, word, rows, walked, steps, calls, observer,
     )?;
     let end = rows.len();
     walked.add(key, Span { first, end });
@@ -171,7 +178,7 @@ fn walk_once<S: Ledger, C: Ledger>(
 
 /// Takes a due choice in a state, and walks from where it leads to.
 #[cycle(walk_from)]
-fn walk_child<S: Ledger, C: Ledger>(
+fn walk_child<S: Ledger, C: Ledger, N: ObserveWalk>(
     alloc: Global,
     program: &Resolved,
     limits: Limits,
@@ -183,6 +190,7 @@ fn walk_child<S: Ledger, C: Ledger>(
     walked: &mut Walked,
     steps: &mut Ticks<S>,
     calls: &mut Ticks<C>,
+    observer: &N,
 ) -> Result<(), ExploreFault>
     requires own { IsStateOf program.now state.old }
     requires may { may (slots program.now limits.gates) (machine_of state.old) process ≡ true }
@@ -212,7 +220,7 @@ fn walk_child<S: Ledger, C: Ledger>(
     );
     word.push(process);
     walk_once(
-        alloc, program, limits, state, halt, deeper, word, rows, walked, steps, calls,
+        alloc, program, limits, state, halt, deeper, word, rows, walked, steps, calls, observer,
     )?;
     let _ = word.pop();
     Ok(())

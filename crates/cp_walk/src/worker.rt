@@ -6,6 +6,7 @@ ghost use Rattle.cp_board.specs.Seats.{IsSeatOf, view_of, tasks_of};
 ghost use Rattle.cp_walk.specs.declared.row.Row.{Row};
 
 use crate::fault::ExploreFault;
+use crate::observer::ObserveWalk;
 use crate::row::Row;
 use cp_board::Seat;
 use std::alloc::Global;
@@ -22,8 +23,13 @@ pub trait Work {
 
     ghost rows: { Self → ℕ → List Row };
 
-    /// The rows of a task, unless there are more than 50,000.
-    fn rows_of(&self, alloc: Global, task: u32) -> Result<Vec<Row>, ExploreFault>
+    /// The rows of a task, unless there are more than 50,000. An observer is told of them.
+    fn rows_of<N: ObserveWalk>(
+        &self,
+        alloc: Global,
+        task: u32,
+        observer: &N,
+    ) -> Result<Vec<Row>, ExploreFault>
         ensures rows { IfOk result (λ v. v.items ≡ take 50001 (rows self.now task)) }
         ensures many { IfErr result (λ e. IsTooMany e → 50000 < length (rows self.now task)) };
 }

@@ -7,6 +7,7 @@ ghost use Rattle.cp_walk.specs.Ends.{HasWorked};
 
 use crate::collect::{collect_parts, gather_rows};
 use crate::fault::ExploreFault;
+use crate::observer::ObserveWalk;
 use crate::row::Row;
 use crate::running::draw_tasks;
 use crate::worker::{MOST_NOTED, StartGate, Work, Worked};
@@ -16,13 +17,14 @@ use std::thread;
 use std::thread::Threads;
 
 /// The rows of all tasks in order, whatever the threads do.
-pub fn explore_tasks<X: Threads + Sync, W: Work + Sync, G: StartGate + Sync>(
+pub fn explore_tasks<X: Threads + Sync, W: Work + Sync, G: StartGate + Sync, N: ObserveWalk + Sync>(
     rt: &X,
     alloc: Global,
     work: &W,
     tasks: u32,
     workers: u8,
     gate: &G,
+    observer: &N,
 ) -> Result<Vec<Row>, ExploreFault>
     requires tasks { tasks ≤ 4096 }
     requires workers { (0 < workers) × (workers ≤ 16) }
@@ -42,7 +44,7 @@ pub fn explore_tasks<X: Threads + Sync, W: Work + Sync, G: StartGate + Sync>(
         &|seat: Seat| -> Worked
             requires { IsSeatOf shared.now seat × (view_of seat ≡ view 1 (tasks_of shared.now) [] [] 0) }
             ensures { HasWorked (W.rows work.entry.now) shared.entry.now result }
-        { draw_tasks(alloc, shared, work, gate, seat) },
+        { draw_tasks(alloc, shared, work, gate, observer, seat) },
     ) else {
         return Err(ExploreFault::Memory);
     };

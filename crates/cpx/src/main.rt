@@ -116,7 +116,7 @@ fn explore_input<X: Threads + Sync>(threads: &X, rt: &HostRuntime, options: &Opt
 }
 
 /// The status of answering what standard input has; the blanks are for the counts of the streams' calls.
-fn explored<X: Threads + Sync, O: ObserveWork, A: Ledger, B: Ledger>(
+fn explored<X: Threads + Sync, O: ObserveWork + Send, A: Ledger, B: Ledger>(
     rt: &X,
     alloc: Global,
     options: &Options,

@@ -8,7 +8,7 @@ use Rattle.cp_walk.proofs.Deepened.{all_settled, deepened_more}
 use Rattle.cp_walk.proofs.cutting.Cutting.to_depth.Goals as goal
 
 pub loop-at-preserved : goal.loop-at-preserved
-loop-at-preserved c =
+loop-at-preserved g c =
     let job = c.args.self.now.job in
     let sys = slots job.program.now job.limits.gates in
     let old = words_of c.args.self.now.words.items in
@@ -25,7 +25,7 @@ loop-at-preserved c =
     }
 
 pub returns-clause-done : goal.returns-clause-done
-returns-clause-done c =
+returns-clause-done g c =
     let job = c.args.self.now.job in
     let sys = slots job.program.now job.limits.gates in
     let items = c.loop-at.self.words.items in

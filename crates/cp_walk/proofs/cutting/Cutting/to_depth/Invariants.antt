@@ -6,7 +6,7 @@ use Rattle.cp_walk.specs.Members.{words_of}
 use Rattle.cp_walk.proofs.cutting.Cutting.to_depth.Given as goal
 
 abbrev pub invariant-loop-at : goal.invariant-loop-at
-invariant-loop-at l =
+invariant-loop-at g l =
     record {
       job : l.self.job ≡ l.fn.self.job;
       within : l.at ≤ length l.self.words.items;
@@ -15,4 +15,4 @@ invariant-loop-at l =
     }
 
 abbrev pub decreases-loop-at : goal.decreases-loop-at
-decreases-loop-at l = weight (words_of l.self.words.items) l.at
+decreases-loop-at g l = weight (words_of l.self.words.items) l.at

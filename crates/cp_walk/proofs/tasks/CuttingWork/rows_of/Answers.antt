@@ -8,7 +8,7 @@ use Rattle.cp_walk.proofs.MemberTables.{taken_whole, get_at}
 use Rattle.cp_walk.proofs.tasks.CuttingWork.rows_of.Goals as goal
 
 pub returns-clause-rows : goal.returns-clause-rows
-returns-clause-rows c =
+returns-clause-rows g c =
     let r = c.args.self.now.job.program.now in
     let l = c.args.self.now.job.limits in
     let words = c.args.self.now.words.items in
@@ -18,7 +18,7 @@ returns-clause-rows c =
     ok_both c.member_rows.result _ _ _ c.member_rows.ensures.rows c.member_rows.ensures.few (λ v lines few. taken_whole v.items (lines_behind r l (slice_get words c.args.task)) (lines ∙ same) few)
 
 pub returns-clause-many : goal.returns-clause-many
-returns-clause-many c =
+returns-clause-many g c =
     let r = c.args.self.now.job.program.now in
     let l = c.args.self.now.job.limits in
     let words = c.args.self.now.words.items in
