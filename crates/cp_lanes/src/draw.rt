@@ -1,6 +1,6 @@
 //! Lanes: lives, stays, waits and holds.
 
-use crate::labels::{Face, PictureLabel, points, push_routine};
+use crate::labels::{Face, PictureLabel, points, put_routine};
 use crate::palette::{RED, hue_of};
 use crate::pictures::Scene;
 use crate::plan::Plan;
@@ -8,6 +8,7 @@ use crate::sheet::Sheet;
 use crate::spans::{Hold, Life, Pause, Spans, Stay};
 use crate::svg::{Block, Style, Svg};
 use crate::wrapping::label_lines;
+use cp_prose::Prose;
 use cp_run::{OutcomeKind, RunEnd};
 use cp_story::{Story, push_call};
 use std::alloc::{AllocError, Global};
@@ -194,13 +195,18 @@ fn resumed_lines(
     stay: &Stay,
     room: f64,
 ) -> Result<Vec<String>, AllocError> {
-    let mut words = String::from_str(alloc, "in ")?;
-    push_routine(scene.legend, &mut words, stay.call, &[])?;
     let label = PictureLabel {
-        words,
+        words: resumed_words(alloc, scene, stay)?,
         face: Face::Plain,
         brief: None,
         pill: None,
     };
     label_lines(alloc, &label, room, room)
+}
+
+fn resumed_words(alloc: Global, scene: Scene<'_>, stay: &Stay) -> Result<String, AllocError> {
+    let mut words = Prose::new(alloc);
+    words.put("in ");
+    put_routine(alloc, scene.legend, &mut words, stay.call, &[]);
+    words.finish()
 }

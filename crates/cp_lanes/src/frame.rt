@@ -1,13 +1,14 @@
 //! What stands around the lanes: patterns, ground, heads, the end and the key.
 
 use crate::draw::all_wait;
-use crate::labels::{WIDTH, bold_width, cut_bold, cut_plain, plain_width};
+use crate::labels::{BOLD, WIDTH, bold_width, cut_bold, cut_plain, plain_width, points};
 use crate::palette::{GREEN, GREY, HUES, INK, PALE, RED, SLATE, hue_of};
 use crate::pictures::Scene;
 use crate::plan::{Column, Plan, TOP};
 use crate::sheet::{EDGE, Sheet};
 use crate::svg::{Block, Style, Svg};
 use crate::wrapping::wrap;
+use cp_prose::Prose;
 use cp_run::{OutcomeKind, RunEnd};
 use cp_story::{Story, end_words, unused_words, wait_words};
 use std::alloc::{AllocError, Global};
@@ -107,8 +108,7 @@ fn draw_lane_head(alloc: Global, svg: &mut Svg, scene: Scene<'_>, plan: &Plan, p
     let lane = plan.lane(process);
     let name = scene.legend.process_name(process);
     let type_name = scene.legend.process_type(process);
-    let opened = open_lane(alloc, svg, process, name, type_name);
-    svg.keep(opened);
+    open_lane(svg, process, name, type_name);
     svg.block(Block {
         radius: 6.0,
         ..plain(lane.left, 52.0, lane.width, 30.0, "#eaeef2")
@@ -124,19 +124,17 @@ fn draw_lane_head(alloc: Global, svg: &mut Svg, scene: Scene<'_>, plan: &Plan, p
     svg.close();
 }
 
-fn open_lane(
-    alloc: Global,
-    svg: &mut Svg,
-    process: u8,
-    name: &str,
-    type_name: &str,
-) -> Result<(), AllocError> {
-    let mut title = format!(in alloc; "process {process}: ")?;
-    title.push_str(name)?;
-    title.push(' ')?;
-    title.push_str(type_name)?;
-    svg.open(title.as_str().trim());
-    Ok(())
+fn open_lane(svg: &mut Svg, process: u8, name: &str, type_name: &str) {
+    svg.begin_title();
+    svg.raw("process ");
+    svg.digits(u32::from(process));
+    svg.raw(": ");
+    svg.escaped(name);
+    if !type_name.is_empty() {
+        svg.raw(" ");
+        svg.escaped(type_name);
+    }
+    svg.end_title();
 }
 
 // The name of a process and its type, one below the other where there is no room for both in a line.
@@ -162,8 +160,7 @@ fn draw_names(alloc: Global, svg: &mut Svg, lane: Column, name: &str, type_name:
         );
         return;
     }
-    let drawn = draw_halves(alloc, svg, left, bold(10.0, INK), room, name);
-    svg.keep(drawn);
+    draw_halves(alloc, svg, left, bold(10.0, INK), room, name);
 }
 
 fn bold(size: f64, fill: &'static str) -> Style<'static> {
@@ -233,43 +230,53 @@ fn draw_bar_name(alloc: Global, svg: &mut Svg, middle: f64, room: f64, name: &st
         return;
     }
     let small = Style { size: 9.5, ..style };
-    let drawn = draw_halves(alloc, svg, middle, small, room, name);
-    svg.keep(drawn);
+    draw_halves(alloc, svg, middle, small, room, name);
 }
 
 // A name in two lines, of which the second one is cut where there is no room.
-fn draw_halves(
-    alloc: Global,
-    svg: &mut Svg,
-    x: f64,
-    style: Style<'_>,
-    room: f64,
-    name: &str,
-) -> Result<(), AllocError> {
-    let (first, rest) = halves(alloc, name, room, style.size)?;
-    svg.words(x, 64.5, style, first.as_str());
+fn draw_halves(alloc: Global, svg: &mut Svg, x: f64, style: Style<'_>, room: f64, name: &str) {
+    let count = count_fitting(name, room, style.size);
+    svg.words_made(x, 64.5, style, part_of_name(alloc, name, 0, count));
     svg.words_made(
         x,
         77.0,
         style,
-        cut_bold(alloc, rest.as_str(), room, style.size),
+        rest_of_name(alloc, name, count, room, style.size),
     );
-    Ok(())
 }
 
-// As many characters as there is room for, and the others.
-fn halves(alloc: Global, name: &str, room: f64, size: f64) -> Result<(String, String), AllocError> {
-    let mut first = String::new(alloc);
-    let mut rest = String::new(alloc);
-    for character in name.chars() {
-        let is_full = bold_width(first.as_str(), size) + bold_width("m", size) > room;
-        if is_full || !rest.is_empty() {
-            rest.push(character)?;
-        } else {
-            first.push(character)?;
+// How many characters there is room for.
+fn count_fitting(name: &str, room: f64, size: f64) -> usize {
+    let mut count = 0usize;
+    for _ in name.chars() {
+        if points(count) * size * BOLD + bold_width("m", size) <= room {
+            count = count.saturating_add(1);
         }
     }
-    Ok((first, rest))
+    count
+}
+
+// The characters after the first ones, cut where there is no room.
+fn rest_of_name(
+    alloc: Global,
+    name: &str,
+    count: usize,
+    room: f64,
+    size: f64,
+) -> Result<String, AllocError> {
+    let rest = part_of_name(alloc, name, count, usize::MAX)?;
+    cut_bold(alloc, rest.as_str(), room, size)
+}
+
+// The characters from a place on up to another one.
+fn part_of_name(alloc: Global, name: &str, from: usize, to: usize) -> Result<String, AllocError> {
+    let mut part = Prose::new(alloc);
+    for (place, character) in name.chars().enumerate() {
+        if from <= place && place < to {
+            part.put_char(character);
+        }
+    }
+    part.finish()
 }
 
 /// A bracket from a row to the last one, which says that they can be gone again and again.

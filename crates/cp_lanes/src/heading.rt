@@ -6,6 +6,7 @@ use crate::pictures::Scene;
 use crate::svg::{Style, Svg};
 use crate::title::sentence;
 use crate::wrapping::{break_lines, wrap_in_lines};
+use cp_prose::Prose;
 use std::alloc::{AllocError, Global};
 
 /// The most lines of a heading, after which it is cut.
@@ -40,21 +41,14 @@ pub fn heading_of(
     scene: Scene<'_>,
     width: f64,
 ) -> Result<PictureHeading, AllocError> {
-    let title = sentence(alloc, scene.source)?;
-    let room = width - 40.0;
-    let lines = if title.is_empty() {
-        Vec::new(alloc)
-    } else {
-        wrap_in_lines(alloc, title.as_str(), room, 16.0 * BOLD, MOST_LINES)?
+    let mut heading = PictureHeading {
+        title: sentence(alloc, scene.source)?,
+        lines: Vec::new(alloc),
+        schedule: Vec::new(alloc),
+        is_beside: false,
     };
-    let schedule = schedule_in_lines(alloc, scene, room)?;
-    let is_beside = fits_beside(&lines, &schedule, room);
-    Ok(PictureHeading {
-        title,
-        lines,
-        schedule,
-        is_beside,
-    })
+    heading.break_all(alloc, scene, width - 40.0)?;
+    Ok(heading)
 }
 
 fn schedule_in_lines(
@@ -65,9 +59,15 @@ fn schedule_in_lines(
     if scene.is_plain {
         return Ok(Vec::new(alloc));
     }
-    let mut words = String::from_str(alloc, "schedule ")?;
-    words.push_str(scene.schedule)?;
+    let words = schedule_words(alloc, scene)?;
     break_lines(alloc, words.as_str(), '.', room, 12.5 * WIDTH)
+}
+
+fn schedule_words(alloc: Global, scene: Scene<'_>) -> Result<String, AllocError> {
+    let mut words = Prose::new(alloc);
+    words.put("schedule ");
+    words.put(scene.schedule);
+    words.finish()
 }
 
 // Whether a line of the heading and one of the schedule have room side by side.
@@ -81,6 +81,17 @@ fn fits_beside(lines: &[String], schedule: &[String], room: f64) -> bool {
 }
 
 impl PictureHeading {
+    // Breaks the heading and the schedule into lines for which there is room.
+    fn break_all(&mut self, alloc: Global, scene: Scene<'_>, room: f64) -> Result<(), AllocError> {
+        if !self.title.is_empty() {
+            let each = 16.0 * BOLD;
+            self.lines = wrap_in_lines(alloc, self.title.as_str(), room, each, MOST_LINES)?;
+        }
+        self.schedule = schedule_in_lines(alloc, scene, room)?;
+        self.is_beside = fits_beside(&self.lines, &self.schedule, room);
+        Ok(())
+    }
+
     // How many lines there are.
     fn count(&self) -> usize {
         if self.is_beside {

@@ -2,6 +2,7 @@
 
 use crate::sheet::{Fold, PictureRow};
 use cp_legend::{Legend, SourceValue};
+use cp_prose::Prose;
 use cp_story::{Happening, OpenCall, Returned, Story, StoryEvent, push_returned, push_shown};
 use std::alloc::{AllocError, Global};
 
@@ -62,17 +63,17 @@ pub fn cut_to_fit(
     if points(words.chars().count()) * each <= room {
         return String::from_str(alloc, words);
     }
-    let mut text = String::new(alloc);
+    let mut text = Prose::new(alloc);
     let mut used = each;
     for character in words.chars() {
         used += each;
         if used > room {
             break;
         }
-        text.push(character)?;
+        text.put_char(character);
     }
-    text.push_str("…")?;
-    Ok(text)
+    text.put("…");
+    text.finish()
 }
 
 pub fn cut_plain(alloc: Global, words: &str, room: f64, size: f64) -> Result<String, AllocError> {
@@ -96,23 +97,29 @@ pub fn label_of(
 ) -> Result<Option<PictureLabel>, AllocError> {
     match row.fold {
         Fold::None => match story.events.get(row.first) {
-            Some(event) => Ok(Some(event_label(alloc, legend, event)?)),
+            Some(event) => event_label(alloc, legend, event),
             None => Ok(None),
         },
-        Fold::Starts => {
-            let count = row.count;
-            plain_label(format!(in alloc; "starts {count}")?)
-        }
-        Fold::Rounds(rounds) => {
-            let count = row.count;
-            plain_label(format!(in alloc; "the same {rounds} times more: {count} events")?)
-        }
+        Fold::Starts => starts_label(alloc, row.count),
+        Fold::Rounds(rounds) => rounds_label(alloc, rounds, row.count),
     }
 }
 
-fn plain_label(words: String) -> Result<Option<PictureLabel>, AllocError> {
+fn starts_label(alloc: Global, count: usize) -> Result<Option<PictureLabel>, AllocError> {
+    plain_label(format!(in alloc; "starts {count}"))
+}
+
+fn rounds_label(
+    alloc: Global,
+    rounds: usize,
+    count: usize,
+) -> Result<Option<PictureLabel>, AllocError> {
+    plain_label(format!(in alloc; "the same {rounds} times more: {count} events"))
+}
+
+fn plain_label(words: Result<String, AllocError>) -> Result<Option<PictureLabel>, AllocError> {
     Ok(Some(PictureLabel {
-        words,
+        words: words?,
         brief: None,
         face: Face::Faint,
         pill: None,
@@ -123,35 +130,58 @@ fn event_label(
     alloc: Global,
     legend: &Legend,
     event: &StoryEvent,
-) -> Result<PictureLabel, AllocError> {
-    let mut words = String::new(alloc);
-    push_words(legend, &mut words, event)?;
-    let brief = brief_words(&words, &event.returned)?;
-    push_returned(&mut words, &event.returned)?;
-    let face = face_of(event);
-    let mut pill = None;
-    if let Happening::Display(value) = &event.happening {
-        let mut shown = String::new(alloc);
-        push_shown(legend, &mut shown, *value)?;
-        pill = Some(shown);
-    }
-    Ok(PictureLabel {
-        words,
-        brief,
-        face,
-        pill,
-    })
+) -> Result<Option<PictureLabel>, AllocError> {
+    let mut label = PictureLabel {
+        words: event_words(alloc, legend, event)?,
+        brief: None,
+        face: face_of(event),
+        pill: None,
+    };
+    label.complete(alloc, legend, event)?;
+    Ok(Some(label))
+}
+
+// The value that an event displays.
+fn pill_of(
+    alloc: Global,
+    legend: &Legend,
+    event: &StoryEvent,
+) -> Result<Option<String>, AllocError> {
+    let Happening::Display(value) = event.happening else {
+        return Ok(None);
+    };
+    let mut shown = String::new(alloc);
+    push_shown(legend, &mut shown, value)?;
+    Ok(Some(shown))
+}
+
+fn event_words(alloc: Global, legend: &Legend, event: &StoryEvent) -> Result<String, AllocError> {
+    let mut words = Prose::new(alloc);
+    put_words(alloc, legend, &mut words, event);
+    words.put_made(values_by_name(alloc, &event.returned));
+    words.finish()
 }
 
 // What happened, and one value that comes back without its name; none where there are more values, or none.
-fn brief_words(words: &String, returned: &[Returned]) -> Result<Option<String>, AllocError> {
-    let (1, Some(one)) = (returned.len(), returned.first()) else {
+fn brief_words(
+    alloc: Global,
+    legend: &Legend,
+    event: &StoryEvent,
+) -> Result<Option<String>, AllocError> {
+    let (1, Some(one)) = (event.returned.len(), event.returned.first()) else {
         return Ok(None);
     };
-    let mut brief = words.clone()?;
-    brief.push_str(", = ")?;
-    one.value.push_to(&mut brief)?;
-    Ok(Some(brief))
+    let mut brief = Prose::new(alloc);
+    put_words(alloc, legend, &mut brief, event);
+    brief.put(", = ");
+    brief.put_made(one.value.text(alloc));
+    Ok(Some(brief.finish()?))
+}
+
+fn values_by_name(alloc: Global, returned: &[Returned]) -> Result<String, AllocError> {
+    let mut text = String::new(alloc);
+    push_returned(&mut text, returned)?;
+    Ok(text)
 }
 
 fn face_of(event: &StoryEvent) -> Face {
@@ -163,71 +193,86 @@ fn face_of(event: &StoryEvent) -> Face {
     }
 }
 
-fn push_words(legend: &Legend, words: &mut String, event: &StoryEvent) -> Result<(), AllocError> {
+fn put_words(alloc: Global, legend: &Legend, words: &mut Prose, event: &StoryEvent) {
     match &event.happening {
         Happening::Enter {
             call,
             arguments,
             waits,
         } => {
-            push_routine(legend, words, *call, arguments)?;
-            words.push_str(if *waits { ", at the gate" } else { "" })
+            put_routine(alloc, legend, words, *call, arguments);
+            words.put(if *waits { ", at the gate" } else { "" });
         }
-        Happening::Leave(_) => words.push_str("leaves"),
-        Happening::Delay(queue, _) => push_queue(words, "delay(", queue.name.as_str()),
+        Happening::Leave(_) => words.put("leaves"),
+        Happening::Delay(queue, _) => put_queue(words, "delay(", queue.name.as_str()),
         Happening::Continue(queue, _) => {
-            push_queue(words, "continue(", queue.name.as_str())?;
-            if event.wakes_nobody() {
-                words.push_str(": nobody waits")?;
-            }
-            push_woken(words, event.woken.as_slice())
+            put_queue(words, "continue(", queue.name.as_str());
+            words.put(if event.wakes_nobody() {
+                ": nobody waits"
+            } else {
+                ""
+            });
+            put_woken(words, event.woken.as_slice());
         }
         Happening::Start(process) => {
-            words.push_str("starts ")?;
-            words.push_str(legend.process_name(*process))
+            words.put("starts ");
+            words.put(legend.process_name(*process));
         }
-        Happening::Display(_) => words.push_str("displays"),
-        Happening::End => words.push_str("ends"),
-        Happening::Admit(_) => words.push_str("is let in"),
+        Happening::Display(_) => words.put("displays"),
+        Happening::End => words.put("ends"),
+        Happening::Admit(_) => words.put("is let in"),
     }
 }
 
 /// Appends a call with its routine first: the colour names the monitor.
-pub fn push_routine(
+pub fn put_routine(
+    alloc: Global,
     legend: &Legend,
-    words: &mut String,
+    words: &mut Prose,
     call: OpenCall,
     arguments: &[SourceValue],
-) -> Result<(), AllocError> {
-    words.push_str(legend.routine_name(call.routine))?;
+) {
+    words.put(legend.routine_name(call.routine));
     let mut before = "(";
     for argument in arguments {
-        words.push_str(before)?;
-        argument.push_to(words)?;
+        words.put(before);
+        words.put_made(argument.text(alloc));
         before = ", ";
     }
-    words.push_str(if arguments.is_empty() {
+    words.put(if arguments.is_empty() {
         " in "
     } else {
         ") in "
-    })?;
-    words.push_str(legend.monitor_name(call.monitor))
+    });
+    words.put(legend.monitor_name(call.monitor));
 }
 
-fn push_queue(words: &mut String, before: &str, name: &str) -> Result<(), AllocError> {
-    words.push_str(before)?;
-    words.push_str(name)?;
-    words.push(')')
+fn put_queue(words: &mut Prose, before: &str, name: &str) {
+    words.put(before);
+    words.put(name);
+    words.put(")");
 }
 
-fn push_woken(words: &mut String, woken: &[u8]) -> Result<(), AllocError> {
+fn put_woken(words: &mut Prose, woken: &[u8]) {
     for process in woken {
-        write!(words, " wakes {process}")?;
+        words.put(" wakes ");
+        words.put_display(*process);
     }
-    Ok(())
 }
 
 impl PictureLabel {
+    // Adds the brief words, and the value that is displayed.
+    fn complete(
+        &mut self,
+        alloc: Global,
+        legend: &Legend,
+        event: &StoryEvent,
+    ) -> Result<(), AllocError> {
+        self.brief = brief_words(alloc, legend, event)?;
+        self.pill = pill_of(alloc, legend, event)?;
+        Ok(())
+    }
+
     /// How wide the label is.
     pub fn width(&self) -> f64 {
         let words = self.words_width();

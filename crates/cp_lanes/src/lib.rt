@@ -1,6 +1,7 @@
 //! One schedule as a picture of lanes: time goes down, each process has a column, and a monitor is a colour.
 #![tactic(auto)]
 
+mod changes;
 mod draw;
 mod frame;
 mod heading;

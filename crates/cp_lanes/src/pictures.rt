@@ -1,20 +1,20 @@
 //! The whole picture.
 
+use crate::changes::{ChangeLine, changes_in_lines, changes_words};
 use crate::draw::spans_drawn;
 use crate::frame::{
     draw_again, draw_edges, draw_end, draw_ground, draw_heads, draw_patterns, unused_lines,
 };
 use crate::heading::{PictureHeading, draw_heading, heading_of};
 use crate::key::{draw_key, signs_of};
-use crate::labels::{PictureLabel, WIDTH, fixed_width, label_of, plain_width, points};
+use crate::labels::{PictureLabel, fixed_width, label_of, plain_width, points};
 use crate::plan::{Plan, Widths, plan_of};
 use crate::rows::draw_rows;
-use crate::sheet::{Sheet, SheetExtent, height_of, sheet_of};
+use crate::sheet::{Sheet, SheetExtent, sheet_of};
 use crate::spans::{Spans, spans_of};
 use crate::svg::Svg;
-use crate::wrapping::wrap;
 use cp_legend::Legend;
-use cp_story::{Change, Story, StoryEvent};
+use cp_story::{Story, StoryEvent};
 use std::alloc::{AllocError, Global};
 
 /// The schedule that is drawn.
@@ -53,12 +53,12 @@ pub struct Scene<'a> {
 }
 
 /// What is written in the rows.
-#[derive(Drop)]
-pub struct Texts {
+#[derive(Clone, Copy)]
+pub struct Texts<'a> {
     /// None beside a stop.
-    pub labels: Vec<Option<PictureLabel>>,
+    pub labels: &'a [Option<PictureLabel>],
     /// What changed, in lines.
-    pub changes: Vec<Vec<ChangeWords>>,
+    pub changes: &'a [Vec<ChangeLine>],
 }
 
 /// How much larger a plain picture is.
@@ -103,24 +103,85 @@ pub fn picture_in(
     )
 }
 
+// Each part of the picture is let go where it was made, and what comes next borrows it.
 fn lay_out(alloc: Global, scene: Scene<'_>) -> Result<String, AllocError> {
-    let Scene { legend, story, .. } = scene;
-    let mut sheet = sheet_of(alloc, story, scene.extent, scene.again)?;
+    let mut sheet = sheet_of(alloc, scene.story, scene.extent, scene.again)?;
+    draw_sheet(alloc, scene, &mut sheet)
+}
+
+fn draw_sheet(alloc: Global, scene: Scene<'_>, sheet: &mut Sheet) -> Result<String, AllocError> {
+    let labels = labels_of(alloc, scene, sheet)?;
+    draw_labelled(alloc, scene, sheet, &labels)
+}
+
+fn draw_labelled(
+    alloc: Global,
+    scene: Scene<'_>,
+    sheet: &mut Sheet,
+    labels: &[Option<PictureLabel>],
+) -> Result<String, AllocError> {
+    let widths = widths(alloc, scene, sheet)?;
+    let plan = plan_of(
+        alloc,
+        scene.legend,
+        scene.story,
+        &sheet.rows,
+        labels,
+        widths,
+    )?;
+    draw_planned(alloc, scene, sheet, labels, &plan)
+}
+
+fn draw_planned(
+    alloc: Global,
+    scene: Scene<'_>,
+    sheet: &mut Sheet,
+    labels: &[Option<PictureLabel>],
+    plan: &Plan,
+) -> Result<String, AllocError> {
+    let changes = changes_of_rows(alloc, scene, sheet, plan.changes.width)?;
+    sheet.place(&changes);
+    let texts = Texts {
+        labels,
+        changes: &changes,
+    };
+    draw_placed(alloc, scene, plan, sheet, texts)
+}
+
+fn draw_placed(
+    alloc: Global,
+    scene: Scene<'_>,
+    plan: &Plan,
+    sheet: &Sheet,
+    texts: Texts<'_>,
+) -> Result<String, AllocError> {
+    let (processes, monitors) = (scene.legend.processes(), scene.legend.monitors());
+    let spans = spans_of(alloc, scene.story, sheet, processes, monitors)?;
+    draw_spanned(alloc, scene, plan, sheet, &spans, texts)
+}
+
+fn draw_spanned(
+    alloc: Global,
+    scene: Scene<'_>,
+    plan: &Plan,
+    sheet: &Sheet,
+    spans: &Spans,
+    texts: Texts<'_>,
+) -> Result<String, AllocError> {
+    let heading = heading_of(alloc, scene, plan.width)?;
+    draw_parts(alloc, scene, plan, sheet, spans, texts, &heading)
+}
+
+fn labels_of(
+    alloc: Global,
+    scene: Scene<'_>,
+    sheet: &Sheet,
+) -> Result<Vec<Option<PictureLabel>>, AllocError> {
     let mut labels = Vec::new(alloc);
     for row in &sheet.rows {
-        labels.push(label_of(alloc, legend, story, *row)?)?;
+        labels.push(label_of(alloc, scene.legend, scene.story, *row)?)?;
     }
-    let widths = widths(alloc, scene, &sheet)?;
-    let plan = plan_of(alloc, legend, story, &sheet.rows, &labels, widths)?;
-    let changes = changes_in_lines(alloc, scene, &sheet, plan.changes.width)?;
-    let mut heights = Vec::new(alloc);
-    for lines in &changes {
-        heights.push(height_of(lines.len()))?;
-    }
-    sheet.place(&heights);
-    let spans = spans_of(alloc, story, &sheet, legend.processes(), legend.monitors())?;
-    let texts = Texts { labels, changes };
-    draw_parts(alloc, scene, &plan, &sheet, &spans, &texts)
+    Ok(labels)
 }
 
 fn draw_parts(
@@ -129,9 +190,9 @@ fn draw_parts(
     plan: &Plan,
     sheet: &Sheet,
     spans: &Spans,
-    texts: &Texts,
+    texts: Texts<'_>,
+    heading: &PictureHeading,
 ) -> Result<String, AllocError> {
-    let heading = heading_of(alloc, scene, plan.width)?;
     let bottom = sheet.bottom() + 34.0;
     let unused = unused_lines(alloc, scene.story, plan.width)?;
     let key = bottom + 54.0 + points(scene.story.waits.len().saturating_add(unused.len())) * 20.0;
@@ -142,10 +203,10 @@ fn draw_parts(
         } else {
             signs.height(plan.width)
         };
-    let mut svg = new_drawing(alloc, scene, plan, &heading, height);
+    let mut svg = new_drawing(alloc, scene, plan, heading, height);
     draw_patterns(alloc, &mut svg, scene, heading.title.as_str());
     draw_ground(&mut svg, plan, sheet, heading.extra(), height);
-    draw_heading(&mut svg, &heading);
+    draw_heading(&mut svg, heading);
     draw_heads(alloc, &mut svg, scene, plan, sheet);
     spans_drawn(alloc, &mut svg, scene, plan, spans);
     draw_rows(alloc, &mut svg, scene, plan, sheet, spans, texts);
@@ -224,110 +285,17 @@ pub fn source_line(source: &[String], line: u32) -> &str {
     }
 }
 
-/// What changed in a monitor, or a line of that.
-#[derive(Drop)]
-pub struct ChangeWords {
-    pub monitor: u8,
-    pub words: String,
-}
-
-// What changed in each row, in lines that are as wide as their column. Each monitor begins a line.
-fn changes_in_lines(
+// What changed in each row.
+fn changes_of_rows(
     alloc: Global,
     scene: Scene<'_>,
     sheet: &Sheet,
     width: f64,
-) -> Result<Vec<Vec<ChangeWords>>, AllocError> {
+) -> Result<Vec<Vec<ChangeLine>>, AllocError> {
     let mut all = Vec::new(alloc);
     for row in &sheet.rows {
-        let mut lines = Vec::new(alloc);
-        for part in &changes_by_monitor(alloc, scene.legend, row.events(scene.story))? {
-            for words in wrap(alloc, part.words.as_str(), width, 10.5 * WIDTH)? {
-                lines.push(ChangeWords {
-                    monitor: part.monitor,
-                    words,
-                })?;
-            }
-        }
-        all.push(lines)?;
+        let events = row.events(scene.story);
+        all.push(changes_in_lines(alloc, scene.legend, events, width)?)?;
     }
     Ok(all)
-}
-
-/// What changed in some events: `count := 1`, with the monitor before it where there is more than one.
-pub fn changes_words(
-    alloc: Global,
-    legend: &Legend,
-    events: &[StoryEvent],
-) -> Result<String, AllocError> {
-    let mut text = String::new(alloc);
-    for part in &changes_by_monitor(alloc, legend, events)? {
-        if !text.is_empty() {
-            text.push_str(", ")?;
-        }
-        text.push_str(part.words.as_str())?;
-    }
-    Ok(text)
-}
-
-// What changed in some events, in each monitor that follows another one.
-fn changes_by_monitor(
-    alloc: Global,
-    legend: &Legend,
-    events: &[StoryEvent],
-) -> Result<Vec<ChangeWords>, AllocError> {
-    let mut all = Vec::new(alloc);
-    for (place, event) in events.iter().enumerate() {
-        let later = events.get(place.saturating_add(1)..).unwrap_or(&[]);
-        for change in &event.changes {
-            if !is_changed(later, change) {
-                push_change(alloc, legend, &mut all, change)?;
-            }
-        }
-    }
-    Ok(all)
-}
-
-// Whether the same variable is changed in one of these events.
-fn is_changed(events: &[StoryEvent], change: &Change) -> bool {
-    for event in events {
-        for other in &event.changes {
-            if other.monitor == change.monitor && other.name.as_str() == change.name.as_str() {
-                return true;
-            }
-        }
-    }
-    false
-}
-
-fn push_change(
-    alloc: Global,
-    legend: &Legend,
-    all: &mut Vec<ChangeWords>,
-    change: &Change,
-) -> Result<(), AllocError> {
-    let last = all.len().saturating_sub(1);
-    if let Some(part) = all.get_mut(last) {
-        if part.monitor == change.monitor {
-            part.words.push_str(", ")?;
-            return push_new_value(&mut part.words, change);
-        }
-    }
-    let mut words = String::new(alloc);
-    if legend.monitors() > 1 {
-        words.push_str(legend.monitor_name(change.monitor))?;
-        words.push_str(": ")?;
-    }
-    push_new_value(&mut words, change)?;
-    all.push(ChangeWords {
-        monitor: change.monitor,
-        words,
-    })?;
-    Ok(())
-}
-
-fn push_new_value(words: &mut String, change: &Change) -> Result<(), AllocError> {
-    words.push_str(change.name.as_str())?;
-    words.push_str(" := ")?;
-    change.value.push_to(words)
 }

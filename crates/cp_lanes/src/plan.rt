@@ -18,12 +18,20 @@ pub const ROW: f64 = 30.0;
 /// Where the first row begins.
 pub const TOP: f64 = 104.0;
 
+/// What is wider than all names.
+const ANY_WIDTH: f64 = 10000.0;
+
 /// A column, by its left edge and its width.
 #[derive(Clone, Copy, Drop)]
 pub struct Column {
     pub left: f64,
     pub width: f64,
 }
+
+const NO_COLUMN: Column = Column {
+    left: 0.0,
+    width: 0.0,
+};
 
 /// What is written in the columns on the right.
 #[derive(Clone, Copy)]
@@ -62,16 +70,35 @@ impl Plan {
     pub fn dot(&self, process: u8) -> f64 {
         self.lane(process).left + 17.0
     }
+
+    // Places what stands on the right of the lanes and the bars.
+    fn place_right(&mut self, at: f64, widths: Widths) {
+        self.changes = Column {
+            left: at,
+            width: widths.changes,
+        };
+        self.numbers = at + widths.changes + if widths.is_plain { 0.0 } else { 44.0 };
+        self.source = Column {
+            left: self.numbers + 10.0,
+            width: widths.source,
+        };
+        let narrowest = if widths.is_plain { 420.0 } else { NARROWEST };
+        self.width = (self.source.left + self.source.width + 16.0).max(narrowest);
+    }
 }
 
 fn column_at(columns: &[Column], number: u8) -> Column {
     match columns.get(number as usize) {
         Some(column) => *column,
-        None => Column {
-            left: 0.0,
-            width: 0.0,
-        },
+        None => NO_COLUMN,
     }
+}
+
+/// How wide lanes and bars would like to be, with the space after each.
+#[derive(Drop)]
+struct NaturalWidths {
+    lanes: Vec<f64>,
+    bars: Vec<f64>,
 }
 
 /// The plan of a story whose labels and right columns have these widths.
@@ -83,71 +110,78 @@ pub fn plan_of(
     labels: &[Option<PictureLabel>],
     widths: Widths,
 ) -> Result<Plan, AllocError> {
-    let left = left_edge(story);
-    let natural = lane_widths(alloc, legend, story, rows, labels)?;
-    let bars = bar_widths(alloc, legend)?;
-    let mut widths = widths;
-    let fixed = left + sum(&bars) + if widths.is_plain { 56.0 } else { 110.0 };
-    if fixed + sum(&natural) + widths.changes + widths.source > SCREEN {
-        widths.source = (SCREEN - fixed - sum(&natural) - widths.changes).max(0.0);
+    let mut natural = NaturalWidths {
+        lanes: Vec::new(alloc),
+        bars: Vec::new(alloc),
+    };
+    natural.push_lanes(legend, story, rows, labels)?;
+    natural.push_bars(legend)?;
+    plan_within(alloc, left_edge(story), &natural, widths)
+}
+
+// The plan with right columns, and at last lanes, that are narrower where there is no room.
+fn plan_within(
+    alloc: Global,
+    left: f64,
+    natural: &NaturalWidths,
+    widths: Widths,
+) -> Result<Plan, AllocError> {
+    let lanes = sum(&natural.lanes);
+    let fixed = left + sum(&natural.bars) + if widths.is_plain { 56.0 } else { 110.0 };
+    let widths = narrow_widths(widths, fixed, lanes);
+    let room = SCREEN - fixed - widths.changes - widths.source;
+    let most = fair_share(&natural.lanes, room);
+    let mut plan = new_plan(alloc);
+    let at = push_columns(&mut plan.lanes, &natural.lanes, left, most, 16.0)?;
+    let at = push_columns(&mut plan.bars, &natural.bars, at + 10.0, ANY_WIDTH, 6.0)?;
+    plan.place_right(at + 14.0, widths);
+    Ok(plan)
+}
+
+// The widths of the right columns that there is room for beside the lanes.
+fn narrow_widths(natural: Widths, fixed: f64, lanes: f64) -> Widths {
+    let mut widths = natural;
+    if fixed + lanes + widths.changes + widths.source > SCREEN {
+        widths.source = (SCREEN - fixed - lanes - widths.changes).max(0.0);
         if widths.source < 150.0 {
             widths.source = 0.0;
         }
     }
-    if fixed + sum(&natural) + widths.changes > SCREEN {
+    if fixed + lanes + widths.changes > SCREEN {
         widths.changes = widths.changes.min(170.0);
     }
-    let room = SCREEN - fixed - widths.changes - widths.source;
-    let most = fair_share(&natural, room);
-    place_columns(alloc, left, &natural, &bars, widths, most)
+    widths
 }
 
-fn place_columns(
-    alloc: Global,
-    left: f64,
-    natural: &[f64],
-    bars: &[f64],
-    widths: Widths,
-    most: f64,
-) -> Result<Plan, AllocError> {
-    let mut at = left;
-    let mut lanes = Vec::new(alloc);
-    for width in natural {
-        let width = width.min(most);
-        lanes.push(Column {
-            left: at,
-            width: width - 16.0,
-        })?;
-        at += width;
+fn new_plan(alloc: Global) -> Plan {
+    Plan {
+        lanes: Vec::new(alloc),
+        bars: Vec::new(alloc),
+        changes: NO_COLUMN,
+        numbers: 0.0,
+        source: NO_COLUMN,
+        width: 0.0,
     }
-    at += 10.0;
-    let mut columns = Vec::new(alloc);
-    for width in bars {
+}
+
+// Appends columns side by side, each with a space after it, and answers where the next one would begin.
+fn push_columns(
+    columns: &mut Vec<Column>,
+    widths: &[f64],
+    left: f64,
+    most: f64,
+    space: f64,
+) -> Result<f64, AllocError> {
+    let mut at = left;
+    for width in widths {
+        let width = width.min(most);
         columns.push(Column {
             left: at,
-            width: width - 6.0,
+            width: width - space,
         })?;
         at += width;
     }
-    at += 14.0;
-    let changes = Column {
-        left: at,
-        width: widths.changes,
-    };
-    let numbers = at + widths.changes + if widths.is_plain { 0.0 } else { 44.0 };
-    let source = Column {
-        left: numbers + 10.0,
-        width: widths.source,
-    };
-    let narrowest = if widths.is_plain { 420.0 } else { NARROWEST };
-    Ok(Plan {
-        lanes,
-        bars: columns,
-        changes,
-        numbers,
-        source,
-        width: (source.left + source.width + 16.0).max(narrowest),
-    })
+    Ok(at)
 }
 
 fn sum(widths: &[f64]) -> f64 {
@@ -192,42 +226,77 @@ fn left_edge(story: &Story) -> f64 {
     (54.0 + points(most) * 22.0).max(112.0)
 }
 
-// The width of each lane, with the space after it: that of its head and of its widest label.
-fn lane_widths(
-    alloc: Global,
-    legend: &Legend,
+impl NaturalWidths {
+    fn push_lanes(
+        &mut self,
+        legend: &Legend,
+        story: &Story,
+        rows: &[PictureRow],
+        labels: &[Option<PictureLabel>],
+    ) -> Result<(), AllocError> {
+        for process in 0..legend.processes() {
+            let head = head_width(legend, story, process);
+            let most = head.max(widest_label(story, rows, labels, process));
+            let most = most.max(stop_width(story, process));
+            self.lanes.push(lane_width(story, process, most))?;
+        }
+        Ok(())
+    }
+
+    fn push_bars(&mut self, legend: &Legend) -> Result<(), AllocError> {
+        let monitors = legend.monitors();
+        let most = if monitors > 6 { 64.0 } else { 130.0 };
+        for monitor in 0..monitors {
+            let name = bold_width(legend.monitor_name(monitor), 10.5) + 16.0;
+            self.bars.push(name.max(40.0).min(most) + 6.0)?;
+        }
+        Ok(())
+    }
+}
+
+// The width of the head of a lane; that of a process which is not started has no room for its name.
+fn head_width(legend: &Legend, story: &Story, process: u8) -> f64 {
+    if !takes_part(story, process) {
+        return 50.0;
+    }
+    let head = 44.0
+        + bold_width(legend.process_name(process), 12.0)
+        + plain_width(legend.process_type(process), 12.0);
+    head.max(100.0)
+}
+
+// The width of the widest label in a lane; 0 where there is none.
+fn widest_label(
     story: &Story,
     rows: &[PictureRow],
     labels: &[Option<PictureLabel>],
-) -> Result<Vec<f64>, AllocError> {
-    let mut widths = Vec::new(alloc);
-    for process in 0..legend.processes() {
-        let head = 44.0
-            + bold_width(legend.process_name(process), 12.0)
-            + plain_width(legend.process_type(process), 12.0);
-        let mut most = if takes_part(story, process) {
-            head.max(100.0)
-        } else {
-            50.0
-        };
-        for (row, label) in rows.iter().zip(labels) {
-            if let (Some(event), Some(label)) = (story.events.get(row.first), label) {
-                if event.plain.process == process {
-                    most = most.max(31.0 + label.width() + 12.0);
-                }
+    process: u8,
+) -> f64 {
+    let mut most: f64 = 0.0;
+    for (row, label) in rows.iter().zip(labels) {
+        if let (Some(event), Some(label)) = (story.events.get(row.first), label) {
+            if event.plain.process == process {
+                most = most.max(31.0 + label.width() + 12.0);
             }
         }
-        if let Some(stop) = &story.stop {
-            if stop.process == process {
-                most = most.max(31.0 + bold_width(stop.words.as_str(), 11.5) + 12.0);
-            }
-        }
-        if is_nested(story, process) {
-            most += 8.0;
-        }
-        widths.push(most.min(330.0) + 16.0)?;
     }
-    Ok(widths)
+    most
+}
+
+// The width of what is said of the stop in a lane; 0 where it is not there.
+fn stop_width(story: &Story, process: u8) -> f64 {
+    match &story.stop {
+        Some(stop) if stop.process == process => {
+            31.0 + bold_width(stop.words.as_str(), 11.5) + 12.0
+        }
+        _ => 0.0,
+    }
+}
+
+// The width of a lane in which the widest has this width, with the space after it.
+fn lane_width(story: &Story, process: u8, widest: f64) -> f64 {
+    let inset = if is_nested(story, process) { 8.0 } else { 0.0 };
+    (widest + inset).min(330.0) + 16.0
 }
 
 // Whether a process is the program, or is started.
@@ -258,15 +327,4 @@ fn is_nested(story: &Story, process: u8) -> bool {
         }
     }
     false
-}
-
-fn bar_widths(alloc: Global, legend: &Legend) -> Result<Vec<f64>, AllocError> {
-    let monitors = legend.monitors();
-    let most = if monitors > 6 { 64.0 } else { 130.0 };
-    let mut widths = Vec::new(alloc);
-    for monitor in 0..monitors {
-        let name = bold_width(legend.monitor_name(monitor), 10.5) + 16.0;
-        widths.push(name.max(40.0).min(most) + 6.0)?;
-    }
-    Ok(widths)
 }

@@ -1,10 +1,11 @@
 //! Rows: what happened, who could be chosen, what changed, and where it stands in the source.
 
+use crate::changes::{ChangeLine, changes_words};
 use crate::draw::draw_resumed;
 use crate::key::draw_lost;
 use crate::labels::{Face, PictureLabel, cut_fixed, pill_width, points};
 use crate::palette::{GREY, INK, PALE, RED, hue_of};
-use crate::pictures::{ChangeWords, Scene, Texts, changes_words, source_line};
+use crate::pictures::{Scene, Texts, source_line};
 use crate::plan::{Plan, ROW};
 use crate::sheet::{Fold, LINE, PictureRow, Sheet};
 use crate::spans::Spans;
@@ -24,12 +25,12 @@ pub fn draw_rows(
     plan: &Plan,
     sheet: &Sheet,
     spans: &Spans,
-    texts: &Texts,
+    texts: Texts<'_>,
 ) {
     for stay in &spans.stays {
         draw_resumed(alloc, svg, scene, plan, sheet, stay);
     }
-    let beside = texts.labels.iter().zip(&texts.changes);
+    let beside = texts.labels.iter().zip(texts.changes);
     for (row, (label, changes)) in sheet.rows.iter().zip(beside) {
         draw_row(alloc, svg, scene, plan, spans, *row, label, changes);
     }
@@ -43,7 +44,7 @@ fn draw_row(
     spans: &Spans,
     row: PictureRow,
     label: &Option<PictureLabel>,
-    changes: &[ChangeWords],
+    changes: &[ChangeLine],
 ) {
     if let (Some(first), Some(label)) = (row.events(scene.story).first(), label) {
         open_row(alloc, svg, scene, row);
@@ -400,7 +401,7 @@ fn draw_arrow(
     }
 }
 
-fn draw_changes(svg: &mut Svg, plan: &Plan, lines: &[ChangeWords], y: f64) {
+fn draw_changes(svg: &mut Svg, plan: &Plan, lines: &[ChangeLine], y: f64) {
     let mut at = y + 4.0 - points(lines.len().saturating_sub(1)) * LINE / 2.0;
     for line in lines {
         let style = Style {

@@ -1,5 +1,6 @@
 //! The rows of a picture: which events have one of their own, which are folded, and which are left out.
 
+use crate::changes::ChangeLine;
 use crate::labels::points;
 use crate::plan::{ROW, TOP};
 use cp_story::{Happening, OpenCall, Story, StoryEvent};
@@ -97,13 +98,13 @@ impl Sheet {
         None
     }
 
-    /// Places the rows, one below the other, by their heights.
-    pub fn place(&mut self, heights: &[f64]) {
+    /// Places the rows, one below the other, by the lines of what changed in each.
+    pub fn place(&mut self, changes: &[Vec<ChangeLine>]) {
         let mut top = if self.before > 0 { TOP + EDGE } else { TOP };
-        for (row, height) in self.rows.iter_mut().zip(heights) {
+        for (row, lines) in self.rows.iter_mut().zip(changes) {
             row.top = top;
-            row.height = *height;
-            top += *height;
+            row.height = height_of(lines.len());
+            top += row.height;
         }
         self.end = top;
     }
@@ -270,7 +271,7 @@ fn is_same_call(one: OpenCall, two: OpenCall) -> bool {
     one.monitor == two.monitor && one.routine == two.routine
 }
 
-/// The height of a row with so many lines of what changed.
-pub fn height_of(lines: usize) -> f64 {
+// The height of a row with so many lines of what changed.
+fn height_of(lines: usize) -> f64 {
     (points(lines) * LINE + 8.0).max(ROW)
 }

@@ -66,9 +66,18 @@ struct Open {
     life: Option<f64>,
 }
 
+/// The spans so far, as far as they are seen, and whether memory was refused for one of them, which is told at the end.
+#[derive(Drop)]
+struct SeenSpans {
+    spans: Spans,
+    low: f64,
+    high: f64,
+    is_refused: bool,
+}
+
 #[derive(Drop)]
 struct SpanBuilder {
-    spans: Spans,
+    seen: SeenSpans,
     open: Vec<Open>,
     holders: Vec<Option<Hold>>,
 }
@@ -87,55 +96,19 @@ pub fn spans_of(
     processes: u8,
     monitors: u8,
 ) -> Result<Spans, AllocError> {
-    let mut builder = SpanBuilder::new(alloc, processes, monitors)?;
+    let mut builder = SpanBuilder::new(alloc, sheet);
+    for process in 0..processes {
+        builder.add_process(alloc, process);
+    }
+    for _ in 0..monitors {
+        builder.add_monitor();
+    }
     for (row, event) in story.events.iter().enumerate() {
         let y = sheet.middle(row);
-        builder.event(row, event, y)?;
-        builder.hold(event, y)?;
+        builder.event(row, event, y);
+        builder.hold(event, y);
     }
-    let spans = builder.finish(sheet.end + if sheet.after > 0 { 200.0 } else { 22.0 })?;
-    clip(alloc, spans, sheet)
-}
-
-// What of the spans is seen: nothing where rows are left out, and once what is folded.
-fn clip(alloc: Global, spans: Spans, sheet: &Sheet) -> Result<Spans, AllocError> {
-    let low = if sheet.before > 0 { TOP + 10.0 } else { 0.0 };
-    let high = sheet.end + if sheet.after > 0 { 14.0 } else { 22.0 };
-    let mut seen = Spans {
-        stays: Vec::new(alloc),
-        pauses: Vec::new(alloc),
-        holds: Vec::new(alloc),
-        lives: Vec::new(alloc),
-    };
-    for mut stay in spans.stays {
-        stay.top = stay.top.max(low);
-        stay.bottom = stay.bottom.min(high);
-        if stay.top + 8.0 < stay.bottom && !is_covered(&seen.stays, &stay) {
-            seen.stays.push(stay)?;
-        }
-    }
-    for mut pause in spans.pauses {
-        pause.top = pause.top.max(low);
-        pause.bottom = pause.bottom.min(high);
-        if pause.top < pause.bottom {
-            seen.pauses.push(pause)?;
-        }
-    }
-    for mut hold in spans.holds {
-        hold.top = hold.top.max(low);
-        hold.bottom = hold.bottom.min(high);
-        if hold.top + 8.0 < hold.bottom && !is_held(&seen.holds, &hold) {
-            seen.holds.push(hold)?;
-        }
-    }
-    for mut life in spans.lives {
-        life.top = life.top.max(low);
-        life.bottom = life.bottom.min(high);
-        if life.top < life.bottom {
-            seen.lives.push(life)?;
-        }
-    }
-    Ok(seen)
+    builder.finish(sheet.end + if sheet.after > 0 { 200.0 } else { 22.0 })
 }
 
 // Whether a stay is drawn where the last one is.
@@ -164,60 +137,153 @@ fn is_held(holds: &[Hold], other: &Hold) -> bool {
     }
 }
 
-impl SpanBuilder {
-    fn new(alloc: Global, processes: u8, monitors: u8) -> Result<SpanBuilder, AllocError> {
-        let mut open = Vec::new(alloc);
-        for process in 0..processes {
-            open.push(Open {
-                stays: Vec::new(alloc),
-                pause: None,
-                call: NO_CALL,
-                life: if process == 0 { Some(98.0) } else { None },
-            })?;
-        }
-        let mut holders = Vec::new(alloc);
-        for _ in 0..monitors {
-            holders.push(None)?;
-        }
-        Ok(SpanBuilder {
+impl SeenSpans {
+    // Nothing is seen where rows are left out.
+    fn new(alloc: Global, sheet: &Sheet) -> SeenSpans {
+        SeenSpans {
             spans: Spans {
                 stays: Vec::new(alloc),
                 pauses: Vec::new(alloc),
                 holds: Vec::new(alloc),
                 lives: Vec::new(alloc),
             },
-            open,
-            holders,
-        })
+            low: if sheet.before > 0 { TOP + 10.0 } else { 0.0 },
+            high: sheet.end + if sheet.after > 0 { 14.0 } else { 22.0 },
+            is_refused: false,
+        }
     }
 
-    fn event(&mut self, row: usize, event: &StoryEvent, y: f64) -> Result<(), AllocError> {
+    // Memory was refused for a span.
+    fn refuse(&mut self) {
+        self.is_refused = true;
+    }
+
+    // What is folded is seen once.
+    fn add_stay(&mut self, stay: Stay) {
+        let seen = Stay {
+            top: stay.top.max(self.low),
+            bottom: stay.bottom.min(self.high),
+            ..stay
+        };
+        if seen.top + 8.0 < seen.bottom
+            && !is_covered(&self.spans.stays, &seen)
+            && self.spans.stays.push(seen).is_err()
+        {
+            self.is_refused = true;
+        }
+    }
+
+    fn add_pause(&mut self, pause: Pause) {
+        let seen = Pause {
+            top: pause.top.max(self.low),
+            bottom: pause.bottom.min(self.high),
+            ..pause
+        };
+        if seen.top < seen.bottom && self.spans.pauses.push(seen).is_err() {
+            self.is_refused = true;
+        }
+    }
+
+    fn add_hold(&mut self, hold: Hold) {
+        let seen = Hold {
+            top: hold.top.max(self.low),
+            bottom: hold.bottom.min(self.high),
+            ..hold
+        };
+        if seen.top + 8.0 < seen.bottom
+            && !is_held(&self.spans.holds, &seen)
+            && self.spans.holds.push(seen).is_err()
+        {
+            self.is_refused = true;
+        }
+    }
+
+    fn add_life(&mut self, process: u8, top: f64, bottom: f64) {
+        let seen = Life {
+            process,
+            top: top.max(self.low),
+            bottom: bottom.min(self.high),
+        };
+        if seen.top < seen.bottom && self.spans.lives.push(seen).is_err() {
+            self.is_refused = true;
+        }
+    }
+
+    // What is still open when the run stops.
+    fn add_open(&mut self, process: u8, open: &Open, bottom: f64) {
+        for stay in &open.stays {
+            self.add_stay(Stay { bottom, ..*stay });
+        }
+        if let Some(pause) = open.pause {
+            self.add_pause(Pause {
+                bottom,
+                lasts: true,
+                ..pause
+            });
+        }
+        if let Some(top) = open.life {
+            self.add_life(process, top, bottom);
+        }
+    }
+}
+
+impl SpanBuilder {
+    fn new(alloc: Global, sheet: &Sheet) -> SpanBuilder {
+        SpanBuilder {
+            seen: SeenSpans::new(alloc, sheet),
+            open: Vec::new(alloc),
+            holders: Vec::new(alloc),
+        }
+    }
+
+    fn add_process(&mut self, alloc: Global, process: u8) {
+        let open = Open {
+            stays: Vec::new(alloc),
+            pause: None,
+            call: NO_CALL,
+            life: if process == 0 { Some(98.0) } else { None },
+        };
+        if self.open.push(open).is_err() {
+            self.seen.refuse();
+        }
+    }
+
+    fn add_monitor(&mut self) {
+        if self.holders.push(None).is_err() {
+            self.seen.refuse();
+        }
+    }
+
+    fn event(&mut self, row: usize, event: &StoryEvent, y: f64) {
         let process = event.plain.process;
-        match &event.happening {
+        self.happen(process, &event.happening, y);
+        for other in event.woken.as_slice() {
+            self.go_on(*other, y + 13.0, Some(row));
+        }
+        for other in event.let_in.as_slice() {
+            self.go_on(*other, y + 13.0, Some(row));
+        }
+    }
+
+    fn happen(&mut self, process: u8, happening: &Happening, y: f64) {
+        match happening {
             Happening::Enter { call, waits, .. } => {
                 if *waits {
                     self.pause(process, call.monitor, true, *call, y);
                 } else {
-                    self.stay(process, *call, y - 12.0, None)?;
+                    self.stay(process, *call, y - 12.0, None);
                 }
             }
-            Happening::Leave(_) | Happening::Continue(..) => self.go_out(process, y)?,
+            Happening::Leave(_) | Happening::Continue(..) => self.go_out(process, y),
             Happening::Delay(queue, call) => {
-                self.go_out(process, y)?;
+                self.go_out(process, y);
                 self.pause(process, queue.monitor, false, *call, y);
             }
             Happening::Start(started) => self.begin(*started, y),
             Happening::Display(_) => {}
-            Happening::End => self.end_life(process, y)?,
-            Happening::Admit(_) => self.go_on(process, y - 12.0, None)?,
+            Happening::End => self.end_life(process, y),
+            Happening::Admit(_) => self.go_on(process, y - 12.0, None),
         }
-        for other in event.woken.as_slice() {
-            self.go_on(*other, y + 13.0, Some(row))?;
-        }
-        for other in event.let_in.as_slice() {
-            self.go_on(*other, y + 13.0, Some(row))?;
-        }
-        Ok(())
     }
 
     fn begin(&mut self, process: u8, y: f64) {
@@ -226,48 +292,39 @@ impl SpanBuilder {
         }
     }
 
-    fn end_life(&mut self, process: u8, bottom: f64) -> Result<(), AllocError> {
+    fn end_life(&mut self, process: u8, bottom: f64) {
         if let Some(open) = self.open.get_mut(process as usize) {
             if let Some(top) = open.life.take() {
-                self.spans.lives.push(Life {
-                    process,
-                    top,
-                    bottom,
-                })?;
+                self.seen.add_life(process, top, bottom);
             }
         }
-        Ok(())
     }
 
-    fn stay(
-        &mut self,
-        process: u8,
-        call: OpenCall,
-        top: f64,
-        resumed: Option<usize>,
-    ) -> Result<(), AllocError> {
+    fn stay(&mut self, process: u8, call: OpenCall, top: f64, resumed: Option<usize>) {
         if let Some(open) = self.open.get_mut(process as usize) {
-            let depth = open.stays.len();
-            open.stays.push(Stay {
+            let stay = Stay {
                 process,
                 call,
                 top,
                 bottom: top,
-                depth,
+                depth: open.stays.len(),
                 resumed,
-            })?;
-        }
-        Ok(())
-    }
-
-    fn go_out(&mut self, process: u8, y: f64) -> Result<(), AllocError> {
-        if let Some(open) = self.open.get_mut(process as usize) {
-            if let Some(mut stay) = open.stays.pop() {
-                stay.bottom = y + 12.0;
-                self.spans.stays.push(stay)?;
+            };
+            if open.stays.push(stay).is_err() {
+                self.seen.refuse();
             }
         }
-        Ok(())
+    }
+
+    fn go_out(&mut self, process: u8, y: f64) {
+        if let Some(open) = self.open.get_mut(process as usize) {
+            if let Some(stay) = open.stays.pop() {
+                self.seen.add_stay(Stay {
+                    bottom: y + 12.0,
+                    ..stay
+                });
+            }
+        }
     }
 
     fn pause(&mut self, process: u8, monitor: u8, at_gate: bool, call: OpenCall, y: f64) {
@@ -285,66 +342,73 @@ impl SpanBuilder {
     }
 
     // A process that waited goes into the monitor.
-    fn go_on(&mut self, process: u8, top: f64, resumed: Option<usize>) -> Result<(), AllocError> {
-        let mut call = NO_CALL;
-        if let Some(open) = self.open.get_mut(process as usize) {
-            call = open.call;
-            if let Some(mut pause) = open.pause.take() {
-                pause.bottom = top;
-                self.spans.pauses.push(pause)?;
+    fn go_on(&mut self, process: u8, top: f64, resumed: Option<usize>) {
+        let call = self.end_pause(process, top);
+        self.stay(process, call, top, resumed);
+    }
+
+    // Ends the pause of a process, and answers the call that it was in.
+    fn end_pause(&mut self, process: u8, bottom: f64) -> OpenCall {
+        match self.open.get_mut(process as usize) {
+            Some(open) => {
+                if let Some(pause) = open.pause.take() {
+                    self.seen.add_pause(Pause { bottom, ..pause });
+                }
+                open.call
             }
+            None => NO_CALL,
         }
-        self.stay(process, call, top, resumed)
     }
 
     // The holders after an event.
-    fn hold(&mut self, event: &StoryEvent, y: f64) -> Result<(), AllocError> {
+    fn hold(&mut self, event: &StoryEvent, y: f64) {
         for (monitor, holder) in event.plain.holders.as_slice().iter().enumerate() {
-            if let Some(held) = self.holders.get_mut(monitor) {
-                let before = match held {
-                    Some(hold) => Some(hold.process),
-                    None => None,
-                };
-                if before != *holder {
-                    if let Some(mut hold) = held.take() {
-                        hold.bottom = y + 11.0;
-                        self.spans.holds.push(hold)?;
-                    }
-                    *held = begin_hold(monitor, *holder, event.plain.process, y);
+            self.hold_one(monitor, *holder, event.plain.process, y);
+        }
+    }
+
+    // The holder of a monitor after an event of a process.
+    fn hold_one(&mut self, monitor: usize, holder: Option<u8>, process: u8, y: f64) {
+        if let Some(held) = self.holders.get_mut(monitor) {
+            if holder_of(held) != holder {
+                if let Some(hold) = *held {
+                    self.seen.add_hold(Hold {
+                        bottom: y + 11.0,
+                        ..hold
+                    });
                 }
+                *held = begin_hold(monitor, holder, process, y);
             }
         }
-        Ok(())
+    }
+
+    // What is still open when the run stops.
+    fn end(&mut self, bottom: f64) {
+        for (number, open) in self.open.iter().enumerate() {
+            let process = u8::try_from(number).unwrap_or(0);
+            self.seen.add_open(process, open, bottom);
+        }
+        for held in &self.holders {
+            if let Some(hold) = held {
+                self.seen.add_hold(Hold { bottom, ..*hold });
+            }
+        }
     }
 
     fn finish(self, bottom: f64) -> Result<Spans, AllocError> {
-        let mut spans = self.spans;
-        for (number, open) in self.open.into_iter().enumerate() {
-            let process = u8::try_from(number).unwrap_or(0);
-            for mut stay in open.stays {
-                stay.bottom = bottom;
-                spans.stays.push(stay)?;
-            }
-            if let Some(mut pause) = open.pause {
-                pause.bottom = bottom;
-                pause.lasts = true;
-                spans.pauses.push(pause)?;
-            }
-            if let Some(top) = open.life {
-                spans.lives.push(Life {
-                    process,
-                    top,
-                    bottom,
-                })?;
-            }
+        let mut builder = self;
+        builder.end(bottom);
+        if builder.seen.is_refused {
+            return Err(AllocError);
         }
-        for held in self.holders {
-            if let Some(mut hold) = held {
-                hold.bottom = bottom;
-                spans.holds.push(hold)?;
-            }
-        }
-        Ok(spans)
+        Ok(builder.seen.spans)
+    }
+}
+
+fn holder_of(held: &Option<Hold>) -> Option<u8> {
+    match held {
+        Some(hold) => Some(hold.process),
+        None => None,
     }
 }
 

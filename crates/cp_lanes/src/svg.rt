@@ -60,15 +60,48 @@ impl Svg {
 
     fn begin(&mut self, width: f64, above: f64, height: f64, scale: f64) {
         let whole = height + above;
-        let top = 0.0 - above;
-        let (wide, high) = (width * scale, whole * scale);
-        self.raw("<svg xmlns=\"http://www.w3.org/2000/svg\" version=\"1.1\"");
-        let written = write!(self.text, " width=\"{wide:.0}\" height=\"{high:.0}\"");
-        self.keep(written);
-        let written = write!(self.text, " viewBox=\"0 {top:.0} {width:.0} {whole:.0}\"");
-        self.keep(written);
-        self.raw(" font-family=\"DejaVu Sans, Helvetica, Arial, sans-serif\"");
+        self.raw("<svg xmlns=\"http://www.w3.org/2000/svg\" version=\"1.1\" width=\"");
+        self.whole_number(width * scale);
+        self.raw("\" height=\"");
+        self.whole_number(whole * scale);
+        self.raw("\" viewBox=\"0 ");
+        self.whole_number(0.0 - above);
+        self.raw(" ");
+        self.whole_number(width);
+        self.raw(" ");
+        self.whole_number(whole);
+        self.raw("\" font-family=\"DejaVu Sans, Helvetica, Arial, sans-serif\"");
         self.raw(" font-size=\"12\" fill=\"#1f2933\">\n");
+    }
+
+    // Appends a whole number.
+    fn whole_number(&mut self, value: f64) {
+        let written = write!(self.text, "{value:.0}");
+        self.keep(written);
+    }
+
+    // Appends a number.
+    fn measure(&mut self, value: f64) {
+        let written = write!(self.text, "{value:.1}");
+        self.keep(written);
+    }
+
+    // Appends an attribute that is a number.
+    fn attribute(&mut self, name: &str, value: f64) {
+        self.raw(" ");
+        self.raw(name);
+        self.raw("=\"");
+        self.measure(value);
+        self.raw("\"");
+    }
+
+    // Appends an attribute that is a colour.
+    fn colour(&mut self, name: &str, value: &str) {
+        self.raw(" ");
+        self.raw(name);
+        self.raw("=\"");
+        self.raw(value);
+        self.raw("\"");
     }
 
     /// The whole picture. `AllocError` if memory was refused for some part of it.
@@ -169,12 +202,10 @@ impl Svg {
 
     /// Begins a pattern of a monitor's colour.
     pub fn pattern(&mut self, name: &str, number: u8, more: &str) {
-        let written = write!(
-            self.text,
-            "<pattern id=\"{name}{number}\" width=\"7\" height=\"7\""
-        );
-        self.keep(written);
-        self.raw(" patternUnits=\"userSpaceOnUse\"");
+        self.raw("<pattern id=\"");
+        self.raw(name);
+        self.digits(u32::from(number));
+        self.raw("\" width=\"7\" height=\"7\" patternUnits=\"userSpaceOnUse\"");
         self.raw(more);
         self.raw(">");
     }
@@ -198,91 +229,94 @@ impl Svg {
     }
 
     pub fn block(&mut self, block: Block<'_>) {
-        let Block {
-            left,
-            top,
-            width,
-            height,
-            radius,
-            fill,
-            stroke,
-            stroke_width,
-        } = block;
-        let written = write!(
-            self.text,
-            "<rect x=\"{left:.1}\" y=\"{top:.1}\" width=\"{width:.1}\" height=\"{height:.1}\""
-        );
-        self.keep(written);
-        let written = write!(self.text, " rx=\"{radius:.1}\" fill=\"{fill}\"");
-        self.keep(written);
-        if !stroke.is_empty() {
-            let written = write!(
-                self.text,
-                " stroke=\"{stroke}\" stroke-width=\"{stroke_width:.1}\""
-            );
-            self.keep(written);
+        self.raw("<rect");
+        self.attribute("x", block.left);
+        self.attribute("y", block.top);
+        self.attribute("width", block.width);
+        self.attribute("height", block.height);
+        self.attribute("rx", block.radius);
+        self.colour("fill", block.fill);
+        if !block.stroke.is_empty() {
+            self.colour("stroke", block.stroke);
+            self.attribute("stroke-width", block.stroke_width);
         }
         self.raw("/>\n");
     }
 
     /// A line, with attributes of its own.
     pub fn line(&mut self, from: (f64, f64), to: (f64, f64), stroke: &str, more: &str) {
-        let (x1, y1) = from;
-        let (x2, y2) = to;
-        let written = write!(
-            self.text,
-            "<line x1=\"{x1:.1}\" y1=\"{y1:.1}\" x2=\"{x2:.1}\" y2=\"{y2:.1}\""
-        );
-        self.keep(written);
-        let written = write!(self.text, " stroke=\"{stroke}\" {more}/>\n");
-        self.keep(written);
+        self.raw("<line");
+        self.attribute("x1", from.0);
+        self.attribute("y1", from.1);
+        self.attribute("x2", to.0);
+        self.attribute("y2", to.1);
+        self.colour("stroke", stroke);
+        self.end_element(more);
+    }
+
+    // Ends an element with attributes of its own.
+    fn end_element(&mut self, more: &str) {
+        self.raw(" ");
+        self.raw(more);
+        self.raw("/>\n");
     }
 
     /// A line that goes up and down from a point to the right.
     pub fn zigzag(&mut self, from: (f64, f64), right: f64, stroke: &str) {
         let (left, y) = from;
         let mut x = left;
-        let written = write!(self.text, "<path d=\"M{x:.1},{y:.1}");
-        self.keep(written);
+        self.raw("<path d=\"");
+        self.point("M", x, y);
         for step in 0..1000u32 {
             if x < right {
                 x += 8.0;
-                let height = if step % 2 == 0 { y - 5.0 } else { y + 5.0 };
-                let written = write!(self.text, " L{x:.1},{height:.1}");
-                self.keep(written);
+                self.point(" L", x, if step % 2 == 0 { y - 5.0 } else { y + 5.0 });
             }
         }
-        let written = write!(self.text, "\" fill=\"none\" stroke=\"{stroke}\"/>\n");
-        self.keep(written);
+        self.raw("\" fill=\"none\"");
+        self.colour("stroke", stroke);
+        self.raw("/>\n");
+    }
+
+    // A point of a path.
+    fn point(&mut self, before: &str, x: f64, y: f64) {
+        self.raw(before);
+        self.measure(x);
+        self.raw(",");
+        self.measure(y);
     }
 
     pub fn circle(&mut self, x: f64, y: f64, radius: f64, fill: &str, more: &str) {
-        let written = write!(
-            self.text,
-            "<circle cx=\"{x:.1}\" cy=\"{y:.1}\" r=\"{radius:.1}\" fill=\"{fill}\" {more}/>\n"
-        );
-        self.keep(written);
+        self.raw("<circle");
+        self.attribute("cx", x);
+        self.attribute("cy", y);
+        self.attribute("r", radius);
+        self.colour("fill", fill);
+        self.end_element(more);
     }
 
     /// A text, whose baseline begins at a point.
     pub fn words(&mut self, x: f64, y: f64, style: Style<'_>, words: &str) {
-        let Style { size, fill, more } = style;
-        let written = write!(
-            self.text,
-            "<text x=\"{x:.1}\" y=\"{y:.1}\" font-size=\"{size:.1}\" fill=\"{fill}\" {more}>"
-        );
-        self.keep(written);
+        self.begin_text(x, y, style);
         self.escaped(words);
         self.raw("</text>\n");
     }
 
     /// A number in the middle of a point.
     pub fn number(&mut self, x: f64, y: f64, style: Style<'_>, number: u32) {
-        let Style { size, fill, more } = style;
-        let written = write!(
-            self.text,
-            "<text x=\"{x:.1}\" y=\"{y:.1}\" font-size=\"{size:.1}\" fill=\"{fill}\" {more}>{number}</text>\n"
-        );
-        self.keep(written);
+        self.begin_text(x, y, style);
+        self.digits(number);
+        self.raw("</text>\n");
+    }
+
+    fn begin_text(&mut self, x: f64, y: f64, style: Style<'_>) {
+        self.raw("<text");
+        self.attribute("x", x);
+        self.attribute("y", y);
+        self.attribute("font-size", style.size);
+        self.colour("fill", style.fill);
+        self.raw(" ");
+        self.raw(style.more);
+        self.raw(">");
     }
 }

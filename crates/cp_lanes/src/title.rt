@@ -1,5 +1,6 @@
 //! The heading of a picture.
 
+use cp_prose::Prose;
 use std::alloc::{AllocError, Global};
 
 /// The most characters of a heading.
@@ -7,23 +8,27 @@ const MOST_CHARACTERS: usize = 300;
 
 /// The first sentence of the comment with which a source begins, as the heading of its picture; empty where there is none.
 pub fn sentence(alloc: Global, source: &[String]) -> Result<String, AllocError> {
-    let mut text = String::new(alloc);
     let Some(first) = source.first() else {
-        return Ok(text);
+        return Ok(String::new(alloc));
     };
     let Some(begun) = comment(first.as_str()) else {
-        return Ok(text);
+        return Ok(String::new(alloc));
     };
+    first_sentence(alloc, begun.trim())
+}
+
+fn first_sentence(alloc: Global, begun: &str) -> Result<String, AllocError> {
+    let mut text = Prose::new(alloc);
     let mut count = 0usize;
-    for character in begun.trim().chars() {
+    for character in begun.chars() {
         let is_end = character == '.' || character == ';' || character == '"' || character == '*';
         if is_end || count >= MOST_CHARACTERS {
             break;
         }
-        text.push(character)?;
+        text.put_char(character);
         count += 1;
     }
-    Ok(text)
+    text.finish()
 }
 
 // What stands after the beginning of a comment.
