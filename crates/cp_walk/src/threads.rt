@@ -7,7 +7,7 @@ ghost use Rattle.cp_walk.specs.Rows.{line_of};
 
 use crate::cutting::Cutting;
 use crate::fault::ExploreFault;
-use crate::observer::SharedObserver;
+use crate::observer::{ObserveWalk, SharedObserver};
 use crate::row::{Rows, Table};
 use crate::worker::StartGate;
 use crate::workers::explore_tasks;
@@ -31,6 +31,23 @@ pub fn walk_on_threads<X: Threads + Sync, G: StartGate + Sync, O: ObserveProgres
     ensures many { result ≡ Err ExploreFault.TooManyRows → 50000 < length (table (slots cutting.now.job.program.now cutting.now.job.limits.gates) cutting.now.job.limits.choices cutting.now.job.limits.steps) }
 {
     let shared = SharedObserver::new(observer, cutting.words.len() as u32);
+    walk_observed(rt, alloc, cutting, workers, gate, &shared)
+}
+
+// The same, where any thread may tell the observer.
+fn walk_observed<X: Threads + Sync, G: StartGate + Sync, N: ObserveWalk + Sync>(
+    rt: &X,
+    alloc: Global,
+    cutting: &Cutting,
+    workers: u8,
+    gate: &G,
+    observer: &N,
+) -> Result<Table, ExploreFault>
+    requires workers { (0 < workers) × (workers ≤ 16) }
+    ensures table { IfOk result (λ t. map line_of t.rows ≡ table (slots cutting.now.job.program.now cutting.now.job.limits.gates) cutting.now.job.limits.choices cutting.now.job.limits.steps) }
+    ensures few { IfOk result (λ t. length t.rows ≤ 50000) }
+    ensures many { result ≡ Err ExploreFault.TooManyRows → 50000 < length (table (slots cutting.now.job.program.now cutting.now.job.limits.gates) cutting.now.job.limits.choices cutting.now.job.limits.steps) }
+{
     match explore_tasks(
         rt,
         alloc,
@@ -38,7 +55,7 @@ pub fn walk_on_threads<X: Threads + Sync, G: StartGate + Sync, O: ObserveProgres
         cutting.words.len() as u32,
         workers,
         gate,
-        &shared,
+        observer,
     ) {
         Ok(rows) => Ok(Table {
             rows: Rows::new(rows),

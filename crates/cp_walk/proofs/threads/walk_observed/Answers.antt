@@ -5,7 +5,7 @@ use Rattle.cp_slots.proofs.Sharing.{resolved_sync}
 use Rattle.cp_walk.specs.declared.fault.ExploreFault.TheVariants.{TooManyRows}
 use Rattle.cp_walk.specs.Rows.{line_of}
 use Rattle.cp_walk.proofs.MemberTables.{members_table, members_length}
-use Rattle.cp_walk.proofs.threads.walk_on_threads.Goals as goal
+use Rattle.cp_walk.proofs.threads.walk_observed.Goals as goal
 
 pub explore_tasks-requires-sync-W : goal.explore_tasks-requires-sync-W
 explore_tasks-requires-sync-W g c κs = search (sendable, crosses, resolved_sync) depth 20
