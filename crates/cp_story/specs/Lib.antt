@@ -1,2 +1,3 @@
 pub mod Aimed
+pub mod Events
 pub mod Told

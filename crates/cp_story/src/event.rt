@@ -1,5 +1,8 @@
 //! What a story is made of.
 
+ghost use Rattle.std.specs.Prelude.{◌≡◌};
+ghost use Rattle.cp_story.specs.Events.{event_of};
+
 use arrayvec::ArrayVec;
 use cp_legend::SourceValue;
 use cp_machine::{Shown, Status};
@@ -91,6 +94,8 @@ pub struct StoryEvent {
     pub statuses: Vec<Status>,
     /// What changed in the monitors since the event before it.
     pub changes: Vec<Change>,
+    /// It tells of what the trace has in its line.
+    pub ghost same: { event_of happening ≡ plain.event },
 }
 
 impl StoryEvent {

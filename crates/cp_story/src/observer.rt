@@ -1,6 +1,9 @@
 //! What is remembered from one event to the next.
 
 ghost use Rattle.std.specs.Prelude.{◌≡◌, IfOk};
+ghost use Rattle.cp_machine.specs.declared.event.Kernel.TheVariants as kernel;
+ghost use Rattle.cp_run.specs.declared.line.TraceEvent.TheVariants as event;
+ghost use Rattle.cp_story.specs.Events.{event_of, line_told};
 
 use crate::aim::Aim;
 use crate::changes::changes;
@@ -111,7 +114,8 @@ impl<'a> Observer<'a> {
         plain: TraceLine,
         aim: Aim,
     ) -> Result<StoryEvent, AllocError>
-        ensures { IfOk result (λ e. e.plain ≡ plain) }
+        ensures plain { IfOk result (λ e. e.plain ≡ plain) }
+        ensures line { IfOk result (λ e. e.line ≡ line_told e.happening aim.line) }
     {
         let process = plain.process;
         let happening = self.happening(alloc, state, process, plain.event, aim)?;
@@ -148,7 +152,9 @@ impl<'a> Observer<'a> {
         process: u8,
         event: TraceEvent,
         aim: Aim,
-    ) -> Result<Happening, AllocError> {
+    ) -> Result<Happening, AllocError>
+        ensures { IfOk result (λ h. event_of h ≡ event) }
+    {
         Ok(match event {
             TraceEvent::Kernel(Kernel::Enter) => self.enter(alloc, state, process, aim)?,
             TraceEvent::Kernel(Kernel::Leave) => Happening::Leave(self.close_call(process)),
@@ -173,7 +179,9 @@ impl<'a> Observer<'a> {
         state: &State,
         process: u8,
         aim: Aim,
-    ) -> Result<Happening, AllocError> {
+    ) -> Result<Happening, AllocError>
+        ensures { IfOk result (λ h. event_of h ≡ event.Kernel kernel.Enter) }
+    {
         let call = self.begun(state, process, aim.line.unwrap_or(0));
         if let Some(calls) = self.calls.get_mut(process as usize) {
             calls.push(call)?;
@@ -309,7 +317,9 @@ fn last_shown(state: &State) -> Shown {
 }
 
 // The line of what happened: a return stands where the call does.
-fn line_of(happening: &Happening, aim: Aim) -> Option<u32> {
+fn line_of(happening: &Happening, aim: Aim) -> Option<u32>
+    ensures { result ≡ line_told happening.now aim.line }
+{
     match happening {
         Happening::Leave(call) => Some(call.line),
         Happening::End | Happening::Admit(_) => None,
