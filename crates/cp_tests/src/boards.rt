@@ -114,24 +114,27 @@ fn is_each_once(game: Game, count: u32) -> Result<bool, AllocError> {
     Ok(is_whole && next == count && closed.claimed == count && closed.total == u64::from(count))
 }
 
-#[test]
-fn board_four_threads(rt: HostRuntime) -> Result<(), Fail> {
-    let game = play(&rt, rt.alloc(), 1000, 4, 0)?;
-    assert!(rt; is_each_once(game, 1000)?);
-    Ok(())
+// Tasks, seats, and how many of these are idle.
+static GAMES: [(u32, u8, u8); 3] = [(1000, 4, 0), (0, 3, 0), (100, 16, 12)];
+
+// Whether each task is drawn once in a game.
+fn are_drawn_once<R: Threads + Sync>(
+    rt: &R,
+    alloc: Global,
+    (tasks, seats, idle): (u32, u8, u8),
+) -> Result<bool, Fail> {
+    if idle > seats {
+        return Ok(false);
+    }
+    Ok(is_each_once(play(rt, alloc, tasks, seats, idle)?, tasks)?)
 }
 
+// Four threads, no tasks, and idle seats.
 #[test]
-fn board_no_tasks(rt: HostRuntime) -> Result<(), Fail> {
-    let game = play(&rt, rt.alloc(), 0, 3, 0)?;
-    assert!(rt; is_each_once(game, 0)?);
-    Ok(())
-}
-
-#[test]
-fn board_idle_seats(rt: HostRuntime) -> Result<(), Fail> {
-    let game = play(&rt, rt.alloc(), 100, 16, 12)?;
-    assert!(rt; is_each_once(game, 100)?);
+fn board_games(rt: HostRuntime) -> Result<(), Fail> {
+    for game in &GAMES {
+        assert!(rt; are_drawn_once(&rt, rt.alloc(), *game)?, "{}", game.0);
+    }
     Ok(())
 }
 
@@ -159,51 +162,37 @@ fn draws_two_alone(board: &Board, seat: &mut Seat) -> bool
 #[test]
 fn board_one_seat(rt: HostRuntime) -> Result<(), Fail> {
     let (board, mut seats) = Board::new(rt.alloc(), 2, 1)?;
-    let Some(mut seat) = seats.pop() else {
-        return Err(Fail::new("no seat"));
-    };
-    let are_drawn = draws_two_alone(&board, &mut seat);
-    seats.push(seat)?;
+    let are_drawn = draws_two_alone(&board, &mut seats[0]);
     let closed = board.close(seats);
     assert!(rt; are_drawn && closed.claimed == 2 && closed.total == 50_002);
     Ok(())
 }
 
+// Why there is no board of so many tasks and seats.
+fn fault_of(alloc: Global, tasks: u32, seats: u8) -> Option<BoardFault> {
+    Board::new(alloc, tasks, seats).err()
+}
+
 #[test]
-fn board_refusals(rt: HostRuntime) -> Result<(), Fail> {
+fn board_refusals(rt: HostRuntime) {
     assert!(rt;
         matches!(
-            Board::new(rt.alloc(), 4097, 0),
-            Err(BoardFault::TooManyTasks)
+            fault_of(rt.alloc(), 4097, 0),
+            Some(BoardFault::TooManyTasks)
         )
     );
-    assert!(rt; matches!(Board::new(rt.alloc(), 4096, 0), Err(BoardFault::BadSeats)));
-    assert!(rt; matches!(Board::new(rt.alloc(), 1, 17), Err(BoardFault::BadSeats)));
-    Ok(())
+    assert!(rt; matches!(fault_of(rt.alloc(), 4096, 0), Some(BoardFault::BadSeats)));
+    assert!(rt; matches!(fault_of(rt.alloc(), 1, 17), Some(BoardFault::BadSeats)));
 }
 
-// Whether one seat draws the first of three tasks and notes nothing, and the other one draws the rest and notes its rows.
-fn draw_beside_a_silent_one(board: &Board, silent: &mut Seat, noting: &mut Seat) -> bool
-    requires silent { IsSeatOf board.now silent.old }
-    requires noting { IsSeatOf board.now noting.old }
-    ensures silent { IsSeatOf board.now silent.new }
-    ensures noting { IsSeatOf board.now noting.new }
-{
-    let first = board.claim(silent);
-    first == Some(0) && draws(board, noting, 1, 7, 7) && draws(board, noting, 2, 5, 12)
-}
-
+// One seat draws the first of three tasks and notes nothing, and the other one draws the rest and notes its rows.
 #[test]
 fn board_claim_without_note(rt: HostRuntime) -> Result<(), Fail> {
     let (board, mut seats) = Board::new(rt.alloc(), 3, 2)?;
-    let (Some(mut silent), Some(mut noting)) = (seats.pop(), seats.pop()) else {
-        return Err(Fail::new("fewer than two seats"));
-    };
-    let are_drawn = draw_beside_a_silent_one(&board, &mut silent, &mut noting);
-    seats.push(noting)?;
-    seats.push(silent)?;
+    let is_first = board.claim(&mut seats[1]) == Some(0);
+    let are_drawn = draws(&board, &mut seats[0], 1, 7, 7) && draws(&board, &mut seats[0], 2, 5, 12);
     let closed = board.close(seats);
-    assert!(rt; are_drawn && closed.claimed == 3 && closed.total == 12);
+    assert!(rt; is_first && are_drawn && closed.claimed == 3 && closed.total == 12);
     Ok(())
 }
 
