@@ -271,10 +271,12 @@ fn rest_of_name(
 // The characters from a place on up to another one.
 fn part_of_name(alloc: Global, name: &str, from: usize, to: usize) -> Result<String, AllocError> {
     let mut part = Prose::new(alloc);
-    for (place, character) in name.chars().enumerate() {
+    let mut place = 0usize;
+    for character in name.chars() {
         if from <= place && place < to {
             part.put_char(character);
         }
+        place = place.saturating_add(1);
     }
     part.finish()
 }
