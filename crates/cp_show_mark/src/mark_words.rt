@@ -22,7 +22,7 @@ pub fn misread_text(alloc: Global, said: &str, as_json: bool) -> Result<String, 
 }
 
 /// What a table says of the expectations.
-pub fn told(
+pub fn mark_text(
     alloc: Global,
     examinee: Examinee<'_>,
     reading: &Reading,

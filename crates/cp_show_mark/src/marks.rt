@@ -18,7 +18,7 @@ use crate::answer::{ShowAnswer, ShowVerdict};
 use crate::ends_words::ends_told;
 use crate::examinee::Examinee;
 use crate::excess::{MarkExcess, excess_text};
-use crate::mark_words::{misread_text, told};
+use crate::mark_words::{mark_text, misread_text};
 use cp_ends_verdict::{
     EndsExpectation, EndsMark, EndsReading, MarkSubject, MarkedEnds,
     expectations as ends_expectations, mark_at_once, mark_in_turn, misread_text as ends_reason,
@@ -43,7 +43,7 @@ pub fn mark_answer<O: ObserveProgress>(
     with_own: bool,
     source: &[u8],
 ) -> Result<ShowAnswer, AllocError> {
-    let text = expected(alloc, words, with_own, source)?;
+    let text = expectation_text(alloc, words, with_own, source)?;
     if text.is_empty() {
         return misread(
             alloc,
@@ -55,7 +55,7 @@ pub fn mark_answer<O: ObserveProgress>(
 }
 
 // The expectations as they are written.
-fn expected(
+fn expectation_text(
     alloc: Global,
     words: &str,
     with_own: bool,
@@ -68,10 +68,10 @@ fn expected(
     if words.is_empty() {
         return Ok(own);
     }
-    joined(alloc, words, own.as_str())
+    join(alloc, words, own.as_str())
 }
 
-fn joined(alloc: Global, words: &str, own: &str) -> Result<String, AllocError> {
+fn join(alloc: Global, words: &str, own: &str) -> Result<String, AllocError> {
     if own.is_empty() {
         return String::from_str(alloc, words);
     }
@@ -260,7 +260,7 @@ fn told_answer(
 ) -> Result<ShowAnswer, AllocError>
     ensures { IfOk result (λ a. a.verdict ≡ spec.verdict_of marked.now.mark) }
 {
-    let text = told(alloc, examinee, reading, marked)?;
+    let text = mark_text(alloc, examinee, reading, marked)?;
     Ok(ShowAnswer {
         verdict: verdict_of(marked.mark),
         text,
@@ -334,5 +334,5 @@ fn said_of_known(
 ) -> Result<String, AllocError> {
     let list = reading.expectations.as_slice();
     let marked = mark_tallies(alloc, examinee.program, list, known.tallies.as_slice())?;
-    told(alloc, examinee, reading, &marked)
+    mark_text(alloc, examinee, reading, &marked)
 }
