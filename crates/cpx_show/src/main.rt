@@ -40,13 +40,13 @@ fn main(rt: HostRuntime) -> ExitCode {
             }
             code
         }
-        Ok(Wish::Version) => printed(print!(rt; "cpx_show {VERSION}\n")),
+        Ok(Wish::Version) => print_status(print!(rt; "cpx_show {VERSION}\n")),
         Ok(Wish::Refused(why)) => {
             let _ = eprintln!(rt; "options refused: --help says which there are");
             let _ = eprintln!(rt; "{why}");
             2
         }
-        Ok(Wish::Help(text)) => printed(print!(rt; "{text}")),
+        Ok(Wish::Help(text)) => print_status(print!(rt; "{text}")),
         Err(_) => 3,
     };
     match code {
@@ -62,7 +62,7 @@ fn main(rt: HostRuntime) -> ExitCode {
 }
 
 // The status of a text that was printed, or not.
-fn printed<T: Drop, E: Drop>(print: Result<T, E>) -> u8 {
+fn print_status<T: Drop, E: Drop>(print: Result<T, E>) -> u8 {
     match print {
         Ok(_) => 0,
         Err(_) => 4,

@@ -29,7 +29,7 @@ pub fn one_schedule<O: ObserveProgress>(
     match schedule_asked(alloc, asked, observer, program)? {
         First::Word(word) => {
             let text = schedule_part(alloc, asked, program, legend, source, word.as_slice());
-            reported(text)
+            report_answer(text)
         }
         First::None(count) => no_outcome(alloc, count),
         First::NotSearched => not_searched(alloc, asked),
@@ -37,7 +37,7 @@ pub fn one_schedule<O: ObserveProgress>(
 }
 
 /// A text that tells what was asked for.
-pub fn reported(text: Result<String, AllocError>) -> Result<ShowAnswer, AllocError> {
+pub fn report_answer(text: Result<String, AllocError>) -> Result<ShowAnswer, AllocError> {
     Ok(ShowAnswer {
         verdict: ShowVerdict::Reported,
         text: text?,

@@ -2,7 +2,7 @@
 
 ghost use Rattle.std.specs.Prelude.{◌≤◌, length};
 
-use crate::schedules::{no_outcome, not_searched, reported, schedule_asked};
+use crate::schedules::{no_outcome, not_searched, report_answer, schedule_asked};
 use cp_ends_story::{EndsFormat, EndsSubject, ends_story};
 use cp_legend::Legend;
 use cp_outcomes::{First, Format, Subject, outcomes};
@@ -36,7 +36,7 @@ pub fn page_answer<O: ObserveProgress>(
                 word: word.as_slice(),
                 round: asked.round,
             };
-            reported(page(alloc, subject, observer))
+            report_answer(page(alloc, subject, observer))
         }
         First::None(count) => no_outcome(alloc, count),
         First::NotSearched => not_searched(alloc, asked),
