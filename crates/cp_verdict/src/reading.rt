@@ -280,7 +280,7 @@ impl Reader {
     }
 
     /// Reads what follows `shown`.
-    fn shown(&mut self, word: &str) -> Result<bool, AllocError> {
+    fn read_shown(&mut self, word: &str) -> Result<bool, AllocError> {
         let Some(value) = value_of(word) else {
             return Ok(false);
         };
@@ -321,7 +321,7 @@ impl Reader {
                 }
                 self.item(word)
             }
-            NextWord::Shown => self.shown(word),
+            NextWord::Shown => self.read_shown(word),
             NextWord::Joint => self.joint(word),
         }
     }
